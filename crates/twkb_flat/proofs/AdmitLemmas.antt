@@ -1,5 +1,7 @@
 -- The test of a row at its place is the test by the open rows.
-use Rattle.std.proofs.Common.{◌≡◌, ℕ, zero, suc, ◌+◌, ◌-◌, ◌<◌, ◌≤◌, ◌==◌, Bool, true, false, List, [], ◌∷◌, length, get_or, Option, Some, None, refl, sym, ap, ◌∙◌, subst, arith}
+use Rattle.std.proofs.Common.{◌≡◌, ℕ, zero, suc, ◌+◌, ◌-◌, ◌<◌, ◌≤◌, ◌==◌, Bool, true, false, List}
+use Rattle.std.proofs.Common.{[], ◌∷◌, length, get_or, Option, Some, None, refl, sym, ap, ◌∙◌}
+use Rattle.std.proofs.Common.{subst, arith}
 use Rattle.std.specs.Prelude.{reverse, ◌&&◌, ◌↔◌, IsTrue, is_none, nat_lt, nat_le}
 use Rattle.std.proofs.lemmas.Bool.Decides.{nat_tests}
 use Rattle.twkb_points.specs.Point.{AreInRange}
@@ -7,9 +9,11 @@ use Rattle.twkb_tree.specs.declared.open_rows.OpenRow.{OpenRow}
 use Rattle.twkb_tree.specs.declared.standing.Standing.{Standing}
 use Rattle.twkb_tree.specs.Limits.{Allowance, largest_limits}
 use Rattle.twkb_tree.specs.Rows.{Row, row_points}
-use Rattle.twkb_tree.specs.Admits.{has_place, id_in_range, id_allowed, has_same_ids, precision_in_range, precision_fits, is_whole, points_fit, fits}
+use Rattle.twkb_tree.specs.Admits.{has_place, id_in_range, id_allowed, has_same_ids}
+use Rattle.twkb_tree.specs.Admits.{precision_in_range, precision_fits, is_whole, points_fit, fits}
 use Rattle.twkb_tree.specs.Accepted.{nest_kept, Continues}
-use Rattle.twkb_tree.specs.Open.{AreOpen, IsOpenAt, open_count, row_of, child_of, open_parent, count_at, open_refusal, is_next, open_continues}
+use Rattle.twkb_tree.specs.Open.{AreOpen, IsOpenAt, open_count, row_of, child_of, open_parent}
+use Rattle.twkb_tree.specs.Open.{count_at, open_refusal, is_next, open_continues}
 use Rattle.twkb_tree.specs.RowLists.{AreValidRowsOfOne}
 use Rattle.twkb_tree.specs.Refusal.{checks_under, first_failed, continues}
 use Rattle.twkb_tree.specs.Standing.{standing_at}
@@ -32,24 +36,32 @@ alike false true to from = from refl
 alike false false to from = refl
 
 -- at its place a row is admitted exactly if it is not refused
-admitted_there : (l : Allowance) (d : ℕ) (steps : Bool) (s : Standing) (r : Row) → AreInRange r.points → steps ≡ true → s.depth ≡ r.depth
-    → is_admitted_at l s r ≡ is_none (first_failed (checks_under l steps (row_of s.parent) (child_of s.parent) s.nodes s.points r))
+admitted_there : (l : Allowance) (d : ℕ) (steps : Bool) (s : Standing) (r : Row)
+    → AreInRange r.points → steps ≡ true → s.depth ≡ r.depth
+    → is_admitted_at l s r ≡ is_none (first_failed
+    (checks_under l steps (row_of s.parent) (child_of s.parent) s.nodes s.points r))
 admitted_there l d steps s r in_range on at =
     let p = row_of s.parent in
     let f = child_of s.parent in
     alike (is_admitted_at l s r) (is_none (first_failed (checks_under l steps p f s.nodes s.points r)))
     (λ h.
-    let outer = both_true (nest_kept l p s.depth && (nat_lt s.nodes l.nodes && nat_le (s.points + length r.points) l.points)) (fits p f r) h in
-    let inner = both_true (nest_kept l p s.depth) (nat_lt s.nodes l.nodes && nat_le (s.points + length r.points) l.points) outer.0 in
+    let outer = both_true (nest_kept l p s.depth &&
+    (nat_lt s.nodes l.nodes && nat_le (s.points + length r.points) l.points)) (fits p f r) h in
+    let inner = both_true (nest_kept l p s.depth)
+    (nat_lt s.nodes l.nodes && nat_le (s.points + length r.points) l.points) outer.0 in
     let room = both_true (nat_lt s.nodes l.nodes) (nat_le (s.points + length r.points) l.points) inner.1 in
     let nest = subst (λ k. nest_kept l p k ≡ true) at inner.0 in
     ap is_none (passed l steps p f s.nodes s.points r
-    (apart l steps p f s.nodes s.points r (both steps (fits p f r) on outer.1) nest (below_test s.nodes l.nodes room.0) in_range (within_test (s.points + length r.points) l.points room.1))))
+    (apart l steps p f s.nodes s.points r (both steps (fits p f r) on outer.1) nest
+    (below_test s.nodes l.nodes room.0) in_range (within_test (s.points + length r.points)
+    l.points room.1))))
     (λ h.
-    let all = passes l steps p f s.nodes s.points r (none_is (first_failed (checks_under l steps p f s.nodes s.points r)) h) in
+    let all = passes l steps p f s.nodes s.points r
+    (none_is (first_failed (checks_under l steps p f s.nodes s.points r)) h) in
     let fit = (both_true steps (fits p f r) (joined l steps p f s.nodes s.points r all)).1 in
     let nest = subst (λ k. nest_kept l p k ≡ true) (sym at) all.nest in
-    both (nest_kept l p s.depth && (nat_lt s.nodes l.nodes && nat_le (s.points + length r.points) l.points)) (fits p f r)
+    both (nest_kept l p s.depth && (nat_lt s.nodes l.nodes && nat_le (s.points + length r.points)
+    l.points)) (fits p f r)
     (both (nest_kept l p s.depth) (nat_lt s.nodes l.nodes && nat_le (s.points + length r.points) l.points) nest
     (both (nat_lt s.nodes l.nodes) (nat_le (s.points + length r.points) l.points) all.nodes_left all.points_left)) fit)
 
@@ -72,8 +84,10 @@ far : (m n : ℕ) → n < m → nat_le m n ≡ false
 far m n lt = grind (arith, nat_tests)
 
 -- the test at the row's place is the test by the open rows
-pub continues_there : (l : Allowance) (os : List OpenRow) (nodes points : ℕ) (s : Standing) (r : Row) → AreInRange r.points → is_next os r ≡ true
-    → (r.depth ≤ length os) × (s ≡ standing_at r.depth os nodes points) → is_admitted_at l s r ≡ open_continues l os nodes points r
+pub continues_there : (l : Allowance) (os : List OpenRow) (nodes points : ℕ) (s : Standing)
+    (r : Row) → AreInRange r.points → is_next os r ≡ true
+    → (r.depth ≤ length os) × (s ≡ standing_at r.depth os nodes points)
+    → is_admitted_at l s r ≡ open_continues l os nodes points r
 continues_there l os nodes points s r in_range next stands =
     let there = standing_at r.depth os nodes points in
     ap (λ t. is_admitted_at l t r) stands.1
@@ -81,13 +95,17 @@ continues_there l os nodes points s r in_range next stands =
     ∙ sym (and_true (is_none (open_refusal l os nodes points r)) (is_next os r) next)
 
 -- a row that is too deep does not continue the geometry
-pub too_deep : (l : Allowance) (os : List OpenRow) (nodes points : ℕ) (r : Row) → length os < r.depth → false ≡ open_continues l os nodes points r
+pub too_deep : (l : Allowance) (os : List OpenRow) (nodes points : ℕ) (r : Row)
+    → length os < r.depth → false ≡ open_continues l os nodes points r
 too_deep l os nodes points r lt =
-    let deep = stepless l (nat_le r.depth (length os)) (row_of (open_parent r.depth os)) (child_of (open_parent r.depth os)) (count_at r.depth nodes) (count_at r.depth points) r (far r.depth (length os) lt) in
+    let deep = stepless l (nat_le r.depth (length os)) (row_of (open_parent r.depth os))
+    (child_of (open_parent r.depth os)) (count_at r.depth nodes) (count_at r.depth points) r
+    (far r.depth (length os) lt) in
     sym (ap (λ o. is_none o && is_next os r) deep)
 
 -- a root that is not first does not continue it, nor does a first row that is not a root
-pub misplaced : (l : Allowance) (os : List OpenRow) (nodes points : ℕ) (r : Row) → is_next os r ≡ false → false ≡ open_continues l os nodes points r
+pub misplaced : (l : Allowance) (os : List OpenRow) (nodes points : ℕ) (r : Row)
+    → is_next os r ≡ false → false ≡ open_continues l os nodes points r
 misplaced l os nodes points r out = sym (and_false (is_none (open_refusal l os nodes points r)) (is_next os r) out)
 
 -- if no row is open, the next row is at depth 0
@@ -101,16 +119,21 @@ later_next d [] r e some = absurd (some refl)
 later_next d (o ∷ os) r e some = ap (nat_lt 0) (sym e)
 
 -- if six tests hold, the conjunction is the seventh
-seventh : (a b c d e f g : Bool) → a ≡ true → b ≡ true → c ≡ true → d ≡ true → e ≡ true → f ≡ true → (a && b && c && d && e && f && g) ≡ g
+seventh : (a b c d e f g : Bool) → a ≡ true → b ≡ true → c ≡ true → d ≡ true → e ≡ true → f ≡ true
+    → (a && b && c && d && e && f && g) ≡ g
 seventh a b c d e f g pa pb pc pd pe pf = rw (pa, pb, pc, pd, pe, pf) refl
 
 -- a row fits exactly if the number of its points does
-pub fits_by_count : (p f : Option Row) (r : Row) → has_place p r.kind ≡ true → id_in_range r.id ≡ true → (id_allowed p r.kind r.id && has_same_ids f r.id) ≡ true → (precision_in_range r.precision && precision_fits p r.precision) ≡ true
+pub fits_by_count : (p f : Option Row) (r : Row) → has_place p r.kind ≡ true
+    → id_in_range r.id ≡ true → (id_allowed p r.kind r.id && has_same_ids f r.id) ≡ true
+    → (precision_in_range r.precision && precision_fits p r.precision) ≡ true
     → points_fit r.kind (is_whole p) r.points ≡ fits p f r
 fits_by_count p f r place range id precision =
     let ids = both_true (id_allowed p r.kind r.id) (has_same_ids f r.id) id in
     let two = both_true (precision_in_range r.precision) (precision_fits p r.precision) precision in
-    sym (seventh (has_place p r.kind) (id_in_range r.id) (id_allowed p r.kind r.id) (has_same_ids f r.id) (precision_in_range r.precision) (precision_fits p r.precision) (points_fit r.kind (is_whole p) r.points) place range ids.0 ids.1 two.0 two.1)
+    sym (seventh (has_place p r.kind) (id_in_range r.id) (id_allowed p r.kind r.id)
+    (has_same_ids f r.id) (precision_in_range r.precision) (precision_fits p r.precision)
+    (points_fit r.kind (is_whole p) r.points) place range ids.0 ids.1 two.0 two.1)
 
 -- ---- the place of a row
 
@@ -122,25 +145,37 @@ open_alike d before o p h k =
     ap (λ x. record { kind = x; child_ids = o.child_ids }) kind ∙ ap (λ x. record { kind = p.kind; child_ids = x }) ids
 
 -- the open row of the last row at a depth is the one at that depth in the list
-pub open_is : (d : ℕ) (before : List Row) (os : List OpenRow) (blank o : OpenRow) → AreOpen before os → d < length os → IsOpenAt d before o → get_or os d blank ≡ o
+pub open_is : (d : ℕ) (before : List Row) (os : List OpenRow) (blank o : OpenRow)
+    → AreOpen before os → d < length os → IsOpenAt d before o → get_or os d blank ≡ o
 open_is d before os blank o a lt h = open_alike d before (get_or os d blank) o (open_at d before os blank a lt) h
 
 -- a root has no parent
-pub root_stands : (d nodes points : ℕ) (os : List OpenRow) → d ≡ 0 → record { depth = d; parent = None; nodes = 0; points = 0 } ≡ standing_at d os nodes points
-root_stands zero nodes points os e = ap (λ (o : Option OpenRow). record { depth = 0; parent = o; nodes = 0; points = 0 }) (sym (no_open_parent os))
+pub root_stands : (d nodes points : ℕ) (os : List OpenRow) → d ≡ 0
+    → record { depth = d; parent = None; nodes = 0; points = 0 } ≡ standing_at d os nodes points
+root_stands zero nodes points os e = ap (λ (o : Option OpenRow).
+    record { depth = 0; parent = o; nodes = 0; points = 0 }) (sym (no_open_parent os))
 root_stands (suc d) nodes points os e = absurd (omega (arith, e))
 
 -- any other row's parent is the open row above it
-child_stands : (d nodes points : ℕ) (before : List Row) (os : List OpenRow) (o : OpenRow) → 0 < d → AreOpen before os → d ≤ length os → IsOpenAt (d - 1) before o
+child_stands : (d nodes points : ℕ) (before : List Row) (os : List OpenRow) (o : OpenRow) → 0 < d
+    → AreOpen before os → d ≤ length os → IsOpenAt (d - 1) before o
     → record { depth = d; parent = Some o; nodes = nodes; points = points } ≡ standing_at d os nodes points
 child_stands zero nodes points before os o some a le h = absurd (omega arith)
 child_stands (suc d) nodes points before os o some a le h =
     let above : suc d - 1 ≡ d = omega arith in
     let is = open_is d before os o o a (omega arith) (subst (λ (k : ℕ). IsOpenAt k before o) above h) in
-    ap (λ (p : Option OpenRow). record { depth = suc d; parent = p; nodes = nodes; points = points }) (ap (λ (p : OpenRow). Some p) (sym is) ∙ sym (open_parent_at d os o (omega arith)))
+    ap (λ (p : Option OpenRow). record {
+      depth = suc d;
+      parent = p;
+      nodes = nodes;
+      points = points;
+    }) (ap (λ (p : OpenRow). Some p) (sym is)
+    ∙ sym (open_parent_at d os o (omega arith)))
 
 -- the place of a row that is not a root, with the counts of rows and points
-pub other_stands : (d n m nodes points : ℕ) (before : List Row) (os : List OpenRow) (o : OpenRow) → (d ≡ 0 → ⊥) → AreOpen before os → d ≤ open_count before → IsOpenAt (d - 1) before o → n ≡ nodes → m ≡ points
+pub other_stands : (d n m nodes points : ℕ) (before : List Row) (os : List OpenRow) (o : OpenRow)
+    → (d ≡ 0 → ⊥) → AreOpen before os → d ≤ open_count before → IsOpenAt (d - 1) before o
+    → n ≡ nodes → m ≡ points
     → record { depth = d; parent = Some o; nodes = n; points = m } ≡ standing_at d os nodes points
 other_stands d n m nodes points before os o some a le h n_is m_is =
     ap (λ (k : ℕ). record { depth = d; parent = Some o; nodes = k; points = m }) n_is
@@ -150,12 +185,16 @@ other_stands d n m nodes points before os o some a le h n_is m_is =
 -- ---- the rows of a form
 
 -- rows of one geometry have open rows
-pub rows_open : (rows : List Row) → AreValidRowsOfOne largest_limits rows → (os : List OpenRow) × AreOpen (reverse rows) os
+pub rows_open : (rows : List Row) → AreValidRowsOfOne largest_limits rows → (os : List OpenRow)
+    × AreOpen (reverse rows) os
 rows_open [] valid = ([], open_none)
-rows_open (r ∷ rest) valid = open_rows (reverse (r ∷ rest)) (admitted_rows (r ∷ rest) (as_list r rest (of_one largest_limits (r ∷ rest) valid)))
+rows_open (r ∷ rest) valid = open_rows (reverse (r ∷ rest))
+    (admitted_rows (r ∷ rest) (as_list r rest (of_one largest_limits (r ∷ rest) valid)))
 
 -- the test by the open rows is the test by the rows
-pub kept_continues : (rows : List Row) (os : List OpenRow) (nodes points : ℕ) (r : Row) → AreValidRowsOfOne largest_limits rows → AreOpen (reverse rows) os → nodes ≡ length rows → points ≡ length (row_points rows)
+pub kept_continues : (rows : List Row) (os : List OpenRow) (nodes points : ℕ) (r : Row)
+    → AreValidRowsOfOne largest_limits rows → AreOpen (reverse rows) os → nodes ≡ length rows
+    → points ≡ length (row_points rows)
     → open_continues largest_limits os nodes points r ≡ continues largest_limits rows r
 kept_continues rows os nodes points r valid now_open all own =
     ap (λ n. open_continues largest_limits os n points r) all
@@ -163,5 +202,10 @@ kept_continues rows os nodes points r valid now_open all own =
     ∙ continues_open largest_limits rows os r (of_one largest_limits rows valid) now_open
 
 -- a test that equals the test by the rows decides about the row
-pub decides : (rows : List Row) (r : Row) (b : Bool) → b ≡ continues largest_limits rows r → IsTrue b ↔ Continues largest_limits rows r
-decides rows r b same = (λ yes. continues_is largest_limits rows r (sym same ∙ yes), λ h. same ∙ continues_true largest_limits rows r h)
+pub decides : (rows : List Row) (r : Row) (b : Bool) → b ≡ continues largest_limits rows r
+    → IsTrue b ↔ Continues largest_limits rows r
+decides rows r b same = (
+  λ yes. continues_is largest_limits rows r (sym same ∙ yes),
+  λ h. same
+      ∙ continues_true largest_limits rows r h,
+)

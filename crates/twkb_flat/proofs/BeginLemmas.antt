@@ -47,30 +47,51 @@ abbrev pub root_entry : Row → ℕ → KeptNode
 root_entry row count = new_node (record { row = row; first = 0; points = count })
 
 -- a root alone is properly linked
-root_pushed : (row : Row) (qs : List Point) → Continues largest_limits [] (row_with row qs) → Pushed [] (root_entry row (length qs) ∷ []) [] qs qs row
+root_pushed : (row : Row) (qs : List Point) → Continues largest_limits [] (row_with row qs)
+    → Pushed [] (root_entry row (length qs) ∷ []) [] qs qs row
 root_pushed row qs continues =
     let put : IsPut row qs [] (root_entry row (length qs) ∷ []) [] qs = record { node = refl; points = refl } in
-    pushed_by [] (root_entry row (length qs) ∷ []) (root_entry row (length qs) ∷ []) [] qs qs row put refl (root_linked (root_entry row (length qs) ∷ []) (unlinked [] (root_entry row (length qs) ∷ []) [] qs qs 0 row [] flat_none refl continues put refl))
+    pushed_by [] (root_entry row (length qs) ∷ []) (root_entry row (length qs) ∷ []) [] qs qs row
+    put refl (root_linked (root_entry row (length qs) ∷ [])
+    (unlinked [] (root_entry row (length qs) ∷ []) [] qs qs 0 row [] flat_none refl
+    continues put refl))
 
 -- the entry and points put in place of no rows
-root_put : (es mid : List KeptNode) (ps qs : List Point) (total : ℕ) (row : Row) → listed (map span_of es) ps ≡ [] → total ≡ length qs → mid ≡ es ++ root_entry row total ∷ [] → mid ≡ root_entry row (length qs) ∷ []
-root_put es mid ps qs total row none total_is put = put ∙ ap (λ (xs : List KeptNode). xs ++ root_entry row total ∷ []) (no_entries es ps none) ∙ ap (λ (n : ℕ). root_entry row n ∷ []) total_is
+root_put : (es mid : List KeptNode) (ps qs : List Point) (total : ℕ) (row : Row)
+    → listed (map span_of es) ps ≡ [] → total ≡ length qs → mid ≡ es ++ root_entry row total ∷ []
+    → mid ≡ root_entry row (length qs) ∷ []
+root_put es mid ps qs total row none total_is put = put
+    ∙ ap (λ (xs : List KeptNode). xs ++ root_entry row total ∷ []) (no_entries es ps none)
+    ∙ ap (λ (n : ℕ). root_entry row n ∷ []) total_is
 
 -- the form of the root is valid
 pub begun_flat : (es mid : List KeptNode) (ps qs : List Point) (total : ℕ) (row : Row)
-    → listed (map span_of es) ps ≡ [] → Continues largest_limits [] (row_with row qs) → total ≡ length qs → mid ≡ es ++ root_entry row total ∷ [] → IsFlat mid qs
+    → listed (map span_of es) ps ≡ [] → Continues largest_limits [] (row_with row qs)
+    → total ≡ length qs → mid ≡ es ++ root_entry row total ∷ [] → IsFlat mid qs
 begun_flat es mid ps qs total row none continues total_is put =
     subst (λ (xs : List KeptNode). IsFlat xs qs) (sym (root_put es mid ps qs total row none total_is put))
-    (flat_after [] (root_entry row (length qs) ∷ []) [] qs qs row [] flat_none refl continues (root_pushed row qs continues))
+    (flat_after [] (root_entry row (length qs) ∷ []) [] qs qs row [] flat_none refl continues
+    (root_pushed row qs continues))
 
 -- the rows of the form are the root
 pub begun_rows : (es mid : List KeptNode) (ps qs : List Point) (total : ℕ) (row : Row)
-    → listed (map span_of es) ps ≡ [] → Continues largest_limits [] (row_with row qs) → total ≡ length qs → mid ≡ es ++ root_entry row total ∷ [] → listed (map span_of mid) qs ≡ row_with row qs ∷ []
+    → listed (map span_of es) ps ≡ [] → Continues largest_limits [] (row_with row qs)
+    → total ≡ length qs → mid ≡ es ++ root_entry row total ∷ []
+    → listed (map span_of mid) qs ≡ row_with row qs ∷ []
 begun_rows es mid ps qs total row none continues total_is put =
     ap (λ (xs : List KeptNode). listed (map span_of xs) qs) (root_put es mid ps qs total row none total_is put)
     ∙ view_after [] (root_entry row (length qs) ∷ []) [] qs qs row [] flat_none refl (root_pushed row qs continues)
 
 -- a point alone may begin a geometry
-pub point_begins : (precision : ℤ) (p : Point) → IsPrecision precision → IsInRange p → Continues largest_limits [] (whole_row 0 Kind.Point None precision (p ∷ []))
-point_begins precision p fits in_range =
-    (record { admitted = rw (is_precision-true precision fits) refl; nest = refl; nodes = omega arith; in_range = (in_range, tt); points = omega arith }, refl)
+pub point_begins : (precision : ℤ) (p : Point) → IsPrecision precision → IsInRange p
+    → Continues largest_limits [] (whole_row 0 Kind.Point None precision (p ∷ []))
+point_begins precision p fits in_range = (
+  record {
+    admitted = rw (is_precision-true precision fits) refl;
+    nest = refl;
+    nodes = omega arith;
+    in_range = (in_range, tt);
+    points = omega arith;
+  },
+  refl,
+)

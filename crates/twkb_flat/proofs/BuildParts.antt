@@ -3,10 +3,11 @@ use Rattle.std.proofs.Common.{◌≡◌, ℕ, suc, List, [], length, Option, Non
 use Rattle.std.specs.Prelude.{ℤ}
 use Rattle.twkb_points.specs.Point.{Point}
 use Rattle.twkb_tree.specs.declared.kind.Kind.TheVariants as kind
-use Rattle.twkb_tree.specs.Tree.{Ids, point, line, polygon, multi_point, multi_line, multi_polygon, Tree, Trees, simple, collection, end, ◌▷◌, trees, members, count, precision_of}
+use Rattle.twkb_tree.specs.Tree.{Ids, point, line, polygon, multi_point, multi_line, multi_polygon}
+use Rattle.twkb_tree.specs.Tree.{Tree, Trees, simple, collection, end, ◌▷◌, trees, members, count}
+use Rattle.twkb_tree.specs.Tree.{precision_of}
 use Rattle.twkb_tree.specs.Rows.{own_row}
 use Rattle.twkb_tree.proofs.RowForest.{point_in}
-
 
 -- ---- the parts of a geometry
 
@@ -52,7 +53,8 @@ length-members (g ▷ gs) = ap suc (length-members gs)
 -- ---- the shape of a geometry by the kind of its row
 
 -- a geometry whose row is a point's is a point
-pub is_point : (id : Option ℤ) (d : ℕ) (g : Tree) → (own_row id d g).kind ≡ kind.Point → simple (precision_of g) (point (point_in (own_row id d g).points)) ≡ g
+pub is_point : (id : Option ℤ) (d : ℕ) (g : Tree) → (own_row id d g).kind ≡ kind.Point
+    → simple (precision_of g) (point (point_in (own_row id d g).points)) ≡ g
 is_point id d (simple p (point None)) e = refl
 is_point id d (simple p (point (Some q))) e = refl
 is_point id d (simple p (line ps)) e = cc e
@@ -63,7 +65,8 @@ is_point id d (simple p (multi_polygon ids areas)) e = cc e
 is_point id d (collection p ids gs) e = cc e
 
 -- a geometry whose row is a linestring's is a linestring
-pub is_line : (id : Option ℤ) (d : ℕ) (g : Tree) → (own_row id d g).kind ≡ kind.Linestring → simple (precision_of g) (line (own_row id d g).points) ≡ g
+pub is_line : (id : Option ℤ) (d : ℕ) (g : Tree) → (own_row id d g).kind ≡ kind.Linestring
+    → simple (precision_of g) (line (own_row id d g).points) ≡ g
 is_line id d (simple p (point o)) e = cc e
 is_line id d (simple p (line ps)) e = refl
 is_line id d (simple p (polygon rings)) e = cc e
@@ -73,7 +76,8 @@ is_line id d (simple p (multi_polygon ids areas)) e = cc e
 is_line id d (collection p ids gs) e = cc e
 
 -- a geometry whose row is a polygon's is a polygon
-pub is_polygon : (id : Option ℤ) (d : ℕ) (g : Tree) → (own_row id d g).kind ≡ kind.Polygon → simple (precision_of g) (polygon (lines_below g)) ≡ g
+pub is_polygon : (id : Option ℤ) (d : ℕ) (g : Tree) → (own_row id d g).kind ≡ kind.Polygon
+    → simple (precision_of g) (polygon (lines_below g)) ≡ g
 is_polygon id d (simple p (point o)) e = cc e
 is_polygon id d (simple p (line ps)) e = cc e
 is_polygon id d (simple p (polygon rings)) e = refl
@@ -83,7 +87,8 @@ is_polygon id d (simple p (multi_polygon ids areas)) e = cc e
 is_polygon id d (collection p ids gs) e = cc e
 
 -- a geometry whose row is a multipoint's is a multipoint
-pub is_multi_point : (id : Option ℤ) (d : ℕ) (g : Tree) → (own_row id d g).kind ≡ kind.MultiPoint → simple (precision_of g) (multi_point (ids_below g) (points_below g)) ≡ g
+pub is_multi_point : (id : Option ℤ) (d : ℕ) (g : Tree) → (own_row id d g).kind ≡ kind.MultiPoint
+    → simple (precision_of g) (multi_point (ids_below g) (points_below g)) ≡ g
 is_multi_point id d (simple p (point o)) e = cc e
 is_multi_point id d (simple p (line ps)) e = cc e
 is_multi_point id d (simple p (polygon rings)) e = cc e
@@ -93,7 +98,9 @@ is_multi_point id d (simple p (multi_polygon ids areas)) e = cc e
 is_multi_point id d (collection p ids gs) e = cc e
 
 -- a geometry whose row is a multilinestring's is a multilinestring
-pub is_multi_line : (id : Option ℤ) (d : ℕ) (g : Tree) → (own_row id d g).kind ≡ kind.MultiLinestring → simple (precision_of g) (multi_line (ids_below g) (lines_below g)) ≡ g
+pub is_multi_line : (id : Option ℤ) (d : ℕ) (g : Tree)
+    → (own_row id d g).kind ≡ kind.MultiLinestring
+    → simple (precision_of g) (multi_line (ids_below g) (lines_below g)) ≡ g
 is_multi_line id d (simple p (point o)) e = cc e
 is_multi_line id d (simple p (line ps)) e = cc e
 is_multi_line id d (simple p (polygon rings)) e = cc e
@@ -103,7 +110,9 @@ is_multi_line id d (simple p (multi_polygon ids areas)) e = cc e
 is_multi_line id d (collection p ids gs) e = cc e
 
 -- a geometry whose row is a multipolygon's is a multipolygon
-pub is_multi_polygon : (id : Option ℤ) (d : ℕ) (g : Tree) → (own_row id d g).kind ≡ kind.MultiPolygon → simple (precision_of g) (multi_polygon (ids_below g) (areas_below g)) ≡ g
+pub is_multi_polygon : (id : Option ℤ) (d : ℕ) (g : Tree)
+    → (own_row id d g).kind ≡ kind.MultiPolygon → simple (precision_of g)
+    (multi_polygon (ids_below g) (areas_below g)) ≡ g
 is_multi_polygon id d (simple p (point o)) e = cc e
 is_multi_polygon id d (simple p (line ps)) e = cc e
 is_multi_polygon id d (simple p (polygon rings)) e = cc e
@@ -113,7 +122,8 @@ is_multi_polygon id d (simple p (multi_polygon ids areas)) e = refl
 is_multi_polygon id d (collection p ids gs) e = cc e
 
 -- a geometry whose row is a collection's is a collection
-pub is_members : (id : Option ℤ) (d : ℕ) (g : Tree) → (own_row id d g).kind ≡ kind.Collection → collection (precision_of g) (ids_below g) (trees (members_below g)) ≡ g
+pub is_members : (id : Option ℤ) (d : ℕ) (g : Tree) → (own_row id d g).kind ≡ kind.Collection
+    → collection (precision_of g) (ids_below g) (trees (members_below g)) ≡ g
 is_members id d (simple p (point o)) e = cc e
 is_members id d (simple p (line ps)) e = cc e
 is_members id d (simple p (polygon rings)) e = cc e

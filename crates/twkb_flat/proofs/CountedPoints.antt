@@ -1,5 +1,6 @@
 -- Points that are appended one after another, each counted in the last entry.
-use Rattle.std.proofs.Common.{Vec, ◌≡◌, ℕ, ◌+◌, ◌<◌, ◌≤◌, ◌^◌, List, [], ◌∷◌, ◌++◌, map, length, sym, ap, ◌∙◌, subst, arith}
+use Rattle.std.proofs.Common.{Vec, ◌≡◌, ℕ, ◌+◌, ◌<◌, ◌≤◌, ◌^◌, List, [], ◌∷◌, ◌++◌, map, length}
+use Rattle.std.proofs.Common.{sym, ap, ◌∙◌, subst, arith}
 use Rattle.std.specs.Vec.{with_items}
 use Rattle.std.proofs.lemmas.List.{with_items_is, length-append, length-map}
 use Rattle.twkb_points.specs.Point.{Point, IsInRange}
@@ -23,39 +24,60 @@ pub record HasCounted (es after : List KeptNode) : Type 0 where
   pub links : links_in after ≡ links_in es
 
 -- the rows have the points
-pub rows_have : (rows : List TableRow) (es : List KeptNode) (ps : List Point) → StandFor rows es ps → length (row_points rows) ≡ length ps
-rows_have rows es ps s = ap (λ (rs : List TableRow). length (row_points rs)) (sym s.view) ∙ ap (λ (qs : List Point). length qs) (flat_points (map span_of es) ps s.flat.laid)
+pub rows_have : (rows : List TableRow) (es : List KeptNode) (ps : List Point) → StandFor rows es ps
+    → length (row_points rows) ≡ length ps
+rows_have rows es ps s = ap (λ (rs : List TableRow). length (row_points rs)) (sym s.view)
+    ∙ ap (λ (qs : List Point). length qs) (flat_points (map span_of es) ps s.flat.laid)
 
 -- the rows end in a line, as before
 still_line : (p : Point) (rows : List TableRow) → EndsInLine rows → EndsInLine (point_added p rows)
-still_line p rows e = record { front = e.front; last = with_point e.last p; line = e.line; whole = ap (point_added p) e.whole ∙ point_last p e.front e.last }
+still_line p rows e = record {
+  front = e.front;
+  last = with_point e.last p;
+  line = e.line;
+  whole = ap (point_added p) e.whole ∙ point_last p e.front e.last;
+}
 
 -- entries changed in a vector's slice are the entries of the vector
-pub vec_counted : {Z : Type 0} (v : Vec KeptNode Z) (was after : List KeptNode) → was ≡ v.items → map span_of after ≡ last_longer (map span_of was) → links_in after ≡ links_in was → HasCounted v.items (with_items v after).items
+pub vec_counted : {Z : Type 0} (v : Vec KeptNode Z) (was after : List KeptNode) → was ≡ v.items
+    → map span_of after ≡ last_longer (map span_of was) → links_in after ≡ links_in was
+    → HasCounted v.items (with_items v after).items
 vec_counted v was after is spans links =
-    let same : length after ≡ v.len = sym (length-map after next_of) ∙ (ap (λ (ns : List ℕ). length ns) links ∙ (length-map was next_of ∙ (ap (λ (es : List KeptNode). length es) is ∙ sym v.ok.0))) in
+    let same : length after ≡ v.len = sym (length-map after next_of)
+    ∙ (ap (λ (ns : List ℕ). length ns) links ∙ (length-map was next_of
+    ∙ (ap (λ (es : List KeptNode). length es) is ∙ sym v.ok.0))) in
     subst (HasCounted v.items) (sym (with_items_is v after same))
-    (record { spans = spans ∙ ap (λ (es : List KeptNode). last_longer (map span_of es)) is; links = links ∙ ap links_in is })
+    (record {
+      spans = spans ∙ ap (λ (es : List KeptNode). last_longer (map span_of es)) is;
+      links = links ∙ ap links_in is;
+    })
 
 -- one more point is appended and counted
 pub one_more : (rows : List TableRow) (es after : List KeptNode) (ps more : List Point) (p : Point)
-    → StandFor rows es ps → length (row_points rows) < 2 ^ 24 → IsInRange p → HasCounted es after → more ≡ ps ++ p ∷ [] → StandFor (point_added p rows) after more
-one_more rows es after ps more p s room within counted appended = subst (StandFor (point_added p rows) after) (sym appended) (record {
-  flat = point_flat es after ps p rows s.flat s.view s.line (point_valid es ps p rows s.flat s.view s.line room within) counted.spans counted.links;
-  view = point_view es after ps p rows s.flat s.view counted.spans;
-  line = still_line p rows s.line;
-})
+    → StandFor rows es ps → length (row_points rows) < 2 ^ 24 → IsInRange p → HasCounted es after
+    → more ≡ ps ++ p ∷ [] → StandFor (point_added p rows) after more
+one_more rows es after ps more p s room within counted appended =
+    subst (StandFor (point_added p rows) after) (sym appended) (record {
+      flat = point_flat es after ps p rows s.flat s.view s.line
+          (point_valid es ps p rows s.flat s.view s.line room within) counted.spans counted.links;
+      view = point_view es after ps p rows s.flat s.view counted.spans;
+      line = still_line p rows s.line;
+    })
 
 -- two more points are appended and counted
 pub two_more : (rows : List TableRow) (es mid after : List KeptNode) (ps one both : List Point) (p q : Point)
-    → StandFor rows es ps → length (row_points rows) + 2 ≤ 2 ^ 24 → IsInRange p → IsInRange q → HasCounted es mid → HasCounted mid after → one ≡ ps ++ p ∷ [] → both ≡ one ++ q ∷ []
+    → StandFor rows es ps → length (row_points rows) + 2 ≤ 2 ^ 24 → IsInRange p → IsInRange q
+    → HasCounted es mid → HasCounted mid after → one ≡ ps ++ p ∷ [] → both ≡ one ++ q ∷ []
     → StandFor (point_added q (point_added p rows)) after both
 two_more rows es mid after ps one both p q s room p_within q_within first second appended appended_too =
     let middle = one_more rows es mid ps one p s (omega (arith, room)) p_within first appended in
     let total : length one ≡ length ps + 1 = ap (λ (qs : List Point). length qs) appended ∙ length-append ps (p ∷ []) in
-    let longer : length (row_points (point_added p rows)) < 2 ^ 24 = omega (arith, room, total, rows_have rows es ps s, rows_have (point_added p rows) mid one middle) in
+    let longer : length (row_points (point_added p rows)) < 2 ^ 24 = omega
+    (arith, room, total, rows_have rows es ps s, rows_have (point_added p rows) mid one middle)
+    in
     one_more (point_added p rows) mid after one both q middle longer q_within second appended_too
 
 -- the last entry can count one more point
-pub can_count : (rows : List TableRow) (es was : List KeptNode) (ps : List Point) → StandFor rows es ps → was ≡ es → LastHasRoom was
+pub can_count : (rows : List TableRow) (es was : List KeptNode) (ps : List Point)
+    → StandFor rows es ps → was ≡ es → LastHasRoom was
 can_count rows es was ps s is = subst LastHasRoom (sym is) (point_fits es ps rows s.flat s.view s.line).1

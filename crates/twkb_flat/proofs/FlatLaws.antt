@@ -1,5 +1,6 @@
 -- What is true of the rows of a flat form, and what determines its nodes.
-use Rattle.std.proofs.Common.{◌≡◌, ℕ, ◌+◌, ◌≤◌, ◌^◌, List, [], ◌∷◌, ◌++◌, length, Option, None, sym, ap, ◌∙◌, arith, inl, inr}
+use Rattle.std.proofs.Common.{◌≡◌, ℕ, ◌+◌, ◌≤◌, ◌^◌, List, [], ◌∷◌, ◌++◌, length, Option, None, sym}
+use Rattle.std.proofs.Common.{ap, ◌∙◌, arith, inl, inr}
 use Rattle.std.specs.Prelude.{ℤ}
 use Rattle.std.proofs.lemmas.Bool.{cases_lt}
 use Rattle.std.proofs.lemmas.List.{append_assoc}
@@ -32,19 +33,22 @@ few_nodes (r ∷ rs) v =
 pub few_points : (rs : List TableRow) → AreValidRowsOfOne largest_limits rs → length (row_points rs) ≤ 2 ^ 24
 few_points [] v = omega arith
 few_points (r ∷ rs) v =
-    let same : length (flat v.0) ≡ length (row_points (r ∷ rs)) = ap (λ xs. length xs) (sym (row_points-with None 0 v.0)) ∙ ap (λ xs. length (row_points xs)) v.2 in
+    let same : length (flat v.0) ≡ length (row_points (r ∷ rs)) = ap (λ xs. length xs)
+    (sym (row_points-with None 0 v.0)) ∙ ap (λ xs. length (row_points xs)) v.2 in
     let kept = v.1.points_kept in
     omega (arith, same, kept)
 
 -- ---- every geometry
 
 -- the rows of a valid geometry are the rows of one valid geometry
-rows_of_valid : (g : Tree) (rs : List TableRow) → IsValid largest_limits g → rows 0 g ≡ rs → AreValidRowsOfOne largest_limits rs
+rows_of_valid : (g : Tree) (rs : List TableRow) → IsValid largest_limits g → rows 0 g ≡ rs
+    → AreValidRowsOfOne largest_limits rs
 rows_of_valid g [] v e = tt
 rows_of_valid g (r ∷ rs) v e = (g, v, e)
 
 -- each row of a geometry comes next after those before it
-pub each_goes_on : (g : Tree) (front : List TableRow) (r : TableRow) (more : List TableRow) → IsValid largest_limits g → rows 0 g ≡ front ++ r ∷ more → Continues largest_limits front r
+pub each_goes_on : (g : Tree) (front : List TableRow) (r : TableRow) (more : List TableRow)
+    → IsValid largest_limits g → rows 0 g ≡ front ++ r ∷ more → Continues largest_limits front r
 each_goes_on g front r more v e =
     let all = rows_of_valid g ((front ++ r ∷ []) ++ more) v (e ∙ sym (append_assoc front (r ∷ []) more)) in
     continues_row largest_limits front r (one_valid_front largest_limits (front ++ r ∷ []) more all)
@@ -88,7 +92,12 @@ row_is a b ps qs e =
 
 -- a node made of its parts
 abbrev node_of : Row → ℕ → ℕ → ℕ → Node
-node_of row next first points = record { row = row; next = record { 0 = next }; first = record { 0 = first }; points = points }
+node_of row next first points = record {
+  row = row;
+  next = record { 0 = next };
+  first = record { 0 = first };
+  points = points;
+}
 
 -- the node at a place is determined
 pub same_node : (rs : List TableRow) (i : ℕ) (m n : Node) → IsNode rs i m → IsNode rs i n → m ≡ n

@@ -29,15 +29,20 @@ no_root [] r h some = absurd (omega arith)
 no_root (s ∷ rows) r h some = h
 
 -- what a row that continues the geometry is
-pub goes_on : (rows : List Row) (r : Row) → AreValidRowsOfOne largest_limits rows → Continues largest_limits rows r → GoesOn rows r
+pub goes_on : (rows : List Row) (r : Row) → AreValidRowsOfOne largest_limits rows
+    → Continues largest_limits rows r → GoesOn rows r
 goes_on rows r v h =
     let one = of_one largest_limits rows v in
-    let steps = (both_true (steps_to r.depth (reverse rows)) (fits (parent r.depth (reverse rows)) (first_child r.depth (reverse rows)) r) h.0.admitted).0 in
+    let steps = (both_true (steps_to r.depth (reverse rows))
+    (fits (parent r.depth (reverse rows)) (first_child r.depth (reverse rows)) r)
+    h.0.admitted).0 in
     let counted = one_geometry_rows rows r one h.1 in
     let few : length (geometry_rows r.depth (reverse rows)) < 2 ^ 20 = h.0.nodes in
     let room_left : point_count (geometry_rows r.depth (reverse rows)) + length r.points ≤ 2 ^ 24 = h.0.points in
-    let all : length (geometry_rows r.depth (reverse rows)) ≡ length rows = ap (λ xs. length xs) counted ∙ length-reverse rows in
-    let points : point_count (geometry_rows r.depth (reverse rows)) ≡ length (row_points rows) = ap point_count counted ∙ point_count-reverse rows ∙ sym (length-row_points rows) in
+    let all : length (geometry_rows r.depth (reverse rows)) ≡ length rows = ap (λ xs. length xs)
+    counted ∙ length-reverse rows in
+    let points : point_count (geometry_rows r.depth (reverse rows)) ≡ length (row_points rows) =
+    ap point_count counted ∙ point_count-reverse rows ∙ sym (length-row_points rows) in
     record {
       valid = continued largest_limits rows r v h;
       place = record {

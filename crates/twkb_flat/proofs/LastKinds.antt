@@ -1,5 +1,6 @@
 -- The kinds of the last entry and of the last row.
-use Rattle.std.proofs.Common.{◌≡◌, ℕ, zero, suc, ◌+◌, List, [], ◌∷◌, ◌++◌, map, length, take, drop, get_or, refl, sym, ap, ◌∙◌, subst, arith}
+use Rattle.std.proofs.Common.{◌≡◌, ℕ, zero, suc, ◌+◌, List, [], ◌∷◌, ◌++◌, map, length, take, drop}
+use Rattle.std.proofs.Common.{get_or, refl, sym, ap, ◌∙◌, subst, arith}
 use Rattle.std.specs.Prelude.{◌<◌, IsTrue, ◌↔◌, Bool, nat_lt, true, false}
 use Rattle.std.proofs.lemmas.Bool.Decides.{nat_tests}
 use Rattle.std.proofs.lemmas.List.{length-append}
@@ -11,14 +12,16 @@ use Rattle.twkb_flat.specs.Rows.{row_with}
 use Rattle.twkb_flat.specs.Entries.{listed, span_of}
 use Rattle.twkb_flat.specs.Lasts.{IsLineKind, LastIsLine}
 
-pub last_of : (es : List KeptNode) (i : ℕ) (d : KeptNode) → i + 1 ≡ length es → LastIsLine es → IsLineKind (get_or es i d).span.row.kind
+pub last_of : (es : List KeptNode) (i : ℕ) (d : KeptNode) → i + 1 ≡ length es → LastIsLine es
+    → IsLineKind (get_or es i d).span.row.kind
 last_of [] i d at h = absurd (omega arith)
 last_of (e ∷ []) zero d at h = h
 last_of (e ∷ []) (suc i) d at h = absurd (omega arith)
 last_of (e ∷ f ∷ es) zero d at h = absurd (omega arith)
 last_of (e ∷ f ∷ es) (suc i) d at h = last_of (f ∷ es) i d (omega arith) h
 
-pub last_is : (es : List KeptNode) (i : ℕ) (d : KeptNode) → i + 1 ≡ length es → IsLineKind (get_or es i d).span.row.kind → LastIsLine es
+pub last_is : (es : List KeptNode) (i : ℕ) (d : KeptNode) → i + 1 ≡ length es
+    → IsLineKind (get_or es i d).span.row.kind → LastIsLine es
 last_is [] i d at h = absurd (omega arith)
 last_is (e ∷ []) zero d at h = h
 last_is (e ∷ []) (suc i) d at h = absurd (omega arith)
@@ -28,14 +31,25 @@ last_is (e ∷ f ∷ es) (suc i) d at h = last_is (f ∷ es) i d (omega arith) h
 -- the rows end in a line if the last entry is a line's
 pub rows_end : (es : List KeptNode) (ps : List Point) → LastIsLine es → EndsInLine (listed (map span_of es) ps)
 rows_end [] ps h = absurd h
-rows_end (e ∷ []) ps h = record { front = []; last = row_with e.span.row (take e.span.points ps); line = h; whole = refl }
+rows_end (e ∷ []) ps h = record {
+  front = [];
+  last = row_with e.span.row (take e.span.points ps);
+  line = h;
+  whole = refl;
+}
 rows_end (e ∷ f ∷ es) ps h =
     let more = rows_end (f ∷ es) (drop e.span.points ps) h in
     let first = row_with e.span.row (take e.span.points ps) in
-    record { front = first ∷ more.front; last = more.last; line = more.line; whole = ap (λ (rs : List TableRow). first ∷ rs) more.whole }
+    record {
+      front = first ∷ more.front;
+      last = more.last;
+      line = more.line;
+      whole = ap (λ (rs : List TableRow). first ∷ rs) more.whole;
+    }
 
 some_behind : (front : List TableRow) (last : TableRow) → [] ≡ front ++ last ∷ [] → ⊥
-some_behind front last t = absurd (omega (arith, ap (λ (rs : List TableRow). length rs) t, length-append front (last ∷ [])))
+some_behind front last t = absurd
+    (omega (arith, ap (λ (rs : List TableRow). length rs) t, length-append front (last ∷ [])))
 
 abbrev head_or : TableRow → List TableRow → TableRow
 head_or r [] = r
@@ -46,25 +60,36 @@ tail_of [] = []
 tail_of (s ∷ rs) = rs
 
 -- the last entry is a line's if the rows end in a line
-pub ends_rows : (es : List KeptNode) (ps : List Point) (front : List TableRow) (last : TableRow) → listed (map span_of es) ps ≡ front ++ last ∷ [] → IsLineKind last.kind → LastIsLine es
+pub ends_rows : (es : List KeptNode) (ps : List Point) (front : List TableRow) (last : TableRow)
+    → listed (map span_of es) ps ≡ front ++ last ∷ [] → IsLineKind last.kind → LastIsLine es
 ends_rows [] ps front last whole line = absurd (some_behind front last whole)
-ends_rows (e ∷ []) ps [] last whole line = subst (λ (r : TableRow). IsLineKind r.kind) (sym (ap (head_or last) whole)) line
+ends_rows (e ∷ []) ps [] last whole line = subst (λ (r : TableRow). IsLineKind r.kind)
+    (sym (ap (head_or last) whole)) line
 ends_rows (e ∷ []) ps (r ∷ front) last whole line = absurd (some_behind front last (ap tail_of whole))
-ends_rows (e ∷ f ∷ es) ps [] last whole line = absurd (omega (arith, ap (λ (rs : List TableRow). length rs) (ap tail_of whole)))
-ends_rows (e ∷ f ∷ es) ps (r ∷ front) last whole line = ends_rows (f ∷ es) (drop e.span.points ps) front last (ap tail_of whole) line
+ends_rows (e ∷ f ∷ es) ps [] last whole line = absurd
+    (omega (arith, ap (λ (rs : List TableRow). length rs) (ap tail_of whole)))
+ends_rows (e ∷ f ∷ es) ps (r ∷ front) last whole line = ends_rows (f ∷ es) (drop e.span.points ps)
+    front last (ap tail_of whole) line
 
 true_false : true ≡ false → ⊥
 true_false t = absurd (grind (arith, nat_tests))
 
 -- the test of the last entry is a test of the last row
-pub both : (b : Bool) (count most : ℕ) (es : List KeptNode) (ps : List Point) (rows : List TableRow) → listed (map span_of es) ps ≡ rows → count ≡ length (row_points rows) → (IsTrue b ↔ LastIsLine es) → b ≡ true
+pub both : (b : Bool) (count most : ℕ) (es : List KeptNode) (ps : List Point) (rows : List TableRow)
+    → listed (map span_of es) ps ≡ rows → count ≡ length (row_points rows)
+    → (IsTrue b ↔ LastIsLine es) → b ≡ true
     → IsTrue (nat_lt count most) ↔ (EndsInLine rows × (length (row_points rows) < most))
 both b count most es ps rows view total (forth, back) t = (
-  (λ u. (subst EndsInLine view (rows_end es ps (forth t)), let few : count < most = grind (arith, nat_tests) in omega (arith, few, total))),
+  (λ u. (
+    subst EndsInLine view (rows_end es ps (forth t)),
+    let few : count < most = grind
+        (arith, nat_tests) in omega (arith, few, total),
+  )),
   (λ h. let few : count < most = omega (arith, h.1, total) in grind (arith, nat_tests)),
 )
 
-pub neither : (b : Bool) (most : ℕ) (es : List KeptNode) (ps : List Point) (rows : List TableRow) → listed (map span_of es) ps ≡ rows → (IsTrue b ↔ LastIsLine es) → b ≡ false
+pub neither : (b : Bool) (most : ℕ) (es : List KeptNode) (ps : List Point) (rows : List TableRow)
+    → listed (map span_of es) ps ≡ rows → (IsTrue b ↔ LastIsLine es) → b ≡ false
     → IsTrue false ↔ (EndsInLine rows × (length (row_points rows) < most))
 neither b most es ps rows view (forth, back) f = (
   (λ t. absurd (true_false (sym t))),

@@ -1,5 +1,6 @@
 -- What a node returned by a flat form says about the rows.
-use Rattle.std.proofs.Common.{◌≡◌, ℕ, ◌+◌, ◌<◌, ◌≤◌, ◌⊎◌, inl, inr, List, map, length, get_or, sym, ap, ◌∙◌, subst, arith}
+use Rattle.std.proofs.Common.{◌≡◌, ℕ, ◌+◌, ◌<◌, ◌≤◌, ◌⊎◌, inl, inr, List, map, length, get_or, sym}
+use Rattle.std.proofs.Common.{ap, ◌∙◌, subst, arith}
 use Rattle.std.proofs.lemmas.List.{length-map, get_or-map}
 use Rattle.twkb_points.specs.Point.{Point}
 use Rattle.twkb_tree.specs.Rows.{Row as TableRow}
@@ -17,25 +18,43 @@ abbrev pub Answers : ℕ → ℕ → ℕ → ℕ → Type 0
 Answers i kept total next = ((kept ≤ i) × (next ≡ total)) ⊎ ((i < kept) × (next ≡ kept))
 
 -- the link returned leads after the subtree
-next_is : (ds : List ℕ) (i kept total next : ℕ) → i < length ds → total ≡ length ds → Link ds i kept → Answers i kept total next → IsNext ds i next
-next_is ds i kept total next h t (inl (is, up)) (inl (le, e)) = subst (λ (n : ℕ). IsNext ds i n) (sym (e ∙ t)) (open_next ds i h is)
+next_is : (ds : List ℕ) (i kept total next : ℕ) → i < length ds → total ≡ length ds → Link ds i kept
+    → Answers i kept total next → IsNext ds i next
+next_is ds i kept total next h t (inl (is, up)) (inl (le, e)) = subst (λ (n : ℕ). IsNext ds i n)
+    (sym (e ∙ t)) (open_next ds i h is)
 next_is ds i kept total next h t (inl (is, up)) (inr (lt, e)) = let before = up.before in absurd (omega arith)
 next_is ds i kept total next h t (inr (is, within)) (inl (le, e)) = let after = is.after in absurd (omega arith)
 next_is ds i kept total next h t (inr (is, within)) (inr (lt, e)) = subst (λ (n : ℕ). IsNext ds i n) (sym e) is
 
 -- the node of an entry
 pub node_is : (es : List KeptNode) (ps : List Point) (i next : ℕ) (e : KeptNode) (rows : List TableRow)
-    → Laid 0 (map span_of es) (length ps) → Linked (depths_in es) (links_in es) → listed (map span_of es) ps ≡ rows → i < length es → e ≡ get_or es i e → Answers i e.next.0 (length es) next
-    → IsNode rows i (record { row = e.span.row; next = record { 0 = next }; first = record { 0 = e.span.first }; points = e.span.points })
+    → Laid 0 (map span_of es) (length ps) → Linked (depths_in es) (links_in es)
+    → listed (map span_of es) ps ≡ rows → i < length es → e ≡ get_or es i e
+    → Answers i e.next.0 (length es) next
+    → IsNode rows i (record {
+      row = e.span.row;
+      next = record { 0 = next };
+      first = record { 0 = e.span.first };
+      points = e.span.points;
+    })
 node_is es ps i next e rows all_laid linked view h is answers =
     let inside : i < length (map span_of es) = rw length-map h in
-    let laid : Laid 0 (map span_of es) (0 + length ps) = subst (λ (n : ℕ). Laid 0 (map span_of es) n) (omega arith) all_laid in
+    let laid : Laid 0 (map span_of es) (0 + length ps) =
+    subst (λ (n : ℕ). Laid 0 (map span_of es) n) (omega arith) all_laid in
     let span : get_or (map span_of es) i e.span ≡ e.span = get_or-map span_of es i e e.span h ∙ sym (ap span_of is) in
-    let at = subst (λ (s : PlacedRow). Here 0 (map span_of es) ps i s) span (row_at 0 (map span_of es) ps i e.span laid inside) in
+    let at = subst (λ (s : PlacedRow). Here 0 (map span_of es) ps i s) span
+    (row_at 0 (map span_of es) ps i e.span laid inside) in
     let all = length-depths_in es in
-    let link = subst (λ (k : ℕ). Link (depths_in es) i k) (link_in es i e h is) (linked.links i (omega (arith, h, all))) in
+    let link = subst (λ (k : ℕ). Link (depths_in es) i k) (link_in es i e h is)
+    (linked.links i (omega (arith, h, all))) in
     let links = next_is (depths_in es) i e.next.0 (length es) next (omega (arith, h, all)) (sym all) link answers in
-    subst (λ (rs : List TableRow). IsNode rs i (record { row = e.span.row; next = record { 0 = next }; first = record { 0 = e.span.first }; points = e.span.points })) view
+    subst (λ (rs : List TableRow).
+    IsNode rs i (record {
+      row = e.span.row;
+      next = record { 0 = next };
+      first = record { 0 = e.span.first };
+      points = e.span.points;
+    })) view
     (record {
       own = at.own;
       rest = at.rest;
@@ -43,7 +62,8 @@ node_is es ps i next e rows all_laid linked view h is answers =
       count = at.count;
       first = omega (arith, at.first);
       next = subst (λ (ds : List ℕ). IsNext ds i next) (sym (depths-listed (map span_of es) ps)) links;
-      child = λ more. subst (λ (ds : List ℕ). get_or ds (i + 1) 0 ≤ e.span.row.depth + 1) (sym (depths-listed (map span_of es) ps))
+      child = λ more. subst (λ (ds : List ℕ). get_or ds (i + 1) 0 ≤ e.span.row.depth + 1)
+          (sym (depths-listed (map span_of es) ps))
           (let step = linked.steps i (omega (arith, length-listed (map span_of es) ps, length-map es span_of)) in
           let here = depth_in es i e h is in
           omega arith);

@@ -1,7 +1,9 @@
 -- The row at a place, by its entry.
-use Rattle.std.proofs.Common.{◌≡◌, ℕ, ◌+◌, ◌-◌, ◌<◌, ◌≤◌, List, [], ◌∷◌, ◌++◌, map, length, take, drop, get_or, refl, sym, ap, ◌∙◌, subst, arith, eq-eqb}
+use Rattle.std.proofs.Common.{◌≡◌, ℕ, ◌+◌, ◌-◌, ◌<◌, ◌≤◌, List, [], ◌∷◌, ◌++◌, map, length, take}
+use Rattle.std.proofs.Common.{drop, get_or, refl, sym, ap, ◌∙◌, subst, arith, eq-eqb}
 use Rattle.std.specs.Prelude.{IsTrue, ◌↔◌, ◌==◌, slice_get, Some}
-use Rattle.std.proofs.lemmas.List.{length-map, length-append, length-drop, get_or-drop, get_or-map, take-append-drop, take_at, drop_at}
+use Rattle.std.proofs.lemmas.List.{length-map, length-append, length-drop, get_or-drop, get_or-map}
+use Rattle.std.proofs.lemmas.List.{take-append-drop, take_at, drop_at}
 use Rattle.std.proofs.lemmas.Option.{slice_get_read}
 use Rattle.std.proofs.lemmas.Bool.{eqb-true}
 use Rattle.std.proofs.lemmas.Grind.{flat_map-append}
@@ -19,19 +21,26 @@ use Rattle.twkb_flat.proofs.FillLemmas.{no_deeper}
 use Rattle.twkb_flat.proofs.RowLemmas.{Here, row_at, flat_points, length-listed}
 
 -- the rows from a place on, by the entry there
-pub entry_here : (es : List KeptNode) (ps : List Point) (i : ℕ) (e : KeptNode) → Laid 0 (map span_of es) (length ps) → i < length es → e ≡ get_or es i e → Here 0 (map span_of es) ps i e.span
+pub entry_here : (es : List KeptNode) (ps : List Point) (i : ℕ) (e : KeptNode)
+    → Laid 0 (map span_of es) (length ps) → i < length es → e ≡ get_or es i e
+    → Here 0 (map span_of es) ps i e.span
 entry_here es ps i e all_laid h is =
     let inside : i < length (map span_of es) = rw length-map h in
-    let laid : Laid 0 (map span_of es) (0 + length ps) = subst (λ (n : ℕ). Laid 0 (map span_of es) n) (omega arith) all_laid in
+    let laid : Laid 0 (map span_of es) (0 + length ps) =
+    subst (λ (n : ℕ). Laid 0 (map span_of es) n) (omega arith) all_laid in
     let span : get_or (map span_of es) i e.span ≡ e.span = get_or-map span_of es i e e.span h ∙ sym (ap span_of is) in
     subst (λ (s : PlacedRow). Here 0 (map span_of es) ps i s) span (row_at 0 (map span_of es) ps i e.span laid inside)
 
 -- there is one entry for each row
-pub length-rows : (es : List KeptNode) (ps : List Point) (rows : List TableRow) → listed (map span_of es) ps ≡ rows → length rows ≡ length es
+pub length-rows : (es : List KeptNode) (ps : List Point) (rows : List TableRow)
+    → listed (map span_of es) ps ≡ rows → length rows ≡ length es
 length-rows es ps rows view = ap length (sym view) ∙ length-listed (map span_of es) ps ∙ length-map es span_of
 
 -- the row at a place is the first of the rows from there on
-pub row_here : (es : List KeptNode) (ps : List Point) (i : ℕ) (e : KeptNode) (rows : List TableRow) (r : TableRow) (rest : List TableRow) → Laid 0 (map span_of es) (length ps) → listed (map span_of es) ps ≡ rows → i < length es → e ≡ get_or es i e → drop i rows ≡ r ∷ rest → row_with e.span.row r.points ≡ r
+pub row_here : (es : List KeptNode) (ps : List Point) (i : ℕ) (e : KeptNode) (rows : List TableRow)
+    (r : TableRow) (rest : List TableRow) → Laid 0 (map span_of es) (length ps)
+    → listed (map span_of es) ps ≡ rows → i < length es → e ≡ get_or es i e → drop i rows ≡ r ∷ rest
+    → row_with e.span.row r.points ≡ r
 row_here es ps i e rows r rest laid view h is at =
     let here = entry_here es ps i e laid h is in
     let both : row_with e.span.row here.own ∷ here.rest ≡ r ∷ rest = sym here.here ∙ ap (drop i) view ∙ at in
@@ -39,20 +48,26 @@ row_here es ps i e rows r rest laid view h is at =
     subst (λ (q : TableRow). row_with e.span.row q.points ≡ q) same refl
 
 -- the points of the row at a place
-points_own : (es : List KeptNode) (ps : List Point) (i : ℕ) (e : KeptNode) → Laid 0 (map span_of es) (length ps) → (h : Here 0 (map span_of es) ps i e.span) → (before : List Point) × (after : List Point) × (length before ≡ e.span.first) × (before ++ (h.own ++ after) ≡ ps)
+points_own : (es : List KeptNode) (ps : List Point) (i : ℕ) (e : KeptNode)
+    → Laid 0 (map span_of es) (length ps) → (h : Here 0 (map span_of es) ps i e.span)
+    → (before : List Point) × (after : List Point) × (length before ≡ e.span.first)
+    × (before ++ (h.own ++ after) ≡ ps)
 points_own es ps i e laid h =
     let rows = listed (map span_of es) ps in (
       row_points (take i rows),
       row_points h.rest,
       omega (arith, h.first),
       ap (λ (q : List TableRow). row_points (take i (listed (map span_of es) ps)) ++ row_points q) (sym h.here)
-          ∙ sym (flat_map-append (λ (r : TableRow). r.points) (take i (listed (map span_of es) ps)) (drop i (listed (map span_of es) ps)))
+          ∙ sym (flat_map-append (λ (r : TableRow). r.points) (take i (listed (map span_of es) ps))
+          (drop i (listed (map span_of es) ps)))
           ∙ ap row_points (take-append-drop i (listed (map span_of es) ps))
           ∙ flat_points (map span_of es) ps laid,
     )
 
 -- the points of the row at a place are within all points
-pub points_inside : (es : List KeptNode) (ps : List Point) (i : ℕ) (e : KeptNode) → Laid 0 (map span_of es) (length ps) → i < length es → e ≡ get_or es i e → e.span.first + e.span.points ≤ length ps
+pub points_inside : (es : List KeptNode) (ps : List Point) (i : ℕ) (e : KeptNode)
+    → Laid 0 (map span_of es) (length ps) → i < length es → e ≡ get_or es i e
+    → e.span.first + e.span.points ≤ length ps
 points_inside es ps i e laid within is =
     let h = entry_here es ps i e laid within is in
     let own = points_own es ps i e laid h in
@@ -60,12 +75,17 @@ points_inside es ps i e laid within is =
     omega (arith, own.2, h.count, ap length own.3, length-append own.0 (h.own ++ own.1), length-append h.own own.1)
 
 -- a part of a list, cut out at its place
-cut_out : (before own after ps : List Point) (first count : ℕ) → length before ≡ first → length own ≡ count → before ++ (own ++ after) ≡ ps → take count (drop first ps) ≡ own
+cut_out : (before own after ps : List Point) (first count : ℕ) → length before ≡ first
+    → length own ≡ count → before ++ (own ++ after) ≡ ps → take count (drop first ps) ≡ own
 cut_out before own after ps first count f n e =
-    ap (λ (qs : List Point). take count (drop first qs)) (sym e) ∙ ap (take count) (drop_at before (own ++ after) first f) ∙ take_at own after count n
+    ap (λ (qs : List Point). take count (drop first qs)) (sym e)
+    ∙ ap (take count) (drop_at before (own ++ after) first f) ∙ take_at own after count n
 
 -- the points of the row at a place are those of the first row from there on
-pub points_here : (es : List KeptNode) (ps : List Point) (i : ℕ) (e : KeptNode) (rows : List TableRow) (r : TableRow) (rest : List TableRow) → Laid 0 (map span_of es) (length ps) → listed (map span_of es) ps ≡ rows → i < length es → e ≡ get_or es i e → drop i rows ≡ r ∷ rest
+pub points_here : (es : List KeptNode) (ps : List Point) (i : ℕ) (e : KeptNode)
+    (rows : List TableRow) (r : TableRow) (rest : List TableRow)
+    → Laid 0 (map span_of es) (length ps) → listed (map span_of es) ps ≡ rows → i < length es
+    → e ≡ get_or es i e → drop i rows ≡ r ∷ rest
     → take (e.span.first + e.span.points - e.span.first) (drop e.span.first ps) ≡ r.points
 points_here es ps i e rows r rest laid view within is at =
     let h = entry_here es ps i e laid within is in
@@ -73,21 +93,29 @@ points_here es ps i e rows r rest laid view within is at =
     let both : row_with e.span.row h.own ∷ h.rest ≡ r ∷ rest = sym h.here ∙ ap (drop i) view ∙ at in
     let same : row_with e.span.row h.own ≡ r = cc both in
     let count : length h.own ≡ e.span.first + e.span.points - e.span.first = omega (arith, h.count) in
-    cut_out own.0 h.own own.1 ps e.span.first (e.span.first + e.span.points - e.span.first) own.2 count own.3 ∙ ap (λ (q : TableRow). q.points) same
+    cut_out own.0 h.own own.1 ps e.span.first (e.span.first + e.span.points - e.span.first) own.2
+    count own.3 ∙ ap (λ (q : TableRow). q.points) same
 
 -- no row is deeper than 34
-pub shallow_here : (es : List KeptNode) (ps : List Point) (i : ℕ) (e : KeptNode) (rows : List TableRow) → AreValidRowsOfOne largest_limits (listed (map span_of es) ps) → Laid 0 (map span_of es) (length ps) → i < length es → e ≡ get_or es i e → e.span.row.depth < 35
+pub shallow_here : (es : List KeptNode) (ps : List Point) (i : ℕ) (e : KeptNode)
+    (rows : List TableRow) → AreValidRowsOfOne largest_limits (listed (map span_of es) ps)
+    → Laid 0 (map span_of es) (length ps) → i < length es → e ≡ get_or es i e
+    → e.span.row.depth < 35
 shallow_here es ps i e rows v laid within is =
     let h = entry_here es ps i e laid within is in
     let rows = listed (map span_of es) ps in
-    let split : take i rows ++ row_with e.span.row h.own ∷ h.rest ≡ rows = ap (λ (q : List TableRow). take i (listed (map span_of es) ps) ++ q) (sym h.here) ∙ take-append-drop i rows in
-    let most = no_deeper (take i rows) (row_with e.span.row h.own) h.rest (subst (AreValidRowsOfOne largest_limits) (sym split) v) in
+    let split : take i rows ++ row_with e.span.row h.own ∷ h.rest ≡ rows =
+    ap (λ (q : List TableRow). take i (listed (map span_of es) ps) ++ q) (sym h.here)
+    ∙ take-append-drop i rows in
+    let most = no_deeper (take i rows) (row_with e.span.row h.own) h.rest
+    (subst (AreValidRowsOfOne largest_limits) (sym split) v) in
     omega (arith, most)
 
 -- ---- by the rows alone
 
 -- the row there is at depth d exactly if the test of its depth passes
-pub by_test : (rows : List TableRow) (i d k : ℕ) (r : TableRow) (rest : List TableRow) → drop i rows ≡ r ∷ rest → k ≡ r.depth → IsTrue (k == d) ↔ IsAt d (drop i rows)
+pub by_test : (rows : List TableRow) (i d k : ℕ) (r : TableRow) (rest : List TableRow)
+    → drop i rows ≡ r ∷ rest → k ≡ r.depth → IsTrue (k == d) ↔ IsAt d (drop i rows)
 by_test rows i d k r rest here e = (
   λ same. subst (IsAt d) (sym here) (sym e ∙ eqb-true k d same),
   λ at. eq-eqb k d (e ∙ subst (IsAt d) here at),
@@ -99,7 +127,8 @@ first_of [] h = absurd (omega arith)
 first_of (r ∷ rest) h = (r, rest, refl)
 
 -- the row at a place within the rows
-pub some_at : (rows : List TableRow) (i : ℕ) → i < length rows → (r : TableRow) × (rest : List TableRow) × (drop i rows ≡ r ∷ rest)
+pub some_at : (rows : List TableRow) (i : ℕ) → i < length rows → (r : TableRow)
+    × (rest : List TableRow) × (drop i rows ≡ r ∷ rest)
 some_at rows i h = first_of (drop i rows) (omega (arith, length-drop i rows))
 
 -- the row at a place, from the facts about it and its points
@@ -109,7 +138,10 @@ pub row_got : (rows : List TableRow) (i : ℕ) (row : Row) (own : List Point) �
     → slice_get rows i ≡ Some (row_with row own)
 row_got rows i row own within whole points =
     let found = some_at rows i within in
-    let same : row_with row own ≡ found.0 = ap (row_with row) (points found.0 found.1 found.2) ∙ whole found.0 found.1 found.2 in
+    let same : row_with row own ≡ found.0 = ap (row_with row) (points found.0 found.1 found.2)
+    ∙ whole found.0 found.1 found.2 in
     let place : i + 0 ≡ i = omega arith in
-    let read : found.0 ≡ get_or rows i found.0 = ap (λ (rs : List TableRow). get_or rs 0 found.0) (sym found.2) ∙ get_or-drop i rows 0 found.0 ∙ ap (λ (k : ℕ). get_or rows k found.0) place in
+    let read : found.0 ≡ get_or rows i found.0 = ap (λ (rs : List TableRow). get_or rs 0 found.0)
+    (sym found.2) ∙ get_or-drop i rows 0 found.0 ∙ ap (λ (k : ℕ). get_or rows k found.0)
+    place in
     slice_get_read rows (length rows) i found.0 refl within read ∙ ap (λ (r : TableRow). Some r) (sym same)

@@ -10,4 +10,5 @@ use Rattle.twkb_tree.specs.declared.standing.Standing.{Standing}
 -- the limits leave room for the row at this place, and it fits under its parent
 abbrev pub is_admitted_at : Allowance → Standing → TableRow → Bool
 is_admitted_at l s r =
-    nest_kept l (row_of s.parent) s.depth && (nat_lt s.nodes l.nodes && nat_le (s.points + length r.points) l.points) && fits (row_of s.parent) (child_of s.parent) r
+    nest_kept l (row_of s.parent) s.depth && (nat_lt s.nodes l.nodes && nat_le
+    (s.points + length r.points) l.points) && fits (row_of s.parent) (child_of s.parent) r

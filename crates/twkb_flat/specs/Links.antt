@@ -35,7 +35,8 @@ pub record IsUp (ds : List ℕ) (i up : ℕ) : Type 0 where
 -- is not after it.
 pub record Linked (ds nexts : List ℕ) : Type 0 where
   pub same : length nexts ≡ length ds
-  pub links : (i : ℕ) → i < length ds → (IsOpen ds i × IsUp ds i (slice_index nexts i)) ⊎ (IsNext ds i (slice_index nexts i) × (slice_index nexts i < length ds))
+  pub links : (i : ℕ) → i < length ds → (IsOpen ds i × IsUp ds i (slice_index nexts i))
+      ⊎ (IsNext ds i (slice_index nexts i) × (slice_index nexts i < length ds))
   pub steps : (i : ℕ) → i + 1 < length ds → slice_index ds (i + 1) ≤ slice_index ds i + 1
 
 -- the links, with those of the open rows from depth d on set to `next`

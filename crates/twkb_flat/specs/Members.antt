@@ -8,7 +8,8 @@ use Rattle.twkb_tree.specs.Open.{AreOpen}
 -- the open rows with two more: a multipoint, whose members all have ids or all have none, and one
 -- of its members
 abbrev pub with_member : List OpenRow → Bool → List OpenRow
-with_member above named = above ++ record { kind = Kind.MultiPoint; child_ids = Some named } ∷ record { kind = Kind.Point; child_ids = None } ∷ []
+with_member above named = above ++ record { kind = Kind.MultiPoint; child_ids = Some named }
+    ∷ record { kind = Kind.Point; child_ids = None } ∷ []
 
 -- the last two open rows are a multipoint and one of its members, which is at this depth
 pub record OpenInMember (d : ℕ) (named : Bool) (os : List OpenRow) : Type 0 where

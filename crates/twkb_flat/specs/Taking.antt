@@ -17,14 +17,16 @@ IsAt d (r ∷ rs) = r.depth ≡ d
 
 -- the rows from a place on begin with those of one sound item at a depth, with an id, and the rest
 -- are not below it
-pub record ItemAt {A : Type 0} (sound : A → Type 0) (f : Option ℤ → A → List Row) (rows : List Row) (at d : ℕ) (id : Option ℤ) (item : A) (rest : List Row) : Type 0 where
+pub record ItemAt {A : Type 0} (sound : A → Type 0) (f : Option ℤ → A → List Row) (rows : List Row)
+    (at d : ℕ) (id : Option ℤ) (item : A) (rest : List Row) : Type 0 where
   pub is_sound : sound item
   pub behind : IsAbove (suc d) rest
   pub here : drop at rows ≡ f id item ++ rest
 
 -- the rows from a place on begin with those of sound items at a depth, with these ids, and the rest
 -- are above them
-pub record EachAt {A : Type 0} (sound : A → Type 0) (f : Option ℤ → A → List Row) (rows : List Row) (at d : ℕ) (ids : Ids) (items : List A) (rest : List Row) : Type 0 where
+pub record EachAt {A : Type 0} (sound : A → Type 0) (f : Option ℤ → A → List Row) (rows : List Row)
+    (at d : ℕ) (ids : Ids) (items : List A) (rest : List Row) : Type 0 where
   pub are_sound : AllByRecursion sound items
   pub ids_fit : HasIds ids (length items)
   pub behind : IsAbove d rest
@@ -44,7 +46,8 @@ pub record SimpleAt (rows : List Row) (at d : ℕ) (id : Option ℤ) (g : Tree) 
   pub no_collection : (own_row id d g).kind ≢ Kind.Collection
 
 -- the rows of parts of this kind at a depth begin at a place
-abbrev pub PartsAt : {A : Type 0} → (A → List Point) → (ℕ → A → List Row) → Kind → List Row → ℕ → ℕ → Ids → List A → List Row → Type 0
+abbrev pub PartsAt : {A : Type 0} → (A → List Point) → (ℕ → A → List Row) → Kind → List Row → ℕ → ℕ
+    → Ids → List A → List Row → Type 0
 PartsAt own below kind rows at d ids parts rest = EachAt IsAny (part_rows own below kind d) rows at d ids parts rest
 
 -- a precision and a shape are those of this geometry

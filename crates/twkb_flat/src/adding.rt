@@ -1,5 +1,6 @@
 //! Points and members that are appended to the last row of a flat form.
-ghost use Rattle.std.specs.Prelude.{◌≡◌, ◌↔◌, ◌+◌, ◌<◌, ◌≤◌, ◌^◌, ◌++◌, ◌∷◌, [], length, OnOk, OnErr, IsTrue, true, is_some};
+ghost use Rattle.std.specs.Prelude.{◌≡◌, ◌↔◌, ◌+◌, ◌<◌, ◌≤◌, ◌^◌, ◌++◌, ◌∷◌, [], length, OnOk};
+ghost use Rattle.std.specs.Prelude.{OnErr, IsTrue, true, is_some};
 ghost use Rattle.twkb_tree.specs.Rows.{row_points, plain_row};
 ghost use Rattle.twkb_tree.specs.RowGrowth.{EndsInLine, point_added, points_added};
 ghost use Rattle.twkb_flat.specs.Members.{EndsInMember};

@@ -1,7 +1,8 @@
 //! The test of a row at its place.
 ghost use Rattle.std.specs.Prelude.{◌≡◌, ◌≤◌, ◌+◌, ◌^◌, ◌&&◌, true, List, length, nat_lt, nat_le};
 ghost use Rattle.twkb_points.specs.Point.{Point, AreInRange};
-ghost use Rattle.twkb_tree.specs.Admits.{id_in_range, id_allowed, has_same_ids, precision_in_range, precision_fits, fits};
+ghost use Rattle.twkb_tree.specs.Admits.{id_in_range, id_allowed, has_same_ids, precision_in_range};
+ghost use Rattle.twkb_tree.specs.Admits.{precision_fits, fits};
 ghost use Rattle.twkb_tree.specs.Rows.{Row as TableRow};
 ghost use Rattle.twkb_tree.specs.declared.open_rows.OpenRow.{OpenRow};
 ghost use Rattle.twkb_tree.specs.Open.{is_next, row_of, child_of};
@@ -54,7 +55,8 @@ fn precision_fits(parent: Option<OpenRow>, precision: Option<i8>) -> bool
 
 // Whether a row with `count` points fits under this parent.
 fn fits(parent: Option<OpenRow>, row: &Row, count: usize) -> bool
-    ensures { (own : List Point) → length own ≡ count → result ≡ fits (row_of parent) (child_of parent) (row_with row.now own) }
+    ensures { (own : List Point) → length own ≡ count
+        → result ≡ fits (row_of parent) (child_of parent) (row_with row.now own) }
 {
     look_at_id(row.id);
     if !row_rules::has_place(parent, row.kind) {
@@ -71,7 +73,8 @@ fn fits(parent: Option<OpenRow>, row: &Row, count: usize) -> bool
 
 // Whether the limits leave room for a row with `count` points at this place.
 fn has_room(limits: &Limits, standing: &Standing, count: usize) -> bool
-    ensures { result ≡ (nat_lt standing.now.nodes limits.now.nodes && nat_le (standing.now.points + count) limits.now.points) }
+    ensures { result ≡ (nat_lt standing.now.nodes limits.now.nodes && nat_le
+        (standing.now.points + count) limits.now.points) }
 {
     standing.nodes < limits.nodes()
         && standing.points <= limits.points()
@@ -80,7 +83,8 @@ fn has_room(limits: &Limits, standing: &Standing, count: usize) -> bool
 
 // Whether the row with `count` points may come at this place.
 pub(crate) fn admits_at(limits: &Limits, standing: &Standing, row: &Row, count: usize) -> bool
-    ensures { (own : List Point) → length own ≡ count → result ≡ is_admitted_at limits.now standing.now (row_with row.now own) }
+    ensures { (own : List Point) → length own ≡ count
+        → result ≡ is_admitted_at limits.now standing.now (row_with row.now own) }
 {
     row_rules::nest_kept(limits, standing.parent, standing.depth)
         && has_room(limits, standing, count)

@@ -31,7 +31,9 @@ impl Flat {
 #[cycle(building)]
 fn take_geometry(flat: &Flat, alloc: Global, at: usize) -> Result<(Geometry, usize), AllocError>
     requires { (d : ℕ) × (id : Option ℤ) × (g : Tree) × (rest : List TableRow) × TreeAt flat.now at d id g rest }
-    ensures { (d : ℕ) (id : Option ℤ) (g : Tree) (rest : List TableRow) → TreeAt flat.now at d id g rest → IfOk result (λ taken. (taken.0 ≡ g) × (drop taken.1 flat.now ≡ rest)) }
+    ensures { (d : ℕ) (id : Option ℤ) (g : Tree) (rest : List TableRow)
+        → TreeAt flat.now at d id g rest → IfOk result (λ taken. (taken.0 ≡ g)
+        × (drop taken.1 flat.now ≡ rest)) }
 {
     let precision = flat.row(at).precision;
     let (shape, next) = take_shape(flat, alloc, at)?;
@@ -56,7 +58,9 @@ fn made_of(precision: Option<i8>, shape: Shape) -> Geometry
 #[cycle(building)]
 fn take_shape(flat: &Flat, alloc: Global, at: usize) -> Result<(Shape, usize), AllocError>
     requires { (d : ℕ) × (id : Option ℤ) × (g : Tree) × (rest : List TableRow) × TreeAt flat.now at d id g rest }
-    ensures { (d : ℕ) (id : Option ℤ) (g : Tree) (rest : List TableRow) → TreeAt flat.now at d id g rest → IfOk result (λ taken. (tree_of (precision_of g) taken.0 ≡ g) × (drop taken.1 flat.now ≡ rest)) }
+    ensures { (d : ℕ) (id : Option ℤ) (g : Tree) (rest : List TableRow)
+        → TreeAt flat.now at d id g rest → IfOk result
+        (λ taken. (tree_of (precision_of g) taken.0 ≡ g) × (drop taken.1 flat.now ≡ rest)) }
 {
     let row = flat.row(at);
     match row.kind {
@@ -71,7 +75,9 @@ fn take_shape(flat: &Flat, alloc: Global, at: usize) -> Result<(Shape, usize), A
 // Builds the shape of a geometry that is not a collection, and returns the place after its rows.
 fn take_simple(flat: &Flat, alloc: Global, at: usize) -> Result<(Shape, usize), AllocError>
     requires { (d : ℕ) × (id : Option ℤ) × (g : Tree) × (rest : List TableRow) × SimpleAt flat.now at d id g rest }
-    ensures { (d : ℕ) (id : Option ℤ) (g : Tree) (rest : List TableRow) → TreeAt flat.now at d id g rest → IfOk result (λ taken. (tree_of (precision_of g) taken.0 ≡ g) × (drop taken.1 flat.now ≡ rest)) }
+    ensures { (d : ℕ) (id : Option ℤ) (g : Tree) (rest : List TableRow)
+        → TreeAt flat.now at d id g rest → IfOk result
+        (λ taken. (tree_of (precision_of g) taken.0 ≡ g) × (drop taken.1 flat.now ≡ rest)) }
 {
     let row = flat.row(at);
     let below = at + 1;
@@ -114,8 +120,11 @@ fn take_members(
     start: usize,
     depth: u32,
 ) -> Result<(Members, Ids, usize), AllocError>
-    requires { (ids : Ids) × (gs : List Tree) × (rest : List TableRow) × EachAt IsTree (λ id g. rows_with id depth g) flat.now start depth ids gs rest }
-    ensures { (ids : Ids) (gs : List Tree) (rest : List TableRow) → EachAt IsTree (λ id g. rows_with id depth g) flat.now start depth ids gs rest → IfOk result (λ taken. (taken.0 ≡ gs) × (taken.1 ≡ ids) × (drop taken.2 flat.now ≡ rest)) }
+    requires { (ids : Ids) × (gs : List Tree) × (rest : List TableRow)
+        × EachAt IsTree (λ id g. rows_with id depth g) flat.now start depth ids gs rest }
+    ensures { (ids : Ids) (gs : List Tree) (rest : List TableRow)
+        → EachAt IsTree (λ id g. rows_with id depth g) flat.now start depth ids gs rest
+        → IfOk result (λ taken. (taken.0 ≡ gs) × (taken.1 ≡ ids) × (drop taken.2 flat.now ≡ rest)) }
 {
     let mut members = Vec::new(alloc);
     let mut ids = Vec::new(alloc);
@@ -137,8 +146,12 @@ pub(crate) fn take_each<T: Part>(
     start: usize,
     depth: u32,
 ) -> Result<(Items<T>, Ids, usize), AllocError>
-    requires { (kind : Kind) × (ids : Ids) × (parts : List T) × (rest : List TableRow) × PartsAt T.own T.below kind flat.now start depth ids parts rest }
-    ensures { (kind : Kind) (ids : Ids) (parts : List T) (rest : List TableRow) → PartsAt T.own T.below kind flat.now start depth ids parts rest → IfOk result (λ taken. (taken.0 ≡ parts) × (taken.1 ≡ ids) × (drop taken.2 flat.now ≡ rest)) }
+    requires { (kind : Kind) × (ids : Ids) × (parts : List T) × (rest : List TableRow)
+        × PartsAt T.own T.below kind flat.now start depth ids parts rest }
+    ensures { (kind : Kind) (ids : Ids) (parts : List T) (rest : List TableRow)
+        → PartsAt T.own T.below kind flat.now start depth ids parts rest
+        → IfOk result (λ taken. (taken.0 ≡ parts) × (taken.1 ≡ ids)
+        × (drop taken.2 flat.now ≡ rest)) }
 {
     let mut parts = Vec::new(alloc);
     let mut ids = Vec::new(alloc);

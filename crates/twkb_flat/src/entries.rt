@@ -1,8 +1,11 @@
 //! The stored nodes of a flat form.
-ghost use Rattle.std.specs.Prelude.{◌≡◌, ◌<◌, ◌≤◌, ◌+◌, ◌^◌, ◌↔◌, ◌++◌, ◌∷◌, [], IsTrue, ℕ, List, length, map, take, slice_set, slice_get, OnOk, OnErr, IfErr};
+ghost use Rattle.std.specs.Prelude.{◌≡◌, ◌<◌, ◌≤◌, ◌+◌, ◌^◌, ◌↔◌, ◌++◌, ◌∷◌, [], IsTrue, ℕ, List};
+ghost use Rattle.std.specs.Prelude.{length, map, take, slice_set, slice_get, OnOk, OnErr, IfErr};
 ghost use Rattle.twkb_points.specs.Point.{Point};
 ghost use Rattle.twkb_tree.specs.Open.{ids_by};
-ghost use Rattle.twkb_flat.specs.Entries.{span_of, depths_in, links_in, listed, last_longer, LastHasRoom, LastHasRoomFor, last_longer_by, IsPut, IsUnlinked};
+ghost use Rattle.twkb_flat.specs.Entries.{span_of, depths_in, links_in, listed, last_longer};
+ghost use Rattle.twkb_flat.specs.Entries.{LastHasRoom, LastHasRoomFor, last_longer_by, IsPut};
+ghost use Rattle.twkb_flat.specs.Entries.{IsUnlinked};
 ghost use Rattle.twkb_flat.specs.Links.{levels, OpenPlace, Linked, AreClosed, MayFollow};
 ghost use Rattle.twkb_flat.specs.Lasts.{IsLineKind, LastIsLine};
 
@@ -64,7 +67,9 @@ pub(crate) fn put_row<S: PointSource>(
 ) -> Result<(), S::Fault>
     requires few { length points.old.items ≤ 2 ^ 24 }
     requires room { (own : List Point) → S.gives source.now own → length points.old.items + length own ≤ 2 ^ 24 }
-    ensures put { OnOk result ((own : List Point) × IsPut row own entries.old.items entries.new.items points.old.items points.new.items × S.gives source.now own) }
+    ensures put { OnOk result ((own : List Point)
+        × IsPut row own entries.old.items entries.new.items points.old.items points.new.items
+        × S.gives source.now own) }
     ensures refused { IfErr result (S.refuses source.now) }
     ensures no_node { OnErr result (entries.new.items ≡ entries.old.items) }
     ensures no_point { OnErr result (points.new.items ≡ points.old.items) }
@@ -108,7 +113,8 @@ fn close_from(entries: &mut [KeptNode], depth: u32, next: u32) -> u32
     requires linked { Linked (take next (depths_in entries.old)) (take next (links_in entries.old)) }
     requires place { MayFollow (take next (depths_in entries.old)) depth }
     ensures spans { map span_of entries.new ≡ map span_of entries.old }
-    ensures links { AreClosed (take next (depths_in entries.old)) (take next (links_in entries.old)) (links_in entries.new) depth next }
+    ensures links { AreClosed (take next (depths_in entries.old)) (take next (links_in entries.old))
+        (links_in entries.new) depth next }
     ensures above { (e : ℕ) → depth ≡ e + 1 → OpenPlace (take next (depths_in entries.old)) e result }
 {
     let mut at = next - 1;

@@ -117,7 +117,8 @@ pub(crate) fn push_each<T: Part>(
     ids: &Ids,
     flat: &mut Flat,
 ) -> Result<(), AllocError>
-    requires { AreValidRowsOfOne largest_limits (flat.old ++ rows_of_each (part_rows T.own T.below kind depth) ids.now parts.now) }
+    requires { AreValidRowsOfOne largest_limits (flat.old ++ rows_of_each
+        (part_rows T.own T.below kind depth) ids.now parts.now) }
     ensures { OnOk result (flat.new ≡ flat.old ++ rows_of_each (part_rows T.own T.below kind depth) ids.now parts.now) }
 {
     let mut index = 0;

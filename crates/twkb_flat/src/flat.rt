@@ -1,5 +1,6 @@
 //! The flat form of one geometry.
-ghost use Rattle.std.specs.Prelude.{◌≡◌, ◌↔◌, ◌+◌, ◌<◌, ◌≤◌, ◌++◌, ◌∷◌, [], List, length, slice_get, Some, None, OnOk, OnErr, IfErr, IsTrue};
+ghost use Rattle.std.specs.Prelude.{◌≡◌, ◌↔◌, ◌+◌, ◌<◌, ◌≤◌, ◌++◌, ◌∷◌, [], List, length};
+ghost use Rattle.std.specs.Prelude.{slice_get, Some, None, OnOk, OnErr, IfErr, IsTrue};
 ghost use Rattle.twkb_points.specs.Point.{Point};
 ghost use Rattle.twkb_tree.specs.Tree.{saturated, IsPrecision};
 ghost use Rattle.twkb_tree.specs.Limits.{largest_limits};
@@ -180,7 +181,8 @@ impl Flat {
     #[inline(always)]
     pub fn push_from<S: PointSource>(&mut self, row: Row, source: &S) -> Result<(), S::Fault>
         requires { (own : List Point) → S.gives source.now own → Continues largest_limits self.old (row_with row own) }
-        ensures pushed { OnOk result ((own : List Point) × (self.new ≡ self.old ++ row_with row own ∷ []) × S.gives source.now own) }
+        ensures pushed { OnOk result ((own : List Point)
+            × (self.new ≡ self.old ++ row_with row own ∷ []) × S.gives source.now own) }
         ensures refused { IfErr result (S.refuses source.now) }
         ensures same { OnErr result (self.new ≡ self.old) }
     {

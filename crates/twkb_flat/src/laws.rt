@@ -16,7 +16,9 @@ pub fn caps()
 
 /// Every geometry within the largest limits can be pushed row by row.
 pub fn every_geometry()
-    ensures { (g : Tree) (front : List TableRow) (r : TableRow) (more : List TableRow) → IsValid largest_limits g → rows 0 g ≡ front ++ r ∷ more → Continues largest_limits front r }
+    ensures { (g : Tree) (front : List TableRow) (r : TableRow) (more : List TableRow)
+        → IsValid largest_limits g → rows 0 g ≡ front ++ r ∷ more
+        → Continues largest_limits front r }
 {}
 
 /// The rows and a place determine the node at that place.

@@ -40,7 +40,8 @@ impl Flat {
     // The place of a row at this depth after the rows.
     pub(crate) fn standing(&self, depth: u32) -> Standing
         requires { depth ≤ open_count (reverse self.now) }
-        ensures { (os : List OpenRow) → AreOpen (reverse self.now) os → result ≡ standing_at depth os (length self.now) (length (row_points self.now)) }
+        ensures { (os : List OpenRow) → AreOpen (reverse self.now) os
+            → result ≡ standing_at depth os (length self.now) (length (row_points self.now)) }
     {
         if depth == 0 {
             return Standing {

@@ -35,8 +35,12 @@ pub(crate) trait Part: Item {
 
     // Builds the part whose rows begin at a place, and returns the place after them.
     fn take(flat: &Flat, alloc: Global, at: usize) -> Result<(Self, usize), AllocError>
-        requires stands { (kind : Kind) × (d : ℕ) × (id : Option ℤ) × (part : Self) × (rest : List TableRow) × ItemAt IsAny (part_rows own below kind d) flat.now at d id part rest }
-        ensures { (kind : Kind) (d : ℕ) (id : Option ℤ) (part : Self) (rest : List TableRow) → ItemAt IsAny (part_rows own below kind d) flat.now at d id part rest → IfOk result (λ taken. (taken.0 ≡ part) × (drop taken.1 flat.now ≡ rest)) };
+        requires stands { (kind : Kind) × (d : ℕ) × (id : Option ℤ) × (part : Self)
+            × (rest : List TableRow) × ItemAt IsAny (part_rows own below kind d) flat.now at d id
+            part rest }
+        ensures { (kind : Kind) (d : ℕ) (id : Option ℤ) (part : Self) (rest : List TableRow)
+            → ItemAt IsAny (part_rows own below kind d) flat.now at d id part rest
+            → IfOk result (λ taken. (taken.0 ≡ part) × (drop taken.1 flat.now ≡ rest)) };
 }
 
 impl Part for Pt {

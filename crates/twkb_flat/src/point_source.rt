@@ -19,7 +19,8 @@ pub trait PointSource {
     /// Appends the points of the row to a list, through its borrowed tail. An `Err` changes
     /// nothing.
     fn append_to<L: PointTail>(&self, points: &mut L) -> Result<(), Self::Fault>
-        ensures given { OnOk result ((own : List Point) × (L.held points.new ≡ L.held points.old ++ own) × gives self.now own) }
+        ensures given { OnOk result ((own : List Point)
+            × (L.held points.new ≡ L.held points.old ++ own) × gives self.now own) }
         ensures refused { IfErr result (refuses self.now) }
         ensures same { OnErr result (L.held points.new ≡ L.held points.old) };
 

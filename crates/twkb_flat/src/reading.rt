@@ -22,7 +22,8 @@ impl Flat {
     // The row at a place.
     pub(crate) fn row(&self, at: usize) -> Row
         requires { at < length self.now }
-        ensures row { (row : TableRow) (rest : List TableRow) → drop at self.now ≡ row ∷ rest → row_with result row.points ≡ row }
+        ensures row { (row : TableRow) (rest : List TableRow) → drop at self.now ≡ row ∷ rest
+            → row_with result row.points ≡ row }
         ensures shallow { result.depth < 35 }
         ensures few { length self.now ≤ 2 ^ 20 }
     {
@@ -32,7 +33,8 @@ impl Flat {
     // The points of the row at a place.
     pub(crate) fn own_points(&self, at: usize) -> &[Pt]
         requires { at < length self.now }
-        ensures points { (row : TableRow) (rest : List TableRow) → drop at self.now ≡ row ∷ rest → result.now ≡ row.points }
+        ensures points { (row : TableRow) (rest : List TableRow) → drop at self.now ≡ row ∷ rest
+            → result.now ≡ row.points }
         ensures few { length self.now ≤ 2 ^ 20 }
     {
         let span = self.entries[at].span;

@@ -22,7 +22,11 @@ impl Rows {
     pub fn row_at(&self, id: NodeId, work: &mut Work) -> (Row, &[Pt])
         requires { id.0 < length self.now.flat }
         ensures row { slice_get self.now.flat id.0 ≡ Some (row_with result.0 result.1.now) }
-        ensures counted { work.new ≡ record work.old { node_reads = saturated (work.old.node_reads + 1); point_reads = saturated (work.old.point_reads + length result.1.now) } }
+        ensures counted { work.new
+            ≡ record work.old {
+              node_reads = saturated (work.old.node_reads + 1);
+              point_reads = saturated (work.old.point_reads + length result.1.now);
+            } }
     {
         let at = id.0 as usize;
         let row = self.flat.row(at);

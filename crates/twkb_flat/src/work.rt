@@ -49,7 +49,10 @@ impl Work {
 
     // Counts one read of a node and of this number of points.
     pub(crate) fn count_row(&mut self, points: u64)
-        ensures { self.new ≡ record self.old { node_reads = saturated (self.old.node_reads + 1); point_reads = saturated (self.old.point_reads + points) } }
+        ensures { self.new ≡ record self.old {
+          node_reads = saturated (self.old.node_reads + 1);
+          point_reads = saturated (self.old.point_reads + points);
+        } }
     {
         self.count_node();
         self.point_reads = self.point_reads.saturating_add(points);

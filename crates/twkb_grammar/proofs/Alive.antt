@@ -1,5 +1,6 @@
 -- A part can go on to a valid geometry: fillers complete it.
-use Rattle.std.proofs.Common.{Bool, true, false, ◌≡◌, ℕ, ◌+◌, ◌≤◌, List, [], ◌∷◌, ◌++◌, map, length, refl, sym, subst, arith}
+use Rattle.std.proofs.Common.{Bool, true, false, ◌≡◌, ℕ, ◌+◌, ◌≤◌, List, [], ◌∷◌, ◌++◌, map, length}
+use Rattle.std.proofs.Common.{refl, sym, subst, arith}
 use Rattle.std.proofs.lemmas.Int.{ints}
 use Rattle.std.specs.Prelude.{ℤ, ◌+ℤ◌}
 use Rattle.std.specs.List.{AllByRecursion}
@@ -7,7 +8,8 @@ use Rattle.twkb_num.specs.Zigzag.{unzigzag_of}
 use Rattle.twkb_points.specs.Point.{Point, IsCoordinate, IsInRange}
 use Rattle.twkb_tree.specs.Tree.{count, nodes, flat, nest}
 use Rattle.twkb_tree.specs.Limits.{Allowance}
-use Rattle.twkb_grammar.specs.Roles.{Item, Role, Header, Metadata, Extended, Size, Box, Count, Counted, Geometries, Id, X, Y, End}
+use Rattle.twkb_grammar.specs.Roles.{Item, Role, Header, Metadata, Extended, Size, Box, Count}
+use Rattle.twkb_grammar.specs.Roles.{Counted, Geometries, Id, X, Y, End}
 use Rattle.twkb_grammar.specs.Blob.{AreExact}
 use Rattle.twkb_grammar.specs.Fault.{Part, announced_nodes, announced_points, nodes_by, points_by, moved}
 use Rattle.twkb_grammar.specs.Machine.{Sums, nothing, started, Stack, Runs, added, sums_after}
@@ -49,9 +51,14 @@ filler_here most p (End d c) h = tt
 
 fillers_kept : (most : ℕ) (rs : List Role) (e : Sums) → IsInRange e.position → Kept most e (map filler rs)
 fillers_kept most [] e h = tt
-fillers_kept most (r ∷ rs) e h = (filler_here most e.position r h, fillers_kept most rs (added e (filler r)) (filler_moves e.position r h))
+fillers_kept most (r ∷ rs) e h = (
+  filler_here most e.position r h,
+  fillers_kept most rs
+      (added e (filler r)) (filler_moves e.position r h),
+)
 
-place_after : (most : ℕ) (is : List Item) (e : Sums) → IsInRange e.position → Kept most e is → IsInRange (sums_after e is).position
+place_after : (most : ℕ) (is : List Item) (e : Sums) → IsInRange e.position → Kept most e is
+    → IsInRange (sums_after e is).position
 place_after most [] e h k = h
 place_after most (i ∷ is) e h k = place_after most is (added e i) (go i.role k.0) k.1
   where
@@ -98,7 +105,9 @@ filler_nodes (r ∷ rs) = let t = filler_nodes rs in (omega (arith, t.0, (one r)
     one (End d c) = (refl, refl)
 
 -- items run through within the limits, with exact sizes, can go on to a valid geometry
-pub alive : (limits : Allowance) (before : List Item) (st : Stack) → Runs nothing started before st → Kept limits.nest nothing before → announced_nodes before ≤ limits.nodes → announced_points before ≤ limits.points → AreExact before → Part limits before
+pub alive : (limits : Allowance) (before : List Item) (st : Stack) → Runs nothing started before st
+    → Kept limits.nest nothing before → announced_nodes before ≤ limits.nodes
+    → announced_points before ≤ limits.points → AreExact before → Part limits before
 alive limits before st r kept few_nodes few_points exact =
     record {
       tree = f.tree;
@@ -109,22 +118,41 @@ alive limits before st r kept few_nodes few_points exact =
         tree = f.fits;
         in_range = was.1;
         nest_kept = omega (arith, was.0);
-        nodes_kept = omega (arith, few_nodes, t.0, total-append nodes_by before (map filler f.roles), z.0, total_is nodes_by before);
-        points_kept = omega (arith, few_points, t.1, total-append points_by before (map filler f.roles), z.1, total_is points_by before);
+        nodes_kept = omega (
+          arith,
+          few_nodes,
+          t.0,
+          total-append nodes_by before
+              (map filler f.roles),
+          z.0,
+          total_is nodes_by before,
+        );
+        points_kept = omega (
+          arith,
+          few_points,
+          t.1,
+          total-append points_by before
+              (map filler f.roles),
+          z.1,
+          total_is points_by before,
+        );
       };
     }
   where
     f : Rattle.twkb_grammar.proofs.Parts.Front before
     f = run_is_front before st r
 
-    t : (total nodes_by (before ++ map filler f.roles) + 1 ≡ nodes f.tree) × (total points_by (before ++ map filler f.roles) ≡ length (flat f.tree))
+    t : (total nodes_by (before ++ map filler f.roles) + 1 ≡ nodes f.tree)
+        × (total points_by (before ++ map filler f.roles) ≡ length (flat f.tree))
     t = tree_total f.tree 0 (before ++ map filler f.roles) f.fits f.items
 
     z : (total nodes_by (map filler f.roles) ≡ 0) × (total points_by (map filler f.roles) ≡ 0)
     z = filler_nodes f.roles
 
     all : Kept limits.nest nothing (before ++ map filler f.roles)
-    all = Kept-append limits.nest before (map filler f.roles) nothing kept (fillers_kept limits.nest f.roles (sums_after nothing before) (place_after limits.nest before nothing (omega arith, omega arith) kept))
+    all = Kept-append limits.nest before (map filler f.roles) nothing kept
+        (fillers_kept limits.nest f.roles (sums_after nothing before)
+        (place_after limits.nest before nothing (omega arith, omega arith) kept))
 
     was : (nest f.tree + 0 ≤ limits.nest) × AllByRecursion IsInRange (flat f.tree)
     was = tree_was f.tree limits.nest 0 (before ++ map filler f.roles) nothing f.fits (omega arith) f.items all

@@ -1,15 +1,25 @@
 -- The machine runs through a body.
-use Rattle.std.proofs.Common.{true, false, ◌≡◌, ℕ, zero, suc, ◌+◌, List, [], ◌∷◌, ◌++◌, map, length, refl, ap, sym, ◌∙◌, subst, append_assoc, append-nil, ◌<◌, length-append, Some, None, arith}
+use Rattle.std.proofs.Common.{true, false, ◌≡◌, ℕ, zero, suc, ◌+◌, List, [], ◌∷◌, ◌++◌, map, length}
+use Rattle.std.proofs.Common.{refl, ap, sym, ◌∙◌, subst, append_assoc, append-nil, ◌<◌}
+use Rattle.std.proofs.Common.{length-append, Some, None, arith}
 use Rattle.std.proofs.lemmas.Bool.{false≢true}
 use Rattle.std.specs.Prelude.{ℤ, flat_map, ◌-ℤ◌}
 use Rattle.twkb_num.specs.Zigzag.{zigzag_of, unzigzag_of}
 use Rattle.twkb_points.specs.Point.{Point, point_at}
-use Rattle.twkb_tree.specs.Tree.{Ids, Simple, point, line, polygon, multi_point, multi_line, multi_polygon, simple, IdsFit, HasIds}
+use Rattle.twkb_tree.specs.Tree.{Ids, Simple, point, line, polygon, multi_point, multi_line}
+use Rattle.twkb_tree.specs.Tree.{multi_polygon, simple, IdsFit, HasIds}
 use Rattle.twkb_grammar.specs.Bits.{bit}
 use Rattle.twkb_grammar.specs.Roles.{Item, Role, X, Y, Count, Id, Counted, Vertices, Rings, AreFields, join}
-use Rattle.twkb_grammar.specs.Items.{Place, OfCount, OfId, OfPoint, id_places, run_of, rings_of, outline, flags, members, Agrees}
+use Rattle.twkb_grammar.specs.Items.{Place, OfCount, OfId, OfPoint, id_places, run_of, rings_of}
+use Rattle.twkb_grammar.specs.Items.{outline, flags, members, Agrees}
 use Rattle.twkb_grammar.specs.Fault.{moved}
-use Rattle.twkb_grammar.specs.Machine.{Nested, Around, top, within, Body, Want, closed, opened, listed, Form, depth_of, Head, Frame, settled, Many, members_begin, ManyPoints, ManyLines, ManyPolygons, begun, SimpleKind, shape_of, PointForm, LineForm, PolygonForm, MultiPointForm, MultiLineForm, MultiPolygonForm, AtEnd, AtBody, first_count, counted, AtId, AtCount, Sums, added, Stack, Runs}
+use Rattle.twkb_grammar.specs.Machine.{Nested, Around, top, within, Body, Want, closed, opened}
+use Rattle.twkb_grammar.specs.Machine.{listed, Form, depth_of, Head, Frame, settled, Many}
+use Rattle.twkb_grammar.specs.Machine.{members_begin, ManyPoints, ManyLines, ManyPolygons, begun}
+use Rattle.twkb_grammar.specs.Machine.{SimpleKind, shape_of, PointForm, LineForm, PolygonForm}
+use Rattle.twkb_grammar.specs.Machine.{MultiPointForm, MultiLineForm, MultiPolygonForm, AtEnd}
+use Rattle.twkb_grammar.specs.Machine.{AtBody, first_count, counted, AtId, AtCount, Sums, added}
+use Rattle.twkb_grammar.specs.Machine.{Stack, Runs}
 use Rattle.twkb_grammar.proofs.Places.{steps, reached, reached-append, forth}
 use Rattle.twkb_num.proofs.ZigzagLemmas.{unzigzag_of-zigzag_of}
 use Rattle.twkb_points.specs.Point.{origin}
@@ -21,16 +31,20 @@ outline_of (suc d) vs = OfCount (listed d) (length vs) ∷ flat_map (outline_of 
 
 -- from this stack the machine runs through any items of these places, to the last stack
 abbrev pub Reaches : Stack → List Place → Point → ℕ → Stack → Type 0
-Reaches st more p total last = (e : Sums) (js : List Item) → e.position ≡ p → e.bytes + length (join js) ≡ total → AreFields (steps p more) js → Runs e st js last
+Reaches st more p total last = (e : Sums) (js : List Item) → e.position ≡ p
+    → e.bytes + length (join js) ≡ total → AreFields (steps p more) js → Runs e st js last
 
 -- the sums count the bytes item by item
-pub bytes_more : (e : Sums) (i : Item) (js : List Item) (total : ℕ) → e.bytes + length (join (i ∷ js)) ≡ total → (added e i).bytes + length (join js) ≡ total
+pub bytes_more : (e : Sums) (i : Item) (js : List Item) (total : ℕ)
+    → e.bytes + length (join (i ∷ js)) ≡ total → (added e i).bytes + length (join js) ≡ total
 bytes_more e i js total h = omega (arith, h, length-append i.bytes (join js))
 
-pub moved_x : (e p q : Point) (r : Role) (n : ℕ) → e ≡ p → r ≡ X → n ≡ zigzag_of (q.x -ℤ p.x) → moved e r n ≡ point_at q.x p.y
+pub moved_x : (e p q : Point) (r : Role) (n : ℕ) → e ≡ p → r ≡ X → n ≡ zigzag_of (q.x -ℤ p.x)
+    → moved e r n ≡ point_at q.x p.y
 moved_x e p q r n he hr hn = rw (he, hr, hn, forth p.x q.x)
 
-pub moved_y : (e p q : Point) (r : Role) (n : ℕ) → e ≡ point_at q.x p.y → r ≡ Y → n ≡ zigzag_of (q.y -ℤ p.y) → moved e r n ≡ q
+pub moved_y : (e p q : Point) (r : Role) (n : ℕ) → e ≡ point_at q.x p.y → r ≡ Y
+    → n ≡ zigzag_of (q.y -ℤ p.y) → moved e r n ≡ q
 moved_y e p q r n he hr hn = rw (he, hr, hn, forth p.y q.y)
 
 module _ (h : Head) (f : Form) (ids : Ids) (fs : List Frame) (total : ℕ) (last : Stack) where
@@ -51,12 +65,14 @@ module _ (h : Head) (f : Form) (ids : Ids) (fs : List Frame) (total : ℕ) (last
           ap Some (sym are.3.0),
           are.3.2,
           subst (λ r. Runs (added (added e i) j) (at_body (closed a r)) js last) (sym y)
-              (k (added (added e i) j) js y (bytes_more (added e i) j js total (bytes_more e i (j ∷ js) total bytes)) are.3.3),
+              (k (added (added e i) j) js y (bytes_more (added e i) j js total
+              (bytes_more e i (j ∷ js) total bytes)) are.3.3),
         ),
       )
 
   count_runs : (d n : ℕ) (a : Around (depth_of f) (suc d)) (more : List Place) (p : Point)
-      → Reaches (at_body (opened d n a)) more p total last → Reaches (at_body (Want (suc d) a)) (OfCount (listed d) n ∷ more) p total last
+      → Reaches (at_body (opened d n a)) more p total last
+      → Reaches (at_body (Want (suc d) a)) (OfCount (listed d) n ∷ more) p total last
   count_runs d n a more p k e [] here bytes are = absurd are
   count_runs d n a more p k e (i ∷ js) here bytes are = (
     ap Some (sym are.0),
@@ -68,22 +84,32 @@ module _ (h : Head) (f : Form) (ids : Ids) (fs : List Frame) (total : ℕ) (last
   -- the machine runs through any value of this depth
   abbrev RunsThrough : ℕ → Type 0
   RunsThrough d = (v : Nested d) (a : Around (depth_of f) d) (more : List Place) (p : Point)
-      → Reaches (at_body (closed a v)) more (reached p (outline_of d v)) total last → Reaches (at_body (Want d a)) (outline_of d v ++ more) p total last
+      → Reaches (at_body (closed a v)) more (reached p (outline_of d v)) total last
+      → Reaches (at_body (Want d a)) (outline_of d v ++ more) p total last
 
-  rest_runs : (d : ℕ) → RunsThrough d → (vs : List (Nested d)) (v : Nested d) (done : List (Nested d)) (a : Around (depth_of f) (suc d)) (more : List Place) (p : Point)
+  rest_runs : (d : ℕ) → RunsThrough d → (vs : List (Nested d)) (v : Nested d)
+      (done : List (Nested d)) (a : Around (depth_of f) (suc d)) (more : List Place) (p : Point)
       → Reaches (at_body (closed a (done ++ v ∷ vs))) more (reached p (flat_map (outline_of d) (v ∷ vs))) total last
       → Reaches (at_body (Want d (within done (length vs) a))) (flat_map (outline_of d) (v ∷ vs) ++ more) p total last
   rest_runs d each [] v done a more p k =
-      subst (λ ps. Reaches (at_body (Want d (within done 0 a))) ps p total last) (sym (append_assoc (outline_of d v) [] more))
-      (each v (within done 0 a) more p (subst (λ q. Reaches (at_body (closed a (done ++ v ∷ []))) more q total last) (reached-append p (outline_of d v) []) k))
+      subst (λ ps. Reaches (at_body (Want d (within done 0 a))) ps p total last)
+      (sym (append_assoc (outline_of d v) [] more))
+      (each v (within done 0 a) more p
+      (subst (λ q. Reaches (at_body (closed a (done ++ v ∷ []))) more q total last)
+      (reached-append p (outline_of d v) []) k))
   rest_runs d each (w ∷ ws) v done a more p k =
-      subst (λ ps. Reaches (at_body (Want d (within done (suc (length ws)) a))) ps p total last) (sym (append_assoc (outline_of d v) (flat_map (outline_of d) (w ∷ ws)) more))
+      subst (λ ps. Reaches (at_body (Want d (within done (suc (length ws)) a))) ps p total last)
+      (sym (append_assoc (outline_of d v) (flat_map (outline_of d) (w ∷ ws)) more))
       (each v (within done (suc (length ws)) a) (flat_map (outline_of d) (w ∷ ws) ++ more) p
       (rest_runs d each ws w (done ++ v ∷ []) a more (reached p (outline_of d v))
-      (subst (λ vs. Reaches (at_body (closed a vs)) more (reached (reached p (outline_of d v)) (flat_map (outline_of d) (w ∷ ws))) total last) (sym (append_assoc done (v ∷ []) (w ∷ ws)))
-      (subst (λ q. Reaches (at_body (closed a (done ++ v ∷ w ∷ ws))) more q total last) (reached-append p (outline_of d v) (flat_map (outline_of d) (w ∷ ws))) k))))
+      (subst (λ vs. Reaches (at_body (closed a vs)) more
+      (reached (reached p (outline_of d v)) (flat_map (outline_of d) (w ∷ ws))) total last)
+      (sym (append_assoc done (v ∷ []) (w ∷ ws)))
+      (subst (λ q. Reaches (at_body (closed a (done ++ v ∷ w ∷ ws))) more q total last)
+      (reached-append p (outline_of d v) (flat_map (outline_of d) (w ∷ ws))) k))))
 
-  all_run : (d : ℕ) → RunsThrough d → (vs : List (Nested d)) (a : Around (depth_of f) (suc d)) (more : List Place) (p : Point)
+  all_run : (d : ℕ) → RunsThrough d → (vs : List (Nested d)) (a : Around (depth_of f) (suc d))
+      (more : List Place) (p : Point)
       → Reaches (at_body (closed a vs)) more (reached p (flat_map (outline_of d) vs)) total last
       → Reaches (at_body (opened d (length vs) a)) (flat_map (outline_of d) vs ++ more) p total last
   all_run d each [] a more p k = k
@@ -91,7 +117,8 @@ module _ (h : Head) (f : Form) (ids : Ids) (fs : List Frame) (total : ℕ) (last
 
   value_runs : (d : ℕ) → RunsThrough d
   value_runs zero q a more p k = point_runs a q more p k
-  value_runs (suc d) vs a more p k = count_runs d (length vs) a (flat_map (outline_of d) vs ++ more) p (all_run d (value_runs d) vs a more p k)
+  value_runs (suc d) vs a more p k = count_runs d (length vs) a (flat_map (outline_of d) vs ++ more)
+      p (all_run d (value_runs d) vs a more p k)
 
 -- a run through no items ends where it began
 pub finish : (st : Stack) (p : Point) (total : ℕ) → Reaches st [] p total st
@@ -118,43 +145,53 @@ module _ (m : Many) (h : Head) (fs : List Frame) (total : ℕ) (last : Stack) wh
   ids_run n [] x done more p k e (i ∷ js) here bytes are = (
     ap Some (sym are.0),
     are.2,
-    subst (λ y. Runs (added e i) (members_begin m h fs (Some (done ++ y ∷ [])) n) js last) (sym (ap unzigzag_of are.1 ∙ unzigzag_of-zigzag_of x))
+    subst (λ y. Runs (added e i) (members_begin m h fs (Some (done ++ y ∷ [])) n) js last)
+        (sym (ap unzigzag_of are.1 ∙ unzigzag_of-zigzag_of x))
         (k (added e i) js (moved_id e.position i.role i.number are.0 ∙ here) (bytes_more e i js total bytes) are.3),
   )
   ids_run n (y ∷ ys) x done more p k e (i ∷ js) here bytes are = (
     ap Some (sym are.0),
     are.2,
-    subst (λ z. Runs (added e i) (fs, AtId m h n (done ++ z ∷ []) (length ys)) js last) (sym (ap unzigzag_of are.1 ∙ unzigzag_of-zigzag_of x))
+    subst (λ z. Runs (added e i) (fs, AtId m h n (done ++ z ∷ []) (length ys)) js last)
+        (sym (ap unzigzag_of are.1 ∙ unzigzag_of-zigzag_of x))
         (ids_run n ys y (done ++ x ∷ []) more p
-        (subst (λ xs. Reaches (members_begin m h fs (Some xs) n) more p total last) (sym (append_assoc done (x ∷ []) (y ∷ ys))) k)
+        (subst (λ xs. Reaches (members_begin m h fs (Some xs) n) more p total last)
+        (sym (append_assoc done (x ∷ []) (y ∷ ys))) k)
         (added e i) js (moved_id e.position i.role i.number are.0 ∙ here) (bytes_more e i js total bytes) are.3),
   )
 
   counted_run : (n : ℕ) (ids : Ids) (more : List Place) (p : Point) → SaysIds h ids n
-      → Reaches (members_begin m h fs ids n) more p total last → Reaches (counted m h fs n) (id_places ids ++ more) p total last
+      → Reaches (members_begin m h fs ids n) more p total last
+      → Reaches (counted m h fs n) (id_places ids ++ more) p total last
   counted_run zero ids more p says k = rw says (rw says at k)
   counted_run (suc n) None more p says k = rw says k
   counted_run (suc n) (Some []) more p says k = absurd (let z : 0 ≡ suc n = says.1 in omega (arith, z))
   counted_run (suc n) (Some (x ∷ xs)) more p says k =
       let z : suc (length xs) ≡ suc n = says.1 in
       let y : length xs ≡ n = omega (arith, z) in
-      rw says.0 (subst (λ l. Reaches (fs, AtId m h (suc n) [] l) (map OfId (x ∷ xs) ++ more) p total last) y (ids_run (suc n) xs x [] more p k))
+      rw says.0 (subst (λ l. Reaches (fs, AtId m h (suc n) [] l) (map OfId (x ∷ xs) ++ more) p total
+      last) y (ids_run (suc n) xs x [] more p k))
 
   -- the machine runs through a count and its ids
   pub first_run : (n : ℕ) (ids : Ids) (more : List Place) (p : Point) → SaysIds h ids n
-      → Reaches (members_begin m h fs ids n) more p total last → Reaches (fs, AtCount m h) (OfCount (first_count m (length fs)) n ∷ id_places ids ++ more) p total last
+      → Reaches (members_begin m h fs ids n) more p total last
+      → Reaches (fs, AtCount m h) (OfCount (first_count m (length fs)) n ∷ id_places ids ++ more)
+      p total last
   first_run n ids more p says k e [] here bytes are = absurd are
   first_run n ids more p says k e (i ∷ js) here bytes are = (
     ap Some (sym are.0),
     are.2,
     subst (λ l. Runs (added e i) (counted m h fs l) js last) (sym are.1)
-        (counted_run n ids more p says k (added e i) js (moved_count e.position (first_count m (length fs)) i.role i.number are.0 ∙ here) (bytes_more e i js total bytes) are.3),
+        (counted_run n ids more p says k (added e i) js
+        (moved_count e.position (first_count m (length fs)) i.role i.number are.0 ∙ here)
+        (bytes_more e i js total bytes) are.3),
   )
 
 -- ---- places of an outline
 
 -- functions that agree give the same list of places
-pub flat_map-same : {A : Type 0} (f g : A → List Place) → ((a : A) → f a ≡ g a) → (xs : List A) → flat_map f xs ≡ flat_map g xs
+pub flat_map-same : {A : Type 0} (f g : A → List Place) → ((a : A) → f a ≡ g a) → (xs : List A)
+    → flat_map f xs ≡ flat_map g xs
 flat_map-same f g h [] = refl
 flat_map-same f g h (x ∷ xs) = ap (λ ys. ys ++ flat_map f xs) (h x) ∙ ap (λ ys. g x ++ ys) (flat_map-same f g h xs)
 
@@ -189,40 +226,61 @@ form_of (multi_line ids lines) = MultiLineForm
 form_of (multi_polygon ids areas) = MultiPolygonForm
 
 -- the machine runs through a value of depth d with nothing after it
-whole_run : (h : Head) (f : Form) (ids : Ids) (fs : List Frame) (total : ℕ) (p : Point) (v : Nested (depth_of f)) (ps : List Place) → outline_of (depth_of f) v ≡ ps
-    → Reaches (fs, AtBody h f ids (Want (depth_of f) top)) ps p total (fs, AtEnd h (simple h.precision (shape_of f ids v)))
+whole_run : (h : Head) (f : Form) (ids : Ids) (fs : List Frame) (total : ℕ) (p : Point)
+    (v : Nested (depth_of f)) (ps : List Place) → outline_of (depth_of f) v ≡ ps
+    → Reaches (fs, AtBody h f ids (Want (depth_of f) top)) ps p total
+    (fs, AtEnd h (simple h.precision (shape_of f ids v)))
 whole_run h f ids fs total p v ps same =
     let done : Stack = (fs, AtEnd h (simple h.precision (shape_of f ids v))) in
-    subst (λ qs. Reaches (fs, AtBody h f ids (Want (depth_of f) top)) qs p total done) (append-nil (outline_of (depth_of f) v) ∙ same)
-    (value_runs h f ids fs total done (depth_of f) v top [] p (finish done (reached p (outline_of (depth_of f) v)) total))
+    subst (λ qs. Reaches (fs, AtBody h f ids (Want (depth_of f) top)) qs p total done)
+    (append-nil (outline_of (depth_of f) v) ∙ same)
+    (value_runs h f ids fs total done (depth_of f) v top [] p
+    (finish done (reached p (outline_of (depth_of f) v)) total))
 
-says_of : {A : Type 0} (h : Head) (ids : Ids) (xs : List A) → HasIds ids (length xs) → Agrees (members ids xs) h.meta → SaysIds h ids (length xs)
+says_of : {A : Type 0} (h : Head) (ids : Ids) (xs : List A) → HasIds ids (length xs)
+    → Agrees (members ids xs) h.meta → SaysIds h ids (length xs)
 says_of h None [] fit agrees = refl
 says_of h None (x ∷ xs) fit agrees = agrees.1
 says_of h (Some ids) [] fit agrees = absurd (let z : 0 < 0 = fit.0 in omega (arith, z))
 says_of h (Some ids) (x ∷ xs) fit agrees = (agrees.1, fit.1)
 
-parts_run : (m : Many) (h : Head) (f : Form) (ids : Ids) (fs : List Frame) (total : ℕ) (last : Stack) (d : ℕ) (vs : List (Nested d)) (a : Around (depth_of f) (suc d)) (ps : List Place)
-    → flat_map (outline_of d) vs ≡ ps → (fs, settled h f ids (closed a vs)) ≡ last → (fs, settled h f ids (opened d (length vs) a)) ≡ members_begin m h fs ids (length vs)
+parts_run : (m : Many) (h : Head) (f : Form) (ids : Ids) (fs : List Frame) (total : ℕ)
+    (last : Stack) (d : ℕ) (vs : List (Nested d)) (a : Around (depth_of f) (suc d))
+    (ps : List Place)
+    → flat_map (outline_of d) vs ≡ ps → (fs, settled h f ids (closed a vs)) ≡ last
+    → (fs, settled h f ids (opened d (length vs) a)) ≡ members_begin m h fs ids (length vs)
     → SaysIds h ids (length vs)
-    → Reaches (fs, AtCount m h) (OfCount (first_count m (length fs)) (length vs) ∷ id_places ids ++ ps) origin total last
+    → Reaches (fs, AtCount m h) (OfCount (first_count m (length fs)) (length vs) ∷ id_places ids
+    ++ ps) origin total last
 parts_run m h f ids fs total last d vs a ps same is_last begins says =
     first_run m h fs total last (length vs) ids ps origin says
     (subst (λ st. Reaches st ps origin total last) begins
-    (subst (λ qs. Reaches (fs, settled h f ids (opened d (length vs) a)) qs origin total last) (append-nil (flat_map (outline_of d) vs) ∙ same)
+    (subst (λ qs. Reaches (fs, settled h f ids (opened d (length vs) a)) qs origin total last)
+    (append-nil (flat_map (outline_of d) vs) ∙ same)
     (all_run h f ids fs total last d (value_runs h f ids fs total last d) vs a [] origin
-    (subst (λ st. Reaches st [] (reached origin (flat_map (outline_of d) vs)) total last) (sym is_last) (finish last (reached origin (flat_map (outline_of d) vs)) total)))))
+    (subst (λ st. Reaches st [] (reached origin (flat_map (outline_of d) vs)) total last)
+    (sym is_last) (finish last (reached origin (flat_map (outline_of d) vs)) total)))))
 
 -- the machine runs through the body of a shape
-pub shape_run : (h : Head) (fs : List Frame) (total : ℕ) (s : Simple) → IdsFit s → Agrees (flags s) h.meta → bit h.meta 4 ≡ false
+pub shape_run : (h : Head) (fs : List Frame) (total : ℕ) (s : Simple) → IdsFit s
+    → Agrees (flags s) h.meta → bit h.meta 4 ≡ false
     → Reaches (fs, begun (SimpleKind (form_of s)) h) (outline s) origin total (fs, AtEnd h (simple h.precision s))
 shape_run h fs total (point None) fit agrees full = absurd (false≢true (sym full ∙ agrees))
-shape_run h fs total (point (Some p)) fit agrees full = whole_run h PointForm None fs total origin p (OfPoint p ∷ []) refl
-shape_run h fs total (line ps) fit agrees full = whole_run h LineForm None fs total origin ps (run_of ps) (run_outline ps)
-shape_run h fs total (polygon rings) fit agrees full = whole_run h PolygonForm None fs total origin rings (rings_of rings) (rings_outline rings)
+shape_run h fs total (point (Some p)) fit agrees full = whole_run h PointForm None fs total origin p
+    (OfPoint p ∷ []) refl
+shape_run h fs total (line ps) fit agrees full = whole_run h LineForm None fs total origin ps
+    (run_of ps) (run_outline ps)
+shape_run h fs total (polygon rings) fit agrees full = whole_run h PolygonForm None fs total origin
+    rings (rings_of rings) (rings_outline rings)
 shape_run h fs total (multi_point ids ps) fit agrees full =
-    parts_run ManyPoints h MultiPointForm ids fs total (fs, AtEnd h (simple h.precision (multi_point ids ps))) 0 ps top (map OfPoint ps) (points_outline ps) refl refl (says_of h ids ps fit agrees)
+    parts_run ManyPoints h MultiPointForm ids fs total
+    (fs, AtEnd h (simple h.precision (multi_point ids ps))) 0 ps top (map OfPoint ps)
+    (points_outline ps) refl refl (says_of h ids ps fit agrees)
 shape_run h fs total (multi_line ids lines) fit agrees full =
-    parts_run ManyLines h MultiLineForm ids fs total (fs, AtEnd h (simple h.precision (multi_line ids lines))) 1 lines top (flat_map run_of lines) (runs_outline lines) refl refl (says_of h ids lines fit agrees)
+    parts_run ManyLines h MultiLineForm ids fs total
+    (fs, AtEnd h (simple h.precision (multi_line ids lines))) 1 lines top
+    (flat_map run_of lines) (runs_outline lines) refl refl (says_of h ids lines fit agrees)
 shape_run h fs total (multi_polygon ids areas) fit agrees full =
-    parts_run ManyPolygons h MultiPolygonForm ids fs total (fs, AtEnd h (simple h.precision (multi_polygon ids areas))) 2 areas top (flat_map rings_of areas) (areas_outline areas) refl refl (says_of h ids areas fit agrees)
+    parts_run ManyPolygons h MultiPolygonForm ids fs total
+    (fs, AtEnd h (simple h.precision (multi_polygon ids areas))) 2 areas top
+    (flat_map rings_of areas) (areas_outline areas) refl refl (says_of h ids areas fit agrees)

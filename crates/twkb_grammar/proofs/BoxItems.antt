@@ -1,5 +1,6 @@
 -- The box of a written blob, as items.
-use Rattle.std.proofs.Common.{◌≡◌, ℕ, ◌≤◌, Bool, true, false, List, [], ◌∷◌, map, length, refl, sym, ap, subst, Some, None, arith}
+use Rattle.std.proofs.Common.{◌≡◌, ℕ, ◌≤◌, Bool, true, false, List, [], ◌∷◌, map, length, refl, sym}
+use Rattle.std.proofs.Common.{ap, subst, Some, None, arith}
 use Rattle.std.specs.Prelude.{ℤ, flat_map, if◌then◌else◌, ◌&&◌, not}
 use Rattle.std.specs.Int.{int_min, int_max}
 use Rattle.std.proofs.lemmas.Int.{ints, clamps}
@@ -13,17 +14,24 @@ use Rattle.twkb_grammar.specs.Roles.{Item, Box, Field, HaveRoles, where_set, joi
 use Rattle.twkb_grammar.specs.Blob.{AreExact}
 use Rattle.twkb_grammar.specs.Written.{box_of, boxed, has_any, is_point}
 use Rattle.twkb_grammar.proofs.Small.{difference_fits, coordinate_fits}
-use Rattle.twkb_grammar.proofs.NumberItems.{AllFit, number_items, exact-number_items, join-number_items, length-varints, spells}
+use Rattle.twkb_grammar.proofs.NumberItems.{AllFit, number_items, exact-number_items}
+use Rattle.twkb_grammar.proofs.NumberItems.{join-number_items, length-varints, spells}
 
 -- an extent whose coordinates are in range
 abbrev IsExtent : Extent → Type 0
 IsExtent e = IsInRange e.least × IsInRange e.greatest
 
 int_min-coordinate : (a b : ℤ) → IsCoordinate a → IsCoordinate b → IsCoordinate (int_min a b)
-int_min-coordinate a b h k = (omega (arith, ints, clamps, h.0, h.1, k.0, k.1), omega (arith, ints, clamps, h.0, h.1, k.0, k.1))
+int_min-coordinate a b h k = (
+  omega (arith, ints, clamps, h.0, h.1, k.0, k.1),
+  omega (arith, ints, clamps, h.0, h.1, k.0, k.1),
+)
 
 int_max-coordinate : (a b : ℤ) → IsCoordinate a → IsCoordinate b → IsCoordinate (int_max a b)
-int_max-coordinate a b h k = (omega (arith, ints, clamps, h.0, h.1, k.0, k.1), omega (arith, ints, clamps, h.0, h.1, k.0, k.1))
+int_max-coordinate a b h k = (
+  omega (arith, ints, clamps, h.0, h.1, k.0, k.1),
+  omega (arith, ints, clamps, h.0, h.1, k.0, k.1),
+)
 
 joined-extent : (a b : Extent) → IsExtent a → IsExtent b → IsExtent (joined a b)
 unfolding joined
@@ -78,24 +86,36 @@ a_box e h =
     let fit = box_fit e h in
     record {
       items = number_items (box_fields (box_numbers e));
-      roles = (refl, spells Box _ tt fit.0.1, (refl, spells Box _ tt fit.1.0.1, (refl, spells Box _ tt fit.1.1.0.1, (refl, spells Box _ tt fit.1.1.1.0.1, tt))));
+      roles = (
+        refl,
+        spells Box _ tt fit.0.1,
+        (
+          refl,
+          spells Box _ tt fit.1.0.1,
+          (refl, spells Box _ tt fit.1.1.0.1, (refl, spells Box _ tt fit.1.1.1.0.1, tt)),
+        ),
+      );
       exact = exact-number_items (box_fields (box_numbers e)) fit;
       spelled = join-number_items (box_fields (box_numbers e));
       short = length-varints (box_fields (box_numbers e)) fit;
     }
 
-points_box : (ps : List Point) → AreInRange ps → (b : Bool) → has_any ps ≡ true → BoxItems true (flat_map (λ n. varint_of (zigzag_of n)) (tight ps))
+points_box : (ps : List Point) → AreInRange ps → (b : Bool) → has_any ps ≡ true
+    → BoxItems true (flat_map (λ n. varint_of (zigzag_of n)) (tight ps))
 points_box [] h b some = absurd cc
 points_box (p ∷ ps) h b some =
     let e = has_extent p ps h in
-    subst (λ o. BoxItems true (flat_map (λ n. varint_of (zigzag_of n)) (elim o [ None ↦ [] | Some e ↦ box_numbers e ]))) (sym e.same) (a_box e.extent_is e.in_range)
+    subst (λ o. BoxItems true (flat_map (λ n. varint_of (zigzag_of n))
+    (elim o [ None ↦ [] | Some e ↦ box_numbers e ]))) (sym e.same)
+    (a_box e.extent_is e.in_range)
 
 -- the box of a geometry in range
 pub box_items : (g : Tree) → AreInRange (flat g) → BoxItems (boxed g) (box_of g)
 box_items g h = go (is_point g) (has_any (flat g)) (uniform g) refl
   where
     go : (p a u : Bool) → has_any (flat g) ≡ a
-        → BoxItems (not p && (a && u)) (if (not p && (a && u)) then flat_map (λ n. varint_of (zigzag_of n)) (tight (flat g)) else [])
+        → BoxItems (not p && (a && u)) (if (not p && (a && u)) then flat_map
+        (λ n. varint_of (zigzag_of n)) (tight (flat g)) else [])
     go true a u same = no_box
     go false false u same = no_box
     go false true false same = no_box

@@ -1,12 +1,21 @@
 -- Every state that the machine reaches can be completed: with zeros, 0x10 for a metadata byte,
 -- and 01 10 for a geometry.
-use Rattle.std.proofs.Common.{Bool, true, false, ◌≡◌, ℕ, zero, suc, ◌+◌, ◌-◌, List, [], ◌∷◌, ◌++◌, length, refl, ap, sym, subst, Some, None, arith}
+use Rattle.std.proofs.Common.{Bool, true, false, ◌≡◌, ℕ, zero, suc, ◌+◌, ◌-◌, List, [], ◌∷◌, ◌++◌}
+use Rattle.std.proofs.Common.{length, refl, ap, sym, subst, Some, None, arith}
 use Rattle.std.specs.Prelude.{ℤ, ⊤}
 use Rattle.twkb_num.specs.Varint.{IsVarint}
 use Rattle.twkb_tree.specs.Tree.{Tree, Trees, Ids, simple, collection}
 use Rattle.twkb_grammar.specs.Bits.{bit}
 use Rattle.twkb_grammar.specs.Roles.{Item, Role, Header, Metadata, Extended, Size, Box, Count, Id, X, Y, End, IsItem}
-use Rattle.twkb_grammar.specs.Machine.{Nested, Around, top, within, Body, Want, WantY, Done, closed, opened, listed, Form, depth_of, shape_of, Kind, SimpleKind, CollectionKind, PointForm, LineForm, PolygonForm, MultiPointForm, MultiLineForm, MultiPolygonForm, kind_number, Head, Frame, Phase, AtHeader, AtMetadata, AtOption, AtCount, AtId, AtBody, AtEnd, Finished, Many, ManyPoints, ManyLines, ManyPolygons, ManyGeometries, first_count, settled, begun, wanting, with_option, empty_of, snoc, members_begin, counted, ended, asked, Sums, added, Stack, stack_after, role_at, Runs}
+use Rattle.twkb_grammar.specs.Machine.{Nested, Around, top, within, Body, Want, WantY, Done, closed}
+use Rattle.twkb_grammar.specs.Machine.{opened, listed, Form, depth_of, shape_of, Kind, SimpleKind}
+use Rattle.twkb_grammar.specs.Machine.{CollectionKind, PointForm, LineForm, PolygonForm}
+use Rattle.twkb_grammar.specs.Machine.{MultiPointForm, MultiLineForm, MultiPolygonForm, kind_number}
+use Rattle.twkb_grammar.specs.Machine.{Head, Frame, Phase, AtHeader, AtMetadata, AtOption, AtCount}
+use Rattle.twkb_grammar.specs.Machine.{AtId, AtBody, AtEnd, Finished, Many, ManyPoints, ManyLines}
+use Rattle.twkb_grammar.specs.Machine.{ManyPolygons, ManyGeometries, first_count, settled, begun}
+use Rattle.twkb_grammar.specs.Machine.{wanting, with_option, empty_of, snoc, members_begin, counted}
+use Rattle.twkb_grammar.specs.Machine.{ended, asked, Sums, added, Stack, stack_after, role_at, Runs}
 use Rattle.twkb_grammar.proofs.Trees.{frame}
 
 -- the number of a filler: an item for any role that announces and moves nothing, or a point
@@ -53,22 +62,39 @@ pub record Completion (e : Sums) (st : Stack) : Type 0 where
 abbrev pub Completes : Stack → Type 0
 Completes st = (e : Sums) → Completion e st
 
-fill : (e : Sums) (st next : Stack) (r : Role) → role_at e st ≡ Some r → stack_after e (filler r) st ≡ next → Completion (added e (filler r)) next → Completion e st
+fill : (e : Sums) (st next : Stack) (r : Role) → role_at e st ≡ Some r
+    → stack_after e (filler r) st ≡ next → Completion (added e (filler r)) next → Completion e st
 fill e st next r says leads c =
-    record { roles = r ∷ c.roles; tree = c.tree; runs = (says, filler_is r, subst (λ s. Runs (added e (filler r)) s (Rattle.std.specs.Prelude.map filler c.roles) ([], Finished c.tree)) (sym leads) c.runs) }
+    record {
+      roles = r ∷ c.roles;
+      tree = c.tree;
+      runs = (
+        says,
+        filler_is r,
+        subst (λ s. Runs (added e (filler r)) s
+            (Rattle.std.specs.Prelude.map filler c.roles) ([], Finished c.tree)) (sym leads) c.runs,
+      );
+    }
 
 end_done : (h : Head) (g : Tree) (fs : List Frame) → Completes (ended fs g) → Completes (fs, AtEnd h g)
-end_done h g fs k e = let r = End h.size (e.bytes - h.from) in fill e (fs, AtEnd h g) (ended fs g) r refl refl (k (added e (filler r)))
+end_done h g fs k e = let r = End h.size (e.bytes - h.from) in
+    fill e (fs, AtEnd h g) (ended fs g) r refl refl (k (added e (filler r)))
 
 header_done : (fs : List Frame) → ((g : Tree) → Completes (ended fs g)) → Completes (fs, AtHeader)
 header_done fs k e =
     fill e (fs, AtHeader) (stack_after e (filler Header) (fs, AtHeader)) Header refl refl
-    (fill (added e (filler Header)) (stack_after e (filler Header) (fs, AtHeader)) (stack_after (added e (filler Header)) (filler (Metadata 1)) (stack_after e (filler Header) (fs, AtHeader))) (Metadata 1) refl refl
+    (fill (added e (filler Header)) (stack_after e (filler Header) (fs, AtHeader))
+    (stack_after (added e (filler Header)) (filler (Metadata 1))
+    (stack_after e (filler Header) (fs, AtHeader))) (Metadata 1) refl refl
     (end_done _ _ fs (k _) (added (added e (filler Header)) (filler (Metadata 1)))))
 
-frame_done : (fs : List Frame) → ((g : Tree) → Completes (ended fs g)) → (left : ℕ) (h : Head) (ids : Ids) (done : Trees) (g : Tree) → Completes (ended (frame h ids done left ∷ fs) g)
-frame_done fs k zero h ids done g = end_done h (collection h.precision ids (snoc done g)) fs (k (collection h.precision ids (snoc done g)))
-frame_done fs k (suc left) h ids done g = header_done (frame h ids (snoc done g) left ∷ fs) (λ t. frame_done fs k left h ids (snoc done g) t)
+frame_done : (fs : List Frame) → ((g : Tree) → Completes (ended fs g))
+    → (left : ℕ) (h : Head) (ids : Ids) (done : Trees) (g : Tree)
+    → Completes (ended (frame h ids done left ∷ fs) g)
+frame_done fs k zero h ids done g = end_done h (collection h.precision ids (snoc done g)) fs
+    (k (collection h.precision ids (snoc done g)))
+frame_done fs k (suc left) h ids done g = header_done (frame h ids (snoc done g) left ∷ fs)
+    (λ t. frame_done fs k left h ids (snoc done g) t)
 
 -- fillers lead to the end after a complete geometry
 pub ended_done : (fs : List Frame) (g : Tree) → Completes (ended fs g)
@@ -79,18 +105,28 @@ module _ (h : Head) (f : Form) (ids : Ids) (fs : List Frame) where
   abbrev body_st : Body (depth_of f) → Stack
   body_st b = (fs, settled h f ids b)
 
-  want_done : (d : ℕ) (a : Around (depth_of f) d) → ((v : Nested d) → Completes (body_st (closed a v))) → Completes (body_st (Want d a))
+  want_done : (d : ℕ) (a : Around (depth_of f) d)
+      → ((v : Nested d) → Completes (body_st (closed a v))) → Completes (body_st (Want d a))
   want_done zero a k e =
       fill e (body_st (Want 0 a)) (body_st (WantY a)) X refl refl
-      (fill (added e (filler X)) (body_st (WantY a)) (body_st (closed a (added (added e (filler X)) (filler Y)).position)) Y refl refl (k (added (added e (filler X)) (filler Y)).position (added (added e (filler X)) (filler Y))))
-  want_done (suc d) a k e = fill e (body_st (Want (suc d) a)) (body_st (closed a [])) (Count (listed d)) refl refl (k [] (added e (filler (Count (listed d)))))
+      (fill (added e (filler X)) (body_st (WantY a))
+      (body_st (closed a (added (added e (filler X)) (filler Y)).position)) Y refl refl
+      (k (added (added e (filler X)) (filler Y)).position
+      (added (added e (filler X)) (filler Y))))
+  want_done (suc d) a k e = fill e (body_st (Want (suc d) a)) (body_st (closed a []))
+      (Count (listed d)) refl refl (k [] (added e (filler (Count (listed d)))))
 
-  list_done : (d : ℕ) (a : Around (depth_of f) (suc d)) → ((v : Nested (suc d)) → Completes (body_st (closed a v))) → (left : ℕ) (done : List (Nested d)) (v : Nested d) → Completes (body_st (closed (within done left a) v))
+  list_done : (d : ℕ) (a : Around (depth_of f) (suc d))
+      → ((v : Nested (suc d)) → Completes (body_st (closed a v)))
+      → (left : ℕ) (done : List (Nested d)) (v : Nested d)
+      → Completes (body_st (closed (within done left a) v))
   list_done d a k zero done v = k (done ++ v ∷ [])
-  list_done d a k (suc left) done v = want_done d (within (done ++ v ∷ []) left a) (λ w. list_done d a k left (done ++ v ∷ []) w)
+  list_done d a k (suc left) done v = want_done d (within (done ++ v ∷ []) left a)
+      (λ w. list_done d a k left (done ++ v ∷ []) w)
 
   around_done : {d : ℕ} (a : Around (depth_of f) d) (v : Nested d) → Completes (body_st (closed a v))
-  around_done top v = end_done h (simple h.precision (shape_of f ids v)) fs (ended_done fs (simple h.precision (shape_of f ids v)))
+  around_done top v = end_done h (simple h.precision (shape_of f ids v)) fs
+      (ended_done fs (simple h.precision (shape_of f ids v)))
   around_done (within {d = d} done left a) v = list_done d a (around_done a) left done v
 
   opened_done : (d n : ℕ) (a : Around (depth_of f) (suc d)) → Completes (body_st (opened d n a))
@@ -98,21 +134,31 @@ module _ (h : Head) (f : Form) (ids : Ids) (fs : List Frame) where
   opened_done d (suc n) a = want_done d (within [] n a) (around_done (within [] n a))
 
   y_done : (a : Around (depth_of f) 0) → Completes (body_st (WantY a))
-  y_done a e = fill e (body_st (WantY a)) (body_st (closed a (added e (filler Y)).position)) Y refl refl (around_done a (added e (filler Y)).position (added e (filler Y)))
+  y_done a e = fill e (body_st (WantY a)) (body_st (closed a (added e (filler Y)).position)) Y refl
+      refl (around_done a (added e (filler Y)).position (added e (filler Y)))
 
 members_done : (m : Many) (h : Head) (fs : List Frame) (ids : Ids) (n : ℕ) → Completes (members_begin m h fs ids n)
 members_done ManyPoints h fs ids n = opened_done h MultiPointForm ids fs 0 n top
 members_done ManyLines h fs ids n = opened_done h MultiLineForm ids fs 1 n top
 members_done ManyPolygons h fs ids n = opened_done h MultiPolygonForm ids fs 2 n top
-members_done ManyGeometries h fs ids zero = end_done h (collection h.precision None Trees.end) fs (ended_done fs (collection h.precision None Trees.end))
-members_done ManyGeometries h fs ids (suc n) = header_done (frame h ids Trees.end n ∷ fs) (ended_done (frame h ids Trees.end n ∷ fs))
+members_done ManyGeometries h fs ids zero = end_done h (collection h.precision None Trees.end) fs
+    (ended_done fs (collection h.precision None Trees.end))
+members_done ManyGeometries h fs ids (suc n) = header_done (frame h ids Trees.end n ∷ fs)
+    (ended_done (frame h ids Trees.end n ∷ fs))
 
 ids_done : (m : Many) (h : Head) (fs : List Frame) (n left : ℕ) (ids : List ℤ) → Completes (fs, AtId m h n ids left)
-ids_done m h fs n zero ids e = fill e (fs, AtId m h n ids 0) (members_begin m h fs (Some (ids ++ Rattle.std.specs.Prelude.pos 0 ∷ [])) n) Id refl refl (members_done m h fs (Some (ids ++ Rattle.std.specs.Prelude.pos 0 ∷ [])) n (added e (filler Id)))
-ids_done m h fs n (suc left) ids e = fill e (fs, AtId m h n ids (suc left)) (fs, AtId m h n (ids ++ Rattle.std.specs.Prelude.pos 0 ∷ []) left) Id refl refl (ids_done m h fs n left (ids ++ Rattle.std.specs.Prelude.pos 0 ∷ []) (added e (filler Id)))
+ids_done m h fs n zero ids e = fill e (fs, AtId m h n ids 0)
+    (members_begin m h fs (Some (ids ++ Rattle.std.specs.Prelude.pos 0 ∷ [])) n) Id refl refl
+    (members_done m h fs (Some (ids ++ Rattle.std.specs.Prelude.pos 0 ∷ [])) n
+    (added e (filler Id)))
+ids_done m h fs n (suc left) ids e = fill e (fs, AtId m h n ids (suc left))
+    (fs, AtId m h n (ids ++ Rattle.std.specs.Prelude.pos 0 ∷ []) left) Id refl refl
+    (ids_done m h fs n left (ids ++ Rattle.std.specs.Prelude.pos 0 ∷ []) (added e (filler Id)))
 
 count_done : (m : Many) (h : Head) (fs : List Frame) → Completes (fs, AtCount m h)
-count_done m h fs e = let r = Count (first_count m (length fs)) in fill e (fs, AtCount m h) (members_begin m h fs None 0) r refl refl (members_done m h fs None 0 (added e (filler r)))
+count_done m h fs e = let r = Count (first_count m (length fs)) in
+    fill e (fs, AtCount m h) (members_begin m h fs None 0) r refl refl
+    (members_done m h fs None 0 (added e (filler r)))
 
 begun_done : (k : Kind) (h : Head) (fs : List Frame) → Completes (fs, begun k h)
 begun_done (SimpleKind PointForm) h fs = want_done h PointForm None fs 0 top (around_done h PointForm None fs top)
@@ -130,7 +176,9 @@ wanting_done k [] h fs = go (bit h.meta 4) refl
     go true e = rw e (end_done h (empty_of k h.precision) fs (ended_done fs (empty_of k h.precision)))
     go false e = rw e (begun_done k h fs)
 wanting_done k (r ∷ rs) h fs =
-    λ e. fill e (fs, AtOption k h r rs) (fs, wanting k (with_option h r (filler_number r) (e.bytes + length (filler_bytes r))) rs) r refl refl
+    λ e. fill e (fs, AtOption k h r rs)
+    (fs, wanting k (with_option h r (filler_number r) (e.bytes + length (filler_bytes r))) rs)
+    r refl refl
     (wanting_done k rs (with_option h r (filler_number r) (e.bytes + length (filler_bytes r))) fs (added e (filler r)))
 
 -- a stack that expects an item, or is finished
@@ -143,8 +191,13 @@ IsProper _ = ⊤
 pub completes : (st : Stack) → IsProper st → Completes st
 completes (fs, AtHeader) p = header_done fs (ended_done fs)
 completes (fs, AtMetadata k q) p =
-    λ e. fill e (fs, AtMetadata k q) (fs, AtEnd (record { precision = q; meta = 16; size = None; from = e.bytes + 1 }) (empty_of k q)) (Metadata (kind_number k)) refl refl
-    (end_done (record { precision = q; meta = 16; size = None; from = e.bytes + 1 }) (empty_of k q) fs (ended_done fs (empty_of k q)) (added e (filler (Metadata (kind_number k)))))
+    λ e. fill e (fs, AtMetadata k q) (
+      fs,
+      AtEnd (record { precision = q; meta = 16; size = None; from = e.bytes + 1 })
+          (empty_of k q),
+    ) (Metadata (kind_number k)) refl refl
+    (end_done (record { precision = q; meta = 16; size = None; from = e.bytes + 1 }) (empty_of k q)
+    fs (ended_done fs (empty_of k q)) (added e (filler (Metadata (kind_number k)))))
 completes (fs, AtOption k h r rs) p = wanting_done k (r ∷ rs) h fs
 completes (fs, AtCount m h) p = count_done m h fs
 completes (fs, AtId m h n ids left) p = ids_done m h fs n left ids
@@ -154,7 +207,8 @@ completes (fs, AtBody h f ids (Done v)) p = absurd p
 completes (fs, AtEnd h g) p = end_done h g fs (ended_done fs g)
 completes (fs, Finished g) p = λ e. record { roles = []; tree = g; runs = ap (λ l. (l, Finished g)) p }
 
-settled_proper : (fs : List Frame) (h : Head) (f : Form) (ids : Ids) (b : Body (depth_of f)) → IsProper (fs, settled h f ids b)
+settled_proper : (fs : List Frame) (h : Head) (f : Form) (ids : Ids) (b : Body (depth_of f))
+    → IsProper (fs, settled h f ids b)
 settled_proper fs h f ids (Want d a) = tt
 settled_proper fs h f ids (WantY a) = tt
 settled_proper fs h f ids (Done v) = tt
@@ -199,7 +253,8 @@ ended_proper (f ∷ fs) g = go f.left
     go zero = tt
     go (suc n) = tt
 
-proper_after : (fs : List Frame) (ph : Phase) (e : Sums) (i : Item) → role_at e (fs, ph) ≡ Some i.role → IsProper (stack_after e i (fs, ph))
+proper_after : (fs : List Frame) (ph : Phase) (e : Sums) (i : Item)
+    → role_at e (fs, ph) ≡ Some i.role → IsProper (stack_after e i (fs, ph))
 proper_after fs AtHeader e i r = tt
 proper_after fs (AtMetadata k q) e i r = wanting_proper k (asked i.number) _ fs
 proper_after fs (AtOption k h s rs) e i r = wanting_proper k rs _ fs
@@ -216,4 +271,5 @@ proper_after fs (Finished g) e i r = cc
 -- the machine runs from a stack that expects an item, or is finished, to another such stack
 pub proper_run : (is : List Item) (e : Sums) (st last : Stack) → IsProper st → Runs e st is last → IsProper last
 proper_run [] e st last p r = subst (λ s. IsProper s) r p
-proper_run (i ∷ is) e st last p r = proper_run is (added e i) (stack_after e i st) last (proper_after st.0 st.1 e i r.0) r.2
+proper_run (i ∷ is) e st last p r = proper_run is (added e i) (stack_after e i st) last
+    (proper_after st.0 st.1 e i r.0) r.2

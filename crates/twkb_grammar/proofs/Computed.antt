@@ -15,22 +15,52 @@ use Rattle.twkb_grammar.proofs.Stepping.{both}
 use Rattle.twkb_grammar.proofs.Either.{made_exactly, refused_exactly}
 
 pub standard_allowed : IsAllowance standard
-standard_allowed = record { nest_cap = omega arith; one_node = omega arith; nodes_cap = omega arith; points_cap = omega arith }
+standard_allowed = record {
+  nest_cap = omega arith;
+  one_node = omega arith;
+  nodes_cap = omega arith;
+  points_cap = omega arith;
+}
 
 pub nest_eight_allowed : IsAllowance nest_eight
-nest_eight_allowed = record { nest_cap = omega arith; one_node = omega arith; nodes_cap = omega arith; points_cap = omega arith }
+nest_eight_allowed = record {
+  nest_cap = omega arith;
+  one_node = omega arith;
+  nodes_cap = omega arith;
+  points_cap = omega arith;
+}
 
 pub no_nest_allowed : IsAllowance no_nest
-no_nest_allowed = record { nest_cap = omega arith; one_node = omega arith; nodes_cap = omega arith; points_cap = omega arith }
+no_nest_allowed = record {
+  nest_cap = omega arith;
+  one_node = omega arith;
+  nodes_cap = omega arith;
+  points_cap = omega arith;
+}
 
 pub two_nodes_allowed : IsAllowance two_nodes
-two_nodes_allowed = record { nest_cap = omega arith; one_node = omega arith; nodes_cap = omega arith; points_cap = omega arith }
+two_nodes_allowed = record {
+  nest_cap = omega arith;
+  one_node = omega arith;
+  nodes_cap = omega arith;
+  points_cap = omega arith;
+}
 
 pub one_point_only_allowed : IsAllowance one_point_only
-one_point_only_allowed = record { nest_cap = omega arith; one_node = omega arith; nodes_cap = omega arith; points_cap = omega arith }
+one_point_only_allowed = record {
+  nest_cap = omega arith;
+  one_node = omega arith;
+  nodes_cap = omega arith;
+  points_cap = omega arith;
+}
 
 pub no_points_allowed : IsAllowance no_points
-no_points_allowed = record { nest_cap = omega arith; one_node = omega arith; nodes_cap = omega arith; points_cap = omega arith }
+no_points_allowed = record {
+  nest_cap = omega arith;
+  one_node = omega arith;
+  nodes_cap = omega arith;
+  points_cap = omega arith;
+}
 
 -- each number is below 256
 abbrev small : List ℕ → Bool
@@ -51,12 +81,16 @@ some_are [] e = absurd cc
 some_are (b ∷ bytes) e = (are_bytes (b ∷ bytes) e, (λ z. cc))
 
 -- bytes from which the plain reader makes a geometry are a blob of it
-pub blob_by : (limits : Allowance) (bytes : List ℕ) (g : Tree) → IsAllowance limits → some_bytes bytes ≡ true → decode limits bytes ≡ Made g [] → Blob limits bytes g
+pub blob_by : (limits : Allowance) (bytes : List ℕ) (g : Tree) → IsAllowance limits
+    → some_bytes bytes ≡ true → decode limits bytes ≡ Made g [] → Blob limits bytes g
 blob_by limits bytes g allowed are e =
     let h = some_are bytes are in
     let b : BlobInFront limits bytes g [] = (made_exactly limits bytes [] g allowed h.0 h.1).0 e in
     subst (λ l. Blob limits l g) (sym (append-nil b.front) ∙ sym b.whole) b.blob
 
 -- the refusal of the plain reader is the first fault
-pub fault_by : (limits : Allowance) (bytes : List ℕ) (offset : ℕ) (reason : Reason) → IsAllowance limits → some_bytes bytes ≡ true → decode limits bytes ≡ RefusedAt offset reason → FirstFault limits bytes offset reason
-fault_by limits bytes offset reason allowed are e = let h = some_are bytes are in (refused_exactly limits bytes offset reason allowed h.0 h.1).0 e
+pub fault_by : (limits : Allowance) (bytes : List ℕ) (offset : ℕ) (reason : Reason)
+    → IsAllowance limits → some_bytes bytes ≡ true → decode limits bytes ≡ RefusedAt offset reason
+    → FirstFault limits bytes offset reason
+fault_by limits bytes offset reason allowed are e = let h = some_are bytes are in
+    (refused_exactly limits bytes offset reason allowed h.0 h.1).0 e

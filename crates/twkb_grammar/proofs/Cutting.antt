@@ -4,7 +4,9 @@ use Rattle.std.specs.Prelude.{nat_lt, Ok, Err}
 use Rattle.std.proofs.lemmas.Bool.{cond_both, ltb-true, ltb-false}
 use Rattle.twkb_num.specs.Varint.{HasMarks, seven_bit_sum, IsVarint}
 use Rattle.twkb_grammar.specs.Bits.{AreBytes}
-use Rattle.twkb_grammar.specs.Fault.{Truncated, BadType, ExtraDimensions, BadVarint, TooDeep, TooManyNodes, TooManyPoints, CoordinateRange, SizeMismatch, GoOn, IsTooLong}
+use Rattle.twkb_grammar.specs.Fault.{Truncated, BadType, ExtraDimensions, BadVarint, TooDeep}
+use Rattle.twkb_grammar.specs.Fault.{TooManyNodes, TooManyPoints, CoordinateRange, SizeMismatch}
+use Rattle.twkb_grammar.specs.Fault.{GoOn, IsTooLong}
 use Rattle.twkb_grammar.specs.PlainReader.{Cut, with_byte, varint_at}
 
 -- one more than the greatest number that k + 1 bytes can spell
@@ -51,7 +53,8 @@ marks_more : (b : ℕ) (front : List ℕ) → 128 ≤ b → b < 256 → HasMarks
 marks_more b [] h l m = absurd m
 marks_more b (c ∷ front) h l m = (h, l, m)
 
-with_byte_says : (k b : ℕ) (bytes : List ℕ) (c : Cut) → 128 ≤ b → b < 256 → CutSays k bytes c → CutSays (suc k) (b ∷ bytes) (with_byte b c)
+with_byte_says : (k b : ℕ) (bytes : List ℕ) (c : Cut) → 128 ≤ b → b < 256 → CutSays k bytes c
+    → CutSays (suc k) (b ∷ bytes) (with_byte b c)
 with_byte_says k b bytes (Ok r) h l s = record {
   whole = ap (λ bs. b ∷ bs) s.whole;
   marked = marks_more b r.1 h l s.marked;
@@ -61,7 +64,15 @@ with_byte_says k b bytes (Ok r) h l s = record {
 }
 with_byte_says k b bytes (Err Truncated) h l s = (omega (arith, s.0), (h, s.1))
 with_byte_says k b bytes (Err BadVarint) h l s =
-    record { nine = b ∷ s.nine; tenth = s.tenth; more = s.more; whole = ap (λ bs. b ∷ bs) s.whole; length = ap suc s.length; go_on = (h, s.go_on); above = s.above }
+    record {
+      nine = b ∷ s.nine;
+      tenth = s.tenth;
+      more = s.more;
+      whole = ap (λ bs. b ∷ bs) s.whole;
+      length = ap suc s.length;
+      go_on = (h, s.go_on);
+      above = s.above;
+    }
 with_byte_says k b bytes (Err BadType) h l s = absurd s
 with_byte_says k b bytes (Err ExtraDimensions) h l s = absurd s
 with_byte_says k b bytes (Err TooDeep) h l s = absurd s
@@ -77,18 +88,47 @@ cut_says zero (b ∷ bytes) are =
     cond_both (nat_lt b 2) (Ok (b, b ∷ [], bytes)) (Err BadVarint) (λ c. CutSays 0 (b ∷ bytes) c)
     (λ e. let h : b < 2 = ltb-true b 2 e in let low : b % 128 ≡ b = omega arith in
     record { whole = refl; marked = omega (arith, h); within = omega arith; sum = omega (arith, low); fits = h })
-    (λ e. let h : 2 ≤ b = ltb-false b 2 e in record { nine = []; tenth = b; more = bytes; whole = refl; length = refl; go_on = tt; above = omega (arith, h) })
+    (λ e. let h : 2 ≤ b = ltb-false b 2 e in record {
+      nine = [];
+      tenth = b;
+      more = bytes;
+      whole = refl;
+      length = refl;
+      go_on = tt;
+      above = omega (arith, h);
+    })
 cut_says (suc k) [] are = (omega arith, tt)
 cut_says (suc k) (b ∷ bytes) are =
-    cond_both (nat_lt b 128) (Ok (b, b ∷ [], bytes)) (with_byte b (varint_at (suc k) bytes)) (λ c. CutSays (suc k) (b ∷ bytes) c)
+    cond_both (nat_lt b 128) (Ok (b, b ∷ [], bytes)) (with_byte b (varint_at (suc k) bytes))
+    (λ c. CutSays (suc k) (b ∷ bytes) c)
     (λ e. let h : b < 128 = ltb-true b 128 e in let low : b % 128 ≡ b = omega arith in
-    record { whole = refl; marked = h; within = omega arith; sum = omega (arith, low); fits = omega (arith, h, top_some k) })
-    (λ e. let h : 128 ≤ b = ltb-false b 128 e in with_byte_says k b bytes (varint_at (suc k) bytes) h are.0 (cut_says k bytes are.1))
+    record {
+      whole = refl;
+      marked = h;
+      within = omega arith;
+      sum = omega (arith, low);
+      fits = omega (arith, h, top_some k);
+    })
+    (λ e. let h : 128 ≤ b = ltb-false b 128 e in with_byte_says k b bytes (varint_at (suc k) bytes)
+    h are.0 (cut_says k bytes are.1))
 
 -- a cut of at most ten bytes is a varint
 pub whole_varint : (bytes : List ℕ) (n : ℕ) (front rest : List ℕ) → Whole 9 bytes n front rest → IsVarint front n
-whole_varint bytes n front rest w = record { marked = w.marked; within = w.within; sum = w.sum; fits = omega (arith, w.fits) }
+whole_varint bytes n front rest w = record {
+  marked = w.marked;
+  within = w.within;
+  sum = w.sum;
+  fits = omega (arith, w.fits);
+}
 
 -- nine bytes that say that more follow, and a tenth above 1
 pub long_bytes : (bytes : List ℕ) → Long 9 bytes → IsTooLong bytes
-long_bytes bytes l = record { nine = l.nine; tenth = l.tenth; more = l.more; whole = l.whole; length = l.length; go_on = l.go_on; above = l.above }
+long_bytes bytes l = record {
+  nine = l.nine;
+  tenth = l.tenth;
+  more = l.more;
+  whole = l.whole;
+  length = l.length;
+  go_on = l.go_on;
+  above = l.above;
+}

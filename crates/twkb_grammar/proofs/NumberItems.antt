@@ -1,9 +1,11 @@
 -- Fields as items, each number as its shortest varint.
-use Rattle.std.proofs.Common.{◌≡◌, ℕ, ◌*◌, ◌<◌, ◌≤◌, ◌^◌, List, [], ◌∷◌, ◌++◌, length, refl, ap, sym, ◌∙◌, append_assoc, length-append, arith}
+use Rattle.std.proofs.Common.{◌≡◌, ℕ, ◌*◌, ◌<◌, ◌≤◌, ◌^◌, List, [], ◌∷◌, ◌++◌, length, refl, ap}
+use Rattle.std.proofs.Common.{sym, ◌∙◌, append_assoc, length-append, arith}
 use Rattle.std.specs.List.{AllByRecursion}
 use Rattle.twkb_num.specs.Varint.{varint_of}
 use Rattle.twkb_num.proofs.VarintLemmas.{IsVarint-varint_of, length-varint_of}
-use Rattle.twkb_grammar.specs.Roles.{IsNumber, Role, Header, Metadata, Extended, Size, Box, Count, Id, X, Y, End, Item, Spells, join, Field, AreFields}
+use Rattle.twkb_grammar.specs.Roles.{IsNumber, Role, Header, Metadata, Extended, Size, Box, Count}
+use Rattle.twkb_grammar.specs.Roles.{Id, X, Y, End, Item, Spells, join, Field, AreFields}
 use Rattle.twkb_grammar.specs.Blob.{IsExact, AreExact}
 use Rattle.twkb_grammar.specs.Written.{varints}
 
@@ -67,7 +69,12 @@ join-number_items (f ∷ fs) = ap (λ bs. varint_of f.1 ++ bs) (join-number_item
 -- each varint has at most ten bytes
 pub length-varints : (fs : List Field) → AllFit fs → length (varints fs) ≤ 10 * length fs
 length-varints [] fit = omega arith
-length-varints (f ∷ fs) fit = omega (arith, length-append (varint_of f.1) (varints fs), length-varint_of f.1 fit.0.1, length-varints fs fit.1)
+length-varints (f ∷ fs) fit = omega (
+  arith,
+  length-append (varint_of f.1) (varints fs),
+  length-varint_of f.1 fit.0.1,
+  length-varints fs fit.1,
+)
 
 -- joined items are exact if both lists are
 pub AreExact-append : (is js : List Item) → AreExact is → AreExact js → AreExact (is ++ js)

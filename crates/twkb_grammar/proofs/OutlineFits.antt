@@ -1,12 +1,15 @@
 -- The numbers of a body can be spelled, and the numbers of rows and points bound how many there
 -- are.
-use Rattle.std.proofs.Common.{◌≡◌, ℕ, ◌+◌, ◌*◌, ◌<◌, ◌≤◌, ◌^◌, List, [], ◌∷◌, ◌++◌, map, length, refl, sym, subst, Some, None, length-append, arith}
+use Rattle.std.proofs.Common.{◌≡◌, ℕ, ◌+◌, ◌*◌, ◌<◌, ◌≤◌, ◌^◌, List, [], ◌∷◌, ◌++◌, map, length}
+use Rattle.std.proofs.Common.{refl, sym, subst, Some, None, length-append, arith}
 use Rattle.std.specs.Prelude.{ℤ, flat_map}
 use Rattle.std.specs.List.{AllByRecursion}
 use Rattle.std.proofs.lemmas.Int.{ints}
 use Rattle.twkb_num.specs.Zigzag.{zigzag_of}
 use Rattle.twkb_points.specs.Point.{Point, origin, IsInRange, AreInRange}
-use Rattle.twkb_tree.specs.Tree.{Ids, Simple, point, line, polygon, multi_point, multi_line, multi_polygon, AreIds, HasIds, IdsFit, flatten, points_in, nodes_in, area_nodes}
+use Rattle.twkb_tree.specs.Tree.{Ids, Simple, point, line, polygon, multi_point, multi_line}
+use Rattle.twkb_tree.specs.Tree.{multi_polygon, AreIds, HasIds, IdsFit, flatten, points_in}
+use Rattle.twkb_tree.specs.Tree.{nodes_in, area_nodes}
 use Rattle.twkb_grammar.specs.Items.{Place, OfCount, OfId, OfPoint, id_places, run_of, rings_of, outline, fields}
 use Rattle.twkb_grammar.proofs.Places.{steps, fields_are}
 use Rattle.twkb_grammar.proofs.Ranges.{all_front}
@@ -39,48 +42,77 @@ pub fit-id_places : (ids : Ids) (n : ℕ) → HasIds ids n → PlacesFit (id_pla
 fit-id_places None n h = tt
 fit-id_places (Some ids) n h = fit-ids ids h.2
 
-fit-runs : (ls : List (List Point)) → AreInRange (flatten ls) → length (flatten ls) < 2 ^ 64 → PlacesFit (flat_map run_of ls)
+fit-runs : (ls : List (List Point)) → AreInRange (flatten ls) → length (flatten ls) < 2 ^ 64
+    → PlacesFit (flat_map run_of ls)
 fit-runs [] h few = tt
 fit-runs (ps ∷ ls) h few =
     let both = all_front ps (flatten ls) h in
-    let total : length (flatten (ps ∷ ls)) ≡ length ps + length (flatten ls) = length-append ps (flatten ls) in
-    (omega (arith, few, total), PlacesFit-append (map OfPoint ps) (flat_map run_of ls) (fit-points ps both.0) (fit-runs ls both.1 (omega (arith, few, total))))
+    let total : length (flatten (ps ∷ ls)) ≡ length ps + length (flatten ls) = length-append ps (flatten ls) in (
+      omega (arith, few, total),
+      PlacesFit-append (map OfPoint ps) (flat_map run_of ls)
+          (fit-points ps both.0) (fit-runs ls both.1 (omega (arith, few, total))),
+    )
 
-fit-areas : (areas : List (List (List Point))) → AreInRange (flat_map flatten areas) → length (flat_map flatten areas) < 2 ^ 64 → area_nodes areas < 2 ^ 64 → PlacesFit (flat_map rings_of areas)
+fit-areas : (areas : List (List (List Point))) → AreInRange (flat_map flatten areas)
+    → length (flat_map flatten areas) < 2 ^ 64 → area_nodes areas < 2 ^ 64
+    → PlacesFit (flat_map rings_of areas)
 fit-areas [] h few nodes = tt
 fit-areas (rings ∷ areas) h few nodes =
     let both = all_front (flatten rings) (flat_map flatten areas) h in
-    let total : length (flat_map flatten (rings ∷ areas)) ≡ length (flatten rings) + length (flat_map flatten areas) = length-append (flatten rings) (flat_map flatten areas) in
-    (omega (arith, nodes), PlacesFit-append (flat_map run_of rings) (flat_map rings_of areas) (fit-runs rings both.0 (omega (arith, few, total))) (fit-areas areas both.1 (omega (arith, few, total)) (omega (arith, nodes))))
+    let total : length (flat_map flatten (rings ∷ areas)) ≡ length (flatten rings) + length
+    (flat_map flatten areas) = length-append (flatten rings) (flat_map flatten areas) in (
+      omega (arith, nodes),
+      PlacesFit-append (flat_map run_of rings) (flat_map rings_of areas)
+          (fit-runs rings both.0 (omega (arith, few, total)))
+          (fit-areas areas both.1 (omega (arith, few, total)) (omega (arith, nodes))),
+    )
 
 length-area_nodes : (areas : List (List (List Point))) → length areas ≤ area_nodes areas
 length-area_nodes [] = omega arith
 length-area_nodes (rings ∷ areas) = omega (arith, length-area_nodes areas)
 
-fit-outline : (s : Simple) → IdsFit s → AreInRange (points_in s) → nodes_in s < 2 ^ 64 → length (points_in s) < 2 ^ 64 → PlacesFit (outline s)
+fit-outline : (s : Simple) → IdsFit s → AreInRange (points_in s) → nodes_in s < 2 ^ 64
+    → length (points_in s) < 2 ^ 64 → PlacesFit (outline s)
 fit-outline (point None) fit h nodes few = tt
 fit-outline (point (Some p)) fit h nodes few = (h.0, tt)
 fit-outline (line ps) fit h nodes few = (few, fit-points ps h)
 fit-outline (polygon rings) fit h nodes few = (omega (arith, nodes), fit-runs rings h few)
-fit-outline (multi_point ids ps) fit h nodes few = (few, PlacesFit-append (id_places ids) (map OfPoint ps) (fit-id_places ids (length ps) fit) (fit-points ps h))
-fit-outline (multi_line ids ls) fit h nodes few = (omega (arith, nodes), PlacesFit-append (id_places ids) (flat_map run_of ls) (fit-id_places ids (length ls) fit) (fit-runs ls h few))
-fit-outline (multi_polygon ids areas) fit h nodes few =
-    (omega (arith, nodes, length-area_nodes areas), PlacesFit-append (id_places ids) (flat_map rings_of areas) (fit-id_places ids (length areas) fit) (fit-areas areas h few (omega (arith, nodes))))
+fit-outline (multi_point ids ps) fit h nodes few = (
+  few,
+  PlacesFit-append (id_places ids) (map OfPoint ps) (fit-id_places ids (length ps) fit)
+      (fit-points ps h),
+)
+fit-outline (multi_line ids ls) fit h nodes few = (
+  omega (arith, nodes),
+  PlacesFit-append (id_places ids) (flat_map run_of ls)
+      (fit-id_places ids (length ls) fit) (fit-runs ls h few),
+)
+fit-outline (multi_polygon ids areas) fit h nodes few = (
+  omega (arith, nodes, length-area_nodes areas),
+  PlacesFit-append (id_places ids)
+      (flat_map rings_of areas) (fit-id_places ids (length areas) fit)
+      (fit-areas areas h few (omega (arith, nodes))),
+)
 
 -- the numbers of fields at places in range can be spelled
 pub fit-steps : (ps : List Place) (p : Point) → IsInRange p → PlacesFit ps → AllFit (steps p ps)
 fit-steps [] p h fit = tt
 fit-steps (OfCount c n ∷ ps) p h fit = ((tt, fit.0), fit-steps ps p h fit.1)
 fit-steps (OfId id ∷ ps) p h fit = ((tt, fit.0), fit-steps ps p h fit.1)
-fit-steps (OfPoint q ∷ ps) p h fit = ((tt, difference_fits p.x q.x h.0 fit.0.0), ((tt, difference_fits p.y q.y h.1 fit.0.1), fit-steps ps q fit.0 fit.1))
+fit-steps (OfPoint q ∷ ps) p h fit = (
+  (tt, difference_fits p.x q.x h.0 fit.0.0),
+  ((tt, difference_fits p.y q.y h.1 fit.0.1), fit-steps ps q fit.0 fit.1),
+)
 
 -- the origin is in range
 pub origin_in_range : IsInRange origin
 origin_in_range = ((omega (arith, ints), omega (arith, ints)), (omega (arith, ints), omega (arith, ints)))
 
 -- the numbers of a body can be spelled
-pub fit-fields : (s : Simple) → IdsFit s → AreInRange (points_in s) → nodes_in s < 2 ^ 64 → length (points_in s) < 2 ^ 64 → AllFit (fields s)
-fit-fields s fit h nodes few = subst AllFit (sym (fields_are s)) (fit-steps (outline s) origin origin_in_range (fit-outline s fit h nodes few))
+pub fit-fields : (s : Simple) → IdsFit s → AreInRange (points_in s) → nodes_in s < 2 ^ 64
+    → length (points_in s) < 2 ^ 64 → AllFit (fields s)
+fit-fields s fit h nodes few = subst AllFit (sym (fields_are s))
+    (fit-steps (outline s) origin origin_in_range (fit-outline s fit h nodes few))
 
 -- how many numbers are at these places
 abbrev weight : List Place → ℕ
@@ -116,27 +148,60 @@ weight-id_places (Some ids) n h = omega (arith, weight-ids ids, h.1)
 
 weight-runs : (ls : List (List Point)) → weight (flat_map run_of ls) ≡ length ls + 2 * length (flatten ls)
 weight-runs [] = omega arith
-weight-runs (ps ∷ ls) = omega (arith, weight-append (map OfPoint ps) (flat_map run_of ls), weight-points ps, weight-runs ls, length-append ps (flatten ls))
+weight-runs (ps ∷ ls) = omega (
+  arith,
+  weight-append (map OfPoint ps) (flat_map run_of ls),
+  weight-points ps,
+  weight-runs ls,
+  length-append ps (flatten ls),
+)
 
-weight-areas : (areas : List (List (List Point))) → weight (flat_map rings_of areas) ≡ area_nodes areas + 2 * length (flat_map flatten areas)
+weight-areas : (areas : List (List (List Point)))
+    → weight (flat_map rings_of areas) ≡ area_nodes areas + 2 * length (flat_map flatten areas)
 weight-areas [] = omega arith
 weight-areas (rings ∷ areas) =
-    omega (arith, weight-append (flat_map run_of rings) (flat_map rings_of areas), weight-runs rings, weight-areas areas, length-append (flatten rings) (flat_map flatten areas))
+    omega (
+      arith,
+      weight-append (flat_map run_of rings) (flat_map rings_of areas),
+      weight-runs rings,
+      weight-areas areas,
+      length-append (flatten rings)
+          (flat_map flatten areas),
+    )
 
 weight-outline : (s : Simple) → IdsFit s → weight (outline s) ≤ 2 * nodes_in s + 2 * length (points_in s)
 weight-outline (point None) fit = omega arith
 weight-outline (point (Some p)) fit = omega arith
 weight-outline (line ps) fit = omega (arith, weight-points ps)
 weight-outline (polygon rings) fit = omega (arith, weight-runs rings)
-weight-outline (multi_point ids ps) fit = omega (arith, weight-append (id_places ids) (map OfPoint ps), weight-id_places ids (length ps) fit, weight-points ps)
-weight-outline (multi_line ids ls) fit = omega (arith, weight-append (id_places ids) (flat_map run_of ls), weight-id_places ids (length ls) fit, weight-runs ls)
+weight-outline (multi_point ids ps) fit = omega (
+  arith,
+  weight-append (id_places ids) (map OfPoint ps),
+  weight-id_places ids (length ps) fit,
+  weight-points ps,
+)
+weight-outline (multi_line ids ls) fit = omega (
+  arith,
+  weight-append (id_places ids) (flat_map run_of ls),
+  weight-id_places ids (length ls)
+      fit,
+  weight-runs ls,
+)
 weight-outline (multi_polygon ids areas) fit =
-    omega (arith, weight-append (id_places ids) (flat_map rings_of areas), weight-id_places ids (length areas) fit, length-area_nodes areas, weight-areas areas)
+    omega (
+      arith,
+      weight-append (id_places ids) (flat_map rings_of areas),
+      weight-id_places ids
+          (length areas) fit,
+      length-area_nodes areas,
+      weight-areas areas,
+    )
 
 -- a body has at most this many numbers
 pub length-fields : (s : Simple) → IdsFit s → length (fields s) ≤ 2 * nodes_in s + 2 * length (points_in s)
 length-fields s fit =
-    subst (λ fs. length fs ≤ 2 * nodes_in s + 2 * length (points_in s)) (sym (fields_are s)) (omega (arith, length-steps (outline s) origin, weight-outline s fit))
+    subst (λ fs. length fs ≤ 2 * nodes_in s + 2 * length (points_in s)) (sym (fields_are s))
+    (omega (arith, length-steps (outline s) origin, weight-outline s fit))
 
 -- there are at most as many ids as members
 pub length-id_places : (ids : Ids) (n : ℕ) → HasIds ids n → length (steps origin (id_places ids)) ≤ n

@@ -29,7 +29,8 @@ runs_same [] e st a b r s = sym r ∙ s
 runs_same (i ∷ xs) e st a b r s = runs_same xs (added e i) (stack_after e i st) a b r.2 s.2
 
 -- the next item of any geometry that begins with these items has the role that the machine says
-pub next_role : (before : List Item) (st : Stack) (role : Role) → Runs nothing started before st → role_at (sums_after nothing before) st ≡ Some role
+pub next_role : (before : List Item) (st : Stack) (role : Role) → Runs nothing started before st
+    → role_at (sums_after nothing before) st ≡ Some role
     → (g : Tree) (more : List Item) → IsTree g → Items 0 g (before ++ more)
     → (i : Item) × (after : List Item) × (more ≡ i ∷ after) × (i.role ≡ role)
 next_role before st role r says g more fits items = go more s.rest
@@ -40,16 +41,25 @@ next_role before st role r says g more fits items = go more s.rest
     same : s.mid ≡ st
     same = runs_same before nothing started s.mid st s.front r
 
-    go : (more : List Item) → Runs (sums_after nothing before) s.mid more ([], Finished g) → (i : Item) × (after : List Item) × (more ≡ i ∷ after) × (i.role ≡ role)
+    go : (more : List Item) → Runs (sums_after nothing before) s.mid more ([], Finished g)
+        → (i : Item) × (after : List Item) × (more ≡ i ∷ after) × (i.role ≡ role)
     go [] t =
         let z : None ≡ Some role = ap (λ x. role_at (sums_after nothing before) x) (sym t ∙ same) ∙ says in
         absurd cc
-    go (i ∷ after) t = (i, after, refl, some_role role i.role (sym says ∙ (ap (λ x. role_at (sums_after nothing before) x) (sym same) ∙ t.0)))
+    go (i ∷ after) t = (
+      i,
+      after,
+      refl,
+      some_role role i.role
+          (sym says ∙ (ap (λ x. role_at (sums_after nothing before) x) (sym same) ∙ t.0)),
+    )
 
 -- the machine runs through a prefix of the items of a geometry
-pub front_runs : (before more : List Item) (g : Tree) → IsTree g → Items 0 g (before ++ more) → (st : Stack) × Runs nothing started before st
+pub front_runs : (before more : List Item) (g : Tree) → IsTree g → Items 0 g (before ++ more)
+    → (st : Stack) × Runs nothing started before st
 front_runs before more g fits items =
-    let s = runs_split before more nothing started ([], Finished g) (tree_runs g [] nothing (before ++ more) fits items) in (s.mid, s.front)
+    let s = runs_split before more nothing started ([], Finished g)
+    (tree_runs g [] nothing (before ++ more) fits items) in (s.mid, s.front)
 
 -- items that the machine runs through are a prefix of the items of a geometry, whatever the
 -- limits and the open sizes
@@ -63,9 +73,13 @@ pub record Front (is : List Item) : Type 0 where
 pub run_is_front : (is : List Item) (st : Stack) → Runs nothing started is st → Front is
 run_is_front is st r =
     let c = completes st (proper_run is nothing started st tt r) (sums_after nothing is) in
-    let whole = runs_are_items c.tree (is ++ Rattle.std.specs.Prelude.map filler c.roles) (Runs-append is nothing started st (Rattle.std.specs.Prelude.map filler c.roles) ([], Finished c.tree) r c.runs) in
+    let whole = runs_are_items c.tree (is ++ Rattle.std.specs.Prelude.map filler c.roles)
+    (Runs-append is nothing started st (Rattle.std.specs.Prelude.map filler c.roles)
+    ([], Finished c.tree) r c.runs) in
     record { tree = c.tree; roles = c.roles; fits = whole.1; items = whole.0 }
 
 -- each state that the machine reaches can be completed
-pub run_completes : (before : List Item) (st : Stack) → Runs nothing started before st → (more : List Item) × (g : Tree) × Runs (sums_after nothing before) st more ([], Finished g)
-run_completes before st r = let c = completes st (proper_run before nothing started st tt r) (sums_after nothing before) in (Rattle.std.specs.Prelude.map filler c.roles, c.tree, c.runs)
+pub run_completes : (before : List Item) (st : Stack) → Runs nothing started before st
+    → (more : List Item) × (g : Tree) × Runs (sums_after nothing before) st more ([], Finished g)
+run_completes before st r = let c = completes st (proper_run before nothing started st tt r)
+    (sums_after nothing before) in (Rattle.std.specs.Prelude.map filler c.roles, c.tree, c.runs)

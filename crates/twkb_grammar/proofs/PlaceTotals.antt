@@ -1,14 +1,16 @@
 -- Sums over items, and over places, of what counts announce.
-use Rattle.std.proofs.Common.{Bool, true, false, ◌≡◌, ℕ, ◌+◌, List, [], ◌∷◌, ◌++◌, map, length, refl, ap, ◌∙◌, Option, Some, None, arith}
+use Rattle.std.proofs.Common.{Bool, true, false, ◌≡◌, ℕ, ◌+◌, List, [], ◌∷◌, ◌++◌, map, length}
+use Rattle.std.proofs.Common.{refl, ap, ◌∙◌, Option, Some, None, arith}
 use Rattle.std.proofs.lemmas.List.Sums.{sum_by-cons}
 use Rattle.std.specs.Prelude.{ℤ, flat_map, sum_by}
 use Rattle.twkb_points.specs.Point.{Point}
 use Rattle.twkb_tree.specs.Tree.{Ids}
 use Rattle.twkb_grammar.specs.Bits.{bit}
-use Rattle.twkb_grammar.specs.Roles.{Item, Role, Header, Metadata, Extended, Size, Box, Count, Counted, Id, X, Y, End, AreFields, HaveRoles, where_set}
-use Rattle.twkb_grammar.specs.Items.{Place, OfCount, OfId, OfPoint, id_places, declared, end_item, Flags, Framed, header_byte}
+use Rattle.twkb_grammar.specs.Roles.{Item, Role, Header, Metadata, Extended, Size, Box, Count}
+use Rattle.twkb_grammar.specs.Roles.{Counted, Id, X, Y, End, AreFields, HaveRoles, where_set}
+use Rattle.twkb_grammar.specs.Items.{Place, OfCount, OfId, OfPoint, id_places, declared, end_item}
+use Rattle.twkb_grammar.specs.Items.{Flags, Framed, header_byte}
 use Rattle.twkb_grammar.proofs.Places.{steps}
-
 
 -- the sum over the items
 abbrev pub total : (Role → ℕ → ℕ) → List Item → ℕ
@@ -33,7 +35,8 @@ by_places c (OfId id ∷ ps) = by_places c ps
 by_places c (OfPoint q ∷ ps) = by_places c ps
 
 -- the total of joined places
-pub by_places-append : (c : Counted → ℕ → ℕ) (ps qs : List Place) → by_places c (ps ++ qs) ≡ by_places c ps + by_places c qs
+pub by_places-append : (c : Counted → ℕ → ℕ) (ps qs : List Place)
+    → by_places c (ps ++ qs) ≡ by_places c ps + by_places c qs
 by_places-append c [] qs = omega arith
 by_places-append c (OfCount k n ∷ ps) qs = omega (arith, by_places-append c ps qs)
 by_places-append c (OfId id ∷ ps) qs = by_places-append c ps qs
@@ -51,26 +54,52 @@ pub by_names : (c : Counted → ℕ → ℕ) (ids : Ids) → by_places c (id_pla
 by_names c None = refl
 by_names c (Some ids) = by_ids c ids
 
-pub by_flat : {A : Type 0} (c : Counted → ℕ → ℕ) (f : A → List Place) (g : A → ℕ) → ((a : A) → by_places c (f a) ≡ g a) → (xs : List A) → by_places c (flat_map f xs) ≡ sum_by g xs
+pub by_flat : {A : Type 0} (c : Counted → ℕ → ℕ) (f : A → List Place) (g : A → ℕ)
+    → ((a : A) → by_places c (f a) ≡ g a) → (xs : List A)
+    → by_places c (flat_map f xs) ≡ sum_by g xs
 by_flat c f g h [] = refl
-by_flat c f g h (x ∷ xs) = omega (arith, by_places-append c (f x) (flat_map f xs), h x, by_flat c f g h xs, sum_by-cons g x xs)
+by_flat c f g h (x ∷ xs) = omega (
+  arith,
+  by_places-append c (f x) (flat_map f xs),
+  h x,
+  by_flat c f g h xs,
+  sum_by-cons g x xs,
+)
 
 module _ (f : Role → ℕ → ℕ) (c : Counted → ℕ → ℕ) (counts : (k : Counted) (n : ℕ) → f (Count k) n ≡ c k n)
-    (header : (n : ℕ) → f Header n ≡ 0) (extended : (n : ℕ) → f Extended n ≡ 0) (size : (n : ℕ) → f Size n ≡ 0) (box : (n : ℕ) → f Box n ≡ 0)
-    (ids : (n : ℕ) → f Id n ≡ 0) (xs : (n : ℕ) → f X n ≡ 0) (ys : (n : ℕ) → f Y n ≡ 0) (ends : (d : Option ℕ) (m n : ℕ) → f (End d m) n ≡ 0) where
+    (header : (n : ℕ) → f Header n ≡ 0) (extended : (n : ℕ) → f Extended n ≡ 0)
+    (size : (n : ℕ) → f Size n ≡ 0) (box : (n : ℕ) → f Box n ≡ 0)
+    (ids : (n : ℕ) → f Id n ≡ 0) (xs : (n : ℕ) → f X n ≡ 0) (ys : (n : ℕ) → f Y n ≡ 0)
+    (ends : (d : Option ℕ) (m n : ℕ) → f (End d m) n ≡ 0) where
   -- the total of a body is that of its places
-  pub body_total : (p : Point) (ps : List Place) (is : List Item) → AreFields (steps p ps) is → total f is ≡ by_places c ps
+  pub body_total : (p : Point) (ps : List Place) (is : List Item) → AreFields (steps p ps) is
+      → total f is ≡ by_places c ps
   body_total p [] [] are = refl
   body_total p [] (i ∷ is) are = absurd are
   body_total p (OfCount k n ∷ ps) [] are = absurd are
-  body_total p (OfCount k n ∷ ps) (i ∷ is) are = omega (arith, ap (λ r. f r i.number) are.0, ap (λ m. f (Count k) m) are.1, counts k n, body_total p ps is are.3)
+  body_total p (OfCount k n ∷ ps) (i ∷ is) are = omega (
+    arith,
+    ap (λ r. f r i.number) are.0,
+    ap (λ m. f (Count k) m) are.1,
+    counts k n,
+    body_total p ps is are.3,
+  )
   body_total p (OfId id ∷ ps) [] are = absurd are
-  body_total p (OfId id ∷ ps) (i ∷ is) are = omega (arith, ap (λ r. f r i.number) are.0, ids i.number, body_total p ps is are.3)
+  body_total p (OfId id ∷ ps) (i ∷ is) are = omega
+      (arith, ap (λ r. f r i.number) are.0, ids i.number, body_total p ps is are.3)
   body_total p (OfPoint q ∷ ps) [] are = absurd are
   body_total p (OfPoint q ∷ ps) (i ∷ []) are = absurd are.3
-  body_total p (OfPoint q ∷ ps) (i ∷ j ∷ is) are = omega (arith, ap (λ r. f r i.number) are.0, xs i.number, ap (λ r. f r j.number) are.3.0, ys j.number, body_total q ps is are.3.3)
+  body_total p (OfPoint q ∷ ps) (i ∷ j ∷ is) are = omega (
+    arith,
+    ap (λ r. f r i.number) are.0,
+    xs i.number,
+    ap (λ r. f r j.number) are.3.0,
+    ys j.number,
+    body_total q ps is are.3.3,
+  )
 
-  option_total : (b : Bool) (r : Role) (is : List Item) → ((n : ℕ) → f r n ≡ 0) → HaveRoles (where_set b (r ∷ [])) is → total f is ≡ 0
+  option_total : (b : Bool) (r : Role) (is : List Item) → ((n : ℕ) → f r n ≡ 0)
+      → HaveRoles (where_set b (r ∷ [])) is → total f is ≡ 0
   option_total false r [] z have = refl
   option_total false r (i ∷ is) z have = absurd have
   option_total true r [] z have = absurd have
@@ -86,10 +115,21 @@ module _ (f : Role → ℕ → ℕ) (c : Counted → ℕ → ℕ) (counts : (k :
   box_total true (i ∷ j ∷ k ∷ []) have = absurd have.2.2.2
   box_total true (i ∷ j ∷ k ∷ l ∷ m ∷ is) have = absurd have.2.2.2.2
   box_total true (i ∷ j ∷ k ∷ l ∷ []) have =
-      omega (arith, ap (λ r. f r i.number) have.0, box i.number, ap (λ r. f r j.number) have.2.0, box j.number, ap (λ r. f r k.number) have.2.2.0, box k.number, ap (λ r. f r l.number) have.2.2.2.0, box l.number)
+      omega (
+        arith,
+        ap (λ r. f r i.number) have.0,
+        box i.number,
+        ap (λ r. f r j.number) have.2.0,
+        box j.number,
+        ap (λ r. f r k.number) have.2.2.0,
+        box k.number,
+        ap (λ r. f r l.number) have.2.2.2.0,
+        box l.number,
+      )
 
   -- the total of a frame is that of its metadata byte and its body
-  pub framed_total : (kind : ℕ) (p : ℤ) (own : Flags) (Body : List Item → Type 0) (is : List Item) → (fr : Framed kind p own Body is) → total f is ≡ f (Metadata kind) fr.meta + total f fr.body
+  pub framed_total : (kind : ℕ) (p : ℤ) (own : Flags) (Body : List Item → Type 0) (is : List Item)
+      → (fr : Framed kind p own Body is) → total f is ≡ f (Metadata kind) fr.meta + total f fr.body
   framed_total kind p own Body is fr =
       let last = end_item (declared fr.size) (fr.box ++ fr.body) in
       omega (

@@ -7,9 +7,11 @@ use Rattle.twkb_num.specs.Zigzag.{zigzag_of, unzigzag_of}
 use Rattle.twkb_num.proofs.ZigzagLemmas.{unzigzag_of-zigzag_of}
 use Rattle.twkb_points.specs.Point.{Point, origin}
 use Rattle.twkb_points.specs.Differences.{differences_from}
-use Rattle.twkb_tree.specs.Tree.{Simple, point, line, polygon, multi_point, multi_line, multi_polygon, points_in, flatten}
+use Rattle.twkb_tree.specs.Tree.{Simple, point, line, polygon, multi_point, multi_line}
+use Rattle.twkb_tree.specs.Tree.{multi_polygon, points_in, flatten}
 use Rattle.twkb_grammar.specs.Roles.{Field, Count, Id, X, Y}
-use Rattle.twkb_grammar.specs.Items.{Place, OfCount, OfId, OfPoint, filled, fields, outline, run_of, rings_of, id_places}
+use Rattle.twkb_grammar.specs.Items.{Place, OfCount, OfId, OfPoint, filled, fields, outline, run_of}
+use Rattle.twkb_grammar.specs.Items.{rings_of, id_places}
 
 -- the fields of these places after position p
 abbrev pub steps : Point → List Place → List Field
@@ -30,7 +32,8 @@ pub filled_is : (ps : List Place) (p : Point) → filled ps (differences_from p 
 filled_is [] p = refl
 filled_is (OfCount c n ∷ ps) p = ap (λ fs. (Count c, n) ∷ fs) (filled_is ps p)
 filled_is (OfId id ∷ ps) p = ap (λ fs. (Id, zigzag_of id) ∷ fs) (filled_is ps p)
-filled_is (OfPoint q ∷ ps) p = ap (λ fs. (X, zigzag_of (q.x -ℤ p.x)) ∷ (Y, zigzag_of (q.y -ℤ p.y)) ∷ fs) (filled_is ps q)
+filled_is (OfPoint q ∷ ps) p = ap (λ fs. (X, zigzag_of (q.x -ℤ p.x)) ∷ (Y, zigzag_of (q.y -ℤ p.y))
+    ∷ fs) (filled_is ps q)
 
 -- the points of joined places
 pub places-append : (ps qs : List Place) → places (ps ++ qs) ≡ places ps ++ places qs
@@ -45,9 +48,11 @@ places-map [] = refl
 places-map (p ∷ ps) = ap (λ xs. p ∷ xs) (places-map ps)
 
 -- the points of joined lists of places
-pub places-flat : {A : Type 0} (f : A → List Place) (g : A → List Point) → ((a : A) → places (f a) ≡ g a) → (xs : List A) → places (flat_map f xs) ≡ flat_map g xs
+pub places-flat : {A : Type 0} (f : A → List Place) (g : A → List Point)
+    → ((a : A) → places (f a) ≡ g a) → (xs : List A) → places (flat_map f xs) ≡ flat_map g xs
 places-flat f g h [] = refl
-places-flat f g h (x ∷ xs) = places-append (f x) (flat_map f xs) ∙ (ap (λ ys. ys ++ places (flat_map f xs)) (h x) ∙ ap (λ ys. g x ++ ys) (places-flat f g h xs))
+places-flat f g h (x ∷ xs) = places-append (f x) (flat_map f xs)
+    ∙ (ap (λ ys. ys ++ places (flat_map f xs)) (h x) ∙ ap (λ ys. g x ++ ys) (places-flat f g h xs))
 
 -- the places of ids have no points
 pub places-ids : (ids : List ℤ) (ps : List Place) → places (map OfId ids ++ ps) ≡ places ps
@@ -71,11 +76,13 @@ points_are (line ps) = places-map ps
 points_are (polygon rings) = places-rings rings
 points_are (multi_point ids ps) = places-id_places ids (map OfPoint ps) ∙ places-map ps
 points_are (multi_line ids lines) = places-id_places ids (flat_map run_of lines) ∙ places-rings lines
-points_are (multi_polygon ids areas) = places-id_places ids (flat_map rings_of areas) ∙ places-flat rings_of flatten places-rings areas
+points_are (multi_polygon ids areas) = places-id_places ids (flat_map rings_of areas)
+    ∙ places-flat rings_of flatten places-rings areas
 
 -- the fields of a shape, walked from the origin
 pub fields_are : (s : Simple) → fields s ≡ steps origin (outline s)
-fields_are s = ap (λ ps. filled (outline s) (differences_from origin ps)) (sym (points_are s)) ∙ filled_is (outline s) origin
+fields_are s = ap (λ ps. filled (outline s) (differences_from origin ps)) (sym (points_are s))
+    ∙ filled_is (outline s) origin
 
 -- a difference added to its start gives its end
 pub back : (p q : ℤ) → p +ℤ (q -ℤ p) ≡ q

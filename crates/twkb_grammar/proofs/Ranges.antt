@@ -1,15 +1,23 @@
 -- Depth and range along the items of a valid geometry.
-use Rattle.std.proofs.Common.{Bool, true, false, ◌≡◌, ℕ, suc, ◌+◌, ◌≤◌, List, [], ◌∷◌, ◌++◌, map, refl, ap, sym, ◌∙◌, subst, append_assoc, Some, None, arith}
+use Rattle.std.proofs.Common.{Bool, true, false, ◌≡◌, ℕ, suc, ◌+◌, ◌≤◌, List, [], ◌∷◌, ◌++◌, map}
+use Rattle.std.proofs.Common.{refl, ap, sym, ◌∙◌, subst, append_assoc, Some, None, arith}
 use Rattle.std.proofs.lemmas.List.{append-nil}
 use Rattle.std.specs.Prelude.{ℤ, ⊤, ◌+ℤ◌, flat_map}
 use Rattle.std.specs.List.{AllByRecursion}
 use Rattle.twkb_num.specs.Zigzag.{unzigzag_of}
 use Rattle.twkb_points.specs.Point.{Point, IsCoordinate, IsInRange}
-use Rattle.twkb_tree.specs.Tree.{Simple, point, line, polygon, multi_point, multi_line, multi_polygon, Tree, simple, collection, Trees, end, ◌▷◌, count, Ids, flat, flat_all, points_in, nest, nest_all}
+use Rattle.twkb_tree.specs.Tree.{Simple, point, line, polygon, multi_point, multi_line}
+use Rattle.twkb_tree.specs.Tree.{multi_polygon, Tree, simple, collection, Trees, end, ◌▷◌, count}
+use Rattle.twkb_tree.specs.Tree.{Ids, flat, flat_all, points_in, nest, nest_all}
 use Rattle.twkb_tree.specs.Limits.{Allowance, IsValid}
 use Rattle.twkb_grammar.specs.Bits.{bit}
-use Rattle.twkb_grammar.specs.Roles.{Item, Role, Header, Metadata, Extended, Size, Box, Count, Vertices, Rings, Points, Parts, Geometries, Id, X, Y, End, AreFields, HaveRoles, where_set, item}
-use Rattle.twkb_grammar.specs.Items.{Place, OfCount, OfId, OfPoint, id_places, fields, outline, run_of, rings_of, declared, end_item, header_byte, Flags, flags, flags_all, BodyAt, Framed, Follow, Items, ItemsOfAll, kind_of, id_fields}
+use Rattle.twkb_grammar.specs.Roles.{Item, Role, Header, Metadata, Extended, Size, Box, Count}
+use Rattle.twkb_grammar.specs.Roles.{Vertices, Rings, Points, Parts, Geometries, Id, X, Y, End}
+use Rattle.twkb_grammar.specs.Roles.{AreFields, HaveRoles, where_set, item}
+use Rattle.twkb_grammar.specs.Items.{Place, OfCount, OfId, OfPoint, id_places, fields, outline}
+use Rattle.twkb_grammar.specs.Items.{run_of, rings_of, declared, end_item, header_byte, Flags}
+use Rattle.twkb_grammar.specs.Items.{flags, flags_all, BodyAt, Framed, Follow, Items, ItemsOfAll}
+use Rattle.twkb_grammar.specs.Items.{kind_of, id_fields}
 use Rattle.twkb_grammar.specs.Fault.{IsDeep, position, position_from}
 use Rattle.twkb_grammar.specs.Machine.{Sums, nothing, added}
 use Rattle.twkb_grammar.specs.Reading.{Here, Kept}
@@ -21,11 +29,13 @@ use Rattle.twkb_grammar.proofs.Trees.{names_steps}
 use Rattle.twkb_grammar.proofs.Refusing.{AllowedElse}
 
 -- joined items keep depth and range if both lists do
-pub Kept-append : (most : ℕ) (is js : List Item) (e : Sums) → Kept most e is → Kept most (sums_after e is) js → Kept most e (is ++ js)
+pub Kept-append : (most : ℕ) (is js : List Item) (e : Sums) → Kept most e is
+    → Kept most (sums_after e is) js → Kept most e (is ++ js)
 Kept-append most [] js e a b = b
 Kept-append most (i ∷ is) js e a b = (a.0, Kept-append most is js (added e i) a.1 b)
 
-kept_at : (most : ℕ) (before : List Item) (i : Item) (more : List Item) (e : Sums) → Kept most e (before ++ i ∷ more) → Here most (sums_after e before).position i.role i.number
+kept_at : (most : ℕ) (before : List Item) (i : Item) (more : List Item) (e : Sums)
+    → Kept most e (before ++ i ∷ more) → Here most (sums_after e before).position i.role i.number
 kept_at most [] i more e k = k.0
 kept_at most (j ∷ before) i more e k = kept_at most before i more (added e j) k.1
 
@@ -46,8 +56,10 @@ roles_kept : (most : ℕ) (rs : List Role) (is : List Item) (e : Sums) → HaveR
 roles_kept most [] [] e have easy = tt
 roles_kept most [] (i ∷ is) e have easy = absurd have
 roles_kept most (r ∷ rs) [] e have easy = absurd have
-roles_kept most (r ∷ rs) (i ∷ is) e have easy =
-    (subst (λ s. Here most e.position s i.number) (sym have.0) (easy.0 e.position i.number), roles_kept most rs is (added e i) have.2 easy.1)
+roles_kept most (r ∷ rs) (i ∷ is) e have easy = (
+  subst (λ s. Here most e.position s i.number) (sym have.0) (easy.0 e.position i.number),
+  roles_kept most rs is (added e i) have.2 easy.1,
+)
 
 -- the counts and points of a body's places are allowed there
 abbrev PlacesFit : ℕ → List Place → Type 0
@@ -56,23 +68,34 @@ PlacesFit most (OfCount k n ∷ ps) = (IsDeep k most → n ≡ 0) × PlacesFit m
 PlacesFit most (OfId id ∷ ps) = PlacesFit most ps
 PlacesFit most (OfPoint q ∷ ps) = IsInRange q × PlacesFit most ps
 
-body_kept : (most : ℕ) (p : Point) (ps : List Place) (is : List Item) (e : Sums) → AreFields (steps p ps) is → e.position ≡ p → PlacesFit most ps → Kept most e is
+body_kept : (most : ℕ) (p : Point) (ps : List Place) (is : List Item) (e : Sums)
+    → AreFields (steps p ps) is → e.position ≡ p → PlacesFit most ps → Kept most e is
 body_kept most p [] [] e are here fit = tt
 body_kept most p [] (i ∷ is) e are here fit = absurd are
 body_kept most p (OfCount k n ∷ ps) [] e are here fit = absurd are
-body_kept most p (OfCount k n ∷ ps) (i ∷ is) e are here fit =
-    (subst (λ r. Here most e.position r i.number) (sym are.0) (λ h. are.1 ∙ fit.0 h), body_kept most p ps is (added e i) are.3 (moved_count e.position k i.role i.number are.0 ∙ here) fit.1)
+body_kept most p (OfCount k n ∷ ps) (i ∷ is) e are here fit = (
+  subst (λ r. Here most e.position r i.number) (sym are.0) (λ h. are.1 ∙ fit.0 h),
+  body_kept most p ps is (added e i) are.3 (moved_count e.position k i.role i.number are.0
+      ∙ here) fit.1,
+)
 body_kept most p (OfId id ∷ ps) [] e are here fit = absurd are
-body_kept most p (OfId id ∷ ps) (i ∷ is) e are here fit =
-    (subst (λ r. Here most e.position r i.number) (sym are.0) tt, body_kept most p ps is (added e i) are.3 (moved_id e.position i.role i.number are.0 ∙ here) fit)
+body_kept most p (OfId id ∷ ps) (i ∷ is) e are here fit = (
+  subst (λ r. Here most e.position r i.number) (sym are.0) tt,
+  body_kept most p ps is (added e i)
+      are.3 (moved_id e.position i.role i.number are.0 ∙ here) fit,
+)
 body_kept most p (OfPoint q ∷ ps) [] e are here fit = absurd are
 body_kept most p (OfPoint q ∷ ps) (i ∷ []) e are here fit = absurd are.3
 body_kept most p (OfPoint q ∷ ps) (i ∷ j ∷ is) e are here fit =
     let x = moved_x e.position p q i.role i.number here are.0 are.1 in
     let y = moved_y (added e i).position p q j.role j.number x are.3.0 are.3.1 in (
-      subst (λ r. Here most e.position r i.number) (sym are.0) (subst (λ z. IsCoordinate z) (sym (ap (λ (r : Point). r.x +ℤ unzigzag_of i.number) here ∙ (ap (λ n. p.x +ℤ unzigzag_of n) are.1 ∙ forth p.x q.x))) fit.0.0),
+      subst (λ r. Here most e.position r i.number) (sym are.0)
+          (subst (λ z. IsCoordinate z) (sym (ap (λ (r : Point). r.x +ℤ unzigzag_of i.number) here
+          ∙ (ap (λ n. p.x +ℤ unzigzag_of n) are.1 ∙ forth p.x q.x))) fit.0.0),
       (
-        subst (λ r. Here most (added e i).position r j.number) (sym are.3.0) (subst (λ z. IsCoordinate z) (sym (ap (λ (r : Point). r.y +ℤ unzigzag_of j.number) x ∙ (ap (λ n. p.y +ℤ unzigzag_of n) are.3.1 ∙ forth p.y q.y))) fit.0.1),
+        subst (λ r. Here most (added e i).position r j.number) (sym are.3.0)
+            (subst (λ z. IsCoordinate z) (sym (ap (λ (r : Point). r.y +ℤ unzigzag_of j.number) x
+            ∙ (ap (λ n. p.y +ℤ unzigzag_of n) are.3.1 ∙ forth p.y q.y))) fit.0.1),
         body_kept most q ps is (added (added e i) j) are.3.3 y fit.1,
       ),
     )
@@ -104,11 +127,15 @@ plain_points (p ∷ ps) qs h = plain_points ps qs h
 
 plain_runs : (ls : List (List Point)) (qs : List Place) → Plain qs → Plain (flat_map run_of ls ++ qs)
 plain_runs [] qs h = h
-plain_runs (ps ∷ ls) qs h = subst (λ l. Plain l) (sym (append_assoc (run_of ps) (flat_map run_of ls) qs)) (plain_points ps (flat_map run_of ls ++ qs) (plain_runs ls qs h))
+plain_runs (ps ∷ ls) qs h = subst (λ l. Plain l)
+    (sym (append_assoc (run_of ps) (flat_map run_of ls) qs))
+    (plain_points ps (flat_map run_of ls ++ qs) (plain_runs ls qs h))
 
 plain_areas : (areas : List (List (List Point))) (qs : List Place) → Plain qs → Plain (flat_map rings_of areas ++ qs)
 plain_areas [] qs h = h
-plain_areas (ls ∷ areas) qs h = subst (λ l. Plain l) (sym (append_assoc (rings_of ls) (flat_map rings_of areas) qs)) (plain_runs ls (flat_map rings_of areas ++ qs) (plain_areas areas qs h))
+plain_areas (ls ∷ areas) qs h = subst (λ l. Plain l)
+    (sym (append_assoc (rings_of ls) (flat_map rings_of areas) qs))
+    (plain_runs ls (flat_map rings_of areas ++ qs) (plain_areas areas qs h))
 
 plain_ids : (ids : List ℤ) (qs : List Place) → Plain qs → Plain (map OfId ids ++ qs)
 plain_ids [] qs h = h
@@ -125,21 +152,32 @@ plain_shape (point None) = tt
 plain_shape (point (Some q)) = tt
 plain_shape (line ps) = subst (λ l. Plain l) (append-nil (map OfPoint ps)) (plain_points ps [] tt)
 plain_shape (polygon ls) = subst (λ l. Plain l) (append-nil (flat_map run_of ls)) (plain_runs ls [] tt)
-plain_shape (multi_point ids ps) = plain_names ids (map OfPoint ps) (subst (λ l. Plain l) (append-nil (map OfPoint ps)) (plain_points ps [] tt))
-plain_shape (multi_line ids ls) = plain_names ids (flat_map run_of ls) (subst (λ l. Plain l) (append-nil (flat_map run_of ls)) (plain_runs ls [] tt))
-plain_shape (multi_polygon ids areas) = plain_names ids (flat_map rings_of areas) (subst (λ l. Plain l) (append-nil (flat_map rings_of areas)) (plain_areas areas [] tt))
+plain_shape (multi_point ids ps) = plain_names ids (map OfPoint ps)
+    (subst (λ l. Plain l) (append-nil (map OfPoint ps)) (plain_points ps [] tt))
+plain_shape (multi_line ids ls) = plain_names ids (flat_map run_of ls)
+    (subst (λ l. Plain l) (append-nil (flat_map run_of ls)) (plain_runs ls [] tt))
+plain_shape (multi_polygon ids areas) = plain_names ids (flat_map rings_of areas)
+    (subst (λ l. Plain l) (append-nil (flat_map rings_of areas)) (plain_areas areas [] tt))
 
-framed_kept : (most kind : ℕ) (p : ℤ) (own : Flags) (Body : List Item → Type 0) (is : List Item) (e : Sums) → (f : Framed kind p own Body is)
+framed_kept : (most kind : ℕ) (p : ℤ) (own : Flags) (Body : List Item → Type 0) (is : List Item)
+    (e : Sums) → (f : Framed kind p own Body is)
     → ((e : Sums) → e.position ≡ origin → Kept most e f.body) → Kept most e is
 framed_kept most kind p own Body is e f body =
     subst (λ l. Kept most e l) (sym f.whole) (
       tt,
       (
         tt,
-        Kept-append most f.extended (f.size ++ ((f.box ++ f.body) ++ end_item (declared f.size) (f.box ++ f.body) ∷ [])) e1 (roles_kept most extends f.extended e1 f.optional.extended_is (easy_where most (bit f.meta 3) (Extended ∷ []) ((λ p n. tt), tt)))
-            (Kept-append most f.size ((f.box ++ f.body) ++ end_item (declared f.size) (f.box ++ f.body) ∷ []) e2 (roles_kept most sizes f.size e2 f.optional.size_is (easy_where most (bit f.meta 1) (Size ∷ []) ((λ p n. tt), tt)))
+        Kept-append most f.extended
+            (f.size ++ ((f.box ++ f.body) ++ end_item (declared f.size) (f.box ++ f.body) ∷ [])) e1
+            (roles_kept most extends f.extended e1 f.optional.extended_is
+            (easy_where most (bit f.meta 3) (Extended ∷ []) ((λ p n. tt), tt)))
+            (Kept-append most f.size ((f.box ++ f.body) ++ end_item (declared f.size)
+            (f.box ++ f.body) ∷ []) e2 (roles_kept most sizes f.size e2 f.optional.size_is
+            (easy_where most (bit f.meta 1) (Size ∷ []) ((λ p n. tt), tt)))
             (Kept-append most (f.box ++ f.body) (end_item (declared f.size) (f.box ++ f.body) ∷ []) e3
-            (Kept-append most f.box f.body e3 (roles_kept most boxes f.box e3 f.optional.box_is (easy_where most (bit f.meta 0) (Box ∷ Box ∷ Box ∷ Box ∷ []) ((λ p n. tt), ((λ p n. tt), ((λ p n. tt), ((λ p n. tt), tt))))))
+            (Kept-append most f.box f.body e3 (roles_kept most boxes f.box e3 f.optional.box_is
+            (easy_where most (bit f.meta 0) (Box ∷ Box ∷ Box ∷ Box ∷ [])
+            ((λ p n. tt), ((λ p n. tt), ((λ p n. tt), ((λ p n. tt), tt))))))
             (body (sums_after e3 f.box) there)) (tt, tt))),
       ),
     )
@@ -163,34 +201,52 @@ framed_kept most kind p own Body is e f body =
     boxes = where_set (bit f.meta 0) (Box ∷ Box ∷ Box ∷ Box ∷ [])
 
     there : (sums_after e3 f.box).position ≡ origin
-    there = still_after boxes f.box e3 f.optional.box_is (still_where (bit f.meta 0) (Box ∷ Box ∷ Box ∷ Box ∷ []) ((λ p n. refl), ((λ p n. refl), ((λ p n. refl), ((λ p n. refl), tt)))))
-        ∙ (still_after sizes f.size e2 f.optional.size_is (still_where (bit f.meta 1) (Size ∷ []) ((λ p n. refl), tt)) ∙ still_after extends f.extended e1 f.optional.extended_is (still_where (bit f.meta 3) (Extended ∷ []) ((λ p n. refl), tt)))
+    there = still_after boxes f.box e3 f.optional.box_is
+        (still_where (bit f.meta 0) (Box ∷ Box ∷ Box ∷ Box ∷ [])
+        ((λ p n. refl), ((λ p n. refl), ((λ p n. refl), ((λ p n. refl), tt)))))
+        ∙ (still_after sizes f.size e2 f.optional.size_is
+        (still_where (bit f.meta 1) (Size ∷ []) ((λ p n. refl), tt))
+        ∙ still_after extends f.extended e1 f.optional.extended_is
+        (still_where (bit f.meta 3) (Extended ∷ []) ((λ p n. refl), tt)))
 
-simple_kept : (most : ℕ) (s : Simple) (body : List Item) → AllByRecursion IsInRange (points_in s) → (b : Bool) → BodyAt b (AreFields (fields s)) body → (e : Sums) → e.position ≡ origin → Kept most e body
+simple_kept : (most : ℕ) (s : Simple) (body : List Item) → AllByRecursion IsInRange (points_in s)
+    → (b : Bool) → BodyAt b (AreFields (fields s)) body → (e : Sums) → e.position ≡ origin
+    → Kept most e body
 simple_kept most s body all true is e here = subst (λ l. Kept most e l) (sym is) tt
 simple_kept most s body all false is e here =
-    body_kept most origin (outline s) body e (subst (λ fs. AreFields fs body) (fields_are s) is) here (plain_fit most (outline s) (plain_shape s) (subst (λ l. AllByRecursion IsInRange l) (sym (points_are s)) all))
+    body_kept most origin (outline s) body e (subst (λ fs. AreFields fs body) (fields_are s) is)
+    here (plain_fit most (outline s) (plain_shape s)
+    (subst (λ l. AllByRecursion IsInRange l) (sym (points_are s)) all))
 
 -- the points of the first list are in range if all are
-pub all_front : (xs ys : List Point) → AllByRecursion IsInRange (xs ++ ys) → AllByRecursion IsInRange xs × AllByRecursion IsInRange ys
+pub all_front : (xs ys : List Point) → AllByRecursion IsInRange (xs ++ ys)
+    → AllByRecursion IsInRange xs × AllByRecursion IsInRange ys
 all_front [] ys h = (tt, h)
 all_front (x ∷ xs) ys h = let t = all_front xs ys h.1 in ((h.0, t.0), t.1)
 
 abbrev MembersKept : ℕ → ℕ → Trees → Type 0
-MembersKept most level gs = (is : List Item) (e : Sums) → nest_all gs + level ≤ suc most → AllByRecursion IsInRange (flat_all gs) → ItemsOfAll level gs is → Kept most e is
+MembersKept most level gs = (is : List Item) (e : Sums) → nest_all gs + level ≤ suc most
+    → AllByRecursion IsInRange (flat_all gs) → ItemsOfAll level gs is → Kept most e is
 
 deep_count : (most level : ℕ) (gs : Trees) → nest_all gs + level ≤ most → IsDeep (Geometries level) most → count gs ≡ 0
 deep_count most level end h deep = refl
 deep_count most level (g ▷ gs) h deep = let d : most ≤ level = deep in absurd (omega (arith, h, d))
 
-gathered_kept : (most level : ℕ) (ids : Ids) (gs : Trees) (body : List Item) → nest_all gs + level ≤ most → AllByRecursion IsInRange (flat_all gs) → MembersKept most (suc level) gs → (b : Bool)
-    → BodyAt b (Follow (AreFields ((Count (Geometries level), count gs) ∷ id_fields ids)) (ItemsOfAll (suc level) gs)) body → (e : Sums) → e.position ≡ origin → Kept most e body
+gathered_kept : (most level : ℕ) (ids : Ids) (gs : Trees) (body : List Item)
+    → nest_all gs + level ≤ most → AllByRecursion IsInRange (flat_all gs)
+    → MembersKept most (suc level) gs → (b : Bool)
+    → BodyAt b (Follow (AreFields ((Count (Geometries level), count gs) ∷ id_fields ids))
+    (ItemsOfAll (suc level) gs)) body → (e : Sums) → e.position ≡ origin → Kept most e body
 gathered_kept most level ids gs body deep all each true is e here = subst (λ l. Kept most e l) (sym is) tt
 gathered_kept most level ids gs body deep all each false is e here =
     let head : List Place = OfCount (Geometries level) (count gs) ∷ id_places ids ++ [] in
-    let are : AreFields (steps origin head) is.front = subst (λ l. AreFields ((Count (Geometries level), count gs) ∷ l) is.front) (names_steps ids) is.first in
+    let are : AreFields (steps origin head) is.front =
+    subst (λ l. AreFields ((Count (Geometries level), count gs) ∷ l) is.front) (names_steps ids)
+    is.first in
     subst (λ l. Kept most e l) (sym is.whole)
-    (Kept-append most is.front is.rest e (body_kept most origin head is.front e are here ((λ h. deep_count most level gs deep h), names_fit most ids)) (each is.rest (sums_after e is.front) (omega (arith, deep)) all is.second))
+    (Kept-append most is.front is.rest e (body_kept most origin head is.front e are here
+    ((λ h. deep_count most level gs deep h), names_fit most ids))
+    (each is.rest (sums_after e is.front) (omega (arith, deep)) all is.second))
   where
     ids_fit : (most : ℕ) (xs : List ℤ) → PlacesFit most (map OfId xs ++ [])
     ids_fit most [] = tt
@@ -202,23 +258,35 @@ gathered_kept most level ids gs body deep all each false is e here =
 
 mutual
   -- the items of a geometry keep depth and range
-  pub tree_kept : (g : Tree) (most level : ℕ) (is : List Item) (e : Sums) → nest g + level ≤ most → AllByRecursion IsInRange (flat g) → Items level g is → Kept most e is
+  pub tree_kept : (g : Tree) (most level : ℕ) (is : List Item) (e : Sums) → nest g + level ≤ most
+      → AllByRecursion IsInRange (flat g) → Items level g is → Kept most e is
   tree_kept (simple p s) most level is e deep all items =
-      framed_kept most (kind_of s) p (flags s) (AreFields (fields s)) is e items (simple_kept most s items.body all (bit items.meta 4) items.body_is)
+      framed_kept most (kind_of s) p (flags s) (AreFields (fields s)) is e items
+      (simple_kept most s items.body all (bit items.meta 4) items.body_is)
   tree_kept (collection p ids gs) most level is e deep all items =
-      framed_kept most 7 p (flags_all ids gs) (Follow (AreFields ((Count (Geometries level), count gs) ∷ id_fields ids)) (ItemsOfAll (suc level) gs)) is e items
-      (gathered_kept most level ids gs items.body deep all (members_kept gs most (suc level)) (bit items.meta 4) items.body_is)
+      framed_kept most 7 p (flags_all ids gs) (Follow
+      (AreFields ((Count (Geometries level), count gs) ∷ id_fields ids))
+      (ItemsOfAll (suc level) gs)) is e items
+      (gathered_kept most level ids gs items.body deep all (members_kept gs most (suc level))
+      (bit items.meta 4) items.body_is)
 
   members_kept : (gs : Trees) (most level : ℕ) → MembersKept most level gs
   members_kept end most level = λ is e deep all items. subst (λ l. Kept most e l) (sym items) tt
   members_kept (g ▷ gs) most level = λ is e deep all items.
       let two = all_front (flat g) (flat_all gs) all in
       subst (λ l. Kept most e l) (sym items.whole)
-      (Kept-append most items.front items.rest e (tree_kept g most level items.front e (omega (arith, deep)) two.0 items.first) (members_kept gs most level items.rest (sums_after e items.front) (omega (arith, deep)) two.1 items.second))
+      (Kept-append most items.front items.rest e (tree_kept g most level items.front e
+      (omega (arith, deep)) two.0 items.first) (members_kept gs most level items.rest
+      (sums_after e items.front) (omega (arith, deep)) two.1 items.second))
 
 -- an item of a valid geometry keeps depth and range
-pub allowed_else : (limits : Allowance) (before : List Item) (i : Item) (more : List Item) (g : Tree) → IsValid limits g → Items 0 g (before ++ i ∷ more) → AllowedElse limits before i.role i.number
-allowed_else limits before i more g valid items = go i.role (subst (λ p. Here limits.nest p i.role i.number) (position_is before nothing) (kept_at limits.nest before i more nothing (tree_kept g limits.nest 0 (before ++ i ∷ more) nothing (omega (arith, valid.nest_kept)) valid.in_range items)))
+pub allowed_else : (limits : Allowance) (before : List Item) (i : Item) (more : List Item)
+    (g : Tree) → IsValid limits g → Items 0 g (before ++ i ∷ more)
+    → AllowedElse limits before i.role i.number
+allowed_else limits before i more g valid items = go i.role
+    (subst (λ p. Here limits.nest p i.role i.number) (position_is before nothing)
+    (kept_at limits.nest before i more nothing (tree_kept g limits.nest 0 (before ++ i ∷ more)
+    nothing (omega (arith, valid.nest_kept)) valid.in_range items)))
   where
     go : (r : Role) → Here limits.nest (position before) r i.number → AllowedElse limits before r i.number
     go Header h = tt

@@ -1,21 +1,32 @@
 -- Items that the machine ran through while it expected the body of a form are the body of a shape
 -- of that form.
-use Rattle.std.proofs.Common.{Bool, true, false, ◌≡◌, ℕ, zero, suc, ◌<◌, ◌^◌, List, [], ◌∷◌, ◌++◌, map, length, refl, ap, sym, ◌∙◌, subst, append_assoc, Some, None, arith}
+use Rattle.std.proofs.Common.{Bool, true, false, ◌≡◌, ℕ, zero, suc, ◌<◌, ◌^◌, List, [], ◌∷◌, ◌++◌}
+use Rattle.std.proofs.Common.{map, length, refl, ap, sym, ◌∙◌, subst, append_assoc, Some, None}
+use Rattle.std.proofs.Common.{arith}
 use Rattle.std.specs.Prelude.{ℤ, flat_map}
 use Rattle.std.specs.List.{AllByRecursion}
 use Rattle.twkb_num.specs.Zigzag.{unzigzag_of}
 use Rattle.twkb_num.specs.Varint.{IsVarint}
 use Rattle.twkb_points.specs.Point.{Point}
-use Rattle.twkb_tree.specs.Tree.{Tree, Ids, IsId, HasIds, Simple, point, line, polygon, multi_point, multi_line, multi_polygon, simple, IdsFit}
+use Rattle.twkb_tree.specs.Tree.{Tree, Ids, IsId, HasIds, Simple, point, line, polygon, multi_point}
+use Rattle.twkb_tree.specs.Tree.{multi_line, multi_polygon, simple, IdsFit}
 use Rattle.twkb_grammar.proofs.Small.{id_small}
 use Rattle.twkb_grammar.specs.Bits.{bit}
 use Rattle.twkb_grammar.specs.Roles.{Item, Count, Id, AreFields, IsItem, Spells, Counted}
 use Rattle.twkb_grammar.specs.Items.{Place, OfCount, OfId, id_places, outline, members, parts, flags, Agrees}
-use Rattle.twkb_grammar.specs.Machine.{Nested, Around, top, Want, closed, opened, Form, PointForm, LineForm, PolygonForm, MultiPointForm, MultiLineForm, MultiPolygonForm, depth_of, Head, Frame, Finished, AtCount, AtId, AtEnd, AtBody, Many, ManyPoints, ManyLines, ManyPolygons, first_count, counted, members_begin, begun, SimpleKind, settled, Sums, added, Stack, Runs}
+use Rattle.twkb_grammar.specs.Machine.{Nested, Around, top, Want, closed, opened, Form, PointForm}
+use Rattle.twkb_grammar.specs.Machine.{LineForm, PolygonForm, MultiPointForm, MultiLineForm}
+use Rattle.twkb_grammar.specs.Machine.{MultiPolygonForm, depth_of, Head, Frame, Finished, AtCount}
+use Rattle.twkb_grammar.specs.Machine.{AtId, AtEnd, AtBody, Many, ManyPoints, ManyLines}
+use Rattle.twkb_grammar.specs.Machine.{ManyPolygons, first_count, counted, members_begin, begun}
+use Rattle.twkb_grammar.specs.Machine.{SimpleKind, settled, Sums, added, Stack, Runs}
 use Rattle.twkb_grammar.proofs.Places.{steps, reached}
-use Rattle.twkb_grammar.proofs.Bodies.{outline_of, moved_count, moved_id, SaysIds, form_of, points_outline, run_outline, runs_outline, rings_outline, areas_outline}
+use Rattle.twkb_grammar.proofs.Bodies.{outline_of, moved_count, moved_id, SaysIds, form_of}
+use Rattle.twkb_grammar.proofs.Bodies.{points_outline, run_outline, runs_outline, rings_outline}
+use Rattle.twkb_grammar.proofs.Bodies.{areas_outline}
 use Rattle.twkb_grammar.proofs.Headers.{sums_after}
-use Rattle.twkb_grammar.proofs.BodiesBack.{AreFields-append, steps-append, sums_after-append, some_role, Value, value_back, opened_back}
+use Rattle.twkb_grammar.proofs.BodiesBack.{AreFields-append, steps-append, sums_after-append}
+use Rattle.twkb_grammar.proofs.BodiesBack.{some_role, Value, value_back, opened_back}
 use Rattle.twkb_num.proofs.ZigzagLemmas.{zigzag_of-unzigzag_of}
 
 module _ (m : Many) (h : Head) (fs : List Frame) (tree : Tree) where
@@ -31,7 +42,8 @@ module _ (m : Many) (h : Head) (fs : List Frame) (tree : Tree) where
     here : (sums_after e front).position ≡ e.position
     runs : Runs (sums_after e front) (members_begin m h fs (Some (done ++ ids)) n) rest ([], Finished tree)
 
-  ids_back : (n left : ℕ) (done : List ℤ) (e : Sums) (is : List Item) → Runs e (fs, AtId m h n done left) is ([], Finished tree) → Idents n left done e is
+  ids_back : (n left : ℕ) (done : List ℤ) (e : Sums) (is : List Item)
+      → Runs e (fs, AtId m h n done left) is ([], Finished tree) → Idents n left done e is
   ids_back n left done e [] r = let c : AtId m h n done left ≡ Finished tree = ap (λ (t : Stack). t.1) r in absurd cc
   ids_back n zero done e (i ∷ is) r =
       let role = some_role Id i.role r.0 in
@@ -62,9 +74,16 @@ module _ (m : Many) (h : Head) (fs : List Frame) (tree : Tree) where
         front = i ∷ more.front;
         rest = more.rest;
         whole = ap (λ l. i ∷ l) more.whole;
-        are = (role, sym (zigzag_of-unzigzag_of i.number), r.1, subst (λ p. AreFields (steps p (map OfId more.ids)) more.front) same more.are);
+        are = (
+          role,
+          sym (zigzag_of-unzigzag_of i.number),
+          r.1,
+          subst (λ p. AreFields (steps p (map OfId more.ids)) more.front) same more.are,
+        );
         here = more.here ∙ same;
-        runs = subst (λ xs. Runs (sums_after (added e i) more.front) (members_begin m h fs (Some xs) n) more.rest ([], Finished tree)) (append_assoc done (x ∷ []) more.ids) more.runs;
+        runs = subst (λ xs. Runs (sums_after (added e i) more.front)
+            (members_begin m h fs (Some xs) n) more.rest ([], Finished tree))
+            (append_assoc done (x ∷ []) more.ids) more.runs;
       }
 
   -- the items begin with the first count and its ids
@@ -81,9 +100,22 @@ module _ (m : Many) (h : Head) (fs : List Frame) (tree : Tree) where
     pub runs : Runs (sums_after e front) (members_begin m h fs ids count) rest ([], Finished tree)
 
   counted_back : (i : Item) (e : Sums) (is : List Item) → i.role ≡ Count (first_count m (length fs)) → IsItem i
-      → (n : ℕ) → i.number ≡ n → (b : Bool) → bit h.meta 2 ≡ b → Runs (added e i) (counted m h fs n) is ([], Finished tree) → First e (i ∷ is)
+      → (n : ℕ) → i.number ≡ n → (b : Bool) → bit h.meta 2 ≡ b
+      → Runs (added e i) (counted m h fs n) is ([], Finished tree) → First e (i ∷ is)
   counted_back i e is role item zero num b has r =
-      record { count = 0; ids = None; says = refl; fit = tt; front = i ∷ []; rest = is; whole = refl; are = (role, num, item, tt); here = moved_count e.position (first_count m (length fs)) i.role i.number role; runs = r }
+      record {
+        count = 0;
+        ids = None;
+        says = refl;
+        fit = tt;
+        front = i ∷ [];
+        rest = is;
+        whole = refl;
+        are = (role, num, item, tt);
+        here = moved_count e.position
+            (first_count m (length fs)) i.role i.number role;
+        runs = r;
+      }
   counted_back i e is role item (suc n) num false has r =
       record {
         count = suc n;
@@ -117,7 +149,9 @@ module _ (m : Many) (h : Head) (fs : List Frame) (tree : Tree) where
   -- items that begin with a count and ids
   pub first_back : (e : Sums) (is : List Item) → Runs e (fs, AtCount m h) is ([], Finished tree) → First e is
   first_back e [] r = let c : AtCount m h ≡ Finished tree = ap (λ (t : Stack). t.1) r in absurd cc
-  first_back e (i ∷ is) r = counted_back i e is (some_role (Count (first_count m (length fs))) i.role r.0) r.1 i.number refl (bit h.meta 2) refl r.2
+  first_back e (i ∷ is) r = counted_back i e is
+      (some_role (Count (first_count m (length fs))) i.role r.0) r.1 i.number refl
+      (bit h.meta 2) refl r.2
 
 -- the items begin with the body of a shape of this form
 pub record Shaped (h : Head) (f : Form) (fs : List Frame) (tree : Tree) (e : Sums) (is : List Item) : Type 0 where
@@ -132,7 +166,8 @@ pub record Shaped (h : Head) (f : Form) (fs : List Frame) (tree : Tree) (e : Sum
   pub runs : Runs (sums_after e front) (fs, AtEnd h (simple h.precision shape)) rest ([], Finished tree)
 
 -- the items begin with the members of a multi type
-record Parted (m : Many) (h : Head) (f : Form) (d : ℕ) (a : Around (depth_of f) (suc d)) (fs : List Frame) (tree : Tree) (e : Sums) (is : List Item) : Type 0 where
+record Parted (m : Many) (h : Head) (f : Form) (d : ℕ) (a : Around (depth_of f) (suc d))
+    (fs : List Frame) (tree : Tree) (e : Sums) (is : List Item) : Type 0 where
   ids : Ids
   values : List (Nested d)
   fit : HasIds ids (length values)
@@ -140,10 +175,12 @@ record Parted (m : Many) (h : Head) (f : Form) (d : ℕ) (a : Around (depth_of f
   front : List Item
   rest : List Item
   whole : is ≡ front ++ rest
-  are : AreFields (steps e.position (OfCount (first_count m (length fs)) (length values) ∷ id_places ids ++ flat_map (outline_of d) values)) front
+  are : AreFields (steps e.position (OfCount (first_count m (length fs)) (length values)
+      ∷ id_places ids ++ flat_map (outline_of d) values)) front
   runs : Runs (sums_after e front) (fs, settled h f ids (closed a values)) rest ([], Finished tree)
 
-agrees_of : {A : Type 0} (h : Head) (ids : Ids) (xs : List A) → SaysIds h ids (length xs) → bit h.meta 4 ≡ false → Agrees (members ids xs) h.meta
+agrees_of : {A : Type 0} (h : Head) (ids : Ids) (xs : List A) → SaysIds h ids (length xs)
+    → bit h.meta 4 ≡ false → Agrees (members ids xs) h.meta
 agrees_of h ids [] says full = tt
 agrees_of h None (x ∷ xs) says full = (full, says)
 agrees_of h (Some ids) (x ∷ xs) says full = (full, says.0)
@@ -152,7 +189,8 @@ parts_agree : {A : Type 0} (xs : List A) (meta : ℕ) → bit meta 4 ≡ false �
 parts_agree [] meta full = tt
 parts_agree (x ∷ xs) meta full = full
 
-parts_back : (m : Many) (h : Head) (f : Form) (d : ℕ) (a : Around (depth_of f) (suc d)) (fs : List Frame) (tree : Tree) (e : Sums) (is : List Item)
+parts_back : (m : Many) (h : Head) (f : Form) (d : ℕ) (a : Around (depth_of f) (suc d))
+    (fs : List Frame) (tree : Tree) (e : Sums) (is : List Item)
     → ((ids : Ids) (n : ℕ) → members_begin m h fs ids n ≡ (fs, settled h f ids (opened d n a))) → bit h.meta 4 ≡ false
     → Runs e (fs, AtCount m h) is ([], Finished tree) → Parted m h f d a fs tree e is
 parts_back m h f d a fs tree e is begins full r =
@@ -168,11 +206,17 @@ parts_back m h f d a fs tree e is begins full r =
       front = c.front ++ vs.front;
       rest = vs.rest;
       whole = c.whole ∙ (ap (λ l. c.front ++ l) vs.whole ∙ sym (append_assoc c.front vs.front vs.rest));
-      are = subst (λ n. AreFields (steps e.position (OfCount (first_count m (length fs)) n ∷ id_places c.ids ++ flat_map (outline_of d) vs.values)) (c.front ++ vs.front)) (sym vs.many)
-          (subst (λ l. AreFields l (c.front ++ vs.front)) (sym (steps-append e.position head (flat_map (outline_of d) vs.values)))
-          (AreFields-append (steps e.position head) c.front (steps (reached e.position head) (flat_map (outline_of d) vs.values)) vs.front c.are
-          (subst (λ p. AreFields (steps p (flat_map (outline_of d) vs.values)) vs.front) (c.here ∙ sym (reached_names e.position c.ids)) vs.are)));
-      runs = subst (λ s. Runs s (fs, settled h f c.ids (closed a vs.values)) vs.rest ([], Finished tree)) (sym (sums_after-append c.front vs.front e)) vs.runs;
+      are = subst (λ n. AreFields (steps e.position
+          (OfCount (first_count m (length fs)) n ∷ id_places c.ids ++ flat_map (outline_of d)
+          vs.values)) (c.front ++ vs.front)) (sym vs.many)
+          (subst (λ l. AreFields l (c.front ++ vs.front))
+          (sym (steps-append e.position head (flat_map (outline_of d) vs.values)))
+          (AreFields-append (steps e.position head) c.front
+          (steps (reached e.position head) (flat_map (outline_of d) vs.values)) vs.front c.are
+          (subst (λ p. AreFields (steps p (flat_map (outline_of d) vs.values)) vs.front)
+          (c.here ∙ sym (reached_names e.position c.ids)) vs.are)));
+      runs = subst (λ s. Runs s (fs, settled h f c.ids (closed a vs.values)) vs.rest
+          ([], Finished tree)) (sym (sums_after-append c.front vs.front e)) vs.runs;
     }
   where
     reached_ids : (p : Point) (xs : List ℤ) → reached p (map OfId xs) ≡ p
@@ -183,16 +227,28 @@ parts_back m h f d a fs tree e is begins full r =
     reached_names p None = refl
     reached_names p (Some xs) = reached_ids p xs
 
-flat_back : (h : Head) (f : Form) (fs : List Frame) (tree : Tree) (e : Sums) (is : List Item) → Runs e (fs, AtBody h f None (Want (depth_of f) top)) is ([], Finished tree)
+flat_back : (h : Head) (f : Form) (fs : List Frame) (tree : Tree) (e : Sums) (is : List Item)
+    → Runs e (fs, AtBody h f None (Want (depth_of f) top)) is ([], Finished tree)
     → Value h f None fs tree (depth_of f) top e is
 flat_back h f fs tree e is r = value_back h f None fs tree (depth_of f) top e is r
 
 -- items that begin with a body
-pub shape_back : (f : Form) (h : Head) (fs : List Frame) (tree : Tree) (e : Sums) (is : List Item) → bit h.meta 4 ≡ false
+pub shape_back : (f : Form) (h : Head) (fs : List Frame) (tree : Tree) (e : Sums) (is : List Item)
+    → bit h.meta 4 ≡ false
     → Runs e (fs, begun (SimpleKind f) h) is ([], Finished tree) → Shaped h f fs tree e is
 shape_back PointForm h fs tree e is full r =
     let v = flat_back h PointForm fs tree e is r in
-    record { shape = point (Some v.value); form = refl; fit = tt; agrees = full; front = v.front; rest = v.rest; whole = v.whole; are = v.are; runs = v.runs }
+    record {
+      shape = point (Some v.value);
+      form = refl;
+      fit = tt;
+      agrees = full;
+      front = v.front;
+      rest = v.rest;
+      whole = v.whole;
+      are = v.are;
+      runs = v.runs;
+    }
 shape_back LineForm h fs tree e is full r =
     let v = flat_back h LineForm fs tree e is r in
     record {
@@ -229,7 +285,9 @@ shape_back MultiPointForm h fs tree e is full r =
       front = v.front;
       rest = v.rest;
       whole = v.whole;
-      are = subst (λ ps. AreFields (steps e.position (OfCount Counted.Points (length v.values) ∷ id_places v.ids ++ ps)) v.front) (points_outline v.values) v.are;
+      are = subst (λ ps. AreFields (steps e.position
+          (OfCount Counted.Points (length v.values) ∷ id_places v.ids ++ ps)) v.front)
+          (points_outline v.values) v.are;
       runs = v.runs;
     }
 shape_back MultiLineForm h fs tree e is full r =
@@ -242,7 +300,9 @@ shape_back MultiLineForm h fs tree e is full r =
       front = v.front;
       rest = v.rest;
       whole = v.whole;
-      are = subst (λ ps. AreFields (steps e.position (OfCount Counted.Parts (length v.values) ∷ id_places v.ids ++ ps)) v.front) (runs_outline v.values) v.are;
+      are = subst (λ ps. AreFields (steps e.position
+          (OfCount Counted.Parts (length v.values) ∷ id_places v.ids ++ ps)) v.front)
+          (runs_outline v.values) v.are;
       runs = v.runs;
     }
 shape_back MultiPolygonForm h fs tree e is full r =
@@ -255,6 +315,8 @@ shape_back MultiPolygonForm h fs tree e is full r =
       front = v.front;
       rest = v.rest;
       whole = v.whole;
-      are = subst (λ ps. AreFields (steps e.position (OfCount Counted.Parts (length v.values) ∷ id_places v.ids ++ ps)) v.front) (areas_outline v.values) v.are;
+      are = subst (λ ps. AreFields (steps e.position
+          (OfCount Counted.Parts (length v.values) ∷ id_places v.ids ++ ps)) v.front)
+          (areas_outline v.values) v.are;
       runs = v.runs;
     }

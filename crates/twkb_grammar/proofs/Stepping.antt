@@ -1,6 +1,8 @@
 -- One step of the plain reader: it takes an item that is allowed there, or refuses it for the
 -- first reason.
-use Rattle.std.proofs.Common.{◌≡◌, ℕ, zero, suc, ◌+◌, ◌%◌, ◌<◌, ◌≤◌, ◌^◌, Bool, true, false, List, [], ◌∷◌, ◌++◌, length, refl, sym, ap, ◌∙◌, subst, arith, Option, Some, None, inl, inr, length-append}
+use Rattle.std.proofs.Common.{◌≡◌, ℕ, zero, suc, ◌+◌, ◌%◌, ◌<◌, ◌≤◌, ◌^◌, Bool, true, false, List}
+use Rattle.std.proofs.Common.{[], ◌∷◌, ◌++◌, length, refl, sym, ap, ◌∙◌, subst, arith, Option, Some}
+use Rattle.std.proofs.Common.{None, inl, inr, length-append}
 use Rattle.std.specs.Prelude.{ℤ, pos, negsuc, nat_lt, nat_le, nat_eq, not, ◌&&◌, ◌||◌, ◌⊎◌, ◌≢◌, ◌+ℤ◌, ⊤}
 use Rattle.std.proofs.lemmas.Bool.{ltb-true, ltb-false}
 use Rattle.std.proofs.lemmas.Grind.{common_steps}
@@ -9,9 +11,14 @@ use Rattle.twkb_num.specs.Zigzag.{unzigzag_of}
 use Rattle.twkb_num.specs.Varint.{IsVarint}
 use Rattle.twkb_points.specs.Point.{IsCoordinate}
 use Rattle.twkb_tree.specs.Limits.{Allowance}
-use Rattle.twkb_grammar.specs.Roles.{Counted, Vertices, Rings, Points, Parts, Geometries, Item, Role, Header, Metadata, Extended, Count, X, Y, End}
+use Rattle.twkb_grammar.specs.Roles.{Counted, Vertices, Rings, Points, Parts, Geometries, Item}
+use Rattle.twkb_grammar.specs.Roles.{Role, Header, Metadata, Extended, Count, X, Y, End}
 use Rattle.twkb_grammar.specs.Blob.{IsExact}
-use Rattle.twkb_grammar.specs.Fault.{Reason, BadType, ExtraDimensions, TooDeep, TooManyNodes, TooManyPoints, CoordinateRange, SizeMismatch, Refused, When, FirstByte, FirstNumber, IsCut, IsTooLong, IsDeep, NumberFirst, announces_point, announced_points, announced_nodes, nodes_of, points_of, position}
+use Rattle.twkb_grammar.specs.Fault.{Reason, BadType, ExtraDimensions, TooDeep, TooManyNodes}
+use Rattle.twkb_grammar.specs.Fault.{TooManyPoints, CoordinateRange, SizeMismatch, Refused, When}
+use Rattle.twkb_grammar.specs.Fault.{FirstByte, FirstNumber, IsCut, IsTooLong, IsDeep, NumberFirst}
+use Rattle.twkb_grammar.specs.Fault.{announces_point, announced_points, announced_nodes, nodes_of}
+use Rattle.twkb_grammar.specs.Fault.{points_of, position}
 use Rattle.twkb_grammar.specs.Machine.{Sums}
 use Rattle.twkb_grammar.specs.PlainReader.{in_range, too_deep, unless, objection}
 use Rattle.twkb_grammar.proofs.Dead.{Allowed, run_ends, not_long, number_not}
@@ -61,7 +68,9 @@ neither false b e = (refl, e)
 
 -- bytes that are too long are not cut
 pub long_not_cut : (rest : List ℕ) → IsTooLong rest → IsCut rest → ⊥
-long_not_cut rest l c = let n : length l.nine ≡ 9 = l.length in let e : length rest ≡ length (l.nine ++ l.tenth ∷ l.more) = ap length l.whole in omega (arith, n, e, c.0, length-append l.nine (l.tenth ∷ l.more))
+long_not_cut rest l c = let n : length l.nine ≡ 9 = l.length in
+    let e : length rest ≡ length (l.nine ++ l.tenth ∷ l.more) = ap length l.whole in
+    omega (arith, n, e, c.0, length-append l.nine (l.tenth ∷ l.more))
 
 -- sums agree with the items before
 pub record Agree (s : Sums) (before : List Item) : Type 0 where
@@ -81,7 +90,8 @@ module _ (limits : Allowance) (before : List Item) (rest : List ℕ) where
   Objects r n None = Allowed limits before r n × Sound r n × IsExact r
   Objects r n (Some reason) = Refused limits before rest r reason
 
-  unless_says : (b : Bool) (reason : Reason) (others : Option Reason) (P : Option Reason → Type 0) → (b ≡ true → P (Some reason)) → (b ≡ false → P others) → P (unless b reason others)
+  unless_says : (b : Bool) (reason : Reason) (others : Option Reason) (P : Option Reason → Type 0)
+      → (b ≡ true → P (Some reason)) → (b ≡ false → P others) → P (unless b reason others)
   unless_says true reason others P f g = f refl
   unless_says false reason others P f g = g refl
 
@@ -95,14 +105,27 @@ module _ (limits : Allowance) (before : List Item) (rest : List ℕ) where
   varint_then : (n : ℕ) (reason : Reason) {Others : Type 0} → Front n → Others → NumberFirst reason rest Others
   varint_then n reason f others =
       inr (
-        (λ (h : IsCut rest). run_ends f.front f.more f.spelled.marked (subst (λ l. Rattle.twkb_grammar.specs.Fault.GoOn l) f.whole h.1)),
+        (λ (h : IsCut rest). run_ends f.front f.more f.spelled.marked
+            (subst (λ l. Rattle.twkb_grammar.specs.Fault.GoOn l) f.whole h.1)),
         inr (not_long f.front f.more n rest f.spelled f.whole, others),
       )
 
-  number_here : (n : ℕ) (reason : Reason) (P : ℕ → Type 0) {Others : Type 0} → Front n → P n → When reason (FirstNumber P rest) reason Others
-  number_here n reason P f h = inl (record { number = n; bytes = f.front; more = f.more; whole = f.whole; spelled = f.spelled; holds = h }, refl)
+  number_here : (n : ℕ) (reason : Reason) (P : ℕ → Type 0) {Others : Type 0} → Front n → P n
+      → When reason (FirstNumber P rest) reason Others
+  number_here n reason P f h = inl (
+    record {
+      number = n;
+      bytes = f.front;
+      more = f.more;
+      whole = f.whole;
+      spelled = f.spelled;
+      holds = h;
+    },
+    refl,
+  )
 
-  number_then : (n : ℕ) (r reason : Reason) (P : ℕ → Type 0) {Others : Type 0} → Front n → (P n → ⊥) → Others → When r (FirstNumber P rest) reason Others
+  number_then : (n : ℕ) (r reason : Reason) (P : ℕ → Type 0) {Others : Type 0} → Front n → (P n → ⊥)
+      → Others → When r (FirstNumber P rest) reason Others
   number_then n r reason P f isnt others = inr (number_not f.front f.more n rest P f.spelled f.whole isnt, others)
 
   deep_true : (c : Counted) (n : ℕ) → too_deep limits c n ≡ true → IsDeep c limits.nest × (0 < n)
@@ -110,7 +133,8 @@ module _ (limits : Allowance) (before : List Item) (rest : List ℕ) where
   deep_true Rings n e = cc
   deep_true Points n e = cc
   deep_true Parts n e = cc
-  deep_true (Geometries level) n e = let h = both (nat_le limits.nest level) (nat_lt 0 n) e in (le_true limits.nest level h.0, ltb-true 0 n h.1)
+  deep_true (Geometries level) n e = let h = both (nat_le limits.nest level) (nat_lt 0 n) e in
+      (le_true limits.nest level h.0, ltb-true 0 n h.1)
 
   deep_false : (c : Counted) (n : ℕ) → too_deep limits c n ≡ false → IsDeep c limits.nest → n ≡ 0
   deep_false Vertices n e d = absurd d
@@ -120,7 +144,8 @@ module _ (limits : Allowance) (before : List Item) (rest : List ℕ) where
   deep_false (Geometries level) n e d = go (nat_le limits.nest level) refl
     where
       go : (b : Bool) → nat_le limits.nest level ≡ b → n ≡ 0
-      go true h = let z : nat_lt 0 n ≡ false = sym (ap (λ b. b && nat_lt 0 n) h) ∙ e in let k : n ≤ 0 = ltb-false 0 n z in omega (arith, k)
+      go true h = let z : nat_lt 0 n ≡ false = sym (ap (λ b. b && nat_lt 0 n) h) ∙ e in
+          let k : n ≤ 0 = ltb-false 0 n z in omega (arith, k)
       go false h = absurd (omega (arith, le_false limits.nest level h, d))
 
   module _ (s : Sums) (agree : Agree s before) where
@@ -129,47 +154,95 @@ module _ (limits : Allowance) (before : List Item) (rest : List ℕ) where
     count_says c n f =
         unless_says (too_deep limits c n) TooDeep _ (Objects (Count c) n)
         (λ e. varint_then n TooDeep f (number_here n TooDeep (λ n. IsDeep c limits.nest × (0 < n)) f (deep_true c n e)))
-        (λ shallow. let isnt_deep : (IsDeep c limits.nest × (0 < n)) → ⊥ = (λ (h : IsDeep c limits.nest × (0 < n)). let z : n ≡ 0 = deep_false c n shallow h.0 in omega (arith, z, h.1)) in
+        (λ shallow. let isnt_deep : (IsDeep c limits.nest × (0 < n))
+        → ⊥ = (λ (h : IsDeep c limits.nest × (0 < n)). let z : n ≡ 0 = deep_false c n shallow
+        h.0 in omega (arith, z, h.1)) in
         unless_says (nat_lt limits.nodes (s.nodes + nodes_of c n)) TooManyNodes _ (Objects (Count c) n)
         (λ e. let h : limits.nodes < s.nodes + nodes_of c n = ltb-true limits.nodes (s.nodes + nodes_of c n) e in
-        varint_then n TooManyNodes f (number_then n TooManyNodes TooDeep (λ n. IsDeep c limits.nest × (0 < n)) f isnt_deep
-        (number_here n TooManyNodes (λ n. limits.nodes < announced_nodes before + nodes_of c n) f (subst (λ m. limits.nodes < m + nodes_of c n) agree.nodes_are h))))
-        (λ e. let few_nodes : s.nodes + nodes_of c n ≤ limits.nodes = ltb-false limits.nodes (s.nodes + nodes_of c n) e in
+        varint_then n TooManyNodes f (number_then n TooManyNodes TooDeep (λ n. IsDeep c limits.nest
+        × (0 < n)) f isnt_deep
+        (number_here n TooManyNodes (λ n. limits.nodes < announced_nodes before + nodes_of c n) f
+        (subst (λ m. limits.nodes < m + nodes_of c n) agree.nodes_are h))))
+        (λ e. let few_nodes : s.nodes + nodes_of c n ≤ limits.nodes = ltb-false limits.nodes
+        (s.nodes + nodes_of c n) e in
         unless_says (nat_lt limits.points (s.points + points_of c n)) TooManyPoints _ (Objects (Count c) n)
         (λ e. let h : limits.points < s.points + points_of c n = ltb-true limits.points (s.points + points_of c n) e in
-        varint_then n TooManyPoints f (number_then n TooManyPoints TooDeep (λ n. IsDeep c limits.nest × (0 < n)) f isnt_deep
+        varint_then n TooManyPoints f (number_then n TooManyPoints TooDeep
+        (λ n. IsDeep c limits.nest × (0 < n)) f isnt_deep
         (number_then n TooManyPoints TooManyNodes (λ n. limits.nodes < announced_nodes before + nodes_of c n) f
         (λ (k : limits.nodes < announced_nodes before + nodes_of c n). omega (arith, k, few_nodes, agree.nodes_are))
-        (number_here n TooManyPoints (λ n. limits.points < announced_points before + points_of c n) f (subst (λ m. limits.points < m + points_of c n) agree.points_are h)))))
-        (λ e. let few_points : s.points + points_of c n ≤ limits.points = ltb-false limits.points (s.points + points_of c n) e in
-        ((deep_false c n shallow, subst (λ m. m + nodes_of c n ≤ limits.nodes) agree.nodes_are few_nodes, subst (λ m. m + points_of c n ≤ limits.points) agree.points_are few_points), tt, tt))))
+        (number_here n TooManyPoints (λ n. limits.points < announced_points before + points_of c n)
+        f (subst (λ m. limits.points < m + points_of c n) agree.points_are h)))))
+        (λ e. let few_points : s.points + points_of c n ≤ limits.points = ltb-false limits.points
+        (s.points + points_of c n) e in (
+          (
+            deep_false c n shallow,
+            subst (λ m. m + nodes_of c n ≤ limits.nodes) agree.nodes_are
+                few_nodes,
+            subst (λ m. m + points_of c n ≤ limits.points) agree.points_are few_points,
+          ),
+          tt,
+          tt,
+        ))))
 
     -- the objection to an x is its first reason
     pub x_says : (n : ℕ) → Front n → Objects X n (objection limits s X n)
     x_says n f =
-        let same : s.position.x +ℤ unzigzag_of n ≡ (position before).x +ℤ unzigzag_of n = ap (λ (p : Rattle.twkb_points.specs.Point.Point). p.x +ℤ unzigzag_of n) agree.position_is in
+        let same : s.position.x +ℤ unzigzag_of n ≡ (position before).x +ℤ unzigzag_of n =
+        ap (λ (p : Rattle.twkb_points.specs.Point.Point). p.x +ℤ unzigzag_of n)
+        agree.position_is in
         unless_says (not (in_range (s.position.x +ℤ unzigzag_of n))) CoordinateRange None (Objects X n)
-        (λ e. varint_then n CoordinateRange f (number_here n CoordinateRange (λ n. IsCoordinate ((position before).x +ℤ unzigzag_of n) → ⊥) f
-        (subst (λ z. IsCoordinate z → ⊥) same (in_range_false (s.position.x +ℤ unzigzag_of n) (not_true (in_range (s.position.x +ℤ unzigzag_of n)) e)))))
-        (λ e. (subst IsCoordinate same (in_range_true (s.position.x +ℤ unzigzag_of n) (not_false (in_range (s.position.x +ℤ unzigzag_of n)) e)), tt, tt))
+        (λ e. varint_then n CoordinateRange f (number_here n CoordinateRange
+        (λ n. IsCoordinate ((position before).x +ℤ unzigzag_of n) → ⊥) f
+        (subst (λ z. IsCoordinate z → ⊥) same (in_range_false (s.position.x +ℤ unzigzag_of n)
+        (not_true (in_range (s.position.x +ℤ unzigzag_of n)) e)))))
+        (λ e. (
+          subst IsCoordinate same (in_range_true (s.position.x +ℤ unzigzag_of n)
+              (not_false (in_range (s.position.x +ℤ unzigzag_of n)) e)),
+          tt,
+          tt,
+        ))
 
     -- the objection to a y is its first reason
     pub y_says : (n : ℕ) → Front n → Objects Y n (objection limits s Y n)
     y_says n f =
-        let same : s.position.y +ℤ unzigzag_of n ≡ (position before).y +ℤ unzigzag_of n = ap (λ (p : Rattle.twkb_points.specs.Point.Point). p.y +ℤ unzigzag_of n) agree.position_is in
+        let same : s.position.y +ℤ unzigzag_of n ≡ (position before).y +ℤ unzigzag_of n =
+        ap (λ (p : Rattle.twkb_points.specs.Point.Point). p.y +ℤ unzigzag_of n)
+        agree.position_is in
         unless_says (not (in_range (s.position.y +ℤ unzigzag_of n))) CoordinateRange None (Objects Y n)
-        (λ e. varint_then n CoordinateRange f (number_here n CoordinateRange (λ n. IsCoordinate ((position before).y +ℤ unzigzag_of n) → ⊥) f
-        (subst (λ z. IsCoordinate z → ⊥) same (in_range_false (s.position.y +ℤ unzigzag_of n) (not_true (in_range (s.position.y +ℤ unzigzag_of n)) e)))))
-        (λ e. (subst IsCoordinate same (in_range_true (s.position.y +ℤ unzigzag_of n) (not_false (in_range (s.position.y +ℤ unzigzag_of n)) e)), tt, tt))
+        (λ e. varint_then n CoordinateRange f (number_here n CoordinateRange
+        (λ n. IsCoordinate ((position before).y +ℤ unzigzag_of n) → ⊥) f
+        (subst (λ z. IsCoordinate z → ⊥) same (in_range_false (s.position.y +ℤ unzigzag_of n)
+        (not_true (in_range (s.position.y +ℤ unzigzag_of n)) e)))))
+        (λ e. (
+          subst IsCoordinate same (in_range_true (s.position.y +ℤ unzigzag_of n)
+              (not_false (in_range (s.position.y +ℤ unzigzag_of n)) e)),
+          tt,
+          tt,
+        ))
 
     -- the objection to a type byte is its first reason
     pub header_says : (n : ℕ) (more : List ℕ) → rest ≡ n ∷ more → Objects Header n (objection limits s Header n)
     header_says n more whole =
-        let some : (before ≢ []) × (rest ≡ []) → ⊥ = (λ (h : (before ≢ []) × (rest ≡ [])). let z : n ∷ more ≡ [] = sym whole ∙ h.1 in cc) in
+        let some : (before ≢ []) × (rest ≡ []) → ⊥ = (λ (h : (before ≢ []) × (rest ≡ [])).
+        let z : n ∷ more ≡ [] = sym whole ∙ h.1 in cc) in
         unless_says (nat_eq (n % 16) 0 || nat_lt 7 (n % 16)) BadType None (Objects Header n)
-        (λ e. inr (some, inl (subst (λ l. FirstByte (λ b. (b % 16 ≡ 0) ⊎ (7 < b % 16)) l) (sym whole) (bad (either (nat_eq (n % 16) 0) (nat_lt 7 (n % 16)) e)), refl)))
-        (λ e. let h = neither (nat_eq (n % 16) 0) (nat_lt 7 (n % 16)) e in
-        (tt, (positive (n % 16) (eq_false (n % 16) 0 h.0), (let k : n % 16 ≤ 7 = ltb-false 7 (n % 16) h.1 in omega (arith, k))), tt))
+        (λ e. inr (
+          some,
+          inl (
+            subst (λ l. FirstByte (λ b. (b % 16 ≡ 0) ⊎ (7 < b % 16)) l)
+                (sym whole) (bad (either (nat_eq (n % 16) 0) (nat_lt 7 (n % 16)) e)),
+            refl,
+          ),
+        ))
+        (λ e. let h = neither (nat_eq (n % 16) 0) (nat_lt 7 (n % 16)) e in (
+          tt,
+          (
+            positive (n % 16) (eq_false (n % 16) 0 h.0),
+            (let k : n % 16 ≤ 7 = ltb-false 7 (n % 16) h.1 in omega (arith, k)),
+          ),
+          tt,
+        ))
       where
         bad : (nat_eq (n % 16) 0 ≡ true) ⊎ (nat_lt 7 (n % 16) ≡ true) → (n % 16 ≡ 0) ⊎ (7 < n % 16)
         bad (inl e) = inl (eq_true (n % 16) 0 e)
@@ -180,7 +253,8 @@ module _ (limits : Allowance) (before : List Item) (rest : List ℕ) where
         positive (suc m) h = omega arith
 
     -- the objection to a metadata byte is its first reason
-    pub metadata_says : (k n : ℕ) (more : List ℕ) → rest ≡ n ∷ more → Objects (Metadata k) n (objection limits s (Metadata k) n)
+    pub metadata_says : (k n : ℕ) (more : List ℕ) → rest ≡ n ∷ more
+        → Objects (Metadata k) n (objection limits s (Metadata k) n)
     metadata_says k n more whole =
         let some : rest ≡ [] → ⊥ = (λ (h : rest ≡ []). let z : n ∷ more ≡ [] = sym whole ∙ h in cc) in
         unless_says (announces_point k n && nat_le limits.points s.points) TooManyPoints None (Objects (Metadata k) n)
@@ -188,13 +262,15 @@ module _ (limits : Allowance) (before : List Item) (rest : List ℕ) where
         inr (
           some,
           inl (
-            subst (λ l. FirstByte (λ b. (announces_point k b ≡ true) × (limits.points ≤ announced_points before)) l) (sym whole)
+            subst (λ l. FirstByte (λ b. (announces_point k b ≡ true)
+                × (limits.points ≤ announced_points before)) l) (sym whole)
                 (h.0, subst (λ m. limits.points ≤ m) agree.points_are (le_true limits.points s.points h.1)),
             refl,
           ),
         ))
         (λ e. (
-          (λ (is : announces_point k n ≡ true). let z : nat_le limits.points s.points ≡ false = sym (ap (λ b. b && nat_le limits.points s.points) is) ∙ e in
+          (λ (is : announces_point k n ≡ true). let z : nat_le limits.points s.points ≡ false =
+              sym (ap (λ b. b && nat_le limits.points s.points) is) ∙ e in
               subst (λ m. m < limits.points) agree.points_are (le_false limits.points s.points z)),
           tt,
           tt,
@@ -205,7 +281,14 @@ module _ (limits : Allowance) (before : List Item) (rest : List ℕ) where
     extended_says n more whole =
         let some : rest ≡ [] → ⊥ = (λ (h : rest ≡ []). let z : n ∷ more ≡ [] = sym whole ∙ h in cc) in
         unless_says (not (nat_eq (n % 4) 0)) ExtraDimensions None (Objects Extended n)
-        (λ e. inr (some, inl (subst (λ l. FirstByte (λ b. b % 4 ≢ 0) l) (sym whole) (λ (h : n % 4 ≡ 0). eq_false (n % 4) 0 (not_true (nat_eq (n % 4) 0) e) h), refl)))
+        (λ e. inr (
+          some,
+          inl (
+            subst (λ l. FirstByte (λ b. b % 4 ≢ 0) l) (sym whole)
+                (λ (h : n % 4 ≡ 0). eq_false (n % 4) 0 (not_true (nat_eq (n % 4) 0) e) h),
+            refl,
+          ),
+        ))
         (λ e. (tt, eq_true (n % 4) 0 (not_false (nat_eq (n % 4) 0) e), tt))
 
     -- the objection to an end is its first reason

@@ -1,12 +1,19 @@
 -- Items that the machine ran through to a complete geometry are the items of that geometry.
-use Rattle.std.proofs.Common.{Bool, true, false, ◌≡◌, ℕ, zero, suc, ◌<◌, ◌≤◌, List, [], ◌∷◌, ◌++◌, length, refl, ap, sym, ◌∙◌, subst, append_assoc, length-append, Option, Some, None, arith}
+use Rattle.std.proofs.Common.{Bool, true, false, ◌≡◌, ℕ, zero, suc, ◌<◌, ◌≤◌, List, [], ◌∷◌, ◌++◌}
+use Rattle.std.proofs.Common.{length, refl, ap, sym, ◌∙◌, subst, append_assoc, length-append}
+use Rattle.std.proofs.Common.{Option, Some, None, arith}
 use Rattle.std.proofs.lemmas.List.{append-nil}
 use Rattle.std.specs.Prelude.{ℤ}
-use Rattle.twkb_tree.specs.Tree.{Tree, simple, collection, Trees, end, ◌▷◌, count, Ids, HasIds, IsPrecision, IsTree, AreTrees}
+use Rattle.twkb_tree.specs.Tree.{Tree, simple, collection, Trees, end, ◌▷◌, count, Ids, HasIds}
+use Rattle.twkb_tree.specs.Tree.{IsPrecision, IsTree, AreTrees}
 use Rattle.twkb_grammar.specs.Bits.{bit}
 use Rattle.twkb_grammar.specs.Roles.{Item, Extended, Size, Box, Count, Geometries, AreFields, HaveRoles, where_set}
 use Rattle.twkb_grammar.specs.Items.{id_places, outline, Agrees, flags_all, Items, ItemsOfAll, id_fields}
-use Rattle.twkb_grammar.specs.Machine.{Kind, SimpleKind, CollectionKind, Form, PointForm, LineForm, PolygonForm, MultiPointForm, MultiLineForm, MultiPolygonForm, kind_number, Head, Frame, AtHeader, AtEnd, Finished, ManyGeometries, empty_of, wanting, snoc, members_begin, Sums, nothing, started, Stack, Runs}
+use Rattle.twkb_grammar.specs.Machine.{Kind, SimpleKind, CollectionKind, Form, PointForm, LineForm}
+use Rattle.twkb_grammar.specs.Machine.{PolygonForm, MultiPointForm, MultiLineForm, MultiPolygonForm}
+use Rattle.twkb_grammar.specs.Machine.{kind_number, Head, Frame, AtHeader, AtEnd, Finished}
+use Rattle.twkb_grammar.specs.Machine.{ManyGeometries, empty_of, wanting, snoc, members_begin, Sums}
+use Rattle.twkb_grammar.specs.Machine.{nothing, started, Stack, Runs}
 use Rattle.twkb_grammar.proofs.Places.{steps, fields_are}
 use Rattle.twkb_points.specs.Point.{origin}
 use Rattle.twkb_grammar.proofs.Bodies.{SaysIds}
@@ -19,7 +26,8 @@ use Rattle.twkb_grammar.proofs.HeadersBack.{framed, Bodied, BodyBack, TreeBack, 
 
 module _ (tree : Tree) where
   -- the items begin with the remaining members of a collection, after which it is at its end
-  record Remaining (left : ℕ) (h : Head) (ids : Ids) (done : Trees) (fs : List Frame) (e : Sums) (is : List Item) : Type 0 where
+  record Remaining (left : ℕ) (h : Head) (ids : Ids) (done : Trees) (fs : List Frame) (e : Sums)
+      (is : List Item) : Type 0 where
     members : Trees
     many : count members ≡ suc left
     fits : AreTrees members
@@ -29,7 +37,8 @@ module _ (tree : Tree) where
     items : ItemsOfAll (suc (length fs)) members front
     runs : Runs (sums_after e front) (fs, AtEnd h (collection h.precision ids (joined done members))) rest (fin tree)
 
-  members_back : (n : ℕ) → TreeBack tree n → (left : ℕ) (h : Head) (ids : Ids) (done : Trees) (fs : List Frame) (e : Sums) (is : List Item) → length is ≤ n
+  members_back : (n : ℕ) → TreeBack tree n → (left : ℕ) (h : Head) (ids : Ids) (done : Trees)
+      (fs : List Frame) (e : Sums) (is : List Item) → length is ≤ n
       → Runs e (frame h ids done left ∷ fs, AtHeader) is (fin tree) → Remaining left h ids done fs e is
   members_back n one zero h ids done fs e is fuel r =
       let t = one (frame h ids done 0 ∷ fs) e is fuel r in
@@ -41,11 +50,14 @@ module _ (tree : Tree) where
         rest = t.rest;
         whole = t.whole;
         items = record { front = t.front; rest = []; first = t.items; second = refl; whole = sym (append-nil t.front) };
-        runs = subst (λ ts. Runs (sums_after e t.front) (fs, AtEnd h (collection h.precision ids ts)) t.rest (fin tree)) (joined-last done t.geometry) t.runs;
+        runs = subst (λ ts. Runs (sums_after e t.front)
+            (fs, AtEnd h (collection h.precision ids ts)) t.rest (fin tree))
+            (joined-last done t.geometry) t.runs;
       }
   members_back n one (suc left) h ids done fs e is fuel r =
       let t = one (frame h ids done (suc left) ∷ fs) e is fuel r in
-      let more = members_back n one left h ids (snoc done t.geometry) fs (sums_after e t.front) t.rest (omega (arith, fuel, ap length t.whole, length-append t.front t.rest)) t.runs in
+      let more = members_back n one left h ids (snoc done t.geometry) fs (sums_after e t.front)
+      t.rest (omega (arith, fuel, ap length t.whole, length-append t.front t.rest)) t.runs in
       record {
         members = t.geometry ▷ more.members;
         many = ap suc more.many;
@@ -54,19 +66,97 @@ module _ (tree : Tree) where
         rest = more.rest;
         whole = t.whole ∙ (ap (λ l. t.front ++ l) more.whole ∙ sym (append_assoc t.front more.front more.rest));
         items = record { front = t.front; rest = more.front; first = t.items; second = more.items; whole = refl };
-        runs = subst (λ s. Runs s (fs, AtEnd h (collection h.precision ids (joined done (t.geometry ▷ more.members)))) more.rest (fin tree)) (sym (sums_after-append t.front more.front e))
-            (subst (λ ts. Runs (sums_after (sums_after e t.front) more.front) (fs, AtEnd h (collection h.precision ids ts)) more.rest (fin tree)) (joined-snoc done t.geometry more.members) more.runs);
+        runs = subst (λ s. Runs s
+            (fs, AtEnd h (collection h.precision ids (joined done (t.geometry ▷ more.members))))
+            more.rest (fin tree)) (sym (sums_after-append t.front more.front e))
+            (subst (λ ts. Runs (sums_after (sums_after e t.front) more.front)
+            (fs, AtEnd h (collection h.precision ids ts)) more.rest (fin tree))
+            (joined-snoc done t.geometry more.members) more.runs);
       }
 
-  empty_items : (f : Form) (level : ℕ) (p : ℤ) (meta : ℕ) (extended size box : List Item) → bit meta 4 ≡ true → meta < 256 → HaveRoles (where_set (bit meta 3) (Extended ∷ [])) extended
-      → HaveRoles (where_set (bit meta 1) (Size ∷ [])) size → HaveRoles (where_set (bit meta 0) (Box ∷ Box ∷ Box ∷ Box ∷ [])) box
+  empty_items : (f : Form) (level : ℕ) (p : ℤ) (meta : ℕ) (extended size box : List Item)
+      → bit meta 4 ≡ true → meta < 256 → HaveRoles (where_set (bit meta 3) (Extended ∷ [])) extended
+      → HaveRoles (where_set (bit meta 1) (Size ∷ [])) size
+      → HaveRoles (where_set (bit meta 0) (Box ∷ Box ∷ Box ∷ Box ∷ [])) box
       → Items level (empty_of (SimpleKind f) p) (framed (kind_number (SimpleKind f)) p meta extended size box [])
-  empty_items PointForm level p meta extended size box bare b x s o = record { meta = meta; extended = extended; size = size; box = box; body = []; byte = b; optional = record { extended_is = x; size_is = s; box_is = o }; agrees = bare; body_is = rw bare refl; whole = refl }
-  empty_items LineForm level p meta extended size box bare b x s o = record { meta = meta; extended = extended; size = size; box = box; body = []; byte = b; optional = record { extended_is = x; size_is = s; box_is = o }; agrees = tt; body_is = rw bare refl; whole = refl }
-  empty_items PolygonForm level p meta extended size box bare b x s o = record { meta = meta; extended = extended; size = size; box = box; body = []; byte = b; optional = record { extended_is = x; size_is = s; box_is = o }; agrees = tt; body_is = rw bare refl; whole = refl }
-  empty_items MultiPointForm level p meta extended size box bare b x s o = record { meta = meta; extended = extended; size = size; box = box; body = []; byte = b; optional = record { extended_is = x; size_is = s; box_is = o }; agrees = tt; body_is = rw bare refl; whole = refl }
-  empty_items MultiLineForm level p meta extended size box bare b x s o = record { meta = meta; extended = extended; size = size; box = box; body = []; byte = b; optional = record { extended_is = x; size_is = s; box_is = o }; agrees = tt; body_is = rw bare refl; whole = refl }
-  empty_items MultiPolygonForm level p meta extended size box bare b x s o = record { meta = meta; extended = extended; size = size; box = box; body = []; byte = b; optional = record { extended_is = x; size_is = s; box_is = o }; agrees = tt; body_is = rw bare refl; whole = refl }
+  empty_items PointForm level p meta extended size box bare b x s o =
+      record {
+        meta = meta;
+        extended = extended;
+        size = size;
+        box = box;
+        body = [];
+        byte = b;
+        optional = record { extended_is = x; size_is = s; box_is = o };
+        agrees = bare;
+        body_is = rw bare refl;
+        whole = refl;
+      }
+  empty_items LineForm level p meta extended size box bare b x s o =
+      record {
+        meta = meta;
+        extended = extended;
+        size = size;
+        box = box;
+        body = [];
+        byte = b;
+        optional = record { extended_is = x; size_is = s; box_is = o };
+        agrees = tt;
+        body_is = rw bare refl;
+        whole = refl;
+      }
+  empty_items PolygonForm level p meta extended size box bare b x s o =
+      record {
+        meta = meta;
+        extended = extended;
+        size = size;
+        box = box;
+        body = [];
+        byte = b;
+        optional = record { extended_is = x; size_is = s; box_is = o };
+        agrees = tt;
+        body_is = rw bare refl;
+        whole = refl;
+      }
+  empty_items MultiPointForm level p meta extended size box bare b x s o =
+      record {
+        meta = meta;
+        extended = extended;
+        size = size;
+        box = box;
+        body = [];
+        byte = b;
+        optional = record { extended_is = x; size_is = s; box_is = o };
+        agrees = tt;
+        body_is = rw bare refl;
+        whole = refl;
+      }
+  empty_items MultiLineForm level p meta extended size box bare b x s o =
+      record {
+        meta = meta;
+        extended = extended;
+        size = size;
+        box = box;
+        body = [];
+        byte = b;
+        optional = record { extended_is = x; size_is = s; box_is = o };
+        agrees = tt;
+        body_is = rw bare refl;
+        whole = refl;
+      }
+  empty_items MultiPolygonForm level p meta extended size box bare b x s o =
+      record {
+        meta = meta;
+        extended = extended;
+        size = size;
+        box = box;
+        body = [];
+        byte = b;
+        optional = record { extended_is = x; size_is = s; box_is = o };
+        agrees = tt;
+        body_is = rw bare refl;
+        whole = refl;
+      }
 
   empty_fits : (f : Form) (p : ℤ) → IsPrecision p → IsTree (empty_of (SimpleKind f) p)
   empty_fits PointForm p h = (h, tt)
@@ -76,8 +166,10 @@ module _ (tree : Tree) where
   empty_fits MultiLineForm p h = (h, tt)
   empty_fits MultiPolygonForm p h = (h, tt)
 
-  flat_back : (f : Form) (p : ℤ) (meta : ℕ) (size : Option ℕ) (from : ℕ) (fs : List Frame) (e : Sums) (is : List Item) → e.position ≡ origin
-      → (b : Bool) → bit meta 4 ≡ b → Runs e (fs, wanting (SimpleKind f) (head p meta size from) []) is (fin tree) → Bodied tree (SimpleKind f) p meta (head p meta size from) fs e is
+  flat_back : (f : Form) (p : ℤ) (meta : ℕ) (size : Option ℕ) (from : ℕ) (fs : List Frame)
+      (e : Sums) (is : List Item) → e.position ≡ origin
+      → (b : Bool) → bit meta 4 ≡ b → Runs e (fs, wanting (SimpleKind f) (head p meta size from) [])
+      is (fin tree) → Bodied tree (SimpleKind f) p meta (head p meta size from) fs e is
   flat_back f p meta size from fs e is here true bare r =
       record {
         geometry = empty_of (SimpleKind f) p;
@@ -96,7 +188,9 @@ module _ (tree : Tree) where
         front = v.front;
         rest = v.rest;
         whole = v.whole;
-        items = λ x s o b hx hs ho. subst (λ k. Items (length fs) (simple p v.shape) (framed k p meta x s o v.front)) (kind_is v.shape ∙ ap (λ g. kind_number (SimpleKind g)) v.form)
+        items = λ x s o b hx hs ho. subst (λ k. Items (length fs) (simple p v.shape)
+            (framed k p meta x s o v.front)) (kind_is v.shape
+            ∙ ap (λ g. kind_number (SimpleKind g)) v.form)
             (record {
               meta = meta;
               extended = x;
@@ -106,13 +200,15 @@ module _ (tree : Tree) where
               byte = b;
               optional = record { extended_is = hx; size_is = hs; box_is = ho };
               agrees = v.agrees;
-              body_is = rw full (subst (λ l. AreFields l v.front) (ap (λ q. steps q (outline v.shape)) here ∙ sym (fields_are v.shape)) v.are);
+              body_is = rw full (subst (λ l. AreFields l v.front)
+                  (ap (λ q. steps q (outline v.shape)) here ∙ sym (fields_are v.shape)) v.are);
               whole = refl;
             });
         runs = v.runs;
       }
 
-  agrees_all : (h : Head) (ids : Ids) (gs : Trees) → SaysIds h ids (count gs) → bit h.meta 4 ≡ false → Agrees (flags_all ids gs) h.meta
+  agrees_all : (h : Head) (ids : Ids) (gs : Trees) → SaysIds h ids (count gs) → bit h.meta 4 ≡ false
+      → Agrees (flags_all ids gs) h.meta
   agrees_all h ids end says full = tt
   agrees_all h None (g ▷ gs) says full = (full, says)
   agrees_all h (Some ids) (g ▷ gs) says full = (full, says.0)
@@ -128,7 +224,8 @@ module _ (tree : Tree) where
     items : ItemsOfAll (suc (length fs)) members front
     runs : Runs (sums_after e front) (fs, AtEnd h (collection h.precision ids members)) rest (fin tree)
 
-  all_back : (n : ℕ) → TreeBack tree n → (c : ℕ) (h : Head) (ids : Ids) (fs : List Frame) (e : Sums) (is : List Item) → length is ≤ n → SaysIds h ids c
+  all_back : (n : ℕ) → TreeBack tree n → (c : ℕ) (h : Head) (ids : Ids) (fs : List Frame) (e : Sums)
+      (is : List Item) → length is ≤ n → SaysIds h ids c
       → Runs e (members_begin ManyGeometries h fs ids c) is (fin tree) → All_of c h ids fs e is
   all_back n one zero h ids fs e is fuel says r =
       record {
@@ -143,10 +240,21 @@ module _ (tree : Tree) where
       }
   all_back n one (suc c) h ids fs e is fuel says r =
       let m = members_back n one c h ids end fs e is fuel r in
-      record { members = m.members; many = m.many; fits = m.fits; front = m.front; rest = m.rest; whole = m.whole; items = m.items; runs = m.runs }
+      record {
+        members = m.members;
+        many = m.many;
+        fits = m.fits;
+        front = m.front;
+        rest = m.rest;
+        whole = m.whole;
+        items = m.items;
+        runs = m.runs;
+      }
 
-  gathering_back : (n : ℕ) → TreeBack tree n → (p : ℤ) (meta : ℕ) (size : Option ℕ) (from : ℕ) (fs : List Frame) (e : Sums) (is : List Item) → length is ≤ n → e.position ≡ origin
-      → (b : Bool) → bit meta 4 ≡ b → Runs e (fs, wanting CollectionKind (head p meta size from) []) is (fin tree) → Bodied tree CollectionKind p meta (head p meta size from) fs e is
+  gathering_back : (n : ℕ) → TreeBack tree n → (p : ℤ) (meta : ℕ) (size : Option ℕ) (from : ℕ)
+      (fs : List Frame) (e : Sums) (is : List Item) → length is ≤ n → e.position ≡ origin
+      → (b : Bool) → bit meta 4 ≡ b → Runs e (fs, wanting CollectionKind (head p meta size from) [])
+      is (fin tree) → Bodied tree CollectionKind p meta (head p meta size from) fs e is
   gathering_back n one p meta size from fs e is fuel here true bare r =
       record {
         geometry = collection p None end;
@@ -154,13 +262,25 @@ module _ (tree : Tree) where
         front = [];
         rest = is;
         whole = refl;
-        items = λ x s o b hx hs ho. record { meta = meta; extended = x; size = s; box = o; body = []; byte = b; optional = record { extended_is = hx; size_is = hs; box_is = ho }; agrees = tt; body_is = rw bare refl; whole = refl };
+        items = λ x s o b hx hs ho. record {
+          meta = meta;
+          extended = x;
+          size = s;
+          box = o;
+          body = [];
+          byte = b;
+          optional = record { extended_is = hx; size_is = hs; box_is = ho };
+          agrees = tt;
+          body_is = rw bare refl;
+          whole = refl;
+        };
         runs = rw bare at r;
       }
   gathering_back n one p meta size from fs e is fuel here false full r =
       let h : Head = head p meta size from in
       let c = first_back ManyGeometries h fs tree e is (rw full at r) in
-      let m = all_back n one c.count h c.ids fs (sums_after e c.front) c.rest (omega (arith, fuel, ap length c.whole, length-append c.front c.rest)) c.says c.runs in
+      let m = all_back n one c.count h c.ids fs (sums_after e c.front) c.rest
+      (omega (arith, fuel, ap length c.whole, length-append c.front c.rest)) c.says c.runs in
       record {
         geometry = collection p c.ids m.members;
         fits = λ h. (h, subst (λ n. HasIds c.ids n) (sym m.many) c.fit, m.fits);
@@ -183,16 +303,21 @@ module _ (tree : Tree) where
             whole = refl;
             first = subst (λ n. AreFields ((Count (Geometries (length fs)), n) ∷ id_fields c.ids) c.front) (sym m.many)
                 (subst (λ l. AreFields ((Count (Geometries (length fs)), c.count) ∷ l) c.front)
-                (ap (λ q. steps q (id_places c.ids)) here ∙ (ap (λ ps. steps origin ps) (sym (append-nil (id_places c.ids))) ∙ sym (names_steps c.ids))) c.are);
+                (ap (λ q. steps q (id_places c.ids)) here
+                ∙ (ap (λ ps. steps origin ps) (sym (append-nil (id_places c.ids)))
+                ∙ sym (names_steps c.ids))) c.are);
           });
           whole = refl;
         };
-        runs = subst (λ s. Runs s (fs, AtEnd h (collection p c.ids m.members)) m.rest (fin tree)) (sym (sums_after-append c.front m.front e)) m.runs;
+        runs = subst (λ s. Runs s (fs, AtEnd h (collection p c.ids m.members)) m.rest (fin tree))
+            (sym (sums_after-append c.front m.front e)) m.runs;
       }
 
   body_back : (n : ℕ) → TreeBack tree n → (k : Kind) → BodyBack tree k n
-  body_back n one (SimpleKind f) p meta size from fs e is fuel here r = flat_back f p meta size from fs e is here (bit meta 4) refl r
-  body_back n one CollectionKind p meta size from fs e is fuel here r = gathering_back n one p meta size from fs e is fuel here (bit meta 4) refl r
+  body_back n one (SimpleKind f) p meta size from fs e is fuel here r = flat_back f p meta size from
+      fs e is here (bit meta 4) refl r
+  body_back n one CollectionKind p meta size from fs e is fuel here r = gathering_back n one p meta
+      size from fs e is fuel here (bit meta 4) refl r
 
   -- items that run from a header to a complete tree begin with a geometry
   pub tree_back : (n : ℕ) → TreeBack tree n
@@ -207,9 +332,14 @@ runs_are_items g is r = go v.rest v.whole v.runs
     v : Parsed g [] nothing is
     v = tree_back g (length is) [] nothing is (omega arith) r
 
-    go : (rest : List Item) → is ≡ v.front ++ rest → Runs (sums_after nothing v.front) ([], Finished v.geometry) rest ([], Finished g) → Items 0 g is × IsTree g
+    go : (rest : List Item) → is ≡ v.front ++ rest
+        → Runs (sums_after nothing v.front) ([], Finished v.geometry) rest ([], Finished g)
+        → Items 0 g is × IsTree g
     go [] whole runs =
         let same : Finished v.geometry ≡ Finished g = ap (λ (t : Stack). t.1) runs in
-        let tree : v.geometry ≡ g = cc in
-        (subst (λ t. Items 0 t is) tree (subst (λ l. Items 0 v.geometry l) (sym (whole ∙ append-nil v.front)) v.items), subst (λ t. IsTree t) tree v.fits)
+        let tree : v.geometry ≡ g = cc in (
+          subst (λ t. Items 0 t is) tree (subst (λ l. Items 0 v.geometry l)
+              (sym (whole ∙ append-nil v.front)) v.items),
+          subst (λ t. IsTree t) tree v.fits,
+        )
     go (i ∷ rest) whole runs = let z : None ≡ Some i.role = runs.0 in absurd cc

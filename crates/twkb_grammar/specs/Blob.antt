@@ -33,4 +33,5 @@ pub record BlobInFront (limits : Allowance) (bytes : List ℕ) (g : Tree) (rest 
 -- The bytes are blobs of these geometries, one after another, and nothing else (profile).
 abbrev pub Stream : Allowance → List ℕ → List Tree → Type 0
 Stream limits bytes [] = bytes ≡ []
-Stream limits bytes (g ∷ gs) = (front rest : List ℕ) × (bytes ≡ front ++ rest) × Blob limits front g × Stream limits rest gs
+Stream limits bytes (g ∷ gs) = (front rest : List ℕ) × (bytes ≡ front ++ rest) × Blob limits front g
+    × Stream limits rest gs

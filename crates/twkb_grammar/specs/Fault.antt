@@ -1,6 +1,7 @@
 -- Where and why bytes are not a blob (profile: the reasons, their order and the limits; the
 -- layout that they refer to: TWKB).
-use Rattle.std.specs.Prelude.{◌≡◌, ◌≢◌, ℕ, ◌+◌, ◌%◌, ◌<◌, ◌≤◌, ◌⊎◌, ℤ, Bool, not, true, false, List, [], ◌∷◌, ◌++◌, length, ◌+ℤ◌, sum_by, nat_eq, if◌then◌else◌}
+use Rattle.std.specs.Prelude.{◌≡◌, ◌≢◌, ℕ, ◌+◌, ◌%◌, ◌<◌, ◌≤◌, ◌⊎◌, ℤ, Bool, not, true, false, List}
+use Rattle.std.specs.Prelude.{[], ◌∷◌, ◌++◌, length, ◌+ℤ◌, sum_by, nat_eq, if◌then◌else◌}
 use Rattle.std.specs.List.{AllByRecursion}
 use Rattle.twkb_num.specs.Zigzag.{unzigzag_of}
 use Rattle.twkb_num.specs.Varint.{IsVarint}
@@ -8,7 +9,9 @@ use Rattle.twkb_points.specs.Point.{Point, IsCoordinate, origin, point_at}
 use Rattle.twkb_tree.specs.Tree.{Tree, IsTree}
 use Rattle.twkb_tree.specs.Limits.{Allowance, IsValid}
 use Rattle.twkb_grammar.specs.Bits.{bit}
-use Rattle.twkb_grammar.specs.Roles.{Counted, Vertices, Rings, Points, Parts, Geometries, Role, Header, Metadata, Extended, Size, Box, Count, Id, X, Y, End, Item, join}
+use Rattle.twkb_grammar.specs.Roles.{Counted, Vertices, Rings, Points, Parts, Geometries, Role}
+use Rattle.twkb_grammar.specs.Roles.{Header, Metadata, Extended, Size, Box, Count, Id, X, Y, End}
+use Rattle.twkb_grammar.specs.Roles.{Item, join}
 use Rattle.twkb_grammar.specs.Items.{Items}
 use Rattle.twkb_grammar.specs.Blob.{AreExact, IsExact, Stream}
 
@@ -160,13 +163,15 @@ CountRefused limits before rest c r = NumberFirst r rest
 -- The reasons of a difference to this coordinate: those of any number, then the range of their
 -- sum (profile).
 abbrev pub DifferenceRefused : ℤ → List ℕ → Reason → Type 0
-DifferenceRefused from rest r = NumberFirst r rest (When r (FirstNumber (λ n. IsCoordinate (from +ℤ unzigzag_of n) → ⊥) rest) CoordinateRange ⊥)
+DifferenceRefused from rest r = NumberFirst r rest
+    (When r (FirstNumber (λ n. IsCoordinate (from +ℤ unzigzag_of n) → ⊥) rest) CoordinateRange ⊥)
 
 -- r is the first reason that holds at a place with this role, after the items `before` and with
 -- these bytes left (profile).
 abbrev pub Refused : Allowance → List Item → List ℕ → Role → Reason → Type 0
 Refused limits before rest Header r = HeaderRefused before rest r
-Refused limits before rest (Metadata kind) r = ByteRefused r rest (λ b. (announces_point kind b ≡ true) × (limits.points ≤ announced_points before)) TooManyPoints
+Refused limits before rest (Metadata kind) r = ByteRefused r rest
+    (λ b. (announces_point kind b ≡ true) × (limits.points ≤ announced_points before)) TooManyPoints
 Refused limits before rest Extended r = ByteRefused r rest (λ b. b % 4 ≢ 0) ExtraDimensions
 Refused limits before rest Size r = NumberFirst r rest ⊥
 Refused limits before rest Box r = NumberFirst r rest ⊥
@@ -189,7 +194,8 @@ pub record Fault (limits : Allowance) (bytes : List ℕ) (offset : ℕ) (reason 
   -- geometry has one role; the reason is the first that holds there.
   pub role : Role
   pub begins : (g : Tree) × (more : List Item) × IsTree g × Items 0 g (before ++ more)
-  pub next : (g : Tree) (more : List Item) → IsTree g → Items 0 g (before ++ more) → (i : Item) × (after : List Item) × (more ≡ i ∷ after) × (i.role ≡ role)
+  pub next : (g : Tree) (more : List Item) → IsTree g → Items 0 g (before ++ more) → (i : Item)
+      × (after : List Item) × (more ≡ i ∷ after) × (i.role ≡ role)
   pub refused : Refused limits before rest role reason
 
 -- The first fault: the items before it are also a part of a valid geometry, so no earlier item
@@ -200,7 +206,8 @@ pub record FirstFault (limits : Allowance) (bytes : List ℕ) (offset : ℕ) (re
 
 -- The bytes are blobs of these geometries, followed by bytes with a first fault. The offset
 -- counts from the stream's start.
-pub record StreamFault (limits : Allowance) (bytes : List ℕ) (gs : List Tree) (offset : ℕ) (reason : Reason) : Type 0 where
+pub record StreamFault (limits : Allowance) (bytes : List ℕ) (gs : List Tree) (offset : ℕ)
+    (reason : Reason) : Type 0 where
   pub front : List ℕ
   pub rest : List ℕ
   pub within : ℕ

@@ -1,12 +1,17 @@
 -- The items of a geometry, with every choice that the format leaves free, and no other (TWKB,
 -- structure and description of types).
-use Rattle.std.specs.Prelude.{◌≡◌, ℕ, suc, ◌+◌, ◌*◌, ◌<◌, Bool, true, false, List, [], ◌∷◌, ◌++◌, map, length, ℤ, Option, Some, None, flat_map, ⊤}
+use Rattle.std.specs.Prelude.{◌≡◌, ℕ, suc, ◌+◌, ◌*◌, ◌<◌, Bool, true, false, List, [], ◌∷◌, ◌++◌}
+use Rattle.std.specs.Prelude.{map, length, ℤ, Option, Some, None, flat_map, ⊤}
 use Rattle.twkb_num.specs.Zigzag.{zigzag_of}
 use Rattle.twkb_points.specs.Point.{Point}
 use Rattle.twkb_points.specs.Differences.{differences}
-use Rattle.twkb_tree.specs.Tree.{Simple, point, line, polygon, multi_point, multi_line, multi_polygon, Tree, simple, collection, Trees, end, ◌▷◌, count, points_in, Ids}
+use Rattle.twkb_tree.specs.Tree.{Simple, point, line, polygon, multi_point, multi_line}
+use Rattle.twkb_tree.specs.Tree.{multi_polygon, Tree, simple, collection, Trees, end, ◌▷◌, count}
+use Rattle.twkb_tree.specs.Tree.{points_in, Ids}
 use Rattle.twkb_grammar.specs.Bits.{bit}
-use Rattle.twkb_grammar.specs.Roles.{Counted, Vertices, Rings, Points, Parts, Geometries, Header, Metadata, Extended, Size, Box, Count, Id, X, Y, End, Item, join, Field, AreFields, HaveRoles, where_set, item}
+use Rattle.twkb_grammar.specs.Roles.{Counted, Vertices, Rings, Points, Parts, Geometries, Header}
+use Rattle.twkb_grammar.specs.Roles.{Metadata, Extended, Size, Box, Count, Id, X, Y, End, Item}
+use Rattle.twkb_grammar.specs.Roles.{join, Field, AreFields, HaveRoles, where_set, item}
 
 -- A place in a body: a count, an id, or a point with its absolute coordinates.
 pub data Place : Type 0 where
@@ -167,7 +172,9 @@ abbrev mutual
   pub Items : ℕ → Tree → List Item → Type 0
   Items level (simple p s) is = Framed (kind_of s) p (flags s) (AreFields (fields s)) is
   Items level (collection p ids gs) is =
-      Framed 7 p (flags_all ids gs) (Follow (AreFields ((Count (Geometries level), count gs) ∷ id_fields ids)) (ItemsOfAll (suc level) gs)) is
+      Framed 7 p (flags_all ids gs)
+      (Follow (AreFields ((Count (Geometries level), count gs) ∷ id_fields ids))
+      (ItemsOfAll (suc level) gs)) is
 
   -- The items are those of the members, one member after another.
   pub ItemsOfAll : ℕ → Trees → List Item → Type 0

@@ -2,12 +2,16 @@
 -- comes next. It has no limits and checks no sizes. It is our way to walk through the items of a
 -- geometry, and no part of the format: the laws `machine` and `fronts` state that it accepts the
 -- items of geometries and their prefixes, and nothing else.
-use Rattle.std.specs.Prelude.{◌≡◌, ℕ, zero, suc, ◌+◌, ◌-◌, ◌/◌, ◌%◌, if◌then◌else◌, List, [], ◌∷◌, ◌++◌, length, ℤ, Option, Some, None}
+use Rattle.std.specs.Prelude.{◌≡◌, ℕ, zero, suc, ◌+◌, ◌-◌, ◌/◌, ◌%◌, if◌then◌else◌, List, [], ◌∷◌}
+use Rattle.std.specs.Prelude.{◌++◌, length, ℤ, Option, Some, None}
 use Rattle.twkb_num.specs.Zigzag.{unzigzag_of}
 use Rattle.twkb_points.specs.Point.{Point, origin}
-use Rattle.twkb_tree.specs.Tree.{Simple, point, line, polygon, multi_point, multi_line, multi_polygon, Tree, simple, collection, Trees, end, ◌▷◌, Ids}
+use Rattle.twkb_tree.specs.Tree.{Simple, point, line, polygon, multi_point, multi_line}
+use Rattle.twkb_tree.specs.Tree.{multi_polygon, Tree, simple, collection, Trees, end, ◌▷◌, Ids}
 use Rattle.twkb_grammar.specs.Bits.{bit}
-use Rattle.twkb_grammar.specs.Roles.{Counted, Vertices, Rings, Points, Parts, Geometries, Role, Header, Metadata, Extended, Size, Box, Count, Id, X, Y, End, Item, IsItem, where_set}
+use Rattle.twkb_grammar.specs.Roles.{Counted, Vertices, Rings, Points, Parts, Geometries, Role}
+use Rattle.twkb_grammar.specs.Roles.{Header, Metadata, Extended, Size, Box, Count, Id, X, Y, End}
+use Rattle.twkb_grammar.specs.Roles.{Item, IsItem, where_set}
 use Rattle.twkb_grammar.specs.Fault.{nodes_by, points_by, moved}
 
 -- A point, a list of points, a list of such lists, and so on.
@@ -227,7 +231,8 @@ wanting k h [] = if bit h.meta 4 then AtEnd h (empty_of k h.precision) else begu
 
 -- The optional parts that a metadata byte asks for.
 abbrev pub asked : ℕ → List Role
-asked meta = where_set (bit meta 3) (Extended ∷ []) ++ (where_set (bit meta 1) (Size ∷ []) ++ where_set (bit meta 0) (Box ∷ Box ∷ Box ∷ Box ∷ []))
+asked meta = where_set (bit meta 3) (Extended ∷ [])
+    ++ (where_set (bit meta 1) (Size ∷ []) ++ where_set (bit meta 0) (Box ∷ Box ∷ Box ∷ Box ∷ []))
 
 -- The header after an optional part that ends at this many bytes.
 abbrev pub with_option : Head → Role → ℕ → ℕ → Head
@@ -266,7 +271,11 @@ ended (f ∷ fs) g = elim f.left [
 -- The stack after an item with this number, with the bytes so far and the position after it.
 abbrev pub advanced : Point → (bytes n : ℕ) → List Frame → Phase → Stack
 advanced p bytes n fs AtHeader = (fs, AtMetadata (kind_at (n % 16)) (unzigzag_of (n / 16)))
-advanced p bytes n fs (AtMetadata k precision) = (fs, wanting k (record { precision = precision; meta = n; size = None; from = bytes }) (asked n))
+advanced p bytes n fs (AtMetadata k precision) = (
+  fs,
+  wanting k (record { precision = precision; meta = n; size = None; from = bytes })
+      (asked n),
+)
 advanced p bytes n fs (AtOption k h r rs) = (fs, wanting k (with_option h r n bytes) rs)
 advanced p bytes n fs (AtCount m h) = counted m h fs n
 advanced p bytes n fs (AtId m h members ids zero) = members_begin m h fs (Some (ids ++ unzigzag_of n ∷ [])) members

@@ -8,7 +8,10 @@ use Rattle.twkb_tree.specs.Tree.{Tree, flat}
 use Rattle.twkb_tree.specs.Limits.{Allowance}
 use Rattle.twkb_grammar.specs.Roles.{Role, Header, Metadata, End, Item}
 use Rattle.twkb_grammar.specs.Machine as machine
-use Rattle.twkb_grammar.specs.Machine.{SimpleKind, CollectionKind, PointForm, LineForm, PolygonForm, MultiPointForm, MultiLineForm, MultiPolygonForm, kind_at, Sums, nothing, added, Stack, Phase, AtHeader, AtMetadata, AtOption}
+use Rattle.twkb_grammar.specs.Machine.{SimpleKind, CollectionKind, PointForm, LineForm, PolygonForm}
+use Rattle.twkb_grammar.specs.Machine.{MultiPointForm, MultiLineForm, MultiPolygonForm, kind_at}
+use Rattle.twkb_grammar.specs.Machine.{Sums, nothing, added, Stack, Phase, AtHeader, AtMetadata}
+use Rattle.twkb_grammar.specs.Machine.{AtOption}
 use Rattle.twkb_grammar.specs.Reading.{Stands, frame_count}
 use Rattle.twkb_grammar.specs.Blob.{Blob}
 use Rattle.twkb_grammar.specs.Spans.{spans_of_blob}
@@ -44,7 +47,15 @@ changed_at (suc n) f (x ∷ xs) = x ∷ changed_at n f xs
 -- The notes after a type byte at this offset, which begins a geometry after `points` points.
 abbrev pub note_header : (offset points number : ℕ) → Notes → Notes
 note_header offset points number w = record {
-  spans = w.spans ++ record { level = length w.begun; offset = offset; kind = shown (kind_at (number % 16)); precision = unzigzag_of (number / 16); metadata = 0; length = 0; points = points } ∷ [];
+  spans = w.spans ++ record {
+    level = length w.begun;
+    offset = offset;
+    kind = shown (kind_at (number % 16));
+    precision = unzigzag_of (number / 16);
+    metadata = 0;
+    length = 0;
+    points = points;
+  } ∷ [];
   begun = length w.spans ∷ w.begun;
 }
 
@@ -55,7 +66,11 @@ change_inner f ss (i ∷ is) = changed_at i f ss
 
 -- The notes after the metadata byte of the innermost geometry.
 abbrev pub note_metadata : ℕ → Notes → Notes
-note_metadata number w = record { spans = change_inner (λ s. record s { metadata = number }) w.spans w.begun; begun = w.begun }
+note_metadata number w = record {
+  spans = change_inner (λ s. record s { metadata = number }) w.spans
+      w.begun;
+  begun = w.begun;
+}
 
 -- The list without its first item.
 abbrev pub without_first : List ℕ → List ℕ
@@ -65,7 +80,14 @@ without_first (i ∷ is) = is
 -- The notes after the end of the innermost geometry, at this offset and after `points` points in
 -- all.
 abbrev pub note_end : (offset points : ℕ) → Notes → Notes
-note_end offset points w = record { spans = change_inner (λ s. record s { length = offset - s.offset; points = points - s.points }) w.spans w.begun; begun = without_first w.begun }
+note_end offset points w =
+    record {
+      spans = change_inner (λ s. record s {
+        length = offset - s.offset;
+        points = points - s.points;
+      }) w.spans w.begun;
+      begun = without_first w.begun;
+    }
 
 -- The items of this role are not noted.
 abbrev pub IsQuiet : Role → Type 0
@@ -108,22 +130,29 @@ IsCalm (AtOption k h r rs) = IsQuiet r
 IsCalm _ = ⊤
 
 -- The notes of a reader in this state.
-abbrev pub notes_of : {limits : Allowance} {bytes held : List ℕ} {gs : List Tree} {e : Sums} {st : Stack} → (start : ℕ) → Stands limits bytes gs e st held → Notes
+abbrev pub notes_of : {limits : Allowance} {bytes held : List ℕ} {gs : List Tree} {e : Sums}
+    {st : Stack} → (start : ℕ) → Stands limits bytes gs e st held → Notes
 notes_of start s = noted start nothing no_notes s.reached.items
 
 -- The notes in this state after this byte, which is noted at once if it is a type byte or a
 -- metadata byte.
-abbrev pub notes_with : {limits : Allowance} {bytes held : List ℕ} {gs : List Tree} {e : Sums} {st : Stack} → (start byte : ℕ) → Stands limits bytes gs e st held → Notes
+abbrev pub notes_with : {limits : Allowance} {bytes held : List ℕ} {gs : List Tree} {e : Sums}
+    {st : Stack} → (start byte : ℕ) → Stands limits bytes gs e st held → Notes
 notes_with {e = e} {st = st} start byte s = note_byte st.1 (start + e.bytes) e.points byte (notes_of start s)
 
 -- After a byte with which the blob goes on, the notes are those of the byte and of the ends that
 -- come with it.
-abbrev pub NotesGoOn : {limits : Allowance} {bytes held : List ℕ} {e : Sums} {st : Stack} → Stands limits bytes [] e st held → Type 0
-NotesGoOn {limits} {bytes} {st = st} s = (start byte : ℕ) (f : Sums) (su : Stack) (kept : List ℕ) (t : Stands limits (bytes ++ byte ∷ []) [] f su kept)
-    → IsCalm st.1 → notes_of start t ≡ note_ends_to (frame_count su) (start + f.bytes) f.points (notes_with start byte s)
+abbrev pub NotesGoOn : {limits : Allowance} {bytes held : List ℕ} {e : Sums} {st : Stack}
+    → Stands limits bytes [] e st held → Type 0
+NotesGoOn {limits} {bytes} {st = st} s = (start byte : ℕ) (f : Sums) (su : Stack) (kept : List ℕ)
+    (t : Stands limits (bytes ++ byte ∷ []) [] f su kept)
+    → IsCalm st.1 → notes_of start t ≡ note_ends_to (frame_count su) (start + f.bytes) f.points
+    (notes_with start byte s)
 
 -- After the last byte of the blob, the notes are those of the byte and of the ends of all open
 -- geometries, and they are the spans of the blob.
-abbrev pub NotesEnd : {limits : Allowance} {bytes held : List ℕ} {e : Sums} {st : Stack} → Stands limits bytes [] e st held → Type 0
+abbrev pub NotesEnd : {limits : Allowance} {bytes held : List ℕ} {e : Sums} {st : Stack}
+    → Stands limits bytes [] e st held → Type 0
 NotesEnd {limits} {bytes} {st = st} s = (start byte : ℕ) (g : Tree) (b : Blob limits (bytes ++ byte ∷ []) g)
-    → IsCalm st.1 → spans_of_blob start b ≡ (note_ends_to 0 (start + length (bytes ++ byte ∷ [])) (length (flat g)) (notes_with start byte s)).spans
+    → IsCalm st.1 → spans_of_blob start b ≡ (note_ends_to 0 (start + length (bytes ++ byte ∷ []))
+    (length (flat g)) (notes_with start byte s)).spans

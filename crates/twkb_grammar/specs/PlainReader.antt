@@ -1,12 +1,16 @@
 -- The plain reader, which cuts items from bytes one by one and gives each to the machine. It is
 -- slow, but it computes. It does not define the format: the law `plain_reader` states that it
 -- answers as blobs and first faults require.
-use Rattle.std.specs.Prelude.{ℕ, zero, suc, ◌+◌, ◌-◌, ◌*◌, ◌%◌, ◌^◌, Bool, true, false, not, ◌&&◌, ◌||◌, nat_lt, nat_le, nat_eq, if◌then◌else◌, List, [], ◌∷◌, length, ℤ, pos, negsuc, ◌+ℤ◌, Option, Some, None, Result, Ok, Err}
+use Rattle.std.specs.Prelude.{ℕ, zero, suc, ◌+◌, ◌-◌, ◌*◌, ◌%◌, ◌^◌, Bool, true, false, not, ◌&&◌}
+use Rattle.std.specs.Prelude.{◌||◌, nat_lt, nat_le, nat_eq, if◌then◌else◌, List, [], ◌∷◌, length, ℤ}
+use Rattle.std.specs.Prelude.{pos, negsuc, ◌+ℤ◌, Option, Some, None, Result, Ok, Err}
 use Rattle.twkb_num.specs.Zigzag.{unzigzag_of}
 use Rattle.twkb_tree.specs.Tree.{Tree}
 use Rattle.twkb_tree.specs.Limits.{Allowance}
 use Rattle.twkb_grammar.specs.Roles.{Counted, Geometries, Role, Header, Metadata, Extended, Count, X, Y, End, Item}
-use Rattle.twkb_grammar.specs.Fault.{Reason, Truncated, BadType, ExtraDimensions, BadVarint, TooDeep, TooManyNodes, TooManyPoints, CoordinateRange, SizeMismatch, announces_point, nodes_of, points_of}
+use Rattle.twkb_grammar.specs.Fault.{Reason, Truncated, BadType, ExtraDimensions, BadVarint}
+use Rattle.twkb_grammar.specs.Fault.{TooDeep, TooManyNodes, TooManyPoints, CoordinateRange}
+use Rattle.twkb_grammar.specs.Fault.{SizeMismatch, announces_point, nodes_of, points_of}
 use Rattle.twkb_grammar.specs.Machine.{Sums, nothing, added, Stack, Phase, Finished, started, role_at, stack_after}
 
 -- An item and the bytes after it, or the reason for which there is none.
@@ -23,7 +27,8 @@ abbrev pub varint_at : ℕ → List ℕ → Cut
 varint_at zero bytes = Err BadVarint
 varint_at (suc more) [] = Err Truncated
 varint_at (suc zero) (b ∷ bytes) = if nat_lt b 2 then Ok (b, b ∷ [], bytes) else Err BadVarint
-varint_at (suc (suc more)) (b ∷ bytes) = if nat_lt b 128 then Ok (b, b ∷ [], bytes) else with_byte b (varint_at (suc more) bytes)
+varint_at (suc (suc more)) (b ∷ bytes) = if nat_lt b 128 then Ok (b, b ∷ [], bytes) else with_byte b
+    (varint_at (suc more) bytes)
 
 -- One byte as a number.
 abbrev pub byte_at : List ℕ → Cut
@@ -61,7 +66,8 @@ unless false reason others = others
 -- The reason for which the next item may not have this number, if there is one.
 abbrev pub objection : Allowance → Sums → Role → ℕ → Option Reason
 objection limits s Header n = unless (nat_eq (n % 16) 0 || nat_lt 7 (n % 16)) BadType None
-objection limits s (Metadata kind) n = unless (announces_point kind n && nat_le limits.points s.points) TooManyPoints None
+objection limits s (Metadata kind) n = unless
+    (announces_point kind n && nat_le limits.points s.points) TooManyPoints None
 objection limits s Extended n = unless (not (nat_eq (n % 4) 0)) ExtraDimensions None
 objection limits s (Count c) n =
     unless (too_deep limits c n) TooDeep
@@ -101,7 +107,8 @@ decode_from (suc turns) limits e st bytes =
     elim (role_at e st) [
       | None ↦ made st.1 bytes
       | Some r ↦ after_cut e.bytes (λ n spelling. objection limits e r n)
-          (λ n spelling rest. let i : Item = record { role = r; number = n; bytes = spelling } in decode_from turns limits (added e i) (stack_after e i st) rest)
+          (λ n spelling rest. let i : Item = record { role = r; number = n; bytes = spelling } in
+          decode_from turns limits (added e i) (stack_after e i st) rest)
           (cut r bytes)
     ]
 

@@ -1,15 +1,20 @@
 -- A reader that takes items one by one: its state, and the effect of a number. It is no part of the
 -- format: code is proved against it, and the law `reading` relates it to blobs and first faults.
-use Rattle.std.specs.Prelude.{⊤, ◌+ℤ◌, ◌≡◌, ℕ, zero, suc, ◌-◌, ◌<◌, ◌≤◌, ◌⊎◌, Bool, true, false, List, [], ◌∷◌, ◌++◌, length, Option, Some, None, Result, Ok, Err}
+use Rattle.std.specs.Prelude.{⊤, ◌+ℤ◌, ◌≡◌, ℕ, zero, suc, ◌-◌, ◌<◌, ◌≤◌, ◌⊎◌, Bool, true, false}
+use Rattle.std.specs.Prelude.{List, [], ◌∷◌, ◌++◌, length, Option, Some, None, Result, Ok, Err}
 use Rattle.twkb_num.specs.Zigzag.{unzigzag_of}
 use Rattle.twkb_num.specs.Varint.{IsVarint}
 use Rattle.twkb_points.specs.Point.{Point, IsCoordinate}
 use Rattle.twkb_tree.specs.Tree.{Tree, collection}
 use Rattle.twkb_tree.specs.Limits.{Allowance}
-use Rattle.twkb_grammar.specs.Roles.{Role, Header, Metadata, Extended, Size, Box, Count, Id, X, Y, End, IsNumber, HasBytes, Item, join}
+use Rattle.twkb_grammar.specs.Roles.{Role, Header, Metadata, Extended, Size, Box, Count, Id, X, Y}
+use Rattle.twkb_grammar.specs.Roles.{End, IsNumber, HasBytes, Item, join}
 use Rattle.twkb_grammar.specs.Blob.{AreExact, Stream}
-use Rattle.twkb_grammar.specs.Fault.{Reason, SizeMismatch, Refused, FirstFault, GoOn, IsDeep, announced_nodes, announced_points}
-use Rattle.twkb_grammar.specs.Machine.{Sums, nothing, added, sums_after, Frame, Phase, AtHeader, AtEnd, Finished, Stack, started, snoc, role_at, stack_after, Runs}
+use Rattle.twkb_grammar.specs.Fault.{Reason, SizeMismatch, Refused, FirstFault, GoOn, IsDeep}
+use Rattle.twkb_grammar.specs.Fault.{announced_nodes, announced_points}
+use Rattle.twkb_grammar.specs.Machine.{Sums, nothing, added, sums_after, Frame, Phase, AtHeader}
+use Rattle.twkb_grammar.specs.Machine.{AtEnd, Finished, Stack, started, snoc, role_at, stack_after}
+use Rattle.twkb_grammar.specs.Machine.{Runs}
 use Rattle.twkb_grammar.specs.PlainReader.{is_exact}
 
 -- The limits on depth and range, which each item must keep after position p.
@@ -63,7 +68,8 @@ abbrev pub past_end : Bool → ℕ → Tree → List Frame → Result Stack Reas
 past_end false bytes g fs = Err SizeMismatch
 past_end true bytes g [] = Ok ([], Finished g)
 past_end true bytes g (f ∷ fs) = elim f.left [
-  | zero ↦ past_end (is_exact f.head.size (bytes - f.head.from)) bytes (collection f.head.precision f.ids (snoc f.done g)) fs
+  | zero ↦ past_end (is_exact f.head.size (bytes - f.head.from)) bytes
+      (collection f.head.precision f.ids (snoc f.done g)) fs
   | suc n ↦ Ok (record { head = f.head; ids = f.ids; done = snoc f.done g; left = n } ∷ fs, AtHeader)
 ]
 
@@ -85,7 +91,8 @@ AtNumber Known next Holds = (rest : List ℕ) (role : Role) → Known → next �
 -- If this stack expects an item after these items, each refusal of it is a fault of this sort,
 -- right after them.
 abbrev pub RefusalsAre : (List ℕ → ℕ → Reason → Type 0) → Allowance → List Item → Stack → Type 0
-RefusalsAre IsFault limits before st = (rest : List ℕ) (role : Role) (reason : Reason) → role_at (sums_after nothing before) st ≡ Some role
+RefusalsAre IsFault limits before st = (rest : List ℕ) (role : Role) (reason : Reason)
+    → role_at (sums_after nothing before) st ≡ Some role
     → Refused limits before rest role reason → IsFault (join before ++ rest) (length (join before)) reason
 
 -- What the ends lead to: the reader's next state, or the first fault, whatever bytes follow.
@@ -97,11 +104,13 @@ Landed limits bytes e (Err reason) = (rest : List ℕ) → FirstFault limits (by
 -- whatever bytes follow.
 abbrev pub Leads : Allowance → List ℕ → Sums → Stack → Item → Option Reason → Type 0
 Leads limits bytes e st i (Some reason) = FaultAt limits bytes e i reason
-Leads limits bytes e st i None = Landed limits (bytes ++ i.bytes) (added e i) (ends (added e i).bytes (stack_after e i st).0 (stack_after e i st).1)
+Leads limits bytes e st i None = Landed limits (bytes ++ i.bytes) (added e i)
+    (ends (added e i).bytes (stack_after e i st).0 (stack_after e i st).1)
 
 -- The bytes are blobs of these geometries, then complete items of a next one, if any, and then
 -- the first bytes of a number, which are held.
-pub record Stands (limits : Allowance) (bytes : List ℕ) (gs : List Tree) (e : Sums) (st : Stack) (held : List ℕ) : Type 0 where
+pub record Stands (limits : Allowance) (bytes : List ℕ) (gs : List Tree) (e : Sums) (st : Stack)
+    (held : List ℕ) : Type 0 where
   pub front : List ℕ
   pub middle : List ℕ
   pub whole : bytes ≡ front ++ (middle ++ held)

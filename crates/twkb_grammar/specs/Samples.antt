@@ -2,7 +2,8 @@
 use Rattle.std.specs.Prelude.{ℕ, zero, suc, ◌^◌, List, [], ◌∷◌, pos, negsuc, Some, None}
 use Rattle.twkb_points.specs.Point.{origin, point_at}
 use Rattle.twkb_tree.specs.Limits.{Allowance}
-use Rattle.twkb_tree.specs.Tree.{point, line, polygon, multi_point, multi_line, multi_polygon, Tree, simple, collection, end, ◌▷◌}
+use Rattle.twkb_tree.specs.Tree.{point, line, polygon, multi_point, multi_line, multi_polygon, Tree}
+use Rattle.twkb_tree.specs.Tree.{simple, collection, end, ◌▷◌}
 
 -- The standard limits.
 abbrev pub standard : Allowance
@@ -34,11 +35,15 @@ one_point = simple (pos 0) (point (Some (point_at (pos 2) (pos 1))))
 
 -- A linestring of three points, the example of the encoded polyline format.
 abbrev pub three_points : Tree
-three_points = simple (pos 5) (line (point_at (negsuc 12019999) (pos 3850000) ∷ point_at (negsuc 12094999) (pos 4070000) ∷ point_at (negsuc 12645299) (pos 4325200) ∷ []))
+three_points = simple (pos 5)
+    (line (point_at (negsuc 12019999) (pos 3850000) ∷ point_at (negsuc 12094999) (pos 4070000)
+    ∷ point_at (negsuc 12645299) (pos 4325200) ∷ []))
 
 -- A polygon of two rings, neither of them closed.
 abbrev pub two_rings : Tree
-two_rings = simple (pos 0) (polygon ((origin ∷ point_at (pos 4) (pos 0) ∷ point_at (pos 0) (pos 4) ∷ []) ∷ (point_at (pos 1) (pos 1) ∷ point_at (pos 2) (pos 1) ∷ point_at (pos 1) (pos 2) ∷ []) ∷ []))
+two_rings = simple (pos 0)
+    (polygon ((origin ∷ point_at (pos 4) (pos 0) ∷ point_at (pos 0) (pos 4) ∷ [])
+    ∷ (point_at (pos 1) (pos 1) ∷ point_at (pos 2) (pos 1) ∷ point_at (pos 1) (pos 2) ∷ []) ∷ []))
 
 -- A multipoint with ids.
 abbrev pub named_points : Tree
@@ -46,11 +51,14 @@ named_points = simple (pos 0) (multi_point (Some (pos 1 ∷ pos 2 ∷ [])) (orig
 
 -- A collection with ids, one of them negative.
 abbrev pub named_members : Tree
-named_members = collection (pos 0) (Some (pos 7 ∷ negsuc 0 ∷ [])) ((simple (pos 0) (point (Some (point_at (pos 1) (pos 1))))) ▷ (simple (pos 0) (line [])) ▷ end)
+named_members = collection (pos 0) (Some (pos 7 ∷ negsuc 0 ∷ []))
+    ((simple (pos 0) (point (Some (point_at (pos 1) (pos 1))))) ▷ (simple (pos 0) (line [])) ▷ end)
 
 -- A linestring from the greatest coordinate to the least one.
 abbrev pub widest : Tree
-widest = simple (pos 0) (line (point_at (pos 4611686018427387903) (pos 0) ∷ point_at (negsuc 4611686018427387903) (pos 0) ∷ []))
+widest = simple (pos 0)
+    (line (point_at (pos 4611686018427387903) (pos 0) ∷ point_at (negsuc 4611686018427387903)
+    (pos 0) ∷ []))
 
 -- A linestring of two points.
 abbrev pub short_line : Tree
@@ -74,7 +82,8 @@ empty_part = simple (pos 0) (multi_line None ([] ∷ []))
 
 -- A multipolygon with ids, of a polygon with two rings and of one with none.
 abbrev pub named_areas : Tree
-named_areas = simple (pos 0) (multi_polygon (Some (pos 3 ∷ pos 4 ∷ [])) (((point_at (pos 1) (pos 1) ∷ []) ∷ [] ∷ []) ∷ [] ∷ []))
+named_areas = simple (pos 0) (multi_polygon (Some (pos 3 ∷ pos 4 ∷ []))
+    (((point_at (pos 1) (pos 1) ∷ []) ∷ [] ∷ []) ∷ [] ∷ []))
 
 -- A point of the least precision.
 abbrev pub least_precision : Tree
@@ -90,15 +99,24 @@ two_lines = simple (pos 0) (multi_line None ((point_at (pos 1) (pos 1) ∷ []) �
 
 -- A collection of two points.
 abbrev pub two_places : Tree
-two_places = collection (pos 0) None ((simple (pos 0) (point (Some (point_at (pos 1) (pos 1))))) ▷ (simple (pos 0) (point (Some (point_at (pos 3) (pos 0))))) ▷ end)
+two_places = collection (pos 0) None ((simple (pos 0) (point (Some (point_at (pos 1) (pos 1))))) ▷
+    (simple (pos 0) (point (Some (point_at (pos 3) (pos 0))))) ▷ end)
 
 -- A collection of the same point twice.
 abbrev pub two_members : Tree
-two_members = collection (pos 0) None ((simple (pos 0) (point (Some (point_at (pos 1) (pos 1))))) ▷ (simple (pos 0) (point (Some (point_at (pos 1) (pos 1))))) ▷ end)
+two_members = collection (pos 0) None ((simple (pos 0) (point (Some (point_at (pos 1) (pos 1))))) ▷
+    (simple (pos 0) (point (Some (point_at (pos 1) (pos 1))))) ▷ end)
 
 -- Nine collections, each the only member of the next.
 abbrev pub nine_deep : Tree
-nine_deep = collection (pos 0) None ((collection (pos 0) None ((collection (pos 0) None ((collection (pos 0) None ((collection (pos 0) None ((collection (pos 0) None ((collection (pos 0) None ((collection (pos 0) None ((collection (pos 0) None end) ▷ end)) ▷ end)) ▷ end)) ▷ end)) ▷ end)) ▷ end)) ▷ end)) ▷ end)
+nine_deep = collection (pos 0) None
+    ((collection (pos 0) None
+    ((collection (pos 0) None
+    ((collection (pos 0) None
+    ((collection (pos 0) None
+    ((collection (pos 0) None
+    ((collection (pos 0) None ((collection (pos 0) None ((collection (pos 0) None end) ▷ end)) ▷
+    end)) ▷ end)) ▷ end)) ▷ end)) ▷ end)) ▷ end)) ▷ end)
 
 -- The canonical full blob of the linestring of three points.
 abbrev pub three_points_blob : List ℕ

@@ -1,13 +1,16 @@
 -- The canonical blob of a geometry in a style (TWKB; which optional parts there are, and what a
 -- box covers: profile).
-use Rattle.std.specs.Prelude.{ℕ, ◌+◌, Bool, true, false, not, ◌&&◌, if◌then◌else◌, List, [], ◌∷◌, ◌++◌, length, flat_map}
+use Rattle.std.specs.Prelude.{ℕ, ◌+◌, Bool, true, false, not, ◌&&◌, if◌then◌else◌, List, [], ◌∷◌}
+use Rattle.std.specs.Prelude.{◌++◌, length, flat_map}
 use Rattle.twkb_num.specs.Zigzag.{zigzag_of}
 use Rattle.twkb_num.specs.Varint.{varint_of}
 use Rattle.twkb_points.specs.Extent.{tight}
-use Rattle.twkb_tree.specs.Tree.{point, line, polygon, multi_point, multi_line, multi_polygon, Tree, simple, collection, Trees, end, ◌▷◌, count, flat, precision_of}
+use Rattle.twkb_tree.specs.Tree.{point, line, polygon, multi_point, multi_line, multi_polygon, Tree}
+use Rattle.twkb_tree.specs.Tree.{simple, collection, Trees, end, ◌▷◌, count, flat, precision_of}
 use Rattle.twkb_tree.specs.Uniform.{uniform}
 use Rattle.twkb_grammar.specs.Roles.{Count, Geometries, Field}
-use Rattle.twkb_grammar.specs.Items.{fields, id_fields, kind_of, header_byte, Flags, MustBeEmpty, MayBeEmpty, HasBody, HasMembers, flags, flags_all}
+use Rattle.twkb_grammar.specs.Items.{fields, id_fields, kind_of, header_byte, Flags, MustBeEmpty}
+use Rattle.twkb_grammar.specs.Items.{MayBeEmpty, HasBody, HasMembers, flags, flags_all}
 use Rattle.twkb_grammar.specs.declared.style.Style.{Style}
 use Rattle.twkb_grammar.specs.declared.style.Style.TheVariants.{Full, Plain}
 
@@ -85,7 +88,8 @@ framed Plain g body = body
 -- none.
 abbrev pub written : Style → Tree → List ℕ → List ℕ
 written style g body =
-    header_byte (kind_of_tree g) (precision_of g) ∷ metadata_byte style g ∷ framed style g (if is_empty (flags_of_tree g) then [] else body)
+    header_byte (kind_of_tree g) (precision_of g) ∷ metadata_byte style g ∷ framed style g
+    (if is_empty (flags_of_tree g) then [] else body)
 
 -- The canonical blob of a geometry; the members of a collection are canonical blobs themselves
 -- (profile).
@@ -93,7 +97,8 @@ abbrev mutual
   pub canonical_blob : Style → Tree → List ℕ
   canonical_blob style (simple p s) = written style (simple p s) (varints (fields s))
   canonical_blob style (collection p ids gs) =
-      written style (collection p ids gs) (varints ((Count (Geometries 0), count gs) ∷ id_fields ids) ++ canonical_members style gs)
+      written style (collection p ids gs)
+      (varints ((Count (Geometries 0), count gs) ∷ id_fields ids) ++ canonical_members style gs)
 
   -- The canonical blobs of members, one after another.
   pub canonical_members : Style → Trees → List ℕ

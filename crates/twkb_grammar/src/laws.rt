@@ -9,25 +9,32 @@ ghost use Rattle.twkb_grammar.specs.Roles.{Item, Role, HasBytes};
 ghost use Rattle.twkb_grammar.specs.Items.{Items};
 ghost use Rattle.twkb_grammar.specs.Blob.{Blob, BlobInFront, Stream};
 ghost use Rattle.twkb_grammar.specs.Written.{canonical_blob, canonical_stream};
-ghost use Rattle.twkb_grammar.specs.Fault.{Fault, FirstFault, StreamFault, Reason, Truncated, BadVarint, Part, IsPart, IsCut, IsTooLong};
+ghost use Rattle.twkb_grammar.specs.Fault.{Fault, FirstFault, StreamFault, Reason, Truncated};
+ghost use Rattle.twkb_grammar.specs.Fault.{BadVarint, Part, IsPart, IsCut, IsTooLong};
 ghost use Rattle.twkb_grammar.specs.Machine.{Runs, Sums, nothing, started, Finished, Stack, role_at, sums_after};
 ghost use Rattle.twkb_grammar.specs.PlainReader.{decode, objection, Made, RefusedAt, GoesOn};
 ghost use Rattle.twkb_grammar.specs.Spans.{spans_of_blob, moved_span, geometries, CoversBlob};
 ghost use Rattle.twkb_grammar.specs.Noting.{no_notes, noted, NotesGoOn, NotesEnd};
-ghost use Rattle.twkb_grammar.specs.Reading.{Ran, Reached, IsGiven, AtNumber, RefusalsAre, Leads, Stands, IsSamePlace, frame_count, open_after};
+ghost use Rattle.twkb_grammar.specs.Reading.{Ran, Reached, IsGiven, AtNumber, RefusalsAre, Leads};
+ghost use Rattle.twkb_grammar.specs.Reading.{Stands, IsSamePlace, frame_count, open_after};
 
 /// In either style, the canonical blob of a valid geometry is a blob of it, and the numbers of
 /// nodes and points bound its length. The canonical stream of valid geometries is a stream of them.
 pub fn written_is_blob()
-    ensures blob { (limits : Allowance) (style : Style) (g : Tree) → IsAllowance limits → IsValid limits g → Blob limits (canonical_blob style g) g }
-    ensures short { (limits : Allowance) (style : Style) (g : Tree) → IsAllowance limits → IsValid limits g → length (canonical_blob style g) ≤ 100 * nodes g + 20 * length (flat g) }
-    ensures stream { (limits : Allowance) (style : Style) (gs : List Tree) → IsAllowance limits → AllByRecursion (λ g. IsValid limits g) gs → Stream limits (canonical_stream style gs) gs }
+    ensures blob { (limits : Allowance) (style : Style) (g : Tree) → IsAllowance limits
+        → IsValid limits g → Blob limits (canonical_blob style g) g }
+    ensures short { (limits : Allowance) (style : Style) (g : Tree) → IsAllowance limits
+        → IsValid limits g → length (canonical_blob style g) ≤ 100 * nodes g + 20
+        * length (flat g) }
+    ensures stream { (limits : Allowance) (style : Style) (gs : List Tree) → IsAllowance limits
+        → AllByRecursion (λ g. IsValid limits g) gs → Stream limits (canonical_stream style gs) gs }
 {}
 
 /// Bytes are a blob of at most one geometry, and no blob is a proper prefix of another: two blobs
 /// at the start of the same bytes are equal, and so are their geometries.
 pub fn one_blob()
-    ensures { (limits : Allowance) (a b x y : List ℕ) (g h : Tree) → Blob limits a g → Blob limits b h → a ++ x ≡ b ++ y → (g ≡ h) × (a ≡ b) }
+    ensures { (limits : Allowance) (a b x y : List ℕ) (g h : Tree) → Blob limits a g
+        → Blob limits b h → a ++ x ≡ b ++ y → (g ≡ h) × (a ≡ b) }
 {}
 
 /// A blob has at least one byte.
@@ -39,39 +46,58 @@ pub fn some_byte()
 /// bytes after the shorter one are a stream of the other geometries. Two streams joined are a
 /// stream.
 pub fn one_stream()
-    ensures one_reading { (limits : Allowance) (bytes : List ℕ) (gs hs : List Tree) → Stream limits bytes gs → Stream limits bytes hs → gs ≡ hs }
-    ensures one_cut { (limits : Allowance) (bytes rest : List ℕ) (gs hs : List Tree) → Stream limits bytes gs → Stream limits (bytes ++ rest) hs → (ks : List Tree) × (hs ≡ gs ++ ks) × Stream limits rest ks }
-    ensures joined { (limits : Allowance) (a b : List ℕ) (gs hs : List Tree) → Stream limits a gs → Stream limits b hs → Stream limits (a ++ b) (gs ++ hs) }
+    ensures one_reading { (limits : Allowance) (bytes : List ℕ) (gs hs : List Tree)
+        → Stream limits bytes gs → Stream limits bytes hs → gs ≡ hs }
+    ensures one_cut { (limits : Allowance) (bytes rest : List ℕ) (gs hs : List Tree)
+        → Stream limits bytes gs → Stream limits (bytes ++ rest) hs → (ks : List Tree)
+        × (hs ≡ gs ++ ks) × Stream limits rest ks }
+    ensures joined { (limits : Allowance) (a b : List ℕ) (gs hs : List Tree) → Stream limits a gs
+        → Stream limits b hs → Stream limits (a ++ b) (gs ++ hs) }
 {}
 
 /// Bytes that begin with a blob have no fault. If two joined lists of bytes are a stream, and so is
 /// the first, the second has no fault.
 pub fn blob_or_fault()
-    ensures no_blob { (limits : Allowance) (bytes rest : List ℕ) (g : Tree) (offset : ℕ) (reason : Reason) → BlobInFront limits bytes g rest → Fault limits bytes offset reason → ⊥ }
-    ensures no_stream { (limits : Allowance) (bytes rest : List ℕ) (gs hs : List Tree) (offset : ℕ) (reason : Reason) → Stream limits bytes gs → Fault limits rest offset reason → Stream limits (bytes ++ rest) hs → ⊥ }
+    ensures no_blob { (limits : Allowance) (bytes rest : List ℕ) (g : Tree) (offset : ℕ)
+        (reason : Reason) → BlobInFront limits bytes g rest → Fault limits bytes offset reason → ⊥ }
+    ensures no_stream { (limits : Allowance) (bytes rest : List ℕ) (gs hs : List Tree) (offset : ℕ)
+        (reason : Reason) → Stream limits bytes gs → Fault limits rest offset reason
+        → Stream limits (bytes ++ rest) hs → ⊥ }
 {}
 
 /// Bytes have at most one first fault, with one offset and one reason. In a stream, the geometries
 /// before the fault are determined too. Bytes with a fault, put after a stream, keep their fault;
 /// its offset grows by the length of the stream.
 pub fn one_fault()
-    ensures blob { (limits : Allowance) (bytes : List ℕ) (o p : ℕ) (r s : Reason) → FirstFault limits bytes o r → FirstFault limits bytes p s → (o ≡ p) × (r ≡ s) }
-    ensures stream { (limits : Allowance) (bytes : List ℕ) (gs hs : List Tree) (o p : ℕ) (r s : Reason) → StreamFault limits bytes gs o r → StreamFault limits bytes hs p s → (gs ≡ hs) × (o ≡ p) × (r ≡ s) }
-    ensures joined { (limits : Allowance) (a b : List ℕ) (gs hs : List Tree) (offset : ℕ) (reason : Reason) → Stream limits a gs → StreamFault limits b hs offset reason → StreamFault limits (a ++ b) (gs ++ hs) (length a + offset) reason }
+    ensures blob { (limits : Allowance) (bytes : List ℕ) (o p : ℕ) (r s : Reason)
+        → FirstFault limits bytes o r → FirstFault limits bytes p s → (o ≡ p) × (r ≡ s) }
+    ensures stream { (limits : Allowance) (bytes : List ℕ) (gs hs : List Tree) (o p : ℕ)
+        (r s : Reason) → StreamFault limits bytes gs o r → StreamFault limits bytes hs p s
+        → (gs ≡ hs) × (o ≡ p) × (r ≡ s) }
+    ensures joined { (limits : Allowance) (a b : List ℕ) (gs hs : List Tree) (offset : ℕ)
+        (reason : Reason) → Stream limits a gs → StreamFault limits b hs offset reason
+        → StreamFault limits (a ++ b) (gs ++ hs) (length a + offset) reason }
 {}
 
 /// Any bytes are a stream, or blobs followed by a first fault.
 pub fn stream_or_fault()
     ensures { (limits : Allowance) (bytes : List ℕ) → IsAllowance limits → AreBytes bytes
-        → ((gs : List Tree) × Stream limits bytes gs) ⊎ ((gs : List Tree) × (offset : ℕ) × (reason : Reason) × StreamFault limits bytes gs offset reason) }
+        → ((gs : List Tree) × Stream limits bytes gs)
+        ⊎ ((gs : List Tree) × (offset : ℕ) × (reason : Reason)
+        × StreamFault limits bytes gs offset reason) }
 {}
 
 /// If there is at least one byte, the plain reader always answers: it makes a geometry exactly if a
 /// blob of it is at the start of the bytes, and refuses the bytes exactly at their first fault.
 pub fn plain_reader()
-    ensures made { (limits : Allowance) (bytes rest : List ℕ) (g : Tree) → IsAllowance limits → AreBytes bytes → bytes ≢ [] → decode limits bytes ≡ Made g rest ↔ BlobInFront limits bytes g rest }
-    ensures refused { (limits : Allowance) (bytes : List ℕ) (offset : ℕ) (reason : Reason) → IsAllowance limits → AreBytes bytes → bytes ≢ [] → decode limits bytes ≡ RefusedAt offset reason ↔ FirstFault limits bytes offset reason }
-    ensures answers { (limits : Allowance) (bytes : List ℕ) → IsAllowance limits → AreBytes bytes → bytes ≢ [] → decode limits bytes ≢ GoesOn }
+    ensures made { (limits : Allowance) (bytes rest : List ℕ) (g : Tree) → IsAllowance limits
+        → AreBytes bytes → bytes ≢ [] → decode limits bytes ≡ Made g rest
+        ↔ BlobInFront limits bytes g rest }
+    ensures refused { (limits : Allowance) (bytes : List ℕ) (offset : ℕ) (reason : Reason)
+        → IsAllowance limits → AreBytes bytes → bytes ≢ []
+        → decode limits bytes ≡ RefusedAt offset reason ↔ FirstFault limits bytes offset reason }
+    ensures answers { (limits : Allowance) (bytes : List ℕ) → IsAllowance limits → AreBytes bytes
+        → bytes ≢ [] → decode limits bytes ≢ GoesOn }
 {}
 
 /// The item machine runs through some items to a geometry exactly if they are the items of that
@@ -82,58 +108,80 @@ pub fn machine()
 
 /// The item machine runs through some items exactly if the items of some geometry begin with them.
 pub fn fronts()
-    ensures { (before : List Item) → ((st : Stack) × Runs nothing started before st) ↔ ((g : Tree) × (more : List Item) × IsTree g × Items 0 g (before ++ more)) }
+    ensures { (before : List Item) → ((st : Stack) × Runs nothing started before st)
+        ↔ ((g : Tree) × (more : List Item) × IsTree g × Items 0 g (before ++ more)) }
 {}
 
 /// From each state that it reaches, the item machine can run on to a complete geometry.
 pub fn completions()
-    ensures { (before : List Item) (st : Stack) → Runs nothing started before st → (more : List Item) × (g : Tree) × Runs (sums_after nothing before) st more ([], Finished g) }
+    ensures { (before : List Item) (st : Stack) → Runs nothing started before st
+        → (more : List Item) × (g : Tree) × Runs (sums_after nothing before) st more
+        ([], Finished g) }
 {}
 
 /// The machine runs through some items, within the limits and with exact sizes, exactly if they are
 /// a part. The bytes that a reader has taken are those of a part, and so are the bytes of a blob.
 /// Bytes that begin with a part have no fault inside that part.
 pub fn parts()
-    ensures items { (limits : Allowance) (before : List Item) → Part limits before ↔ ((st : Stack) × Ran limits before st) }
-    ensures reached { (limits : Allowance) (bytes : List ℕ) (e : Sums) (st : Stack) → Reached limits bytes e st → IsPart limits bytes }
+    ensures items { (limits : Allowance) (before : List Item) → Part limits before
+        ↔ ((st : Stack) × Ran limits before st) }
+    ensures reached { (limits : Allowance) (bytes : List ℕ) (e : Sums) (st : Stack)
+        → Reached limits bytes e st → IsPart limits bytes }
     ensures blob { (limits : Allowance) (bytes : List ℕ) (g : Tree) → Blob limits bytes g → IsPart limits bytes }
-    ensures behind { (limits : Allowance) (bytes more : List ℕ) (offset : ℕ) (reason : Reason) → IsPart limits bytes → Fault limits (bytes ++ more) offset reason → length bytes ≤ offset }
+    ensures behind { (limits : Allowance) (bytes more : List ℕ) (offset : ℕ) (reason : Reason)
+        → IsPart limits bytes → Fault limits (bytes ++ more) offset reason → length bytes ≤ offset }
 {}
 
 /// If the machine expects an item, and a reason is the first that applies to the bytes left, then
 /// that place and reason are a fault. It is the first fault if the items so far keep the limits and
 /// have exact sizes.
 pub fn refusals()
-    ensures fault { (limits : Allowance) (before : List Item) (st : Stack) → Runs nothing started before st → RefusalsAre (Fault limits) limits before st }
-    ensures first { (limits : Allowance) (before : List Item) (st : Stack) → Ran limits before st → RefusalsAre (FirstFault limits) limits before st }
+    ensures fault { (limits : Allowance) (before : List Item) (st : Stack)
+        → Runs nothing started before st → RefusalsAre (Fault limits) limits before st }
+    ensures first { (limits : Allowance) (before : List Item) (st : Stack) → Ran limits before st
+        → RefusalsAre (FirstFault limits) limits before st }
 {}
 
 /// A reader that takes items one by one: what is true at its start, after each item, at a blob's
 /// end, and if bytes are missing or a number is too long.
 pub fn reading()
     ensures starts { (limits : Allowance) → IsAllowance limits → Reached limits [] nothing started }
-    ensures offset { (limits : Allowance) (bytes : List ℕ) (e : Sums) (st : Stack) → Reached limits bytes e st → length bytes ≡ e.bytes }
-    ensures depth { (limits : Allowance) (bytes : List ℕ) (e : Sums) (st : Stack) → Reached limits bytes e st → length st.0 ≤ limits.nest }
-    ensures frames { (limits : Allowance) (bytes : List ℕ) (e : Sums) (st : Stack) (r : Reached limits bytes e st) → frame_count st ≡ open_after 0 r.items }
-    ensures few_frames { (limits : Allowance) (bytes : List ℕ) (e : Sums) (st : Stack) → Reached limits bytes e st → frame_count st ≤ limits.nest + 1 }
-    ensures leads { (limits : Allowance) (bytes : List ℕ) (e : Sums) (st : Stack) (i : Item) → Reached limits bytes e st → role_at e st ≡ Some i.role → IsGiven i
+    ensures offset { (limits : Allowance) (bytes : List ℕ) (e : Sums) (st : Stack)
+        → Reached limits bytes e st → length bytes ≡ e.bytes }
+    ensures depth { (limits : Allowance) (bytes : List ℕ) (e : Sums) (st : Stack)
+        → Reached limits bytes e st → length st.0 ≤ limits.nest }
+    ensures frames { (limits : Allowance) (bytes : List ℕ) (e : Sums) (st : Stack)
+        (r : Reached limits bytes e st) → frame_count st ≡ open_after 0 r.items }
+    ensures few_frames { (limits : Allowance) (bytes : List ℕ) (e : Sums) (st : Stack)
+        → Reached limits bytes e st → frame_count st ≤ limits.nest + 1 }
+    ensures leads { (limits : Allowance) (bytes : List ℕ) (e : Sums) (st : Stack) (i : Item)
+        → Reached limits bytes e st → role_at e st ≡ Some i.role → IsGiven i
         → Leads limits bytes e st i (objection limits e i.role i.number) }
-    ensures blob { (limits : Allowance) (bytes : List ℕ) (e : Sums) (g : Tree) → Reached limits bytes e ([], Finished g) → Blob limits bytes g }
+    ensures blob { (limits : Allowance) (bytes : List ℕ) (e : Sums) (g : Tree)
+        → Reached limits bytes e ([], Finished g) → Blob limits bytes g }
     ensures cut { (limits : Allowance) (bytes : List ℕ) (e : Sums) (st : Stack)
-        → AtNumber (Reached limits bytes e st) (role_at e st) (λ rest. IsCut rest → FirstFault limits (bytes ++ rest) e.bytes Truncated) }
+        → AtNumber (Reached limits bytes e st) (role_at e st)
+        (λ rest. IsCut rest → FirstFault limits (bytes ++ rest) e.bytes Truncated) }
     ensures long { (limits : Allowance) (bytes : List ℕ) (e : Sums) (st : Stack)
-        → AtNumber (Reached limits bytes e st) (role_at e st) (λ rest. IsTooLong rest → FirstFault limits (bytes ++ rest) e.bytes BadVarint) }
-    ensures missing { (limits : Allowance) (bytes : List ℕ) (e : Sums) (st : Stack) (role : Role) → Reached limits bytes e st → role_at e st ≡ Some role
+        → AtNumber (Reached limits bytes e st) (role_at e st) (λ rest. IsTooLong rest
+        → FirstFault limits (bytes ++ rest) e.bytes BadVarint) }
+    ensures missing { (limits : Allowance) (bytes : List ℕ) (e : Sums) (st : Stack) (role : Role)
+        → Reached limits bytes e st → role_at e st ≡ Some role
         → bytes ≢ [] → HasBytes role → FirstFault limits bytes e.bytes Truncated }
 {}
 
 /// The bytes of a stream alone determine the state of its reader, between two blobs and inside one.
 /// Between two blobs the bytes are a stream; inside a blob they are truncated.
 pub fn standing()
-    ensures starts { (limits : Allowance) (bytes : List ℕ) (gs : List Tree) → IsAllowance limits → Stream limits bytes gs → Stands limits bytes gs nothing started [] }
-    ensures one_place { (limits : Allowance) (bytes : List ℕ) (gs hs : List Tree) (e f : Sums) (st su : Stack) (held kept : List ℕ) → Stands limits bytes gs e st held → Stands limits bytes hs f su kept → IsSamePlace gs hs e f st su held kept }
-    ensures whole { (limits : Allowance) (bytes : List ℕ) (gs : List Tree) (e : Sums) (st : Stack) (held : List ℕ) → Stands limits bytes gs e st held → e.bytes ≡ 0 → Stream limits bytes gs }
-    ensures cut { (limits : Allowance) (bytes : List ℕ) (gs : List Tree) (e : Sums) (st : Stack) (held : List ℕ) (s : Stands limits bytes gs e st held) → 0 < e.bytes
+    ensures starts { (limits : Allowance) (bytes : List ℕ) (gs : List Tree) → IsAllowance limits
+        → Stream limits bytes gs → Stands limits bytes gs nothing started [] }
+    ensures one_place { (limits : Allowance) (bytes : List ℕ) (gs hs : List Tree) (e f : Sums)
+        (st su : Stack) (held kept : List ℕ) → Stands limits bytes gs e st held
+        → Stands limits bytes hs f su kept → IsSamePlace gs hs e f st su held kept }
+    ensures whole { (limits : Allowance) (bytes : List ℕ) (gs : List Tree) (e : Sums) (st : Stack)
+        (held : List ℕ) → Stands limits bytes gs e st held → e.bytes ≡ 0 → Stream limits bytes gs }
+    ensures cut { (limits : Allowance) (bytes : List ℕ) (gs : List Tree) (e : Sums) (st : Stack)
+        (held : List ℕ) (s : Stands limits bytes gs e st held) → 0 < e.bytes
         → StreamFault limits bytes gs (length s.front + e.bytes) Truncated }
 {}
 
@@ -141,17 +189,26 @@ pub fn standing()
 /// the blob's start to its end. If the blob begins at another offset, only the offsets of the spans
 /// change.
 pub fn spans()
-    ensures one_list { (limits : Allowance) (bytes : List ℕ) (g : Tree) (start : ℕ) (a b : Blob limits bytes g) → spans_of_blob start a ≡ spans_of_blob start b }
-    ensures one_each { (limits : Allowance) (bytes : List ℕ) (g : Tree) (start : ℕ) (b : Blob limits bytes g) → length (spans_of_blob start b) ≡ geometries g }
-    ensures first { (limits : Allowance) (bytes : List ℕ) (g : Tree) (start : ℕ) (b : Blob limits bytes g) → CoversBlob start bytes g (spans_of_blob start b) }
-    ensures moved { (limits : Allowance) (bytes : List ℕ) (g : Tree) (n start : ℕ) (b : Blob limits bytes g) → spans_of_blob (n + start) b ≡ map (moved_span n) (spans_of_blob start b) }
+    ensures one_list { (limits : Allowance) (bytes : List ℕ) (g : Tree) (start : ℕ)
+        (a b : Blob limits bytes g) → spans_of_blob start a ≡ spans_of_blob start b }
+    ensures one_each { (limits : Allowance) (bytes : List ℕ) (g : Tree) (start : ℕ)
+        (b : Blob limits bytes g) → length (spans_of_blob start b) ≡ geometries g }
+    ensures first { (limits : Allowance) (bytes : List ℕ) (g : Tree) (start : ℕ)
+        (b : Blob limits bytes g) → CoversBlob start bytes g (spans_of_blob start b) }
+    ensures moved { (limits : Allowance) (bytes : List ℕ) (g : Tree) (n start : ℕ)
+        (b : Blob limits bytes g) → spans_of_blob (n + start) b ≡ map (moved_span n)
+        (spans_of_blob start b) }
 {}
 
 /// A reader that notes spans while it takes items has noted the spans of the blob after the last
 /// item. What one more byte adds to the notes depends only on the reader's states before and after
 /// it.
 pub fn noting()
-    ensures whole { (limits : Allowance) (bytes : List ℕ) (g : Tree) (start : ℕ) (b : Blob limits bytes g) → noted start nothing no_notes b.items ≡ record { spans = spans_of_blob start b; begun = [] } }
-    ensures goes_on { (limits : Allowance) (bytes : List ℕ) (e : Sums) (st : Stack) (held : List ℕ) (s : Stands limits bytes [] e st held) → NotesGoOn s }
-    ensures ends { (limits : Allowance) (bytes : List ℕ) (e : Sums) (st : Stack) (held : List ℕ) (s : Stands limits bytes [] e st held) → NotesEnd s }
+    ensures whole { (limits : Allowance) (bytes : List ℕ) (g : Tree) (start : ℕ)
+        (b : Blob limits bytes g) → noted start nothing no_notes b.items
+        ≡ record { spans = spans_of_blob start b; begun = [] } }
+    ensures goes_on { (limits : Allowance) (bytes : List ℕ) (e : Sums) (st : Stack) (held : List ℕ)
+        (s : Stands limits bytes [] e st held) → NotesGoOn s }
+    ensures ends { (limits : Allowance) (bytes : List ℕ) (e : Sums) (st : Stack) (held : List ℕ)
+        (s : Stands limits bytes [] e st held) → NotesEnd s }
 {}

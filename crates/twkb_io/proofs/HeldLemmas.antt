@@ -1,5 +1,7 @@
 -- The held bytes of an array: its unused part from `at` to `filled`, as far as there is room.
-use Rattle.std.proofs.Common.{◌≡◌, ◌≢◌, ◌≤◌, ◌<◌, ◌+◌, ◌-◌, min, ℕ, List, [], ◌∷◌, ◌++◌, take, drop, length, Option, Some, None, arith, ap, sym, ◌∙◌, inl, inr, Bool, true, false, append_assoc, length-append, length-drop}
+use Rattle.std.proofs.Common.{◌≡◌, ◌≢◌, ◌≤◌, ◌<◌, ◌+◌, ◌-◌, min, ℕ, List, [], ◌∷◌, ◌++◌, take, drop}
+use Rattle.std.proofs.Common.{length, Option, Some, None, arith, ap, sym, ◌∙◌, inl, inr, Bool, true}
+use Rattle.std.proofs.Common.{false, append_assoc, length-append, length-drop}
 use Rattle.std.proofs.KnownBytes.{Keeps-refl, prepend_known-end}
 use Rattle.std.proofs.Math.Nat.{eq-or-lt_of_le}
 use Rattle.std.proofs.Math.Seq.{take-nil}
@@ -9,13 +11,17 @@ use Rattle.std.specs.Prelude.{IfSome, slice_get, slice_range}
 use Rattle.std.specs.Io.KnownBytes.{Consumes, IsAtEnd, Keeps, prepend_known}
 
 -- after n more bytes, the unused part has lost its first n
-pub unused_advanced : (held : List ℕ) (at filled n : ℕ) → at + n ≤ filled → slice_range held (at + n) filled ≡ drop n (slice_range held at filled)
+pub unused_advanced : (held : List ℕ) (at filled n : ℕ) → at + n ≤ filled
+    → slice_range held (at + n) filled ≡ drop n (slice_range held at filled)
 unused_advanced held at filled n fits =
     let parts : filled - at ≡ n + (filled - (at + n)) = omega arith in
-    sym (ap (λ k. drop n (take k (drop at held))) parts ∙ drop-take n (filled - (at + n)) (drop at held) ∙ ap (take (filled - (at + n))) (drop-drop n at held))
+    sym (ap (λ k. drop n (take k (drop at held))) parts
+    ∙ drop-take n (filled - (at + n)) (drop at held)
+    ∙ ap (take (filled - (at + n))) (drop-drop n at held))
 
 -- after n more bytes, the held bytes have lost their first n
-pub held_advanced : (unused : List ℕ) (most given n : ℕ) → given + n ≤ most → take (most - (given + n)) (drop n unused) ≡ drop n (take (most - given) unused)
+pub held_advanced : (unused : List ℕ) (most given n : ℕ) → given + n ≤ most
+    → take (most - (given + n)) (drop n unused) ≡ drop n (take (most - given) unused)
 held_advanced unused most given n fits =
     let parts : most - given ≡ n + (most - (given + n)) = omega arith in
     sym (ap (λ k. drop n (take k unused)) parts ∙ drop-take n (most - (given + n)) unused)
@@ -29,29 +35,46 @@ consumed_front unused (Some more) n room fits =
     ∙ ap (λ l. l ++ (drop n unused ++ more)) (sym (take-take n room unused fits))
 
 -- an array is used up only at the end
-pub not_used_up : (at filled : ℕ) (ended : Bool) → at ≤ filled → (at ≡ filled → ended ≡ true) → ended ≡ false → at < filled
-not_used_up at filled ended ordered end more = elim (eq-or-lt_of_le ordered) [ inl same ↦ absurd (cc (end same, more)) | inr less ↦ less ]
+pub not_used_up : (at filled : ℕ) (ended : Bool) → at ≤ filled → (at ≡ filled → ended ≡ true)
+    → ended ≡ false → at < filled
+not_used_up at filled ended ordered end more = elim (eq-or-lt_of_le ordered)
+    [ inl same ↦ absurd (cc (end same, more)) | inr less ↦ less ]
 
 -- a byte is held if the array is not used up and there is room
-pub some_held : (held : List ℕ) (at filled room : ℕ) → at < filled → filled ≤ length held → 0 < room → take room (slice_range held at filled) ≢ []
+pub some_held : (held : List ℕ) (at filled room : ℕ) → at < filled → filled ≤ length held → 0 < room
+    → take room (slice_range held at filled) ≢ []
 some_held held at filled room less within roomy none =
-    omega (arith, ap length none, length-take room (slice_range held at filled), length-take (filled - at) (drop at held), length-drop at held)
+    omega (
+      arith,
+      ap length none,
+      length-take room (slice_range held at filled),
+      length-take (filled - at) (drop at held),
+      length-drop at held,
+    )
 
 -- the rest is not empty if the array has an unused byte
 pub held_rest : (held : List ℕ) (known : Option (List ℕ)) (at filled : ℕ) → at < filled → filled ≤ length held
     → IfSome (prepend_known (slice_range held at filled) known) (λ rest. rest ≢ [])
 held_rest held None at filled less within = tt
 held_rest held (Some more) at filled less within = λ none.
-    omega (arith, ap length none, length-append (slice_range held at filled) more, length-take (filled - at) (drop at held), length-drop at held)
+    omega (
+      arith,
+      ap length none,
+      length-append (slice_range held at filled) more,
+      length-take (filled - at) (drop at held),
+      length-drop at held,
+    )
 
 -- a rest that was kept and is not empty was not empty before
-pub kept_rest : (old new : Option (List ℕ)) → Keeps old new → IfSome new (λ rest. rest ≢ []) → IfSome old (λ rest. rest ≢ [])
+pub kept_rest : (old new : Option (List ℕ)) → Keeps old new → IfSome new (λ rest. rest ≢ [])
+    → IfSome old (λ rest. rest ≢ [])
 kept_rest None new keeps some = tt
 kept_rest (Some rest) None keeps some = absurd keeps
 kept_rest (Some rest) (Some same) keeps some = λ none. some (keeps ∙ none)
 
 -- a number of held bytes stays within the array and the room
-pub count_fits : (held : List ℕ) (at filled room n : ℕ) → at ≤ filled → n ≤ length (take room (slice_range held at filled)) → (at + n ≤ filled) × (n ≤ room)
+pub count_fits : (held : List ℕ) (at filled room n : ℕ) → at ≤ filled
+    → n ≤ length (take room (slice_range held at filled)) → (at + n ≤ filled) × (n ≤ room)
 count_fits held at filled room n ordered fits =
     let unused = slice_range held at filled in
     let cut : length (take room unused) ≡ min room (length unused) = length-take room unused in
@@ -75,14 +98,17 @@ not_spent fresh was end = not_both was (fresh end)
 
 -- an array that is used up holds no byte
 pub none_unused : (held : List ℕ) (at filled : ℕ) → at ≡ filled → slice_range held at filled ≡ []
-none_unused held at filled same = nil_from_length (slice_range held at filled) (omega (arith, length-take (filled - at) (drop at held)))
+none_unused held at filled same = nil_from_length (slice_range held at filled)
+    (omega (arith, length-take (filled - at) (drop at held)))
 
 pub none_held : (held : List ℕ) (at filled room : ℕ) → at ≡ filled → take room (slice_range held at filled) ≡ []
 none_held held at filled room same = ap (take room) (none_unused held at filled same) ∙ take-nil room
 
 -- an array that holds bytes is not used up
-pub held_unused : (held : List ℕ) (at filled room : ℕ) → at ≤ filled → take room (slice_range held at filled) ≢ [] → at < filled
-held_unused held at filled room ordered some = elim (eq-or-lt_of_le ordered) [ inl same ↦ absurd (some (none_held held at filled room same)) | inr less ↦ less ]
+pub held_unused : (held : List ℕ) (at filled room : ℕ) → at ≤ filled
+    → take room (slice_range held at filled) ≢ [] → at < filled
+held_unused held at filled room ordered some = elim (eq-or-lt_of_le ordered)
+    [ inl same ↦ absurd (some (none_held held at filled room same)) | inr less ↦ less ]
 
 -- a reader at its end gives nothing
 told_end : (known : Option (List ℕ)) → IfSome known (λ left. left ≡ []) → IsAtEnd known
@@ -90,8 +116,14 @@ told_end None end = tt
 told_end (Some left) end = end
 
 -- at the end nothing is held, and nothing is left
-pub ended_rest : (held : List ℕ) (known : Option (List ℕ)) (at filled room : ℕ) → at ≡ filled → IfSome known (λ left. left ≡ [])
-    → (take room (slice_range held at filled) ≡ []) × IsAtEnd (prepend_known (slice_range held at filled) known) × IsAtEnd known
+pub ended_rest : (held : List ℕ) (known : Option (List ℕ)) (at filled room : ℕ) → at ≡ filled
+    → IfSome known (λ left. left ≡ [])
+    → (take room (slice_range held at filled) ≡ [])
+    × IsAtEnd (prepend_known (slice_range held at filled) known) × IsAtEnd known
 ended_rest held known at filled room same end =
-    let none = none_unused held at filled same in
-    (none_held held at filled room same, prepend_known-end _ known (slice_range held at filled) (Keeps-refl _) none (told_end known end), told_end known end)
+    let none = none_unused held at filled same in (
+      none_held held at filled room same,
+      prepend_known-end _ known (slice_range held at filled)
+          (Keeps-refl _) none (told_end known end),
+      told_end known end,
+    )

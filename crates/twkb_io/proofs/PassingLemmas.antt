@@ -6,13 +6,15 @@ use Rattle.std.specs.Io.KnownBytes.{Consumes, IsAtEnd}
 use Rattle.twkb_io.specs.Fuses.{passed}
 
 -- a read of n bytes leaves n fewer to pass
-pub passed_read : (old new : Option (List ℕ)) (left n : ℕ) (front back : List ℕ) → n ≤ left → n ≤ length front → Consumes old new (take n front)
+pub passed_read : (old new : Option (List ℕ)) (left n : ℕ) (front back : List ℕ) → n ≤ left
+    → n ≤ length front → Consumes old new (take n front)
     → Consumes (passed left old) (passed (left - n) new) (take n (front ++ back))
 passed_read None new left n front back fits within taken = tt
 passed_read (Some all) None left n front back fits within taken = absurd taken
 passed_read (Some all) (Some rest) left n front back fits within taken =
     let parts : left ≡ length (take n front) + (left - n) = omega (arith, length-take-le n front within) in
-    ap (take left) taken ∙ ap (λ k. take k (take n front ++ rest)) parts ∙ take-append-add (take n front) rest (left - n)
+    ap (take left) taken ∙ ap (λ k. take k (take n front ++ rest)) parts
+    ∙ take-append-add (take n front) rest (left - n)
     ∙ ap (λ l. l ++ take (left - n) rest) (sym (take-append-le n front back within))
 
 -- at the reader's end nothing is left to pass

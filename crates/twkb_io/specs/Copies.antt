@@ -1,5 +1,6 @@
 -- Copies from an input to a sink: the bytes that move, and what stops a copy.
-use Rattle.std.specs.Prelude.{ℕ, ◌≡◌, ◌+◌, ◌<◌, ◌^◌, ◌↔◌, List, ◌++◌, length, Option, IfSome, Bool, true, false, Result, Ok, Err, IfOk, OnOk, IfErr, OnErr}
+use Rattle.std.specs.Prelude.{ℕ, ◌≡◌, ◌+◌, ◌<◌, ◌^◌, ◌↔◌, List, ◌++◌, length, Option, IfSome, Bool}
+use Rattle.std.specs.Prelude.{true, false, Result, Ok, Err, IfOk, OnOk, IfErr, OnErr}
 use Rattle.std.specs.Io.KnownBytes.{Consumes, IsAtEnd, Keeps}
 use Rattle.std.specs.declared.io.traits.Read.{Ghosts}
 use Rattle.twkb_io.specs.declared.input.Input.{Input}
@@ -12,7 +13,8 @@ use Rattle.twkb_io.specs.Inputs.{given, has_ended, input_failures, input_tap, is
 use Rattle.twkb_io.specs.Outputs.{is_device}
 
 -- these bytes left the input, which counted them, and the sink took them
-pub record Copied {R S : Type 0} {read : Ghosts R} (took : S → List ℕ → S → Type 0) (old : Input R read) (from : S) (bytes : List ℕ) (new : Input R read) (to : S) : Type 0 where
+pub record Copied {R S : Type 0} {read : Ghosts R} (took : S → List ℕ → S → Type 0)
+    (old : Input R read) (from : S) (bytes : List ℕ) (new : Input R read) (to : S) : Type 0 where
   pub same_tap : (input_tap new).ghost_name ≡ (input_tap old).ghost_name
   pub consumed : Consumes (rest_of old) (rest_of new) bytes
   pub taken : took from bytes to
@@ -24,9 +26,12 @@ BeginsWith rest front = IfSome rest (λ bytes. (left : List ℕ) × (bytes ≡ f
 
 -- what a copy did before it stopped: if the input failed, the sink took the bytes that left the
 -- input; if the sink refused a put, a prefix of the rest was handed to it
-abbrev pub StopsCopy : {S F : Type 0} → (S → List ℕ → S → Type 0) → (S → List ℕ → F → S → Type 0) → Option (List ℕ) → S → CopyFault F → Option (List ℕ) → S → Type 0
-StopsCopy took refused rest from (stop.Source why) left to = (front : List ℕ) × Consumes rest left front × took from front to
-StopsCopy took refused rest from (stop.Sink why) left to = (front : List ℕ) × BeginsWith rest front × refused from front why to
+abbrev pub StopsCopy : {S F : Type 0} → (S → List ℕ → S → Type 0) → (S → List ℕ → F → S → Type 0)
+    → Option (List ℕ) → S → CopyFault F → Option (List ℕ) → S → Type 0
+StopsCopy took refused rest from (stop.Source why) left to = (front : List ℕ)
+    × Consumes rest left front × took from front to
+StopsCopy took refused rest from (stop.Sink why) left to = (front : List ℕ) × BeginsWith rest front
+    × refused from front why to
 
 -- what a copy of one piece did before it stopped: if the input failed, the sink is unchanged; if
 -- the sink refused the put, a prefix of the rest was handed to it
@@ -51,7 +56,8 @@ is_write_stop (Err (stop.Source why)) = false
 is_write_stop (Err (stop.Sink why)) = is_device why
 
 -- one step of a copy: all held bytes go to the sink, or the input is at its end, or the copy stops
-pub record CopiesPiece {R S F : Type 0} {read : Ghosts R} (took : S → List ℕ → S → Type 0) (refused : S → List ℕ → F → S → Type 0)
+pub record CopiesPiece {R S F : Type 0} {read : Ghosts R} (took : S → List ℕ → S → Type 0)
+    (refused : S → List ℕ → F → S → Type 0)
     (old : Input R read) (from : S) (result : Result Bool (CopyFault F)) (new : Input R read) (to : S) : Type 0 where
   pub ok : OnOk result ((bytes : List ℕ) × Copied took old from bytes new to)
   pub more : IfOk result (λ has_byte. has_byte ≡ true → given old < given new)

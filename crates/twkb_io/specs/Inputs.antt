@@ -1,5 +1,6 @@
 -- The bytes that an input has left, and the effect of one step.
-use Rattle.std.specs.Prelude.{ℕ, ◌+◌, ◌^◌, List, [], ◌∷◌, ◌-◌, Option, Some, None, Bool, true, false, take, slice_range, Result, Ok, Err}
+use Rattle.std.specs.Prelude.{ℕ, ◌+◌, ◌^◌, List, [], ◌∷◌, ◌-◌, Option, Some, None, Bool, true}
+use Rattle.std.specs.Prelude.{false, take, slice_range, Result, Ok, Err}
 use Rattle.std.specs.Io.KnownBytes.{Consumes, IsAtEnd, Keeps, prepend_known}
 use Rattle.std.specs.Borrow.{MutBor}
 use Rattle.std.specs.declared.io.traits.Read.{Ghosts}

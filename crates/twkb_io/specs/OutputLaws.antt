@@ -31,7 +31,8 @@ pub sent_join : {W : Type 0} (contents : W → Option (List ℕ)) (a b c : Outpu
     → Sent contents a xs b → Sent contents b ys c → Sent contents a (xs ++ ys) c
 sent_join contents a b c xs ys first second = record {
   same_tap = second.same_tap ∙ first.same_tap;
-  appends = appends_join (written contents a) (written contents b) (written contents c) xs ys first.appends second.appends;
+  appends = appends_join (written contents a) (written contents b) (written contents c) xs ys
+      first.appends second.appends;
   sent = lengths_join (sent_of a) (sent_of b) (sent_of c) xs ys first.sent second.sent;
 }
 
@@ -60,7 +61,8 @@ cut_join contents a b c xs ys e first second = record {
   refused = refused_join contents a b c xs second.front e first second.refused;
   left = λ fresh. second.left (first.spent ∙ fresh);
   unspent = λ fresh. second.unspent (first.spent ∙ fresh);
-  too_long = λ far. (let most = second.too_long far in let sent = first.sends.sent in omega (arith, most, sent, length-append xs ys));
+  too_long = λ far. (let most = second.too_long far in let sent = first.sends.sent in
+      omega (arith, most, sent, length-append xs ys));
 }
 
 pub cut_within : {W : Type 0} (contents : W → Option (List ℕ)) (a b : Output W) (xs : List ℕ) (e : OutFault)
@@ -84,5 +86,6 @@ cut_front contents a b xs e (handed, unhanded, parts, cut) = record {
   refused = cut.refused;
   left = λ fresh none. cut.left fresh (first_none cut.rest unhanded none);
   unspent = cut.unspent;
-  too_long = λ far. (let most = cut.too_long far in omega (arith, most, ap length parts, length-append handed unhanded));
+  too_long = λ far. (let most = cut.too_long far in
+      omega (arith, most, ap length parts, length-append handed unhanded));
 }

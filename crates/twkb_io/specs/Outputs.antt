@@ -43,19 +43,22 @@ is_of_stuck fault.TooLong = false
 is_of_stuck fault.Spent = false
 
 -- The writer took these bytes, and the output counted them.
-pub record Sent {W : Type 0} (contents : W → Option (List ℕ)) (old : Output W) (bytes : List ℕ) (new : Output W) : Type 0 where
+pub record Sent {W : Type 0} (contents : W → Option (List ℕ)) (old : Output W) (bytes : List ℕ)
+    (new : Output W) : Type 0 where
   pub same_tap : (output_tap new).ghost_name ≡ (output_tap old).ghost_name
   pub appends : Appends (written contents old) (written contents new) bytes
   pub sent : sent_of new ≡ sent_of old + length bytes
 
 -- these bytes were sent, and no put was refused
-pub record Took {W : Type 0} (contents : W → Option (List ℕ)) (old : Output W) (bytes : List ℕ) (new : Output W) : Type 0 where
+pub record Took {W : Type 0} (contents : W → Option (List ℕ)) (old : Output W) (bytes : List ℕ)
+    (new : Output W) : Type 0 where
   pub sends : Sent contents old bytes new
   pub failures : output_failures new ≡ output_failures old
   pub spent : is_spent new ≡ is_spent old
 
 -- the last call was refused with this fault, and these bytes were taken
-pub record Refused {W : Type 0} (contents : W → Option (List ℕ)) (old : Output W) (bytes : List ℕ) (e : OutFault) (new : Output W) : Type 0 where
+pub record Refused {W : Type 0} (contents : W → Option (List ℕ)) (old : Output W) (bytes : List ℕ)
+    (e : OutFault) (new : Output W) : Type 0 where
   pub sends : Sent contents old bytes new
   pub failures : output_failures new ≡ count_failure (is_device e) (output_failures old)
   pub spent : is_spent new ≡ true
@@ -63,7 +66,8 @@ pub record Refused {W : Type 0} (contents : W → Option (List ℕ)) (old : Outp
 -- The writer took a prefix of the bytes handed over, and the last put was refused with this
 -- fault. Bytes are left over, unless the output was refused before. If the fault is TooLong, all
 -- of them together would have passed the bound.
-pub record Cut {W : Type 0} (contents : W → Option (List ℕ)) (old : Output W) (bytes : List ℕ) (e : OutFault) (new : Output W) : Type 0 where
+pub record Cut {W : Type 0} (contents : W → Option (List ℕ)) (old : Output W) (bytes : List ℕ)
+    (e : OutFault) (new : Output W) : Type 0 where
   pub front : List ℕ
   pub rest : List ℕ
   pub whole : bytes ≡ front ++ rest

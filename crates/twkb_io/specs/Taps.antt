@@ -1,5 +1,6 @@
 -- A tap as contracts see it, and how its counts change.
-use Rattle.std.specs.Prelude.{ℕ, ◌+◌, ◌-◌, ◌^◌, min, List, Bool, true, false, if◌then◌else◌, Result, Ok, Err, length, ◌&&◌, ◌==◌, not}
+use Rattle.std.specs.Prelude.{ℕ, ◌+◌, ◌-◌, ◌^◌, min, List, Bool, true, false, if◌then◌else◌, Result}
+use Rattle.std.specs.Prelude.{Ok, Err, length, ◌&&◌, ◌==◌, not}
 use Rattle.twkb_io.specs.declared.tap.Tap.{Tap}
 
 -- the device under a tap

@@ -47,17 +47,21 @@ impl Sink for Bytes {
 
     ghost takes_nothing = { λ s. sym (append-nil (bytes_of s)) };
 
-    ghost takes_join = { λ a b c xs ys first second. lists_join (bytes_of a) (bytes_of b) (bytes_of c) xs ys first second };
+    ghost takes_join = { λ a b c xs ys first second. lists_join (bytes_of a) (bytes_of b)
+        (bytes_of c) xs ys first second };
 
-    ghost refuses_join = { λ a b c xs ys fault first second. lists_join (bytes_of a) (bytes_of b) (bytes_of c) xs ys first second };
+    ghost refuses_join = { λ a b c xs ys fault first second. lists_join (bytes_of a) (bytes_of b)
+        (bytes_of c) xs ys first second };
 
     ghost adds_up = { λ a b xs took. ap length took ∙ length-append (bytes_of a) xs };
 
-    ghost adds_no_more = { λ a b xs fault refused. lengths_within (length (bytes_of a)) (length (bytes_of b)) xs (ap length refused ∙ length-append (bytes_of a) xs) };
+    ghost adds_no_more = { λ a b xs fault refused. lengths_within (length (bytes_of a))
+        (length (bytes_of b)) xs (ap length refused ∙ length-append (bytes_of a) xs) };
 
     fn put(&mut self, bytes: &[u8]) -> Result<(), AllocError>
         ensures ok { OnOk result (bytes_of self.new ≡ bytes_of self.old ++ bytes.now) }
-        ensures err { IfErr result (λ fault. TookFront (λ a xs _ b. bytes_of b ≡ bytes_of a ++ xs) self.old bytes.now fault self.new) }
+        ensures err { IfErr result (λ fault. TookFront (λ a xs _ b. bytes_of b ≡ bytes_of a ++ xs)
+            self.old bytes.now fault self.new) }
         ensures unchanged { OnErr result (bytes_of self.new ≡ bytes_of self.old) }
     {
         self.kept.extend_from_slice(bytes)

@@ -31,7 +31,8 @@ pub fn copy<R: Read, S: Sink>(
     ensures ok { OnOk result ((bytes : List ℕ) × Copied S.took input.old sink.old bytes input.new sink.new) }
     ensures whole { OnOk result (IfSome (rest_of input.old) (λ rest. S.took sink.old rest sink.new)) }
     ensures end { OnOk result (has_ended input.new ≡ true) }
-    ensures err { IfErr result (λ stop. StopsCopy S.took S.refused (rest_of input.old) sink.old stop (rest_of input.new) sink.new) }
+    ensures err { IfErr result (λ stop. StopsCopy S.took S.refused (rest_of input.old) sink.old stop
+        (rest_of input.new) sink.new) }
     ensures failures { input_failures input.new ≡ count_failure (is_read_stop result) (input_failures input.old) }
     ensures too_long { result ≡ Err (CopyFault.Source InFault.TooLong) → given input.new ≡ 2 ^ 62 }
     ensures spent { (result ≡ Err (CopyFault.Source InFault.Spent)) ↔ (is_spent input.old ≡ true) }

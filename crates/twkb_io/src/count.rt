@@ -52,9 +52,11 @@ impl Sink for Count {
 
     ghost takes_nothing = { λ s. sym (add-zero (total_of s)) };
 
-    ghost takes_join = { λ a b c xs ys first second. lengths_join (total_of a) (total_of b) (total_of c) xs ys first second };
+    ghost takes_join = { λ a b c xs ys first second. lengths_join (total_of a) (total_of b)
+        (total_of c) xs ys first second };
 
-    ghost refuses_join = { λ a b c xs ys fault first second. lengths_join (total_of a) (total_of b) (total_of c) xs ys first second };
+    ghost refuses_join = { λ a b c xs ys fault first second. lengths_join (total_of a) (total_of b)
+        (total_of c) xs ys first second };
 
     ghost adds_up = { λ a b xs took. took };
 
@@ -62,7 +64,8 @@ impl Sink for Count {
 
     fn put(&mut self, bytes: &[u8]) -> Result<(), CountFull>
         ensures ok { OnOk result (total_of self.new ≡ total_of self.old + length bytes.now) }
-        ensures err { IfErr result (λ fault. TookFront (λ a xs _ b. total_of b ≡ total_of a + length xs) self.old bytes.now fault self.new) }
+        ensures err { IfErr result (λ fault. TookFront
+            (λ a xs _ b. total_of b ≡ total_of a + length xs) self.old bytes.now fault self.new) }
         ensures full { IsErr result ↔ (2 ^ 62 < total_of self.old + length bytes.now) }
         ensures unchanged { OnErr result (self.new ≡ self.old) }
     {

@@ -87,7 +87,9 @@ impl<D: Read> Read for Fuse<D> {
 
     fn read(&mut self, buf: &mut [u8]) -> io::Result<usize>
         ensures bound { ReadsAtMost result buf.new }
-        ensures bytes { ReadConsumes (passed (left_of self.old) (D.remaining (fuse_device self.old))) (passed (left_of self.new) (D.remaining (fuse_device self.new))) result buf.new }
+        ensures bytes { ReadConsumes (passed (left_of self.old)
+            (D.remaining (fuse_device self.old))) (passed (left_of self.new)
+            (D.remaining (fuse_device self.new))) result buf.new }
         ensures step { IfOk result (λ count. (count ≤ step_of self.old) × (count ≤ left_of self.old)) }
         ensures left { left_of self.new ≡ left_of self.old - moved result }
         ensures dry { left_of self.old ≡ 0 → Dries (end_of self.old) result × (self.new ≡ self.old) }
@@ -104,13 +106,15 @@ impl<D: Read> Read for Fuse<D> {
 }
 
 impl<D: Write> Write for Fuse<D> {
-    ghost use Rattle.twkb_io.specs.Fuses.{Dries, KeepsSettings, end_of, fails_flush, fuse_device, left_of, moved, step_of};
+    ghost use Rattle.twkb_io.specs.Fuses.{Dries, KeepsSettings, end_of, fails_flush, fuse_device};
+    ghost use Rattle.twkb_io.specs.Fuses.{left_of, moved, step_of};
 
     ghost contents = { λ fuse. D.contents (fuse_device fuse) };
 
     fn write(&mut self, buf: &[u8]) -> io::Result<usize>
         ensures bound { WritesAtMost result buf.now }
-        ensures bytes { WriteAppends (D.contents (fuse_device self.old)) (D.contents (fuse_device self.new)) result buf.now }
+        ensures bytes { WriteAppends (D.contents (fuse_device self.old))
+            (D.contents (fuse_device self.new)) result buf.now }
         ensures step { IfOk result (λ count. (count ≤ step_of self.old) × (count ≤ left_of self.old)) }
         ensures left { left_of self.new ≡ left_of self.old - moved result }
         ensures dry { left_of self.old ≡ 0 → Dries (end_of self.old) result × (self.new ≡ self.old) }

@@ -1,5 +1,6 @@
 //! The bytes of a reader, one at a time or all that are held, through an array of fixed size.
-ghost use Rattle.std.specs.Prelude.{Ok, None, Err, ◌≡◌, ◌≢◌, ◌≤◌, ◌<◌, ◌+◌, ◌^◌, ◌↔◌, true, false, is_err, length, take, drop, IfSome, IfErr, OnOk, [], ◌⊎◌};
+ghost use Rattle.std.specs.Prelude.{Ok, None, Err, ◌≡◌, ◌≢◌, ◌≤◌, ◌<◌, ◌+◌, ◌^◌, ◌↔◌, true, false};
+ghost use Rattle.std.specs.Prelude.{is_err, length, take, drop, IfSome, IfErr, OnOk, [], ◌⊎◌};
 ghost use Rattle.std.specs.Io.{StartsWith};
 ghost use Rattle.std.specs.Io.KnownBytes.{Consumes, IsAtEnd, Keeps};
 ghost use Rattle.std.proofs.Props.{props};
@@ -47,7 +48,9 @@ pub struct Input<'a, R: Read> {
 
 impl<'a, R: Read> Input<'a, R> {
     ghost use Rattle.twkb_io.specs.Taps.{calls_of, count_failure, device_of};
-    ghost use Rattle.twkb_io.specs.Inputs.{GivesNext, given, given_after, has_ended, held_of, input_failures, input_tap, is_read_fault, is_spent, rest_of};
+    ghost use Rattle.twkb_io.specs.Inputs.{GivesNext, given, given_after, has_ended, held_of};
+    ghost use Rattle.twkb_io.specs.Inputs.{input_failures, input_tap, is_read_fault, is_spent};
+    ghost use Rattle.twkb_io.specs.Inputs.{rest_of};
 
     /// Makes an input of all that the reader still gives. Reads nothing yet.
     pub fn new(tap: &'a mut Tap<R>) -> Input<'a, R>
@@ -77,14 +80,17 @@ impl<'a, R: Read> Input<'a, R> {
         ensures same_tap { (input_tap self.new).ghost_name ≡ (input_tap self.old).ghost_name }
         ensures gives { GivesNext (rest_of self.old) result (rest_of self.new) }
         ensures given { given self.new ≡ given_after (given self.old) result }
-        ensures end { result ≡ Ok None → (has_ended self.new ≡ true) × IsAtEnd (R.remaining (device_of (input_tap self.new).now)) }
+        ensures end { result ≡ Ok None → (has_ended self.new ≡ true)
+            × IsAtEnd (R.remaining (device_of (input_tap self.new).now)) }
         ensures for_good { has_ended self.old ≡ true → (result ≡ Ok None) × (self.new ≡ self.old) }
         ensures unread { held_of self.old ≢ [] → input_tap self.new ≡ input_tap self.old }
         ensures once { calls_of (input_tap self.new).now ≤ calls_of (input_tap self.old).now + 1 }
 
         ensures failures { input_failures self.new ≡ count_failure (is_read_fault result) (input_failures self.old) }
-        ensures too_long { result ≡ Err InFault.TooLong → (given self.old ≡ 2 ^ 62) × IfSome (rest_of self.old) (λ rest. rest ≢ []) }
-        ensures none_held { result ≡ Err InFault.Read → rest_of self.new ≡ R.remaining (device_of (input_tap self.new).now) }
+        ensures too_long { result ≡ Err InFault.TooLong → (given self.old ≡ 2 ^ 62)
+            × IfSome (rest_of self.old) (λ rest. rest ≢ []) }
+        ensures none_held { result ≡ Err InFault.Read
+            → rest_of self.new ≡ R.remaining (device_of (input_tap self.new).now) }
         ensures spent { (result ≡ Err InFault.Spent) ↔ (is_spent self.old ≡ true) }
         ensures stays { is_spent self.new ≡ is_err result }
         ensures unchanged { is_spent self.old ≡ true → self.new ≡ self.old }
@@ -105,14 +111,18 @@ impl<'a, R: Read> Input<'a, R> {
         ensures keeps { Keeps (rest_of self.old) (rest_of self.new) }
         ensures given { given self.new ≡ given self.old }
         ensures end { OnOk result (held_of self.new ≡ [] → has_ended self.new ≡ true) }
-        ensures ended { has_ended self.new ≡ true → (held_of self.new ≡ []) × IsAtEnd (rest_of self.new) × IsAtEnd (R.remaining (device_of (input_tap self.new).now)) }
+        ensures ended { has_ended self.new ≡ true → (held_of self.new ≡ [])
+            × IsAtEnd (rest_of self.new)
+            × IsAtEnd (R.remaining (device_of (input_tap self.new).now)) }
         ensures for_good { has_ended self.old ≡ true → (result ≡ Ok tt) × (self.new ≡ self.old) }
         ensures unread { held_of self.old ≢ [] → self.new ≡ self.old }
         ensures once { calls_of (input_tap self.new).now ≤ calls_of (input_tap self.old).now + 1 }
 
         ensures failures { input_failures self.new ≡ count_failure (is_read_fault result) (input_failures self.old) }
-        ensures too_long { result ≡ Err InFault.TooLong → (given self.old ≡ 2 ^ 62) × IfSome (rest_of self.old) (λ rest. rest ≢ []) }
-        ensures none_held { result ≡ Err InFault.Read → rest_of self.new ≡ R.remaining (device_of (input_tap self.new).now) }
+        ensures too_long { result ≡ Err InFault.TooLong → (given self.old ≡ 2 ^ 62)
+            × IfSome (rest_of self.old) (λ rest. rest ≢ []) }
+        ensures none_held { result ≡ Err InFault.Read
+            → rest_of self.new ≡ R.remaining (device_of (input_tap self.new).now) }
         ensures spent { (result ≡ Err InFault.Spent) ↔ (is_spent self.old ≡ true) }
         ensures stays { is_spent self.new ≡ is_err result }
         ensures unchanged { is_spent self.old ≡ true → self.new ≡ self.old }
@@ -180,7 +190,8 @@ impl<'a, R: Read> Input<'a, R> {
         ensures given { given self.new ≡ given self.old }
         ensures failures { input_failures self.new ≡ count_failure (is_err result) (input_failures self.old) }
         ensures end { OnOk result (self.new.at ≡ self.new.filled → has_ended self.new ≡ true) }
-        ensures unread { (self.old.at < self.old.filled) ⊎ (has_ended self.old ≡ true) → (is_err result ≡ false) × (self.new ≡ self.old) }
+        ensures unread { (self.old.at < self.old.filled) ⊎ (has_ended self.old ≡ true)
+            → (is_err result ≡ false) × (self.new ≡ self.old) }
         ensures once { calls_of (input_tap self.new).now ≤ calls_of (input_tap self.old).now + 1 }
         ensures err { IfErr result (λ fault. fault ≡ InFault.Read) }
         ensures none_held { is_err result ≡ true → rest_of self.new ≡ R.remaining (device_of (input_tap self.new).now) }

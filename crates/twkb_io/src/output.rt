@@ -1,5 +1,6 @@
 //! A sink that sends bytes to a writer, with an exact count of the bytes that the writer took.
-ghost use Rattle.std.specs.Prelude.{◌≡◌, ◌≢◌, ◌+◌, ◌≤◌, ◌<◌, ◌^◌, ◌↔◌, [], true, false, length, take, Err, IfOk, OnOk, OnErr, IfErr};
+ghost use Rattle.std.specs.Prelude.{◌≡◌, ◌≢◌, ◌+◌, ◌≤◌, ◌<◌, ◌^◌, ◌↔◌, [], true, false, length};
+ghost use Rattle.std.specs.Prelude.{take, Err, IfOk, OnOk, OnErr, IfErr};
 ghost use Rattle.twkb_io.specs.Sinks.{TookFront};
 
 use crate::MAX_BYTES;
@@ -77,7 +78,8 @@ impl<'a, W: Write> Output<'a, W> {
         ensures ok { OnOk result (Took W.contents self.old [] self.new) }
         ensures err { IfErr result (λ fault. Refused W.contents self.old [] fault self.new) }
         ensures flushed { OnOk result (has_unflushed (output_tap self.new).now ≡ false) }
-        ensures asks { is_spent self.old ≡ false → calls_of (output_tap self.new).now ≡ one_call (calls_of (output_tap self.old).now) }
+        ensures asks { is_spent self.old ≡ false → calls_of (output_tap self.new).now ≡ one_call
+            (calls_of (output_tap self.old).now) }
         ensures spent { (result ≡ Err OutFault.Spent) ↔ (is_spent self.old ≡ true) }
         ensures kinds { (result ≢ Err OutFault.Stuck) × (result ≢ Err OutFault.TooLong) }
         ensures unchanged { is_spent self.old ≡ true → self.new ≡ self.old }
@@ -149,10 +151,13 @@ impl<'a, W: Write> Sink for Output<'a, W> {
         ensures err { IfErr result (λ fault. TookFront (Cut W.contents) self.old bytes.now fault self.new) }
         ensures cut { IfErr result (λ fault. Cut W.contents self.old bytes.now fault self.new) }
         ensures spent { (result ≡ Err OutFault.Spent) ↔ (is_spent self.old ≡ true) }
-        ensures too_long { (result ≡ Err OutFault.TooLong) ↔ ((is_spent self.old ≡ false) × (2 ^ 62 < sent_of self.old + length bytes.now)) }
-        ensures untouched { result ≡ Err OutFault.TooLong → (output_tap self.new ≡ output_tap self.old) × (sent_of self.new ≡ sent_of self.old) }
+        ensures too_long { (result ≡ Err OutFault.TooLong)
+            ↔ ((is_spent self.old ≡ false) × (2 ^ 62 < sent_of self.old + length bytes.now)) }
+        ensures untouched { result ≡ Err OutFault.TooLong
+            → (output_tap self.new ≡ output_tap self.old) × (sent_of self.new ≡ sent_of self.old) }
         ensures unchanged { is_spent self.old ≡ true → self.new ≡ self.old }
-        ensures told { IfErr result (λ fault. is_device fault ≡ true → is_of_stuck fault ≡ is_stuck (output_tap self.new).now) }
+        ensures told { IfErr result (λ fault. is_device fault ≡ true
+            → is_of_stuck fault ≡ is_stuck (output_tap self.new).now) }
         ensures short { OnErr result (0 < length bytes.now → sent_of self.new < sent_of self.old + length bytes.now) }
     {
         if self.spent {

@@ -30,11 +30,13 @@ pub trait Sink {
     ghost takes_join: { (a b c : Self) (xs ys : List ℕ) → took a xs b → took b ys c → took a (xs ++ ys) c };
 
     // A list taken and then a list refused are their join, refused.
-    ghost refuses_join: { (a b c : Self) (xs ys : List ℕ) (fault : Self.Fault) → took a xs b → refused b ys fault c → refused a (xs ++ ys) fault c };
+    ghost refuses_join: { (a b c : Self) (xs ys : List ℕ) (fault : Self.Fault) → took a xs b
+        → refused b ys fault c → refused a (xs ++ ys) fault c };
 
     // The length of the bytes taken is added to the number.
     ghost adds_up: { (a b : Self) (xs : List ℕ) → took a xs b → taken b ≡ taken a + length xs };
 
     // After a refusal at most the bytes handed over were taken, and none was given back.
-    ghost adds_no_more: { (a b : Self) (xs : List ℕ) (fault : Self.Fault) → refused a xs fault b → (taken a ≤ taken b) × (taken b ≤ taken a + length xs) };
+    ghost adds_no_more: { (a b : Self) (xs : List ℕ) (fault : Self.Fault) → refused a xs fault b
+        → (taken a ≤ taken b) × (taken b ≤ taken a + length xs) };
 }

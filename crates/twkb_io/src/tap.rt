@@ -21,7 +21,8 @@ pub struct Tap<D> {
 }
 
 impl<D> Tap<D> {
-    ghost use Rattle.twkb_io.specs.Taps.{bytes_given, calls_of, count_failure, device_of, failures_of, has_unflushed, is_stuck, one_call};
+    ghost use Rattle.twkb_io.specs.Taps.{bytes_given, calls_of, count_failure, device_of};
+    ghost use Rattle.twkb_io.specs.Taps.{failures_of, has_unflushed, is_stuck, one_call};
 
     /// Wraps a device of which no call has failed yet.
     pub fn new(device: D) -> Tap<D>
@@ -93,13 +94,15 @@ impl<D> Tap<D> {
 }
 
 impl<D: Read> Read for Tap<D> {
-    ghost use Rattle.twkb_io.specs.Taps.{bytes_given, calls_of, count_failure, count_given, device_of, failures_of, one_call};
+    ghost use Rattle.twkb_io.specs.Taps.{bytes_given, calls_of, count_failure, count_given};
+    ghost use Rattle.twkb_io.specs.Taps.{device_of, failures_of, one_call};
 
     ghost remaining = { λ tap. D.remaining (device_of tap) };
 
     fn read(&mut self, buf: &mut [u8]) -> io::Result<usize>
         ensures bound { ReadsAtMost result buf.new }
-        ensures bytes { ReadConsumes (D.remaining (device_of self.old)) (D.remaining (device_of self.new)) result buf.new }
+        ensures bytes { ReadConsumes (D.remaining (device_of self.old))
+            (D.remaining (device_of self.new)) result buf.new }
         ensures calls { calls_of self.new ≡ one_call (calls_of self.old) }
         ensures failures { failures_of self.new ≡ count_failure (is_err result) (failures_of self.old) }
         ensures given { bytes_given self.new ≡ count_given result (bytes_given self.old) }
@@ -114,13 +117,16 @@ impl<D: Read> Read for Tap<D> {
 }
 
 impl<D: Write> Write for Tap<D> {
-    ghost use Rattle.twkb_io.specs.Taps.{calls_of, count_failure, device_of, failures_of, has_unflushed, is_stuck, one_call, takes_none, takes_some, write_failed};
+    ghost use Rattle.twkb_io.specs.Taps.{calls_of, count_failure, device_of, failures_of};
+    ghost use Rattle.twkb_io.specs.Taps.{has_unflushed, is_stuck, one_call, takes_none, takes_some};
+    ghost use Rattle.twkb_io.specs.Taps.{write_failed};
 
     ghost contents = { λ tap. D.contents (device_of tap) };
 
     fn write(&mut self, buf: &[u8]) -> io::Result<usize>
         ensures bound { WritesAtMost result buf.now }
-        ensures bytes { WriteAppends (D.contents (device_of self.old)) (D.contents (device_of self.new)) result buf.now }
+        ensures bytes { WriteAppends (D.contents (device_of self.old))
+            (D.contents (device_of self.new)) result buf.now }
         ensures calls { calls_of self.new ≡ one_call (calls_of self.old) }
         ensures failures { failures_of self.new ≡ count_failure (write_failed result buf.now) (failures_of self.old) }
         ensures unflushed { has_unflushed self.new ≡ has_unflushed self.old || takes_some result }

@@ -1,14 +1,19 @@
 -- Units at the start of some bytes, and the bits of their ends.
-use Rattle.std.proofs.Common.{◌≡◌, ℕ, suc, ◌+◌, ◌-◌, ◌*◌, ◌/◌, ◌%◌, ◌<◌, ◌≤◌, ◌^◌, Bool, true, false, inl, inr, List, [], ◌∷◌, length, take, drop, map, get_or, min, max, refl, sym, ◌∙◌, ap, subst, arith, bit_and, bit_or, Fits, w8, w64}
+use Rattle.std.proofs.Common.{◌≡◌, ℕ, suc, ◌+◌, ◌-◌, ◌*◌, ◌/◌, ◌%◌, ◌<◌, ◌≤◌, ◌^◌, Bool, true}
+use Rattle.std.proofs.Common.{false, inl, inr, List, [], ◌∷◌, length, take, drop, map, get_or, min}
+use Rattle.std.proofs.Common.{max, refl, sym, ◌∙◌, ap, subst, arith, bit_and, bit_or, Fits, w8, w64}
 use lib.Lanes.{mask_l, zip2, Each1}
 use lib.ListN.{replicate}
 use mathlib.Core.Bool.{cond}
 use Rattle.std.specs.Prelude.{nat_eq, nat_lt}
 use Rattle.std.specs.Int.{bit_at, bit_not, trailing_zeros}
 use Rattle.std.proofs.lemmas.Bool.{cases_lt, eq-eqb, lt-ltb, le-ltb, ltb-true, eqb-true}
-use Rattle.std.proofs.lemmas.List.{drop-drop, drop-map, get_or-drop, get_or-map, get_or-take, get_or_past, length-drop, length-map, length-take-le, map-append, length-take, take-map, take-take, take_all, take_rest, drop-take}
+use Rattle.std.proofs.lemmas.List.{drop-drop, drop-map, get_or-drop, get_or-map, get_or-take}
+use Rattle.std.proofs.lemmas.List.{get_or_past, length-drop, length-map, length-take-le, map-append}
+use Rattle.std.proofs.lemmas.List.{length-take, take-map, take-take, take_all, take_rest, drop-take}
 use Rattle.std.proofs.lemmas.Nat.{and_le_l, le_or_r, or_lt, shr-shr}
-use Rattle.std.proofs.lemmas.Nat.Bits.{bit_at-suc, bit_at_and, bit_at_or, bit_at_not, bit_at-pow_other, bit_at-trailing_zeros}
+use Rattle.std.proofs.lemmas.Nat.Bits.{bit_at-suc, bit_at_and, bit_at_or, bit_at_not}
+use Rattle.std.proofs.lemmas.Nat.Bits.{bit_at-pow_other, bit_at-trailing_zeros}
 use Rattle.std.proofs.lemmas.Simd.{bit_mask_l, chunk-fits, mask_l-lt}
 use Rattle.twkb_num.specs.Block.{units_in, AreUnits, AreEnds, AreMarks, AreEndsBefore, IsFault}
 use Rattle.twkb_num.specs.declared.block.Marks.{Marks}
@@ -22,12 +27,15 @@ use Rattle.twkb_num.proofs.TwoLemmas.{AreLanes}
 
 -- the marks of some units and of the units after them, joined
 pub marks_joined : (p : ℕ → Bool) (base n m : ℕ) (bytes : List ℕ) → n ≤ length bytes
-    → mask_l (map p (units_in base (take (n + m) bytes))) ≡ mask_l (map p (units_in base (take n bytes))) + 2 ^ n * mask_l (map p (units_in base (take m (drop n bytes))))
+    → mask_l (map p (units_in base (take (n + m) bytes))) ≡ mask_l
+    (map p (units_in base (take n bytes))) + 2 ^ n * mask_l
+    (map p (units_in base (take m (drop n bytes))))
 marks_joined p base n m bytes long =
     let unit = λ (b : ℕ). (b + (2 ^ 8 - base)) % 2 ^ 8 in
     let front = units_in base (take n bytes) in
     let next = units_in base (take m (drop n bytes)) in
-    let count : length (map p front) ≡ n = length-map front p ∙ length-map (take n bytes) unit ∙ length-take-le n bytes long in
+    let count : length (map p front) ≡ n = length-map front p ∙ length-map (take n bytes) unit
+    ∙ length-take-le n bytes long in
     ap (λ bs. mask_l (map p (units_in base bs))) (take_apart n m (n + m) bytes refl)
     ∙ ap (λ us. mask_l (map p us)) (map-append unit (take n bytes) (take m (drop n bytes)))
     ∙ ap mask_l (map-append p front next)
@@ -35,18 +43,21 @@ marks_joined p base n m bytes long =
     ∙ ap (λ k. mask_l (map p front) + 2 ^ k * mask_l (map p next)) count
 
 -- there are at most as many bits as units
-pub marks_small : (p : ℕ → Bool) (base n : ℕ) (bytes : List ℕ) → n ≤ length bytes → mask_l (map p (units_in base (take n bytes))) < 2 ^ n
+pub marks_small : (p : ℕ → Bool) (base n : ℕ) (bytes : List ℕ) → n ≤ length bytes
+    → mask_l (map p (units_in base (take n bytes))) < 2 ^ n
 marks_small p base n bytes long =
     let unit = λ (b : ℕ). (b + (2 ^ 8 - base)) % 2 ^ 8 in
     let us = units_in base (take n bytes) in
-    let count : length (map p us) ≡ n = length-map us p ∙ length-map (take n bytes) unit ∙ length-take-le n bytes long in
+    let count : length (map p us) ≡ n = length-map us p ∙ length-map (take n bytes) unit
+    ∙ length-take-le n bytes long in
     let power : 2 ^ length (map p us) ≡ 2 ^ n = ap (λ k. 2 ^ k) count in
     omega (arith, mask_l-lt (map p us))
 
 -- ---- ends before a fault
 
 -- the bit of one unit among the marks
-bit_of : (p : ℕ → Bool) (us : List ℕ) (k : ℕ) → k < length us → bit_at (mask_l (map p us)) k ≡ cond (p (get_or us k 0)) 1 0
+bit_of : (p : ℕ → Bool) (us : List ℕ) (k : ℕ) → k < length us
+    → bit_at (mask_l (map p us)) k ≡ cond (p (get_or us k 0)) 1 0
 bit_of p us k within = bit_mask_l (map p us) k ∙ ap (λ b. cond b 1 0) (get_or-map p us k 0 false within)
 
 -- the bits of the units at fault, and the last bit
@@ -59,13 +70,20 @@ faults_fit m bad zeros =
     let behind = bit_and (m.zeros / 2) (bit_not w64 m.ends) in
     let behind_fits : behind < 2 ^ 64 = omega (arith, and_le_l (m.zeros / 2) (bit_not w64 m.ends)) in
     let bad_fits : m.bad < 2 ^ 64 = omega arith in
-    let both = or_lt 64 m.bad behind bad_fits behind_fits in
-    (or_lt 64 (bit_or m.bad behind) 9223372036854775808 both (omega arith), omega (arith, le_or_r (bit_or m.bad behind) 9223372036854775808))
+    let both = or_lt 64 m.bad behind bad_fits behind_fits in (
+      or_lt 64 (bit_or m.bad behind) 9223372036854775808 both (omega arith),
+      omega (arith, le_or_r (bit_or m.bad behind) 9223372036854775808),
+    )
 
 -- a unit that is marked is there, and is what it is marked as
-marked : (p : ℕ → Bool) (us : List ℕ) (n k : ℕ) → n ≡ mask_l (map p us) → 0 < bit_at n k → (k < length us) × (p (get_or us k 0) ≡ true)
+marked : (p : ℕ → Bool) (us : List ℕ) (n k : ℕ) → n ≡ mask_l (map p us) → 0 < bit_at n k
+    → (k < length us) × (p (get_or us k 0) ≡ true)
 marked p us n k is some = elim (cases_lt k (length us)) [
-  | inl within ↦ (within, set (p (get_or us k 0)) (let bit = ap (λ m. bit_at m k) is ∙ bit_of p us k within in omega arith))
+  | inl within ↦ (
+    within,
+    set (p (get_or us k 0)) (let bit = ap (λ m. bit_at m k) is
+        ∙ bit_of p us k within in omega arith),
+  )
   | inr beyond ↦
       let past : get_or (map p us) k false ≡ false = get_or_past (map p us) k false (omega (arith, length-map us p)) in
       let none : bit_at n k ≡ 0 = ap (λ m. bit_at m k) is ∙ bit_mask_l (map p us) k ∙ ap (λ b. cond b 1 0) past in
@@ -77,14 +95,16 @@ marked p us n k is some = elim (cases_lt k (length us)) [
     set false h = absurd (omega (arith, h))
 
 -- the first fault among the first 63 units is a unit at fault
-first_fault : (m : Marks) (t radix most : ℕ) (us : List ℕ) → Fits w64 m.ends → t < 63 → bit_at (faults_of m) t ≡ 1 → AreMarks radix most us m → IsFault radix most us t
+first_fault : (m : Marks) (t radix most : ℕ) (us : List ℕ) → Fits w64 m.ends → t < 63
+    → bit_at (faults_of m) t ≡ 1 → AreMarks radix most us m → IsFault radix most us t
 first_fault m t radix most us ends_fit few set are =
     let behind = bit_and (m.zeros / 2) (bit_not w64 m.ends) in
     let top : bit_at 9223372036854775808 t ≡ 0 = bit_at-pow_other 63 t (λ e. absurd (omega (arith, e))) in
     let outer = bit_at_or (bit_or m.bad behind) 9223372036854775808 t in
     let inner = bit_at_or m.bad behind t in
     elim (cases_lt 0 (bit_at m.bad t)) [
-      | inl bad ↦ inl (let is = marked (λ u. nat_lt most u) us m.bad t are.bad bad in ltb-true most (get_or us t 0) is.1)
+      | inl bad ↦ inl (let is = marked (λ u. nat_lt most u) us m.bad t are.bad bad in
+          ltb-true most (get_or us t 0) is.1)
       | inr good ↦
           let split = bit_at_and (m.zeros / 2) (bit_not w64 m.ends) t in
           let half = bit_at-suc m.zeros t in
@@ -116,10 +136,13 @@ ends_before m t radix most us ends_fit bad_fit zeros_fit is are =
     let both : max (bit_at m.bad k) (bit_at behind k) ≡ 0 = omega arith in both in
     record {
       count = t;
-      marks = ap (λ n. n % 2 ^ t) are.ends ∙ mask_l-take t (map (λ u. nat_lt u radix) us) ∙ ap mask_l (take-map (λ u. nat_lt u radix) t us);
+      marks = ap (λ n. n % 2 ^ t) are.ends ∙ mask_l-take t (map (λ u. nat_lt u radix) us)
+          ∙ ap mask_l (take-map (λ u. nat_lt u radix) t us);
       below = λ k low within. not_bad k within (let both = clear k low in omega arith);
-      shortest = λ k low within is_zero. ends_there k within is_zero (omega (arith, lowest.0)) (let both = clear k low in omega arith);
-      far = λ few. first_fault m t radix most us ends_fit few (subst (λ k. bit_at (faults_of m) k ≡ 1) (sym is) lowest.1) are;
+      shortest = λ k low within is_zero. ends_there k within is_zero (omega (arith, lowest.0))
+          (let both = clear k low in omega arith);
+      far = λ few. first_fault m t radix most us ends_fit few
+          (subst (λ k. bit_at (faults_of m) k ≡ 1) (sym is) lowest.1) are;
     }
   where
     not_bad : (k : ℕ) → k < length us → bit_at m.bad k ≡ 0 → get_or us k 0 ≤ most
@@ -130,7 +153,8 @@ ends_before m t radix most us ends_fit bad_fit zeros_fit is are =
           | inr small ↦ small
         ]
 
-    ends_there : (k : ℕ) → suc k < length us → get_or us (suc k) 0 ≡ 0 → k < 64 → bit_at (bit_and (m.zeros / 2) (bit_not w64 m.ends)) k ≡ 0 → get_or us k 0 < radix
+    ends_there : (k : ℕ) → suc k < length us → get_or us (suc k) 0 ≡ 0 → k < 64
+        → bit_at (bit_and (m.zeros / 2) (bit_not w64 m.ends)) k ≡ 0 → get_or us k 0 < radix
     ends_there k within is_zero low none =
         let zero_bit = ap (λ n. bit_at n (suc k)) are.zeros ∙ bit_of (λ u. nat_eq u 0) us (suc k) within in
         let zero_set = rw (eq-eqb (get_or us (suc k) 0) 0 is_zero) at zero_bit in
@@ -147,7 +171,8 @@ ends_before m t radix most us ends_fit bad_fit zeros_fit is are =
 -- ---- ends of numbers in bytes
 
 -- bytes are their units plus the base
-pub same_units : (base most : ℕ) (bytes : List ℕ) → most + base < 256 → Each1 (Fits w8) bytes → ((k : ℕ) → k < length bytes → get_or (units_in base bytes) k 0 ≤ most)
+pub same_units : (base most : ℕ) (bytes : List ℕ) → most + base < 256 → Each1 (Fits w8) bytes
+    → ((k : ℕ) → k < length bytes → get_or (units_in base bytes) k 0 ≤ most)
     → bytes ≡ map (λ u. u + base) (units_in base bytes)
 same_units base most [] room fit few = refl
 same_units base most (b ∷ bytes) room fit few =
@@ -158,14 +183,16 @@ same_units base most (b ∷ bytes) room fit few =
     rw first (ap (λ bs. b ∷ bs) rest)
 
 -- a unit past the end of the list reads as 0
-pub all_below : (us : List ℕ) (bound : ℕ) → 0 < bound → ((k : ℕ) → k < length us → get_or us k 0 < bound) → (k : ℕ) → get_or us k 0 < bound
+pub all_below : (us : List ℕ) (bound : ℕ) → 0 < bound
+    → ((k : ℕ) → k < length us → get_or us k 0 < bound) → (k : ℕ) → get_or us k 0 < bound
 all_below us bound some each k = elim (cases_lt k (length us)) [
   | inl within ↦ each k within
   | inr beyond ↦ let past = get_or_past us k 0 beyond in omega arith
 ]
 
 -- The ends among the first n bytes.
-pub ends_of : (base radix most n ends : ℕ) (bytes : List ℕ) → most < 2 * radix → most + base < 256 → n ≤ length bytes → ((k : ℕ) → Fits w8 (get_or bytes k 0))
+pub ends_of : (base radix most n ends : ℕ) (bytes : List ℕ) → most < 2 * radix → most + base < 256
+    → n ≤ length bytes → ((k : ℕ) → Fits w8 (get_or bytes k 0))
     → AreEndsBefore radix most (units_in base (take n bytes)) ends → AreEnds base radix bytes ends
 ends_of base radix most n ends bytes bound room long fit before =
     let unit = λ (b : ℕ). (b + (2 ^ 8 - base)) % 2 ^ 8 in
@@ -176,13 +203,19 @@ ends_of base radix most n ends bytes bound room long fit before =
     let us_long : length us ≡ m = length-map (take m bytes) unit ∙ length-take-le m bytes (omega arith) in
     let bytes_long : length (take m bytes) ≡ m = length-take-le m bytes (omega arith) in
     let cut : take before.count all ≡ us = cut_at before.count n bytes in
-    let same = λ (k : ℕ) (low : k < m). get_or-map unit (take n bytes) k 0 0 (omega (arith, length-take-le n bytes long)) ∙ ap unit (get_or-take n bytes k 0 (omega arith) ∙ sym (get_or-take m bytes k 0 low)) ∙ sym (get_or-map unit (take m bytes) k 0 0 (omega arith)) in
-    let each = λ (k : ℕ) (low : k < m). let is : get_or all k 0 ≡ get_or us k 0 = same k low in let small = before.below k (omega arith) (omega arith) in let few : get_or us k 0 ≤ most = omega arith in few in
+    let same = λ (k : ℕ) (low : k < m). get_or-map unit (take n bytes) k 0 0
+    (omega (arith, length-take-le n bytes long)) ∙ ap unit
+    (get_or-take n bytes k 0 (omega arith) ∙ sym (get_or-take m bytes k 0 low))
+    ∙ sym (get_or-map unit (take m bytes) k 0 0 (omega arith)) in
+    let each = λ (k : ℕ) (low : k < m). let is : get_or all k 0 ≡ get_or us k 0 = same k low in
+    let small = before.below k (omega arith) (omega arith) in
+    let few : get_or us k 0 ≤ most = omega arith in few in
     record {
       units = us;
       are = record {
         within = omega arith;
-        same = ap (λ k. take k bytes) us_long ∙ same_units base most (take m bytes) room (chunk-fits w8 0 m bytes fit) (λ k low. each k (omega arith));
+        same = ap (λ k. take k bytes) us_long ∙ same_units base most (take m bytes) room
+            (chunk-fits w8 0 m bytes fit) (λ k low. each k (omega arith));
         below = all_below us (2 * radix) (omega arith) (λ k low. let few = each k (omega arith) in omega arith);
         shortest = λ k low is_zero.
             let next : get_or all (suc k) 0 ≡ get_or us (suc k) 0 = same (suc k) (omega arith) in
@@ -193,24 +226,35 @@ ends_of base radix most n ends bytes bound room long fit before =
       };
     }
   where
-    cut_at : (count n : ℕ) (bytes : List ℕ) → take count (units_in base (take n bytes)) ≡ units_in base (take (min count n) bytes)
-    cut_at count n bytes = take-map (λ b. (b + (2 ^ 8 - base)) % 2 ^ 8) count (take n bytes) ∙ ap (units_in base) (take_twice count n bytes)
+    cut_at : (count n : ℕ) (bytes : List ℕ) → take count (units_in base (take n bytes))
+        ≡ units_in base (take (min count n) bytes)
+    cut_at count n bytes = take-map (λ b. (b + (2 ^ 8 - base)) % 2 ^ 8) count (take n bytes)
+        ∙ ap (units_in base) (take_twice count n bytes)
       where
         take_twice : (i j : ℕ) (bs : List ℕ) → take i (take j bs) ≡ take (min i j) bs
         take_twice i j bs = elim (cases_lt i j) [
           | inl less ↦ let e : i ≡ min i j = omega arith in take-take i j bs (omega arith) ∙ ap (λ k. take k bs) e
-          | inr more ↦ let e : j ≡ min i j = omega arith in take_all i (take j bs) (omega (arith, length-take j bs)) ∙ ap (λ k. take k bs) e
+          | inr more ↦ let e : j ≡ min i j = omega arith in
+              take_all i (take j bs) (omega (arith, length-take j bs)) ∙ ap (λ k. take k bs) e
         ]
 
 -- there are no ends if there are too few bytes
 pub no_ends : (base radix : ℕ) (bytes : List ℕ) → 0 < radix → AreEnds base radix bytes 0
 no_ends base radix bytes some = record {
   units = [];
-  are = record { within = omega arith; same = refl; below = λ k. omega arith; shortest = λ k low is_zero. omega arith; marks = refl };
+  are = record {
+    within = omega arith;
+    same = refl;
+    below = λ k. omega arith;
+    shortest = λ k low is_zero. omega arith;
+    marks = refl;
+  };
 }
 
 -- Shifting the ends by the units used gives the ends of the units after them.
-pub ends_dropped : (base radix used : ℕ) (bytes us : List ℕ) (ends : ℕ) → AreUnits base radix bytes us ends → used ≤ length us → AreEnds base radix (drop used bytes) (ends / 2 ^ used)
+pub ends_dropped : (base radix used : ℕ) (bytes us : List ℕ) (ends : ℕ)
+    → AreUnits base radix bytes us ends → used ≤ length us
+    → AreEnds base radix (drop used bytes) (ends / 2 ^ used)
 ends_dropped base radix used bytes us ends read within =
     let bytes_long = length-drop used bytes in
     let us_long = length-drop used us in
@@ -220,7 +264,9 @@ ends_dropped base radix used bytes us ends read within =
       units = drop used us;
       are = record {
         within = omega arith;
-        same = sym (drop-take used (length (drop used us)) bytes) ∙ ap (λ n. drop used (take n bytes)) whole ∙ ap (drop used) read.same ∙ drop-map (λ u. u + base) used us;
+        same = sym (drop-take used (length (drop used us)) bytes)
+            ∙ ap (λ n. drop used (take n bytes)) whole ∙ ap (drop used) read.same
+            ∙ drop-map (λ u. u + base) used us;
         below = λ k. let at = get_or-drop used us k 0 in let small = read.below (used + k) in omega arith;
         shortest = λ k low is_zero.
             let at = get_or-drop used us k 0 in
@@ -229,12 +275,14 @@ ends_dropped base radix used bytes us ends read within =
             let there = rw place at next in
             let small = read.shortest (used + k) (omega arith) (omega arith) in
             omega arith;
-        marks = ap (λ n. n / 2 ^ used) read.marks ∙ mask_l-drop used (map (λ u. nat_lt u radix) us) ∙ ap mask_l (drop-map (λ u. nat_lt u radix) used us);
+        marks = ap (λ n. n / 2 ^ used) read.marks ∙ mask_l-drop used (map (λ u. nat_lt u radix) us)
+            ∙ ap mask_l (drop-map (λ u. nat_lt u radix) used us);
       };
     }
 
 -- Sixteen bytes, loaded as lanes, hold these units.
-pub lanes_read : (base radix : ℕ) (bytes us : List ℕ) (ends : ℕ) → 16 ≤ length bytes → ((k : ℕ) → Fits w8 (get_or bytes k 0)) → AreUnits base radix bytes us ends
+pub lanes_read : (base radix : ℕ) (bytes us : List ℕ) (ends : ℕ) → 16 ≤ length bytes
+    → ((k : ℕ) → Fits w8 (get_or bytes k 0)) → AreUnits base radix bytes us ends
     → AreLanes (zip2 wrapped_sub (take 16 bytes) (replicate 16 base)) us
 lanes_read base radix bytes us ends long fit read =
     let unit = λ (b : ℕ). (b + (2 ^ 8 - base)) % 2 ^ 8 in
@@ -242,9 +290,12 @@ lanes_read base radix bytes us ends long fit read =
     let lanes = units_in base (take 16 bytes) in
     let front : length (take 16 bytes) ≡ 16 = length-take-le 16 bytes long in
     let lanes_long : length lanes ≡ 16 = length-map (take 16 bytes) unit ∙ front in
-    let lane = λ (k : ℕ) (low : k < 16). let is : get_or lanes k 0 ≡ unit (get_or bytes k 0) = get_or-map unit (take 16 bytes) k 0 0 (omega arith) ∙ ap unit (get_or-take 16 bytes k 0 low) in is in
+    let lane = λ (k : ℕ) (low : k < 16). let is : get_or lanes k 0 ≡ unit (get_or bytes k 0) =
+    get_or-map unit (take 16 bytes) k 0 0 (omega arith)
+    ∙ ap unit (get_or-take 16 bytes k 0 low) in is in
     let byte = λ (k : ℕ) (low : k < length us). let is : get_or bytes k 0 ≡ get_or us k 0 + base =
-    sym (get_or-take (length us) bytes k 0 low) ∙ ap (λ bs. get_or bs k 0) read.same ∙ get_or-map (λ u. u + base) us k 0 0 low in is in
+    sym (get_or-take (length us) bytes k 0 low) ∙ ap (λ bs. get_or bs k 0) read.same
+    ∙ get_or-map (λ u. u + base) us k 0 0 low in is in
     subst (λ ls. AreLanes ls us) (sym are) (record {
       count = lanes_long;
       fit = all_below lanes 256 (omega arith) (λ k low. let is = lane k (omega arith) in omega arith);
@@ -252,13 +303,21 @@ lanes_read base radix bytes us ends long fit read =
     })
 
 -- ends of a slice cut at i, after j bytes, are the ends after i + j bytes
-pub ends_after : (base radix : ℕ) (bytes : List ℕ) (ends i j : ℕ) → AreEnds base radix (drop j (take (length bytes - i) (drop i bytes))) ends → AreEnds base radix (drop (i + j) bytes) ends
-ends_after base radix bytes ends i j are = subst (λ l. AreEnds base radix l ends) (ap (drop j) (take_rest bytes i) ∙ drop-drop j i bytes) are
+pub ends_after : (base radix : ℕ) (bytes : List ℕ) (ends i j : ℕ)
+    → AreEnds base radix (drop j (take (length bytes - i) (drop i bytes))) ends
+    → AreEnds base radix (drop (i + j) bytes) ends
+ends_after base radix bytes ends i j are = subst (λ l. AreEnds base radix l ends)
+    (ap (drop j) (take_rest bytes i) ∙ drop-drop j i bytes) are
 
 -- two shifts of the ends, by i and by j, are one by i + j
-pub ends_behind : (base radix : ℕ) (bytes : List ℕ) (ends i j : ℕ) → AreEnds base radix (drop j (take (length bytes - i) (drop i bytes))) (ends / 2 ^ i / 2 ^ j) → AreEnds base radix (drop (i + j) bytes) (ends / 2 ^ (i + j))
-ends_behind base radix bytes ends i j are = subst (λ n. AreEnds base radix (drop (i + j) bytes) n) (shr-shr ends i j) (ends_after base radix bytes (ends / 2 ^ i / 2 ^ j) i j are)
+pub ends_behind : (base radix : ℕ) (bytes : List ℕ) (ends i j : ℕ)
+    → AreEnds base radix (drop j (take (length bytes - i) (drop i bytes))) (ends / 2 ^ i / 2 ^ j)
+    → AreEnds base radix (drop (i + j) bytes) (ends / 2 ^ (i + j))
+ends_behind base radix bytes ends i j are = subst (λ n. AreEnds base radix (drop (i + j) bytes) n)
+    (shr-shr ends i j) (ends_after base radix bytes (ends / 2 ^ i / 2 ^ j) i j are)
 
 -- ends after i bytes are those of the slice cut there
-pub ends_in_slice : (base radix : ℕ) (bytes : List ℕ) (ends i : ℕ) → AreEnds base radix (drop i bytes) ends → AreEnds base radix (take (length bytes - i) (drop i bytes)) ends
+pub ends_in_slice : (base radix : ℕ) (bytes : List ℕ) (ends i : ℕ)
+    → AreEnds base radix (drop i bytes) ends → AreEnds base radix
+    (take (length bytes - i) (drop i bytes)) ends
 ends_in_slice base radix bytes ends i are = subst (λ l. AreEnds base radix l ends) (sym (take_rest bytes i)) are

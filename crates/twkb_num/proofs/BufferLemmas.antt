@@ -1,9 +1,12 @@
 -- The loop that writes a number's units.
-use Rattle.std.proofs.Common.{◌≡◌, ℕ, ◌+◌, ◌-◌, ◌*◌, ◌/◌, ◌%◌, ◌<◌, ◌≤◌, ◌^◌, Bool, true, false, List, [], ◌∷◌, ◌++◌, length, take, set, sym, ◌∙◌, ap, arith, append_assoc, lit<, bit_and, add-one}
+use Rattle.std.proofs.Common.{◌≡◌, ℕ, ◌+◌, ◌-◌, ◌*◌, ◌/◌, ◌%◌, ◌<◌, ◌≤◌, ◌^◌, Bool, true, false}
+use Rattle.std.proofs.Common.{List, [], ◌∷◌, ◌++◌, length, take, set, sym, ◌∙◌, ap, arith}
+use Rattle.std.proofs.Common.{append_assoc, lit<, bit_and, add-one}
 use Rattle.std.proofs.lemmas.List.{take_more_set}
 use Rattle.std.proofs.lemmas.Nat.{and_mask, one_shl, le-div}
 use Rattle.std.proofs.lemmas.Bool.{cases_lt}
-use Rattle.std.proofs.Math.Nat.{pow-le-pow_right, pow-suc, div-mul-le_self, mul-le-mul_left, mul-le-mul_right, div-eq_of_lt}
+use Rattle.std.proofs.Math.Nat.{pow-le-pow_right, pow-suc, div-mul-le_self, mul-le-mul_left}
+use Rattle.std.proofs.Math.Nat.{mul-le-mul_right, div-eq_of_lt}
 use Rattle.std.proofs.Common.{inl, inr}
 use Rattle.twkb_num.specs.Spelling.{shortest}
 use Rattle.twkb_num.proofs.SpellingLemmas.{shortest_one, shortest_more}
@@ -25,7 +28,8 @@ large_from_high n base h =
     ]
 
 -- the last unit, written after the others, completes the spelling
-pub put_one : (unit : ℕ → Bool → ℕ) (base : ℕ) (units : List ℕ) (len rest number u : ℕ) → len < length units → rest < base → u ≡ unit rest false
+pub put_one : (unit : ℕ → Bool → ℕ) (base : ℕ) (units : List ℕ) (len rest number u : ℕ)
+    → len < length units → rest < base → u ≡ unit rest false
     → take len units ++ shortest unit base rest ≡ shortest unit base number
     → take (len + 1) (set units len u) ≡ shortest unit base number
 put_one unit base units len rest number u within small read spelled =
@@ -35,7 +39,8 @@ put_one unit base units len rest number u within small read spelled =
     ∙ spelled
 
 -- a unit that says that more follow, written after the others, leaves the spelling of the quotient
-pub put_more : (unit : ℕ → Bool → ℕ) (base : ℕ) (units : List ℕ) (len rest number u : ℕ) → 2 ≤ base → len < length units → base ≤ rest → u ≡ unit (rest % base) true
+pub put_more : (unit : ℕ → Bool → ℕ) (base : ℕ) (units : List ℕ) (len rest number u : ℕ) → 2 ≤ base
+    → len < length units → base ≤ rest → u ≡ unit (rest % base) true
     → take len units ++ shortest unit base rest ≡ shortest unit base number
     → take (len + 1) (set units len u) ++ shortest unit base (rest / base) ≡ shortest unit base number
 put_more unit base units len rest number u p within large read spelled =
@@ -63,7 +68,8 @@ room_left base len rest p large small =
       | inl below ↦ omega arith
       | inr above ↦
           let a : 32 ^ 12 ≤ 32 ^ len = pow-le-pow_right {n = 32} (lit< tt) above in
-          let b : 32 * 32 ^ len ≤ rest * 32 ^ len = mul-le-mul_right (32 ^ len) (let q : 32 ≤ rest = omega arith in q) in
+          let b : 32 * 32 ^ len ≤ rest * 32 ^ len = mul-le-mul_right (32 ^ len)
+          (let q : 32 ≤ rest = omega arith in q) in
           absurd (omega arith)
     ]
 

@@ -1,6 +1,8 @@
 -- Digits, low first.
-use Rattle.std.proofs.Common.{◌≡◌, ℕ, zero, suc, ◌+◌, ◌*◌, ◌/◌, ◌%◌, ◌<◌, ◌≤◌, ◌^◌, inl, inr, List, [], ◌∷◌, ◌++◌, length, refl, sym, ◌∙◌, ap, arith}
-use Rattle.std.proofs.Math.Nat.{pow-suc, pow-zero, div-lt_self, add-mul-mod_self_right, add-mul-div_right, mod-eq_of_lt, div-eq_of_lt, mul-le-mul_left}
+use Rattle.std.proofs.Common.{◌≡◌, ℕ, zero, suc, ◌+◌, ◌*◌, ◌/◌, ◌%◌, ◌<◌, ◌≤◌, ◌^◌, inl, inr, List}
+use Rattle.std.proofs.Common.{[], ◌∷◌, ◌++◌, length, refl, sym, ◌∙◌, ap, arith}
+use Rattle.std.proofs.Math.Nat.{pow-suc, pow-zero, div-lt_self, add-mul-mod_self_right}
+use Rattle.std.proofs.Math.Nat.{add-mul-div_right, mod-eq_of_lt, div-eq_of_lt, mul-le-mul_left}
 use Rattle.std.proofs.lemmas.Nat.{div_below, mod_below, div-add-mod', mul-lt}
 use Rattle.std.proofs.lemmas.Bool.{lt-ltb, le-ltb, cases_lt}
 use Rattle.std.specs.Int.Digits.{AllBelowBase}
@@ -24,12 +26,14 @@ high_digits base d n h =
 -- ---- the number that digits stand for
 
 -- the number of two lists of digits: the second counts from its place on
-pub number_of-append : (base : ℕ) (xs ys : List ℕ) → number_of base (xs ++ ys) ≡ number_of base xs + base ^ length xs * number_of base ys
+pub number_of-append : (base : ℕ) (xs ys : List ℕ)
+    → number_of base (xs ++ ys) ≡ number_of base xs + base ^ length xs * number_of base ys
 number_of-append base [] ys = rw (pow-zero base) (omega arith)
 number_of-append base (x ∷ xs) ys = rw (number_of-append base xs ys, pow-suc base (length xs)) (omega arith)
 
 -- the number of some digits with one more above them
-pub number_of-push : (base : ℕ) (xs : List ℕ) (d : ℕ) → number_of base (xs ++ d ∷ []) ≡ number_of base xs + base ^ length xs * d
+pub number_of-push : (base : ℕ) (xs : List ℕ) (d : ℕ)
+    → number_of base (xs ++ d ∷ []) ≡ number_of base xs + base ^ length xs * d
 number_of-push base xs d = rw (number_of-append base xs (d ∷ [])) (omega arith)
 
 -- digits below the base stand for a number below the power
@@ -37,24 +41,32 @@ pub number_of-lt : (base : ℕ) (ds : List ℕ) → AllBelowBase base ds → num
 number_of-lt base [] below = rw (pow-zero base) (omega arith)
 number_of-lt base (d ∷ ds) below =
     let rest = number_of-lt base ds below.1 in
-    let product : base * (number_of base ds + 1) ≤ base * base ^ length ds = mul-le-mul_left base (let q : number_of base ds + 1 ≤ base ^ length ds = omega arith in q) in
+    let product : base * (number_of base ds + 1) ≤ base * base ^ length ds = mul-le-mul_left base
+    (let q : number_of base ds + 1 ≤ base ^ length ds = omega arith in q) in
     rw (pow-suc base (length ds)) (omega (arith, below.0))
 
 -- two lists of equally many digits for the same number are equal
-pub number_of-same : (base : ℕ) (ds es : List ℕ) → AllBelowBase base ds → AllBelowBase base es → length ds ≡ length es → number_of base ds ≡ number_of base es → ds ≡ es
+pub number_of-same : (base : ℕ) (ds es : List ℕ) → AllBelowBase base ds → AllBelowBase base es
+    → length ds ≡ length es → number_of base ds ≡ number_of base es → ds ≡ es
 number_of-same base [] [] p q l e = refl
 number_of-same base [] (d ∷ es) p q l e = absurd (omega arith)
 number_of-same base (d ∷ ds) [] p q l e = absurd (omega arith)
 number_of-same base (d ∷ ds) (f ∷ es) p q l e =
     let low = ap (λ n. n % base) e in
     let high = ap (λ n. n / base) e in
-    let first : d ≡ f = rw (low_digit base d (number_of base ds) p.0, low_digit base f (number_of base es) q.0) at low in
-    let others : number_of base ds ≡ number_of base es = rw (high_digits base d (number_of base ds) p.0, high_digits base f (number_of base es) q.0) at high in
+    let first : d ≡ f = rw (
+      low_digit base d (number_of base ds) p.0,
+      low_digit base f (number_of base es) q.0,
+    ) at low in
+    let others : number_of base ds ≡ number_of base es =
+    rw (high_digits base d (number_of base ds) p.0, high_digits base f (number_of base es) q.0)
+    at high in
     let rest = number_of-same base ds es p.1 q.1 (omega arith) others in
     cc
 
 -- digits below the base stay so with one more such digit
-pub AllBelowBase-push : (base : ℕ) (ds : List ℕ) (d : ℕ) → AllBelowBase base ds → d < base → AllBelowBase base (ds ++ d ∷ [])
+pub AllBelowBase-push : (base : ℕ) (ds : List ℕ) (d : ℕ) → AllBelowBase base ds → d < base
+    → AllBelowBase base (ds ++ d ∷ [])
 AllBelowBase-push base [] d below h = (h, tt)
 AllBelowBase-push base (x ∷ ds) d below h = (below.0, AllBelowBase-push base ds d below.1 h)
 
@@ -81,7 +93,8 @@ number_of-low_digits base (suc k) n p h =
     rw (number_of-low_digits base k (n / base) p (high_below base k n p h)) (omega (arith, div-add-mod' n base))
 
 -- the lowest k digits with one more above them
-pub low_digits-push : (base k n d : ℕ) → n < base ^ k → d < base → low_digits base (suc k) (n + d * base ^ k) ≡ low_digits base k n ++ d ∷ []
+pub low_digits-push : (base k n d : ℕ) → n < base ^ k → d < base
+    → low_digits base (suc k) (n + d * base ^ k) ≡ low_digits base k n ++ d ∷ []
 low_digits-push base zero n d h b =
     let small = rw (pow-zero base) at h in
     let e : n + d * base ^ 0 ≡ d = rw (pow-zero base) (omega arith) in
@@ -100,7 +113,8 @@ unfolding digits_within
 digits_within-small f base n h = rw (lt-ltb n base h, digits_within) refl
 
 -- any other number takes a turn
-digits_within-large : (f base n : ℕ) → base ≤ n → digits_within (suc f) base n ≡ (n % base) ∷ digits_within f base (n / base)
+digits_within-large : (f base n : ℕ) → base ≤ n
+    → digits_within (suc f) base n ≡ (n % base) ∷ digits_within f base (n / base)
 unfolding digits_within
 digits_within-large f base n h = rw (le-ltb n base h, digits_within) refl
 
@@ -112,8 +126,10 @@ digits_within-zero base n = refl
 -- more turns than needed change nothing
 digits_within-turns : (f g base n : ℕ) → 2 ≤ base → n ≤ f → n ≤ g → digits_within f base n ≡ digits_within g base n
 digits_within-turns zero zero base n p a b = refl
-digits_within-turns zero (suc g) base n p a b = digits_within-zero base n ∙ sym (digits_within-small g base n (omega arith))
-digits_within-turns (suc f) zero base n p a b = digits_within-small f base n (omega arith) ∙ sym (digits_within-zero base n)
+digits_within-turns zero (suc g) base n p a b = digits_within-zero base n
+    ∙ sym (digits_within-small g base n (omega arith))
+digits_within-turns (suc f) zero base n p a b = digits_within-small f base n (omega arith)
+    ∙ sym (digits_within-zero base n)
 digits_within-turns (suc f) (suc g) base n p a b =
     elim (cases_lt n base) [
       | inl small ↦ digits_within-small f base n small ∙ sym (digits_within-small g base n small)
@@ -137,7 +153,8 @@ digits_more base zero p h = absurd (omega arith)
 digits_more base (suc n) p h =
     let falls : suc n / base < suc n = div-lt_self (omega arith) p in
     digits_within-large n base (suc n) h
-    ∙ ap (λ ds. (suc n % base) ∷ ds) (digits_within-turns n (suc n / base) base (suc n / base) p (omega arith) (omega arith))
+    ∙ ap (λ ds. (suc n % base) ∷ ds) (digits_within-turns n (suc n / base) base (suc n / base) p
+    (omega arith) (omega arith))
 
 -- the digits stand for the number, whatever the number of turns
 number_of-digits_within : (f base n : ℕ) → 2 ≤ base → number_of base (digits_within f base n) ≡ n
@@ -145,7 +162,11 @@ number_of-digits_within zero base n p = rw (digits_within-zero base n) (omega ar
 number_of-digits_within (suc f) base n p =
     elim (cases_lt n base) [
       | inl small ↦ rw (digits_within-small f base n small) (omega arith)
-      | inr large ↦ rw (digits_within-large f base n large, number_of-digits_within f base (n / base) p) (omega (arith, div-add-mod' n base))
+      | inr large ↦ rw (
+        digits_within-large f base n large,
+        number_of-digits_within f base
+            (n / base) p,
+      ) (omega (arith, div-add-mod' n base))
     ]
 
 -- with as many turns as the number, each digit is below the base
@@ -156,7 +177,10 @@ digits_within_below (suc f) base n p h =
       | inl small ↦ rw (digits_within-small f base n small) (small, tt)
       | inr large ↦
           let falls : n / base < n = div-lt_self (omega arith) p in
-          rw (digits_within-large f base n large) (mod_below n base (omega arith), digits_within_below f base (n / base) p (omega arith))
+          rw (digits_within-large f base n large) (
+            mod_below n base (omega arith),
+            digits_within_below f base (n / base) p (omega arith),
+          )
     ]
 
 -- the digits stand for their number
@@ -204,7 +228,8 @@ number_of-above base (d ∷ e ∷ ds) p h =
     omega arith
 
 -- Digits whose last is above 0 are those of their number.
-pub digits-number_of : (base : ℕ) (ds : List ℕ) → 2 ≤ base → AllBelowBase base ds → EndsAbove ds → digits base (number_of base ds) ≡ ds
+pub digits-number_of : (base : ℕ) (ds : List ℕ) → 2 ≤ base → AllBelowBase base ds → EndsAbove ds
+    → digits base (number_of base ds) ≡ ds
 digits-number_of base [] p below h = absurd h
 digits-number_of base (d ∷ []) p below h =
     let e : d + base * 0 ≡ d = omega arith in

@@ -1,9 +1,12 @@
 -- Four numbers found among units.
-use Rattle.std.proofs.Common.{◌≡◌, ℕ, zero, suc, ◌+◌, ◌-◌, ◌*◌, ◌%◌, ◌<◌, ◌≤◌, ◌^◌, ◌⊎◌, Bool, true, false, inl, inr, List, [], ◌∷◌, ◌++◌, length, take, drop, map, get_or, refl, sym, ◌∙◌, ap, arith}
+use Rattle.std.proofs.Common.{◌≡◌, ℕ, zero, suc, ◌+◌, ◌-◌, ◌*◌, ◌%◌, ◌<◌, ◌≤◌, ◌^◌, ◌⊎◌, Bool, true}
+use Rattle.std.proofs.Common.{false, inl, inr, List, [], ◌∷◌, ◌++◌, length, take, drop, map, get_or}
+use Rattle.std.proofs.Common.{refl, sym, ◌∙◌, ap, arith}
 use Rattle.std.specs.Prelude.{nat_lt}
 use Rattle.std.proofs.Math.Nat.{pow-suc, pow-le-pow_right, one-le-pow}
 use Rattle.std.proofs.lemmas.Bool.{cases_lt, lt-ltb, le-ltb}
-use Rattle.std.proofs.lemmas.List.{drop-map, take-map, drop-drop, get_or-drop, length-drop, length-map, map-append, take-take}
+use Rattle.std.proofs.lemmas.List.{drop-map, take-map, drop-drop, get_or-drop, length-drop}
+use Rattle.std.proofs.lemmas.List.{length-map, map-append, take-take}
 use Rattle.std.proofs.lemmas.Nat.{mod_below, mul-le}
 use Rattle.twkb_num.specs.Four.{unit_over, number_in_front, run_of, FourInFront}
 use Rattle.twkb_num.specs.Block.{AreUnits}
@@ -34,21 +37,26 @@ number_below radix zero (u ∷ us) p q = let digit : u % radix < radix = mod_bel
 number_below radix (suc more) (u ∷ us) p q =
     let rest = number_below radix more us p q in
     let digit : u % radix < radix = mod_below u radix p in
-    let product : radix * number_in_front radix more us ≤ 128 * number_in_front radix more us = mul-le radix (number_in_front radix more us) 128 (number_in_front radix more us) q (omega arith) in
+    let product : radix * number_in_front radix more us ≤ 128 * number_in_front radix more us =
+    mul-le radix (number_in_front radix more us) 128 (number_in_front radix more us) q
+    (omega arith) in
     rw (pow-suc 128 (suc more)) (omega arith)
 
 -- a number of at most four units has at most 28 bits
-pub number_small : (radix more : ℕ) (us : List ℕ) → (radix ≡ 128) ⊎ (radix ≡ 32) → more ≤ 3 → number_in_front radix more us < 2 ^ 28
+pub number_small : (radix more : ℕ) (us : List ℕ) → (radix ≡ 128) ⊎ (radix ≡ 32) → more ≤ 3
+    → number_in_front radix more us < 2 ^ 28
 number_small radix more us alphabet short =
     let above : 1 ≤ radix = elim alphabet [ inl e ↦ omega arith | inr e ↦ omega arith ] in
     let within : radix ≤ 128 = elim alphabet [ inl e ↦ omega arith | inr e ↦ omega arith ] in
-    let power : 128 ^ suc more ≤ 128 ^ 4 = pow-le-pow_right {n = 128} (omega arith) (let q : suc more ≤ 4 = omega arith in q) in
+    let power : 128 ^ suc more ≤ 128 ^ 4 = pow-le-pow_right {n = 128} (omega arith)
+    (let q : suc more ≤ 4 = omega arith in q) in
     omega (arith, number_below radix more us above within)
 
 -- ---- one number among the units
 
 -- the units from `at` to the next that ends a number spell it
-pub spelled_at : (base radix at : ℕ) (bytes us : List ℕ) (ends more n : ℕ) → (radix ≡ 128) ⊎ (radix ≡ 32) → AreUnits base radix bytes us ends
+pub spelled_at : (base radix at : ℕ) (bytes us : List ℕ) (ends more n : ℕ) → (radix ≡ 128)
+    ⊎ (radix ≡ 32) → AreUnits base radix bytes us ends
     → more ≡ run_of (drop at (marks_of radix us)) → at + more < length us → n ≡ number_in_front radix more (drop at us)
     → map (λ u. u + base) (take (suc more) (drop at us)) ≡ shortest (unit_over base radix) radix n
 spelled_at base radix at bytes us ends more n alphabet read more_is within n_is =
@@ -57,13 +65,16 @@ spelled_at base radix at bytes us ends more n alphabet read more_is within n_is 
     let marks_are : drop at (marks_of radix us) ≡ marks_of radix rest = drop-map (λ u. nat_lt u radix) at us in
     let run : more ≡ run_of (marks_of radix rest) = more_is ∙ ap run_of marks_are in
     let long : length rest ≡ length us - at = length-drop at us in
-    let below : (k : ℕ) → get_or rest k 0 < 2 * radix = λ k. omega (arith, get_or-drop at us k 0, read.below (at + k)) in
-    let last : 0 < run_of (marks_of radix rest) → 0 < get_or rest (run_of (marks_of radix rest)) 0 = λ some. last_at base radix at bytes us ends more read run within (omega arith) in
+    let below : (k : ℕ) → get_or rest k 0 < 2 * radix = λ k.
+    omega (arith, get_or-drop at us k 0, read.below (at + k)) in
+    let last : 0 < run_of (marks_of radix rest) → 0 < get_or rest (run_of (marks_of radix rest)) 0 =
+    λ some. last_at base radix at bytes us ends more read run within (omega arith) in
     let number : n ≡ number_in_front radix (run_of (marks_of radix rest)) rest =
     n_is ∙ ap (λ m. number_in_front radix m rest) run in
     rw (number, run) (number_spelled base radix rest p below (omega arith) last)
   where
-    last_at : (base radix at : ℕ) (bytes us : List ℕ) (ends more : ℕ) → AreUnits base radix bytes us ends → more ≡ run_of (marks_of radix (drop at us))
+    last_at : (base radix at : ℕ) (bytes us : List ℕ) (ends more : ℕ)
+        → AreUnits base radix bytes us ends → more ≡ run_of (marks_of radix (drop at us))
         → at + more < length us → 0 < more → 0 < get_or (drop at us) (run_of (marks_of radix (drop at us))) 0
     last_at base radix at bytes us ends zero read run within some = absurd (omega arith)
     last_at base radix at bytes us ends (suc more) read run within some =
@@ -99,7 +110,8 @@ piece : (at more next rest whole : ℕ) (us : List ℕ) → next ≡ at + suc mo
     → take whole (drop at us) ≡ take (suc more) (drop at us) ++ take rest (drop next us)
 piece at more next rest whole us next_is whole_is =
     take_apart (suc more) rest whole (drop at us) whole_is
-    ∙ ap (λ xs. take (suc more) (drop at us) ++ take rest xs) (drop-drop (suc more) at us ∙ ap (λ n. drop n us) (sym next_is))
+    ∙ ap (λ xs. take (suc more) (drop at us) ++ take rest xs) (drop-drop (suc more) at us
+    ∙ ap (λ n. drop n us) (sym next_is))
 
 -- the units of four numbers
 four_pieces : (f : ℕ → ℕ) (i j k l second third fourth count : ℕ) (us ks bs cs ds : List ℕ)
@@ -107,12 +119,14 @@ four_pieces : (f : ℕ → ℕ) (i j k l second third fourth count : ℕ) (us ks
     → map f (take (suc i) (drop 0 us)) ≡ ks → map f (take (suc j) (drop second us)) ≡ bs
     → map f (take (suc k) (drop third us)) ≡ cs → map f (take (suc l) (drop fourth us)) ≡ ds
     → map f (take count us) ≡ ks ++ (bs ++ (cs ++ ds))
-four_pieces f i j k l second third fourth count us ks bs cs ds second_is third_is fourth_is count_is one two three four =
+four_pieces f i j k l second third fourth count us ks bs cs ds second_is third_is fourth_is count_is
+    one two three four =
     let p = piece 0 i second (count - second) count us (omega arith) (omega arith) in
     let q = piece second j third (count - third) (count - second) us (omega arith) (omega arith) in
     let r = piece third k fourth (count - fourth) (count - third) us (omega arith) (omega arith) in
     let last : count - fourth ≡ suc l = omega arith in
-    let s : take (count - fourth) (drop fourth us) ≡ take (suc l) (drop fourth us) = ap (λ n. take n (drop fourth us)) last in
+    let s : take (count - fourth) (drop fourth us) ≡ take (suc l) (drop fourth us) =
+    ap (λ n. take n (drop fourth us)) last in
     ap (map f) p ∙ map-append f (take (suc i) us) (take (count - second) (drop second us))
     ∙ rw one (ap (λ xs. ks ++ xs) (
     ap (map f) q ∙ map-append f (take (suc j) (drop second us)) (take (count - third) (drop third us))
@@ -122,7 +136,8 @@ four_pieces f i j k l second third fourth count us ks bs cs ds second_is third_i
 
 -- Four numbers found by the marks of their last units.
 pub four_found : (base radix : ℕ) (bytes us : List ℕ) (ends i j k l second third fourth count a b c d : ℕ)
-    → (radix ≡ 128) ⊎ (radix ≡ 32) → AreUnits base radix bytes us ends → AreFour (marks_of radix us) i j k l second third fourth count
+    → (radix ≡ 128) ⊎ (radix ≡ 32) → AreUnits base radix bytes us ends
+    → AreFour (marks_of radix us) i j k l second third fourth count
     → a ≡ number_in_front radix i (drop 0 us) → b ≡ number_in_front radix j (drop second us)
     → c ≡ number_in_front radix k (drop third us) → d ≡ number_in_front radix l (drop fourth us)
     → FourInFront (unit_over base radix) radix bytes a b c d count
@@ -140,8 +155,10 @@ four_found base radix bytes us ends i j k l second third fourth count a b c d al
     let four = spelled_at base radix fourth bytes us ends l d alphabet read are.fourth_run (omega arith) d_is in
     record {
       within = omega arith;
-      spelled = sym (take-take count (length us) bytes (omega arith)) ∙ ap (take count) read.same ∙ take-map (λ u. u + base) count us
-          ∙ four_pieces (λ u. u + base) i j k l second third fourth count us _ _ _ _ second_at third_at fourth_at count_is one two three four;
+      spelled = sym (take-take count (length us) bytes (omega arith)) ∙ ap (take count) read.same
+          ∙ take-map (λ u. u + base) count us
+          ∙ four_pieces (λ u. u + base) i j k l second third fourth count us _ _ _ _ second_at
+          third_at fourth_at count_is one two three four;
       first_small = rw a_is (number_small radix i (drop 0 us) alphabet are.first_short);
       second_small = rw b_is (number_small radix j (drop second us) alphabet are.second_short);
       third_small = rw c_is (number_small radix k (drop third us) alphabet are.third_short);
@@ -151,10 +168,12 @@ four_found base radix bytes us ends i j k l second third fourth count a b c d al
 -- ---- units written in two ways
 
 -- two ways to write units agree on the units of digits
-units_same : (unit other : ℕ → Bool → ℕ) → ((d : ℕ) (more : Bool) → unit d more ≡ other d more) → (ds : List ℕ) → units_of unit ds ≡ units_of other ds
+units_same : (unit other : ℕ → Bool → ℕ) → ((d : ℕ) (more : Bool) → unit d more ≡ other d more)
+    → (ds : List ℕ) → units_of unit ds ≡ units_of other ds
 units_same unit other same [] = refl
 units_same unit other same (d ∷ []) = ap (λ u. u ∷ []) (same d false)
-units_same unit other same (d ∷ e ∷ ds) = ap (λ u. u ∷ units_of unit (e ∷ ds)) (same d true) ∙ ap (λ us. other d true ∷ us) (units_same unit other same (e ∷ ds))
+units_same unit other same (d ∷ e ∷ ds) = ap (λ u. u ∷ units_of unit (e ∷ ds)) (same d true)
+    ∙ ap (λ us. other d true ∷ us) (units_same unit other same (e ∷ ds))
 
 -- units over base 0 are the bytes of varints
 leb_same : (d : ℕ) (more : Bool) → unit_over 0 128 d more ≡ leb_unit d more
@@ -166,7 +185,9 @@ pub leb_spelled : (n : ℕ) → shortest (unit_over 0 128) 128 n ≡ shortest le
 leb_spelled n = units_same (unit_over 0 128) leb_unit leb_same (digits 128 n)
 
 -- four numbers found over base 0 are four varints
-pub four_as_varints : (bytes : List ℕ) (a b c d count : ℕ) → FourInFront (unit_over 0 128) 128 bytes a b c d count → FourInFront leb_unit 128 bytes a b c d count
+pub four_as_varints : (bytes : List ℕ) (a b c d count : ℕ)
+    → FourInFront (unit_over 0 128) 128 bytes a b c d count
+    → FourInFront leb_unit 128 bytes a b c d count
 four_as_varints bytes a b c d count found =
     record {
       within = found.within;

@@ -1,5 +1,7 @@
 -- The units of a number in a lane of four bytes, as the code adds them, are its shortest spelling.
-use Rattle.std.proofs.Common.{◌≡◌, ℕ, zero, suc, ◌+◌, ◌*◌, ◌/◌, ◌%◌, ◌-◌, ◌<◌, ◌≤◌, ◌^◌, ◌⊎◌, Bool, true, false, inl, inr, [], ◌∷◌, ◌++◌, take, map, refl, sym, ◌∙◌, ap, arith}
+use Rattle.std.proofs.Common.{◌≡◌, ℕ, zero, suc, ◌+◌, ◌*◌, ◌/◌, ◌%◌, ◌-◌, ◌<◌, ◌≤◌, ◌^◌, ◌⊎◌, Bool}
+use Rattle.std.proofs.Common.{true, false, inl, inr, [], ◌∷◌, ◌++◌, take, map, refl, sym, ◌∙◌, ap}
+use Rattle.std.proofs.Common.{arith}
 use lib.Dec.{leb}
 use lib.Lanes.{number_l, digits_l, mask_l, top}
 use mathlib.Core.Bool.{cond}
@@ -25,16 +27,19 @@ one_group radix n below = let e = rw (pow-suc radix 0, pow-zero radix) at below 
 
 -- a number's units are its shortest spelling
 pub units_spell : (base radix most n : ℕ) → 2 ≤ radix → n < radix ^ suc most
-    → take (suc (groups_after radix most n)) (units_within base radix (suc most) n) ≡ shortest (unit_over base radix) radix n
+    → take (suc (groups_after radix most n)) (units_within base radix (suc most) n) ≡ shortest
+    (unit_over base radix) radix n
 units_spell base radix zero n p below =
     let small = one_group radix n below in
     rw (lt-leb radix n small, mod-eq_of_lt small) (sym (shortest_one (unit_over base radix) radix n small))
 units_spell base radix (suc most) n p below =
     elim (cases_lt n radix) [
-      | inl small ↦ rw (lt-leb radix n small, mod-eq_of_lt small) (sym (shortest_one (unit_over base radix) radix n small))
+      | inl small ↦ rw (lt-leb radix n small, mod-eq_of_lt small)
+          (sym (shortest_one (unit_over base radix) radix n small))
       | inr large ↦
           let rest = units_spell base radix most (n / radix) p (fewer radix most n (omega arith) below) in
-          rw (le-leb radix n large) (ap (λ us. unit_over base radix (n % radix) true ∷ us) rest ∙ sym (shortest_more (unit_over base radix) radix n p large))
+          rw (le-leb radix n large) (ap (λ us. unit_over base radix (n % radix) true ∷ us) rest
+          ∙ sym (shortest_more (unit_over base radix) radix n p large))
     ]
 
 -- ---- the marks
@@ -45,7 +50,8 @@ mark_is base radix d true small = le-leb (base + radix) (d + radix + base) (omeg
 mark_is base radix d false small = lt-leb (base + radix) (d + base) (omega arith)
 
 -- no group follows the last one of a number
-no_marks : (base radix most : ℕ) → 1 ≤ radix → mask_l (map (λ u. leb (base + radix) u) (units_within base radix most 0)) ≡ 0
+no_marks : (base radix most : ℕ) → 1 ≤ radix → mask_l
+    (map (λ u. leb (base + radix) u) (units_within base radix most 0)) ≡ 0
 no_marks base radix zero p = refl
 no_marks base radix (suc most) p =
     let low : 0 % radix ≡ 0 = mod-eq_of_lt p in
@@ -53,7 +59,9 @@ no_marks base radix (suc most) p =
     rw (low, high, lt-leb radix 0 p, mark_is base radix 0 false p, no_marks base radix most p) refl
 
 -- the marks have a bit for each group that has others above it
-pub marks_are : (base radix most n : ℕ) → 1 ≤ radix → n < radix ^ suc most → mask_l (map (λ u. leb (base + radix) u) (units_within base radix (suc most) n)) ≡ 2 ^ groups_after radix most n - 1
+pub marks_are : (base radix most n : ℕ) → 1 ≤ radix → n < radix ^ suc most
+    → mask_l (map (λ u. leb (base + radix) u) (units_within base radix (suc most) n))
+    ≡ 2 ^ groups_after radix most n - 1
 marks_are base radix zero n p below =
     let small = one_group radix n below in
     rw (lt-leb radix n small, mark_is base radix (n % radix) false (mod_below n radix p)) refl
@@ -61,7 +69,12 @@ marks_are base radix (suc most) n p below =
     elim (cases_lt n radix) [
       | inl small ↦
           let none : n / radix ≡ 0 = div-eq_of_lt small in
-          rw (lt-leb radix n small, mark_is base radix (n % radix) false (mod_below n radix p), none, no_marks base radix (suc most) p) refl
+          rw (
+            lt-leb radix n small,
+            mark_is base radix (n % radix) false (mod_below n radix p),
+            none,
+            no_marks base radix (suc most) p,
+          ) refl
       | inr large ↦
           let rest = marks_are base radix most (n / radix) p (fewer radix most n p below) in
           let k = groups_after radix most (n / radix) in
@@ -75,7 +88,8 @@ pub few_groups : (radix most n : ℕ) → groups_after radix most n ≤ most
 few_groups radix zero n = omega arith
 few_groups radix (suc most) n = by_test (nat_le radix n) (few_groups radix most (n / radix))
   where
-    by_test : (more : Bool) → groups_after radix most (n / radix) ≤ most → cond more (suc (groups_after radix most (n / radix))) 0 ≤ suc most
+    by_test : (more : Bool) → groups_after radix most (n / radix) ≤ most
+        → cond more (suc (groups_after radix most (n / radix))) 0 ≤ suc most
     by_test true few = omega arith
     by_test false few = omega arith
 
@@ -88,16 +102,22 @@ selected more value = cond (top 31 (cond more 4294967295 0)) value 0
 -- a lane's groups, marks and base, added
 abbrev lane_of : (base radix n : ℕ) → ℕ
 lane_of base radix n =
-    ((((n % radix + (n / radix % radix * 256) % 4294967296) % 4294967296 + (n / radix / radix % radix * 65536) % 4294967296) % 4294967296 + (n / radix / radix / radix * 16777216) % 4294967296) % 4294967296
-    + ((selected (leb radix n) radix + selected (leb radix (n / radix)) (radix * 256)) % 4294967296 + selected (leb radix (n / radix / radix)) (radix * 65536)) % 4294967296) % 4294967296
+    ((((n % radix + (n / radix % radix * 256) % 4294967296) % 4294967296
+    + (n / radix / radix % radix * 65536) % 4294967296) % 4294967296
+    + (n / radix / radix / radix * 16777216) % 4294967296) % 4294967296
+    + ((selected (leb radix n) radix + selected (leb radix (n / radix)) (radix * 256)) % 4294967296
+    + selected (leb radix (n / radix / radix)) (radix * 65536)) % 4294967296) % 4294967296
 
 -- the sum of groups at their places
 groups_sum : (a b c d : ℕ) → a < 128 → b < 128 → c < 128 → d < 128
-    → (((a + (b * 256) % 4294967296) % 4294967296 + (c * 65536) % 4294967296) % 4294967296 + (d * 16777216) % 4294967296) % 4294967296 ≡ a + 256 * b + 65536 * c + 16777216 * d
+    → (((a + (b * 256) % 4294967296) % 4294967296 + (c * 65536) % 4294967296) % 4294967296
+    + (d * 16777216) % 4294967296) % 4294967296 ≡ a + 256 * b + 65536 * c + 16777216 * d
 groups_sum a b c d p q r s = omega arith
 
 -- the sum of marks at their places
-marks_sum : (p q r : Bool) (radix : ℕ) → radix ≤ 128 → ((selected p radix + selected q (radix * 256)) % 4294967296 + selected r (radix * 65536)) % 4294967296
+marks_sum : (p q r : Bool) (radix : ℕ) → radix ≤ 128
+    → ((selected p radix + selected q (radix * 256)) % 4294967296 + selected r (radix * 65536))
+    % 4294967296
     ≡ cond p radix 0 + cond q radix 0 * 256 + cond r radix 0 * 65536
 marks_sum true true true radix most = omega arith
 marks_sum true true false radix most = omega arith
@@ -124,7 +144,8 @@ unit_below base radix d true small within = omega arith
 unit_below base radix d false small within = omega arith
 
 -- a sum of bytes that leaves no carry is the sum of each byte
-whole_sum : (base radix a b c d x y z : ℕ) → radix ≤ 128 → base + 2 * radix ≤ 256 → a < radix → b < radix → c < radix → d < radix → x ≤ radix → y ≤ radix → z ≤ radix
+whole_sum : (base radix a b c d x y z : ℕ) → radix ≤ 128 → base + 2 * radix ≤ 256 → a < radix
+    → b < radix → c < radix → d < radix → x ≤ radix → y ≤ radix → z ≤ radix
     → ((a + 256 * b + 65536 * c + 16777216 * d + (x + y * 256 + z * 65536)) % 4294967296 + base * 16843009) % 4294967296
     ≡ word_of (a + x + base) (b + y + base) (c + z + base) (d + base)
 whole_sum base radix a b c d x y z most within p q r s u v w = omega arith
@@ -145,12 +166,15 @@ module _ (base radix : ℕ) (alphabet : (radix ≡ 128) ⊎ (radix ≡ 32)) (wit
   unit_0 n = unit_over base radix (n % radix) (nat_le radix n)
 
   -- a lane holds the units of its number
-  lane_is : (n : ℕ) → n < radix ^ 4 → (lane_of base radix n + base * 16843009) % 4294967296 ≡ word_of (unit_0 n) (unit_0 (n / radix)) (unit_0 (n / radix / radix)) (unit_0 (n / radix / radix / radix))
+  lane_is : (n : ℕ) → n < radix ^ 4 → (lane_of base radix n + base * 16843009) % 4294967296
+      ≡ word_of (unit_0 n) (unit_0 (n / radix)) (unit_0 (n / radix / radix))
+      (unit_0 (n / radix / radix / radix))
   lane_is n small =
       let two = n / radix in
       let three = n / radix / radix in
       let four = n / radix / radix / radix in
-      let last : four < radix = one_group radix four (fewer radix 0 three some (fewer radix 1 two some (fewer radix 2 n some small))) in
+      let last : four < radix = one_group radix four
+      (fewer radix 0 three some (fewer radix 1 two some (fewer radix 2 n some small))) in
       let a = mod_below n radix some in
       let b = mod_below two radix some in
       let c = mod_below three radix some in
@@ -158,22 +182,33 @@ module _ (base radix : ℕ) (alphabet : (radix ≡ 128) ⊎ (radix ≡ 32)) (wit
       let y = cond (leb radix two) radix 0 in
       let z = cond (leb radix three) radix 0 in
       let ended : unit_0 four ≡ four + base = rw (mod-eq_of_lt last, lt-leb radix four last) refl in
-      ap (λ t. ((t + ((selected (leb radix n) radix + selected (leb radix two) (radix * 256)) % 4294967296 + selected (leb radix three) (radix * 65536)) % 4294967296) % 4294967296 + base * 16843009) % 4294967296)
-      (groups_sum (n % radix) (two % radix) (three % radix) four (omega arith) (omega arith) (omega arith) (omega arith))
-      ∙ ap (λ t. ((n % radix + 256 * (two % radix) + 65536 * (three % radix) + 16777216 * four + t) % 4294967296 + base * 16843009) % 4294967296)
+      ap (λ t. ((t + ((selected (leb radix n) radix + selected (leb radix two) (radix * 256))
+      % 4294967296 + selected (leb radix three) (radix * 65536)) % 4294967296) % 4294967296
+      + base * 16843009) % 4294967296)
+      (groups_sum (n % radix) (two % radix) (three % radix) four (omega arith) (omega arith)
+      (omega arith) (omega arith))
+      ∙ ap (λ t. ((n % radix + 256 * (two % radix) + 65536 * (three % radix) + 16777216 * four + t)
+      % 4294967296 + base * 16843009) % 4294967296)
       (marks_sum (leb radix n) (leb radix two) (leb radix three) radix most)
-      ∙ whole_sum base radix (n % radix) (two % radix) (three % radix) four x y z most within a b c last (mark_below (leb radix n) radix) (mark_below (leb radix two) radix) (mark_below (leb radix three) radix)
-      ∙ word_same _ _ _ _ _ _ _ _ (sym (unit_is base radix (n % radix) (leb radix n))) (sym (unit_is base radix (two % radix) (leb radix two))) (sym (unit_is base radix (three % radix) (leb radix three))) (sym ended)
+      ∙ whole_sum base radix (n % radix) (two % radix) (three % radix) four x y z most within a b c
+      last (mark_below (leb radix n) radix) (mark_below (leb radix two) radix)
+      (mark_below (leb radix three) radix)
+      ∙ word_same _ _ _ _ _ _ _ _ (sym (unit_is base radix (n % radix) (leb radix n)))
+      (sym (unit_is base radix (two % radix) (leb radix two)))
+      (sym (unit_is base radix (three % radix) (leb radix three))) (sym ended)
 
   -- each unit of a lane is a byte
   byte : (n : ℕ) → unit_0 n < 256
   byte n = unit_below base radix (n % radix) (nat_le radix n) (mod_below n radix some) within
 
 -- Four lanes are the units of four numbers.
-pub lanes_are : (base radix from_base bound a b c d : ℕ) → (radix ≡ 128) ⊎ (radix ≡ 32) → base + 2 * radix ≤ 256 → from_base ≡ base → bound ≡ radix
+pub lanes_are : (base radix from_base bound a b c d : ℕ) → (radix ≡ 128) ⊎ (radix ≡ 32)
+    → base + 2 * radix ≤ 256 → from_base ≡ base → bound ≡ radix
     → a < radix ^ 4 → b < radix ^ 4 → c < radix ^ 4 → d < radix ^ 4
-    → digits_l 256 16 (number_l 4294967296 ((lane_of from_base bound a + from_base * 16843009) % 4294967296 ∷ (lane_of from_base bound b + from_base * 16843009) % 4294967296
-    ∷ (lane_of from_base bound c + from_base * 16843009) % 4294967296 ∷ (lane_of from_base bound d + from_base * 16843009) % 4294967296 ∷ []))
+    → digits_l 256 16 (number_l 4294967296 ((lane_of from_base bound a + from_base * 16843009)
+    % 4294967296 ∷ (lane_of from_base bound b + from_base * 16843009) % 4294967296
+    ∷ (lane_of from_base bound c + from_base * 16843009) % 4294967296
+    ∷ (lane_of from_base bound d + from_base * 16843009) % 4294967296 ∷ []))
     ≡ lane_units base radix a ++ (lane_units base radix b ++ (lane_units base radix c ++ lane_units base radix d))
 lanes_are base radix from_base bound a b c d alphabet within base_is bound_is p q r s =
     let first = lane_is base radix alphabet within a p in
@@ -185,9 +220,12 @@ lanes_are base radix from_base bound a b c d alphabet within base_is bound_is p 
     rw (base_is, bound_is)
     (ap (λ xs. digits_l 256 16 (number_l 4294967296 xs)) (λ i. first i ∷ second i ∷ third i ∷ fourth i ∷ [])
     ∙ ap (digits_l 256 16) (sym (four_words
-    (u a) (u (a / radix)) (u (a / radix / radix)) (u (a / radix / radix / radix)) (u b) (u (b / radix)) (u (b / radix / radix)) (u (b / radix / radix / radix))
-    (u c) (u (c / radix)) (u (c / radix / radix)) (u (c / radix / radix / radix)) (u d) (u (d / radix)) (u (d / radix / radix)) (u (d / radix / radix / radix))))
-    ∙ digits-number 256 16 (lane_units base radix a ++ (lane_units base radix b ++ (lane_units base radix c ++ lane_units base radix d))) refl (
+    (u a) (u (a / radix)) (u (a / radix / radix)) (u (a / radix / radix / radix)) (u b)
+    (u (b / radix)) (u (b / radix / radix)) (u (b / radix / radix / radix))
+    (u c) (u (c / radix)) (u (c / radix / radix)) (u (c / radix / radix / radix)) (u d)
+    (u (d / radix)) (u (d / radix / radix)) (u (d / radix / radix / radix))))
+    ∙ digits-number 256 16 (lane_units base radix a
+    ++ (lane_units base radix b ++ (lane_units base radix c ++ lane_units base radix d))) refl (
       byte_of a,
       (
         byte_of (a / radix),
@@ -211,7 +249,16 @@ lanes_are base radix from_base bound a b c d alphabet within base_is bound_is p 
                           byte_of (c / radix / radix),
                           (
                             byte_of (c / radix / radix / radix),
-                            (byte_of d, (byte_of (d / radix), (byte_of (d / radix / radix), (byte_of (d / radix / radix / radix), tt)))),
+                            (
+                              byte_of d,
+                              (
+                                byte_of (d / radix),
+                                (
+                                  byte_of (d / radix / radix),
+                                  (byte_of (d / radix / radix / radix), tt),
+                                ),
+                              ),
+                            ),
                           ),
                         ),
                       ),

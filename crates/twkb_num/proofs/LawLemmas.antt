@@ -1,6 +1,7 @@
 -- Laws of spellings in any alphabet: each spells one number, and each number has one shortest
 -- spelling.
-use Rattle.std.proofs.Common.{◌≡◌, ℕ, suc, ◌-◌, ◌<◌, ◌≤◌, ◌^◌, Bool, true, false, Option, Some, List, [], ◌∷◌, ◌++◌, length, refl, sym, ◌∙◌, ap, arith}
+use Rattle.std.proofs.Common.{◌≡◌, ℕ, suc, ◌-◌, ◌<◌, ◌≤◌, ◌^◌, Bool, true, false, Option, Some}
+use Rattle.std.proofs.Common.{List, [], ◌∷◌, ◌++◌, length, refl, sym, ◌∙◌, ap, arith}
 use Rattle.std.specs.Int.Digits.{AllBelowBase}
 use Rattle.twkb_num.specs.Alphabet.{AlphabetLaws}
 use Rattle.twkb_num.specs.Digits.{digits, number_of}
@@ -11,7 +12,8 @@ use Rattle.twkb_num.proofs.DigitLemmas.{length-digits-le, number_of-lt, number_o
 pub use Rattle.twkb_num.proofs.DigitLemmas.{number_of-digits, digits_below}
 pub use Rattle.twkb_num.proofs.ZigzagLemmas.{zigzag_one}
 
-module _ {bits longest : ℕ} {unit : ℕ → Bool → ℕ} {group : ℕ → Option (ℕ × Bool)} (laws : AlphabetLaws bits longest unit group) where
+module _ {bits longest : ℕ} {unit : ℕ → Bool → ℕ} {group : ℕ → Option (ℕ × Bool)}
+    (laws : AlphabetLaws bits longest unit group) where
   -- a unit has one digit and one mark
   unit_one : (d e : ℕ) (m n : Bool) → d < 2 ^ bits → e < 2 ^ bits → unit d m ≡ unit e n → (d ≡ e) × (m ≡ n)
   unit_one d e m n p q h =
@@ -20,7 +22,8 @@ module _ {bits longest : ℕ} {unit : ℕ → Bool → ℕ} {group : ℕ → Opt
       (ap (λ (z : ℕ × Bool). z.0) pair, ap (λ (z : ℕ × Bool). z.1) pair)
 
   -- the digits of no spelling begin those of another
-  pub same_digits : (ds es x y : List ℕ) → AllBelowBase (2 ^ bits) ds → AllBelowBase (2 ^ bits) es → 1 ≤ length ds → 1 ≤ length es
+  pub same_digits : (ds es x y : List ℕ) → AllBelowBase (2 ^ bits) ds → AllBelowBase (2 ^ bits) es
+      → 1 ≤ length ds → 1 ≤ length es
       → units_of unit ds ++ x ≡ units_of unit es ++ y → ds ≡ es
   same_digits [] es x y p q a b h = absurd (omega arith)
   same_digits (d ∷ ds) [] x y p q a b h = absurd (omega arith)
@@ -40,9 +43,11 @@ module _ {bits longest : ℕ} {unit : ℕ → Bool → ℕ} {group : ℕ → Opt
       let others = same_digits (c ∷ ds) (f ∷ es) x y p.1 q.1 (omega arith) (omega arith) rest in cc
 
   -- no spelling begins another, and each spells one number
-  pub spelling_one : (a b x y : List ℕ) (m n : ℕ) → IsSpelling unit (2 ^ bits) longest a m → IsSpelling unit (2 ^ bits) longest b n → a ++ x ≡ b ++ y → (a ≡ b) × (m ≡ n)
+  pub spelling_one : (a b x y : List ℕ) (m n : ℕ) → IsSpelling unit (2 ^ bits) longest a m
+      → IsSpelling unit (2 ^ bits) longest b n → a ++ x ≡ b ++ y → (a ≡ b) × (m ≡ n)
   spelling_one a b x y m n p q h =
-      let same = same_digits p.ds q.ds x y p.below q.below p.some q.some (ap (λ t. t ++ x) (sym p.spelled) ∙ h ∙ ap (λ t. t ++ y) q.spelled) in
+      let same = same_digits p.ds q.ds x y p.below q.below p.some q.some
+      (ap (λ t. t ++ x) (sym p.spelled) ∙ h ∙ ap (λ t. t ++ y) q.spelled) in
       (p.spelled ∙ ap (units_of unit) same ∙ sym q.spelled, sym p.number ∙ ap (number_of (2 ^ bits)) same ∙ q.number)
 
   -- the shortest spelling is a spelling
@@ -50,8 +55,10 @@ module _ {bits longest : ℕ} {unit : ℕ → Bool → ℕ} {group : ℕ → Opt
   shortest_spelling n h =
       let base = base-le bits laws.five in
       let two : 2 ≤ 2 ^ bits = omega arith in
-      let turned : (2 ^ bits) ^ suc (longest - 1) ≡ (2 ^ bits) ^ longest = ap (λ k. (2 ^ bits) ^ k) (omega (arith, laws.some)) in
-      let within : length (digits (2 ^ bits) n) ≤ suc (longest - 1) = length-digits-le (2 ^ bits) (longest - 1) n two (omega (arith, laws.enough, turned)) in
+      let turned : (2 ^ bits) ^ suc (longest - 1) ≡ (2 ^ bits) ^ longest = ap (λ k. (2 ^ bits) ^ k)
+      (omega (arith, laws.some)) in
+      let within : length (digits (2 ^ bits) n) ≤ suc (longest - 1) = length-digits-le (2 ^ bits)
+      (longest - 1) n two (omega (arith, laws.enough, turned)) in
       record {
         ds = digits (2 ^ bits) n;
         spelled = refl;
@@ -63,7 +70,8 @@ module _ {bits longest : ℕ} {unit : ℕ → Bool → ℕ} {group : ℕ → Opt
       }
 
   -- no spelling of the number is shorter
-  pub shortest_least : (us : List ℕ) (n : ℕ) → IsSpelling unit (2 ^ bits) longest us n → length (shortest unit (2 ^ bits) n) ≤ length us
+  pub shortest_least : (us : List ℕ) (n : ℕ) → IsSpelling unit (2 ^ bits) longest us n
+      → length (shortest unit (2 ^ bits) n) ≤ length us
   shortest_least us n s =
       let base = base-le bits laws.five in
       let whole : suc (length s.ds - 1) ≡ length s.ds = omega (arith, s.some) in
@@ -72,11 +80,21 @@ module _ {bits longest : ℕ} {unit : ℕ → Bool → ℕ} {group : ℕ → Opt
       rw (s.spelled, length-units_of unit s.ds, length-units_of unit (digits (2 ^ bits) n)) (omega arith)
 
   -- no other spelling of the number is as short as the shortest
-  pub shortest_only : (us : List ℕ) (n : ℕ) → IsSpelling unit (2 ^ bits) longest us n → length us ≤ length (shortest unit (2 ^ bits) n) → us ≡ shortest unit (2 ^ bits) n
+  pub shortest_only : (us : List ℕ) (n : ℕ) → IsSpelling unit (2 ^ bits) longest us n
+      → length us ≤ length (shortest unit (2 ^ bits) n) → us ≡ shortest unit (2 ^ bits) n
   shortest_only us n s h =
       let base = base-le bits laws.five in
       let two : 2 ≤ 2 ^ bits = omega arith in
       let as_long : length s.ds ≡ length (digits (2 ^ bits) n) =
-      omega (arith, shortest_least us n s, length-units_of unit s.ds, length-units_of unit (digits (2 ^ bits) n), ap length s.spelled) in
-      let same = number_of-same (2 ^ bits) s.ds (digits (2 ^ bits) n) s.below (digits_below (2 ^ bits) n two) as_long (s.number ∙ sym (number_of-digits (2 ^ bits) n two)) in
+      omega (
+        arith,
+        shortest_least us n s,
+        length-units_of unit s.ds,
+        length-units_of unit
+            (digits (2 ^ bits) n),
+        ap length s.spelled,
+      ) in
+      let same = number_of-same (2 ^ bits) s.ds (digits (2 ^ bits) n) s.below
+      (digits_below (2 ^ bits) n two) as_long (s.number
+      ∙ sym (number_of-digits (2 ^ bits) n two)) in
       s.spelled ∙ ap (units_of unit) same

@@ -1,5 +1,6 @@
 -- The length of the shortest varint, by the place of the number's highest bit.
-use Rattle.std.proofs.Common.{◌≡◌, ℕ, ◌+◌, ◌-◌, ◌*◌, ◌/◌, ◌%◌, ◌<◌, ◌≤◌, ◌^◌, inl, inr, List, [], ◌∷◌, zero, suc, length, refl, ◌∙◌, ap, arith, lit<, Fits, w64}
+use Rattle.std.proofs.Common.{◌≡◌, ℕ, ◌+◌, ◌-◌, ◌*◌, ◌/◌, ◌%◌, ◌<◌, ◌≤◌, ◌^◌, inl, inr, List, []}
+use Rattle.std.proofs.Common.{◌∷◌, zero, suc, length, refl, ◌∙◌, ap, arith, lit<, Fits, w64}
 use lib.Dec.{leb}
 use lib.Lanes.{top, zip2, sum_l, fold_l}
 use mathlib.Core.Bool.{cond}
@@ -27,11 +28,13 @@ length_by_top (suc k) j n more low high =
     let least : 2 ^ j ≡ 128 * 2 ^ i = ap (λ m. 2 ^ m) place ∙ pow-seven i in
     let past : 2 ^ suc j ≡ 128 * 2 ^ suc i = ap (λ m. 2 ^ m) next ∙ pow-seven (suc i) in
     let some : 1 ≤ 2 ^ i = pow-le-pow_right {n = 2} (lit< tt) {i = 0} {j = i} (omega arith) in
-    let rest : length (varint_of (n / 128)) ≡ k + 1 = length_by_top k i (n / 128) (omega (arith, more)) (omega (arith, low, least)) (omega (arith, high, past)) in
+    let rest : length (varint_of (n / 128)) ≡ k + 1 = length_by_top k i (n / 128)
+    (omega (arith, more)) (omega (arith, low, least)) (omega (arith, high, past)) in
     omega (arith, rest, one_byte_more n (omega (arith, low, least, some)))
 
 -- the leading zeros of the number with its last bit set give the length
-pub length_by_zeros : (n : ℕ) → n < 2 ^ 64 → (63 - count_leading_zeros 64 (n / 2 * 2 + 1)) / 7 + 1 ≡ length (varint_of n)
+pub length_by_zeros : (n : ℕ) → n < 2 ^ 64 → (63 - count_leading_zeros 64 (n / 2 * 2 + 1)) / 7 + 1
+    ≡ length (varint_of n)
 length_by_zeros n fits =
     let top = leading_top 64 (n / 2 * 2 + 1) (omega arith) (omega (arith, fits)) in
     let j : ℕ = top.0 in
@@ -61,10 +64,22 @@ length_by_bounds n small =
         | inr three ↦ elim (cases_lt n 2097152) [
           | inl below ↦
               rw (le-leb 128 n two, le-leb 16384 n three, lt-leb 2097152 n below)
-              (omega (arith, one_byte_more n two, one_byte_more (n / 128) (omega arith), one_byte (n / 128 / 128) (omega arith)))
+              (omega (
+                arith,
+                one_byte_more n two,
+                one_byte_more (n / 128) (omega arith),
+                one_byte (n / 128 / 128) (omega arith),
+              ))
           | inr four ↦
               rw (le-leb 128 n two, le-leb 16384 n three, le-leb 2097152 n four)
-              (omega (arith, one_byte_more n two, one_byte_more (n / 128) (omega arith), one_byte_more (n / 128 / 128) (omega arith), one_byte (n / 128 / 128 / 128) (omega arith)))
+              (omega (
+                arith,
+                one_byte_more n two,
+                one_byte_more (n / 128) (omega arith),
+                one_byte_more (n / 128 / 128) (omega arith),
+                one_byte (n / 128 / 128 / 128)
+                    (omega arith),
+              ))
         ]
       ]
     ]
@@ -79,11 +94,15 @@ short_length n small =
     elim (cases_lt n 128) [
       | inl one ↦ let e = one_byte n one in (omega arith, omega arith)
       | inr two ↦ elim (cases_lt n 16384) [
-        | inl below ↦ let e = one_byte_more n two in let f = one_byte (n / 128) (omega arith) in (omega arith, omega arith)
+        | inl below ↦ let e = one_byte_more n two in let f = one_byte (n / 128) (omega arith) in
+            (omega arith, omega arith)
         | inr three ↦ elim (cases_lt n 2097152) [
-          | inl below ↦ let e = one_byte_more n two in let f = one_byte_more (n / 128) (omega arith) in let g = one_byte (n / 128 / 128) (omega arith) in (omega arith, omega arith)
+          | inl below ↦ let e = one_byte_more n two in let f = one_byte_more (n / 128)
+              (omega arith) in let g = one_byte (n / 128 / 128) (omega arith) in
+              (omega arith, omega arith)
           | inr four ↦
-              let e = one_byte_more n two in let f = one_byte_more (n / 128) (omega arith) in let g = one_byte_more (n / 128 / 128) (omega arith) in
+              let e = one_byte_more n two in let f = one_byte_more (n / 128) (omega arith) in
+              let g = one_byte_more (n / 128 / 128) (omega arith) in
               let h = one_byte (n / 128 / 128 / 128) (omega arith) in (omega arith, omega arith)
         ]
       ]
@@ -93,26 +112,33 @@ short_length n small =
 
 -- the sum of four lanes, with one length added to each
 lanes_more : (w x y z a b c d : ℕ) → w + (x + (y + (z + 0))) ≤ 2 ^ 31 → a ≤ 3 → b ≤ 3 → c ≤ 3 → d ≤ 3
-    → (w + a) % 4294967296 + ((x + b) % 4294967296 + ((y + c) % 4294967296 + ((z + d) % 4294967296 + 0))) ≡ w + (x + (y + (z + 0))) + (a + b + c + d)
+    → (w + a) % 4294967296 + ((x + b) % 4294967296
+    + ((y + c) % 4294967296 + ((z + d) % 4294967296 + 0))) ≡ w + (x + (y + (z + 0)))
+    + (a + b + c + d)
 lanes_more w x y z a b c d room p q r s = omega arith
 
 -- the sum of lanes and other bytes, with four lengths added
-whole : (s o t i j k l a b c d : ℕ) → t ≡ s + (a + b + c + d) → i ≡ a + 1 → j ≡ b + 1 → k ≡ c + 1 → l ≡ d + 1 → t + (o + 4) ≡ s + o + (i + j + (k + l))
+whole : (s o t i j k l a b c d : ℕ) → t ≡ s + (a + b + c + d) → i ≡ a + 1 → j ≡ b + 1 → k ≡ c + 1
+    → l ≡ d + 1 → t + (o + 4) ≡ s + o + (i + j + (k + l))
 whole s o t i j k l a b c d e p q r u = omega arith
 
 -- a length is one and the bytes after the first
 one_more : (n : ℕ) → n < 2 ^ 28 → (length (varint_of n) ≡ more_bytes n + 1) × (more_bytes n ≤ 3)
 one_more n small = let short = short_length n small in (omega (arith, short.0), omega (arith, short.1))
 
-pub lens_added : (ls : List ℕ) (o a b c d : ℕ) → length ls ≡ 4 → sum_l ls + o ≤ 2 ^ 31 → a < 2 ^ 28 → b < 2 ^ 28 → c < 2 ^ 28 → d < 2 ^ 28
-    → sum_l (zip2 (λ x y. (x + y) % 4294967296) ls (more_bytes a ∷ more_bytes b ∷ more_bytes c ∷ more_bytes d ∷ [])) + (o + 4) ≡ sum_l ls + o + four_lens a b c d
+pub lens_added : (ls : List ℕ) (o a b c d : ℕ) → length ls ≡ 4 → sum_l ls + o ≤ 2 ^ 31 → a < 2 ^ 28
+    → b < 2 ^ 28 → c < 2 ^ 28 → d < 2 ^ 28
+    → sum_l (zip2 (λ x y. (x + y) % 4294967296) ls
+    (more_bytes a ∷ more_bytes b ∷ more_bytes c ∷ more_bytes d ∷ [])) + (o + 4)
+    ≡ sum_l ls + o + four_lens a b c d
 lens_added (w ∷ x ∷ y ∷ z ∷ []) o a b c d four room p q r s =
     let i = one_more a p in
     let j = one_more b q in
     let k = one_more c r in
     let l = one_more d s in
     whole (w + (x + (y + (z + 0)))) o _ _ _ _ _ (more_bytes a) (more_bytes b) (more_bytes c) (more_bytes d)
-    (lanes_more w x y z (more_bytes a) (more_bytes b) (more_bytes c) (more_bytes d) (omega (arith, room)) i.1 j.1 k.1 l.1) i.0 j.0 k.0 l.0
+    (lanes_more w x y z (more_bytes a) (more_bytes b) (more_bytes c) (more_bytes d)
+    (omega (arith, room)) i.1 j.1 k.1 l.1) i.0 j.0 k.0 l.0
 lens_added [] o a b c d four room p q r s = absurd (omega arith)
 lens_added (w ∷ []) o a b c d four room p q r s = absurd (omega arith)
 lens_added (w ∷ x ∷ []) o a b c d four room p q r s = absurd (omega arith)
@@ -124,14 +150,16 @@ four_fours : (i j k l : ℕ) → i ≤ 4 → j ≤ 4 → k ≤ 4 → l ≤ 4 →
 four_fours i j k l p q r s = omega arith
 
 pub few_lens : (a b c d : ℕ) → a < 2 ^ 28 → b < 2 ^ 28 → c < 2 ^ 28 → d < 2 ^ 28 → four_lens a b c d ≤ 16
-few_lens a b c d p q r s = four_fours _ _ _ _ (short_length a p).1 (short_length b q).1 (short_length c r).1 (short_length d s).1
+few_lens a b c d p q r s = four_fours _ _ _ _ (short_length a p).1 (short_length b q).1
+    (short_length c r).1 (short_length d s).1
 
 -- a sum grows by at most sixteen
 pub grown_few : (new old more : ℕ) → new ≡ old + more → more ≤ 16 → new ≤ old + 16
 grown_few new old more e few = omega arith
 
 -- lanes whose sum fits are added up without a carry
-pub lanes_total : (ls : List ℕ) (o : ℕ) → length ls ≡ 4 → sum_l ls + o ≤ 2 ^ 31 → fold_l (λ s x. (s + x) % 4294967296) 0 ls ≡ sum_l ls
+pub lanes_total : (ls : List ℕ) (o : ℕ) → length ls ≡ 4 → sum_l ls + o ≤ 2 ^ 31
+    → fold_l (λ s x. (s + x) % 4294967296) 0 ls ≡ sum_l ls
 lanes_total (w ∷ x ∷ y ∷ z ∷ []) o four room = omega (arith, room)
 lanes_total [] o four room = absurd (omega arith)
 lanes_total (w ∷ []) o four room = absurd (omega arith)
@@ -140,7 +168,9 @@ lanes_total (w ∷ x ∷ y ∷ []) o four room = absurd (omega arith)
 lanes_total (w ∷ x ∷ y ∷ z ∷ v ∷ ls) o four room = absurd (omega arith)
 
 -- the lanes and the other bytes add up to the whole sum
-pub total_is : (ls : List ℕ) (sum o now : ℕ) → length ls ≡ 4 → sum ≡ fold_l (λ s x. (s + x) % 4294967296) 0 ls → sum_l ls + o ≡ now → now ≤ 2 ^ 31 → sum + o ≡ now
+pub total_is : (ls : List ℕ) (sum o now : ℕ) → length ls ≡ 4
+    → sum ≡ fold_l (λ s x. (s + x) % 4294967296) 0 ls → sum_l ls + o ≡ now → now ≤ 2 ^ 31
+    → sum + o ≡ now
 total_is ls sum o now four sum_is whole room =
     let lanes = lanes_total ls o four (omega (arith, whole, room)) in
     ap (λ x. x + o) (sum_is ∙ lanes) ∙ whole

@@ -1,5 +1,6 @@
 -- The bytes that a piece holds.
-use Rattle.std.proofs.Common.{◌≡◌, ℕ, zero, suc, ◌+◌, ◌/◌, ◌%◌, ◌≤◌, ◌^◌, List, ◌∷◌, ◌++◌, length, take, drop, refl, sym, ◌∙◌, ap, arith, w64, length-take, length-drop}
+use Rattle.std.proofs.Common.{◌≡◌, ℕ, zero, suc, ◌+◌, ◌/◌, ◌%◌, ◌≤◌, ◌^◌, List, ◌∷◌, ◌++◌, length}
+use Rattle.std.proofs.Common.{take, drop, refl, sym, ◌∙◌, ap, arith, w64, length-take, length-drop}
 use borrow.Rule.Slice.PartMut.{put_mid, mid_of, post_of}
 use lib.Lanes.{put_chunk}
 use Rattle.std.proofs.Math.Nat.{pow-suc, pow-zero, div-div-eq-div-mul, div-one}
@@ -24,7 +25,8 @@ byte_at-is (suc i) n = refl
 bytes_low_first-is : (i k n : ℕ) → bytes_low_first i k n ≡ low_digits 256 k (n / 256 ^ i)
 bytes_low_first-is i zero n = refl
 bytes_low_first-is i (suc k) n =
-    let next : n / 256 ^ i / 256 ≡ n / 256 ^ suc i = div-div-eq-div-mul n (256 ^ i) 256 ∙ ap (λ p. n / p) (sym (pow-suc 256 i)) in
+    let next : n / 256 ^ i / 256 ≡ n / 256 ^ suc i = div-div-eq-div-mul n (256 ^ i) 256
+    ∙ ap (λ p. n / p) (sym (pow-suc 256 i)) in
     ap (λ b. b ∷ bytes_low_first (suc i) k n) (byte_at-is i n)
     ∙ ap (λ bs. (n / 256 ^ i % 256) ∷ bs) (bytes_low_first-is (suc i) k n ∙ ap (low_digits 256 k) (sym next))
 
@@ -35,7 +37,8 @@ take-le_bytes k n few =
     ∙ take-low_digits k 8 n few
 
 -- bytes stored after those held, of which the first `count` are kept
-pub front_stored : (bytes held stored : List ℕ) (at room count : ℕ) → at ≤ length bytes → take at bytes ≡ held → count ≤ length stored
+pub front_stored : (bytes held stored : List ℕ) (at room count : ℕ) → at ≤ length bytes
+    → take at bytes ≡ held → count ≤ length stored
     → take (at + count) (put_mid at room bytes stored) ≡ held ++ take count stored
 front_stored bytes held stored at room count within view few =
     let place : at + count ≡ length (take at bytes) + count = omega (arith, length-take-le at bytes within) in
@@ -45,9 +48,13 @@ front_stored bytes held stored at room count within view few =
     ∙ ap (λ bs. bs ++ take count stored) view
 
 -- eight bytes stored after those held, of which some are kept
-pub eight_stored : (bytes held stored : List ℕ) (at room count : ℕ) → room ≡ 8 → at + 8 ≤ length bytes → take at bytes ≡ held → count ≤ 8 → length stored ≡ 8
+pub eight_stored : (bytes held stored : List ℕ) (at room count : ℕ) → room ≡ 8
+    → at + 8 ≤ length bytes → take at bytes ≡ held → count ≤ 8 → length stored ≡ 8
     → take (at + count) (put_mid at room bytes (put_chunk 0 (mid_of at room bytes) stored)) ≡ held ++ take count stored
 eight_stored bytes held stored at room count eight within view few long =
-    let chunk : put_chunk 0 (mid_of at room bytes) stored ≡ stored = put_chunk_whole (mid_of at room bytes) stored (omega (arith, length-take room (drop at bytes), length-drop at bytes)) in
-    front_stored bytes held (put_chunk 0 (mid_of at room bytes) stored) at room count (omega (arith, within)) view (omega (arith, ap length chunk))
+    let chunk : put_chunk 0 (mid_of at room bytes) stored ≡ stored = put_chunk_whole
+    (mid_of at room bytes) stored
+    (omega (arith, length-take room (drop at bytes), length-drop at bytes)) in
+    front_stored bytes held (put_chunk 0 (mid_of at room bytes) stored) at room count
+    (omega (arith, within)) view (omega (arith, ap length chunk))
     ∙ ap (λ bs. held ++ take count bs) chunk

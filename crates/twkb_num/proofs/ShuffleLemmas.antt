@@ -1,5 +1,7 @@
 -- The table of shuffles, and the units that a shuffle by it gives.
-use Rattle.std.proofs.Common.{◌≡◌, ℕ, zero, suc, ◌+◌, ◌*◌, ◌%◌, ◌-◌, ◌<◌, ◌≤◌, Bool, true, false, inl, inr, List, [], ◌∷◌, ◌++◌, take, drop, get_or, refl, sym, subst, ◌∙◌, ap, arith, count_ones, ltb}
+use Rattle.std.proofs.Common.{◌≡◌, ℕ, zero, suc, ◌+◌, ◌*◌, ◌%◌, ◌-◌, ◌<◌, ◌≤◌, Bool, true, false}
+use Rattle.std.proofs.Common.{inl, inr, List, [], ◌∷◌, ◌++◌, take, drop, get_or, refl, sym, subst}
+use Rattle.std.proofs.Common.{◌∙◌, ap, arith, count_ones, ltb}
 use lib.Dec.{T, leb}
 use lib.Lanes.{number_l, digits_l}
 use mathlib.Core.Bool.{◌||◌}
@@ -83,11 +85,13 @@ abbrev eight : (a b c d e f g h : ℕ) → ℕ
 eight a b c d e f g h = number_l 256 (a ∷ b ∷ c ∷ d ∷ e ∷ f ∷ g ∷ h ∷ [])
 
 -- a word of eight bytes has 64 bits
-eight_below : (a b c d e f g h : ℕ) → a ≤ 128 → b ≤ 128 → c ≤ 128 → d ≤ 128 → e ≤ 128 → f ≤ 128 → g ≤ 128 → h ≤ 128 → eight a b c d e f g h < 17726168133330272256
+eight_below : (a b c d e f g h : ℕ) → a ≤ 128 → b ≤ 128 → c ≤ 128 → d ≤ 128 → e ≤ 128 → f ≤ 128
+    → g ≤ 128 → h ≤ 128 → eight a b c d e f g h < 17726168133330272256
 eight_below a b c d e f g h i j k l m n o p = omega arith
 
 -- the word with eight added to each byte
-eights_more : (a b c d e f g h : ℕ) → eight a b c d e f g h + 578721382704613384 ≡ eight (8 + a) (8 + b) (8 + c) (8 + d) (8 + e) (8 + f) (8 + g) (8 + h)
+eights_more : (a b c d e f g h : ℕ) → eight a b c d e f g h + 578721382704613384 ≡ eight (8 + a)
+    (8 + b) (8 + c) (8 + d) (8 + e) (8 + f) (8 + g) (8 + h)
 eights_more a b c d e f g h = omega arith
 
 -- two words of eight bytes as one number
@@ -97,31 +101,44 @@ two_eights a b c d e f g h xs = omega arith
 
 -- the number of two words, as the code adds them
 abbrev pub joined_words : ℕ → ℕ → ℕ
-joined_words p q = number_l 18446744073709551616 ((p + 0) % 18446744073709551616 ∷ (q + 578721382704613384) % 18446744073709551616 ∷ [])
+joined_words p q = number_l 18446744073709551616
+    ((p + 0) % 18446744073709551616 ∷ (q + 578721382704613384) % 18446744073709551616 ∷ [])
 
 module _ (i j k l : ℕ) (is : i ≤ 3) (js : j ≤ 3) (ks : k ≤ 3) (ls : l ≤ 3) where
   words_below : number_l 256 (shuffle_of i j) < 17726168133330272256
   words_below =
-      eight_below (place_for i j 0) (place_for i j 1) (place_for i j 2) (place_for i j 3) (place_for i j 4) (place_for i j 5) (place_for i j 6) (place_for i j 7)
-      (place_small i j 0 is js) (place_small i j 1 is js) (place_small i j 2 is js) (place_small i j 3 is js) (place_small i j 4 is js) (place_small i j 5 is js) (place_small i j 6 is js) (place_small i j 7 is js)
+      eight_below (place_for i j 0) (place_for i j 1) (place_for i j 2) (place_for i j 3)
+      (place_for i j 4) (place_for i j 5) (place_for i j 6) (place_for i j 7)
+      (place_small i j 0 is js) (place_small i j 1 is js) (place_small i j 2 is js)
+      (place_small i j 3 is js) (place_small i j 4 is js) (place_small i j 5 is js)
+      (place_small i j 6 is js) (place_small i j 7 is js)
 
 -- the bytes of the number are those of both words
-pub places_split : (p q i j k l : ℕ) → i ≤ 3 → j ≤ 3 → k ≤ 3 → l ≤ 3 → p ≡ number_l 256 (shuffle_of i j) → q ≡ number_l 256 (shuffle_of k l)
+pub places_split : (p q i j k l : ℕ) → i ≤ 3 → j ≤ 3 → k ≤ 3 → l ≤ 3
+    → p ≡ number_l 256 (shuffle_of i j) → q ≡ number_l 256 (shuffle_of k l)
     → digits_l 256 16 (joined_words p q) ≡ shuffle_of i j ++ moved k l
 places_split p q i j k l is js ks ls p_is q_is =
     let first = words_below i j k l is js ks ls in
     let second = words_below k l i j ks ls is js in
     let low : (p + 0) % 18446744073709551616 ≡ number_l 256 (shuffle_of i j) = omega arith in
-    let high : (q + 578721382704613384) % 18446744073709551616 ≡ number_l 256 (shuffle_of k l) + 578721382704613384 = omega arith in
+    let high : (q + 578721382704613384) % 18446744073709551616 ≡ number_l 256 (shuffle_of k l)
+    + 578721382704613384 = omega arith in
     let more : number_l 256 (shuffle_of k l) + 578721382704613384 ≡ number_l 256 (moved k l) =
-    eights_more (place_for k l 0) (place_for k l 1) (place_for k l 2) (place_for k l 3) (place_for k l 4) (place_for k l 5) (place_for k l 6) (place_for k l 7) in
-    let none : 18446744073709551616 * (number_l 256 (moved k l) + 18446744073709551616 * 0) ≡ 18446744073709551616 * number_l 256 (moved k l) = omega arith in
+    eights_more (place_for k l 0) (place_for k l 1) (place_for k l 2) (place_for k l 3)
+    (place_for k l 4) (place_for k l 5) (place_for k l 6) (place_for k l 7) in
+    let none : 18446744073709551616 * (number_l 256 (moved k l) + 18446744073709551616 * 0)
+    ≡ 18446744073709551616 * number_l 256 (moved k l) = omega arith in
     let small = λ (k : ℕ) (h : place_for i j k ≤ 128). let below : place_for i j k < 256 = omega arith in below in
-    let small_moved = λ (m : ℕ) (h : place_for k l m ≤ 128). let below : 8 + place_for k l m < 256 = omega arith in below in
-    ap (λ x. digits_l 256 16 (x + 18446744073709551616 * ((q + 578721382704613384) % 18446744073709551616 + 18446744073709551616 * 0))) low
-    ∙ ap (λ x. digits_l 256 16 (number_l 256 (shuffle_of i j) + 18446744073709551616 * (x + 18446744073709551616 * 0))) (high ∙ more)
+    let small_moved = λ (m : ℕ) (h : place_for k l m ≤ 128). let below : 8 + place_for k l m < 256 =
+    omega arith in below in
+    ap (λ x. digits_l 256 16 (x + 18446744073709551616
+    * ((q + 578721382704613384) % 18446744073709551616 + 18446744073709551616 * 0))) low
+    ∙ ap (λ x. digits_l 256 16 (number_l 256 (shuffle_of i j) + 18446744073709551616
+    * (x + 18446744073709551616 * 0))) (high ∙ more)
     ∙ ap (λ x. digits_l 256 16 (number_l 256 (shuffle_of i j) + x)) none
-    ∙ ap (digits_l 256 16) (two_eights (place_for i j 0) (place_for i j 1) (place_for i j 2) (place_for i j 3) (place_for i j 4) (place_for i j 5) (place_for i j 6) (place_for i j 7) (moved k l))
+    ∙ ap (digits_l 256 16) (two_eights (place_for i j 0) (place_for i j 1) (place_for i j 2)
+    (place_for i j 3) (place_for i j 4) (place_for i j 5) (place_for i j 6) (place_for i j 7)
+    (moved k l))
     ∙ digits-number 256 16 (shuffle_of i j ++ moved k l) refl (
       small 0 (place_small i j 0 is js),
       (
@@ -146,7 +163,16 @@ places_split p q i j k l is js ks ls p_is q_is =
                           small_moved 2 (place_small k l 2 ks ls),
                           (
                             small_moved 3 (place_small k l 3 ks ls),
-                            (small_moved 4 (place_small k l 4 ks ls), (small_moved 5 (place_small k l 5 ks ls), (small_moved 6 (place_small k l 6 ks ls), (small_moved 7 (place_small k l 7 ks ls), tt)))),
+                            (
+                              small_moved 4 (place_small k l 4 ks ls),
+                              (
+                                small_moved 5 (place_small k l 5 ks ls),
+                                (
+                                  small_moved 6 (place_small k l 6 ks ls),
+                                  (small_moved 7 (place_small k l 7 ks ls), tt),
+                                ),
+                              ),
+                            ),
                           ),
                         ),
                       ),
@@ -161,7 +187,8 @@ places_split p q i j k l is js ks ls p_is q_is =
     )
 
 -- the places pass the test of `swizzle_dyn`
-pub shuffle_ok : (p q i j k l : ℕ) → i ≤ 3 → j ≤ 3 → k ≤ 3 → l ≤ 3 → p ≡ number_l 256 (shuffle_of i j) → q ≡ number_l 256 (shuffle_of k l)
+pub shuffle_ok : (p q i j k l : ℕ) → i ≤ 3 → j ≤ 3 → k ≤ 3 → l ≤ 3
+    → p ≡ number_l 256 (shuffle_of i j) → q ≡ number_l 256 (shuffle_of k l)
     → SwzOk w8 16 16 0 (digits_l 256 16 (joined_words p q))
 shuffle_ok p q i j k l is js ks ls p_is q_is =
     subst (λ xs. SwzOk w8 16 16 0 xs) (sym (places_split p q i j k l is js ks ls p_is q_is))
@@ -181,7 +208,25 @@ shuffle_ok p q i j k l is js ks ls p_is q_is =
                   place_ok i j 6 is js,
                   (
                     place_ok i j 7 is js,
-                    (moved_ok k l 0 ks ls, (moved_ok k l 1 ks ls, (moved_ok k l 2 ks ls, (moved_ok k l 3 ks ls, (moved_ok k l 4 ks ls, (moved_ok k l 5 ks ls, (moved_ok k l 6 ks ls, (moved_ok k l 7 ks ls, tt)))))))),
+                    (
+                      moved_ok k l 0 ks ls,
+                      (
+                        moved_ok k l 1 ks ls,
+                        (
+                          moved_ok k l 2 ks ls,
+                          (
+                            moved_ok k l 3 ks ls,
+                            (
+                              moved_ok k l 4 ks ls,
+                              (
+                                moved_ok k l 5 ks ls,
+                                (moved_ok k l 6 ks ls, (moved_ok k l 7 ks ls, tt)),
+                              ),
+                            ),
+                          ),
+                        ),
+                      ),
+                    ),
                   ),
                 ),
               ),
@@ -199,10 +244,14 @@ module _ (a b c d e f g h i j k l m n o p : ℕ) where
   units = a ∷ b ∷ c ∷ d ∷ e ∷ f ∷ g ∷ h ∷ i ∷ j ∷ k ∷ l ∷ m ∷ n ∷ o ∷ p ∷ []
 
   abbrev IsLow : ℕ → ℕ → Type 0
-  IsLow x y = (u v : ℕ) → take (x + y + 2) (take 8 (swz_l w8 16 units 0 (shuffle_of x y ++ moved u v))) ≡ take (suc x) (a ∷ b ∷ c ∷ d ∷ []) ++ take (suc y) (e ∷ f ∷ g ∷ h ∷ [])
+  IsLow x y = (u v : ℕ)
+      → take (x + y + 2) (take 8 (swz_l w8 16 units 0 (shuffle_of x y ++ moved u v))) ≡ take (suc x)
+      (a ∷ b ∷ c ∷ d ∷ []) ++ take (suc y) (e ∷ f ∷ g ∷ h ∷ [])
 
   abbrev IsHigh : ℕ → ℕ → Type 0
-  IsHigh x y = (u v : ℕ) → take (x + y + 2) (take 8 (drop 8 (swz_l w8 16 units 0 (shuffle_of u v ++ moved x y)))) ≡ take (suc x) (i ∷ j ∷ k ∷ l ∷ []) ++ take (suc y) (m ∷ n ∷ o ∷ p ∷ [])
+  IsHigh x y = (u v : ℕ)
+      → take (x + y + 2) (take 8 (drop 8 (swz_l w8 16 units 0 (shuffle_of u v ++ moved x y))))
+      ≡ take (suc x) (i ∷ j ∷ k ∷ l ∷ []) ++ take (suc y) (m ∷ n ∷ o ∷ p ∷ [])
 
   -- the first half of the shuffle has the units of the first two numbers
   pub low_gathered : (x : ℕ) → x ≤ 3 → (y : ℕ) → y ≤ 3 → IsLow x y

@@ -1,5 +1,7 @@
 -- The tables of places and of lengths: each word is compared with its definition by computing.
-use Rattle.std.proofs.Common.{◌≡◌, ℕ, zero, suc, ◌+◌, ◌*◌, ◌%◌, ◌<◌, ◌^◌, ◌==◌, Bool, true, false, ◌&&◌, List, [], ◌∷◌, ◌++◌, length, take, drop, get_or, replicate, length-append, refl, sym, ◌∙◌, ap, arith}
+use Rattle.std.proofs.Common.{◌≡◌, ℕ, zero, suc, ◌+◌, ◌*◌, ◌%◌, ◌<◌, ◌^◌, ◌==◌, Bool, true, false}
+use Rattle.std.proofs.Common.{◌&&◌, List, [], ◌∷◌, ◌++◌, length, take, drop, get_or, replicate}
+use Rattle.std.proofs.Common.{length-append, refl, sym, ◌∙◌, ap, arith}
 use Rattle.std.specs.Prelude.{nat_lt, if◌then◌else◌}
 use Rattle.std.proofs.Math.Nat.{pow-suc}
 use Rattle.std.proofs.lemmas.Bool.{and_parts, eqb-true, ltb-true}
@@ -13,7 +15,8 @@ use Rattle.twkb_num.specs.Places.{second_run, AreTwo}
 
 -- the first two set marks end numbers of at most four units
 abbrev is_two : List Bool → Bool
-is_two marks = nat_lt (run_of marks) 4 && (nat_lt (second_run marks) 4 && nat_lt (suc (run_of marks + second_run marks)) (length marks))
+is_two marks = nat_lt (run_of marks) 4 && (nat_lt (second_run marks) 4 && nat_lt
+    (suc (run_of marks + second_run marks)) (length marks))
 
 -- the places of two numbers
 abbrev two_places : List Bool → ℕ
@@ -29,13 +32,16 @@ passes zero test = test []
 passes (suc k) test = passes k (λ marks. test (true ∷ marks)) && passes k (λ marks. test (false ∷ marks))
 
 -- a test that passes at every list of k marks passes at one of them
-passes_at : (k : ℕ) (test : List Bool → Bool) (marks : List Bool) → passes k test ≡ true → length marks ≡ k → test marks ≡ true
+passes_at : (k : ℕ) (test : List Bool → Bool) (marks : List Bool) → passes k test ≡ true
+    → length marks ≡ k → test marks ≡ true
 unfolding passes
 passes_at zero test [] all long = all
 passes_at (suc k) test [] all long = absurd (omega arith)
 passes_at zero test (mark ∷ marks) all long = absurd (omega arith)
-passes_at (suc k) test (true ∷ marks) all long = passes_at k (λ ms. test (true ∷ ms)) marks (and_parts _ _ all).0 (omega arith)
-passes_at (suc k) test (false ∷ marks) all long = passes_at k (λ ms. test (false ∷ ms)) marks (and_parts _ _ all).1 (omega arith)
+passes_at (suc k) test (true ∷ marks) all long = passes_at k (λ ms. test (true ∷ ms)) marks
+    (and_parts _ _ all).0 (omega arith)
+passes_at (suc k) test (false ∷ marks) all long = passes_at k (λ ms. test (false ∷ ms)) marks
+    (and_parts _ _ all).1 (omega arith)
 
 -- the table of places has the right word for each eight marks
 table_is : passes 8 (λ marks. get_or PLACES (mask_l marks) 0 == word_for marks) ≡ true
@@ -44,7 +50,8 @@ table_is = refl
 
 -- the table of places at one index
 table_word : (marks : List Bool) → length marks ≡ 8 → get_or PLACES (mask_l marks) 0 ≡ word_for marks
-table_word marks long = eqb-true (get_or PLACES (mask_l marks) 0) (word_for marks) (passes_at 8 (λ ms. get_or PLACES (mask_l ms) 0 == word_for ms) marks table_is long)
+table_word marks long = eqb-true (get_or PLACES (mask_l marks) 0) (word_for marks)
+    (passes_at 8 (λ ms. get_or PLACES (mask_l ms) 0 == word_for ms) marks table_is long)
 
 -- the number of units that the table needs for eight marks
 abbrev units_for : List Bool → ℕ
@@ -57,7 +64,8 @@ used_table_is = refl
 
 -- the table of lengths at one index
 table_units : (marks : List Bool) → length marks ≡ 8 → get_or USED (mask_l marks) 0 ≡ units_for marks
-table_units marks long = eqb-true (get_or USED (mask_l marks) 0) (units_for marks) (passes_at 8 (λ ms. get_or USED (mask_l ms) 0 == units_for ms) marks used_table_is long)
+table_units marks long = eqb-true (get_or USED (mask_l marks) 0) (units_for marks)
+    (passes_at 8 (λ ms. get_or USED (mask_l ms) 0 == units_for ms) marks used_table_is long)
 
 -- ---- eight marks before others
 
@@ -76,27 +84,37 @@ run_of-append (true ∷ xs) ys within = refl
 run_of-append (false ∷ xs) ys within = ap suc (run_of-append xs ys (omega arith))
 
 -- the second set mark is found among the first marks, if two are set there
-second_run-append : (xs ys : List Bool) → suc (run_of xs + second_run xs) < length xs → second_run (xs ++ ys) ≡ second_run xs
+second_run-append : (xs ys : List Bool) → suc (run_of xs + second_run xs) < length xs
+    → second_run (xs ++ ys) ≡ second_run xs
 second_run-append xs ys within =
     let first = run_of-append xs ys (omega arith) in
-    let apart : drop (suc (run_of xs)) (xs ++ ys) ≡ drop (suc (run_of xs)) xs ++ ys = drop-append-le (suc (run_of xs)) xs ys (omega arith) in
+    let apart : drop (suc (run_of xs)) (xs ++ ys) ≡ drop (suc (run_of xs)) xs ++ ys = drop-append-le
+    (suc (run_of xs)) xs ys (omega arith) in
     let long = length-drop (suc (run_of xs)) xs in
-    ap (λ n. run_of (drop (suc n) (xs ++ ys))) first ∙ ap run_of apart ∙ run_of-append (drop (suc (run_of xs)) xs) ys (omega arith)
+    ap (λ n. run_of (drop (suc n) (xs ++ ys))) first ∙ ap run_of apart
+    ∙ run_of-append (drop (suc (run_of xs)) xs) ys (omega arith)
 
 -- ---- two numbers
 
 -- what the test of two numbers says, as facts
-is_two-true : (marks : List Bool) → is_two marks ≡ true → (run_of marks < 4) × (second_run marks < 4) × (suc (run_of marks + second_run marks) < length marks)
+is_two-true : (marks : List Bool) → is_two marks ≡ true → (run_of marks < 4)
+    × (second_run marks < 4) × (suc (run_of marks + second_run marks) < length marks)
 is_two-true marks is =
     let outer = and_parts _ _ is in
-    let inner = and_parts _ _ outer.1 in
-    (ltb-true (run_of marks) 4 outer.0, ltb-true (second_run marks) 4 inner.0, ltb-true (suc (run_of marks + second_run marks)) (length marks) inner.1)
+    let inner = and_parts _ _ outer.1 in (
+      ltb-true (run_of marks) 4 outer.0,
+      ltb-true (second_run marks) 4 inner.0,
+      ltb-true (suc (run_of marks + second_run marks)) (length marks) inner.1,
+    )
 
 -- an even word has the places of two numbers
-even_word : (marks : List Bool) (word : ℕ) → word ≡ word_for marks → word % 2 ≡ 0 → (is_two marks ≡ true) × (word ≡ two_places marks)
+even_word : (marks : List Bool) (word : ℕ) → word ≡ word_for marks → word % 2 ≡ 0
+    → (is_two marks ≡ true) × (word ≡ two_places marks)
 even_word marks word is even = by_test (is_two marks) (two_places marks) word is even
   where
-    by_test : (test : Bool) (places word : ℕ) → word ≡ (if test then places else 18446744073709551615) → word % 2 ≡ 0 → (test ≡ true) × (word ≡ places)
+    by_test : (test : Bool) (places word : ℕ) → word
+        ≡ (if test then places else 18446744073709551615) → word % 2 ≡ 0 → (test ≡ true)
+        × (word ≡ places)
     by_test true places word is even = (refl, is)
     by_test false places word is even = absurd (omega arith)
 
@@ -109,7 +127,8 @@ mask_l-padded [] (suc n) = let rest = mask_l-padded [] n in omega arith
 mask_l-padded (mark ∷ marks) n = ap (λ m. cond mark 1 0 + 2 * m) (mask_l-padded marks n)
 
 -- the first set mark is not one of the added marks
-first_within : (marks : List Bool) (n : ℕ) → run_of (marks ++ replicate n false) < length marks + n → (run_of marks < length marks) × (run_of (marks ++ replicate n false) ≡ run_of marks)
+first_within : (marks : List Bool) (n : ℕ) → run_of (marks ++ replicate n false) < length marks + n
+    → (run_of marks < length marks) × (run_of (marks ++ replicate n false) ≡ run_of marks)
 first_within [] n within = absurd (let none = unset n in omega arith)
   where
     unset : (n : ℕ) → run_of (replicate n false) ≡ n
@@ -121,31 +140,43 @@ first_within (false ∷ marks) n within =
     (omega (arith, rest.0), ap suc rest.1)
 
 -- the second set mark is not one of the added marks
-second_within : (marks : List Bool) (n : ℕ) → suc (run_of (marks ++ replicate n false) + second_run (marks ++ replicate n false)) < length marks + n
-    → (run_of (marks ++ replicate n false) ≡ run_of marks) × (second_run (marks ++ replicate n false) ≡ second_run marks) × (suc (run_of marks + second_run marks) < length marks)
+second_within : (marks : List Bool) (n : ℕ) → suc
+    (run_of (marks ++ replicate n false) + second_run (marks ++ replicate n false))
+    < length marks + n
+    → (run_of (marks ++ replicate n false) ≡ run_of marks)
+    × (second_run (marks ++ replicate n false) ≡ second_run marks)
+    × (suc (run_of marks + second_run marks) < length marks)
 second_within marks n within =
     let first = first_within marks n (omega arith) in
     let at = suc (run_of marks) in
-    let apart : drop (suc (run_of (marks ++ replicate n false))) (marks ++ replicate n false) ≡ drop at marks ++ replicate n false =
-    ap (λ k. drop (suc k) (marks ++ replicate n false)) first.1 ∙ drop-append-le at marks (replicate n false) (omega (arith, first.0)) in
-    let behind : second_run (marks ++ replicate n false) ≡ run_of (drop at marks ++ replicate n false) = ap run_of apart in
+    let apart : drop (suc (run_of (marks ++ replicate n false))) (marks ++ replicate n false)
+    ≡ drop at marks ++ replicate n false =
+    ap (λ k. drop (suc k) (marks ++ replicate n false)) first.1
+    ∙ drop-append-le at marks (replicate n false) (omega (arith, first.0)) in
+    let behind : second_run (marks ++ replicate n false) ≡ run_of
+    (drop at marks ++ replicate n false) = ap run_of apart in
     let long = length-drop at marks in
     let second = first_within (drop at marks) n (omega (arith, first.0, first.1)) in
     (first.1, behind ∙ second.1, omega (arith, first.0, second.0))
 
 -- The entries of both tables for the first eight marks.
-pub two_found : (marks : List Bool) (places used : ℕ) → places ≡ get_or PLACES (mask_l marks % 256) 0 → used ≡ get_or USED (mask_l marks % 256) 0 → places % 2 ≡ 0 → AreTwo marks places used
+pub two_found : (marks : List Bool) (places used : ℕ)
+    → places ≡ get_or PLACES (mask_l marks % 256) 0 → used ≡ get_or USED (mask_l marks % 256) 0
+    → places % 2 ≡ 0 → AreTwo marks places used
 two_found marks places used is used_is even =
     let all = marks ++ replicate 8 false in
-    let all_long : length all ≡ length marks + 8 = length-append marks (replicate 8 false) ∙ ap (λ n. length marks + n) (length-replicate 8 false) in
+    let all_long : length all ≡ length marks + 8 = length-append marks (replicate 8 false)
+    ∙ ap (λ n. length marks + n) (length-replicate 8 false) in
     let front = take 8 all in
     let rest = drop 8 all in
     let eight : length front ≡ 8 = length-take-le 8 all (omega arith) in
     let whole : front ++ rest ≡ all = take-append-drop 8 all in
-    let joined : mask_l marks ≡ mask_l front + 2 ^ length front * mask_l rest = sym (mask_l-padded marks 8) ∙ ap mask_l (sym whole) ∙ mask_l-append front rest in
+    let joined : mask_l marks ≡ mask_l front + 2 ^ length front * mask_l rest =
+    sym (mask_l-padded marks 8) ∙ ap mask_l (sym whole) ∙ mask_l-append front rest in
     let power : 2 ^ length front ≡ 256 = ap (λ n. 2 ^ n) eight in
     let small = mask_l-lt front in
-    let parts : mask_l marks ≡ mask_l front + 256 * mask_l rest = joined ∙ ap (λ n. mask_l front + n * mask_l rest) power in
+    let parts : mask_l marks ≡ mask_l front + 256 * mask_l rest = joined
+    ∙ ap (λ n. mask_l front + n * mask_l rest) power in
     let index : mask_l marks % 256 ≡ mask_l front = omega arith in
     let two = even_word front places (is ∙ ap (λ i. get_or PLACES i 0) index ∙ table_word front eight) even in
     let count : used ≡ units_for front = used_is ∙ ap (λ i. get_or USED i 0) index ∙ table_units front eight in
@@ -159,6 +190,8 @@ two_found marks places used is used_is even =
       second_short = omega (arith, same.1);
       used_is = omega (arith, same.0, same.1);
       within = omega (arith, same.0, same.1, same.2);
-      places_are = two.1 ∙ ap (λ i. number_l 256 (places_in 0 i ++ places_in (suc i) (second_run front))) (sym first ∙ same.0)
-          ∙ ap (λ j. number_l 256 (places_in 0 (run_of marks) ++ places_in (suc (run_of marks)) j)) (sym second ∙ same.1);
+      places_are = two.1 ∙ ap (λ i. number_l 256 (places_in 0 i ++ places_in (suc i)
+          (second_run front))) (sym first ∙ same.0)
+          ∙ ap (λ j. number_l 256 (places_in 0 (run_of marks) ++ places_in (suc (run_of marks)) j))
+          (sym second ∙ same.1);
     }

@@ -1,5 +1,6 @@
 -- The first two numbers of a text, and the next two.
-use Rattle.std.proofs.Common.{◌≡◌, ℕ, zero, suc, ◌+◌, ◌*◌, ◌/◌, ◌%◌, ◌<◌, ◌≤◌, ◌^◌, ◌⊎◌, Bool, List, [], ◌∷◌, ◌++◌, length, drop, map, get_or, refl, sym, ◌∙◌, ap, arith}
+use Rattle.std.proofs.Common.{◌≡◌, ℕ, zero, suc, ◌+◌, ◌*◌, ◌/◌, ◌%◌, ◌<◌, ◌≤◌, ◌^◌, ◌⊎◌, Bool, List}
+use Rattle.std.proofs.Common.{[], ◌∷◌, ◌++◌, length, drop, map, get_or, refl, sym, ◌∙◌, ap, arith}
 use lib.Lanes.{mask_l, number_l, digits_l}
 use mir.Syntax.{w8}
 use Rattle.std.specs.Prelude.{nat_lt}
@@ -9,7 +10,8 @@ use Rattle.twkb_num.specs.Four.{number_in_front, places_in, joined_groups, run_o
 use Rattle.twkb_num.specs.Places.{second_run, AreTwo}
 use Rattle.twkb_num.proofs.FourLemmas.{marks_of}
 use Rattle.twkb_num.proofs.MarkLemmas.{mask_l-drop}
-use Rattle.twkb_num.proofs.PlaceLemmas.{sixteen_places, places_moved, places_of_two, places_below, places_ok, words_are, word_found}
+use Rattle.twkb_num.proofs.PlaceLemmas.{sixteen_places, places_moved, places_of_two, places_below}
+use Rattle.twkb_num.proofs.PlaceLemmas.{places_ok, words_are, word_found}
 use Rattle.twkb_num.proofs.WordLemmas.{four_same}
 
 -- the first two numbers, and the two after them
@@ -18,7 +20,8 @@ pub record AreTwice (marks : List Bool) (places used later_places later_used : �
   pub high : AreTwo (drop used marks) later_places later_used
 
 -- the end bits give the first two numbers, and the shifted bits the next two
-pub twice_found : (radix : ℕ) (us : List ℕ) (ends places used later_places later_used : ℕ) → ends ≡ mask_l (marks_of radix us)
+pub twice_found : (radix : ℕ) (us : List ℕ) (ends places used later_places later_used : ℕ)
+    → ends ≡ mask_l (marks_of radix us)
     → ((marks : List Bool) → ends ≡ mask_l marks → AreTwo marks places used)
     → ((marks : List Bool) → ends / 2 ^ used ≡ mask_l marks → AreTwo marks later_places later_used)
     → AreTwice (marks_of radix us) places used later_places later_used
@@ -46,7 +49,8 @@ pub record AreFour (marks : List Bool) (i j k l second third fourth count : ℕ)
   pub fourth_short : l ≤ 3
 
 -- two numbers and two more are four
-pub twice_two : (marks : List Bool) (places used later_places later_used : ℕ) → AreTwice marks places used later_places later_used
+pub twice_two : (marks : List Bool) (places used later_places later_used : ℕ)
+    → AreTwice marks places used later_places later_used
     → AreFour marks (run_of marks) (second_run marks) (run_of (drop used marks)) (second_run (drop used marks))
     (suc (run_of marks)) used (used + suc (run_of (drop used marks))) (used + later_used)
 twice_two marks places used later_places later_used twice =
@@ -76,48 +80,65 @@ twice_two marks places used later_places later_used twice =
 -- ---- the places of all four
 
 -- the places of the last two numbers, moved by the units of the first two
-later_places_are : (marks : List Bool) (used moved later_places later_used : ℕ) → moved ≡ used → AreTwo marks later_places later_used
-    → later_places + moved * 72340172838076673 ≡ number_l 256 (places_in used (run_of marks) ++ places_in (used + suc (run_of marks)) (second_run marks))
+later_places_are : (marks : List Bool) (used moved later_places later_used : ℕ) → moved ≡ used
+    → AreTwo marks later_places later_used
+    → later_places + moved * 72340172838076673 ≡ number_l 256
+    (places_in used (run_of marks) ++ places_in (used + suc (run_of marks)) (second_run marks))
 later_places_are marks used moved later_places later_used same high =
     let none : used + 0 ≡ used = omega arith in
     rw (same, high.places_are)
     (places_moved used 0 (suc (run_of marks)) (run_of marks) (second_run marks)
-    ∙ ap (λ at. number_l 256 (places_in at (run_of marks) ++ places_in (used + suc (run_of marks)) (second_run marks))) none)
+    ∙ ap (λ at. number_l 256 (places_in at (run_of marks) ++ places_in (used + suc (run_of marks))
+    (second_run marks))) none)
 
 -- the places of the last two numbers fit their bytes
-pub later_places_below : (marks : List Bool) (places used moved later_places later_used : ℕ) → moved ≡ used → AreTwice marks places used later_places later_used
+pub later_places_below : (marks : List Bool) (places used moved later_places later_used : ℕ)
+    → moved ≡ used → AreTwice marks places used later_places later_used
     → later_places + moved * 72340172838076673 < 18446744073709551616
 later_places_below marks places used moved later_places later_used same twice =
     let four = twice_two marks places used later_places later_used twice in
     let is = later_places_are (drop used marks) used moved later_places later_used same twice.high in
-    omega (arith, places_below used (used + suc (run_of (drop used marks))) (run_of (drop used marks)) (second_run (drop used marks)) (omega arith) (omega arith))
+    omega (
+      arith,
+      places_below used (used + suc (run_of (drop used marks)))
+          (run_of (drop used marks)) (second_run (drop used marks)) (omega arith) (omega arith),
+    )
 
 -- the number of all sixteen bytes
 abbrev pub both_places : ℕ → ℕ → ℕ → ℕ
-both_places places moved later_places = number_l 18446744073709551616 (places ∷ (later_places + moved * 72340172838076673) ∷ [])
+both_places places moved later_places = number_l 18446744073709551616
+    (places ∷ (later_places + moved * 72340172838076673) ∷ [])
 
 -- the two words hold the places of the four numbers
-four_places : (marks : List Bool) (places used moved later_places later_used : ℕ) → moved ≡ used → AreTwice marks places used later_places later_used
+four_places : (marks : List Bool) (places used moved later_places later_used : ℕ) → moved ≡ used
+    → AreTwice marks places used later_places later_used
     → both_places places moved later_places
-    ≡ number_l 256 (sixteen_places 0 (suc (run_of marks)) used (used + suc (run_of (drop used marks))) (run_of marks) (second_run marks) (run_of (drop used marks)) (second_run (drop used marks)))
+    ≡ number_l 256 (sixteen_places 0 (suc (run_of marks)) used
+    (used + suc (run_of (drop used marks))) (run_of marks) (second_run marks)
+    (run_of (drop used marks)) (second_run (drop used marks)))
 four_places marks places used moved later_places later_used same twice =
     places_of_two places (later_places + moved * 72340172838076673)
-    0 (suc (run_of marks)) used (used + suc (run_of (drop used marks))) (run_of marks) (second_run marks) (run_of (drop used marks)) (second_run (drop used marks))
+    0 (suc (run_of marks)) used (used + suc (run_of (drop used marks))) (run_of marks)
+    (second_run marks) (run_of (drop used marks)) (second_run (drop used marks))
     twice.low.places_are (later_places_are (drop used marks) used moved later_places later_used same twice.high)
 
 -- the sixteen places pass the test of `swizzle_dyn`
-pub four_places_ok : (marks : List Bool) (places used moved later_places later_used : ℕ) → moved ≡ used → AreTwice marks places used later_places later_used
+pub four_places_ok : (marks : List Bool) (places used moved later_places later_used : ℕ)
+    → moved ≡ used → AreTwice marks places used later_places later_used
     → SwzOk w8 16 16 0 (digits_l 256 16 (both_places places moved later_places))
 four_places_ok marks places used moved later_places later_used same twice =
     let four = twice_two marks places used later_places later_used twice in
     places_ok (both_places places moved later_places)
-    0 (suc (run_of marks)) used (used + suc (run_of (drop used marks))) (run_of marks) (second_run marks) (run_of (drop used marks)) (second_run (drop used marks))
-    (omega arith) (omega arith) (omega arith) (omega arith) (four_places marks places used moved later_places later_used same twice)
+    0 (suc (run_of marks)) used (used + suc (run_of (drop used marks))) (run_of marks)
+    (second_run marks) (run_of (drop used marks)) (second_run (drop used marks))
+    (omega arith) (omega arith) (omega arith) (omega arith)
+    (four_places marks places used moved later_places later_used same twice)
 
 -- ---- lanes that hold units
 
 -- a number depends on its own units alone
-front_same : (radix more : ℕ) (us vs : List ℕ) → more < length us → more < length vs → ((k : ℕ) → k ≤ more → get_or us k 0 ≡ get_or vs k 0)
+front_same : (radix more : ℕ) (us vs : List ℕ) → more < length us → more < length vs
+    → ((k : ℕ) → k ≤ more → get_or us k 0 ≡ get_or vs k 0)
     → number_in_front radix more us ≡ number_in_front radix more vs
 front_same radix more [] vs within fits same = absurd (omega arith)
 front_same radix more (u ∷ us) [] within fits same = absurd (omega arith)
@@ -134,7 +155,9 @@ pub record AreLanes (lanes us : List ℕ) : Type 0 where
   pub same : (k : ℕ) → k < 16 → k < length us → get_or lanes k 0 ≡ get_or us k 0
 
 -- the lanes give the number of these units
-lanes_tell : (radix at more : ℕ) (lanes us : List ℕ) → AreLanes lanes us → at + more ≤ 15 → at + more < length us → number_in_front radix more (drop at lanes) ≡ number_in_front radix more (drop at us)
+lanes_tell : (radix at more : ℕ) (lanes us : List ℕ) → AreLanes lanes us → at + more ≤ 15
+    → at + more < length us → number_in_front radix more (drop at lanes) ≡ number_in_front radix
+    more (drop at us)
 lanes_tell radix at more lanes us are within fits =
     let count = are.count in
     let lanes_long = length-drop at lanes in
@@ -144,12 +167,15 @@ lanes_tell radix at more lanes us are within fits =
 
 -- The groups at the places found are those of the four numbers.
 pub numbers_found : (radix : ℕ) (lanes us : List ℕ) (places used moved later_places later_used : ℕ)
-    → (radix ≡ 128) ⊎ (radix ≡ 32) → AreLanes lanes us → moved ≡ used → AreTwice (marks_of radix us) places used later_places later_used
-    → map (joined_groups radix) (digits_l 4294967296 4 (number_l 256 (swz_l w8 16 lanes 0 (digits_l 256 16 (both_places places moved later_places)))))
+    → (radix ≡ 128) ⊎ (radix ≡ 32) → AreLanes lanes us → moved ≡ used
+    → AreTwice (marks_of radix us) places used later_places later_used
+    → map (joined_groups radix) (digits_l 4294967296 4
+    (number_l 256 (swz_l w8 16 lanes 0 (digits_l 256 16 (both_places places moved later_places)))))
     ≡ number_in_front radix (run_of (marks_of radix us)) (drop 0 us)
     ∷ number_in_front radix (second_run (marks_of radix us)) (drop (suc (run_of (marks_of radix us))) us)
     ∷ number_in_front radix (run_of (drop used (marks_of radix us))) (drop used us)
-    ∷ number_in_front radix (second_run (drop used (marks_of radix us))) (drop (used + suc (run_of (drop used (marks_of radix us)))) us) ∷ []
+    ∷ number_in_front radix (second_run (drop used (marks_of radix us)))
+    (drop (used + suc (run_of (drop used (marks_of radix us)))) us) ∷ []
 numbers_found radix lanes us places used moved later_places later_used alphabet are same twice =
     let marks = marks_of radix us in
     let four = twice_two marks places used later_places later_used twice in
@@ -160,15 +186,22 @@ numbers_found radix lanes us places used moved later_places later_used alphabet 
     let within = four.within in
     let count = four.count_is in
     let number = λ (at more : ℕ) (inside : at + more ≤ 15) (fits : at + more < length us) (short : more ≤ 3).
-    word_found radix at more lanes alphabet are.count are.fit inside short ∙ lanes_tell radix at more lanes us are inside fits in
+    word_found radix at more lanes alphabet are.count are.fit inside short
+    ∙ lanes_tell radix at more lanes us are inside fits in
     ap (map (joined_groups radix)) (words_are lanes (both_places places moved later_places)
     0 second used fourth (run_of marks) (second_run marks) (run_of (drop used marks)) (second_run (drop used marks))
-    are.fit (omega arith) (omega arith) (omega arith) (omega arith) (four_places marks places used moved later_places later_used same twice))
-    ∙ four_same _ _ _ _ _ _ _ _ (number 0 (run_of marks) (omega arith) (omega arith) four.first_short) (number second (second_run marks) (omega arith) (omega arith) four.second_short)
-    (number used (run_of (drop used marks)) (omega arith) (omega arith) four.third_short) (number fourth (second_run (drop used marks)) (omega arith) (omega arith) four.fourth_short)
+    are.fit (omega arith) (omega arith) (omega arith) (omega arith)
+    (four_places marks places used moved later_places later_used same twice))
+    ∙ four_same _ _ _ _ _ _ _ _ (number 0 (run_of marks) (omega arith) (omega arith)
+    four.first_short) (number second (second_run marks) (omega arith) (omega arith)
+    four.second_short)
+    (number used (run_of (drop used marks)) (omega arith) (omega arith) four.third_short)
+    (number fourth (second_run (drop used marks)) (omega arith) (omega arith) four.fourth_short)
 
 -- four numbers have at most sixteen units
-pub few_used : (marks : List Bool) (places used later_places later_used : ℕ) → AreTwice marks places used later_places later_used → (used + later_used ≤ 16) × (used + later_used ≤ length marks)
+pub few_used : (marks : List Bool) (places used later_places later_used : ℕ)
+    → AreTwice marks places used later_places later_used → (used + later_used ≤ 16)
+    × (used + later_used ≤ length marks)
 few_used marks places used later_places later_used twice =
     let four = twice_two marks places used later_places later_used twice in
     let low = twice.low in

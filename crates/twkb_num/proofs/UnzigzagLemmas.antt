@@ -1,5 +1,7 @@
 -- The numbers of four zigzag forms, computed at once in 32 bits each.
-use Rattle.std.proofs.Common.{◌≡◌, ℕ, ℤ, pos, negsuc, zero, suc, ◌+◌, ◌-◌, ◌/◌, ◌%◌, ◌<◌, ◌^◌, Bool, true, false, List, [], ◌∷◌, length, map, refl, ◌∙◌, ap, arith, Fits, FitsSigned, w32, w64, eqb}
+use Rattle.std.proofs.Common.{◌≡◌, ℕ, ℤ, pos, negsuc, zero, suc, ◌+◌, ◌-◌, ◌/◌, ◌%◌, ◌<◌, ◌^◌, Bool}
+use Rattle.std.proofs.Common.{true, false, List, [], ◌∷◌, length, map, refl, ◌∙◌, ap, arith, Fits}
+use Rattle.std.proofs.Common.{FitsSigned, w32, w64, eqb}
 use mir.Syntax.{Width}
 use mir.Val.{hbits}
 use lib.Lanes.{Each1, zip2, sel_l, top}
@@ -15,22 +17,27 @@ use Rattle.twkb_num.proofs.ZigzagLemmas.{zigzag_of-unzigzag_of}
 -- the lanes as the code computes them
 abbrev unzigzagged_lanes : ℕ → List ℕ → List ℕ
 unzigzagged_lanes k forms =
-    sel_l (map (top 31) (zip2 (λ a b. cond (eqb a b) 4294967295 0) (zip2 (λ a b. a % b) forms (replicate k 2)) (replicate k 0)))
+    sel_l (map (top 31) (zip2 (λ a b. cond (eqb a b) 4294967295 0)
+    (zip2 (λ a b. a % b) forms (replicate k 2)) (replicate k 0)))
     (zip2 (λ a b. a / b) forms (replicate k 2))
-    (zip2 (λ a b. (a + (4294967296 - b)) % 4294967296) (replicate k 4294967295) (zip2 (λ a b. a / b) forms (replicate k 2)))
+    (zip2 (λ a b. (a + (4294967296 - b)) % 4294967296) (replicate k 4294967295)
+    (zip2 (λ a b. a / b) forms (replicate k 2)))
 
 -- one lane is the unzigzagged number
 lane_is : (n : ℕ) → n < 4294967296
-    → cond (top 31 (cond (eqb (n % 2) 0) 4294967295 0)) (n / 2) ((4294967295 + (4294967296 - n / 2)) % 4294967296) ≡ unzigzagged_bits n
+    → cond (top 31 (cond (eqb (n % 2) 0) 4294967295 0)) (n / 2)
+    ((4294967295 + (4294967296 - n / 2)) % 4294967296) ≡ unzigzagged_bits n
 lane_is n small = go (n % 2) refl (omega arith)
   where
-    go : (r : ℕ) → n % 2 ≡ r → r < 2 → cond (top 31 (cond (eqb (n % 2) 0) 4294967295 0)) (n / 2) ((4294967295 + (4294967296 - n / 2)) % 4294967296) ≡ unzigzagged_bits n
+    go : (r : ℕ) → n % 2 ≡ r → r < 2 → cond (top 31 (cond (eqb (n % 2) 0) 4294967295 0)) (n / 2)
+        ((4294967295 + (4294967296 - n / 2)) % 4294967296) ≡ unzigzagged_bits n
     go zero e h = rw e refl
     go (suc zero) e h = rw e (omega arith)
     go (suc (suc r)) e h = absurd (omega arith)
 
 -- all lanes are the unzigzagged numbers
-pub unzigzagged_are : (k : ℕ) (forms : List ℕ) → length forms ≡ k → Each1 (Fits w32) forms → unzigzagged_lanes k forms ≡ map unzigzagged_bits forms
+pub unzigzagged_are : (k : ℕ) (forms : List ℕ) → length forms ≡ k → Each1 (Fits w32) forms
+    → unzigzagged_lanes k forms ≡ map unzigzagged_bits forms
 unzigzagged_are zero [] long fit = refl
 unzigzagged_are zero (n ∷ forms) long fit = absurd (omega arith)
 unzigzagged_are (suc k) [] long fit = absurd (omega arith)

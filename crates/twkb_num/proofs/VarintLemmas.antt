@@ -1,5 +1,7 @@
 -- Varints as the spellings by seven bits; no varint begins another; which ones are too long.
-use Rattle.std.proofs.Common.{◌≡◌, ℕ, ◌+◌, ◌-◌, ◌*◌, ◌/◌, ◌%◌, ◌<◌, ◌≤◌, ◌^◌, true, false, inl, inr, Some, List, [], ◌∷◌, ◌++◌, length, map, refl, sym, ◌∙◌, ap, arith, lit<}
+use Rattle.std.proofs.Common.{◌≡◌, ℕ, ◌+◌, ◌-◌, ◌*◌, ◌/◌, ◌%◌, ◌<◌, ◌≤◌, ◌^◌, true, false, inl, inr}
+use Rattle.std.proofs.Common.{Some, List, [], ◌∷◌, ◌++◌, length, map, refl, sym, ◌∙◌, ap, arith}
+use Rattle.std.proofs.Common.{lit<}
 use Rattle.std.specs.Prelude.{◌↔◌}
 use Rattle.std.specs.Int.Digits.{AllBelowBase}
 use Rattle.std.specs.List.{AllByRecursion}
@@ -59,7 +61,8 @@ units_sum (d ∷ e ∷ ds) p =
     rw (low, units_sum (e ∷ ds) p.1) refl
 
 -- varints are the spellings by seven bits
-pub varint_is : (bs : List ℕ) (n : ℕ) → (IsVarint bs n → IsSpelling leb_unit 128 10 bs n) × (IsSpelling leb_unit 128 10 bs n → IsVarint bs n)
+pub varint_is : (bs : List ℕ) (n : ℕ) → (IsVarint bs n → IsSpelling leb_unit 128 10 bs n)
+    × (IsSpelling leb_unit 128 10 bs n → IsVarint bs n)
 varint_is bs n = (
   λ v. record {
     ds = map (λ b. b % 128) bs;
@@ -80,7 +83,8 @@ varint_is bs n = (
 
 -- no varint begins another, and each spells one number
 pub one_varint : (a b x y : List ℕ) (m n : ℕ) → IsVarint a m → IsVarint b n → a ++ x ≡ b ++ y → (m ≡ n) × (a ≡ b)
-one_varint a b x y m n va vb e = let s = spelling_one leb_laws a b x y m n ((varint_is a m).0 va) ((varint_is b n).0 vb) e in (s.1, s.0)
+one_varint a b x y m n va vb e = let s = spelling_one leb_laws a b x y m n ((varint_is a m).0 va)
+    ((varint_is b n).0 vb) e in (s.1, s.0)
 
 -- the shortest varint is a varint
 pub IsVarint-varint_of : (n : ℕ) → n < 2 ^ 64 → IsVarint (varint_of n) n
@@ -93,7 +97,8 @@ length-varint_of n h = (IsVarint-varint_of n h).within
 -- ---- bytes that begin a varint
 
 -- bytes with the top bit set are the open units of their low seven bits
-open_sevens : (bs : List ℕ) → AllByRecursion (λ b. 128 ≤ b) bs → AllByRecursion (λ b. b < 256) bs → bs ≡ open_units leb_unit (map (λ b. b % 128) bs)
+open_sevens : (bs : List ℕ) → AllByRecursion (λ b. 128 ≤ b) bs → AllByRecursion (λ b. b < 256) bs
+    → bs ≡ open_units leb_unit (map (λ b. b % 128) bs)
 open_sevens [] h l = refl
 open_sevens (b ∷ bs) h l =
     let first : b ≡ b % 128 + 128 = omega (arith, h.0, l.0) in
@@ -110,7 +115,8 @@ open_low [] p = tt
 open_low (d ∷ ds) p = (omega (arith, p.0), open_low ds p.1)
 
 -- the bytes that begin varints are open units by seven bits
-pub open_varint_is : (bs : List ℕ) → (IsOpenVarint bs → IsOpen leb_unit 128 10 bs) × (IsOpen leb_unit 128 10 bs → IsOpenVarint bs)
+pub open_varint_is : (bs : List ℕ) → (IsOpenVarint bs → IsOpen leb_unit 128 10 bs)
+    × (IsOpen leb_unit 128 10 bs → IsOpenVarint bs)
 open_varint_is bs = (
   λ v. record {
     ds = map (λ b. b % 128) bs;
@@ -128,14 +134,16 @@ open_varint_is bs = (
 -- ---- varints that are too long
 
 -- the sum of some bytes with one more after them
-seven_bit_sum-push : (bs : List ℕ) (b : ℕ) → seven_bit_sum (bs ++ b ∷ []) ≡ seven_bit_sum bs + 128 ^ length bs * (b % 128)
+seven_bit_sum-push : (bs : List ℕ) (b : ℕ) → seven_bit_sum (bs ++ b ∷ []) ≡ seven_bit_sum bs + 128
+    ^ length bs * (b % 128)
 seven_bit_sum-push [] b = rw (pow-zero 128) (omega arith)
 seven_bit_sum-push (c ∷ bs) b = rw (seven_bit_sum-push bs b, pow-suc 128 (length bs)) (omega arith)
 
 -- the sum of k bytes is below 128 ^ k
 seven_bit_sum-lt : (bs : List ℕ) → seven_bit_sum bs < 128 ^ length bs
 seven_bit_sum-lt [] = rw (pow-zero 128) (omega arith)
-seven_bit_sum-lt (b ∷ bs) = rw (pow-suc 128 (length bs)) (omega (arith, seven_bit_sum-lt bs, mod_below b 128 (omega arith)))
+seven_bit_sum-lt (b ∷ bs) = rw (pow-suc 128 (length bs))
+    (omega (arith, seven_bit_sum-lt bs, mod_below b 128 (omega arith)))
 
 -- a sum of 2 ^ 64 or above needs nine bytes and a tenth above 1
 too_large : (us : List ℕ) (u : ℕ) → length us ≤ 9 → 2 ^ 64 ≤ seven_bit_sum (us ++ u ∷ []) → (length us ≡ 9) × (2 ≤ u)
@@ -147,7 +155,8 @@ too_large us u room large =
       | inl short ↦
           let few : length us ≤ 8 = omega arith in
           let power : 128 ^ length us ≤ 128 ^ 8 = pow-le-pow_right {n = 128} (lit< tt) few in
-          let product : 128 ^ length us * (u % 128) ≤ 128 ^ length us * 127 = mul-le-mul_left (128 ^ length us) (omega arith) in
+          let product : 128 ^ length us * (u % 128) ≤ 128 ^ length us * 127 = mul-le-mul_left
+          (128 ^ length us) (omega arith) in
           absurd (omega arith)
       | inr long ↦
           let nine : length us ≡ 9 = omega arith in
@@ -155,7 +164,8 @@ too_large us u room large =
             nine,
             elim (cases_lt u 2) [
               | inl small ↦ let same : u % 128 ≡ u = mod-eq_of_lt (omega arith) in
-                  let product : 128 ^ length us * (u % 128) ≤ 128 ^ length us * 1 = mul-le-mul_left (128 ^ length us) (omega arith) in
+                  let product : 128 ^ length us * (u % 128) ≤ 128 ^ length us * 1 = mul-le-mul_left
+                  (128 ^ length us) (omega arith) in
                   absurd (omega arith)
               | inr above ↦ above
             ],
@@ -166,19 +176,23 @@ too_large us u room large =
 pub high_from_group : (u d : ℕ) → leb_group u ≡ Some (d, true) → 128 ≤ u
 high_from_group u d e =
     elim (cases_lt u 128) [
-      | inl small ↦ let last : leb_group u ≡ Some (u, false) = rw (lt-ltb u 128 small) refl in absurd (marks_apart (leb_group u) d u e last)
+      | inl small ↦ let last : leb_group u ≡ Some (u, false) = rw (lt-ltb u 128 small) refl in
+          absurd (marks_apart (leb_group u) d u e last)
       | inr high ↦ high
     ]
 
 -- a varint is too long exactly if its tenth byte is above 1
-pub too_long_is : (us : List ℕ) (u : ℕ) → IsOpenVarint us → u < 256 → IsAnswer leb_unit leb_group 128 10 us u TooLong ↔ ((length us ≡ 9) × (2 ≤ u))
+pub too_long_is : (us : List ℕ) (u : ℕ) → IsOpenVarint us → u < 256
+    → IsAnswer leb_unit leb_group 128 10 us u TooLong ↔ ((length us ≡ 9) × (2 ≤ u))
 too_long_is us u o small = (λ t. long us u o t, λ h. answered us u o small h.0 h.1)
   where
-    long : (us : List ℕ) (u : ℕ) → IsOpenVarint us → IsAnswer leb_unit leb_group 128 10 us u TooLong → (length us ≡ 9) × (2 ≤ u)
+    long : (us : List ℕ) (u : ℕ) → IsOpenVarint us → IsAnswer leb_unit leb_group 128 10 us u TooLong
+        → (length us ≡ 9) × (2 ≤ u)
     long us u o (inl goes_on) = (omega (arith, goes_on.0), omega (arith, high_from_group u goes_on.1.0 goes_on.1.1))
     long us u o (inr above) = too_large us u o.room (rw above.spelled (rw (units_sum above.ds above.below) above.above))
 
-    answered : (us : List ℕ) (u : ℕ) → IsOpenVarint us → u < 256 → length us ≡ 9 → 2 ≤ u → IsAnswer leb_unit leb_group 128 10 us u TooLong
+    answered : (us : List ℕ) (u : ℕ) → IsOpenVarint us → u < 256 → length us ≡ 9 → 2 ≤ u
+        → IsAnswer leb_unit leb_group 128 10 us u TooLong
     answered us u o small nine two =
         elim (cases_lt u 128) [
           | inl last ↦

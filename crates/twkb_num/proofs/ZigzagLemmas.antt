@@ -6,8 +6,10 @@ use Rattle.twkb_num.specs.Zigzag.{zigzag_of, unzigzag_of}
 
 -- unzigzag undoes zigzag
 pub unzigzag_of-zigzag_of : (n : ℤ) → unzigzag_of (zigzag_of n) ≡ n
-unzigzag_of-zigzag_of (pos n) = let e : (2 * n) % 2 ≡ 0 = omega arith in let d : (2 * n) / 2 ≡ n = omega arith in rw (e, d)
-unzigzag_of-zigzag_of (negsuc n) = let e : (2 * n + 1) % 2 ≡ 1 = omega arith in let d : (2 * n + 1) / 2 ≡ n = omega arith in rw (e, d)
+unzigzag_of-zigzag_of (pos n) = let e : (2 * n) % 2 ≡ 0 = omega arith in
+    let d : (2 * n) / 2 ≡ n = omega arith in rw (e, d)
+unzigzag_of-zigzag_of (negsuc n) = let e : (2 * n + 1) % 2 ≡ 1 = omega arith in
+    let d : (2 * n + 1) / 2 ≡ n = omega arith in rw (e, d)
 
 -- zigzag undoes unzigzag
 pub zigzag_of-unzigzag_of : (n : ℕ) → zigzag_of (unzigzag_of n) ≡ n

@@ -1,6 +1,7 @@
 -- Alphabets of units, each of which stands for a group of bits and says whether more units follow:
 -- their laws, and our two alphabets.
-use Rattle.std.specs.Prelude.{◌≡◌, ℕ, ◌+◌, ◌-◌, ◌<◌, ◌≤◌, ◌^◌, Bool, true, false, Option, Some, None, if◌then◌else◌, nat_lt}
+use Rattle.std.specs.Prelude.{◌≡◌, ℕ, ◌+◌, ◌-◌, ◌<◌, ◌≤◌, ◌^◌, Bool, true, false, Option, Some}
+use Rattle.std.specs.Prelude.{None, if◌then◌else◌, nat_lt}
 
 -- the laws of an alphabet
 pub record AlphabetLaws (bits longest : ℕ) (unit : ℕ → Bool → ℕ) (group : ℕ → Option (ℕ × Bool)) : Type 0 where

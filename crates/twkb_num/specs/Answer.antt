@@ -1,5 +1,6 @@
 -- How a reader of spellings answers its next unit.
-use Rattle.std.specs.Prelude.{◌≡◌, ℕ, ◌+◌, ◌<◌, ◌≤◌, ◌^◌, ◌↔◌, ◌⊎◌, Bool, true, IsTrue, Option, Some, None, List, [], ◌∷◌, ◌++◌, length}
+use Rattle.std.specs.Prelude.{◌≡◌, ℕ, ◌+◌, ◌<◌, ◌≤◌, ◌^◌, ◌↔◌, ◌⊎◌, Bool, true, IsTrue, Option}
+use Rattle.std.specs.Prelude.{Some, None, List, [], ◌∷◌, ◌++◌, length}
 use Rattle.std.specs.Int.Digits.{AllBelowBase}
 use Rattle.twkb_num.specs.Digits.{number_of}
 use Rattle.twkb_num.specs.Spelling.{units_of, shortest, IsSpelling}
@@ -28,7 +29,8 @@ IsAnswer unit group base longest us u TooLong =
 -- the unit u is refused after the open units us: it is not in the alphabet, the spelling is too
 -- long, or its number is too large
 abbrev pub IsRefused : (ℕ → Bool → ℕ) → (ℕ → Option (ℕ × Bool)) → ℕ → ℕ → List ℕ → ℕ → Type 0
-IsRefused unit group base longest us u = IsAnswer unit group base longest us u BadUnit ⊎ IsAnswer unit group base longest us u TooLong
+IsRefused unit group base longest us u = IsAnswer unit group base longest us u BadUnit
+    ⊎ IsAnswer unit group base longest us u TooLong
 
 -- the units that the reader holds after its answer: none after any answer but More
 abbrev pub held_after : List ℕ → ℕ → Step → List ℕ

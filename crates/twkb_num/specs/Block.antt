@@ -1,5 +1,6 @@
 -- Where numbers end among the first units of some bytes.
-use Rattle.std.specs.Prelude.{◌≡◌, ℕ, suc, ◌+◌, ◌-◌, ◌*◌, ◌%◌, ◌<◌, ◌≤◌, ◌^◌, ◌⊎◌, List, length, take, map, get_or, nat_lt, nat_eq}
+use Rattle.std.specs.Prelude.{◌≡◌, ℕ, suc, ◌+◌, ◌-◌, ◌*◌, ◌%◌, ◌<◌, ◌≤◌, ◌^◌, ◌⊎◌, List, length}
+use Rattle.std.specs.Prelude.{take, map, get_or, nat_lt, nat_eq}
 use lib.Lanes.{mask_l}
 use Rattle.twkb_num.specs.declared.block.Marks.{Marks}
 
@@ -26,7 +27,8 @@ pub record AreEnds (base radix : ℕ) (bytes : List ℕ) (ends : ℕ) : Type 0 w
 -- no end is missing: if the first units, at most `most` of them, are all in the alphabet and none
 -- pads a number, `ends` has a bit for each of them that ends a number
 abbrev pub HasEndsOf : ℕ → ℕ → ℕ → List ℕ → ℕ → Type 0
-HasEndsOf most base radix bytes ends = (units : List ℕ) (marks : ℕ) → AreUnits base radix bytes units marks → length units ≤ most → ends % 2 ^ length units ≡ marks
+HasEndsOf most base radix bytes ends = (units : List ℕ) (marks : ℕ)
+    → AreUnits base radix bytes units marks → length units ≤ most → ends % 2 ^ length units ≡ marks
 
 -- each word has a bit for each unit: `ends` if the unit ends a number, `zeros` if it is 0, `bad` if
 -- it is above `most`
@@ -37,7 +39,8 @@ pub record AreMarks (radix most : ℕ) (units : List ℕ) (m : Marks) : Type 0 w
 
 -- unit k is a fault: it is above `most`, or the unit after it is a 0 that pads the number
 abbrev pub IsFault : ℕ → ℕ → List ℕ → ℕ → Type 0
-IsFault radix most units k = (most < get_or units k 0) ⊎ ((suc k < length units) × (get_or units (suc k) 0 ≡ 0) × (radix ≤ get_or units k 0))
+IsFault radix most units k = (most < get_or units k 0)
+    ⊎ ((suc k < length units) × (get_or units (suc k) 0 ≡ 0) × (radix ≤ get_or units k 0))
 
 -- `ends` has a bit for each unit that ends a number, among the units before the first fault, or
 -- among the first 63 or more if these have no fault

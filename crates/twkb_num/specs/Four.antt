@@ -1,5 +1,6 @@
 -- Four numbers at the start of some units, each in its shortest spelling.
-use Rattle.std.specs.Prelude.{◌≡◌, ℕ, zero, suc, ◌+◌, ◌*◌, ◌/◌, ◌%◌, ◌<◌, ◌≤◌, ◌^◌, Bool, true, false, List, [], ◌∷◌, ◌++◌, length, take, nat_le, if◌then◌else◌}
+use Rattle.std.specs.Prelude.{◌≡◌, ℕ, zero, suc, ◌+◌, ◌*◌, ◌/◌, ◌%◌, ◌<◌, ◌≤◌, ◌^◌, Bool, true}
+use Rattle.std.specs.Prelude.{false, List, [], ◌∷◌, ◌++◌, length, take, nat_le, if◌then◌else◌}
 use Rattle.std.specs.Int.{w32, cast_unsigned}
 use Rattle.twkb_num.specs.Spelling.{shortest}
 use Rattle.twkb_num.specs.Zigzag.{unzigzag_of}
@@ -8,7 +9,8 @@ use Rattle.twkb_num.specs.Zigzag.{unzigzag_of}
 -- most 28 bits each
 pub record FourInFront (unit : ℕ → Bool → ℕ) (base : ℕ) (units : List ℕ) (a b c d count : ℕ) : Type 0 where
   pub within : count ≤ length units
-  pub spelled : take count units ≡ shortest unit base a ++ (shortest unit base b ++ (shortest unit base c ++ shortest unit base d))
+  pub spelled : take count units ≡ shortest unit base a
+      ++ (shortest unit base b ++ (shortest unit base c ++ shortest unit base d))
   pub first_small : a < 2 ^ 28
   pub second_small : b < 2 ^ 28
   pub third_small : c < 2 ^ 28
@@ -36,7 +38,8 @@ places_in at more = place_in at more 0 ∷ place_in at more 1 ∷ place_in at mo
 -- the number of the four groups in the bytes of a word, low first
 abbrev pub joined_groups : ℕ → ℕ → ℕ
 joined_groups radix word =
-    word % radix + radix * (word / 256 % radix + radix * (word / 256 / 256 % radix + radix * (word / 256 / 256 / 256 % radix)))
+    word % radix + radix * (word / 256 % radix + radix
+    * (word / 256 / 256 % radix + radix * (word / 256 / 256 / 256 % radix)))
 
 -- the number with this zigzag form, as 32 bits
 abbrev pub unzigzagged_bits : ℕ → ℕ

@@ -14,4 +14,5 @@ pub record AreTwo (marks : List Bool) (places used : ℕ) : Type 0 where
   pub second_short : second_run marks ≤ 3
   pub used_is : used ≡ suc (suc (run_of marks + second_run marks))
   pub within : used ≤ length marks
-  pub places_are : places ≡ number_l 256 (places_in 0 (run_of marks) ++ places_in (suc (run_of marks)) (second_run marks))
+  pub places_are : places ≡ number_l 256 (places_in 0 (run_of marks) ++ places_in
+      (suc (run_of marks)) (second_run marks))

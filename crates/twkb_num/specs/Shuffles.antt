@@ -1,12 +1,14 @@
 -- The units of two numbers, each number's in four bytes, and the shuffle that brings them together.
-use Rattle.std.specs.Prelude.{◌≡◌, ℕ, zero, suc, ◌+◌, ◌*◌, ◌/◌, ◌%◌, ◌-◌, ◌≤◌, ◌^◌, Bool, List, [], ◌∷◌, ◌++◌, take, drop, nat_le, if◌then◌else◌}
+use Rattle.std.specs.Prelude.{◌≡◌, ℕ, zero, suc, ◌+◌, ◌*◌, ◌/◌, ◌%◌, ◌-◌, ◌≤◌, ◌^◌, Bool, List, []}
+use Rattle.std.specs.Prelude.{◌∷◌, ◌++◌, take, drop, nat_le, if◌then◌else◌}
 use Rattle.twkb_num.specs.Four.{unit_over}
 use Rattle.twkb_num.specs.Spelling.{shortest}
 
 -- the lowest `count` groups of n, each as a unit that says whether n has bits above it
 abbrev pub units_within : ℕ → ℕ → ℕ → ℕ → List ℕ
 units_within base radix zero n = []
-units_within base radix (suc count) n = unit_over base radix (n % radix) (nat_le radix n) ∷ units_within base radix count (n / radix)
+units_within base radix (suc count) n = unit_over base radix (n % radix) (nat_le radix n)
+    ∷ units_within base radix count (n / radix)
 
 -- the four units of a number in its lane
 abbrev pub lane_units : ℕ → ℕ → ℕ → List ℕ
@@ -23,7 +25,8 @@ marks_of_two first second = (2 ^ first - 1) + 16 * (2 ^ second - 1)
 
 -- the place of the unit that moves to k: one of the first number's, one of the second's, or none
 abbrev pub place_for : ℕ → ℕ → ℕ → ℕ
-place_for first second k = if nat_le k first then k else (if nat_le k (first + 1 + second) then 4 + (k - (first + 1)) else 128)
+place_for first second k = if nat_le k first then k else
+    (if nat_le k (first + 1 + second) then 4 + (k - (first + 1)) else 128)
 
 -- the places of the units of two numbers, one number after the other, up to eight
 abbrev pub shuffle_of : ℕ → ℕ → List ℕ

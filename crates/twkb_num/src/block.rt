@@ -86,7 +86,8 @@ fn sixty_four(bytes: &[u8], alphabet: Alphabet) -> Marks
 // that pads a number.
 #[inline(always)]
 fn before_fault(marks: Marks) -> u64
-    ensures { (radix most : ℕ) (units : List ℕ) → AreMarks radix most units marks → AreEndsBefore radix most units result }
+    ensures { (radix most : ℕ) (units : List ℕ) → AreMarks radix most units marks
+        → AreEndsBefore radix most units result }
 {
     // bit 63 is set so that there is always a first fault; the last of the 64 units is not looked
     // at

@@ -26,7 +26,8 @@ pub struct Four {
 /// bytes: it is also the answer for fewer than sixteen bytes. Takes no memory.
 #[inline(always)]
 pub fn four_varints(bytes: &[u8]) -> Option<Four>
-    ensures { IfSome result (λ f. FourInFront leb_unit 128 bytes.now (zigzag_of f.first) (zigzag_of f.second) (zigzag_of f.third) (zigzag_of f.fourth) f.used) }
+    ensures { IfSome result (λ f. FourInFront leb_unit 128 bytes.now (zigzag_of f.first)
+        (zigzag_of f.second) (zigzag_of f.third) (zigzag_of f.fourth) f.used) }
 {
     four_in_front(bytes, VARINTS)
 }
@@ -37,7 +38,8 @@ pub fn four_varints(bytes: &[u8]) -> Option<Four>
 /// characters, or if there are fewer than sixteen in all. Takes no memory.
 #[inline(always)]
 pub fn four_characters(text: &[u8]) -> Option<Four>
-    ensures { IfSome result (λ f. FourInFront five_unit 32 text.now (zigzag_of f.first) (zigzag_of f.second) (zigzag_of f.third) (zigzag_of f.fourth) f.used) }
+    ensures { IfSome result (λ f. FourInFront five_unit 32 text.now (zigzag_of f.first)
+        (zigzag_of f.second) (zigzag_of f.third) (zigzag_of f.fourth) f.used) }
 {
     four_in_front(text, POLYLINES)
 }
@@ -49,7 +51,8 @@ pub fn four_characters(text: &[u8]) -> Option<Four>
 pub fn four_varints_by(bytes: &[u8], ends: u64) -> Option<Four>
     requires long { 16 ≤ length bytes.now }
     requires ends { AreEnds 0 128 bytes.now ends }
-    ensures four { IfSome result (λ f. FourInFront leb_unit 128 bytes.now (zigzag_of f.first) (zigzag_of f.second) (zigzag_of f.third) (zigzag_of f.fourth) f.used) }
+    ensures four { IfSome result (λ f. FourInFront leb_unit 128 bytes.now (zigzag_of f.first)
+        (zigzag_of f.second) (zigzag_of f.third) (zigzag_of f.fourth) f.used) }
     ensures few { IfSome result (λ f. f.used ≤ 16) }
     ensures rest { IfSome result (λ f. AreEnds 0 128 (drop f.used bytes.now) (ends / 2 ^ f.used)) }
 {
@@ -63,7 +66,8 @@ pub fn four_varints_by(bytes: &[u8], ends: u64) -> Option<Four>
 pub fn four_characters_by(text: &[u8], ends: u64) -> Option<Four>
     requires long { 16 ≤ length text.now }
     requires ends { AreEnds 63 32 text.now ends }
-    ensures four { IfSome result (λ f. FourInFront five_unit 32 text.now (zigzag_of f.first) (zigzag_of f.second) (zigzag_of f.third) (zigzag_of f.fourth) f.used) }
+    ensures four { IfSome result (λ f. FourInFront five_unit 32 text.now (zigzag_of f.first)
+        (zigzag_of f.second) (zigzag_of f.third) (zigzag_of f.fourth) f.used) }
     ensures few { IfSome result (λ f. f.used ≤ 16) }
     ensures rest { IfSome result (λ f. AreEnds 63 32 (drop f.used text.now) (ends / 2 ^ f.used)) }
 {
@@ -79,7 +83,9 @@ fn four_in_front(bytes: &[u8], alphabet: Alphabet) -> Option<Four>
     requires known { (alphabet.radix ≡ 128) ⊎ (alphabet.radix ≡ 32) }
     requires bound { alphabet.most < 2 * alphabet.radix }
     requires in_bytes { alphabet.most + alphabet.base < 256 }
-    ensures { IfSome result (λ f. FourInFront (unit_over alphabet.base alphabet.radix) alphabet.radix bytes.now (zigzag_of f.first) (zigzag_of f.second) (zigzag_of f.third) (zigzag_of f.fourth) f.used) }
+    ensures { IfSome result (λ f. FourInFront (unit_over alphabet.base alphabet.radix)
+        alphabet.radix bytes.now (zigzag_of f.first) (zigzag_of f.second) (zigzag_of f.third)
+        (zigzag_of f.fourth) f.used) }
 {
     if bytes.len() < 16 {
         return None;
@@ -94,9 +100,12 @@ fn four_by(bytes: &[u8], ends: u64, alphabet: Alphabet) -> Option<Four>
     requires known { (alphabet.radix ≡ 128) ⊎ (alphabet.radix ≡ 32) }
     requires long { 16 ≤ length bytes.now }
     requires ends { AreEnds alphabet.base alphabet.radix bytes.now ends }
-    ensures four { IfSome result (λ f. FourInFront (unit_over alphabet.base alphabet.radix) alphabet.radix bytes.now (zigzag_of f.first) (zigzag_of f.second) (zigzag_of f.third) (zigzag_of f.fourth) f.used) }
+    ensures four { IfSome result (λ f. FourInFront (unit_over alphabet.base alphabet.radix)
+        alphabet.radix bytes.now (zigzag_of f.first) (zigzag_of f.second) (zigzag_of f.third)
+        (zigzag_of f.fourth) f.used) }
     ensures few { IfSome result (λ f. f.used ≤ 16) }
-    ensures rest { IfSome result (λ f. AreEnds alphabet.base alphabet.radix (drop f.used bytes.now) (ends / 2 ^ f.used)) }
+    ensures rest { IfSome result (λ f. AreEnds alphabet.base alphabet.radix (drop f.used bytes.now)
+        (ends / 2 ^ f.used)) }
 {
     let low = two_in_front(ends)?;
     let high = two_in_front(ends >> low.used)?;

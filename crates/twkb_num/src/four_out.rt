@@ -57,7 +57,8 @@ fn spelled(first: u32, second: u32, third: u32, fourth: u32, alphabet: Alphabet)
     requires second_small { second < alphabet.radix ^ 4 }
     requires third_small { third < alphabet.radix ^ 4 }
     requires fourth_small { fourth < alphabet.radix ^ 4 }
-    ensures { AreSpelled (unit_over alphabet.base alphabet.radix) alphabet.radix first second third fourth result.units result.low result.high }
+    ensures { AreSpelled (unit_over alphabet.base alphabet.radix) alphabet.radix first second third
+        fourth result.units result.low result.high }
 {
     let units = lanes(first, second, third, fourth, alphabet);
     let marks = units
@@ -82,7 +83,10 @@ fn lanes(first: u32, second: u32, third: u32, fourth: u32, alphabet: Alphabet) -
     requires second_small { second < alphabet.radix ^ 4 }
     requires third_small { third < alphabet.radix ^ 4 }
     requires fourth_small { fourth < alphabet.radix ^ 4 }
-    ensures { result ≡ lane_units alphabet.base alphabet.radix first ++ (lane_units alphabet.base alphabet.radix second ++ (lane_units alphabet.base alphabet.radix third ++ lane_units alphabet.base alphabet.radix fourth)) }
+    ensures { result ≡ lane_units alphabet.base alphabet.radix first
+        ++ (lane_units alphabet.base alphabet.radix second
+        ++ (lane_units alphabet.base alphabet.radix third ++ lane_units alphabet.base
+        alphabet.radix fourth)) }
 {
     let bound = u32::from(alphabet.radix);
     let group = u32x4::splat(bound);

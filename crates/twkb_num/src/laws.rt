@@ -1,5 +1,6 @@
 //! Laws of numbers and spellings, each stated as the contract of an empty function.
-ghost use Rattle.std.specs.Prelude.{◌≡◌, ℕ, ℤ, negsuc, ◌-◌, ◌<◌, ◌≤◌, ◌^◌, ◌↔◌, Bool, [], ◌∷◌, ◌++◌, List, length, codes};
+ghost use Rattle.std.specs.Prelude.{◌≡◌, ℕ, ℤ, negsuc, ◌-◌, ◌<◌, ◌≤◌, ◌^◌, ◌↔◌, Bool, [], ◌∷◌};
+ghost use Rattle.std.specs.Prelude.{◌++◌, List, length, codes};
 ghost use Rattle.twkb_num.specs.Alphabet.{leb_unit, leb_group, five_unit};
 ghost use Rattle.twkb_num.specs.Answer.{IsAnswer, IsRefused};
 ghost use Rattle.twkb_num.specs.Spelling.{IsSpelling, IsOpen, shortest};
@@ -23,7 +24,8 @@ pub fn zigzag_undone()
 
 /// No spelling begins another of its alphabet, and each spells one number.
 pub fn one_spelling<G: Groups>()
-    ensures { (a b x y : List ℕ) (m n : ℕ) → IsSpelling G.unit_of (2 ^ G.BITS) G.MAX_LEN a m → IsSpelling G.unit_of (2 ^ G.BITS) G.MAX_LEN b n → a ++ x ≡ b ++ y → (a ≡ b) × (m ≡ n) }
+    ensures { (a b x y : List ℕ) (m n : ℕ) → IsSpelling G.unit_of (2 ^ G.BITS) G.MAX_LEN a m
+        → IsSpelling G.unit_of (2 ^ G.BITS) G.MAX_LEN b n → a ++ x ≡ b ++ y → (a ≡ b) × (m ≡ n) }
 {}
 
 /// The shortest spelling of a number of 64 bits is one of its spellings.
@@ -33,30 +35,42 @@ pub fn shortest_spells<G: Groups>()
 
 /// No spelling of a number is shorter than the shortest, and no other is as short.
 pub fn none_shorter<G: Groups>()
-    ensures least { (us : List ℕ) (n : ℕ) → IsSpelling G.unit_of (2 ^ G.BITS) G.MAX_LEN us n → length (shortest G.unit_of (2 ^ G.BITS) n) ≤ length us }
-    ensures only { (us : List ℕ) (n : ℕ) → IsSpelling G.unit_of (2 ^ G.BITS) G.MAX_LEN us n → length us ≤ length (shortest G.unit_of (2 ^ G.BITS) n) → us ≡ shortest G.unit_of (2 ^ G.BITS) n }
+    ensures least { (us : List ℕ) (n : ℕ) → IsSpelling G.unit_of (2 ^ G.BITS) G.MAX_LEN us n
+        → length (shortest G.unit_of (2 ^ G.BITS) n) ≤ length us }
+    ensures only { (us : List ℕ) (n : ℕ) → IsSpelling G.unit_of (2 ^ G.BITS) G.MAX_LEN us n
+        → length us ≤ length (shortest G.unit_of (2 ^ G.BITS) n)
+        → us ≡ shortest G.unit_of (2 ^ G.BITS) n }
 {}
 
 /// At most one answer fits a unit after the units held, so `Partial::step` gives that answer.
 pub fn one_answer<G: Groups>()
-    ensures { (us : List ℕ) (u : ℕ) (a b : Step) → IsAnswer G.unit_of G.group_of (2 ^ G.BITS) G.MAX_LEN us u a → IsAnswer G.unit_of G.group_of (2 ^ G.BITS) G.MAX_LEN us u b → a ≡ b }
+    ensures { (us : List ℕ) (u : ℕ) (a b : Step) → IsAnswer G.unit_of G.group_of (2 ^ G.BITS)
+        G.MAX_LEN us u a → IsAnswer G.unit_of G.group_of (2 ^ G.BITS) G.MAX_LEN us u b → a ≡ b }
 {}
 
 /// A unit that ends a spelling is answered by `Done` with the number, and one that leaves it open
 /// by `More`.
 pub fn due_answers<G: Groups>()
-    ensures done { (us : List ℕ) (u n : ℕ) (a : Step) → IsSpelling G.unit_of (2 ^ G.BITS) G.MAX_LEN (us ++ u ∷ []) n → IsAnswer G.unit_of G.group_of (2 ^ G.BITS) G.MAX_LEN us u a → (short : Bool) × (a ≡ Done n short) }
-    ensures more { (us : List ℕ) (u : ℕ) (a : Step) → IsOpen G.unit_of (2 ^ G.BITS) G.MAX_LEN (us ++ u ∷ []) → IsAnswer G.unit_of G.group_of (2 ^ G.BITS) G.MAX_LEN us u a → a ≡ More }
+    ensures done { (us : List ℕ) (u n : ℕ) (a : Step)
+        → IsSpelling G.unit_of (2 ^ G.BITS) G.MAX_LEN (us ++ u ∷ []) n
+        → IsAnswer G.unit_of G.group_of (2 ^ G.BITS) G.MAX_LEN us u a → (short : Bool)
+        × (a ≡ Done n short) }
+    ensures more { (us : List ℕ) (u : ℕ) (a : Step)
+        → IsOpen G.unit_of (2 ^ G.BITS) G.MAX_LEN (us ++ u ∷ [])
+        → IsAnswer G.unit_of G.group_of (2 ^ G.BITS) G.MAX_LEN us u a → a ≡ More }
 {}
 
 /// A reader that holds units can still reach the end of a spelling.
 pub fn open_units_end<G: Groups>()
-    ensures { (us : List ℕ) → IsOpen G.unit_of (2 ^ G.BITS) G.MAX_LEN us → (u n : ℕ) × IsSpelling G.unit_of (2 ^ G.BITS) G.MAX_LEN (us ++ u ∷ []) n }
+    ensures { (us : List ℕ) → IsOpen G.unit_of (2 ^ G.BITS) G.MAX_LEN us → (u n : ℕ)
+        × IsSpelling G.unit_of (2 ^ G.BITS) G.MAX_LEN (us ++ u ∷ []) n }
 {}
 
 /// No spelling contains a refused unit after these units, whatever follows.
 pub fn refused_units_end<G: Groups>()
-    ensures { (us : List ℕ) (u : ℕ) (more : List ℕ) (n : ℕ) → IsRefused G.unit_of G.group_of (2 ^ G.BITS) G.MAX_LEN us u → IsSpelling G.unit_of (2 ^ G.BITS) G.MAX_LEN (us ++ u ∷ more) n → ⊥ }
+    ensures { (us : List ℕ) (u : ℕ) (more : List ℕ) (n : ℕ)
+        → IsRefused G.unit_of G.group_of (2 ^ G.BITS) G.MAX_LEN us u
+        → IsSpelling G.unit_of (2 ^ G.BITS) G.MAX_LEN (us ++ u ∷ more) n → ⊥ }
 {}
 
 /// Varints are the spellings in `Leb128`, and the beginnings of varints are its open units.
@@ -67,7 +81,8 @@ pub fn varints()
 
 /// A varint is too long exactly if a byte above 1 follows nine bytes with their top bit set.
 pub fn long_varints()
-    ensures { (us : List ℕ) (u : ℕ) → IsOpenVarint us → u < 256 → IsAnswer leb_unit leb_group 128 10 us u TooLong ↔ ((length us ≡ 9) × (2 ≤ u)) }
+    ensures { (us : List ℕ) (u : ℕ) → IsOpenVarint us → u < 256
+        → IsAnswer leb_unit leb_group 128 10 us u TooLong ↔ ((length us ≡ 9) × (2 ≤ u)) }
 {}
 
 /// Checks by computation that numbers of the public documents have the forms and spellings
@@ -78,6 +93,7 @@ pub fn samples()
     ensures zigzag { zigzag_of (negsuc 17998320) ≡ 35996641 }
     ensures three_hundred { varint_of 300 ≡ 0xAC ∷ 0x02 ∷ [] }
     ensures three_bytes { varint_of 624485 ≡ 0xE5 ∷ 0x8E ∷ 0x26 ∷ [] }
-    ensures largest { varint_of (2 ^ 64 - 1) ≡ 0xFF ∷ 0xFF ∷ 0xFF ∷ 0xFF ∷ 0xFF ∷ 0xFF ∷ 0xFF ∷ 0xFF ∷ 0xFF ∷ 0x01 ∷ [] }
+    ensures largest { varint_of (2 ^ 64 - 1) ≡ 0xFF ∷ 0xFF ∷ 0xFF ∷ 0xFF ∷ 0xFF ∷ 0xFF ∷ 0xFF ∷ 0xFF
+        ∷ 0xFF ∷ 0x01 ∷ [] }
     ensures characters { shortest five_unit 32 35996641 ≡ codes "`~oia@" }
 {}

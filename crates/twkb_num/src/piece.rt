@@ -111,7 +111,8 @@ impl<const ROOM: usize> Piece<ROOM> {
         requires third_small { third < 2 ^ 28 }
         requires fourth_small { fourth < 2 ^ 28 }
         requires room { length self.old + 16 ≤ ROOM }
-        ensures appended { self.new ≡ self.old ++ ((varint_of first ++ varint_of second) ++ (varint_of third ++ varint_of fourth)) }
+        ensures appended { self.new ≡ self.old ++ ((varint_of first ++ varint_of second)
+            ++ (varint_of third ++ varint_of fourth)) }
         ensures most { length self.new ≤ length self.old + 16 }
     {
         let four = as_varints(first, second, third, fourth);
@@ -128,7 +129,9 @@ impl<const ROOM: usize> Piece<ROOM> {
         requires third_small { third < 2 ^ 20 }
         requires fourth_small { fourth < 2 ^ 20 }
         requires room { length self.old + 16 ≤ ROOM }
-        ensures appended { self.new ≡ self.old ++ ((shortest five_unit 32 first ++ shortest five_unit 32 second) ++ (shortest five_unit 32 third ++ shortest five_unit 32 fourth)) }
+        ensures appended { self.new ≡ self.old
+            ++ ((shortest five_unit 32 first ++ shortest five_unit 32 second)
+            ++ (shortest five_unit 32 third ++ shortest five_unit 32 fourth)) }
         ensures most { length self.new ≤ length self.old + 16 }
     {
         let four = as_characters(first, second, third, fourth);

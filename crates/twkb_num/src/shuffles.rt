@@ -9,7 +9,8 @@ ghost use Rattle.twkb_num.specs.Shuffles.{marks_of_two, shuffle_of};
 #[inline(always)]
 pub(crate) fn shuffle(marks: u64) -> u64
     requires { marks < 256 }
-    ensures { (first second : ℕ) → first ≤ 3 → second ≤ 3 → marks ≡ marks_of_two first second → result ≡ number_l 256 (shuffle_of first second) }
+    ensures { (first second : ℕ) → first ≤ 3 → second ≤ 3 → marks ≡ marks_of_two first second
+        → result ≡ number_l 256 (shuffle_of first second) }
 {
     SHUFFLES[marks as usize]
 }

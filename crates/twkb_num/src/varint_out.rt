@@ -94,7 +94,8 @@ impl<const ROOM: usize> Piece<ROOM> {
     #[tactic(auto, using(std::proofs::lemmas::Nat::le_or_l, std::proofs::lemmas::Nat::le_or_r))]
     pub fn push_four_varints(&mut self, first: u64, second: u64, third: u64, fourth: u64)
         requires { length self.old + 40 ≤ ROOM }
-        ensures { self.new ≡ self.old ++ ((varint_of first ++ varint_of second) ++ (varint_of third ++ varint_of fourth)) }
+        ensures { self.new ≡ self.old ++ ((varint_of first ++ varint_of second)
+            ++ (varint_of third ++ varint_of fourth)) }
     {
         let either = u64x2::from_array([first, second]) | u64x2::from_array([third, fourth]);
         let [low, high] = either.to_array();

@@ -1,5 +1,7 @@
 -- A list of points gives its list of differences, and that gives the points.
-use Rattle.std.proofs.Common.{◌≡◌, ℕ, zero, suc, ◌+◌, ◌<◌, ℤ, pos, ◌+ℤ◌, ◌-ℤ◌, List, [], ◌∷◌, ◌++◌, Some, length, get_or, take, drop, refl, sym, ◌∙◌, ap, subst, arith, add-one}
+use Rattle.std.proofs.Common.{◌≡◌, ℕ, zero, suc, ◌+◌, ◌<◌, ℤ, pos, ◌+ℤ◌, ◌-ℤ◌, List, [], ◌∷◌, ◌++◌}
+use Rattle.std.proofs.Common.{Some, length, get_or, take, drop, refl, sym, ◌∙◌, ap, subst, arith}
+use Rattle.std.proofs.Common.{add-one}
 use Rattle.std.specs.Prelude.{slice_get, ◌↔◌}
 use Rattle.std.proofs.lemmas.Option.{slice_get-get_or, slice_get_within}
 use Rattle.std.proofs.lemmas.List.{at_drop_more, length-take}
@@ -51,7 +53,8 @@ length-differences_from : (p : Point) (qs : List Point) → length (differences_
 length-differences_from p [] = refl
 length-differences_from p (q ∷ qs) = ap suc (length-differences_from q qs)
 
-later_from : (r : Point) (ps : List Point) (i : ℕ) (p q : Point) → slice_get ps i ≡ Some p → slice_get ps (suc i) ≡ Some q
+later_from : (r : Point) (ps : List Point) (i : ℕ) (p q : Point) → slice_get ps i ≡ Some p
+    → slice_get ps (suc i) ≡ Some q
     → slice_get (differences_from r ps) (suc i) ≡ Some (q.x -ℤ p.x, q.y -ℤ p.y)
 later_from r [] i p q a b = cc
 later_from r (s ∷ []) zero p q a b = cc
@@ -73,10 +76,12 @@ AreDifferences-differences ps = record {
   first = first_from ps;
   later = λ i p q a b.
       let next = subst (λ (n : ℕ). slice_get ps n ≡ Some q) (add-one i) b in
-      subst (λ (n : ℕ). slice_get (differences ps) n ≡ Some (q.x -ℤ p.x, q.y -ℤ p.y)) (sym (add-one i)) (later_from origin ps i p q a next);
+      subst (λ (n : ℕ). slice_get (differences ps) n ≡ Some (q.x -ℤ p.x, q.y -ℤ p.y))
+      (sym (add-one i)) (later_from origin ps i p q a next);
 }
 
-same_at : (ps : List Point) (ds es : List (ℤ × ℤ)) → AreDifferences ps ds → AreDifferences ps es → (i : ℕ) → i < length ds → slice_get ds i ≡ slice_get es i
+same_at : (ps : List Point) (ds es : List (ℤ × ℤ)) → AreDifferences ps ds → AreDifferences ps es
+    → (i : ℕ) → i < length ds → slice_get ds i ≡ slice_get es i
 same_at [] ds es a b i h = absurd (omega (arith, a.as_many))
 same_at (s ∷ ps) ds es a b zero h = a.first s refl ∙ sym (b.first s refl)
 same_at (s ∷ ps) ds es a b (suc i) h =
@@ -85,9 +90,11 @@ same_at (s ∷ ps) ds es a b (suc i) h =
     let as_many = a.as_many in
     let p_is = slice_get-get_or (s ∷ ps) i s (omega arith) in
     let q_is = slice_get-get_or (s ∷ ps) (i + 1) s (omega arith) in
-    subst (λ (n : ℕ). slice_get ds n ≡ slice_get es n) (add-one i) (a.later i p q p_is q_is ∙ sym (b.later i p q p_is q_is))
+    subst (λ (n : ℕ). slice_get ds n ≡ slice_get es n) (add-one i) (a.later i p q p_is q_is
+    ∙ sym (b.later i p q p_is q_is))
 
-same_lists : (ds es : List (ℤ × ℤ)) → length ds ≡ length es → ((i : ℕ) → i < length ds → slice_get ds i ≡ slice_get es i) → ds ≡ es
+same_lists : (ds es : List (ℤ × ℤ)) → length ds ≡ length es
+    → ((i : ℕ) → i < length ds → slice_get ds i ≡ slice_get es i) → ds ≡ es
 same_lists [] [] l same = refl
 same_lists [] (e ∷ es) l same = absurd (omega arith)
 same_lists (d ∷ ds) [] l same = absurd (omega arith)
@@ -123,8 +130,10 @@ slice_get-after (p ∷ ps) qs q zero e = absurd (omega arith)
 slice_get-after (p ∷ ps) qs q (suc n) e = slice_get-after ps qs q n (omega arith)
 
 -- after the points of the first i differences, the next point is that of difference i
-pub next_point : (ds : List (ℤ × ℤ)) (ps : List Point) (at : Point) (i : ℕ) (none : ℤ × ℤ) → i < length ds → length ps ≡ length ds
-    → take i ps ++ points_from at (drop i ds) ≡ points_of ds → slice_get (points_of ds) i ≡ Some (moved_by at (get_or ds i none).0 (get_or ds i none).1)
+pub next_point : (ds : List (ℤ × ℤ)) (ps : List Point) (at : Point) (i : ℕ) (none : ℤ × ℤ)
+    → i < length ds → length ps ≡ length ds
+    → take i ps ++ points_from at (drop i ds) ≡ points_of ds
+    → slice_get (points_of ds) i ≡ Some (moved_by at (get_or ds i none).0 (get_or ds i none).1)
 next_point ds ps at i none h l e =
     let d = get_or ds i none in
     let left = points_from (moved_by at d.0 d.1) (drop (i + 1) ds) in
@@ -137,6 +146,8 @@ pub no_next_point : (ds : List (ℤ × ℤ)) (p : Point) → slice_get (points_o
 no_next_point ds p e = omega (arith, slice_get_within (points_of ds) (length ds) p e, length-points_from origin ds)
 
 -- the differences of points in range lead only to points in range
-pub in_range_again : (ps : List Point) (ds : List (ℤ × ℤ)) (i : ℕ) (p : Point) → AreInRange ps → ds ≡ differences ps → slice_get (points_of ds) i ≡ Some p → IsInRange p
+pub in_range_again : (ps : List Point) (ds : List (ℤ × ℤ)) (i : ℕ) (p : Point) → AreInRange ps
+    → ds ≡ differences ps → slice_get (points_of ds) i ≡ Some p → IsInRange p
 in_range_again ps ds i p a e at =
-    AreInRange-slice_get ps i p a (ap (λ (qs : List Point). slice_get qs i) (sym (ap points_of e ∙ points_of-differences ps)) ∙ at)
+    AreInRange-slice_get ps i p a (ap (λ (qs : List Point). slice_get qs i)
+    (sym (ap points_of e ∙ points_of-differences ps)) ∙ at)

@@ -29,7 +29,8 @@ pub near_further : (n m : ℕ) (p : Point) → n ≤ m → IsNear n p → IsNear
 near_further n m p more near = (further n m p.x more near.0, further n m p.y more near.1)
 
 -- one short step makes a point near by one step more
-pub near_moved : (n : ℕ) (p : Point) (dx dy : ℤ) → IsNear n p → IsShortStep dx → IsShortStep dy → IsNear (n + 1) (moved_by p dx dy)
+pub near_moved : (n : ℕ) (p : Point) (dx dy : ℤ) → IsNear n p → IsShortStep dx → IsShortStep dy
+    → IsNear (n + 1) (moved_by p dx dy)
 near_moved n p dx dy near x_short y_short = (one_further n p.x dx near.0 x_short, one_further n p.y dy near.1 y_short)
 
 -- a point near by at most eight steps is in range

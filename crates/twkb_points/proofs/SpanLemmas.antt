@@ -1,11 +1,13 @@
 -- What extents and boxes say of the points.
-use Rattle.std.proofs.Common.{◌≡◌, ℤ, ◌+ℤ◌, ◌-ℤ◌, ◌≤ℤ◌, List, [], ◌∷◌, ◌++◌, Option, None, Some, ◌⊎◌, inl, inr, refl, sym, ◌∙◌, ap, subst, arith}
+use Rattle.std.proofs.Common.{◌≡◌, ℤ, ◌+ℤ◌, ◌-ℤ◌, ◌≤ℤ◌, List, [], ◌∷◌, ◌++◌, Option, None, Some}
+use Rattle.std.proofs.Common.{◌⊎◌, inl, inr, refl, sym, ◌∙◌, ap, subst, arith}
 use Rattle.std.specs.Prelude.{◌↔◌}
 use Rattle.std.specs.Int.{int_min, int_max}
 use Rattle.std.specs.List.{Contains}
 use Rattle.std.proofs.lemmas.Int.{ints, clamps}
 use Rattle.std.proofs.lemmas.List.{map-append}
-use Rattle.std.proofs.lemmas.List.Elements.{All-nil, All-cons, All-append, All-weaker, All-contains, Contains-append_left, Contains-append_right}
+use Rattle.std.proofs.lemmas.List.Elements.{All-nil, All-cons, All-append, All-weaker, All-contains}
+use Rattle.std.proofs.lemmas.List.Elements.{Contains-append_left, Contains-append_right}
 use Rattle.twkb_points.specs.Point.{Point}
 use Rattle.twkb_points.specs.Extent.{Extent, extent_of, joined, joined_options, extent, box_numbers, tight}
 use Rattle.twkb_points.specs.Spans.{xs, ys, IsLeast, IsGreatest, Spans, IsBox}
@@ -43,8 +45,10 @@ IsLeast-append m n ms ns a b = record {
     | inr e ↦ subst (λ (k : ℤ). Contains (ms ++ ns) k) (sym e) (Contains-append_right ms ns n b.reached)
   ];
   bound = All-append (λ k. int_min m n ≤ℤ k) ms ns
-      (All-weaker (λ k. m ≤ℤ k) (λ k. int_min m n ≤ℤ k) (λ k h. le_trans (int_min m n) m k (int_min-left m n) h) ms a.bound)
-      (All-weaker (λ k. n ≤ℤ k) (λ k. int_min m n ≤ℤ k) (λ k h. le_trans (int_min m n) n k (int_min-right m n) h) ns b.bound);
+      (All-weaker (λ k. m ≤ℤ k) (λ k. int_min m n ≤ℤ k)
+      (λ k h. le_trans (int_min m n) m k (int_min-left m n) h) ms a.bound)
+      (All-weaker (λ k. n ≤ℤ k) (λ k. int_min m n ≤ℤ k)
+      (λ k h. le_trans (int_min m n) n k (int_min-right m n) h) ns b.bound);
 }
 
 IsGreatest-append : (m n : ℤ) (ms ns : List ℤ) → IsGreatest m ms → IsGreatest n ns → IsGreatest (int_max m n) (ms ++ ns)
@@ -54,8 +58,10 @@ IsGreatest-append m n ms ns a b = record {
     | inr e ↦ subst (λ (k : ℤ). Contains (ms ++ ns) k) (sym e) (Contains-append_right ms ns n b.reached)
   ];
   bound = All-append (λ k. k ≤ℤ int_max m n) ms ns
-      (All-weaker (λ k. k ≤ℤ m) (λ k. k ≤ℤ int_max m n) (λ k h. le_trans k m (int_max m n) h (int_max-left m n)) ms a.bound)
-      (All-weaker (λ k. k ≤ℤ n) (λ k. k ≤ℤ int_max m n) (λ k h. le_trans k n (int_max m n) h (int_max-right m n)) ns b.bound);
+      (All-weaker (λ k. k ≤ℤ m) (λ k. k ≤ℤ int_max m n)
+      (λ k h. le_trans k m (int_max m n) h (int_max-left m n)) ms a.bound)
+      (All-weaker (λ k. k ≤ℤ n) (λ k. k ≤ℤ int_max m n)
+      (λ k h. le_trans k n (int_max m n) h (int_max-right m n)) ns b.bound);
 }
 
 IsLeast-one : (m n : ℤ) (ns : List ℤ) → IsLeast m ns → IsLeast n ns → m ≡ n
@@ -86,10 +92,18 @@ IsLeast-none n a = omega (arith, a.reached.1)
 pub Spans-joined : (a b : Extent) (ps qs : List Point) → Spans a ps → Spans b qs → Spans (joined a b) (ps ++ qs)
 unfolding joined
 Spans-joined a b ps qs s t = record {
-  least_x = subst (IsLeast (int_min a.least.x b.least.x)) (sym (map-append (λ (p : Point). p.x) ps qs)) (IsLeast-append a.least.x b.least.x (xs ps) (xs qs) s.least_x t.least_x);
-  greatest_x = subst (IsGreatest (int_max a.greatest.x b.greatest.x)) (sym (map-append (λ (p : Point). p.x) ps qs)) (IsGreatest-append a.greatest.x b.greatest.x (xs ps) (xs qs) s.greatest_x t.greatest_x);
-  least_y = subst (IsLeast (int_min a.least.y b.least.y)) (sym (map-append (λ (p : Point). p.y) ps qs)) (IsLeast-append a.least.y b.least.y (ys ps) (ys qs) s.least_y t.least_y);
-  greatest_y = subst (IsGreatest (int_max a.greatest.y b.greatest.y)) (sym (map-append (λ (p : Point). p.y) ps qs)) (IsGreatest-append a.greatest.y b.greatest.y (ys ps) (ys qs) s.greatest_y t.greatest_y);
+  least_x = subst (IsLeast (int_min a.least.x b.least.x))
+      (sym (map-append (λ (p : Point). p.x) ps qs))
+      (IsLeast-append a.least.x b.least.x (xs ps) (xs qs) s.least_x t.least_x);
+  greatest_x = subst (IsGreatest (int_max a.greatest.x b.greatest.x))
+      (sym (map-append (λ (p : Point). p.x) ps qs))
+      (IsGreatest-append a.greatest.x b.greatest.x (xs ps) (xs qs) s.greatest_x t.greatest_x);
+  least_y = subst (IsLeast (int_min a.least.y b.least.y))
+      (sym (map-append (λ (p : Point). p.y) ps qs))
+      (IsLeast-append a.least.y b.least.y (ys ps) (ys qs) s.least_y t.least_y);
+  greatest_y = subst (IsGreatest (int_max a.greatest.y b.greatest.y))
+      (sym (map-append (λ (p : Point). p.y) ps qs))
+      (IsGreatest-append a.greatest.y b.greatest.y (ys ps) (ys qs) s.greatest_y t.greatest_y);
 }
 
 pub Spans-extent_of : (p : Point) → Spans (extent_of p) (p ∷ [])
@@ -102,16 +116,26 @@ Spans-extent_of p = record {
 
 Spans-one : (a b : Extent) (ps : List Point) → Spans a ps → Spans b ps → a ≡ b
 Spans-one a b ps s t = λ i. record {
-  least = record { x = IsLeast-one a.least.x b.least.x (xs ps) s.least_x t.least_x i; y = IsLeast-one a.least.y b.least.y (ys ps) s.least_y t.least_y i };
-  greatest = record { x = IsGreatest-one a.greatest.x b.greatest.x (xs ps) s.greatest_x t.greatest_x i; y = IsGreatest-one a.greatest.y b.greatest.y (ys ps) s.greatest_y t.greatest_y i };
+  least = record {
+    x = IsLeast-one a.least.x b.least.x (xs ps) s.least_x t.least_x i;
+    y = IsLeast-one a.least.y b.least.y (ys ps) s.least_y t.least_y i;
+  };
+  greatest = record {
+    x = IsGreatest-one a.greatest.x b.greatest.x (xs ps) s.greatest_x t.greatest_x
+        i;
+    y = IsGreatest-one a.greatest.y b.greatest.y (ys ps) s.greatest_y t.greatest_y i;
+  };
 }
 
 -- the extent of at least one point spans the points
 spanned : (p : Point) (ps : List Point) → (e : Extent) × (extent (p ∷ ps) ≡ Some e) × Spans e (p ∷ ps)
 spanned p [] = (extent_of p, refl, Spans-extent_of p)
 spanned p (q ∷ qs) =
-    let r = spanned q qs in
-    (joined (extent_of p) r.0, ap (joined_options (Some (extent_of p))) r.1, Spans-joined (extent_of p) r.0 (p ∷ []) (q ∷ qs) (Spans-extent_of p) r.2)
+    let r = spanned q qs in (
+      joined (extent_of p) r.0,
+      ap (joined_options (Some (extent_of p))) r.1,
+      Spans-joined (extent_of p) r.0 (p ∷ []) (q ∷ qs) (Spans-extent_of p) r.2,
+    )
 
 -- the extent of a list is the one extent that spans it
 pub extent_is : (ps : List Point) (e : Extent) → (extent ps ≡ Some e) ↔ Spans e ps
@@ -127,7 +151,8 @@ extent_is (p ∷ ps) e =
 pub tight-extent : (ps : List Point) (e : Extent) → extent ps ≡ Some e → box_numbers e ≡ tight ps
 tight-extent ps e h = sym (ap (λ (o : Option Extent). elim o [ None ↦ [] | Some a ↦ box_numbers a ]) h)
 
-IsBox-numbers : (ps : List Point) (e : Extent) (x width y height : ℤ) → Spans e ps → box_numbers e ≡ x ∷ width ∷ y ∷ height ∷ [] → IsBox ps x width y height
+IsBox-numbers : (ps : List Point) (e : Extent) (x width y height : ℤ) → Spans e ps
+    → box_numbers e ≡ x ∷ width ∷ y ∷ height ∷ [] → IsBox ps x width y height
 IsBox-numbers ps e x width y height s h =
     let x_is : e.least.x ≡ x = cc in
     let y_is : e.least.y ≡ y = cc in
@@ -144,7 +169,8 @@ less_least : (least width : ℤ) → (least +ℤ width) -ℤ least ≡ width
 less_least least width = omega (arith, ints)
 
 -- the box numbers of a list are those of the box that bounds it and is reached on each side
-pub tight_is : (ps : List Point) (x width y height : ℤ) → (tight ps ≡ x ∷ width ∷ y ∷ height ∷ []) ↔ IsBox ps x width y height
+pub tight_is : (ps : List Point) (x width y height : ℤ) → (tight ps ≡ x ∷ width ∷ y ∷ height ∷ [])
+    ↔ IsBox ps x width y height
 tight_is ps x width y height = (there ps, back)
   where
     there : (qs : List Point) → tight qs ≡ x ∷ width ∷ y ∷ height ∷ [] → IsBox qs x width y height
@@ -155,6 +181,15 @@ tight_is ps x width y height = (there ps, back)
 
     back : IsBox ps x width y height → tight ps ≡ x ∷ width ∷ y ∷ height ∷ []
     back b =
-        let e : Extent = record { least = record { x = x; y = y }; greatest = record { x = x +ℤ width; y = y +ℤ height } } in
-        let s : Spans e ps = record { least_x = b.least_x; greatest_x = b.greatest_x; least_y = b.least_y; greatest_y = b.greatest_y } in
-        sym (tight-extent ps e ((extent_is ps e).1 s)) ∙ (λ i. x ∷ less_least x width i ∷ y ∷ less_least y height i ∷ [])
+        let e : Extent = record {
+          least = record { x = x; y = y };
+          greatest = record { x = x +ℤ width; y = y +ℤ height };
+        } in
+        let s : Spans e ps = record {
+          least_x = b.least_x;
+          greatest_x = b.greatest_x;
+          least_y = b.least_y;
+          greatest_y = b.greatest_y;
+        } in
+        sym (tight-extent ps e ((extent_is ps e).1 s))
+        ∙ (λ i. x ∷ less_least x width i ∷ y ∷ less_least y height i ∷ [])

@@ -25,4 +25,5 @@ points_of ds = points_from origin ds
 pub record AreDifferences (ps : List Point) (ds : List (ℤ × ℤ)) : Type 0 where
   pub as_many : length ds ≡ length ps
   pub first : (p : Point) → slice_get ps 0 ≡ Some p → slice_get ds 0 ≡ Some (p.x, p.y)
-  pub later : (i : ℕ) (p q : Point) → slice_get ps i ≡ Some p → slice_get ps (i + 1) ≡ Some q → slice_get ds (i + 1) ≡ Some (q.x -ℤ p.x, q.y -ℤ p.y)
+  pub later : (i : ℕ) (p q : Point) → slice_get ps i ≡ Some p → slice_get ps (i + 1) ≡ Some q
+      → slice_get ds (i + 1) ≡ Some (q.x -ℤ p.x, q.y -ℤ p.y)

@@ -110,7 +110,8 @@ impl Bounds {
     #[tactic(auto, unfolding(crate::specs::Extent::joined))]
     pub fn merge(&mut self, other: &Bounds)
         ensures value { self.new ≡ joined self.old other.now }
-        ensures stands { (ps qs : List Point) → extent ps ≡ Some self.old → extent qs ≡ Some other.now → extent (ps ++ qs) ≡ Some self.new }
+        ensures stands { (ps qs : List Point) → extent ps ≡ Some self.old
+            → extent qs ≡ Some other.now → extent (ps ++ qs) ≡ Some self.new }
     {
         *self = Bounds {
             least: least_of(self.least, other.least),

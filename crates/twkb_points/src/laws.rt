@@ -40,5 +40,6 @@ pub fn spans_join()
 /// The box numbers of a list are those of the box that holds its points and is reached on each
 /// side (TWKB, bounding box).
 pub fn box_by_bounds()
-    ensures { (ps : List Point) (x width y height : ℤ) → (tight ps ≡ x ∷ width ∷ y ∷ height ∷ []) ↔ IsBox ps x width y height }
+    ensures { (ps : List Point) (x width y height : ℤ) → (tight ps ≡ x ∷ width ∷ y ∷ height ∷ [])
+        ↔ IsBox ps x width y height }
 {}

@@ -1,5 +1,7 @@
 -- Points read from a text, one after the other.
-use Rattle.std.proofs.Common.{◌≡◌, ℕ, ◌+◌, ◌<◌, ◌≤◌, ◌-ℤ◌, List, [], ◌∷◌, ◌++◌, length, drop, inl, inr, refl, sym, ◌∙◌, ap, arith, append_assoc, append-nil, length-append, length-drop}
+use Rattle.std.proofs.Common.{◌≡◌, ℕ, ◌+◌, ◌<◌, ◌≤◌, ◌-ℤ◌, List, [], ◌∷◌, ◌++◌, length, drop, inl}
+use Rattle.std.proofs.Common.{inr, refl, sym, ◌∙◌, ap, arith, append_assoc, append-nil}
+use Rattle.std.proofs.Common.{length-append, length-drop}
 use Rattle.std.proofs.lemmas.List.{drop_all}
 use Rattle.twkb_points.specs.Point.{Point, IsInRange, AreInRange, origin}
 use Rattle.twkb_polyline.specs.Polyline.{number_text, polyline, polyline_from, last_after, AppendsDecoded}
@@ -13,7 +15,10 @@ use Rattle.twkb_polyline.proofs.PointLemmas.{text_left}
 -- ---- one more point
 
 -- the text of some points and one more
-pub polyline_from-push : (p : Point) (ps : List Point) (q : Point) → polyline_from p (ps ++ q ∷ []) ≡ polyline_from p ps ++ (number_text (q.y -ℤ (last_after p ps).y) ++ (number_text (q.x -ℤ (last_after p ps).x) ++ []))
+pub polyline_from-push : (p : Point) (ps : List Point) (q : Point)
+    → polyline_from p (ps ++ q ∷ []) ≡ polyline_from p ps
+    ++ (number_text (q.y -ℤ (last_after p ps).y) ++ (number_text
+    (q.x -ℤ (last_after p ps).x) ++ []))
 polyline_from-push p [] q = refl
 polyline_from-push p (r ∷ ps) q =
     let tail = number_text (q.y -ℤ (last_after r ps).y) ++ (number_text (q.x -ℤ (last_after r ps).x) ++ []) in
@@ -44,19 +49,31 @@ pub record HasRead (text : List ℕ) (max at : ℕ) (cursor : Point) (old held :
 
 -- before the first point nothing is read
 pub has_read_none : (text : List ℕ) (max : ℕ) (old : List Point) → HasRead text max 0 origin old old
-has_read_none text max old = record { ps = []; held_is = sym (append-nil old); told = refl; in_range = tt; few = omega arith; cursor_is = refl; within = omega arith }
+has_read_none text max old = record {
+  ps = [];
+  held_is = sym (append-nil old);
+  told = refl;
+  in_range = tt;
+  few = omega arith;
+  cursor_is = refl;
+  within = omega arith;
+}
 
-module _ (text : List ℕ) (max at : ℕ) (cursor : Point) (old held : List Point) (has : HasRead text max at cursor old held) where
+module _ (text : List ℕ) (max at : ℕ) (cursor : Point) (old held : List Point)
+    (has : HasRead text max at cursor old held) where
   -- the number of points read
   pub read_count : length held ≡ length old + length has.ps
   read_count = ap length has.held_is ∙ length-append old has.ps
 
   -- the text of the points read ends at `at`
   pub front_length : length (polyline has.ps) ≡ at
-  front_length = let whole = ap length has.told in omega (arith, length-append (polyline has.ps) (drop at text), length-drop at text, has.within)
+  front_length = let whole = ap length has.told in
+      omega (arith, length-append (polyline has.ps) (drop at text), length-drop at text, has.within)
 
   -- one more point is read
-  pub has_read_more : (q : Point) (end : ℕ) (after : List Point) → IsPointAt text at cursor q end → IsInRange q → length has.ps < max → after ≡ held ++ q ∷ [] → HasRead text max end q old after
+  pub has_read_more : (q : Point) (end : ℕ) (after : List Point) → IsPointAt text at cursor q end
+      → IsInRange q → length has.ps < max → after ≡ held ++ q ∷ []
+      → HasRead text max end q old after
   has_read_more q end after point inside room e =
       let dy = number_text (q.y -ℤ (last_after origin has.ps).y) in
       let dx = number_text (q.x -ℤ (last_after origin has.ps).x) in
@@ -68,7 +85,8 @@ module _ (text : List ℕ) (max at : ℕ) (cursor : Point) (old held : List Poin
         told =
             ap (λ t. t ++ rest) (polyline_from-push origin has.ps q)
             ∙ append_assoc (polyline has.ps) (dy ++ (dx ++ [])) rest
-            ∙ ap (λ t. polyline has.ps ++ t) (append_assoc dy (dx ++ []) rest ∙ ap (λ t. dy ++ t) (append_assoc dx [] rest))
+            ∙ ap (λ t. polyline has.ps ++ t) (append_assoc dy (dx ++ []) rest
+            ∙ ap (λ t. dy ++ t) (append_assoc dx [] rest))
             ∙ ap (λ t. polyline has.ps ++ t) (sym split)
             ∙ has.told;
         in_range = AreInRange-push has.ps q has.in_range inside;
@@ -82,7 +100,12 @@ module _ (text : List ℕ) (max at : ℕ) (cursor : Point) (old held : List Poin
   has_read_all done = record {
     ps = has.ps;
     appended = has.held_is;
-    decoded = record { spelled = sym has.told ∙ ap (λ t. polyline has.ps ++ t) (drop_all at text done) ∙ append-nil (polyline has.ps); in_range = has.in_range; few = has.few };
+    decoded = record {
+      spelled = sym has.told ∙ ap (λ t. polyline has.ps ++ t)
+          (drop_all at text done) ∙ append-nil (polyline has.ps);
+      in_range = has.in_range;
+      few = has.few;
+    };
   }
 
   -- a point too many is a fault of the text
@@ -99,7 +122,8 @@ module _ (text : List ℕ) (max at : ℕ) (cursor : Point) (old held : List Poin
   }
 
   -- a fault of the next point is a fault of the text
-  pub text_refused : (e : PolyFault) → at < length text → length has.ps < max → IsRefusedFrom at (IsPointFault cursor (drop at text)) e → IsRefused text max e
+  pub text_refused : (e : PolyFault) → at < length text → length has.ps < max
+      → IsRefusedFrom at (IsPointFault cursor (drop at text)) e → IsRefused text max e
   text_refused Memory more room f = absurd f
   text_refused (At offset reason) more room f = record {
     ps = has.ps;
@@ -113,17 +137,30 @@ module _ (text : List ℕ) (max at : ℕ) (cursor : Point) (old held : List Poin
   }
 
 -- two more points are read
-pub has_read_pair : (text : List ℕ) (max at : ℕ) (cursor : Point) (old held : List Point) (has : HasRead text max at cursor old held) (q r : Point) (end : ℕ) (after : List Point) → IsPairAt text at cursor q r end
-    → IsInRange q × IsInRange r → length has.ps + 2 ≤ max → after ≡ held ++ q ∷ r ∷ [] → HasRead text max end r old after
+pub has_read_pair : (text : List ℕ) (max at : ℕ) (cursor : Point) (old held : List Point)
+    (has : HasRead text max at cursor old held) (q r : Point) (end : ℕ) (after : List Point)
+    → IsPairAt text at cursor q r end
+    → IsInRange q × IsInRange r → length has.ps + 2 ≤ max → after ≡ held ++ q ∷ r ∷ []
+    → HasRead text max end r old after
 has_read_pair text max at cursor old held has q r end after pair inside room e =
     let grown = held ++ q ∷ [] in
-    let one = has_read_more text max at cursor old held has q pair.middle grown pair.first inside.0 (omega arith) refl in
+    let one = has_read_more text max at cursor old held has q pair.middle grown pair.first inside.0
+    (omega arith) refl in
     let some : length one.ps < max =
-    omega (arith, read_count text max at cursor old held has, read_count text max pair.middle q old grown one, length-append held (q ∷ [])) in
-    has_read_more text max pair.middle q old grown one r end after pair.second inside.1 some (e ∙ sym (append_assoc held (q ∷ []) (r ∷ [])))
+    omega (
+      arith,
+      read_count text max at cursor old held has,
+      read_count text max pair.middle q old
+          grown one,
+      length-append held (q ∷ []),
+    ) in
+    has_read_more text max pair.middle q old grown one r end after pair.second inside.1 some
+    (e ∙ sym (append_assoc held (q ∷ []) (r ∷ [])))
 
 -- memory is refused for one more point
-pub no_memory : (text : List ℕ) (max at : ℕ) (cursor : Point) (old held : List Point) (has : HasRead text max at cursor old held) (q : Point) (end : ℕ) → IsPointAt text at cursor q end → IsInRange q → length has.ps < max → IsRefused text max Memory
+pub no_memory : (text : List ℕ) (max at : ℕ) (cursor : Point) (old held : List Point)
+    (has : HasRead text max at cursor old held) (q : Point) (end : ℕ)
+    → IsPointAt text at cursor q end → IsInRange q → length has.ps < max → IsRefused text max Memory
 no_memory text max at cursor old held has q end point inside room =
     let grown = held ++ q ∷ [] in
     let more = has_read_more text max at cursor old held has q end grown point inside room refl in
@@ -132,6 +169,11 @@ no_memory text max at cursor old held has q end point inside room =
       rest = drop end text;
       split = sym more.told;
       in_range = more.in_range;
-      some = omega (arith, read_count text max at cursor old held has, read_count text max end q old grown more, length-append held (q ∷ []));
+      some = omega (
+        arith,
+        read_count text max at cursor old held has,
+        read_count text max end q old grown more,
+        length-append held (q ∷ []),
+      );
       few = more.few;
     }

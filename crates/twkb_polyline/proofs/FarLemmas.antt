@@ -1,5 +1,6 @@
 -- Numbers of up to eight groups: the number of groups, and their characters in a word of 64 bits.
-use Rattle.std.proofs.Common.{◌≡◌, ℕ, zero, suc, ◌+◌, ◌*◌, ◌/◌, ◌%◌, ◌-◌, ◌<◌, ◌≤◌, ◌^◌, inl, inr, length, refl, arith, lit≤, lit<, bit_or}
+use Rattle.std.proofs.Common.{◌≡◌, ℕ, zero, suc, ◌+◌, ◌*◌, ◌/◌, ◌%◌, ◌-◌, ◌<◌, ◌≤◌, ◌^◌, inl, inr}
+use Rattle.std.proofs.Common.{length, refl, arith, lit≤, lit<, bit_or}
 use lib.Count.{count_leading_zeros}
 use Rattle.std.proofs.Math.Nat.{pow-suc, pow-le-pow_right}
 use Rattle.std.proofs.lemmas.Bool.{cases_lt}
@@ -24,10 +25,12 @@ groups_by_top : (n j : ℕ) → n < 2 ^ suc j → (0 < j → 2 ^ j ≤ n) → Ha
 groups_by_top n j below above = record {
   some = omega arith;
   below =
-      let most : 2 ^ suc j ≤ 2 ^ (5 * (j / 5 + 1)) = pow-le-pow_right {n = 2} (lit< tt) (let q : suc j ≤ 5 * (j / 5 + 1) = omega arith in q) in
+      let most : 2 ^ suc j ≤ 2 ^ (5 * (j / 5 + 1)) = pow-le-pow_right {n = 2} (lit< tt)
+      (let q : suc j ≤ 5 * (j / 5 + 1) = omega arith in q) in
       omega (arith, fives (j / 5 + 1));
   above = λ two.
-      let least : 2 ^ (5 * (j / 5 + 1 - 1)) ≤ 2 ^ j = pow-le-pow_right {n = 2} (lit< tt) (let q : 5 * (j / 5 + 1 - 1) ≤ j = omega arith in q) in
+      let least : 2 ^ (5 * (j / 5 + 1 - 1)) ≤ 2 ^ j = pow-le-pow_right {n = 2} (lit< tt)
+      (let q : 5 * (j / 5 + 1 - 1) ≤ j = omega arith in q) in
       omega (arith, fives (j / 5 + 1 - 1), above (omega arith));
 }
 
@@ -35,7 +38,9 @@ groups_by_top n j below above = record {
 above_power : (n j : ℕ) → 0 < j → 2 ^ j ≤ bit_or n 1 → 2 ^ j ≤ n
 above_power n j some h =
     elim (cases_lt n (2 ^ j)) [
-      | inl below ↦ absurd (let small : bit_or n 1 < 2 ^ j = or_lt j n 1 below (let two : 2 ^ 1 ≤ 2 ^ j = pow-le-pow_right {n = 2} (lit< tt) some in omega arith) in omega arith)
+      | inl below ↦ absurd (let small : bit_or n 1 < 2 ^ j = or_lt j n 1 below
+          (let two : 2 ^ 1 ≤ 2 ^ j = pow-le-pow_right {n = 2} (lit< tt) some in omega arith) in
+          omega arith)
       | inr large ↦ large
     ]
 
@@ -57,7 +62,8 @@ pub few_groups : (n c : ℕ) → n < 2 ^ 40 → HasGroups n c → c ≤ 8
 few_groups n c small h =
     elim (cases_lt 8 c) [
       | inl many ↦
-          let power : 32 ^ 8 ≤ 32 ^ (c - 1) = pow-le-pow_right {n = 32} (lit< tt) (let q : 8 ≤ c - 1 = omega arith in q) in
+          let power : 32 ^ 8 ≤ 32 ^ (c - 1) = pow-le-pow_right {n = 32} (lit< tt)
+          (let q : 8 ≤ c - 1 = omega arith in q) in
           absurd (omega (arith, h.above (omega arith)))
       | inr few ↦ few
     ]
@@ -77,7 +83,8 @@ marks_cut (suc (suc (suc (suc (suc (suc (suc (suc (suc c))))))))) some few = abs
 
 -- the groups of a number in a word of 64 bits, each with its marks, are its characters
 pub spelled_far : (n c groups : ℕ) → HasGroups n c → c ≤ 8 → groups ≡ spread 8 n
-    → low_digits 256 c (groups + 2314885530818453536 % ((1 * 2 ^ (8 * c - 8)) % 2 ^ 64) + 4557430888798830399) ≡ shortest five_unit 32 n
+    → low_digits 256 c (groups + 2314885530818453536 % ((1 * 2 ^ (8 * c - 8)) % 2 ^ 64)
+    + 4557430888798830399) ≡ shortest five_unit 32 n
 spelled_far n c groups h few e = rw (marks_cut c h.some few, e) (spelled_groups 8 8 n c h few few)
 
 -- a number of 64 bits has at most 13 characters

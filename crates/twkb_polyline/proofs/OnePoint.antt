@@ -7,18 +7,23 @@ use Rattle.twkb_polyline.specs.Reading.{IsPointAt, IsRefusedFrom}
 use Rattle.twkb_polyline.specs.declared.fault.PolyFault.{PolyFault}
 use Rattle.twkb_polyline.specs.declared.fault.PolyFault.TheVariants.{Memory, At}
 use Rattle.twkb_polyline.specs.declared.fault.PolyReason.TheVariants.{TooMany}
-use Rattle.twkb_polyline.proofs.DecodeLemmas.{HasRead, has_read_none, has_read_more, has_read_all, one_too_many, read_count, text_refused}
+use Rattle.twkb_polyline.proofs.DecodeLemmas.{HasRead, has_read_none, has_read_more, has_read_all}
+use Rattle.twkb_polyline.proofs.DecodeLemmas.{one_too_many, read_count, text_refused}
 use Rattle.twkb_polyline.proofs.OneFault.{behind_none, number_text_length, text_fault_none}
 
 nothing_read : (text : List ℕ) → length (has_read_none text 1 []).ps ≡ 0
 nothing_read text = omega (arith, read_count text 1 0 origin [] [] (has_read_none text 1 []))
 
-first_read : (text : List ℕ) (q : Point) (end : ℕ) → IsPointAt text 0 origin q end → IsInRange q → HasRead text 1 end q [] (q ∷ [])
-first_read text q end point inside = has_read_more text 1 0 origin [] [] (has_read_none text 1 []) q end (q ∷ []) point inside (omega (arith, nothing_read text)) refl
+first_read : (text : List ℕ) (q : Point) (end : ℕ) → IsPointAt text 0 origin q end → IsInRange q
+    → HasRead text 1 end q [] (q ∷ [])
+first_read text q end point inside = has_read_more text 1 0 origin [] [] (has_read_none text 1 []) q
+    end (q ∷ []) point inside (omega (arith, nothing_read text)) refl
 
 -- a text whose first point ends with it is the polyline of one point
-pub one_point : (text : List ℕ) (q : Point) (end : ℕ) → IsPointAt text 0 origin q end → IsInRange q → length text ≤ end → DecodesTo text 1 (q ∷ [])
-one_point text q end point inside done = behind_none text 1 [] (q ∷ []) refl (has_read_all text 1 end q [] (q ∷ []) (first_read text q end point inside) done)
+pub one_point : (text : List ℕ) (q : Point) (end : ℕ) → IsPointAt text 0 origin q end → IsInRange q
+    → length text ≤ end → DecodesTo text 1 (q ∷ [])
+one_point text q end point inside done = behind_none text 1 [] (q ∷ []) refl
+    (has_read_all text 1 end q [] (q ∷ []) (first_read text q end point inside) done)
 
 -- an empty text is not the polyline of one point
 pub one_of_none : (text : List ℕ) → length text ≡ 0 → (p : Point) → DecodesTo text 1 (p ∷ []) → ⊥
@@ -28,14 +33,18 @@ one_of_none text none p read =
     omega (arith, none, ap length read.spelled, length-append dy (dx ++ []), number_text_length (p.y -ℤ origin.y))
 
 -- a text with more after its first point is not the polyline of one point
-pub one_with_more : (text : List ℕ) (q : Point) (end : ℕ) → IsPointAt text 0 origin q end → IsInRange q → end < length text → (p : Point) → DecodesTo text 1 (p ∷ []) → ⊥
+pub one_with_more : (text : List ℕ) (q : Point) (end : ℕ) → IsPointAt text 0 origin q end
+    → IsInRange q → end < length text → (p : Point) → DecodesTo text 1 (p ∷ []) → ⊥
 one_with_more text q end point inside more p read =
     let first = first_read text q end point inside in
     let full : length first.ps ≡ 1 = omega (arith, read_count text 1 end q [] (q ∷ []) first) in
     text_fault_none text 1 end TooMany (p ∷ []) (one_too_many text 1 end q [] (q ∷ []) first more full) read
 
 -- a text whose first point is refused is not the polyline of one point
-pub one_refused : (text : List ℕ) (e : PolyFault) → 0 < length text → IsRefusedFrom 0 (IsPointFault origin text) e → (p : Point) → DecodesTo text 1 (p ∷ []) → ⊥
+pub one_refused : (text : List ℕ) (e : PolyFault) → 0 < length text
+    → IsRefusedFrom 0 (IsPointFault origin text) e → (p : Point) → DecodesTo text 1 (p ∷ []) → ⊥
 one_refused text Memory some fault p read = absurd fault
 one_refused text (At offset reason) some fault p read =
-    text_fault_none text 1 offset reason (p ∷ []) (text_refused text 1 0 origin [] [] (has_read_none text 1 []) (At offset reason) some (omega (arith, nothing_read text)) fault) read
+    text_fault_none text 1 offset reason (p ∷ [])
+    (text_refused text 1 0 origin [] [] (has_read_none text 1 []) (At offset reason) some
+    (omega (arith, nothing_read text)) fault) read

@@ -1,5 +1,6 @@
 -- Four numbers in a text: two points.
-use Rattle.std.proofs.Common.{◌≡◌, ℕ, ℤ, pos, negsuc, take, drop, ◌+◌, ◌<◌, ◌≤◌, ◌^◌, List, ◌++◌, length, sym, ◌∙◌, ap, arith, append_assoc, length-append, length-drop}
+use Rattle.std.proofs.Common.{◌≡◌, ℕ, ℤ, pos, negsuc, take, drop, ◌+◌, ◌<◌, ◌≤◌, ◌^◌, List, ◌++◌}
+use Rattle.std.proofs.Common.{length, sym, ◌∙◌, ap, arith, append_assoc, length-append, length-drop}
 use Rattle.std.proofs.lemmas.Int.{ints}
 use Rattle.std.proofs.lemmas.List.{take-append-drop, drop-drop, drop_at}
 use Rattle.twkb_num.specs.Alphabet.{five_unit}
@@ -17,7 +18,8 @@ near (pos n) small = omega (arith, ints)
 near (negsuc n) small = omega (arith, ints)
 
 -- Four lists are at `start`, in `used` characters.
-module _ (text : List ℕ) (start used : ℕ) (a b c d : List ℕ) (spelled : take used (drop start text) ≡ a ++ (b ++ (c ++ d))) where
+module _ (text : List ℕ) (start used : ℕ) (a b c d : List ℕ)
+    (spelled : take used (drop start text) ≡ a ++ (b ++ (c ++ d))) where
   four_split : drop start text ≡ a ++ (b ++ (c ++ (d ++ drop (start + used) text)))
   four_split =
       let rest = drop used (drop start text) in
@@ -36,18 +38,31 @@ module _ (text : List ℕ) (start used : ℕ) (a b c d : List ℕ) (spelled : ta
       ∙ drop_at (a ++ b) others (length a + length b) (length-append a b)
 
   -- the length of all four lists
-  four_length : start ≤ length text → used ≤ length (drop start text) → used ≡ (length a + length b) + (length c + length d)
+  four_length : start ≤ length text → used ≤ length (drop start text)
+      → used ≡ (length a + length b) + (length c + length d)
   four_length before within =
       let rest = drop (start + used) text in
       let whole = ap length four_split in
-      omega (arith, length-append a (b ++ (c ++ (d ++ rest))), length-append b (c ++ (d ++ rest)), length-append c (d ++ rest), length-append d rest, length-drop start text, length-drop (start + used) text)
+      omega (
+        arith,
+        length-append a (b ++ (c ++ (d ++ rest))),
+        length-append b (c ++ (d ++ rest)),
+        length-append c (d ++ rest),
+        length-append d rest,
+        length-drop start text,
+        length-drop (start + used) text,
+      )
 
 -- the numbers of two points at `start` are two points
-pub pair_read : (text : List ℕ) (start used : ℕ) (dx dy ex ey : ℤ) (p q r : Point) → start ≤ length text → FourInFront five_unit 32 (drop start text) (zigzag_of dy) (zigzag_of dx) (zigzag_of ey) (zigzag_of ex) used
+pub pair_read : (text : List ℕ) (start used : ℕ) (dx dy ex ey : ℤ) (p q r : Point)
+    → start ≤ length text → FourInFront five_unit 32 (drop start text) (zigzag_of dy) (zigzag_of dx)
+    (zigzag_of ey) (zigzag_of ex) used
     → q ≡ moved_by p dx dy → r ≡ moved_by q ex ey → IsPairAt text start p q r (start + used)
 pair_read text start used dx dy ex ey p q r before four to_q to_r =
-    let behind = two_split text start used (number_text dy) (number_text dx) (number_text ey) (number_text ex) four.spelled in
-    let count = four_length text start used (number_text dy) (number_text dx) (number_text ey) (number_text ex) four.spelled before four.within in
+    let behind = two_split text start used (number_text dy) (number_text dx) (number_text ey)
+    (number_text ex) four.spelled in
+    let count = four_length text start used (number_text dy) (number_text dx) (number_text ey)
+    (number_text ex) four.spelled before four.within in
     let whole = length-drop start text in
     let some = number_text_length dy in
     let others = number_text_length ey in
@@ -56,12 +71,16 @@ pair_read text start used dx dy ex ey p q r before four to_q to_r =
       first = record {
         split =
             rw (back q.x p.x dx (ap (λ (s : Point). s.x) to_q), back q.y p.y dy (ap (λ (s : Point). s.y) to_q), behind)
-            (four_split text start used (number_text dy) (number_text dx) (number_text ey) (number_text ex) four.spelled);
+            (four_split text start used (number_text dy) (number_text dx) (number_text ey)
+            (number_text ex) four.spelled);
         further = omega arith;
         within = omega (arith, four.within);
       };
       second = record {
-        split = rw (back r.x q.x ex (ap (λ (s : Point). s.x) to_r), back r.y q.y ey (ap (λ (s : Point). s.y) to_r)) behind;
+        split = rw (
+          back r.x q.x ex (ap (λ (s : Point). s.x) to_r),
+          back r.y q.y ey (ap (λ (s : Point). s.y) to_r),
+        ) behind;
         further = omega arith;
         within = omega (arith, four.within);
       };

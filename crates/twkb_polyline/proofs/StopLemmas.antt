@@ -1,5 +1,7 @@
 -- The characters of a number stop at one place, where the number is read or refused for one reason.
-use Rattle.std.proofs.Common.{◌≡◌, ℕ, ℤ, suc, ◌+◌, ◌<◌, ◌≤◌, ◌^◌, List, [], ◌∷◌, ◌++◌, length, inl, inr, refl, sym, ◌∙◌, ap, arith, append_assoc, append-nil, length-append, lit≤}
+use Rattle.std.proofs.Common.{◌≡◌, ℕ, ℤ, suc, ◌+◌, ◌<◌, ◌≤◌, ◌^◌, List, [], ◌∷◌, ◌++◌, length, inl}
+use Rattle.std.proofs.Common.{inr, refl, sym, ◌∙◌, ap, arith, append_assoc, append-nil}
+use Rattle.std.proofs.Common.{length-append, lit≤}
 use Rattle.std.specs.Prelude.{Option, Some, None, nat_lt, if◌then◌else◌}
 use Rattle.std.specs.List.{AllByRecursion}
 use Rattle.std.proofs.lemmas.Bool.{cases_lt}
@@ -13,9 +15,11 @@ use Rattle.twkb_num.proofs.LawLemmas.{shortest_spelling, digits_below, number_of
 use Rattle.twkb_num.proofs.SpellingLemmas.{length-units_of, digits_some}
 use Rattle.twkb_polyline.specs.Fault.{IsCharacter, GoesOn, IsNumberFault, StartsWithNumber}
 use Rattle.twkb_polyline.specs.declared.fault.PolyReason.{PolyReason}
-use Rattle.twkb_polyline.specs.declared.fault.PolyReason.TheVariants.{BadChar, Cut, TooLong, Padded, Half, Range, TooMany}
+use Rattle.twkb_polyline.specs.declared.fault.PolyReason.TheVariants.{BadChar, Cut, TooLong, Padded}
+use Rattle.twkb_polyline.specs.declared.fault.PolyReason.TheVariants.{Half, Range, TooMany}
 use Rattle.twkb_polyline.proofs.CharacterLemmas.{open_goes_on}
-use Rattle.twkb_polyline.proofs.GroupLemmas.{HasLast, has_last, units_of-last, length-open_units, thirteenth, last_above}
+use Rattle.twkb_polyline.proofs.GroupLemmas.{HasLast, has_last, units_of-last, length-open_units}
+use Rattle.twkb_polyline.proofs.GroupLemmas.{thirteenth, last_above}
 
 -- the place where characters stop: k of them go on, and these are left
 abbrev pub Halts : ℕ → List ℕ → Type 0
@@ -44,7 +48,8 @@ pub record Stops (rest : List ℕ) (answer : Option (ℕ × PolyReason)) : Type 
 
 -- ---- one place to stop
 
-same_stop : (n k l : ℕ) (us vs s t : List ℕ) → AllByRecursion GoesOn us → AllByRecursion GoesOn vs → n + length us ≡ k → n + length vs ≡ l → k ≤ 12 → l ≤ 12 → Halts k s → Halts l t
+same_stop : (n k l : ℕ) (us vs s t : List ℕ) → AllByRecursion GoesOn us → AllByRecursion GoesOn vs
+    → n + length us ≡ k → n + length vs ≡ l → k ≤ 12 → l ≤ 12 → Halts k s → Halts l t
     → us ++ s ≡ vs ++ t → (us ≡ vs) × (s ≡ t)
 same_stop n k l [] [] s t g h p q a b x y e = (refl, e)
 same_stop n k l [] (v ∷ vs) [] t g h p q a b x y e = cc
@@ -67,8 +72,10 @@ same_stop n k l (u ∷ us) (v ∷ vs) s t g h p q a b x y e =
 -- a number stops with one verdict
 pub stops_one : (rest : List ℕ) (a b : Option (ℕ × PolyReason)) → Stops rest a → Stops rest b → a ≡ b
 stops_one rest a b s t =
-    let same = same_stop 0 (length s.us) (length t.us) s.us t.us s.left t.left s.go_on t.go_on (omega arith) (omega arith) s.within t.within s.halts t.halts (sym s.split ∙ t.split) in
-    sym s.answered ∙ ap (λ us. verdict (length us) s.left) same.0 ∙ ap (λ left. verdict (length t.us) left) same.1 ∙ t.answered
+    let same = same_stop 0 (length s.us) (length t.us) s.us t.us s.left t.left s.go_on t.go_on
+    (omega arith) (omega arith) s.within t.within s.halts t.halts (sym s.split ∙ t.split) in
+    sym s.answered ∙ ap (λ us. verdict (length us) s.left) same.0
+    ∙ ap (λ left. verdict (length t.us) left) same.1 ∙ t.answered
 
 -- ---- the verdicts
 
@@ -76,7 +83,10 @@ outside_verdict : (k c : ℕ) (more : List ℕ) → (IsCharacter c → ⊥) → 
 outside_verdict k c more unknown =
     elim (cases_lt c 63) [
       | inl low ↦ grind (arith, common_steps)
-      | inr high ↦ elim (cases_lt 126 c) [ inl above ↦ grind (arith, common_steps) | inr below ↦ absurd (unknown (high, below)) ]
+      | inr high ↦ elim (cases_lt 126 c) [
+        | inl above ↦ grind (arith, common_steps)
+        | inr below ↦ absurd (unknown (high, below))
+      ]
     ]
 
 padded_verdict : (k c : ℕ) (more : List ℕ) → 0 < k → c ≡ 63 → verdict k (c ∷ more) ≡ Some (0, Padded)
@@ -85,19 +95,27 @@ padded_verdict k c more some e = grind (arith, common_steps)
 too_long_verdict : (c : ℕ) (more : List ℕ) → 79 ≤ c → c ≤ 126 → verdict 12 (c ∷ more) ≡ Some (0, TooLong)
 too_long_verdict c more low high = grind (arith, common_steps)
 
-number_verdict : (k c : ℕ) (more : List ℕ) → 63 ≤ c → c < 95 → (0 < k → 63 < c) → (12 ≤ k → c < 79) → verdict k (c ∷ more) ≡ None
+number_verdict : (k c : ℕ) (more : List ℕ) → 63 ≤ c → c < 95 → (0 < k → 63 < c) → (12 ≤ k → c < 79)
+    → verdict k (c ∷ more) ≡ None
 number_verdict k c more low high some few =
     elim (cases_lt c 64) [
-      | inl least ↦ elim (cases_lt 0 k) [ inl more_before ↦ absurd (omega (arith, some more_before)) | inr alone ↦ grind (arith, common_steps) ]
+      | inl least ↦ elim (cases_lt 0 k) [
+        | inl more_before ↦ absurd (omega (arith, some more_before))
+        | inr alone ↦ grind (arith, common_steps)
+      ]
       | inr above ↦
           elim (cases_lt c 79) [
             | inl small ↦ grind (arith, common_steps)
-            | inr large ↦ elim (cases_lt k 12) [ inl early ↦ grind (arith, common_steps) | inr full ↦ absurd (omega (arith, few full)) ]
+            | inr large ↦ elim (cases_lt k 12) [
+              | inl early ↦ grind (arith, common_steps)
+              | inr full ↦ absurd (omega (arith, few full))
+            ]
           ]
     ]
 
 -- the fault of a number is the verdict where it stops
-pub fault_stops : (rest : List ℕ) (k : ℕ) (reason : PolyReason) → IsNumberFault rest k reason → Stops rest (Some (k, reason))
+pub fault_stops : (rest : List ℕ) (k : ℕ) (reason : PolyReason) → IsNumberFault rest k reason
+    → Stops rest (Some (k, reason))
 fault_stops rest k BadChar f = record {
   us = f.1.before;
   left = f.0 ∷ f.1.after;
@@ -117,8 +135,10 @@ fault_stops rest k Cut f = record {
   answered = ap (λ n. Some (n, Cut)) (sym f.1);
 }
 fault_stops rest k TooLong f =
-    let low : 79 ≤ f.0.character = elim f.0.too_much [ inl goes ↦ omega (arith, goes.0) | inr ends ↦ omega (arith, ends.1.0, ends.2) ] in
-    let high : f.0.character ≤ 126 = elim f.0.too_much [ inl goes ↦ goes.1 | inr ends ↦ omega (arith, ends.1.0, ends.1.1) ] in
+    let low : 79 ≤ f.0.character = elim f.0.too_much
+    [ inl goes ↦ omega (arith, goes.0) | inr ends ↦ omega (arith, ends.1.0, ends.2) ] in
+    let high : f.0.character ≤ 126 = elim f.0.too_much
+    [ inl goes ↦ goes.1 | inr ends ↦ omega (arith, ends.1.0, ends.1.1) ] in
     record {
       us = f.0.reached.before;
       left = f.0.character ∷ f.0.reached.after;
@@ -126,7 +146,9 @@ fault_stops rest k TooLong f =
       go_on = f.0.reached.go_on;
       within = omega (arith, f.0.reached.place);
       halts = λ goes. omega (arith, f.0.reached.place);
-      answered = ap (λ n. verdict n (f.0.character ∷ f.0.reached.after)) f.0.reached.place ∙ too_long_verdict f.0.character f.0.reached.after low high ∙ ap (λ n. Some (n, TooLong)) (sym f.1);
+      answered = ap (λ n. verdict n (f.0.character ∷ f.0.reached.after)) f.0.reached.place
+          ∙ too_long_verdict f.0.character f.0.reached.after low high
+          ∙ ap (λ n. Some (n, TooLong)) (sym f.1);
     }
 fault_stops rest k Padded f = record {
   us = f.0.reached.before;
@@ -135,14 +157,18 @@ fault_stops rest k Padded f = record {
   go_on = f.0.reached.go_on;
   within = omega (arith, f.0.reached.place, f.0.reached.within);
   halts = λ goes. absurd (omega (arith, goes.0, f.0.zero.0));
-  answered = padded_verdict (length f.0.reached.before) f.0.character f.0.reached.after (omega (arith, f.0.reached.place, f.0.some)) (omega (arith, f.0.zero.0)) ∙ ap (λ n. Some (n, Padded)) (sym f.1);
+  answered = padded_verdict (length f.0.reached.before) f.0.character f.0.reached.after
+      (omega (arith, f.0.reached.place, f.0.some)) (omega (arith, f.0.zero.0))
+      ∙ ap (λ n. Some (n, Padded)) (sym f.1);
 }
 fault_stops rest k Half f = absurd f
 fault_stops rest k Range f = absurd f
 fault_stops rest k TooMany f = absurd f
 
 -- a number stops after its groups
-groups_stop : (rest after : List ℕ) (z : ℕ) (ds : List ℕ) → HasLast ds → digits 32 z ≡ ds → rest ≡ units_of five_unit ds ++ after → length ds ≤ 13 → number_of 32 ds ≡ z → z < 2 ^ 64 → Stops rest None
+groups_stop : (rest after : List ℕ) (z : ℕ) (ds : List ℕ) → HasLast ds → digits 32 z ≡ ds
+    → rest ≡ units_of five_unit ds ++ after → length ds ≤ 13 → number_of 32 ds ≡ z → z < 2 ^ 64
+    → Stops rest None
 groups_stop rest after z ds last digits_are split few value fits =
     let count : length ds ≡ length last.front + 1 = ap length last.split ∙ length-append last.front (last.last ∷ []) in
     let units = length-open_units last.front in
@@ -151,16 +177,19 @@ groups_stop rest after z ds last digits_are split few value fits =
     let below : 12 ≤ length last.front → last.last < 16 = λ full.
     elim (cases_lt last.last 16) [
       | inl small ↦ small
-      | inr large ↦ let over = (thirteenth last.front last.last last.below (omega arith)).1 large in absurd (omega arith)
+      | inr large ↦ let over = (thirteenth last.front last.last last.below (omega arith)).1 large in
+          absurd (omega arith)
     ] in
     record {
       us = open_units five_unit last.front;
       left = (last.last + 63) ∷ after;
-      split = split ∙ ap (λ t. t ++ after) (units_of-last ds last) ∙ append_assoc (open_units five_unit last.front) ((last.last + 63) ∷ []) after;
+      split = split ∙ ap (λ t. t ++ after) (units_of-last ds last)
+          ∙ append_assoc (open_units five_unit last.front) ((last.last + 63) ∷ []) after;
       go_on = open_goes_on last.front last.below;
       within = omega arith;
       halts = λ goes. absurd (omega (arith, goes.0, last.last_below));
-      answered = number_verdict (length (open_units five_unit last.front)) (last.last + 63) after (omega arith) (omega (arith, last.last_below))
+      answered = number_verdict (length (open_units five_unit last.front)) (last.last + 63) after
+          (omega arith) (omega (arith, last.last_below))
           (λ some. omega (arith, above (omega arith)))
           (λ full. omega (arith, below (omega arith)));
     }
@@ -172,5 +201,7 @@ number_stops rest n after number =
     let two : 2 ≤ 32 = lit≤ tt in
     let ds = digits 32 z in
     let spelling = shortest_spelling five_laws z number.fits in
-    let same : length ds ≡ length spelling.ds = sym (length-units_of five_unit ds) ∙ ap length spelling.spelled ∙ length-units_of five_unit spelling.ds in
-    groups_stop rest after z ds (has_last ds (digits_below 32 z two) (digits_some 32 z two)) refl number.split (omega (arith, spelling.within)) (number_of-digits 32 z two) number.fits
+    let same : length ds ≡ length spelling.ds = sym (length-units_of five_unit ds)
+    ∙ ap length spelling.spelled ∙ length-units_of five_unit spelling.ds in
+    groups_stop rest after z ds (has_last ds (digits_below 32 z two) (digits_some 32 z two)) refl
+    number.split (omega (arith, spelling.within)) (number_of-digits 32 z two) number.fits

@@ -1,5 +1,7 @@
 -- Numbers read one group at a time.
-use Rattle.std.proofs.Common.{◌≡◌, ℕ, ℤ, drop, get_or, ◌+◌, ◌*◌, ◌%◌, ◌<◌, ◌≤◌, ◌^◌, ◌/◌, ◌-◌, Bool, true, false, List, [], ◌∷◌, ◌++◌, length, ◌⊎◌, inl, inr, refl, sym, ◌∙◌, ap, subst, arith, append_assoc, length-append}
+use Rattle.std.proofs.Common.{◌≡◌, ℕ, ℤ, drop, get_or, ◌+◌, ◌*◌, ◌%◌, ◌<◌, ◌≤◌, ◌^◌, ◌/◌, ◌-◌, Bool}
+use Rattle.std.proofs.Common.{true, false, List, [], ◌∷◌, ◌++◌, length, ◌⊎◌, inl, inr, refl, sym}
+use Rattle.std.proofs.Common.{◌∙◌, ap, subst, arith, append_assoc, length-append}
 use Rattle.std.proofs.lemmas.List.{drop_more, map-append}
 use Rattle.std.proofs.Math.Nat.{mul_comm}
 use Rattle.std.specs.Prelude.{Some}
@@ -17,16 +19,27 @@ use Rattle.twkb_polyline.proofs.GroupLemmas.{length-open_units, spelled_shortest
 use Rattle.twkb_polyline.proofs.NumberLemmas.{next_at, number_at}
 
 -- the group of a character read at a place
-pub group_at : (text : List ℕ) (at u d : ℕ) (more : Bool) → u ≡ get_or text at 0 → five_group u ≡ Some (d, more) → five_group (get_or text at 0) ≡ Some (d, more)
+pub group_at : (text : List ℕ) (at u d : ℕ) (more : Bool) → u ≡ get_or text at 0
+    → five_group u ≡ Some (d, more) → five_group (get_or text at 0) ≡ Some (d, more)
 group_at text at u d more e f = subst (λ c. five_group c ≡ Some (d, more)) e f
 
 -- before the first character nothing is read
 abbrev pub begun_none : (text : List ℕ) (start : ℕ) → start ≤ length text → IsBegun text start start 0
-begun_none text start h = record { groups = []; split = refl; below = tt; number = refl; further = omega arith; few = omega arith; within = h }
+begun_none text start h = record {
+  groups = [];
+  split = refl;
+  below = tt;
+  number = refl;
+  further = omega arith;
+  few = omega arith;
+  within = h;
+}
 
 -- the number of some groups and one more
-pub pushed : (gs : List ℕ) (value d : ℕ) → value ≡ number_of 32 gs → value + d * 32 ^ length gs ≡ number_of 32 (gs ++ d ∷ [])
-pushed gs value d e = ap (λ n. n + d * 32 ^ length gs) e ∙ ap (λ n. number_of 32 gs + n) (mul_comm d (32 ^ length gs)) ∙ sym (number_of-push 32 gs d)
+pub pushed : (gs : List ℕ) (value d : ℕ) → value ≡ number_of 32 gs
+    → value + d * 32 ^ length gs ≡ number_of 32 (gs ++ d ∷ [])
+pushed gs value d e = ap (λ n. n + d * 32 ^ length gs) e
+    ∙ ap (λ n. number_of 32 gs + n) (mul_comm d (32 ^ length gs)) ∙ sym (number_of-push 32 gs d)
 
 module _ (text : List ℕ) (start at value d : ℕ) (begun : IsBegun text start at value) (more : at < length text) where
   -- the value of the groups is below a power of 32
@@ -34,7 +47,8 @@ module _ (text : List ℕ) (start at value d : ℕ) (begun : IsBegun text start 
   value_below = rw begun.number (number_of-lt 32 begun.groups begun.below)
 
   -- one more character that goes on is read
-  abbrev pub begun_more : five_group (get_or text at 0) ≡ Some (d, true) → length begun.groups < 12 → IsBegun text start (at + 1) (value + d * 32 ^ length begun.groups)
+  abbrev pub begun_more : five_group (get_or text at 0) ≡ Some (d, true) → length begun.groups < 12
+      → IsBegun text start (at + 1) (value + d * 32 ^ length begun.groups)
   begun_more e room =
       let gs = begun.groups in
       let unit = unit_more (get_or text at 0) d e in
@@ -54,7 +68,8 @@ module _ (text : List ℕ) (start at value d : ℕ) (begun : IsBegun text start 
       }
 
   -- the last character ends the number
-  pub begun_ends : (n : ℤ) → five_group (get_or text at 0) ≡ Some (d, false) → ((0 < d) ⊎ (begun.groups ≡ [])) → zigzag_of n ≡ value + d * 32 ^ length begun.groups
+  pub begun_ends : (n : ℤ) → five_group (get_or text at 0) ≡ Some (d, false)
+      → ((0 < d) ⊎ (begun.groups ≡ [])) → zigzag_of n ≡ value + d * 32 ^ length begun.groups
       → value + d * 32 ^ length begun.groups < 2 ^ 64 → IsNumberAt text start n (at + 1)
   begun_ends n e short form fits =
       let gs = begun.groups in
@@ -72,13 +87,15 @@ module _ (text : List ℕ) (start at value d : ℕ) (begun : IsBegun text start 
 
   -- ---- the code's sum for a group
 
-  pub more_added : d < 32 → length begun.groups < 12 → value + (d * 2 ^ (5 * length begun.groups)) % 2 ^ 64 ≡ value + d * 32 ^ length begun.groups
+  pub more_added : d < 32 → length begun.groups < 12
+      → value + (d * 2 ^ (5 * length begun.groups)) % 2 ^ 64 ≡ value + d * 32 ^ length begun.groups
   more_added h room = more_sum five_laws (length begun.groups) value d (omega arith) value_below h
 
   pub more_within : d < 32 → length begun.groups < 12 → value + d * 32 ^ length begun.groups < 2 ^ 64
   more_within h room = more_fits five_laws (length begun.groups) value d (omega arith) value_below h
 
-  pub last_added : d ≤ (2 ^ 64 - 1) / 2 ^ (5 * length begun.groups) → value + (d * 2 ^ (5 * length begun.groups)) % 2 ^ 64 ≡ value + d * 32 ^ length begun.groups
+  pub last_added : d ≤ (2 ^ 64 - 1) / 2 ^ (5 * length begun.groups)
+      → value + (d * 2 ^ (5 * length begun.groups)) % 2 ^ 64 ≡ value + d * 32 ^ length begun.groups
   last_added h = last_sum five_laws (length begun.groups) value d (omega (arith, begun.few)) value_below h
 
   pub last_within : d ≤ (2 ^ 64 - 1) / 2 ^ (5 * length begun.groups) → value + d * 32 ^ length begun.groups < 2 ^ 64
@@ -88,27 +105,38 @@ module _ (text : List ℕ) (start at value d : ℕ) (begun : IsBegun text start 
 
 module _ (text : List ℕ) (start first second : ℕ) where
   -- a number of one character
-  pub one_number : (n : ℤ) → start < length text → five_group (get_or text start 0) ≡ Some (first, false) → zigzag_of n ≡ first → IsNumberAt text start n (start + 1)
+  pub one_number : (n : ℤ) → start < length text
+      → five_group (get_or text start 0) ≡ Some (first, false) → zigzag_of n ≡ first
+      → IsNumberAt text start n (start + 1)
   one_number n more e form =
       let unit = unit_last (get_or text start 0) first e in
-      begun_ends text start start 0 first (begun_none text start (omega arith)) more n e (inr refl) (omega (arith, form)) (omega (arith, unit.1))
+      begun_ends text start start 0 first (begun_none text start (omega arith)) more n e (inr refl)
+      (omega (arith, form)) (omega (arith, unit.1))
 
   -- a number of two characters
-  pub two_number : (n : ℤ) → start + 1 < length text → five_group (get_or text start 0) ≡ Some (first, true) → five_group (get_or text (start + 1) 0) ≡ Some (second, false) → 0 < second
+  pub two_number : (n : ℤ) → start + 1 < length text
+      → five_group (get_or text start 0) ≡ Some (first, true)
+      → five_group (get_or text (start + 1) 0) ≡ Some (second, false) → 0 < second
       → zigzag_of n ≡ first + second * 32 % 2 ^ 64 → IsNumberAt text start n (start + 2)
   two_number n more e f high form =
       let a = unit_more (get_or text start 0) first e in
       let b = unit_last (get_or text (start + 1) 0) second f in
-      let begun = begun_more text start start 0 first (begun_none text start (omega arith)) (omega arith) e (omega arith) in
+      let begun = begun_more text start start 0 first (begun_none text start (omega arith))
+      (omega arith) e (omega arith) in
       let place : (start + 1) + 1 ≡ start + 2 = omega arith in
-      rw place at (begun_ends text start (start + 1) (0 + first * 32 ^ 0) second begun more n f (inl high) (omega (arith, form, b.1)) (omega (arith, a.1, b.1)))
+      rw place at (begun_ends text start (start + 1) (0 + first * 32 ^ 0) second begun more n f
+      (inl high) (omega (arith, form, b.1)) (omega (arith, a.1, b.1)))
 
   -- two characters that go on
-  pub two_begun : start + 1 < length text → five_group (get_or text start 0) ≡ Some (first, true) → five_group (get_or text (start + 1) 0) ≡ Some (second, true) → IsBegun text start (start + 2) (first + second * 32 % 2 ^ 64)
+  pub two_begun : start + 1 < length text → five_group (get_or text start 0) ≡ Some (first, true)
+      → five_group (get_or text (start + 1) 0) ≡ Some (second, true)
+      → IsBegun text start (start + 2) (first + second * 32 % 2 ^ 64)
   two_begun more e f =
-      let begun = begun_more text start start 0 first (begun_none text start (omega arith)) (omega arith) e (omega arith) in
+      let begun = begun_more text start start 0 first (begun_none text start (omega arith))
+      (omega arith) e (omega arith) in
       let both = begun_more text start (start + 1) (0 + first * 32 ^ 0) second begun more f (omega arith) in
       let place : (start + 1) + 1 ≡ start + 2 = omega arith in
       let b = unit_more (get_or text (start + 1) 0) second f in
       let value : (0 + first * 32 ^ 0) + second * 32 ^ 1 ≡ first + second * 32 % 2 ^ 64 = omega (arith, b.1) in
-      subst (λ v. IsBegun text start (start + 2) v) value (subst (λ p. IsBegun text start p ((0 + first * 32 ^ 0) + second * 32 ^ 1)) place both)
+      subst (λ v. IsBegun text start (start + 2) v) value
+      (subst (λ p. IsBegun text start p ((0 + first * 32 ^ 0) + second * 32 ^ 1)) place both)

@@ -1,5 +1,6 @@
 -- The characters of numbers in the bytes of a word.
-use Rattle.std.proofs.Common.{◌≡◌, ℕ, zero, suc, ◌+◌, ◌*◌, ◌/◌, ◌%◌, ◌-◌, ◌<◌, ◌≤◌, ◌^◌, true, [], ◌∷◌, sym, ◌∙◌, ap, arith, lit≤}
+use Rattle.std.proofs.Common.{◌≡◌, ℕ, zero, suc, ◌+◌, ◌*◌, ◌/◌, ◌%◌, ◌-◌, ◌<◌, ◌≤◌, ◌^◌, true, []}
+use Rattle.std.proofs.Common.{◌∷◌, sym, ◌∙◌, ap, arith, lit≤}
 use Rattle.std.proofs.Math.Nat.{pow-suc, one-le-pow}
 use Rattle.std.proofs.lemmas.Nat.{div_below, le-div}
 use Rattle.twkb_num.specs.Alphabet.{five_unit}
@@ -16,12 +17,14 @@ bases zero = 0
 bases (suc k) = 63 + 256 * bases k
 
 -- the groups of a number in a word, each with its mark, are its characters
-spelled : (k j c n : ℕ) → suc c ≤ k → suc c ≤ j → n < 32 ^ suc c → (0 < c → 32 ^ c ≤ n) → low_digits 256 (suc c) (spread k n + marks (suc c) + bases j) ≡ shortest five_unit 32 n
+spelled : (k j c n : ℕ) → suc c ≤ k → suc c ≤ j → n < 32 ^ suc c → (0 < c → 32 ^ c ≤ n)
+    → low_digits 256 (suc c) (spread k n + marks (suc c) + bases j) ≡ shortest five_unit 32 n
 spelled zero j c n few room below above = absurd (omega arith)
 spelled (suc k) zero c n few room below above = absurd (omega arith)
 spelled (suc k) (suc j) zero n few room below above =
     let small : n < 32 = omega arith in
-    ap (λ b. b ∷ []) (let byte : (n % 32 + 256 * spread k (n / 32) + 0 + (63 + 256 * bases j)) % 256 ≡ n + 63 = omega arith in byte)
+    ap (λ b. b ∷ []) (let byte : (n % 32 + 256 * spread k (n / 32) + 0 + (63 + 256 * bases j)) % 256
+    ≡ n + 63 = omega arith in byte)
     ∙ sym (shortest_one five_unit 32 n small)
 spelled (suc k) (suc j) (suc c) n few room below above =
     let large : 32 ^ suc c ≤ n = above (omega arith) in
@@ -39,8 +42,10 @@ spelled (suc k) (suc j) (suc c) n few room below above =
     ∙ sym (shortest_more five_unit 32 n (lit≤ tt) (omega arith))
 
 -- the groups in a word are the characters, by the number of groups
-pub spelled_groups : (k j n c : ℕ) → HasGroups n c → c ≤ k → c ≤ j → low_digits 256 c (spread k n + marks c + bases j) ≡ shortest five_unit 32 n
+pub spelled_groups : (k j n c : ℕ) → HasGroups n c → c ≤ k → c ≤ j
+    → low_digits 256 c (spread k n + marks c + bases j) ≡ shortest five_unit 32 n
 spelled_groups k j n zero h few room = absurd (omega (arith, h.some))
 spelled_groups k j n (suc c) h few room =
-    let above : 0 < c → 32 ^ c ≤ n = λ some. let power : suc c - 1 ≡ c = omega arith in rw power at (h.above (omega arith)) in
+    let above : 0 < c → 32 ^ c ≤ n = λ some. let power : suc c - 1 ≡ c = omega arith in
+    rw power at (h.above (omega arith)) in
     spelled k j c n few room h.below above

@@ -5,7 +5,8 @@ use Rattle.twkb_num.specs.Zigzag.{zigzag_of}
 use Rattle.twkb_points.specs.Point.{Point, IsCoordinate, AreInRange, origin}
 use Rattle.twkb_polyline.specs.Polyline.{number_text, polyline, last_after}
 use Rattle.twkb_polyline.specs.declared.fault.PolyReason.{PolyReason}
-use Rattle.twkb_polyline.specs.declared.fault.PolyReason.TheVariants.{BadChar, Cut, TooLong, Padded, Half, Range, TooMany}
+use Rattle.twkb_polyline.specs.declared.fault.PolyReason.TheVariants.{BadChar, Cut, TooLong, Padded}
+use Rattle.twkb_polyline.specs.declared.fault.PolyReason.TheVariants.{Half, Range, TooMany}
 use Rattle.twkb_polyline.specs.declared.fault.PolyFault.{PolyFault}
 use Rattle.twkb_polyline.specs.declared.fault.PolyFault.TheVariants.{Memory, At}
 

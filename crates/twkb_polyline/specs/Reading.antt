@@ -45,10 +45,12 @@ pub record IsPairAt (text : List ℕ) (start : ℕ) (p q r : Point) (end : ℕ) 
 -- and the text goes on at `end`.
 abbrev pub ArePointsAt : List ℕ → ℕ → Point → List Point → Point → ℕ → Type 0
 ArePointsAt text start p [] q end = (q ≡ p) × (end ≡ start)
-ArePointsAt text start p (r ∷ rs) q end = (middle : ℕ) × IsPointAt text start p r middle × IsInRange r × ArePointsAt text middle r rs q end
+ArePointsAt text start p (r ∷ rs) q end = (middle : ℕ) × IsPointAt text start p r middle
+    × IsInRange r × ArePointsAt text middle r rs q end
 
 -- Points at `start`, at most `room`, were appended to `old`.
-pub record HasPutOn (text : List ℕ) (start room : ℕ) (p : Point) (old new : List Point) (q : Point) (end : ℕ) : Type 0 where
+pub record HasPutOn (text : List ℕ) (start room : ℕ) (p : Point) (old new : List Point) (q : Point)
+    (end : ℕ) : Type 0 where
   pub ps : List Point
   pub points : ArePointsAt text start p ps q end
   pub few : length ps ≤ room

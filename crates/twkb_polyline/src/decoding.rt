@@ -1,5 +1,6 @@
 //! Decoding: from text to points.
-ghost use Rattle.std.specs.Prelude.{◌≡◌, ℕ, ◌<◌, ◌≤◌, List, ◌++◌, length, drop, ◌⊎◌, ◌∷◌, [], IfOk, IfErr, IfSome, IfNone, OnOk, OnErr, MatchResult};
+ghost use Rattle.std.specs.Prelude.{◌≡◌, ℕ, ◌<◌, ◌≤◌, List, ◌++◌, length, drop, ◌⊎◌, ◌∷◌, [], IfOk};
+ghost use Rattle.std.specs.Prelude.{IfErr, IfSome, IfNone, OnOk, OnErr, MatchResult};
 ghost use Rattle.twkb_points.specs.Point.{Point, IsInRange};
 ghost use Rattle.twkb_polyline.specs.Polyline.{AppendsDecoded, DecodesTo};
 ghost use Rattle.twkb_polyline.specs.Fault.{IsNumberFault, IsPointFault, IsTextFault, IsRefused};
@@ -143,7 +144,8 @@ fn read_eights<L: PointTail>(
     points: &mut L,
 ) -> Result<usize, AllocError>
     requires { start ≤ length text.now }
-    ensures read { IfOk result (λ end. HasPutOn text.now start room cursor.old (L.held points.old) (L.held points.new) cursor.new end) }
+    ensures read { IfOk result (λ end. HasPutOn text.now start room cursor.old (L.held points.old)
+        (L.held points.new) cursor.new end) }
     ensures refused { OnErr result (IsShortOfMemory text.now start room cursor.old) }
     ensures grown { (more : List Point) × (L.held points.new ≡ L.held points.old ++ more) }
 {

@@ -87,7 +87,8 @@ fn push_pair(
     piece: &mut Piece<128>,
     text: &mut Vec<u8>,
 ) -> Result<(), AllocError>
-    ensures appended { OnOk result (text.new.items ++ piece.new ≡ text.old.items ++ piece.old ++ polyline_from cursor.old pair.now) }
+    ensures appended { OnOk result (text.new.items ++ piece.new ≡ text.old.items ++ piece.old
+        ++ polyline_from cursor.old pair.now) }
     ensures moved { cursor.new ≡ last_after cursor.old pair.now }
     ensures grown { (more : List ℕ) × (text.new.items ≡ text.old.items ++ more) }
 {

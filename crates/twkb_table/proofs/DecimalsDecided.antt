@@ -1,5 +1,7 @@
 -- It can be decided whether a field spells a number, a depth, a precision, an id or a kind.
-use Rattle.std.proofs.Common.{◌≡◌, ℕ, zero, suc, ◌<◌, ◌≤◌, ◌^◌, ◌==◌, ◌⊎◌, Bool, true, false, List, [], ◌∷◌, Option, Some, None, get_or, refl, sym, ◌∙◌, ap, subst, arith, inl, inr, ne_eqb}
+use Rattle.std.proofs.Common.{◌≡◌, ℕ, zero, suc, ◌<◌, ◌≤◌, ◌^◌, ◌==◌, ◌⊎◌, Bool, true, false, List}
+use Rattle.std.proofs.Common.{[], ◌∷◌, Option, Some, None, get_or, refl, sym, ◌∙◌, ap, subst, arith}
+use Rattle.std.proofs.Common.{inl, inr, ne_eqb}
 use Rattle.std.specs.Prelude.{ℤ, pos, negsuc, decimal, nat_le}
 use Rattle.std.specs.Fmt.{signed_decimal}
 use Rattle.std.specs.Str.{bytes_eq}
@@ -44,7 +46,8 @@ begun [] n lt e = absurd (omega arith)
 begun (c ∷ cs) n lt e = no_sign c cs n lt e
 
 decimal_begins : (n : ℕ) → n < 2 ^ 63 → 47 < get_or (decimal n) 0 0
-decimal_begins zero few = let one = decimal_digit 0 (omega arith) in subst (λ ds. 47 < get_or ds 0 0) (sym one) (omega arith)
+decimal_begins zero few = let one = decimal_digit 0 (omega arith) in
+    subst (λ ds. 47 < get_or ds 0 0) (sym one) (omega arith)
 decimal_begins (suc n) few = let first = first_decimal (suc n) (omega arith) (omega arith) in omega arith
 
 spelled-signed_decimal : (id : ℤ) → IsId id → spelled (signed_decimal id) ≡ id
@@ -57,20 +60,30 @@ spelled-signed_decimal (negsuc n) h =
 
 -- ---- numbers
 
-id_by : (field : List ℕ) (id : ℤ) (a b : Bool) → bytes_eq field (signed_decimal id) ≡ a → is_id id ≡ b → ((other : ℤ) → IsIdField field other → id ≡ other) → SomeOrNone (IsIdField field)
+id_by : (field : List ℕ) (id : ℤ) (a b : Bool) → bytes_eq field (signed_decimal id) ≡ a
+    → is_id id ≡ b → ((other : ℤ) → IsIdField field other → id ≡ other)
+    → SomeOrNone (IsIdField field)
 id_by field id true true e r one = inl (id, ((bytes_eq-Decides field (signed_decimal id)).0 e, id_is id r))
-id_by field id false b e r one = inr (λ other h. true≢false (sym ((bytes_eq-Decides field (signed_decimal id)).1 (h.0 ∙ ap (λ z. signed_decimal z) (sym (one other h)))) ∙ e))
-id_by field id true false e r one = inr (λ other h. true≢false (sym (is_id-true id (subst IsId (sym (one other h)) h.1)) ∙ r))
+id_by field id false b e r one = inr (λ other h.
+    true≢false (sym ((bytes_eq-Decides field (signed_decimal id)).1
+    (h.0 ∙ ap (λ z. signed_decimal z) (sym (one other h)))) ∙ e))
+id_by field id true false e r one = inr (λ other h.
+    true≢false (sym (is_id-true id (subst IsId (sym (one other h)) h.1)) ∙ r))
 
 pub decided_id : (field : List ℕ) → SomeOrNone (IsIdField field)
-decided_id field = id_by field (spelled field) (bytes_eq field (signed_decimal (spelled field))) (is_id (spelled field)) refl refl (λ id h. ap (λ ds. spelled ds) h.0 ∙ spelled-signed_decimal id h.1)
+decided_id field = id_by field (spelled field) (bytes_eq field (signed_decimal (spelled field)))
+    (is_id (spelled field)) refl refl (λ id h. ap (λ ds. spelled ds) h.0
+    ∙ spelled-signed_decimal id h.1)
 
-too_deep : (field : List ℕ) (number : ℤ) → IsIdField field number → ((d : ℕ) → number ≡ pos d → d ≤ 999 → ⊥) → (d : ℕ) → IsDepthField field d → ⊥
+too_deep : (field : List ℕ) (number : ℤ) → IsIdField field number
+    → ((d : ℕ) → number ≡ pos d → d ≤ 999 → ⊥) → (d : ℕ) → IsDepthField field d → ⊥
 too_deep field number n apart d h = apart d (depth_number field number d n h) h.1
 
-depth_by : (field : List ℕ) (n : ℕ) (b : Bool) → IsIdField field (pos n) → nat_le n 999 ≡ b → SomeOrNone (IsDepthField field)
+depth_by : (field : List ℕ) (n : ℕ) (b : Bool) → IsIdField field (pos n) → nat_le n 999 ≡ b
+    → SomeOrNone (IsDepthField field)
 depth_by field n true h e = inl (n, (h.0, grind (arith, nat_tests)))
-depth_by field n false h e = inr (too_deep field (pos n) h (λ d same few. (let one : n ≡ d = cc same in grind (arith, nat_tests))))
+depth_by field n false h e = inr (too_deep field (pos n) h
+    (λ d same few. (let one : n ≡ d = cc same in grind (arith, nat_tests))))
 
 depth_of : (field : List ℕ) → SomeOrNone (IsIdField field) → SomeOrNone (IsDepthField field)
 depth_of field (inl (pos n, h)) = depth_by field n (nat_le n 999) h refl
@@ -80,9 +93,11 @@ depth_of field (inr none) = inr (λ d h. none (pos d) (h.0, depth-id d h.1))
 pub decided_depth : (field : List ℕ) → SomeOrNone (IsDepthField field)
 decided_depth field = depth_of field (decided_id field)
 
-precision_by : (field : List ℕ) (n : ℤ) (b : Bool) → IsIdField field n → is_precision n ≡ b → SomeOrNone (IsPrecisionField field)
+precision_by : (field : List ℕ) (n : ℤ) (b : Bool) → IsIdField field n → is_precision n ≡ b
+    → SomeOrNone (IsPrecisionField field)
 precision_by field n true h e = inl (n, (h.0, precision_is n e))
-precision_by field n false h e = inr (λ q p. true≢false (sym (is_precision-true n (subst IsPrecision (sym (precision_number field n q h p)) p.1)) ∙ e))
+precision_by field n false h e = inr (λ q p. true≢false
+    (sym (is_precision-true n (subst IsPrecision (sym (precision_number field n q h p)) p.1)) ∙ e))
 
 precision_of : (field : List ℕ) → SomeOrNone (IsIdField field) → SomeOrNone (IsPrecisionField field)
 precision_of field (inl (n, h)) = precision_by field n (is_precision n) h refl
@@ -95,7 +110,8 @@ optional_id_of [] d = inl (None, (refl, tt))
 optional_id_of (c ∷ cs) (inl (n, h)) = inl (Some n, (h.0, h.1))
 optional_id_of (c ∷ cs) (inr none) = inr (missing_id c cs none)
   where
-    missing_id : (c : ℕ) (cs : List ℕ) → ((n : ℤ) → IsIdField (c ∷ cs) n → ⊥) → (o : Option ℤ) → IsOptionalId (c ∷ cs) o → ⊥
+    missing_id : (c : ℕ) (cs : List ℕ) → ((n : ℤ) → IsIdField (c ∷ cs) n → ⊥) → (o : Option ℤ)
+        → IsOptionalId (c ∷ cs) o → ⊥
     missing_id c cs none None h = cc h.0
     missing_id c cs none (Some n) h = none n (h.0, h.1)
 
@@ -107,7 +123,8 @@ optional_precision_of [] d = inl (None, (refl, tt))
 optional_precision_of (c ∷ cs) (inl (n, h)) = inl (Some n, (h.0, h.1))
 optional_precision_of (c ∷ cs) (inr none) = inr (missing_precision c cs none)
   where
-    missing_precision : (c : ℕ) (cs : List ℕ) → ((n : ℤ) → IsPrecisionField (c ∷ cs) n → ⊥) → (o : Option ℤ) → IsOptionalPrecision (c ∷ cs) o → ⊥
+    missing_precision : (c : ℕ) (cs : List ℕ) → ((n : ℤ) → IsPrecisionField (c ∷ cs) n → ⊥)
+        → (o : Option ℤ) → IsOptionalPrecision (c ∷ cs) o → ⊥
     missing_precision c cs none None h = cc h.0
     missing_precision c cs none (Some n) h = none n (h.0, h.1)
 
@@ -116,9 +133,12 @@ decided_optional_precision field = optional_precision_of field (precision_of fie
 
 -- ---- kinds
 
-kind_by : (field : List ℕ) (k : Kind) (b : Bool) → bytes_eq field (word_of k) ≡ b → ((j : Kind) → field ≡ word_of j → k ≡ j) → SomeOrNone (λ j. field ≡ word_of j)
+kind_by : (field : List ℕ) (k : Kind) (b : Bool) → bytes_eq field (word_of k) ≡ b
+    → ((j : Kind) → field ≡ word_of j → k ≡ j) → SomeOrNone (λ j. field ≡ word_of j)
 kind_by field k true e one = inl (k, (bytes_eq-Decides field (word_of k)).0 e)
-kind_by field k false e one = inr (λ j h. true≢false (sym ((bytes_eq-Decides field (word_of k)).1 (h ∙ ap (λ i. word_of i) (sym (one j h)))) ∙ e))
+kind_by field k false e one = inr (λ j h. true≢false
+    (sym ((bytes_eq-Decides field (word_of k)).1 (h ∙ ap (λ i. word_of i) (sym (one j h)))) ∙ e))
 
 pub decided_kind : (field : List ℕ) → SomeOrNone (λ k. field ≡ word_of k)
-decided_kind field = kind_by field (kind_from field) (bytes_eq field (word_of (kind_from field))) refl (λ j h. ap (λ w. kind_from w) h ∙ kind_from-word_of j)
+decided_kind field = kind_by field (kind_from field) (bytes_eq field (word_of (kind_from field)))
+    refl (λ j h. ap (λ w. kind_from w) h ∙ kind_from-word_of j)

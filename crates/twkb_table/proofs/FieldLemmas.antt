@@ -63,7 +63,8 @@ one_depth d e p q h = decimal_injective d e (omega arith) (omega arith) h
 
 -- a number's decimal is not empty
 some_decimal : (n : ℤ) → IsId n → signed_decimal n ≡ [] → ⊥
-some_decimal (pos m) p e = let few = mag-id (pos m) p in let some = decimal_nonempty m (omega arith) in omega (arith, ap length e)
+some_decimal (pos m) p e = let few = mag-id (pos m) p in
+    let some = decimal_nonempty m (omega arith) in omega (arith, ap length e)
 some_decimal (negsuc m) p e = cc e
 
 -- two optional numbers with the same text are equal
@@ -86,13 +87,44 @@ pub record IsPlain (r : Row) : Type 0 where
   pub id : IfSome r.id IsId
   pub precision : IfSome r.precision IsPrecision
 
-same_row : (r s : Row) → r.depth ≡ s.depth → r.kind ≡ s.kind → r.id ≡ s.id → r.precision ≡ s.precision → r.points ≡ s.points → r ≡ s
+same_row : (r s : Row) → r.depth ≡ s.depth → r.kind ≡ s.kind → r.id ≡ s.id
+    → r.precision ≡ s.precision → r.points ≡ s.points → r ≡ s
 same_row r s same_depth same_kind same_id same_precision same_points =
-    ap (λ (x : ℕ). record { depth = x; kind = r.kind; id = r.id; precision = r.precision; points = r.points }) same_depth
-    ∙ ap (λ (x : Kind). record { depth = s.depth; kind = x; id = r.id; precision = r.precision; points = r.points }) same_kind
-    ∙ ap (λ (x : Option ℤ). record { depth = s.depth; kind = s.kind; id = x; precision = r.precision; points = r.points }) same_id
-    ∙ ap (λ (x : Option ℤ). record { depth = s.depth; kind = s.kind; id = s.id; precision = x; points = r.points }) same_precision
-    ∙ ap (λ (x : List Point). record { depth = s.depth; kind = s.kind; id = s.id; precision = s.precision; points = x }) same_points
+    ap (λ (x : ℕ). record {
+      depth = x;
+      kind = r.kind;
+      id = r.id;
+      precision = r.precision;
+      points = r.points;
+    }) same_depth
+    ∙ ap (λ (x : Kind). record {
+      depth = s.depth;
+      kind = x;
+      id = r.id;
+      precision = r.precision;
+      points = r.points;
+    }) same_kind
+    ∙ ap (λ (x : Option ℤ). record {
+      depth = s.depth;
+      kind = s.kind;
+      id = x;
+      precision = r.precision;
+      points = r.points;
+    }) same_id
+    ∙ ap (λ (x : Option ℤ). record {
+      depth = s.depth;
+      kind = s.kind;
+      id = s.id;
+      precision = x;
+      points = r.points;
+    }) same_precision
+    ∙ ap (λ (x : List Point). record {
+      depth = s.depth;
+      kind = s.kind;
+      id = s.id;
+      precision = s.precision;
+      points = x;
+    }) same_points
 
 -- two rows with the same record are equal
 pub one_record : (r s : Row) → IsPlain r → IsPlain s → record_of r ≡ record_of s → r ≡ s
@@ -105,7 +137,9 @@ one_record r s p q e =
     let same_depth = one_depth r.depth s.depth p.depth q.depth depths in
     let same_kind = one_word r.kind s.kind words in
     let same_id = one_optional r.id s.id p.id q.id ids in
-    let same_precision = one_optional r.precision s.precision (precision-ids r.precision p.precision) (precision-ids s.precision q.precision) precisions in
+    let same_precision = one_optional r.precision s.precision
+    (precision-ids r.precision p.precision) (precision-ids s.precision q.precision)
+    precisions in
     same_row r s same_depth same_kind same_id same_precision (one_polyline r.points s.points lines)
 
 -- each row is plain
@@ -118,6 +152,8 @@ one_list [] [] p q e = refl
 one_list [] (s ∷ ss) p q e = cc e
 one_list (r ∷ rs) [] p q e = cc e
 one_list (r ∷ rs) (s ∷ ss) p q e =
-    let head : record_of r ≡ record_of s = head_same (record_of r) (record_of s) (map record_of rs) (map record_of ss) e in
-    let tail : map record_of rs ≡ map record_of ss = tail_same (record_of r) (record_of s) (map record_of rs) (map record_of ss) e in
+    let head : record_of r ≡ record_of s = head_same (record_of r) (record_of s) (map record_of rs)
+    (map record_of ss) e in
+    let tail : map record_of rs ≡ map record_of ss = tail_same (record_of r) (record_of s)
+    (map record_of rs) (map record_of ss) e in
     ap (λ (x : Row). x ∷ rs) (one_record r s p.0 q.0 head) ∙ ap (λ xs. s ∷ xs) (one_list rs ss p.1 q.1 tail)

@@ -26,14 +26,20 @@ pub record Grown (l : Allowance) (records : List Record) (gs : List Tree) (r : R
   pub named : Named l records geometries
   pub rows : rows_of geometries ≡ rows_of gs ++ r ∷ []
 
-pub grows : (l : Allowance) (records : List Record) (here : Record) (gs : List Tree) (r : Row) → Named l records gs → Judged l (reverse (rows_of gs)) here (Accepted r) → Grown l (records ++ here ∷ []) gs r
+pub grows : (l : Allowance) (records : List Record) (here : Record) (gs : List Tree) (r : Row)
+    → Named l records gs → Judged l (reverse (rows_of gs)) here (Accepted r)
+    → Grown l (records ++ here ∷ []) gs r
 grows l records here gs r n j =
-    let p = judged_row l (reverse (rows_of gs)) here r (has_room l (reverse (rows_of gs)) (accepted_rows l (rows_of gs) (gs, n.valid, refl))) j in
+    let p = judged_row l (reverse (rows_of gs)) here r
+    (has_room l (reverse (rows_of gs)) (accepted_rows l (rows_of gs) (gs, n.valid, refl))) j in
     let v = row_accepted l (rows_of gs) r (gs, n.valid, refl) p.accepts in
     record {
       geometries = v.0;
       named = record {
-        table_of = ap (λ rs. rs ++ here ∷ []) n.table_of ∙ ap (λ q. header ∷ (map record_of (rows_of gs) ++ q ∷ [])) p.text ∙ ap (λ qs. header ∷ qs) (sym (map-append (rows_of gs) (r ∷ [])) ∙ ap (λ rs. map record_of rs) (sym v.2));
+        table_of = ap (λ rs. rs ++ here ∷ []) n.table_of
+            ∙ ap (λ q. header ∷ (map record_of (rows_of gs) ++ q ∷ [])) p.text
+            ∙ ap (λ qs. header ∷ qs) (sym (map-append (rows_of gs) (r ∷ []))
+            ∙ ap (λ rs. map record_of rs) (sym v.2));
         valid = v.1;
       };
       rows = v.2;
@@ -51,19 +57,27 @@ plain_end : (xs ys : List Row) → ArePlain (xs ++ ys) → ArePlain xs × ArePla
 plain_end [] ys p = (tt, p)
 plain_end (x ∷ xs) ys p = let t = plain_end xs ys p.1 in ((p.0, t.0), t.1)
 
-one_more : (ys : List Row) (here : Record) → map record_of ys ≡ here ∷ [] → (r : Row) × (ys ≡ r ∷ []) × (here ≡ record_of r)
+one_more : (ys : List Row) (here : Record) → map record_of ys ≡ here ∷ [] → (r : Row)
+    × (ys ≡ r ∷ []) × (here ≡ record_of r)
 one_more [] here e = cc e
 one_more (r ∷ []) here e = (r, refl, sym (head_same (record_of r) here [] [] e))
 one_more (r ∷ s ∷ ys) here e = cc e
 
-pub last_row : (l : Allowance) (records : List Record) (here : Record) (gs hs : List Tree) → IsAllowance l → Named l records gs → Named l (records ++ here ∷ []) hs → Last l here gs hs
+pub last_row : (l : Allowance) (records : List Record) (here : Record) (gs hs : List Tree)
+    → IsAllowance l → Named l records gs → Named l (records ++ here ∷ []) hs → Last l here gs hs
 last_row l records here gs hs cap n m =
-    let lists : header ∷ map record_of (rows_of hs) ≡ header ∷ (map record_of (rows_of gs) ++ here ∷ []) = sym m.table_of ∙ ap (λ rs. rs ++ here ∷ []) n.table_of in
-    let cut = split (rows_of hs) (map record_of (rows_of gs)) (here ∷ []) (tail_same header header (map record_of (rows_of hs)) (map record_of (rows_of gs) ++ here ∷ []) lists) in
+    let lists : header ∷ map record_of (rows_of hs) ≡ header
+    ∷ (map record_of (rows_of gs) ++ here ∷ []) = sym m.table_of
+    ∙ ap (λ rs. rs ++ here ∷ []) n.table_of in
+    let cut = split (rows_of hs) (map record_of (rows_of gs)) (here ∷ [])
+    (tail_same header header (map record_of (rows_of hs))
+    (map record_of (rows_of gs) ++ here ∷ []) lists) in
     let end = one_more cut.more here cut.others in
     let plain = plain_end cut.front cut.more (subst ArePlain cut.whole (plain_rows l hs cap m.valid)) in
-    let same : cut.front ≡ rows_of gs = one_list cut.front (rows_of gs) plain.0 (plain_rows l gs cap n.valid) cut.fronts in
-    let rows : rows_of hs ≡ rows_of gs ++ end.0 ∷ [] = cut.whole ∙ ap (λ rs. rs ++ cut.more) same ∙ ap (λ rs. rows_of gs ++ rs) end.1 in
+    let same : cut.front ≡ rows_of gs = one_list cut.front (rows_of gs) plain.0
+    (plain_rows l gs cap n.valid) cut.fronts in
+    let rows : rows_of hs ≡ rows_of gs ++ end.0 ∷ [] = cut.whole ∙ ap (λ rs. rs ++ cut.more) same
+    ∙ ap (λ rs. rows_of gs ++ rs) end.1 in
     record {
       row = end.0;
       rows = rows;
@@ -73,12 +87,19 @@ last_row l records here gs hs cap n m =
     }
 
 -- the verdict on the last record of a list that names geometries is a row
-pub only_accepted : (l : Allowance) (records : List Record) (here : Record) (gs hs : List Tree) (v : Verdict) → IsAllowance l → Named l records gs → Named l (records ++ here ∷ []) hs → Judged l (reverse (rows_of gs)) here v → (r : Row) × (v ≡ Accepted r)
+pub only_accepted : (l : Allowance) (records : List Record) (here : Record) (gs hs : List Tree)
+    (v : Verdict) → IsAllowance l → Named l records gs → Named l (records ++ here ∷ []) hs
+    → Judged l (reverse (rows_of gs)) here v → (r : Row) × (v ≡ Accepted r)
 only_accepted l records here gs hs v cap n m j =
-    let last = last_row l records here gs hs cap n m in
-    (last.row, judged_only l (reverse (rows_of gs)) last.row v last.accepts last.plain.depth (subst (λ q. Judged l (reverse (rows_of gs)) q v) last.text j))
+    let last = last_row l records here gs hs cap n m in (
+      last.row,
+      judged_only l (reverse (rows_of gs)) last.row v last.accepts last.plain.depth
+          (subst (λ q. Judged l (reverse (rows_of gs)) q v) last.text j),
+    )
 
-pub refused_none : (l : Allowance) (records : List Record) (here : Record) (gs : List Tree) (reason : RowReason) → IsAllowance l → Named l records gs → Judged l (reverse (rows_of gs)) here (Refused reason) → NamesNone l (records ++ here ∷ [])
+pub refused_none : (l : Allowance) (records : List Record) (here : Record) (gs : List Tree)
+    (reason : RowReason) → IsAllowance l → Named l records gs
+    → Judged l (reverse (rows_of gs)) here (Refused reason) → NamesNone l (records ++ here ∷ [])
 refused_none l records here gs reason cap n j hs m =
     let only = only_accepted l records here gs hs (Refused reason) cap n m j in
     cc only.1

@@ -1,5 +1,7 @@
 -- The row of a record whose points are read after its other fields.
-use Rattle.std.proofs.Common.{◌≡◌, ◌≢◌, ℕ, ◌-◌, ◌<◌, ◌≤◌, ◌==◌, List, [], ◌∷◌, ◌++◌, length, take, Bool, true, false, Option, Some, None, inl, inr, refl, sym, ◌∙◌, ap, subst, arith, length-append}
+use Rattle.std.proofs.Common.{◌≡◌, ◌≢◌, ℕ, ◌-◌, ◌<◌, ◌≤◌, ◌==◌, List, [], ◌∷◌, ◌++◌, length, take}
+use Rattle.std.proofs.Common.{Bool, true, false, Option, Some, None, inl, inr, refl, sym, ◌∙◌, ap}
+use Rattle.std.proofs.Common.{subst, arith, length-append}
 use Rattle.std.specs.Prelude.{IfSome, reverse}
 use Rattle.std.proofs.lemmas.List.{take_at}
 use Rattle.std.proofs.lemmas.Bool.{eqb-true, true≢false}
@@ -27,9 +29,12 @@ use Rattle.twkb_table.specs.declared.head.RowHead.{RowHead}
 use Rattle.twkb_table.proofs.RowReaderLemmas.{accepts_next}
 
 -- points appended to an empty list are all points in it
-pub given_row : (head : RowHead) (row : Bare) (cleared points own : List Point) → row ≡ head_row head → cleared ≡ [] → points ≡ cleared ++ own → row_with (head_row head) own ≡ row_with row points
+pub given_row : (head : RowHead) (row : Bare) (cleared points own : List Point)
+    → row ≡ head_row head → cleared ≡ [] → points ≡ cleared ++ own
+    → row_with (head_row head) own ≡ row_with row points
 given_row head row cleared points own row_is none put =
-    ap (row_with (head_row head)) (sym (put ∙ ap (λ (xs : List Point). xs ++ own) none)) ∙ ap (λ r. row_with r points) (sym row_is)
+    ap (row_with (head_row head)) (sym (put ∙ ap (λ (xs : List Point). xs ++ own) none))
+    ∙ ap (λ r. row_with r points) (sym row_is)
 
 -- The verdict on a record after the rows of one geometry is a row that they accept.
 pub record ComesNext (l : Allowance) (rows : List Row) (fields : Record) (row : Row) : Type 0 where
@@ -37,19 +42,40 @@ pub record ComesNext (l : Allowance) (rows : List Row) (fields : Record) (row : 
   pub accepts : Accepts l (reverse rows) row
 
 -- if the verdict on the record is that on its points, it is the row with the points given
-pub comes_next : (l : Allowance) (rows : List Row) (fields : Record) (head : RowHead) (row : Row) (own : List Point) → AreValidRowsOfOne l rows → ((v : Verdict) → JudgedAs head v → JudgedAfter l rows fields v)
-    → row_with (head_row head) own ≡ row → JudgedAs head (Accepted (row_with (head_row head) own)) → ComesNext l rows fields row
+pub comes_next : (l : Allowance) (rows : List Row) (fields : Record) (head : RowHead) (row : Row)
+    (own : List Point) → AreValidRowsOfOne l rows
+    → ((v : Verdict) → JudgedAs head v → JudgedAfter l rows fields v)
+    → row_with (head_row head) own ≡ row → JudgedAs head (Accepted (row_with (head_row head) own))
+    → ComesNext l rows fields row
 comes_next l rows fields head row own of_one read row_is given =
-    let judged : JudgedAfter l rows fields (Accepted row) = subst (λ r. JudgedAfter l rows fields (Accepted r)) row_is (read (Accepted (row_with (head_row head) own)) given) in
+    let judged : JudgedAfter l rows fields (Accepted row) =
+    subst (λ r. JudgedAfter l rows fields (Accepted r)) row_is
+    (read (Accepted (row_with (head_row head) own)) given) in
     record { judged = judged; accepts = accepts_next l rows fields row of_one (judged []) }
 
 -- a text of one point is that of a row of kind point, if there is room for it
-one_accepted : (head : RowHead) (p : Point) → head.kind ≡ kind.Point → head.standing.points < head.limits.points → DecodesTo head.text.now 1 (p ∷ []) → JudgedAs head (Accepted (row_with (head_row head) (p ∷ [])))
+one_accepted : (head : RowHead) (p : Point) → head.kind ≡ kind.Point
+    → head.standing.points < head.limits.points → DecodesTo head.text.now 1 (p ∷ [])
+    → JudgedAs head (Accepted (row_with (head_row head) (p ∷ [])))
 one_accepted head p is room read =
-    let fits : points_fit head.kind (is_whole (place_seen head.standing).parent) (p ∷ []) ≡ true = ap (λ k. points_fit k (is_whole (place_seen head.standing).parent) (p ∷ [])) is in
-    inr (λ bare. true≢false (sym (ap has_points is) ∙ bare.1), inr (p ∷ [], record { spelled = read.spelled; in_range = read.in_range; few = omega (arith, room) }, inr (λ e. true≢false (sym fits ∙ e), refl)))
+    let fits : points_fit head.kind (is_whole (place_seen head.standing).parent) (p ∷ []) ≡ true =
+    ap (λ k. points_fit k (is_whole (place_seen head.standing).parent) (p ∷ [])) is in
+    inr (
+      λ bare. true≢false (sym (ap has_points is) ∙ bare.1),
+      inr (
+        p ∷ [],
+        record {
+          spelled = read.spelled;
+          in_range = read.in_range;
+          few = omega (arith, room);
+        },
+        inr (λ e. true≢false (sym fits ∙ e), refl),
+      ),
+    )
 
-pub one_judged : (head : RowHead) (r : Option Point) → head.kind ≡ kind.Point → head.standing.points < head.limits.points → IfSome r (λ p. DecodesTo head.text.now 1 (p ∷ [])) → IfSome r (λ p. JudgedAs head (Accepted (row_with (head_row head) (p ∷ []))))
+pub one_judged : (head : RowHead) (r : Option Point) → head.kind ≡ kind.Point
+    → head.standing.points < head.limits.points → IfSome r (λ p. DecodesTo head.text.now 1 (p ∷ []))
+    → IfSome r (λ p. JudgedAs head (Accepted (row_with (head_row head) (p ∷ []))))
 one_judged head None is room read = tt
 one_judged head (Some p) is room read = one_accepted head p is room read
 
@@ -63,13 +89,16 @@ nil_of : (xs : List ℕ) → (length xs == 0) ≡ true → xs ≡ []
 nil_of [] e = refl
 nil_of (x ∷ xs) e = absurd (omega (arith, eqb-true (length (x ∷ xs)) 0 e))
 
-pub no_text : (head : RowHead) (empty : Bool) → empty ≡ (length head.text.now == 0) → empty ≡ true → HasNeedlessText head → ⊥
+pub no_text : (head : RowHead) (empty : Bool) → empty ≡ (length head.text.now == 0) → empty ≡ true
+    → HasNeedlessText head → ⊥
 no_text head empty is none needless = needless.0 (nil_of head.text.now (sym is ∙ none))
 
 pub kind_has : (head : RowHead) (has : Bool) → has ≡ has_points head.kind → has ≡ true → HasNeedlessText head → ⊥
 kind_has head has is some needless = true≢false (sym some ∙ is ∙ needless.1)
 
-pub not_allowed : (head : RowHead) (empty has : Bool) → empty ≡ (length head.text.now == 0) → empty ≡ false → has ≡ has_points head.kind → has ≡ false → JudgedAs head (Refused PolylineNotAllowed)
+pub not_allowed : (head : RowHead) (empty has : Bool) → empty ≡ (length head.text.now == 0)
+    → empty ≡ false → has ≡ has_points head.kind → has ≡ false
+    → JudgedAs head (Refused PolylineNotAllowed)
 not_allowed head empty has is some of_kind none =
     inl ((λ nil. true≢false (ap (λ (t : List ℕ). length t == 0) (sym nil) ∙ sym is ∙ some), sym of_kind ∙ none), refl)
 
@@ -77,40 +106,78 @@ not_allowed head empty has is some of_kind none =
 abbrev pub AreLeft : RowHead → ℕ → ℕ → Type 0
 AreLeft head points left = (points ≡ head.limits.points) × (left ≡ points - head.standing.points)
 
-left_is : (head : RowHead) (points left : ℕ) → AreLeft head points left → left ≡ head.limits.points - head.standing.points
+left_is : (head : RowHead) (points left : ℕ) → AreLeft head points left
+    → left ≡ head.limits.points - head.standing.points
 left_is head points left (most, is) = is ∙ ap (λ m. m - head.standing.points) most
 
-pub text_refused : (head : RowHead) (points left offset : ℕ) (why : PolyReason) (f : PolyFault) → (HasNeedlessText head → ⊥) → AreLeft head points left → f ≡ At offset why → IsRefused head.text.now left f → JudgedAs head (Refused (Polyline offset why))
+pub text_refused : (head : RowHead) (points left offset : ℕ) (why : PolyReason) (f : PolyFault)
+    → (HasNeedlessText head → ⊥) → AreLeft head points left → f ≡ At offset why
+    → IsRefused head.text.now left f → JudgedAs head (Refused (Polyline offset why))
 text_refused head points left offset why f needed are_left is refused =
     let fault = subst (IsRefused head.text.now left) is refused in
-    inr (needed, inl (offset, why, subst (λ m. IsTextFault head.text.now m offset why) (left_is head points left are_left) fault, refl))
+    inr (
+      needed,
+      inl (
+        offset,
+        why,
+        subst (λ m. IsTextFault head.text.now m offset why)
+            (left_is head points left are_left) fault,
+        refl,
+      ),
+    )
 
 -- the list grew by the points that were decoded
-pub has_grown : (text : List ℕ) (left held count : ℕ) (old new : List Point) → AppendsDecoded text left old new → held ≡ length old → count ≡ length new → held ≤ count
-has_grown text left held count old new a before after = omega (arith, before, after, ap length a.appended, length-append old a.ps)
+pub has_grown : (text : List ℕ) (left held count : ℕ) (old new : List Point)
+    → AppendsDecoded text left old new → held ≡ length old → count ≡ length new → held ≤ count
+has_grown text left held count old new a before after = omega
+    (arith, before, after, ap length a.appended, length-append old a.ps)
 
-pub cut_back : (text : List ℕ) (left held : ℕ) (old new back : List Point) → AppendsDecoded text left old new → held ≡ length old → back ≡ take held new → back ≡ old
+pub cut_back : (text : List ℕ) (left held : ℕ) (old new back : List Point)
+    → AppendsDecoded text left old new → held ≡ length old → back ≡ take held new → back ≡ old
 cut_back text left held old new back a before cut = cut ∙ ap (take held) a.appended ∙ take_at old a.ps held (sym before)
 
 -- whether the row may have as many points as the list grew by
 abbrev pub TellsFit : RowHead → Bool → ℕ → Bool → Type 0
-TellsFit head whole count fits = (whole ≡ is_whole (place_seen head.standing).parent) × ((ps : List Point) → length ps ≡ count → points_fit head.kind whole ps ≡ fits)
+TellsFit head whole count fits = (whole ≡ is_whole (place_seen head.standing).parent)
+    × ((ps : List Point) → length ps ≡ count → points_fit head.kind whole ps ≡ fits)
 
-fit_is : (head : RowHead) (left held count : ℕ) (whole fits : Bool) (old new : List Point) (a : AppendsDecoded head.text.now left old new) → held ≡ length old → count ≡ length new → TellsFit head whole (count - held) fits
+fit_is : (head : RowHead) (left held count : ℕ) (whole fits : Bool) (old new : List Point)
+    (a : AppendsDecoded head.text.now left old new) → held ≡ length old → count ≡ length new
+    → TellsFit head whole (count - held) fits
     → points_fit head.kind (is_whole (place_seen head.standing).parent) a.ps ≡ fits
 fit_is head left held count whole fits old new a before after (is, tells) =
-    subst (λ w. points_fit head.kind w a.ps ≡ fits) is (tells a.ps (omega (arith, before, after, ap length a.appended, length-append old a.ps)))
+    subst (λ w. points_fit head.kind w a.ps ≡ fits) is
+    (tells a.ps (omega (arith, before, after, ap length a.appended, length-append old a.ps)))
 
-decoded_left : (head : RowHead) (points left : ℕ) (ps : List Point) → AreLeft head points left → DecodesTo head.text.now left ps → DecodesTo head.text.now (head.limits.points - head.standing.points) ps
-decoded_left head points left ps are_left = subst (λ m. DecodesTo head.text.now m ps) (left_is head points left are_left)
+decoded_left : (head : RowHead) (points left : ℕ) (ps : List Point) → AreLeft head points left
+    → DecodesTo head.text.now left ps → DecodesTo head.text.now
+    (head.limits.points - head.standing.points) ps
+decoded_left head points left ps are_left = subst (λ m. DecodesTo head.text.now m ps)
+    (left_is head points left are_left)
 
-pub points_accepted : (head : RowHead) (points left held count : ℕ) (whole fits : Bool) (old new : List Point) → (HasNeedlessText head → ⊥) → AreLeft head points left → AppendsDecoded head.text.now left old new → held ≡ length old → count ≡ length new → TellsFit head whole (count - held) fits → fits ≡ true
+pub points_accepted : (head : RowHead) (points left held count : ℕ) (whole fits : Bool)
+    (old new : List Point) → (HasNeedlessText head → ⊥) → AreLeft head points left
+    → AppendsDecoded head.text.now left old new → held ≡ length old → count ≡ length new
+    → TellsFit head whole (count - held) fits → fits ≡ true
     → (own : List Point) × (new ≡ old ++ own) × JudgedAs head (Accepted (row_with (head_row head) own))
 points_accepted head points left held count whole fits old new needed are_left a before after tells fitting =
-    let fit = fit_is head left held count whole fits old new a before after tells in
-    (a.ps, a.appended, inr (needed, inr (a.ps, decoded_left head points left a.ps are_left a.decoded, inr (λ e. true≢false (sym fitting ∙ sym fit ∙ e), refl))))
+    let fit = fit_is head left held count whole fits old new a before after tells in (
+      a.ps,
+      a.appended,
+      inr (
+        needed,
+        inr (
+          a.ps,
+          decoded_left head points left a.ps are_left a.decoded,
+          inr (λ e. true≢false (sym fitting ∙ sym fit ∙ e), refl),
+        ),
+      ),
+    )
 
-pub points_refused : (head : RowHead) (points left held count : ℕ) (whole fits : Bool) (old new : List Point) → (HasNeedlessText head → ⊥) → AreLeft head points left → AppendsDecoded head.text.now left old new → held ≡ length old → count ≡ length new → TellsFit head whole (count - held) fits → fits ≡ false
+pub points_refused : (head : RowHead) (points left held count : ℕ) (whole fits : Bool)
+    (old new : List Point) → (HasNeedlessText head → ⊥) → AreLeft head points left
+    → AppendsDecoded head.text.now left old new → held ≡ length old → count ≡ length new
+    → TellsFit head whole (count - held) fits → fits ≡ false
     → JudgedAs head (Refused PointCount)
 points_refused head points left held count whole fits old new needed are_left a before after tells misfit =
     let fit = fit_is head left held count whole fits old new a before after tells in

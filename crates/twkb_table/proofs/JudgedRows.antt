@@ -17,11 +17,17 @@ last_shallow [] r h = h.0
 last_shallow (s ∷ rs) r h = last_shallow rs r h.1
 
 -- a row that may come next is no deeper than a field can say
-pub depth_fits : (l : Allowance) (rs : List Row) (r : Row) → IsAllowance l → AreValidRows l rs → Accepts l (reverse rs) r → r.depth ≤ 999
-depth_fits l rs r cap v a = let g = row_accepted l rs r v a in last_shallow rs r (subst (AreShallow 999) g.2 (shallow_rows l g.0 cap g.1))
+pub depth_fits : (l : Allowance) (rs : List Row) (r : Row) → IsAllowance l → AreValidRows l rs
+    → Accepts l (reverse rs) r → r.depth ≤ 999
+depth_fits l rs r cap v a = let g = row_accepted l rs r v a in
+    last_shallow rs r (subst (AreShallow 999) g.2 (shallow_rows l g.0 cap g.1))
 
-pub judged_rows : (l : Allowance) (rows : List Row) (fields : Record) (row : Row) → IsAllowance l → AreValidRows l rows → Judged l (reverse rows) fields (Accepted row) ↔ ((fields ≡ record_of row) × Accepts l (reverse rows) row)
+pub judged_rows : (l : Allowance) (rows : List Row) (fields : Record) (row : Row) → IsAllowance l
+    → AreValidRows l rows → Judged l (reverse rows) fields (Accepted row)
+    ↔ ((fields ≡ record_of row) × Accepts l (reverse rows) row)
 judged_rows l rows fields row cap v = (
-  λ j. (let p = judged_row l (reverse rows) fields row (has_room l (reverse rows) (accepted_rows l rows v)) j in (p.text, p.accepts)),
-  λ h. subst (λ f. Judged l (reverse rows) f (Accepted row)) (sym h.0) (row_judged l (reverse rows) row h.1 (depth_fits l rows row cap v h.1)),
+  λ j. (let p = judged_row l (reverse rows) fields row
+      (has_room l (reverse rows) (accepted_rows l rows v)) j in (p.text, p.accepts)),
+  λ h. subst (λ f. Judged l (reverse rows) f (Accepted row)) (sym h.0)
+      (row_judged l (reverse rows) row h.1 (depth_fits l rows row cap v h.1)),
 )

@@ -1,5 +1,7 @@
 -- The lines of rows, appended one after the other.
-use Rattle.std.proofs.Common.{◌≡◌, ℕ, ◌+◌, ◌<◌, ◌≤◌, List, [], ◌∷◌, ◌++◌, length, length-append, take, drop, get_or, slice_get, Some, arith, refl, sym, ◌∙◌, ap, subst, append_assoc, append-nil}
+use Rattle.std.proofs.Common.{◌≡◌, ℕ, ◌+◌, ◌<◌, ◌≤◌, List, [], ◌∷◌, ◌++◌, length, length-append}
+use Rattle.std.proofs.Common.{take, drop, get_or, slice_get, Some, arith, refl, sym, ◌∙◌, ap, subst}
+use Rattle.std.proofs.Common.{append_assoc, append-nil}
 use Rattle.std.specs.Prelude.{map, Result, OnOk}
 use Rattle.std.proofs.lemmas.List.{map-append, take_all, take_more, take-append-drop}
 use Rattle.std.proofs.lemmas.Option.{get_or_from_slice_get, slice_get_within}
@@ -14,7 +16,9 @@ use Rattle.twkb_table.specs.Printing.{row_lines, Grows}
 -- the lines of two lists of rows
 pub row_lines-append : (rs ss : List Row) → row_lines (rs ++ ss) ≡ row_lines rs ++ row_lines ss
 unfolding row_lines
-row_lines-append rs ss = ap csvtext (map-append record_of rs ss) ∙ flat_map-append (λ (fields : Record). joined fields ++ 10 ∷ []) (map record_of rs) (map record_of ss)
+row_lines-append rs ss = ap csvtext (map-append record_of rs ss)
+    ∙ flat_map-append (λ (fields : Record). joined fields ++ 10 ∷ []) (map record_of rs)
+    (map record_of ss)
 
 -- no rows have no lines
 pub no_lines : row_lines [] ≡ []
@@ -36,23 +40,35 @@ cons_append : (x : ℕ) (xs ys : List ℕ) → (x ∷ xs) ++ ys ≡ x ∷ (xs ++
 cons_append x xs ys = refl
 
 -- four fields, with commas after each, appended at once, and then the fifth
-pub fields_put : {T E : Type 0} (result : Result T E) (old depth kind id precision line head field a b c : List ℕ) → head ≡ ((depth ++ 44 ∷ (kind ++ 44 ∷ [])) ++ id) ++ 44 ∷ (precision ++ 44 ∷ []) → field ≡ head → a ≡ old ++ field → b ≡ a ++ line
-    → OnOk result (c ≡ b ++ 10 ∷ []) → OnOk result (c ≡ old ++ csvtext ((depth ∷ kind ∷ id ∷ precision ∷ line ∷ []) ∷ []))
+pub fields_put : {T E : Type 0} (result : Result T E)
+    (old depth kind id precision line head field a b c : List ℕ)
+    → head ≡ ((depth ++ 44 ∷ (kind ++ 44 ∷ [])) ++ id) ++ 44 ∷ (precision ++ 44 ∷ []) → field ≡ head
+    → a ≡ old ++ field → b ≡ a ++ line
+    → OnOk result (c ≡ b ++ 10 ∷ []) → OnOk result
+    (c ≡ old ++ csvtext ((depth ∷ kind ∷ id ∷ precision ∷ line ∷ []) ∷ []))
 fields_put result old depth kind id precision line head field a b c gathered same ea eb told =
     let whole : b ≡ (old ++ (((depth ++ 44 ∷ (kind ++ 44 ∷ [])) ++ id) ++ 44 ∷ (precision ++ 44 ∷ []))) ++ line = cc in
-    let text : b ++ 10 ∷ [] ≡ old ++ csvtext ((depth ∷ kind ∷ id ∷ precision ∷ line ∷ []) ∷ []) = ap (λ t. t ++ 10 ∷ []) whole ∙ simp (append_assoc, append-nil, cons_append) in
+    let text : b ++ 10 ∷ [] ≡ old ++ csvtext ((depth ∷ kind ∷ id ∷ precision ∷ line ∷ []) ∷ []) =
+    ap (λ t. t ++ 10 ∷ []) whole ∙ simp (append_assoc, append-nil, cons_append) in
     subst (λ u. OnOk result (c ≡ u)) text told
 
 -- a list of one element is that element
 pub just_one : {A : Type 0} (xs : List A) (x : A) → 1 ≤ length xs → length xs < 2 → x ≡ get_or xs 0 x → xs ≡ x ∷ []
-just_one xs x some few first = sym (take_all 1 xs (omega (arith, some, few))) ∙ take_more xs 0 x (omega (arith, some)) ∙ ap (λ y. y ∷ []) (sym first)
+just_one xs x some few first = sym (take_all 1 xs (omega (arith, some, few)))
+    ∙ take_more xs 0 x (omega (arith, some)) ∙ ap (λ y. y ∷ []) (sym first)
 
 -- the five fields and the line feed, appended at once
-pub line_put : {T E : Type 0} (result : Result T E) (old depth kind id precision line head fields whole given new : List ℕ) → head ≡ ((depth ++ 44 ∷ (kind ++ 44 ∷ [])) ++ id) ++ 44 ∷ (precision ++ 44 ∷ []) → fields ≡ head ++ line → whole ≡ fields ++ 10 ∷ [] → given ≡ whole
-    → OnOk result (new ≡ old ++ given) → OnOk result (new ≡ old ++ csvtext ((depth ∷ kind ∷ id ∷ precision ∷ line ∷ []) ∷ []))
+pub line_put : {T E : Type 0} (result : Result T E)
+    (old depth kind id precision line head fields whole given new : List ℕ)
+    → head ≡ ((depth ++ 44 ∷ (kind ++ 44 ∷ [])) ++ id) ++ 44 ∷ (precision ++ 44 ∷ [])
+    → fields ≡ head ++ line → whole ≡ fields ++ 10 ∷ [] → given ≡ whole
+    → OnOk result (new ≡ old ++ given) → OnOk result
+    (new ≡ old ++ csvtext ((depth ∷ kind ∷ id ∷ precision ∷ line ∷ []) ∷ []))
 line_put result old depth kind id precision line head fields whole given new gathered spelled ended same told =
-    let all : given ≡ ((((depth ++ 44 ∷ (kind ++ 44 ∷ [])) ++ id) ++ 44 ∷ (precision ++ 44 ∷ [])) ++ line) ++ 10 ∷ [] = cc in
-    let text : old ++ given ≡ old ++ csvtext ((depth ∷ kind ∷ id ∷ precision ∷ line ∷ []) ∷ []) = ap (λ t. old ++ t) all ∙ simp (append_assoc, append-nil, cons_append) in
+    let all : given ≡ ((((depth ++ 44 ∷ (kind ++ 44 ∷ [])) ++ id) ++ 44 ∷ (precision ++ 44 ∷ []))
+    ++ line) ++ 10 ∷ [] = cc in
+    let text : old ++ given ≡ old ++ csvtext ((depth ∷ kind ∷ id ∷ precision ∷ line ∷ []) ∷ []) =
+    ap (λ t. old ++ t) all ∙ simp (append_assoc, append-nil, cons_append) in
     subst (λ u. OnOk result (new ≡ u)) text told
 
 -- the lines of the rows before place i were appended to `old`, and at most these rows and their
@@ -63,33 +79,57 @@ pub record RowsPut (rows : List Row) (i : ℕ) (old text : List ℕ) (before wor
   pub points : work.point_reads ≤ before.point_reads + length (row_points (take i rows))
 
 pub rows_put_none : (rows : List Row) (old : List ℕ) (before : Work) → RowsPut rows 0 old old before before
-rows_put_none rows old before = record { lines = sym (append-nil old) ∙ ap (λ t. old ++ t) (sym no_lines); nodes = omega arith; points = omega arith }
+rows_put_none rows old before = record {
+  lines = sym (append-nil old)
+      ∙ ap (λ t. old ++ t) (sym no_lines);
+  nodes = omega arith;
+  points = omega arith;
+}
 
 take_next : (rows : List Row) (i : ℕ) (r : Row) → slice_get rows i ≡ Some r → take (i + 1) rows ≡ take i rows ++ r ∷ []
-take_next rows i r here = take_more rows i r (slice_get_within rows i r here) ∙ ap (λ (q : Row). take i rows ++ q ∷ []) (get_or_from_slice_get rows i r r here)
+take_next rows i r here = take_more rows i r (slice_get_within rows i r here)
+    ∙ ap (λ (q : Row). take i rows ++ q ∷ []) (get_or_from_slice_get rows i r r here)
 
-points_next : (rows : List Row) (i : ℕ) (r : Row) → slice_get rows i ≡ Some r → length (row_points (take (i + 1) rows)) ≡ length (row_points (take i rows)) + length r.points
+points_next : (rows : List Row) (i : ℕ) (r : Row) → slice_get rows i ≡ Some r
+    → length (row_points (take (i + 1) rows)) ≡ length (row_points (take i rows)) + length r.points
 points_next rows i r here =
-    let both : row_points (take (i + 1) rows) ≡ row_points (take i rows) ++ (r.points ++ []) = ap row_points (take_next rows i r here) ∙ flat_map-append (λ (q : Row). q.points) (take i rows) (r ∷ []) in
+    let both : row_points (take (i + 1) rows) ≡ row_points (take i rows) ++ (r.points ++ []) =
+    ap row_points (take_next rows i r here) ∙ flat_map-append (λ (q : Row). q.points)
+    (take i rows) (r ∷ []) in
     omega (arith, ap length both, length-append (row_points (take i rows)) (r.points ++ []), length-append r.points [])
 
-pub rows_put_more : (rows : List Row) (i : ℕ) (r : Row) (old text after : List ℕ) (before work next : Work) → RowsPut rows i old text before work → slice_get rows i ≡ Some r
-    → next ≡ record work { node_reads = saturated (work.node_reads + 1); point_reads = saturated (work.point_reads + length r.points) } → after ≡ text ++ row_lines (r ∷ []) → RowsPut rows (i + 1) old after before next
+pub rows_put_more : (rows : List Row) (i : ℕ) (r : Row) (old text after : List ℕ)
+    (before work next : Work) → RowsPut rows i old text before work → slice_get rows i ≡ Some r
+    → next ≡ record work {
+      node_reads = saturated (work.node_reads + 1);
+      point_reads = saturated (work.point_reads + length r.points);
+    }
+    → after ≡ text ++ row_lines (r ∷ []) → RowsPut rows (i + 1) old after before next
 rows_put_more rows i r old text after before work next so_far here counted put =
     let nodes : next.node_reads ≡ saturated (work.node_reads + 1) = ap (λ (w : Work). w.node_reads) counted in
-    let points : next.point_reads ≡ saturated (work.point_reads + length r.points) = ap (λ (w : Work). w.point_reads) counted in
+    let points : next.point_reads ≡ saturated (work.point_reads + length r.points) =
+    ap (λ (w : Work). w.point_reads) counted in
     record {
-      lines = put ∙ ap (λ t. t ++ row_lines (r ∷ [])) so_far.lines ∙ append_assoc old (row_lines (take i rows)) (row_lines (r ∷ [])) ∙ ap (λ t. old ++ t) (sym (row_lines-append (take i rows) (r ∷ [])) ∙ ap row_lines (sym (take_next rows i r here)));
+      lines = put ∙ ap (λ t. t ++ row_lines (r ∷ [])) so_far.lines
+          ∙ append_assoc old (row_lines (take i rows)) (row_lines (r ∷ []))
+          ∙ ap (λ t. old ++ t) (sym (row_lines-append (take i rows) (r ∷ []))
+          ∙ ap row_lines (sym (take_next rows i r here)));
       nodes = omega (arith, so_far.nodes, nodes);
       points = omega (arith, so_far.points, points, points_next rows i r here);
     }
 
 -- the lines of all rows
-pub all_lines : (rows : List Row) (i : ℕ) (old text : List ℕ) (before work : Work) → RowsPut rows i old text before work → i ≡ length rows → text ≡ old ++ row_lines rows
-all_lines rows i old text before work so_far end = so_far.lines ∙ ap (λ (rs : List Row). old ++ row_lines rs) (take_all i rows (omega (arith, end)))
+pub all_lines : (rows : List Row) (i : ℕ) (old text : List ℕ) (before work : Work)
+    → RowsPut rows i old text before work → i ≡ length rows → text ≡ old ++ row_lines rows
+all_lines rows i old text before work so_far end = so_far.lines
+    ∙ ap (λ (rs : List Row). old ++ row_lines rs) (take_all i rows (omega (arith, end)))
 
 -- at most as many points were read as there are
-pub few_points : (rows : List Row) (i : ℕ) (old text : List ℕ) (before work : Work) → RowsPut rows i old text before work → work.point_reads ≤ before.point_reads + length (row_points rows)
+pub few_points : (rows : List Row) (i : ℕ) (old text : List ℕ) (before work : Work)
+    → RowsPut rows i old text before work → work.point_reads ≤ before.point_reads + length
+    (row_points rows)
 few_points rows i old text before work so_far =
-    let both : row_points (take i rows) ++ row_points (drop i rows) ≡ row_points rows = sym (flat_map-append (λ (q : Row). q.points) (take i rows) (drop i rows)) ∙ ap row_points (take-append-drop i rows) in
+    let both : row_points (take i rows) ++ row_points (drop i rows) ≡ row_points rows =
+    sym (flat_map-append (λ (q : Row). q.points) (take i rows) (drop i rows))
+    ∙ ap row_points (take-append-drop i rows) in
     omega (arith, so_far.points, ap length both, length-append (row_points (take i rows)) (row_points (drop i rows)))

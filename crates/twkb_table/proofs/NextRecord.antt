@@ -23,25 +23,33 @@ pub record NamedWith (l : Allowance) (records : List Record) (given : List Tree)
   pub rows_are : rows 0 geometry ≡ so_far
 
 -- a record whose verdict is a row is accepted
-pub row_accepts : (l : Allowance) (records : List Record) (here : Record) (gs : List Tree) (row : Row) → Named l records gs → Judged l (reverse (rows_of gs)) here (Accepted row) → Accepts l (reverse (rows_of gs)) row
+pub row_accepts : (l : Allowance) (records : List Record) (here : Record) (gs : List Tree)
+    (row : Row) → Named l records gs → Judged l (reverse (rows_of gs)) here (Accepted row)
+    → Accepts l (reverse (rows_of gs)) row
 row_accepts l records here gs row n j =
     let room = has_room l (reverse (rows_of gs)) (accepted_rows l (rows_of gs) (gs, n.valid, refl)) in
     (judged_row l (reverse (rows_of gs)) here row room j).accepts
 
 -- the geometries with one more row than those that the records name
-named_by : (l : Allowance) (records : List Record) (here : Record) (gs hs : List Tree) (row : Row) → Named l records gs → Judged l (reverse (rows_of gs)) here (Accepted row) → rows_of hs ≡ rows_of gs ++ row ∷ [] → records ++ here ∷ [] ≡ table hs
+named_by : (l : Allowance) (records : List Record) (here : Record) (gs hs : List Tree) (row : Row)
+    → Named l records gs → Judged l (reverse (rows_of gs)) here (Accepted row)
+    → rows_of hs ≡ rows_of gs ++ row ∷ [] → records ++ here ∷ [] ≡ table hs
 named_by l records here gs hs row n j e =
     let grown = grows l records here gs row n j in
     grown.named.table_of ∙ ap (λ (rs : List Row). header ∷ map record_of rs) (grown.rows ∙ sym e)
 
 -- the row is one more row of the last geometry
-pub row_more : (l : Allowance) (records : List Record) (here : Record) (given : List Tree) (g : Tree) (row : Row) → Named l records (given ++ g ∷ []) → Judged l (reverse (rows_of (given ++ g ∷ []))) here (Accepted row) → 0 < row.depth
+pub row_more : (l : Allowance) (records : List Record) (here : Record) (given : List Tree)
+    (g : Tree) (row : Row) → Named l records (given ++ g ∷ [])
+    → Judged l (reverse (rows_of (given ++ g ∷ []))) here (Accepted row) → 0 < row.depth
     → NamedWith l (records ++ here ∷ []) given (rows 0 g ++ row ∷ [])
 row_more l records here given g row n j below =
     let grown = grown_geometry l given g row n.valid (row_accepts l records here (given ++ g ∷ []) row n j) below in
     let h = grown.0 in
     let same : rows_of (given ++ h ∷ []) ≡ rows_of (given ++ g ∷ []) ++ row ∷ [] =
-    rows_of-last given h ∙ ap (λ rs. rows_of given ++ rs) grown.2 ∙ sym (append_assoc (rows_of given) (rows 0 g) (row ∷ [])) ∙ ap (λ rs. rs ++ row ∷ []) (sym (rows_of-last given g)) in
+    rows_of-last given h ∙ ap (λ rs. rows_of given ++ rs) grown.2
+    ∙ sym (append_assoc (rows_of given) (rows 0 g) (row ∷ []))
+    ∙ ap (λ rs. rs ++ row ∷ []) (sym (rows_of-last given g)) in
     record {
       geometry = h;
       named = record {
@@ -52,20 +60,38 @@ row_more l records here given g row n j below =
     }
 
 -- the row is the root of another geometry
-pub root_more : (l : Allowance) (records : List Record) (here : Record) (gs : List Tree) (row : Row) → Named l records gs → Judged l (reverse (rows_of gs)) here (Accepted row) → row.depth ≡ 0 → NamedWith l (records ++ here ∷ []) gs (row ∷ [])
+pub root_more : (l : Allowance) (records : List Record) (here : Record) (gs : List Tree) (row : Row)
+    → Named l records gs → Judged l (reverse (rows_of gs)) here (Accepted row) → row.depth ≡ 0
+    → NamedWith l (records ++ here ∷ []) gs (row ∷ [])
 root_more l records here gs row n j root =
     let new = new_geometry l (rows_of gs) row (row_accepts l records here gs row n j) root in
     record {
       geometry = new.0;
       named = record {
-        table_of = named_by l records here gs (gs ++ new.0 ∷ []) row n j (rows_of-last gs new.0 ∙ ap (λ rs. rows_of gs ++ rs) new.2);
+        table_of = named_by l records here gs (gs ++ new.0 ∷ []) row n j (rows_of-last gs new.0
+            ∙ ap (λ rs. rows_of gs ++ rs) new.2);
         valid = all_join (IsValid l) gs (new.0 ∷ []) n.valid (new.1, tt);
       };
       rows_are = new.2;
     }
 
 -- a refused record leaves all geometries but the last
-pub refused_more : (l : Allowance) (records : List Record) (here : Record) (gs : List Tree) (reason : RowReason) → IsAllowance l → Named l records gs → Judged l (reverse (rows_of gs)) here (Refused reason)
+pub refused_more : (l : Allowance) (records : List Record) (here : Record) (gs : List Tree)
+    (reason : RowReason) → IsAllowance l → Named l records gs
+    → Judged l (reverse (rows_of gs)) here (Refused reason)
     → AreComplete l (records ++ here ∷ []) (length records + 1) reason (all_but_last gs)
 refused_more l records here gs reason cap n j =
-    inr (record { before = records; here = here; more = []; split = refl; place = refl; geometries = gs; named = n; none = refused_none l records here gs reason cap n j; judged = j }, refl)
+    inr (
+      record {
+        before = records;
+        here = here;
+        more = [];
+        split = refl;
+        place = refl;
+        geometries = gs;
+        named = n;
+        none = refused_none l records here gs reason cap n j;
+        judged = j;
+      },
+      refl,
+    )

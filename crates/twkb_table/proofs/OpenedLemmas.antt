@@ -1,5 +1,7 @@
 -- The open rows after one more row, from their last ones.
-use Rattle.std.proofs.Common.{◌≡◌, ℕ, zero, suc, ◌+◌, ◌-◌, ◌<◌, ◌≤◌, Bool, None, List, [], ◌∷◌, ◌++◌, length, take, set, get_or, refl, sym, ◌∙◌, ap, arith, length-append}
+use Rattle.std.proofs.Common.{◌≡◌, ℕ, zero, suc, ◌+◌, ◌-◌, ◌<◌, ◌≤◌, Bool, None, List, [], ◌∷◌}
+use Rattle.std.proofs.Common.{◌++◌, length, take, set, get_or, refl, sym, ◌∙◌, ap, arith}
+use Rattle.std.proofs.Common.{length-append}
 use Rattle.std.specs.Prelude.{is_some}
 use Rattle.std.proofs.Math.Seq.{take-append_seam}
 use Rattle.std.proofs.lemmas.List.{length-take-le, length-set, take_more, take_more_set, get_or-set_other, set_comm}
@@ -27,7 +29,8 @@ empty_apart (y ∷ ys) q e = cc e
 heads : (x y : OpenRow) (xs ys : List OpenRow) → x ∷ xs ≡ y ∷ ys → (x ≡ y) × (xs ≡ ys)
 heads x y xs ys e = (cc e, cc e)
 
-pub opened_some : (d : ℕ) (os ys : List OpenRow) (q : OpenRow) (r : Row) → d ≤ length os → take d os ≡ ys ++ q ∷ [] → opened d os r ≡ (ys ++ noted q r ∷ []) ++ entered r ∷ []
+pub opened_some : (d : ℕ) (os ys : List OpenRow) (q : OpenRow) (r : Row) → d ≤ length os
+    → take d os ≡ ys ++ q ∷ [] → opened d os r ≡ (ys ++ noted q r ∷ []) ++ entered r ∷ []
 opened_some zero os ys q r le e = absurd (empty_apart ys q e)
 opened_some (suc d) [] ys q r le e = absurd (omega arith)
 opened_some (suc zero) (o ∷ os) [] q r le e =
@@ -37,24 +40,32 @@ opened_some (suc (suc d)) (o ∷ []) ys q r le e = absurd (omega arith)
 opened_some (suc (suc d)) (o ∷ p ∷ os) [] q r le e = cc (heads o q (p ∷ take d os) [] e).1
 opened_some (suc (suc d)) (o ∷ p ∷ os) (y ∷ ys) q r le e =
     let h = heads o y (take (suc d) (p ∷ os)) (ys ++ q ∷ []) e in
-    ap (λ x. x ∷ opened (suc d) (p ∷ os) r) h.0 ∙ ap (λ xs. y ∷ xs) (opened_some (suc d) (p ∷ os) ys q r (omega arith) h.1)
+    ap (λ x. x ∷ opened (suc d) (p ∷ os) r) h.0 ∙ ap (λ xs. y ∷ xs)
+    (opened_some (suc d) (p ∷ os) ys q r (omega arith) h.1)
 
 -- the open rows after a row depend only on those above it
-pub opened_front : (d n : ℕ) (os : List OpenRow) (r : Row) → d ≤ n → n ≤ length os → opened d (take n os) r ≡ opened d os r
+pub opened_front : (d n : ℕ) (os : List OpenRow) (r : Row) → d ≤ n → n ≤ length os
+    → opened d (take n os) r ≡ opened d os r
 opened_front zero n os r le few = refl
 opened_front (suc d) zero os r le few = absurd (omega (arith, le))
 opened_front (suc d) (suc n) [] r le few = absurd (omega (arith, few))
 opened_front (suc zero) (suc n) (o ∷ os) r le few = refl
-opened_front (suc (suc d)) (suc n) (o ∷ os) r le few = ap (λ xs. o ∷ xs) (opened_front (suc d) n os r (omega (arith, le)) (omega (arith, few)))
+opened_front (suc (suc d)) (suc n) (o ∷ os) r le few = ap (λ xs. o ∷ xs)
+    (opened_front (suc d) n os r (omega (arith, le)) (omega (arith, few)))
 
 -- the open rows after a row do not depend on those below it
 pub opened_before : (d : ℕ) (os more : List OpenRow) (r : Row) → d ≤ length os → opened d (os ++ more) r ≡ opened d os r
 opened_before d os more r le =
-    sym (opened_front d (length os) (os ++ more) r le (omega (arith, length-append os more))) ∙ ap (λ (xs : List OpenRow). opened d xs r) (take-append_seam os more)
+    sym (opened_front d (length os) (os ++ more) r le (omega (arith, length-append os more)))
+    ∙ ap (λ (xs : List OpenRow). opened d xs r) (take-append_seam os more)
 
 -- a row is written after its parent, which notes it as a child
-pub row_written : (os : List OpenRow) (d : ℕ) (r : Row) (e x q : OpenRow) (b : Bool) → 0 < d → d < length os → e ≡ entered r
-    → q ≡ record { kind = (get_or (set os d e) (d - 1) x).kind; child_ids = first_answer (get_or (set os d e) (d - 1) x).child_ids b } → b ≡ is_some r.id
+pub row_written : (os : List OpenRow) (d : ℕ) (r : Row) (e x q : OpenRow) (b : Bool) → 0 < d
+    → d < length os → e ≡ entered r
+    → q ≡ record {
+      kind = (get_or (set os d e) (d - 1) x).kind;
+      child_ids = first_answer (get_or (set os d e) (d - 1) x).child_ids b;
+    } → b ≡ is_some r.id
     → take (d + 1) (set (set os d e) (d - 1) q) ≡ opened d os r
 row_written os d r e x q b below within is notes bit =
     let i = d - 1 in
@@ -66,8 +77,10 @@ row_written os d r e x q b below within is notes bit =
     notes ∙ (ap (λ (o : OpenRow). record { kind = o.kind; child_ids = first_answer o.child_ids b }) stood
     ∙ ap (λ (a : Bool). record { kind = p.kind; child_ids = first_answer p.child_ids a }) bit) in
     let cut : take d os ≡ take i os ++ p ∷ [] = ap (λ k. take k os) (sym next) ∙ take_more os i x first in
-    let noted_is : take d (set os i q) ≡ take i os ++ q ∷ [] = ap (λ k. take k (set os i q)) (sym next) ∙ take_more_set os i q first in
-    let turned : set (set os d e) i q ≡ set (set os i q) d e = set_comm os d i e q (λ same. omega (arith, same, next)) in
+    let noted_is : take d (set os i q) ≡ take i os ++ q ∷ [] = ap (λ k. take k (set os i q))
+    (sym next) ∙ take_more_set os i q first in
+    let turned : set (set os d e) i q ≡ set (set os i q) d e = set_comm os d i e q
+    (λ same. omega (arith, same, next)) in
     ap (take (d + 1)) turned
     ∙ (take_more_set (set os i q) d e (omega (arith, within, length-set os i q))
     ∙ (ap (λ xs. xs ++ e ∷ []) noted_is
@@ -76,7 +89,9 @@ row_written os d r e x q b below within is notes bit =
     ∙ sym (opened_some d os (take i os) p r (omega (arith, within)) cut)))))
 
 -- places after the open rows have no effect
-pub opened_in : (d n : ℕ) (items now : List OpenRow) (r : Row) → n ≤ length items → now ≡ take n items → d ≤ length now → opened d items r ≡ opened d now r
+pub opened_in : (d n : ℕ) (items now : List OpenRow) (r : Row) → n ≤ length items
+    → now ≡ take n items → d ≤ length now → opened d items r ≡ opened d now r
 opened_in d n items now r few is le =
     let size = length-take-le n items few in
-    sym (opened_front d n items r (omega (arith, le, ap length is, size)) few) ∙ ap (λ (xs : List OpenRow). opened d xs r) (sym is)
+    sym (opened_front d n items r (omega (arith, le, ap length is, size)) few)
+    ∙ ap (λ (xs : List OpenRow). opened d xs r) (sym is)

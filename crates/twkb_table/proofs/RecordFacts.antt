@@ -1,22 +1,26 @@
 -- What a read of `csv` says about the place in a text.
-use Rattle.std.proofs.Common.{◌≡◌, ◌∙◌, ℕ, List, [], ◌∷◌, ◌++◌, Option, Some, None, Result, Ok, Err, Bool, true, false, sym, refl, inl}
+use Rattle.std.proofs.Common.{◌≡◌, ◌∙◌, ℕ, List, [], ◌∷◌, ◌++◌, Option, Some, None, Result, Ok, Err}
+use Rattle.std.proofs.Common.{Bool, true, false, sym, refl, inl}
 use Rattle.std.specs.Prelude.{option_map, is_err, IfErr, IfOk, IfSome}
 use Rattle.std.specs.Borrow.{MutBor}
-use Rattle.csv.specs.Reading.{Reached, ReadRecord, default_config, is_flexible, reader_state, source_of, strip_bom, took_first}
+use Rattle.csv.specs.Reading.{Reached, ReadRecord, default_config, is_flexible, reader_state}
+use Rattle.csv.specs.Reading.{source_of, strip_bom, took_first}
 use Rattle.csv.specs.Records.{fields_of}
 use Rattle.csv.specs.declared.reader.Reader.{Reader}
 use Rattle.csv.specs.declared.parser.State.TheVariants as st
 use Rattle.csv.proofs.ReadFacts.{rows-end, rows-more}
 use Rattle.twkb_io.specs.declared.tap.Tap.{Tap}
 use Rattle.twkb_table.specs.Record.{Record}
-use Rattle.twkb_table.specs.CsvRecords.{Advances, AreRecordsOf, BeginWith, Finishes, HasGivenOf, IsSetUp, standing, told_by}
+use Rattle.twkb_table.specs.CsvRecords.{Advances, AreRecordsOf, BeginWith, Finishes, HasGivenOf}
+use Rattle.twkb_table.specs.CsvRecords.{IsSetUp, standing, told_by}
 use Rattle.twkb_table.specs.SourceStanding.{Ends, Faults, GivesRecord}
 use Rattle.twkb_table.specs.declared.record_source.RecordSource.{RecordSource}
 use Rattle.twkb_table.specs.declared.record_source.SourceFault.{SourceFault}
 use Rattle.twkb_table.specs.declared.record_source.SourceFault.TheVariants as fault
 
 -- a new reader has given no record
-pub given_none : {R : Type 0} (remaining : R → Option (List ℕ)) (told : Option (List ℕ)) (reader : Reader (MutBor (Tap R)))
+pub given_none : {R : Type 0} (remaining : R → Option (List ℕ)) (told : Option (List ℕ))
+    (reader : Reader (MutBor (Tap R)))
     → source_of (told_by remaining) reader ≡ option_map strip_bom told → reader_state reader ≡ st.StartRecord
     → HasGivenOf remaining told [] reader
 unfolding Reached
@@ -27,27 +31,38 @@ given_none remaining (Some text) reader source state = (strip_bom text, source, 
 pub given_more : {R : Type 0} (remaining : R → Option (List ℕ)) (old new : Reader (MutBor (Tap R))) (fields : Record)
     → IsSetUp old → took_first new ≡ true → is_flexible new ≡ is_flexible old
     → ReadRecord (told_by remaining) old new true fields
-    → (told : Option (List ℕ)) (records : List Record) → HasGivenOf remaining told records old → HasGivenOf remaining told (records ++ fields ∷ []) new
+    → (told : Option (List ℕ)) (records : List Record) → HasGivenOf remaining told records old
+    → HasGivenOf remaining told (records ++ fields ∷ []) new
 given_more remaining old new fields set_up first flexible read None records given = tt
 given_more remaining old new fields set_up first flexible read (Some text) records given =
-    rows-more (told_by remaining) old new fields default_config st.StartRecord (strip_bom text) given.0 records set_up.3 given.1 given.2 read
+    rows-more (told_by remaining) old new fields default_config st.StartRecord (strip_bom text)
+    given.0 records set_up.3 given.1 given.2 read
 
 -- the reader stays set up
 pub still_set_up : {R : Type 0} (remaining : R → Option (List ℕ)) (old new : Reader (MutBor (Tap R))) (fields : Record)
     → IsSetUp old → took_first new ≡ true → is_flexible new ≡ is_flexible old
     → ReadRecord (told_by remaining) old new true fields → IsSetUp new
-still_set_up remaining old new fields set_up first flexible read = (read.3 ∙ set_up.0, inl first, flexible ∙ set_up.2, read.2 ∙ set_up.3)
+still_set_up remaining old new fields set_up first flexible read =
+    (read.3 ∙ set_up.0, inl first, flexible ∙ set_up.2, read.2 ∙ set_up.3)
 
 -- there is no further record
 pub given_all : {R : Type 0} (remaining : R → Option (List ℕ)) (old new : Reader (MutBor (Tap R))) (fields : Record)
     → IsSetUp old → ReadRecord (told_by remaining) old new false fields
-    → (told : Option (List ℕ)) (records : List Record) → HasGivenOf remaining told records old → IfSome told (λ text. AreRecordsOf text records)
+    → (told : Option (List ℕ)) (records : List Record) → HasGivenOf remaining told records old
+    → IfSome told (λ text. AreRecordsOf text records)
 given_all remaining old new fields set_up read None records given = tt
-given_all remaining old new fields set_up read (Some text) records given =
-    (reader_state old, given.0, given.2, rows-end (told_by remaining) old new fields default_config given.0 set_up.3 given.1 read)
+given_all remaining old new fields set_up read (Some text) records given = (
+  reader_state old,
+  given.0,
+  given.2,
+  rows-end (told_by remaining) old new fields default_config
+      given.0 set_up.3 given.1 read,
+)
 
 -- the text begins with the records given
-pub standing_begins : {R : Type 0} (remaining : R → Option (List ℕ)) (told : Option (List ℕ)) (records : List Record) (ended : Bool) (reader : Reader (MutBor (Tap R))) → standing remaining told records ended reader → IfSome told (λ text. BeginWith text records)
+pub standing_begins : {R : Type 0} (remaining : R → Option (List ℕ)) (told : Option (List ℕ))
+    (records : List Record) (ended : Bool) (reader : Reader (MutBor (Tap R)))
+    → standing remaining told records ended reader → IfSome told (λ text. BeginWith text records)
 standing_begins remaining None records ended reader s = tt
 standing_begins remaining (Some text) records false reader s = (reader_state reader, s.1.0, s.1.2)
 standing_begins remaining (Some text) records true reader s = (s.0, s.1, s.2)
@@ -55,19 +70,28 @@ standing_begins remaining (Some text) records true reader s = (s.0, s.1, s.2)
 -- ---- a source
 
 -- what a read shows about the source
-pub source_gives : {R : Type 0} (remaining : R → Option (List ℕ)) (old new : RecordSource R) (r : Result Bool SourceFault) → new.spent ≡ is_err r
-    → IfOk r (λ found. found ≡ true → Advances remaining old.ended old.reader (fields_of new.held) new.ended new.reader) → IfOk r (λ found. found ≡ true → GivesRecord remaining old new)
-source_gives remaining old new (Ok found) spent h = λ is told records s. (let (stands, begins) = h is told records s.0 in ((stands, spent), begins))
+pub source_gives : {R : Type 0} (remaining : R → Option (List ℕ)) (old new : RecordSource R)
+    (r : Result Bool SourceFault) → new.spent ≡ is_err r
+    → IfOk r (λ found. found ≡ true → Advances remaining old.ended old.reader (fields_of new.held)
+    new.ended new.reader) → IfOk r (λ found. found ≡ true → GivesRecord remaining old new)
+source_gives remaining old new (Ok found) spent h = λ is told records s.
+    (let (stands, begins) = h is told records s.0 in ((stands, spent), begins))
 source_gives remaining old new (Err f) spent h = tt
 
-pub source_ends : {R : Type 0} (remaining : R → Option (List ℕ)) (old new : RecordSource R) (r : Result Bool SourceFault) → new.spent ≡ is_err r
-    → IfOk r (λ found. found ≡ false → Finishes remaining old.ended old.reader new.ended new.reader) → IfOk r (λ found. found ≡ false → Ends remaining old new)
-source_ends remaining old new (Ok found) spent h = λ is told records s. (let (stands, all) = h is told records s.0 in ((stands, spent), all))
+pub source_ends : {R : Type 0} (remaining : R → Option (List ℕ)) (old new : RecordSource R)
+    (r : Result Bool SourceFault) → new.spent ≡ is_err r
+    → IfOk r (λ found. found ≡ false → Finishes remaining old.ended old.reader new.ended new.reader)
+    → IfOk r (λ found. found ≡ false → Ends remaining old new)
+source_ends remaining old new (Ok found) spent h = λ is told records s.
+    (let (stands, all) = h is told records s.0 in ((stands, spent), all))
 source_ends remaining old new (Err f) spent h = tt
 
-pub source_faults : {R : Type 0} (remaining : R → Option (List ℕ)) (old : RecordSource R) (r : Result Bool SourceFault) → IfErr r (λ f. f ≡ fault.Source) → IfErr r (λ f. Faults remaining old f)
+pub source_faults : {R : Type 0} (remaining : R → Option (List ℕ)) (old : RecordSource R)
+    (r : Result Bool SourceFault) → IfErr r (λ f. f ≡ fault.Source)
+    → IfErr r (λ f. Faults remaining old f)
 source_faults remaining old (Ok found) h = tt
-source_faults remaining old (Err f) h = λ told records s. (h, standing_begins remaining told records old.ended old.reader s.0)
+source_faults remaining old (Err f) h = λ told records s.
+    (h, standing_begins remaining told records old.ended old.reader s.0)
 
 pub never_spent : (r : Result Bool SourceFault) → IfErr r (λ f. f ≡ fault.Source) → r ≡ Err fault.Spent → ⊥
 never_spent (Ok found) h e = cc e

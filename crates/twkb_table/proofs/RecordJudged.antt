@@ -1,5 +1,7 @@
 -- The verdict on a record of five fields, from its fields.
-use Rattle.std.proofs.Common.{◌≡◌, ℕ, zero, suc, ◌<◌, ◌≤◌, Bool, false, List, [], ◌∷◌, length, Option, Some, None, Result, Ok, Err, refl, sym, ◌∙◌, ap, subst, arith, inl, inr, Bor}
+use Rattle.std.proofs.Common.{◌≡◌, ℕ, zero, suc, ◌<◌, ◌≤◌, Bool, false, List, [], ◌∷◌, length}
+use Rattle.std.proofs.Common.{Option, Some, None, Result, Ok, Err, refl, sym, ◌∙◌, ap, subst, arith}
+use Rattle.std.proofs.Common.{inl, inr, Bor}
 use Rattle.std.specs.Prelude.{◌&&◌, IsSome, IfOk, IfErr, option_map}
 use Rattle.csv.specs.Records.{field_at}
 use Rattle.twkb_tree.specs.declared.kind.Kind.{Kind}
@@ -56,24 +58,45 @@ five_are (v ∷ w ∷ x ∷ y ∷ z ∷ []) a b c e f h =
     let three = same_some x c h.third in
     let four = same_some y e h.fourth in
     let five = same_some z f h.fifth in
-    ap (λ q. q ∷ w ∷ x ∷ y ∷ z ∷ []) one ∙ ap (λ q. a ∷ q ∷ x ∷ y ∷ z ∷ []) two ∙ ap (λ q. a ∷ b ∷ q ∷ y ∷ z ∷ []) three ∙ ap (λ q. a ∷ b ∷ c ∷ q ∷ z ∷ []) four ∙ ap (λ q. a ∷ b ∷ c ∷ e ∷ q ∷ []) five
+    ap (λ q. q ∷ w ∷ x ∷ y ∷ z ∷ []) one ∙ ap (λ q. a ∷ q ∷ x ∷ y ∷ z ∷ []) two
+    ∙ ap (λ q. a ∷ b ∷ q ∷ y ∷ z ∷ []) three ∙ ap (λ q. a ∷ b ∷ c ∷ q ∷ z ∷ []) four
+    ∙ ap (λ q. a ∷ b ∷ c ∷ e ∷ q ∷ []) five
 
 -- ---- what each refusal means
 
-pub bad_kind : (l : Allowance) (before : List Row) (a b c e f : List ℕ) (d : ℕ) → IsDepthField a d → ((k : Kind) → b ≡ word_of k → ⊥) → Judged l before (a ∷ b ∷ c ∷ e ∷ f ∷ []) (Refused BadKind)
+pub bad_kind : (l : Allowance) (before : List Row) (a b c e f : List ℕ) (d : ℕ) → IsDepthField a d
+    → ((k : Kind) → b ≡ word_of k → ⊥) → Judged l before (a ∷ b ∷ c ∷ e ∷ f ∷ []) (Refused BadKind)
 bad_kind l before a b c e f d depth none = inr (d, depth, inl (none, refl))
 
 no_steps : (a b : Bool) → a ≡ false → (a && b) ≡ false
 no_steps a b e = rw e refl
 
-pub bad_place : (l : Allowance) (before : List Row) (rows : List OpenRow) (nodes points : ℕ) (a b c e f : List ℕ) (d : ℕ) (k : Kind) → IsDepthField a d → b ≡ word_of k
-    → length rows < d → StandsAfter before rows nodes points → Judged l before (a ∷ b ∷ c ∷ e ∷ f ∷ []) (Refused BadPlace)
+pub bad_place : (l : Allowance) (before : List Row) (rows : List OpenRow) (nodes points : ℕ)
+    (a b c e f : List ℕ) (d : ℕ) (k : Kind) → IsDepthField a d → b ≡ word_of k
+    → length rows < d → StandsAfter before rows nodes points
+    → Judged l before (a ∷ b ∷ c ∷ e ∷ f ∷ []) (Refused BadPlace)
 bad_place l before rows nodes points a b c e f d k depth word lt stands =
-    inr (d, depth, inr (k, word, inl (no_steps (steps_to d before) (has_place (parent d before) k) (steps_missing before rows nodes points d stands lt), refl)))
+    inr (
+      d,
+      depth,
+      inr (
+        k,
+        word,
+        inl (
+          no_steps (steps_to d before) (has_place (parent d before) k)
+              (steps_missing before rows nodes points d stands lt),
+          refl,
+        ),
+      ),
+    )
 
 -- the verdict by the place that the open rows give
-pub judged_of : (l : Allowance) (before : List Row) (rows : List OpenRow) (nodes points : ℕ) (a b c e f : List ℕ) (d : ℕ) (k : Kind) (standing : Standing) (v : Verdict) → IsDepthField a d → b ≡ word_of k
-    → (d ≤ length rows) × (standing ≡ standing_at d rows nodes points) → JudgedByPlace l (place_seen standing) k c e f v → StandsAfter before rows nodes points → Judged l before (a ∷ b ∷ c ∷ e ∷ f ∷ []) v
+pub judged_of : (l : Allowance) (before : List Row) (rows : List OpenRow) (nodes points : ℕ)
+    (a b c e f : List ℕ) (d : ℕ) (k : Kind) (standing : Standing) (v : Verdict) → IsDepthField a d
+    → b ≡ word_of k
+    → (d ≤ length rows) × (standing ≡ standing_at d rows nodes points)
+    → JudgedByPlace l (place_seen standing) k c e f v → StandsAfter before rows nodes points
+    → Judged l before (a ∷ b ∷ c ∷ e ∷ f ∷ []) v
 judged_of l before rows nodes points a b c e f d k standing v depth word at j stands =
     let there = subst (λ (s : Standing). JudgedByPlace l (place_seen s) k c e f v) at.1 j in
     inr (d, depth, inr (k, word, judged_there l before rows nodes points d k c e f v stands at.0 there))
@@ -88,11 +111,13 @@ pub if_err : {T E : Type 0} (P Q : E → Type 0) (r : Result T E) → ((x : E) �
 if_err P Q (Ok x) f h = tt
 if_err P Q (Err e) f h = f e h
 
-pub if_refused : (P Q : RowReason → Type 0) (fault : JudgeFault) → ((reason : RowReason) → P reason → Q reason) → IfRefused P fault → IfRefused Q fault
+pub if_refused : (P Q : RowReason → Type 0) (fault : JudgeFault)
+    → ((reason : RowReason) → P reason → Q reason) → IfRefused P fault → IfRefused Q fault
 if_refused P Q Memory f h = tt
 if_refused P Q (Fault.Refused reason) f h = f reason h
 
 -- a field is found if the record has one
-pub some_field : (fs : Record) (i : ℕ) (o : Option (Bor (List ℕ))) → i < length fs → option_map (λ s. s.now) o ≡ field_at fs i → IsSome o
+pub some_field : (fs : Record) (i : ℕ) (o : Option (Bor (List ℕ))) → i < length fs
+    → option_map (λ s. s.now) o ≡ field_at fs i → IsSome o
 some_field fs i (Some s) lt e = refl
 some_field fs i None lt e = field_there fs i None lt e

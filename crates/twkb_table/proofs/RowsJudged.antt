@@ -1,5 +1,6 @@
 -- The verdict on the record of a row that may come next is that row, and nothing else.
-use Rattle.std.proofs.Common.{◌≡◌, ◌≤◌, true, false, List, [], length, Option, Some, None, refl, sym, ap, subst, arith, inl, inr}
+use Rattle.std.proofs.Common.{◌≡◌, ◌≤◌, true, false, List, [], length, Option, Some, None, refl}
+use Rattle.std.proofs.Common.{sym, ap, subst, arith, inl, inr}
 use Rattle.std.specs.Prelude.{ℤ, ◌&&◌, decimal, is_some, IfSome}
 use Rattle.std.proofs.lemmas.Bool.{true≢false, false≢true}
 use Rattle.twkb_points.specs.Point.{Point}
@@ -7,20 +8,30 @@ use Rattle.twkb_polyline.specs.Polyline.{polyline, DecodesTo}
 use Rattle.twkb_tree.specs.Tree.{IsPrecision}
 use Rattle.twkb_tree.specs.Rows.{Row}
 use Rattle.twkb_tree.specs.Limits.{Allowance}
-use Rattle.twkb_tree.specs.Admits.{parent, first_child, steps_to, has_place, id_allowed, has_same_ids, is_whole, has_points, points_fit, precision_in_range, precision_fits, fits}
+use Rattle.twkb_tree.specs.Admits.{parent, first_child, steps_to, has_place, id_allowed}
+use Rattle.twkb_tree.specs.Admits.{has_same_ids, is_whole, has_points, points_fit}
+use Rattle.twkb_tree.specs.Admits.{precision_in_range, precision_fits, fits}
 use Rattle.twkb_tree.specs.Accepted.{nest_kept, geometry_rows, Accepts}
 use Rattle.twkb_tree.proofs.RowFacts.{Facts, facts, no_points_of}
 use Rattle.twkb_tree.proofs.RowRanges.{optional_id_is, precision_is}
 use Rattle.twkb_table.specs.Fields.{optional, IsDepthField, IsOptionalId, IsOptionalPrecision}
 use Rattle.twkb_tree.specs.Kind.{word_of}
 use Rattle.twkb_table.specs.Record.{record_of}
-use Rattle.twkb_table.specs.Judged.{Verdict, Accepted, When, Unless, UnlessFaulty, place_of, points_left, JudgedByPoints, JudgedByPrecision, JudgedByPlace, Judged}
-use Rattle.twkb_table.specs.declared.reason.RowReason.TheVariants.{BadDepth, BadKind, BadPlace, TooDeep, TooManyNodes, BadId, IdNotAllowed, MixedIds, BadPrecision, PrecisionMissing, PrecisionNotAllowed, PolylineNotAllowed, PointCount}
+use Rattle.twkb_table.specs.Judged.{Verdict, Accepted, When, Unless, UnlessFaulty, place_of}
+use Rattle.twkb_table.specs.Judged.{points_left, JudgedByPoints, JudgedByPrecision, JudgedByPlace}
+use Rattle.twkb_table.specs.Judged.{Judged}
+use Rattle.twkb_table.specs.declared.reason.RowReason.TheVariants.{BadDepth, BadKind, BadPlace}
+use Rattle.twkb_table.specs.declared.reason.RowReason.TheVariants.{TooDeep, TooManyNodes, BadId}
+use Rattle.twkb_table.specs.declared.reason.RowReason.TheVariants.{IdNotAllowed, MixedIds}
+use Rattle.twkb_table.specs.declared.reason.RowReason.TheVariants.{BadPrecision, PrecisionMissing}
+use Rattle.twkb_table.specs.declared.reason.RowReason.TheVariants.{PrecisionNotAllowed}
+use Rattle.twkb_table.specs.declared.reason.RowReason.TheVariants.{PolylineNotAllowed, PointCount}
 use Rattle.twkb_polyline.proofs.OneFault.{one_polyline, text_fault_none}
 use Rattle.twkb_table.proofs.FieldLemmas.{one_depth, one_word, one_optional, precision-ids}
 use Rattle.twkb_table.proofs.Verdicts.{both_true, both, stays_true, skip, pick}
 
-whole_known : (p : Option Row) (q : Option ℤ) → precision_fits p q ≡ true → (is_whole p ≡ true) × (is_some q ≡ false) → ⊥
+whole_known : (p : Option Row) (q : Option ℤ) → precision_fits p q ≡ true → (is_whole p ≡ true)
+    × (is_some q ≡ false) → ⊥
 whole_known p None h e = true≢false (sym (rw e.0 at h))
 whole_known p (Some n) h e = true≢false e.1
 
@@ -33,24 +44,35 @@ optional_precision_is None h = tt
 optional_precision_is (Some n) h = precision_is n h
 
 -- the row's points are the only ones to which its text decodes
-decoded : (l : Allowance) (before : List Row) (r : Row) → Accepts l before r → DecodesTo (polyline r.points) (points_left l (place_of r.depth before)) r.points
-decoded l before r a = record { spelled = refl; in_range = a.in_range; few = (let few = a.points in omega (arith, few)) }
+decoded : (l : Allowance) (before : List Row) (r : Row) → Accepts l before r
+    → DecodesTo (polyline r.points) (points_left l (place_of r.depth before)) r.points
+decoded l before r a = record {
+  spelled = refl;
+  in_range = a.in_range;
+  few = (let few = a.points in omega (arith, few));
+}
 
-judged_polyline : (l : Allowance) (before : List Row) (r : Row) (v : Verdict) → Facts (parent r.depth before) (first_child r.depth before) r → DecodesTo (polyline r.points) (points_left l (place_of r.depth before)) r.points
+judged_polyline : (l : Allowance) (before : List Row) (r : Row) (v : Verdict)
+    → Facts (parent r.depth before) (first_child r.depth before) r
+    → DecodesTo (polyline r.points) (points_left l (place_of r.depth before)) r.points
     → JudgedByPoints l (place_of r.depth before) r.kind r.id r.precision (polyline r.points) v → v ≡ Accepted r
 judged_polyline l before r v h own j =
     let k = r.kind in
     let w = is_whole (parent r.depth before) in
-    let Last : List Point → Type 0 = λ (ps : List Point). When v (points_fit k w ps ≡ false) PointCount (v ≡ Accepted (record { depth = r.depth; kind = k; id = r.id; precision = r.precision; points = ps })) in
+    let Last : List Point → Type 0 = λ (ps : List Point). When v (points_fit k w ps ≡ false)
+    PointCount (v ≡ Accepted
+    (record { depth = r.depth; kind = k; id = r.id; precision = r.precision; points = ps })) in
     let of : UnlessFaulty (polyline r.points) (points_left l (place_of r.depth before)) v Last =
     skip v PolylineNotAllowed j (λ e. e.0 (ap polyline (no_points_of k k w r.points refl e.1 h.points))) in
     let last : Last r.points = elim of [
-      | inl fault ↦ absurd (text_fault_none (polyline r.points) (points_left l (place_of r.depth before)) fault.0 fault.1 r.points fault.2 own)
+      | inl fault ↦ absurd (text_fault_none (polyline r.points)
+          (points_left l (place_of r.depth before)) fault.0 fault.1 r.points fault.2 own)
       | inr some ↦ subst Last (one_polyline some.0 r.points (sym some.1.spelled)) some.2
     ] in
     skip v PointCount last (stays_true (points_fit k w r.points) h.points)
 
-pub judged_only : (l : Allowance) (before : List Row) (r : Row) (v : Verdict) → Accepts l before r → r.depth ≤ 999 → Judged l before (record_of r) v → v ≡ Accepted r
+pub judged_only : (l : Allowance) (before : List Row) (r : Row) (v : Verdict) → Accepts l before r
+    → r.depth ≤ 999 → Judged l before (record_of r) v → v ≡ Accepted r
 judged_only l before r v a le j =
     let d = r.depth in
     let k = r.kind in
@@ -60,21 +82,35 @@ judged_only l before r v a le j =
     let h = facts p f r two.1 in
     let id = optional_id_is r.id h.id_range in
     let precise = optional_precision_is r.precision h.range in
-    let at = pick (IsDepthField (decimal d)) (λ e. Unless v (λ m. word_of k ≡ word_of m) BadKind (λ m. JudgedByPlace l (place_of e before) m (optional r.id) (optional r.precision) (polyline r.points) v)) v BadDepth d j (refl, le) (λ e q. one_depth e d q.1 le (sym q.0)) in
-    let of = pick (λ m. word_of k ≡ word_of m) (λ m. JudgedByPlace l (place_of d before) m (optional r.id) (optional r.precision) (polyline r.points) v) v BadKind k at refl (λ m q. sym (one_word k m q)) in
-    let place = skip v BadPlace of (stays_true (steps_to d before && has_place p k) (both (steps_to d before) (has_place p k) two.0 h.place)) in
+    let at = pick (IsDepthField (decimal d)) (λ e. Unless v (λ m. word_of k ≡ word_of m) BadKind
+    (λ m. JudgedByPlace l (place_of e before) m (optional r.id) (optional r.precision)
+    (polyline r.points) v)) v BadDepth d j (refl, le) (λ e q. one_depth e d q.1 le (sym q.0)) in
+    let of = pick (λ m. word_of k ≡ word_of m) (λ m. JudgedByPlace l (place_of d before) m
+    (optional r.id) (optional r.precision) (polyline r.points) v) v BadKind k at refl
+    (λ m q. sym (one_word k m q)) in
+    let place = skip v BadPlace of (stays_true (steps_to d before && has_place p k)
+    (both (steps_to d before) (has_place p k) two.0 h.place)) in
     let nest = skip v TooDeep place (stays_true (nest_kept l p d) a.nest) in
     let nodes = skip v TooManyNodes nest (λ over. (let under = a.nodes in omega (arith, over, under))) in
-    let ids = pick (IsOptionalId (optional r.id)) (λ i. When v (id_allowed p k i ≡ false) IdNotAllowed (When v (has_same_ids f i ≡ false) MixedIds (JudgedByPrecision l (place_of d before) k i (optional r.precision) (polyline r.points) v))) v BadId r.id nodes (refl, id) (λ i q. sym (one_optional r.id i id q.1 q.0)) in
+    let ids = pick (IsOptionalId (optional r.id))
+    (λ i. When v (id_allowed p k i ≡ false) IdNotAllowed
+    (When v (has_same_ids f i ≡ false) MixedIds (JudgedByPrecision l (place_of d before) k i
+    (optional r.precision) (polyline r.points) v))) v BadId r.id nodes (refl, id)
+    (λ i q. sym (one_optional r.id i id q.1 q.0)) in
     let allowed = skip v IdNotAllowed ids (stays_true (id_allowed p k r.id) h.id) in
     let same = skip v MixedIds allowed (stays_true (has_same_ids f r.id) h.same) in
-    let precisions = pick (IsOptionalPrecision (optional r.precision)) (λ q. When v ((is_whole p ≡ true) × (is_some q ≡ false)) PrecisionMissing (When v ((is_whole p ≡ false) × (is_some q ≡ true)) PrecisionNotAllowed (JudgedByPoints l (place_of d before) k r.id q (polyline r.points) v))) v BadPrecision r.precision same (refl, precise)
+    let precisions = pick (IsOptionalPrecision (optional r.precision))
+    (λ q. When v ((is_whole p ≡ true) × (is_some q ≡ false)) PrecisionMissing
+    (When v ((is_whole p ≡ false) × (is_some q ≡ true)) PrecisionNotAllowed
+    (JudgedByPoints l (place_of d before) k r.id q (polyline r.points) v))) v BadPrecision
+    r.precision same (refl, precise)
     (λ q e. sym (one_optional r.precision q (precision-ids r.precision precise) (precision-ids q e.1) e.0)) in
     let missing = skip v PrecisionMissing precisions (whole_known p r.precision h.precision) in
     let extra = skip v PrecisionNotAllowed missing (part_known p r.precision h.precision) in
     judged_polyline l before r v h (decoded l before r a) extra
 
-pub row_judged : (l : Allowance) (before : List Row) (r : Row) → Accepts l before r → r.depth ≤ 999 → Judged l before (record_of r) (Accepted r)
+pub row_judged : (l : Allowance) (before : List Row) (r : Row) → Accepts l before r → r.depth ≤ 999
+    → Judged l before (record_of r) (Accepted r)
 row_judged l before r a le =
     let d = r.depth in
     let k = r.kind in
@@ -82,13 +118,31 @@ row_judged l before r a le =
     let f = first_child d before in
     let two = both_true (steps_to d before) (fits p f r) a.admitted in
     let h = facts p f r two.1 in
-    let no_text : (polyline r.points ≡ [] → ⊥) × (has_points k ≡ false) → ⊥ = λ e. e.0 (ap polyline (no_points_of k k (is_whole p) r.points refl e.1 h.points)) in
-    let placed = stays_true (steps_to d before && has_place p k) (both (steps_to d before) (has_place p k) two.0 h.place) in
-    let few : l.nodes ≤ length (geometry_rows d before) → ⊥ = λ over. (let under = a.nodes in omega (arith, over, under)) in
+    let no_text : (polyline r.points ≡ [] → ⊥) × (has_points k ≡ false)
+    → ⊥ = λ e. e.0 (ap polyline (no_points_of k k (is_whole p) r.points refl e.1 h.points)) in
+    let placed = stays_true (steps_to d before && has_place p k)
+    (both (steps_to d before) (has_place p k) two.0 h.place) in
+    let few : l.nodes ≤ length (geometry_rows d before)
+    → ⊥ = λ over. (let under = a.nodes in omega (arith, over, under)) in
     let id = optional_id_is r.id h.id_range in
     let precise = optional_precision_is r.precision h.range in
     let counted = inr (stays_true (points_fit k (is_whole p) r.points) h.points, refl) in
     let points = inr (no_text, inr (r.points, decoded l before r a, counted)) in
-    let precisions = inr (r.precision, (refl, precise), inr (whole_known p r.precision h.precision, inr (part_known p r.precision h.precision, points))) in
-    let ids = inr (r.id, (refl, id), inr (stays_true (id_allowed p k r.id) h.id, inr (stays_true (has_same_ids f r.id) h.same, precisions))) in
+    let precisions = inr (
+      r.precision,
+      (refl, precise),
+      inr (
+        whole_known p r.precision h.precision,
+        inr
+            (part_known p r.precision h.precision, points),
+      ),
+    ) in
+    let ids = inr (
+      r.id,
+      (refl, id),
+      inr (
+        stays_true (id_allowed p k r.id) h.id,
+        inr (stays_true (has_same_ids f r.id) h.same, precisions),
+      ),
+    ) in
     inr (d, (refl, le), inr (k, refl, inr (placed, inr (stays_true (nest_kept l p d) a.nest, inr (few, ids)))))

@@ -1,5 +1,7 @@
 -- What a call of a reader of tables shows, from what its steps show.
-use Rattle.std.proofs.Common.{◌≡◌, ℕ, ◌<◌, ◌⊎◌, Bool, true, false, List, [], ◌∷◌, ◌++◌, length, Option, Some, None, Result, Ok, Err, refl, sym, ◌∙◌, subst, arith, inl, inr}
+use Rattle.std.proofs.Common.{◌≡◌, ℕ, ◌<◌, ◌⊎◌, Bool, true, false, List, [], ◌∷◌, ◌++◌, length}
+use Rattle.std.proofs.Common.{Option, Some, None, Result, Ok, Err, refl, sym, ◌∙◌, subst, arith}
+use Rattle.std.proofs.Common.{inl, inr}
 use Rattle.std.specs.Prelude.{◌↔◌, IfOk, IfSome}
 use Rattle.std.proofs.lemmas.Bool.{true≢false}
 use Rattle.twkb_tree.specs.Tree.{Tree, IsTree}
@@ -8,10 +10,12 @@ use Rattle.twkb_tree.specs.Rows.{Row, rows}
 use Rattle.twkb_tree.proofs.RootLaws.{one_geometry}
 use Rattle.twkb_table.specs.Record.{Record}
 use Rattle.twkb_table.specs.RowReading.{limits_of, waiting}
-use Rattle.twkb_table.specs.TableReading.{StandsAfter, GivesGeometry, Ends, GivesNext, GivesTree, MeetsEnd, IsReading, BeginsNext, ReadsRoot, ReadsOn, is_ended, is_spent}
+use Rattle.twkb_table.specs.TableReading.{StandsAfter, GivesGeometry, Ends, GivesNext, GivesTree}
+use Rattle.twkb_table.specs.TableReading.{MeetsEnd, IsReading, BeginsNext, ReadsRoot, ReadsOn}
+use Rattle.twkb_table.specs.TableReading.{is_ended, is_spent}
 use Rattle.twkb_table.specs.declared.table_fault.TableFault.{TableFault}
 use Rattle.twkb_table.specs.declared.table_reader.TableReader.{TableReader}
-use Rattle.twkb_table.proofs.HeaderCalls.{fresh, extends, still_read}
+use Rattle.twkb_table.proofs.HeaderCalls.{fresh, still_read}
 
 -- no root waits
 pub none_waiting : (ws : List Row) → (0 < length ws → ⊥) → ws ≡ []
@@ -21,8 +25,12 @@ none_waiting (w ∷ ws) none = absurd (none (omega arith))
 -- ---- a geometry and its end
 
 -- the root is in the flat form
-pub reading_in : {R : Type 0} (l : Allowance) (remaining : R → Option (List ℕ)) (told : Option (List ℕ)) (records : List Record) (given : List Tree) (root flat : List Row) (old new : TableReader R) → IsReading l remaining told records given root old → flat ≡ root → new.reader ≡ old.reader → is_ended new ≡ is_ended old
-    → new.number ≡ old.number → limits_of new.rows ≡ limits_of old.rows → is_spent new ≡ is_spent old → IsReading l remaining told records given flat new
+pub reading_in : {R : Type 0} (l : Allowance) (remaining : R → Option (List ℕ))
+    (told : Option (List ℕ)) (records : List Record) (given : List Tree) (root flat : List Row)
+    (old new : TableReader R) → IsReading l remaining told records given root old → flat ≡ root
+    → new.reader ≡ old.reader → is_ended new ≡ is_ended old
+    → new.number ≡ old.number → limits_of new.rows ≡ limits_of old.rows
+    → is_spent new ≡ is_spent old → IsReading l remaining told records given flat new
 reading_in l remaining told records given root flat old new r put source ended number limits spent = record {
   source = still_read remaining told records old new r.source source ended;
   count = number ∙ r.count;
@@ -34,79 +42,142 @@ reading_in l remaining told records given root flat old new r put source ended n
   unspent = spent ∙ r.unspent;
 }
 
-pub reads_by : {R : Type 0} (l : Allowance) (remaining : R → Option (List ℕ)) (told : Option (List ℕ)) (records : List Record) (given : List Tree) (so_far : List Row) (reader : TableReader R) (more : Bool) → (more ≡ true → (here : Record) × IsReading l remaining told (records ++ here ∷ []) given so_far reader)
-    → (more ≡ false → GivesNext l remaining told records given so_far reader) → ReadsOn l remaining told records given so_far reader (Ok more)
+pub reads_by : {R : Type 0} (l : Allowance) (remaining : R → Option (List ℕ))
+    (told : Option (List ℕ)) (records : List Record) (given : List Tree) (so_far : List Row)
+    (reader : TableReader R) (more : Bool) → (more ≡ true → (here : Record)
+    × IsReading l remaining told (records ++ here ∷ []) given so_far reader)
+    → (more ≡ false → GivesNext l remaining told records given so_far reader)
+    → ReadsOn l remaining told records given so_far reader (Ok more)
 reads_by l remaining told records given so_far reader true on end = on refl
 reads_by l remaining told records given so_far reader false on end = end refl
 
 -- one more row was read
-pub went_by : {R : Type 0} (l : Allowance) (remaining : R → Option (List ℕ)) (told : Option (List ℕ)) (records : List Record) (given : List Tree) (so_far : List Row) (reader : TableReader R) (more : Bool) → more ≡ true → ReadsOn l remaining told records given so_far reader (Ok more)
+pub went_by : {R : Type 0} (l : Allowance) (remaining : R → Option (List ℕ))
+    (told : Option (List ℕ)) (records : List Record) (given : List Tree) (so_far : List Row)
+    (reader : TableReader R) (more : Bool) → more ≡ true
+    → ReadsOn l remaining told records given so_far reader (Ok more)
     → (here : Record) × IsReading l remaining told (records ++ here ∷ []) given so_far reader
 went_by l remaining told records given so_far reader true e reads = reads
 went_by l remaining told records given so_far reader false e reads = cc e
 
 -- the geometry is complete
-pub ended_by : {R : Type 0} (l : Allowance) (remaining : R → Option (List ℕ)) (told : Option (List ℕ)) (records : List Record) (given : List Tree) (so_far : List Row) (reader : TableReader R) (more : Bool) → more ≡ false → ReadsOn l remaining told records given so_far reader (Ok more)
+pub ended_by : {R : Type 0} (l : Allowance) (remaining : R → Option (List ℕ))
+    (told : Option (List ℕ)) (records : List Record) (given : List Tree) (so_far : List Row)
+    (reader : TableReader R) (more : Bool) → more ≡ false
+    → ReadsOn l remaining told records given so_far reader (Ok more)
     → GivesNext l remaining told records given so_far reader
 ended_by l remaining told records given so_far reader true e reads = cc e
 ended_by l remaining told records given so_far reader false e reads = reads
 
 -- a root was read
-pub root_by : {R : Type 0} (l : Allowance) (remaining : R → Option (List ℕ)) (told : Option (List ℕ)) (records : List Record) (given : List Tree) (reader : TableReader R) (found : Bool) → found ≡ true → ReadsRoot l remaining told records given reader (Ok found)
+pub root_by : {R : Type 0} (l : Allowance) (remaining : R → Option (List ℕ))
+    (told : Option (List ℕ)) (records : List Record) (given : List Tree) (reader : TableReader R)
+    (found : Bool) → found ≡ true → ReadsRoot l remaining told records given reader (Ok found)
     → BeginsNext l remaining told records given (waiting reader.rows) reader
 root_by l remaining told records given reader found e reads = rw e at reads
 
 -- the table ended
-pub end_by : {R : Type 0} (l : Allowance) (remaining : R → Option (List ℕ)) (told : Option (List ℕ)) (records : List Record) (given : List Tree) (reader : TableReader R) (found : Bool) → found ≡ false → ReadsRoot l remaining told records given reader (Ok found)
+pub end_by : {R : Type 0} (l : Allowance) (remaining : R → Option (List ℕ)) (told : Option (List ℕ))
+    (records : List Record) (given : List Tree) (reader : TableReader R) (found : Bool)
+    → found ≡ false → ReadsRoot l remaining told records given reader (Ok found)
     → MeetsEnd l remaining told records given reader
 end_by l remaining told records given reader found e reads = rw e at reads
 
 -- ---- a call that goes on
 
 -- there is a row in the form, whether or not one was just appended
-pub some_row : (l : Bool) (before after : List Row) → 0 < length before → (l ≡ true → 0 < length after) → (l ≡ false → after ≡ before) → 0 < length after
+pub some_row : (l : Bool) (before after : List Row) → 0 < length before
+    → (l ≡ true → 0 < length after) → (l ≡ false → after ≡ before) → 0 < length after
 some_row true before after some more same = more refl
 some_row false before after some more same = subst (λ (rs : List Row). 0 < length rs) (sym (same refl)) some
 
 -- the reader is neither at its end nor spent
-pub goes_on : {P X : Type 0} (over before : Bool) → (over ≡ true → P) × (P → over ≡ true) → over ≡ false → before ≡ false → P ⊎ (before ≡ true) → X
+pub goes_on : {P X : Type 0} (over before : Bool) → (over ≡ true → P) × (P → over ≡ true)
+    → over ≡ false → before ≡ false → P ⊎ (before ≡ true) → X
 goes_on over before tells going fresh (inl p) = absurd (true≢false (sym (tells.1 p) ∙ going))
 goes_on over before tells going fresh (inr e) = absurd (true≢false (sym e ∙ fresh))
 
 -- an answer with a geometry is no refusal, before or after it
-pub not_spent : {A E : Type 0} (a : A) (f : E) (spent : Bool) → spent ≡ false → (◌≡◌ {A = Result A E} (Ok a) (Err f)) ↔ (spent ≡ true)
+pub not_spent : {A E : Type 0} (a : A) (f : E) (spent : Bool) → spent ≡ false
+    → (◌≡◌ {A = Result A E} (Ok a) (Err f)) ↔ (spent ≡ true)
 not_spent a f spent fresh = (λ e. cc e, λ e. absurd (true≢false (sym e ∙ fresh)))
 
 -- a form has rows only if they were given
-pub given_or_none : {E : Type 0} (found : Bool) (flat : List Row) → (◌≡◌ {A = Result Bool E} (Ok found) (Ok false) → flat ≡ []) → (◌≡◌ {A = Result Bool E} (Ok found) (Ok true)) ⊎ (flat ≡ [])
+pub given_or_none : {E : Type 0} (found : Bool) (flat : List Row)
+    → (◌≡◌ {A = Result Bool E} (Ok found) (Ok false) → flat ≡ [])
+    → (◌≡◌ {A = Result Bool E} (Ok found) (Ok true)) ⊎ (flat ≡ [])
 given_or_none true flat none = inl refl
 given_or_none false flat none = inr (none refl)
 
 -- the geometry of the rows that were given
-pub tree_given : {R : Type 0} (l : Allowance) (remaining : R → Option (List ℕ)) (told : Option (List ℕ)) (records : List Record) (given : List Tree) (flat : List Row) (reader : TableReader R) (tree : Tree) → GivesNext l remaining told records given flat reader → rows 0 tree ≡ flat → IsTree tree
+pub tree_given : {R : Type 0} (l : Allowance) (remaining : R → Option (List ℕ))
+    (told : Option (List ℕ)) (records : List Record) (given : List Tree) (flat : List Row)
+    (reader : TableReader R) (tree : Tree) → GivesNext l remaining told records given flat reader
+    → rows 0 tree ≡ flat → IsTree tree
     → GivesTree l remaining told records given tree reader
 tree_given l remaining told records given flat reader tree n e is_tree =
     let same : n.geometry ≡ tree = one_geometry n.geometry tree n.valid.tree is_tree (n.rows ∙ sym e) in
-    record { seen = n.seen; extends = n.extends; begins = n.begins; stands = subst (λ (h : Tree). StandsAfter l remaining told n.seen (given ++ h ∷ []) reader) same n.stands }
+    record {
+      seen = n.seen;
+      extends = n.extends;
+      begins = n.begins;
+      stands = subst (λ (h : Tree). StandsAfter l remaining told n.seen (given ++ h ∷ []) reader)
+          same n.stands;
+    }
 
 -- ---- the flat form put back
 
-stands_with : {R : Type 0} (l : Allowance) (remaining : R → Option (List ℕ)) (told : Option (List ℕ)) (records : List Record) (given : List Tree) (reader : TableReader R) (flat : List Row) → StandsAfter l remaining told records given reader → StandsAfter l remaining told records given (record reader { kept = flat })
-stands_with l remaining told records given reader flat s = record { source = s.source; count = s.count; few = s.few; limits = s.limits; gave = s.gave; unspent = s.unspent }
+stands_with : {R : Type 0} (l : Allowance) (remaining : R → Option (List ℕ))
+    (told : Option (List ℕ)) (records : List Record) (given : List Tree) (reader : TableReader R)
+    (flat : List Row) → StandsAfter l remaining told records given reader
+    → StandsAfter l remaining told records given (record reader { kept = flat })
+stands_with l remaining told records given reader flat s =
+    record {
+      source = s.source;
+      count = s.count;
+      few = s.few;
+      limits = s.limits;
+      gave = s.gave;
+      unspent = s.unspent;
+    }
 
-tree_kept : {R : Type 0} (l : Allowance) (remaining : R → Option (List ℕ)) (told : Option (List ℕ)) (records : List Record) (given : List Tree) (geometry : Tree) (reader : TableReader R) (flat : List Row) → GivesTree l remaining told records given geometry reader → GivesTree l remaining told records given geometry (record reader { kept = flat })
-tree_kept l remaining told records given geometry reader flat n = record { seen = n.seen; extends = n.extends; begins = n.begins; stands = stands_with l remaining told n.seen (given ++ geometry ∷ []) reader flat n.stands }
+tree_kept : {R : Type 0} (l : Allowance) (remaining : R → Option (List ℕ)) (told : Option (List ℕ))
+    (records : List Record) (given : List Tree) (geometry : Tree) (reader : TableReader R)
+    (flat : List Row) → GivesTree l remaining told records given geometry reader
+    → GivesTree l remaining told records given geometry (record reader { kept = flat })
+tree_kept l remaining told records given geometry reader flat n =
+    record {
+      seen = n.seen;
+      extends = n.extends;
+      begins = n.begins;
+      stands = stands_with l remaining told n.seen (given ++ geometry ∷ []) reader flat n.stands;
+    }
 
-end_kept : {R : Type 0} (l : Allowance) (remaining : R → Option (List ℕ)) (told : Option (List ℕ)) (records : List Record) (given : List Tree) (reader : TableReader R) (flat : List Row) → MeetsEnd l remaining told records given reader → MeetsEnd l remaining told records given (record reader { kept = flat })
-end_kept l remaining told records given reader flat m = record { seen = m.seen; extends = m.extends; all = m.all; named = m.named; stands = stands_with l remaining told m.seen given reader flat m.stands }
+end_kept : {R : Type 0} (l : Allowance) (remaining : R → Option (List ℕ)) (told : Option (List ℕ))
+    (records : List Record) (given : List Tree) (reader : TableReader R) (flat : List Row)
+    → MeetsEnd l remaining told records given reader
+    → MeetsEnd l remaining told records given (record reader { kept = flat })
+end_kept l remaining told records given reader flat m =
+    record {
+      seen = m.seen;
+      extends = m.extends;
+      all = m.all;
+      named = m.named;
+      stands = stands_with l remaining told m.seen given reader flat m.stands;
+    }
 
-pub found_kept : {R : Type 0} (remaining : R → Option (List ℕ)) (old new : TableReader R) (before after : List Row) (r : Result (Option Tree) TableFault)
+pub found_kept : {R : Type 0} (remaining : R → Option (List ℕ)) (old new : TableReader R)
+    (before after : List Row) (r : Result (Option Tree) TableFault)
     → IfOk r (λ found. IfSome found (λ geometry. GivesGeometry remaining (record old { kept = before }) geometry new))
     → IfOk r (λ found. IfSome found (λ geometry. GivesGeometry remaining old geometry (record new { kept = after })))
-found_kept remaining old new before after (Ok (Some geometry)) h = λ l told records given s. tree_kept l remaining told records given geometry new after (h l told records given (stands_with l remaining told records given old before s))
+found_kept remaining old new before after (Ok (Some geometry)) h = λ l told records given s.
+    tree_kept l remaining told records given geometry new after
+    (h l told records given (stands_with l remaining told records given old before s))
 found_kept remaining old new before after (Ok None) h = tt
 found_kept remaining old new before after (Err f) h = tt
 
 pub none_kept : {R : Type 0} (remaining : R → Option (List ℕ)) (old new : TableReader R) (before after : List Row)
     → Ends remaining (record old { kept = before }) new → Ends remaining old (record new { kept = after })
-none_kept remaining old new before after h l told records given s = end_kept l remaining told records given new after (h l told records given (stands_with l remaining told records given old before s))
+none_kept remaining old new before after h l told records given s = end_kept l remaining told
+    records given new after (h l told records given
+    (stands_with l remaining told records given old before s))

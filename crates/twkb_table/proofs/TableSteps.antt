@@ -1,5 +1,7 @@
 -- What one more record shows to a reader of tables.
-use Rattle.std.proofs.Common.{◌≡◌, ℕ, ◌+◌, ◌^◌, ◌<◌, Bool, true, false, List, [], ◌∷◌, ◌++◌, length, Option, Result, Ok, Err, refl, sym, ◌∙◌, ap, subst, arith, length-append, inl, inr}
+use Rattle.std.proofs.Common.{◌≡◌, ℕ, ◌+◌, ◌^◌, ◌<◌, Bool, true, false, List, [], ◌∷◌, ◌++◌, length}
+use Rattle.std.proofs.Common.{Option, Result, Ok, Err, refl, sym, ◌∙◌, ap, subst, arith}
+use Rattle.std.proofs.Common.{length-append, inl, inr}
 use Rattle.std.specs.Prelude.{reverse, IfSome}
 use Rattle.std.proofs.lemmas.Bool.{true≢false}
 use Rattle.twkb_tree.specs.Tree.{Tree}
@@ -12,27 +14,38 @@ use Rattle.twkb_table.specs.Judged.{Accepted, Refused, Judged}
 use Rattle.twkb_table.specs.RowFault.{AreComplete, all_but_last}
 use Rattle.twkb_table.specs.CsvRecords.{AreRecordsOf, BeginWith, standing}
 use Rattle.twkb_table.specs.RowReading.{limits_of, waiting, BeginsFirst, JudgedAfter, GoesOn, EndsBefore}
-use Rattle.twkb_table.specs.TableReading.{HaveGiven, StandsAfter, GivesNext, MeetsEnd, IsRefusedAt, HasTooMany, IsReading, BeginsNext, HasRead, IsOver, is_ended, is_spent}
+use Rattle.twkb_table.specs.TableReading.{HaveGiven, StandsAfter, GivesNext, MeetsEnd, IsRefusedAt}
+use Rattle.twkb_table.specs.TableReading.{HasTooMany, IsReading, BeginsNext, HasRead, IsOver}
+use Rattle.twkb_table.specs.TableReading.{is_ended, is_spent}
 use Rattle.twkb_table.specs.declared.reason.RowReason.{RowReason}
 use Rattle.twkb_table.specs.declared.table_fault.TableFault.{TableFault}
 use Rattle.twkb_table.specs.declared.table_reader.TableReader.{TableReader}
 use Rattle.twkb_table.proofs.NextRecord.{row_more, root_more, refused_more}
-use Rattle.twkb_table.proofs.TableReaderLemmas.{text_begins, extends_none, extends_one, never_none, named_some, names_so_far, all_but_last-last, judged_after}
+use Rattle.twkb_table.proofs.TableReaderLemmas.{text_begins, extends_none, extends_one, never_none}
+use Rattle.twkb_table.proofs.TableReaderLemmas.{named_some, names_so_far, all_but_last-last}
+use Rattle.twkb_table.proofs.TableReaderLemmas.{judged_after}
 
-one_more : (m n : ℕ) (records : List Record) (here : Record) → n ≡ m + 1 → m ≡ length records → n ≡ length (records ++ here ∷ [])
+one_more : (m n : ℕ) (records : List Record) (here : Record) → n ≡ m + 1 → m ≡ length records
+    → n ≡ length (records ++ here ∷ [])
 one_more m n records here next count = omega (arith, next, count, length-append records (here ∷ []))
 
-few_more : (m n : ℕ) (records : List Record) (here : Record) → n ≡ m + 1 → m ≡ length records → n < 2 ^ 32 → length (records ++ here ∷ []) < 2 ^ 32
+few_more : (m n : ℕ) (records : List Record) (here : Record) → n ≡ m + 1 → m ≡ length records
+    → n < 2 ^ 32 → length (records ++ here ∷ []) < 2 ^ 32
 few_more m n records here next count few = omega (arith, next, count, few, length-append records (here ∷ []))
 
 -- ---- while a geometry is read
 
 -- the record is one more row
-pub reads_more : {R : Type 0} (l : Allowance) (remaining : R → Option (List ℕ)) (told : Option (List ℕ)) (records : List Record) (given : List Tree) (before after : List Row) (here : Record) (old new : TableReader R)
-    → IsReading l remaining told records given before old → HasRead remaining told (records ++ here ∷ []) new → new.number ≡ old.number + 1 → new.number < 2 ^ 32 → limits_of new.rows ≡ limits_of old.rows → is_spent new ≡ is_spent old
+pub reads_more : {R : Type 0} (l : Allowance) (remaining : R → Option (List ℕ))
+    (told : Option (List ℕ)) (records : List Record) (given : List Tree) (before after : List Row)
+    (here : Record) (old new : TableReader R)
+    → IsReading l remaining told records given before old
+    → HasRead remaining told (records ++ here ∷ []) new → new.number ≡ old.number + 1
+    → new.number < 2 ^ 32 → limits_of new.rows ≡ limits_of old.rows → is_spent new ≡ is_spent old
     → GoesOn old.rows before here new.rows after → IsReading l remaining told (records ++ here ∷ []) given after new
 reads_more l remaining told records given before after here old new r source number few limits spent g =
-    let j = judged_after l (limits_of old.rows) given r.geometry before here (Accepted g.row) r.limits r.rows g.judged in
+    let j = judged_after l (limits_of old.rows) given r.geometry before here (Accepted g.row)
+    r.limits r.rows g.judged in
     let n = row_more l records here given r.geometry g.row r.named j g.below in
     record {
       source = source;
@@ -46,11 +59,17 @@ reads_more l remaining told records given before after here old new r source num
     }
 
 -- the record is the root of another geometry
-pub reads_next : {R : Type 0} (l : Allowance) (remaining : R → Option (List ℕ)) (told : Option (List ℕ)) (records : List Record) (given : List Tree) (before : List Row) (here : Record) (old new : TableReader R)
-    → IsReading l remaining told records given before old → HasRead remaining told (records ++ here ∷ []) new → new.number ≡ old.number + 1 → new.number < 2 ^ 32 → limits_of new.rows ≡ limits_of old.rows → is_spent new ≡ is_spent old
-    → is_ended new ≡ false → EndsBefore old.rows before here new.rows → GivesNext l remaining told records given before new
+pub reads_next : {R : Type 0} (l : Allowance) (remaining : R → Option (List ℕ))
+    (told : Option (List ℕ)) (records : List Record) (given : List Tree) (before : List Row)
+    (here : Record) (old new : TableReader R)
+    → IsReading l remaining told records given before old
+    → HasRead remaining told (records ++ here ∷ []) new → new.number ≡ old.number + 1
+    → new.number < 2 ^ 32 → limits_of new.rows ≡ limits_of old.rows → is_spent new ≡ is_spent old
+    → is_ended new ≡ false → EndsBefore old.rows before here new.rows
+    → GivesNext l remaining told records given before new
 reads_next l remaining told records given before here old new r source number few limits spent going e =
-    let j = judged_after l (limits_of old.rows) given r.geometry before here (Accepted e.row) r.limits r.rows e.judged in
+    let j = judged_after l (limits_of old.rows) given r.geometry before here (Accepted e.row)
+    r.limits r.rows e.judged in
     let n = root_more l records here (given ++ r.geometry ∷ []) e.row r.named j e.root in
     record {
       seen = records ++ here ∷ [];
@@ -64,14 +83,19 @@ reads_next l remaining told records given before here old new r source number fe
         count = one_more old.number new.number records here number r.count;
         few = few_more old.number new.number records here number r.count few;
         limits = limits ∙ r.limits;
-        gave = subst (λ w. HaveGiven l (records ++ here ∷ []) (given ++ r.geometry ∷ []) w (is_ended new)) (sym e.waits) (n.geometry, n.named, n.rows_are, going);
+        gave = subst (λ w. HaveGiven l (records ++ here ∷ []) (given ++ r.geometry ∷ []) w
+            (is_ended new)) (sym e.waits) (n.geometry, n.named, n.rows_are, going);
         unspent = spent ∙ r.unspent;
       };
     }
 
 -- the table ended
-pub reads_end : {R : Type 0} (l : Allowance) (remaining : R → Option (List ℕ)) (told : Option (List ℕ)) (records : List Record) (given : List Tree) (before : List Row) (old new : TableReader R)
-    → IsReading l remaining told records given before old → HasRead remaining told records new → is_ended new ≡ true → new.number ≡ old.number → limits_of new.rows ≡ limits_of old.rows → is_spent new ≡ is_spent old
+pub reads_end : {R : Type 0} (l : Allowance) (remaining : R → Option (List ℕ))
+    (told : Option (List ℕ)) (records : List Record) (given : List Tree) (before : List Row)
+    (old new : TableReader R)
+    → IsReading l remaining told records given before old → HasRead remaining told records new
+    → is_ended new ≡ true → new.number ≡ old.number → limits_of new.rows ≡ limits_of old.rows
+    → is_spent new ≡ is_spent old
     → waiting new.rows ≡ [] → GivesNext l remaining told records given before new
 reads_end l remaining told records given before old new r source ended number limits spent none = record {
   seen = records;
@@ -85,31 +109,47 @@ reads_end l remaining told records given before old new r source ended number li
     count = number ∙ r.count;
     few = r.few;
     limits = limits ∙ r.limits;
-    gave = subst (λ w. HaveGiven l records (given ++ r.geometry ∷ []) w (is_ended new)) (sym none) (names_so_far l records (given ++ r.geometry ∷ []) r.named, inr ended);
+    gave = subst (λ w. HaveGiven l records (given ++ r.geometry ∷ []) w (is_ended new)) (sym none)
+        (names_so_far l records (given ++ r.geometry ∷ []) r.named, inr ended);
     unspent = spent ∙ r.unspent;
   };
 }
 
 -- the record is refused
-refused_at : (l : Allowance) (told : Option (List ℕ)) (records : List Record) (here : Record) (gs given : List Tree) (number : ℕ) (reason : RowReason) → IsAllowance l → Named l records gs → all_but_last gs ≡ given
-    → IfSome told (λ text. BeginWith text (records ++ here ∷ [])) → Judged l (reverse (rows_of gs)) here (Refused reason) → number ≡ length records + 1 → IsRefusedAt l told records given number reason
+refused_at : (l : Allowance) (told : Option (List ℕ)) (records : List Record) (here : Record)
+    (gs given : List Tree) (number : ℕ) (reason : RowReason) → IsAllowance l → Named l records gs
+    → all_but_last gs ≡ given
+    → IfSome told (λ text. BeginWith text (records ++ here ∷ []))
+    → Judged l (reverse (rows_of gs)) here (Refused reason) → number ≡ length records + 1
+    → IsRefusedAt l told records given number reason
 refused_at l told records here gs given number reason cap n but begins j count = record {
   seen = records ++ here ∷ [];
   extends = extends_one records here;
   begins = begins;
   none = λ e. absurd (never_none records here e);
-  complete = subst (λ ts. AreComplete l (records ++ here ∷ []) number reason ts) but (subst (λ m. AreComplete l (records ++ here ∷ []) m reason (all_but_last gs)) (sym count) (refused_more l records here gs reason cap n j));
+  complete = subst (λ ts. AreComplete l (records ++ here ∷ []) number reason ts) but
+      (subst (λ m. AreComplete l (records ++ here ∷ []) m reason (all_but_last gs)) (sym count)
+      (refused_more l records here gs reason cap n j));
 }
 
-pub reads_refused : {R : Type 0} (l : Allowance) (remaining : R → Option (List ℕ)) (told : Option (List ℕ)) (records : List Record) (given : List Tree) (before : List Row) (here : Record) (old new : TableReader R) (reason : RowReason)
-    → IsReading l remaining told records given before old → HasRead remaining told (records ++ here ∷ []) new → new.number ≡ old.number + 1 → IsAllowance (limits_of old.rows)
+pub reads_refused : {R : Type 0} (l : Allowance) (remaining : R → Option (List ℕ))
+    (told : Option (List ℕ)) (records : List Record) (given : List Tree) (before : List Row)
+    (here : Record) (old new : TableReader R) (reason : RowReason)
+    → IsReading l remaining told records given before old
+    → HasRead remaining told (records ++ here ∷ []) new → new.number ≡ old.number + 1
+    → IsAllowance (limits_of old.rows)
     → JudgedAfter (limits_of old.rows) before here (Refused reason) → IsRefusedAt l told records given new.number reason
 reads_refused l remaining told records given before here old new reason r source number cap j =
-    refused_at l told records here (given ++ r.geometry ∷ []) given new.number reason (subst IsAllowance r.limits cap) r.named (all_but_last-last given r.geometry)
-    (text_begins remaining told (records ++ here ∷ []) new source) (judged_after l (limits_of old.rows) given r.geometry before here (Refused reason) r.limits r.rows j) (omega (arith, number, r.count))
+    refused_at l told records here (given ++ r.geometry ∷ []) given new.number reason
+    (subst IsAllowance r.limits cap) r.named (all_but_last-last given r.geometry)
+    (text_begins remaining told (records ++ here ∷ []) new source)
+    (judged_after l (limits_of old.rows) given r.geometry before here (Refused reason) r.limits
+    r.rows j) (omega (arith, number, r.count))
 
 -- the table has too many records
-pub too_many : (l : Allowance) (told : Option (List ℕ)) (records : List Record) (given gs : List Tree) (number : ℕ) (here : Record) → Named l records gs → given ≡ all_but_last gs → number ≡ length records → number + 1 ≡ 2 ^ 32
+pub too_many : (l : Allowance) (told : Option (List ℕ)) (records : List Record)
+    (given gs : List Tree) (number : ℕ) (here : Record) → Named l records gs
+    → given ≡ all_but_last gs → number ≡ length records → number + 1 ≡ 2 ^ 32
     → IfSome told (λ text. BeginWith text (records ++ here ∷ [])) → HasTooMany l told records given
 too_many l told records given gs number here named complete count last begins = record {
   before = records;
@@ -125,9 +165,14 @@ too_many l told records given gs number here named complete count last begins = 
 -- ---- if no root waits
 
 -- the table ended, and no root waited
-pub meets_end : {R : Type 0} (l : Allowance) (remaining : R → Option (List ℕ)) (told : Option (List ℕ)) (records : List Record) (given : List Tree) (old new : TableReader R)
-    → StandsAfter l remaining told records given old → waiting old.rows ≡ [] → 0 < old.number → HasRead remaining told records new → is_ended new ≡ true → IfSome told (λ text. AreRecordsOf text records)
-    → new.number ≡ old.number → limits_of new.rows ≡ limits_of old.rows → is_spent new ≡ is_spent old → waiting new.rows ≡ [] → MeetsEnd l remaining told records given new
+pub meets_end : {R : Type 0} (l : Allowance) (remaining : R → Option (List ℕ))
+    (told : Option (List ℕ)) (records : List Record) (given : List Tree) (old new : TableReader R)
+    → StandsAfter l remaining told records given old → waiting old.rows ≡ [] → 0 < old.number
+    → HasRead remaining told records new → is_ended new ≡ true
+    → IfSome told (λ text. AreRecordsOf text records)
+    → new.number ≡ old.number → limits_of new.rows ≡ limits_of old.rows
+    → is_spent new ≡ is_spent old → waiting new.rows ≡ []
+    → MeetsEnd l remaining told records given new
 meets_end l remaining told records given old new s none some source ended all number limits spent still =
     let gave = subst (λ w. HaveGiven l records given w (is_ended old)) none s.gave in
     record {
@@ -146,40 +191,59 @@ meets_end l remaining told records given old new s none some source ended all nu
     }
 
 -- before the end nothing was returned
-none_given : (l : Allowance) (records : List Record) (given : List Tree) (ended : Bool) → HaveGiven l records given [] ended → ended ≡ false → 0 < length records → Named l records [] × (given ≡ [])
-none_given l records given ended (n, inl none) going some = (subst (λ gs. Named l records gs) none (named_some l records given some n), none)
+none_given : (l : Allowance) (records : List Record) (given : List Tree) (ended : Bool)
+    → HaveGiven l records given [] ended → ended ≡ false → 0 < length records → Named l records []
+    × (given ≡ [])
+none_given l records given ended (n, inl none) going some =
+    (subst (λ gs. Named l records gs) none (named_some l records given some n), none)
 none_given l records given ended (n, inr over) going some = absurd (true≢false (sym over ∙ going))
 
-pub none_before : {R : Type 0} (l : Allowance) (remaining : R → Option (List ℕ)) (told : Option (List ℕ)) (records : List Record) (given : List Tree) (reader : TableReader R) → StandsAfter l remaining told records given reader → waiting reader.rows ≡ [] → 0 < reader.number
+pub none_before : {R : Type 0} (l : Allowance) (remaining : R → Option (List ℕ))
+    (told : Option (List ℕ)) (records : List Record) (given : List Tree) (reader : TableReader R)
+    → StandsAfter l remaining told records given reader → waiting reader.rows ≡ []
+    → 0 < reader.number
     → is_ended reader ≡ false → Named l records [] × (given ≡ [])
 none_before l remaining told records given reader s none some going =
-    none_given l records given (is_ended reader) (subst (λ w. HaveGiven l records given w (is_ended reader)) none s.gave) going (omega (arith, some, s.count))
+    none_given l records given (is_ended reader) (subst
+    (λ w. HaveGiven l records given w (is_ended reader)) none s.gave) going
+    (omega (arith, some, s.count))
 
 -- a fault came, so the end was not reached
-pub not_ended : (ended : Bool) (f : TableFault) → (ended ≡ true → ◌≡◌ {A = Result Bool TableFault} (Err f) (Ok false)) → ended ≡ false
+pub not_ended : (ended : Bool) (f : TableFault)
+    → (ended ≡ true → ◌≡◌ {A = Result Bool TableFault} (Err f) (Ok false)) → ended ≡ false
 not_ended false f over = refl
 not_ended true f over = (let same = over refl in cc same)
 
 -- after the end all geometries were returned
-pub over_meets : {R : Type 0} (l : Allowance) (remaining : R → Option (List ℕ)) (told : Option (List ℕ)) (records : List Record) (given : List Tree) (reader : TableReader R) → StandsAfter l remaining told records given reader → IsOver reader
+pub over_meets : {R : Type 0} (l : Allowance) (remaining : R → Option (List ℕ))
+    (told : Option (List ℕ)) (records : List Record) (given : List Tree) (reader : TableReader R)
+    → StandsAfter l remaining told records given reader → IsOver reader
     → MeetsEnd l remaining told records given reader
 over_meets l remaining told records given reader s over =
-    meets_end l remaining told records given reader reader s over.none over.begun s.source over.ended (subst (λ e. standing remaining told records e reader.reader) over.ended s.source) refl refl refl over.none
+    meets_end l remaining told records given reader reader s over.none over.begun s.source
+    over.ended (subst (λ e. standing remaining told records e reader.reader) over.ended
+    s.source) refl refl refl over.none
 
 -- a record came, so the end was not reached
-pub going_on : (ended found : Bool) → (ended ≡ true → ◌≡◌ {A = Result Bool TableFault} (Ok found) (Ok false)) → found ≡ true → ended ≡ false
+pub going_on : (ended found : Bool) → (ended ≡ true
+    → ◌≡◌ {A = Result Bool TableFault} (Ok found) (Ok false)) → found ≡ true → ended ≡ false
 going_on false found over e = refl
 going_on true true over e = (let same = over refl in cc same)
 going_on true false over e = cc e
 
 -- the record is the first root
-pub begins_next : {R : Type 0} (l : Allowance) (remaining : R → Option (List ℕ)) (told : Option (List ℕ)) (records : List Record) (given : List Tree) (here : Record) (old new : TableReader R)
-    → StandsAfter l remaining told records given old → waiting old.rows ≡ [] → 0 < old.number → is_ended old ≡ false → HasRead remaining told (records ++ here ∷ []) new
-    → new.number ≡ old.number + 1 → new.number < 2 ^ 32 → limits_of new.rows ≡ limits_of old.rows → is_spent new ≡ is_spent old → BeginsFirst old.rows here new.rows
+pub begins_next : {R : Type 0} (l : Allowance) (remaining : R → Option (List ℕ))
+    (told : Option (List ℕ)) (records : List Record) (given : List Tree) (here : Record)
+    (old new : TableReader R)
+    → StandsAfter l remaining told records given old → waiting old.rows ≡ [] → 0 < old.number
+    → is_ended old ≡ false → HasRead remaining told (records ++ here ∷ []) new
+    → new.number ≡ old.number + 1 → new.number < 2 ^ 32 → limits_of new.rows ≡ limits_of old.rows
+    → is_spent new ≡ is_spent old → BeginsFirst old.rows here new.rows
     → BeginsNext l remaining told records given (waiting new.rows) new
 begins_next l remaining told records given here old new s none some going source number few limits spent first =
     let before = none_before l remaining told records given old s none some going in
-    let n = root_more l records here [] first.row before.0 (subst (λ m. Judged m [] here (Accepted first.row)) s.limits first.judged) first.root in
+    let n = root_more l records here [] first.row before.0
+    (subst (λ m. Judged m [] here (Accepted first.row)) s.limits first.judged) first.root in
     record {
       seen = records ++ here ∷ [];
       extends = extends_one records here;
@@ -195,10 +259,16 @@ begins_next l remaining told records given here old new s none some going source
       };
     }
 
-pub first_refused : {R : Type 0} (l : Allowance) (remaining : R → Option (List ℕ)) (told : Option (List ℕ)) (records : List Record) (given : List Tree) (here : Record) (old new : TableReader R) (reason : RowReason)
-    → StandsAfter l remaining told records given old → waiting old.rows ≡ [] → 0 < old.number → is_ended old ≡ false → HasRead remaining told (records ++ here ∷ []) new
-    → new.number ≡ old.number + 1 → IsAllowance (limits_of old.rows) → Judged (limits_of old.rows) [] here (Refused reason) → IsRefusedAt l told records given new.number reason
+pub first_refused : {R : Type 0} (l : Allowance) (remaining : R → Option (List ℕ))
+    (told : Option (List ℕ)) (records : List Record) (given : List Tree) (here : Record)
+    (old new : TableReader R) (reason : RowReason)
+    → StandsAfter l remaining told records given old → waiting old.rows ≡ [] → 0 < old.number
+    → is_ended old ≡ false → HasRead remaining told (records ++ here ∷ []) new
+    → new.number ≡ old.number + 1 → IsAllowance (limits_of old.rows)
+    → Judged (limits_of old.rows) [] here (Refused reason)
+    → IsRefusedAt l told records given new.number reason
 first_refused l remaining told records given here old new reason s none some going source number cap j =
     let first = none_before l remaining told records given old s none some going in
-    refused_at l told records here [] given new.number reason (subst IsAllowance s.limits cap) first.0 (sym first.1) (text_begins remaining told (records ++ here ∷ []) new source)
+    refused_at l told records here [] given new.number reason (subst IsAllowance s.limits cap)
+    first.0 (sym first.1) (text_begins remaining told (records ++ here ∷ []) new source)
     (subst (λ m. Judged m [] here (Refused reason)) s.limits j) (omega (arith, number, s.count))

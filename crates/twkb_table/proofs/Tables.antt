@@ -29,7 +29,8 @@ record IsRanged (r : Row) : Type 0 where
 
 ranged_row : (l : Allowance) (before : List Row) (r : Row) → Accepts l before r → IsRanged r
 ranged_row l before r a =
-    let two = both_true (steps_to r.depth before) (fits (parent r.depth before) (first_child r.depth before) r) a.admitted in
+    let two = both_true (steps_to r.depth before)
+    (fits (parent r.depth before) (first_child r.depth before) r) a.admitted in
     let h = facts (parent r.depth before) (first_child r.depth before) r two.1 in
     record { id = optional_id_is r.id h.id_range; precision = optional_precision_is r.precision h.range }
 
@@ -43,10 +44,13 @@ shallower m n (r ∷ rs) le h = (omega (arith, h.0), shallower m n rs le h.1)
 
 -- no row of valid geometries is deeper than a field can say
 pub shallow_rows : (l : Allowance) (gs : List Tree) → IsAllowance l → AreValid l gs → AreShallow 999 (rows_of gs)
-shallow_rows l gs cap v = let most = cap.nest_cap in shallower (l.nest + 2) 999 (rows_of gs) (omega (arith, most)) (valid_depths l (rows_of gs) (gs, v, refl))
+shallow_rows l gs cap v = let most = cap.nest_cap in
+    shallower (l.nest + 2) 999 (rows_of gs) (omega (arith, most))
+    (valid_depths l (rows_of gs) (gs, v, refl))
 
 -- what is true of each row of a reversed list is true of each row of the list
-all_back : (P : Row → Type 0) (xs ys : List Row) → AllByRecursion P (reverse_aux xs ys) → AllByRecursion P xs × AllByRecursion P ys
+all_back : (P : Row → Type 0) (xs ys : List Row) → AllByRecursion P (reverse_aux xs ys)
+    → AllByRecursion P xs × AllByRecursion P ys
 all_back P [] ys h = (tt, h)
 all_back P (x ∷ xs) ys h = let t = all_back P xs (x ∷ ys) h in ((t.1.0, t.0), t.1.1)
 
@@ -65,9 +69,11 @@ pub geometries : (l : Allowance) (gs : List Tree) → AreValid l gs → AreGeome
 geometries l [] v = tt
 geometries l (g ∷ gs) v = (v.0.tree, geometries l gs v.1)
 
-pub one_table : (l : Allowance) (records : List Record) (gs hs : List Tree) → IsAllowance l → Named l records gs → Named l records hs → gs ≡ hs
+pub one_table : (l : Allowance) (records : List Record) (gs hs : List Tree) → IsAllowance l
+    → Named l records gs → Named l records hs → gs ≡ hs
 one_table l records gs hs cap a b =
-    let tables : header ∷ map record_of (rows_of gs) ≡ header ∷ map record_of (rows_of hs) = sym a.table_of ∙ b.table_of in
+    let tables : header ∷ map record_of (rows_of gs) ≡ header ∷ map record_of (rows_of hs) =
+    sym a.table_of ∙ b.table_of in
     let lists = tail_same header header (map record_of (rows_of gs)) (map record_of (rows_of hs)) tables in
     let same = one_list (rows_of gs) (rows_of hs) (plain_rows l gs cap a.valid) (plain_rows l hs cap b.valid) lists in
     one_reading gs hs (geometries l gs a.valid) (geometries l hs b.valid) same
@@ -96,11 +102,18 @@ split (r ∷ rs) (x ∷ xs) ys e =
       others = rest.others;
     }
 
-pub table_front : (l : Allowance) (front more : List Record) (gs : List Tree) → (front ≡ [] → ⊥) → Named l (front ++ more) gs → (hs : List Tree) × Named l front hs
+pub table_front : (l : Allowance) (front more : List Record) (gs : List Tree) → (front ≡ [] → ⊥)
+    → Named l (front ++ more) gs → (hs : List Tree) × Named l front hs
 table_front l [] more gs some n = absurd (some refl)
 table_front l (h ∷ front) more gs some n =
     let head = head_same h header (front ++ more) (map record_of (rows_of gs)) n.table_of in
     let rest = tail_same h header (front ++ more) (map record_of (rows_of gs)) n.table_of in
     let s = split (rows_of gs) front more (sym rest) in
-    let v = valid_front l s.front s.more (gs, n.valid, s.whole) in
-    (v.0, record { table_of = ap (λ q. q ∷ front) head ∙ ap (λ qs. header ∷ qs) (sym s.fronts ∙ ap (λ qs. map record_of qs) (sym v.2)); valid = v.1 })
+    let v = valid_front l s.front s.more (gs, n.valid, s.whole) in (
+      v.0,
+      record {
+        table_of = ap (λ q. q ∷ front) head
+            ∙ ap (λ qs. header ∷ qs) (sym s.fronts ∙ ap (λ qs. map record_of qs) (sym v.2));
+        valid = v.1;
+      },
+    )

@@ -1,5 +1,6 @@
 -- The fields of rows are written without quotes.
-use Rattle.std.proofs.Common.{◌≡◌, ℕ, suc, ◌+◌, ◌<◌, ◌≤◌, ◌^◌, ◌%◌, Bool, true, false, List, [], ◌∷◌, ◌++◌, Option, Some, None, refl, ◌∙◌, ap, arith, ne_eqb}
+use Rattle.std.proofs.Common.{◌≡◌, ℕ, suc, ◌+◌, ◌<◌, ◌≤◌, ◌^◌, ◌%◌, Bool, true, false, List, []}
+use Rattle.std.proofs.Common.{◌∷◌, ◌++◌, Option, Some, None, refl, ◌∙◌, ap, arith, ne_eqb}
 use Rattle.std.specs.Prelude.{ℤ, pos, negsuc, IfSome, decimal}
 use Rattle.std.specs.List.{AllByRecursion}
 use Rattle.std.specs.Fmt.{signed_decimal}
@@ -51,9 +52,11 @@ fields_same [] h = refl
 fields_same (field ∷ fields) h = rw (field_same field h.0, fields_same fields h.1) refl
 
 -- a record of at least two fields is written as its line
-pub row_same : (x y : List ℕ) (ys : Record) → AreBare (x ∷ y ∷ ys) → row_text default_writer (x ∷ y ∷ ys) ≡ joined (x ∷ y ∷ ys) ++ 10 ∷ []
+pub row_same : (x y : List ℕ) (ys : Record) → AreBare (x ∷ y ∷ ys)
+    → row_text default_writer (x ∷ y ∷ ys) ≡ joined (x ∷ y ∷ ys) ++ 10 ∷ []
 unfolding is_blank
-row_same x y ys h = ap (λ t. (t ++ fields_text default_writer (y ∷ ys)) ++ 10 ∷ []) (field_same x h.0) ∙ ap (λ t. (x ++ t) ++ 10 ∷ []) (fields_same (y ∷ ys) h.1)
+row_same x y ys h = ap (λ t. (t ++ fields_text default_writer (y ∷ ys)) ++ 10 ∷ [])
+    (field_same x h.0) ∙ ap (λ t. (x ++ t) ++ 10 ∷ []) (fields_same (y ∷ ys) h.1)
 
 -- ---- the fields of a row are bare
 
@@ -62,7 +65,8 @@ high_join [] ys a b = b
 high_join (x ∷ xs) ys a b = (a.0, high_join xs ys a.1 b)
 
 high_decimal : (n : ℕ) → n < 2 ^ 64 → IsHigh (decimal n)
-high_decimal n h = decimal_by_steps (λ m ds. IsHigh ds) (λ m lt. (omega arith, tt)) (λ m ds le below. high_join ds ((48 + m % 10) ∷ []) below (omega arith, tt)) n h
+high_decimal n h = decimal_by_steps (λ m ds. IsHigh ds) (λ m lt. (omega arith, tt))
+    (λ m ds le below. high_join ds ((48 + m % 10) ∷ []) below (omega arith, tt)) n h
 
 high_signed : (z : ℤ) → IsId z → IsHigh (signed_decimal z)
 high_signed (pos n) h = let few = mag-id (pos n) h in high_decimal n (omega arith)
@@ -89,7 +93,9 @@ high_units (d ∷ e ∷ ds) = (high_unit d true, high_units (e ∷ ds))
 
 high_text : (ds : List (ℤ × ℤ)) → IsHigh (text_of ds)
 high_text [] = tt
-high_text (d ∷ ds) = high_join (number_text d.1) (number_text d.0 ++ text_of ds) (high_units (digits 32 (zigzag_of d.1))) (high_join (number_text d.0) (text_of ds) (high_units (digits 32 (zigzag_of d.0))) (high_text ds))
+high_text (d ∷ ds) = high_join (number_text d.1) (number_text d.0 ++ text_of ds)
+    (high_units (digits 32 (zigzag_of d.1))) (high_join (number_text d.0) (text_of ds)
+    (high_units (digits 32 (zigzag_of d.0))) (high_text ds))
 
 pub bare_text : (ds : List (ℤ × ℤ)) → IsBare (text_of ds)
 bare_text ds = high_bare (text_of ds) (high_text ds)

@@ -34,7 +34,8 @@ pub passed : {P Others : Type 0} (r : Row) (reason : RowReason) → When (Accept
 passed r reason (inl h) = absurd (accepted_apart r reason h.1)
 passed r reason (inr h) = h
 
-pub found : {A : Type 0} (P : A → Type 0) (Others : A → Type 0) (r : Row) (reason : RowReason) → Unless (Accepted r) P reason Others → (a : A) × P a × Others a
+pub found : {A : Type 0} (P : A → Type 0) (Others : A → Type 0) (r : Row) (reason : RowReason)
+    → Unless (Accepted r) P reason Others → (a : A) × P a × Others a
 found P Others r reason (inl h) = absurd (accepted_apart r reason h.1)
 found P Others r reason (inr h) = h
 
@@ -44,19 +45,23 @@ pub skip : {P Others : Type 0} (v : Verdict) (reason : RowReason) → When v P r
 skip v reason (inl h) holds = absurd (holds h.0)
 skip v reason (inr h) holds = h.1
 
-pub pick : {A : Type 0} (P : A → Type 0) (Others : A → Type 0) (v : Verdict) (reason : RowReason) (a : A) → Unless v P reason Others → P a → ((b : A) → P b → b ≡ a) → Others a
+pub pick : {A : Type 0} (P : A → Type 0) (Others : A → Type 0) (v : Verdict) (reason : RowReason)
+    (a : A) → Unless v P reason Others → P a → ((b : A) → P b → b ≡ a) → Others a
 pick P Others v reason a (inl h) p one = absurd (h.0 a p)
 pick P Others v reason a (inr h) p one = subst Others (one h.0 h.1) h.2
 
 -- ---- a step gives one verdict if what follows does
 
-pub when_one : {P A B : Type 0} (v w : Verdict) (reason : RowReason) → (A → B → v ≡ w) → When v P reason A → When w P reason B → v ≡ w
+pub when_one : {P A B : Type 0} (v w : Verdict) (reason : RowReason) → (A → B → v ≡ w)
+    → When v P reason A → When w P reason B → v ≡ w
 when_one v w reason f (inl h) (inl g) = h.1 ∙ sym g.1
 when_one v w reason f (inl h) (inr g) = absurd (g.0 h.0)
 when_one v w reason f (inr h) (inl g) = absurd (h.0 g.0)
 when_one v w reason f (inr h) (inr g) = f h.1 g.1
 
-pub unless_one : {A : Type 0} (P : A → Type 0) (V W : A → Type 0) (v w : Verdict) (reason : RowReason) → ((a b : A) → P a → P b → a ≡ b) → ((a : A) → V a → W a → v ≡ w) → Unless v P reason V → Unless w P reason W → v ≡ w
+pub unless_one : {A : Type 0} (P : A → Type 0) (V W : A → Type 0) (v w : Verdict)
+    (reason : RowReason) → ((a b : A) → P a → P b → a ≡ b) → ((a : A) → V a → W a → v ≡ w)
+    → Unless v P reason V → Unless w P reason W → v ≡ w
 unless_one P V W v w reason one f (inl h) (inl g) = h.1 ∙ sym g.1
 unless_one P V W v w reason one f (inl h) (inr g) = absurd (h.0 g.0 g.1)
 unless_one P V W v w reason one f (inr h) (inl g) = absurd (g.0 h.0 h.1)

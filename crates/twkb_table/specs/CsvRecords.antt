@@ -1,7 +1,8 @@
 -- The records that `csv` reads from a text, and how far its reader has come.
 use Rattle.std.specs.Prelude.{ℕ, ◌≡◌, List, [], ◌∷◌, ◌++◌, Option, Some, None, IfSome, Bool, true, false, ⊤}
 use Rattle.std.specs.Borrow.{MutBor}
-use Rattle.csv.specs.Reading.{AreRecords, Reached, Ready, default_config, is_flexible, reader_config, reader_state, reader_trim, source_of, strip_bom}
+use Rattle.csv.specs.Reading.{AreRecords, Reached, Ready, default_config, is_flexible}
+use Rattle.csv.specs.Reading.{reader_config, reader_state, reader_trim, source_of, strip_bom}
 use Rattle.csv.specs.declared.parser.State.{State}
 use Rattle.csv.specs.declared.parser.State.TheVariants as st
 use Rattle.csv.specs.declared.reader.Trim.TheVariants as trim
@@ -17,43 +18,51 @@ AreRecordsOf text records = AreRecords default_config st.StartRecord (strip_bom 
 
 -- the records of a text begin with these records
 abbrev pub BeginWith : List ℕ → List Record → Type 0
-BeginWith text records = (state : State) × (left : List ℕ) × Reached default_config st.StartRecord (strip_bom text) records state left
+BeginWith text records = (state : State) × (left : List ℕ)
+    × Reached default_config st.StartRecord (strip_bom text) records state left
 
 -- the reader of `csv` is set up for such records, and its next read is of one record
 abbrev pub IsSetUp : {S : Type 0} → Reader S → Type 0
-IsSetUp reader = (reader_trim reader ≡ trim.None) × Ready reader × (is_flexible reader ≡ true) × (reader_config reader ≡ default_config)
+IsSetUp reader = (reader_trim reader ≡ trim.None) × Ready reader × (is_flexible reader ≡ true)
+    × (reader_config reader ≡ default_config)
 
 -- the bytes that a borrowed tap gives
 abbrev pub told_by : {R : Type 0} → (R → Option (List ℕ)) → MutBor (Tap R) → Option (List ℕ)
 told_by remaining tap = remaining (device_of tap.now)
 
 -- the reader of `csv` gave these records of a text, if the bytes are known
-abbrev pub HasGivenOf : {R : Type 0} → (R → Option (List ℕ)) → Option (List ℕ) → List Record → Reader (MutBor (Tap R)) → Type 0
+abbrev pub HasGivenOf : {R : Type 0} → (R → Option (List ℕ)) → Option (List ℕ) → List Record
+    → Reader (MutBor (Tap R)) → Type 0
 HasGivenOf remaining None records reader = ⊤
 HasGivenOf remaining (Some text) records reader =
     (left : List ℕ) × (source_of (told_by remaining) reader ≡ Some left)
     × Reached default_config st.StartRecord (strip_bom text) records (reader_state reader) left
 
 -- a reader that is set up gave these records of a text
-abbrev pub HasGiven : {R : Type 0} → (R → Option (List ℕ)) → Option (List ℕ) → List Record → Reader (MutBor (Tap R)) → Type 0
+abbrev pub HasGiven : {R : Type 0} → (R → Option (List ℕ)) → Option (List ℕ) → List Record
+    → Reader (MutBor (Tap R)) → Type 0
 HasGiven remaining told records reader = IsSetUp reader × HasGivenOf remaining told records reader
 
 -- The reader gave these records of the text known at the start, and they are all its records if the
 -- end was reached.
-abbrev pub standing : {R : Type 0} → (R → Option (List ℕ)) → Option (List ℕ) → List Record → Bool → Reader (MutBor (Tap R)) → Type 0
+abbrev pub standing : {R : Type 0} → (R → Option (List ℕ)) → Option (List ℕ) → List Record → Bool
+    → Reader (MutBor (Tap R)) → Type 0
 standing remaining told records false reader = HasGiven remaining told records reader
 standing remaining told records true reader = IfSome told (λ text. AreRecordsOf text records)
 
 -- if the old reader is at some place in a text, the new one is one record further, and the text
 -- begins with the records given
-abbrev pub Advances : {R : Type 0} → (R → Option (List ℕ)) → Bool → Reader (MutBor (Tap R)) → Record → Bool → Reader (MutBor (Tap R)) → Type 0
+abbrev pub Advances : {R : Type 0} → (R → Option (List ℕ)) → Bool → Reader (MutBor (Tap R)) → Record
+    → Bool → Reader (MutBor (Tap R)) → Type 0
 Advances remaining ended old here over new =
     (told : Option (List ℕ)) (records : List Record) → standing remaining told records ended old
-    → standing remaining told (records ++ here ∷ []) over new × IfSome told (λ text. BeginWith text (records ++ here ∷ []))
+    → standing remaining told (records ++ here ∷ []) over new
+    × IfSome told (λ text. BeginWith text (records ++ here ∷ []))
 
 -- if the old reader is at some place in a text, the new one is there too, and the records given are
 -- all those of the text
-abbrev pub Finishes : {R : Type 0} → (R → Option (List ℕ)) → Bool → Reader (MutBor (Tap R)) → Bool → Reader (MutBor (Tap R)) → Type 0
+abbrev pub Finishes : {R : Type 0} → (R → Option (List ℕ)) → Bool → Reader (MutBor (Tap R)) → Bool
+    → Reader (MutBor (Tap R)) → Type 0
 Finishes remaining ended old over new =
     (told : Option (List ℕ)) (records : List Record) → standing remaining told records ended old
     → standing remaining told records over new × IfSome told (λ text. AreRecordsOf text records)

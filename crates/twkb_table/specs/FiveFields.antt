@@ -5,4 +5,5 @@ use Rattle.twkb_table.specs.declared.fields.Fields.{Fields}
 
 -- the record with these fields
 abbrev pub record_seen : Fields → Record
-record_seen fields = fields.depth.now ∷ fields.kind.now ∷ fields.id.now ∷ fields.precision.now ∷ fields.polyline.now ∷ []
+record_seen fields = fields.depth.now ∷ fields.kind.now ∷ fields.id.now ∷ fields.precision.now
+    ∷ fields.polyline.now ∷ []

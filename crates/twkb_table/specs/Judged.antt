@@ -1,6 +1,7 @@
 -- The verdict on a record after the rows so far: a row, or refused for the first reason that
 -- holds (profile).
-use Rattle.std.specs.Prelude.{◌≡◌, ◌≢◌, ℕ, ◌-◌, ◌≤◌, ◌⊎◌, ◌&&◌, ℤ, List, [], ◌∷◌, length, Option, Bool, true, false, is_some}
+use Rattle.std.specs.Prelude.{◌≡◌, ◌≢◌, ℕ, ◌-◌, ◌≤◌, ◌⊎◌, ◌&&◌, ℤ, List, [], ◌∷◌, length, Option}
+use Rattle.std.specs.Prelude.{Bool, true, false, is_some}
 use Rattle.twkb_points.specs.Point.{Point}
 use Rattle.twkb_polyline.specs.Polyline.{DecodesTo}
 use Rattle.twkb_polyline.specs.Fault.{IsTextFault}
@@ -8,13 +9,20 @@ use Rattle.twkb_polyline.specs.declared.fault.PolyReason.{PolyReason}
 use Rattle.twkb_tree.specs.declared.kind.Kind.{Kind}
 use Rattle.twkb_tree.specs.Rows.{Row}
 use Rattle.twkb_tree.specs.Limits.{Allowance}
-use Rattle.twkb_tree.specs.Admits.{parent, first_child, steps_to, has_place, id_allowed, has_same_ids, is_whole, points_fit, has_points}
+use Rattle.twkb_tree.specs.Admits.{parent, first_child, steps_to, has_place, id_allowed}
+use Rattle.twkb_tree.specs.Admits.{has_same_ids, is_whole, points_fit, has_points}
 use Rattle.twkb_tree.specs.Accepted.{nest_kept, geometry_rows, point_count}
 use Rattle.twkb_table.specs.Fields.{IsDepthField, IsOptionalId, IsOptionalPrecision}
 use Rattle.twkb_tree.specs.Kind.{word_of}
 use Rattle.twkb_table.specs.Record.{Record}
 use Rattle.twkb_table.specs.declared.reason.RowReason.{RowReason}
-use Rattle.twkb_table.specs.declared.reason.RowReason.TheVariants.{FieldCount, BadDepth, BadKind, BadPlace, TooDeep, TooManyNodes, BadId, IdNotAllowed, MixedIds, BadPrecision, PrecisionMissing, PrecisionNotAllowed, PolylineNotAllowed, Polyline, PointCount}
+use Rattle.twkb_table.specs.declared.reason.RowReason.TheVariants.{FieldCount, BadDepth, BadKind}
+use Rattle.twkb_table.specs.declared.reason.RowReason.TheVariants.{BadPlace, TooDeep, TooManyNodes}
+use Rattle.twkb_table.specs.declared.reason.RowReason.TheVariants.{BadId, IdNotAllowed, MixedIds}
+use Rattle.twkb_table.specs.declared.reason.RowReason.TheVariants.{BadPrecision, PrecisionMissing}
+use Rattle.twkb_table.specs.declared.reason.RowReason.TheVariants.{PrecisionNotAllowed}
+use Rattle.twkb_table.specs.declared.reason.RowReason.TheVariants.{PolylineNotAllowed, Polyline}
+use Rattle.twkb_table.specs.declared.reason.RowReason.TheVariants.{PointCount}
 
 -- a record is a row, or is refused for a reason
 pub data Verdict : Type 0 where

@@ -1,7 +1,9 @@
 -- By its length and its first letter, a word can be that of only one kind.
 use Rattle.std.specs.Prelude.{ℕ, if◌then◌else◌, ◌==◌}
 use Rattle.twkb_tree.specs.declared.kind.Kind.{Kind}
-use Rattle.twkb_tree.specs.declared.kind.Kind.TheVariants.{Point, Linestring, Polygon, Ring, MultiPoint, MultiLinestring, MultiPolygon, Collection}
+use Rattle.twkb_tree.specs.declared.kind.Kind.TheVariants.{Point, Linestring, Polygon, Ring}
+use Rattle.twkb_tree.specs.declared.kind.Kind.TheVariants.{MultiPoint, MultiLinestring}
+use Rattle.twkb_tree.specs.declared.kind.Kind.TheVariants.{MultiPolygon, Collection}
 
 -- the kind of a word of ten letters that begins with this one
 abbrev pub likely_of_ten : ℕ → Kind

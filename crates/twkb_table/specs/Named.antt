@@ -18,4 +18,5 @@ NamesNone l records = (gs : List Tree) → Named l records gs → ⊥
 -- with one more record the records name geometries, whose rows are those of the earlier records and
 -- this row
 abbrev pub NameMore : Allowance → List Record → Record → List Tree → Row → Type 0
-NameMore l records here gs row = (hs : List Tree) × Named l (records ++ here ∷ []) hs × (rows_of hs ≡ rows_of gs ++ row ∷ [])
+NameMore l records here gs row = (hs : List Tree) × Named l (records ++ here ∷ []) hs
+    × (rows_of hs ≡ rows_of gs ++ row ∷ [])

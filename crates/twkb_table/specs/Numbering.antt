@@ -17,7 +17,8 @@ HasMore remaining ended reader =
     → (here : Record) × IfSome told (λ text. BeginWith text (records ++ here ∷ []))
 
 -- no record was read, or one whose number would be 2 ^ 32
-abbrev pub MissesRecord : {R : Type 0} → (R → Option (List ℕ)) → Bool → Reader (MutBor (Tap R)) → ℕ → TableFault → Type 0
+abbrev pub MissesRecord : {R : Type 0} → (R → Option (List ℕ)) → Bool → Reader (MutBor (Tap R)) → ℕ
+    → TableFault → Type 0
 MissesRecord remaining ended reader number f =
     (f ≡ fault.Source) ⊎ ((f ≡ fault.TooManyRecords) × (number + 1 ≡ 2 ^ 32) × HasMore remaining ended reader)
 

@@ -14,4 +14,5 @@ BeginAtRoot ((depth ∷ fields) ∷ records) = depth ≡ decimal 0
 -- below the header the first rows name the first of these geometries, and the other rows name the
 -- rest
 abbrev pub NameApart : Allowance → List Record → List Record → List Tree → Type 0
-NameApart l rows more ks = (gs hs : List Tree) × (ks ≡ gs ++ hs) × Named l (header ∷ rows) gs × Named l (header ∷ more) hs
+NameApart l rows more ks = (gs hs : List Tree) × (ks ≡ gs ++ hs) × Named l (header ∷ rows) gs
+    × Named l (header ∷ more) hs

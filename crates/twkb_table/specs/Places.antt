@@ -2,7 +2,8 @@
 use Rattle.std.specs.Prelude.{ℕ, ℤ, List, Option}
 use Rattle.twkb_tree.specs.declared.kind.Kind.{Kind}
 use Rattle.twkb_tree.specs.Limits.{Allowance}
-use Rattle.twkb_table.specs.Judged.{Verdict, Refused, Place, JudgedByPlace, JudgedById, JudgedByPrecision, JudgedByPoints}
+use Rattle.twkb_table.specs.Judged.{Verdict, Refused, Place, JudgedByPlace, JudgedById}
+use Rattle.twkb_table.specs.Judged.{JudgedByPrecision, JudgedByPoints}
 use Rattle.twkb_table.specs.declared.reason.RowReason.{RowReason}
 
 -- a row of this kind may come at this place: the verdict on its id is the verdict on its place
@@ -39,4 +40,5 @@ HasPrecision here field precision =
 -- the field is no precision for a row at this place, for this reason, whatever its other fields are
 abbrev pub LacksPrecision : Place → List ℕ → RowReason → Type 0
 LacksPrecision here field reason =
-    (l : Allowance) (k : Kind) (id : Option ℤ) (text : List ℕ) → JudgedByPrecision l here k id field text (Refused reason)
+    (l : Allowance) (k : Kind) (id : Option ℤ) (text : List ℕ)
+    → JudgedByPrecision l here k id field text (Refused reason)

@@ -38,7 +38,8 @@ is_record _ _ = false
 -- the reading of a table: first the header, then the rows
 abbrev pub read_table : (List Row → Record → Verdict) → List Record → Reading
 read_table judge [] = Stopped [] 1 BadHeader
-read_table judge (first ∷ records) = if is_record first header then read_rows judge [] 2 records else Stopped [] 1 BadHeader
+read_table judge (first ∷ records) = if is_record first header then read_rows judge [] 2 records
+    else Stopped [] 1 BadHeader
 
 -- the judge gives the right verdict on each record
 abbrev pub Judges : Allowance → (List Row → Record → Verdict) → Type 0

@@ -12,7 +12,8 @@ Record = List (List ℕ)
 
 -- a row as a record: depth, kind, id, precision and polyline (profile)
 abbrev pub record_of : Row → Record
-record_of row = decimal row.depth ∷ word_of row.kind ∷ optional row.id ∷ optional row.precision ∷ polyline row.points ∷ []
+record_of row = decimal row.depth ∷ word_of row.kind ∷ optional row.id ∷ optional row.precision
+    ∷ polyline row.points ∷ []
 
 -- the names of the five fields (profile)
 abbrev pub header : Record

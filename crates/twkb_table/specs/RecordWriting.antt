@@ -1,7 +1,8 @@
 -- The bytes that a writer of `csv` into a vector has written.
 use Rattle.std.specs.Prelude.{ℕ, ◌≡◌, ◌++◌, List, false}
 use Rattle.std.specs.Global.{Vec}
-use Rattle.csv.specs.Writing.{default_writer, fields_written, has_written, needs_quotes, writer_pending, writer_setup, writer_under}
+use Rattle.csv.specs.Writing.{default_writer, fields_written, has_written, needs_quotes}
+use Rattle.csv.specs.Writing.{writer_pending, writer_setup, writer_under}
 use Rattle.csv.specs.declared.writer.Writer.{Writer}
 
 -- the text so far: the bytes of the vector, then those of the writer's buffer

@@ -43,7 +43,8 @@ pub record Keeps (reader : RowReader) (rows : List TableRow) : Type 0 where
   pub none : waiting reader ≡ []
 
 -- The record is one more row of the geometry that the reader reads.
-pub record GoesOn (old : RowReader) (before : List TableRow) (fields : Record) (new : RowReader) (after : List TableRow) : Type 0 where
+pub record GoesOn (old : RowReader) (before : List TableRow) (fields : Record) (new : RowReader)
+    (after : List TableRow) : Type 0 where
   pub row : TableRow
   pub rows : after ≡ before ++ row ∷ []
   pub below : 0 < row.depth

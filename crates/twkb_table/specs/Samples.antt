@@ -20,11 +20,20 @@ PointText = csvtext (table (a_point ∷ [])) ≡ codes "depth,kind,id,precision,
 -- the table of a polygon of two rings is as listed
 abbrev pub PolygonTable : Type 0
 PolygonTable =
-    table (simple (pos 0) (polygon ((point_at (pos 0) (pos 0) ∷ point_at (pos 4) (pos 0) ∷ point_at (pos 0) (pos 4) ∷ []) ∷ (point_at (pos 1) (pos 1) ∷ point_at (pos 2) (pos 1) ∷ point_at (pos 1) (pos 2) ∷ []) ∷ [])) ∷ [])
-    ≡ header ∷ (codes "0" ∷ codes "polygon" ∷ [] ∷ codes "0" ∷ [] ∷ []) ∷ (codes "1" ∷ codes "ring" ∷ [] ∷ [] ∷ codes "???GGF" ∷ []) ∷ (codes "1" ∷ codes "ring" ∷ [] ∷ [] ∷ codes "AA?AA@" ∷ []) ∷ []
+    table (simple (pos 0)
+    (polygon ((point_at (pos 0) (pos 0) ∷ point_at (pos 4) (pos 0) ∷ point_at (pos 0) (pos 4)
+    ∷ []) ∷ (point_at (pos 1) (pos 1) ∷ point_at (pos 2) (pos 1) ∷ point_at (pos 1) (pos 2)
+    ∷ []) ∷ [])) ∷ [])
+    ≡ header ∷ (codes "0" ∷ codes "polygon" ∷ [] ∷ codes "0" ∷ [] ∷ [])
+    ∷ (codes "1" ∷ codes "ring" ∷ [] ∷ [] ∷ codes "???GGF" ∷ [])
+    ∷ (codes "1" ∷ codes "ring" ∷ [] ∷ [] ∷ codes "AA?AA@" ∷ []) ∷ []
 
 -- the table of a collection with ids, of a point and a linestring without points, is as listed
 abbrev pub CollectionTable : Type 0
 CollectionTable =
-    table (collection (pos 0) (Some (pos 7 ∷ negsuc 0 ∷ [])) (simple (pos 0) (point (Some (point_at (pos 1) (pos 1)))) ▷ simple (pos 0) (line []) ▷ end) ∷ [])
-    ≡ header ∷ (codes "0" ∷ codes "collection" ∷ [] ∷ codes "0" ∷ [] ∷ []) ∷ (codes "1" ∷ codes "point" ∷ codes "7" ∷ codes "0" ∷ codes "AA" ∷ []) ∷ (codes "1" ∷ codes "linestring" ∷ codes "-1" ∷ codes "0" ∷ [] ∷ []) ∷ []
+    table (collection (pos 0) (Some (pos 7 ∷ negsuc 0 ∷ []))
+    (simple (pos 0) (point (Some (point_at (pos 1) (pos 1)))) ▷ simple (pos 0) (line []) ▷ end)
+    ∷ [])
+    ≡ header ∷ (codes "0" ∷ codes "collection" ∷ [] ∷ codes "0" ∷ [] ∷ [])
+    ∷ (codes "1" ∷ codes "point" ∷ codes "7" ∷ codes "0" ∷ codes "AA" ∷ [])
+    ∷ (codes "1" ∷ codes "linestring" ∷ codes "-1" ∷ codes "0" ∷ [] ∷ []) ∷ []

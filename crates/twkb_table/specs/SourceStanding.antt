@@ -10,7 +10,8 @@ use Rattle.twkb_table.specs.declared.record_source.RecordSource.{RecordSource}
 
 -- the source gave these records, and no call was refused
 abbrev pub StandsAfter : {R : Type 0} → (R → Option (List ℕ)) → Option (List ℕ) → List Record → RecordSource R → Type 0
-StandsAfter remaining told records source = standing remaining told records source.ended source.reader × (source.spent ≡ false)
+StandsAfter remaining told records source = standing remaining told records source.ended
+    source.reader × (source.spent ≡ false)
 
 -- the last record read, as `csv` holds it
 abbrev pub record_in : {R : Type 0} → RecordSource R → Csv.Row

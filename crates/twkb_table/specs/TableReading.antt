@@ -1,5 +1,6 @@
 -- The state of a reader of tables, and what its calls return.
-use Rattle.std.specs.Prelude.{◌≡◌, ℕ, ◌+◌, ◌^◌, ◌<◌, ◌⊎◌, List, [], ◌∷◌, ◌++◌, length, Option, IfSome, Result, Ok, Err, Bool, true, false, ⊤}
+use Rattle.std.specs.Prelude.{◌≡◌, ℕ, ◌+◌, ◌^◌, ◌<◌, ◌⊎◌, List, [], ◌∷◌, ◌++◌, length, Option}
+use Rattle.std.specs.Prelude.{IfSome, Result, Ok, Err, Bool, true, false, ⊤}
 use Rattle.twkb_tree.specs.Tree.{Tree}
 use Rattle.twkb_tree.specs.Rows.{Row, rows}
 use Rattle.twkb_tree.specs.Limits.{Allowance, IsValid}
@@ -25,7 +26,8 @@ NameSoFar l (first ∷ records) gs = Named l (first ∷ records) gs
 -- returned yet or the table's end was reached.
 abbrev pub HaveGiven : Allowance → List Record → List Tree → List Row → Bool → Type 0
 HaveGiven l records given [] ended = NameSoFar l records given × ((given ≡ []) ⊎ (ended ≡ true))
-HaveGiven l records given (root ∷ more) ended = (last : Tree) × Named l records (given ++ last ∷ []) × (rows 0 last ≡ root ∷ more) × (ended ≡ false)
+HaveGiven l records given (root ∷ more) ended = (last : Tree) × Named l records (given ++ last ∷ [])
+    × (rows 0 last ≡ root ∷ more) × (ended ≡ false)
 
 -- whether the end of the table was reached
 abbrev pub is_ended : {R : Type 0} → TableReader R → Bool
@@ -42,7 +44,9 @@ HasRead remaining told records reader = standing remaining told records (is_ende
 
 -- A reader with these limits read these records, fewer than 2 ^ 32, of a text known at the start,
 -- and returned these geometries.
-pub record StandsAfter {R : Type 0} (l : Allowance) (remaining : R → Option (List ℕ)) (told : Option (List ℕ)) (records : List Record) (given : List Tree) (reader : TableReader R) : Type 0 where
+pub record StandsAfter {R : Type 0} (l : Allowance) (remaining : R → Option (List ℕ))
+    (told : Option (List ℕ)) (records : List Record) (given : List Tree)
+    (reader : TableReader R) : Type 0 where
   pub source : HasRead remaining told records reader
   pub count : reader.number ≡ length records
   pub few : length records < 2 ^ 32
@@ -63,7 +67,9 @@ abbrev pub Extends : List Record → List Record → Type 0
 Extends records seen = (more : List Record) × (seen ≡ records ++ more)
 
 -- The records seen name one more geometry, which is valid, and these are its rows.
-pub record GivesNext {R : Type 0} (l : Allowance) (remaining : R → Option (List ℕ)) (told : Option (List ℕ)) (records : List Record) (given : List Tree) (flat : List Row) (reader : TableReader R) : Type 0 where
+pub record GivesNext {R : Type 0} (l : Allowance) (remaining : R → Option (List ℕ))
+    (told : Option (List ℕ)) (records : List Record) (given : List Tree) (flat : List Row)
+    (reader : TableReader R) : Type 0 where
   pub seen : List Record
   pub extends : Extends records seen
   pub begins : IfSome told (λ text. BeginWith text seen)
@@ -73,14 +79,18 @@ pub record GivesNext {R : Type 0} (l : Allowance) (remaining : R → Option (Lis
   pub stands : StandsAfter l remaining told seen (given ++ geometry ∷ []) reader
 
 -- The records seen name one more geometry, which is this one.
-pub record GivesTree {R : Type 0} (l : Allowance) (remaining : R → Option (List ℕ)) (told : Option (List ℕ)) (records : List Record) (given : List Tree) (geometry : Tree) (reader : TableReader R) : Type 0 where
+pub record GivesTree {R : Type 0} (l : Allowance) (remaining : R → Option (List ℕ))
+    (told : Option (List ℕ)) (records : List Record) (given : List Tree) (geometry : Tree)
+    (reader : TableReader R) : Type 0 where
   pub seen : List Record
   pub extends : Extends records seen
   pub begins : IfSome told (λ text. BeginWith text seen)
   pub stands : StandsAfter l remaining told seen (given ++ geometry ∷ []) reader
 
 -- All records of the text name the geometries that were returned.
-pub record MeetsEnd {R : Type 0} (l : Allowance) (remaining : R → Option (List ℕ)) (told : Option (List ℕ)) (records : List Record) (given : List Tree) (reader : TableReader R) : Type 0 where
+pub record MeetsEnd {R : Type 0} (l : Allowance) (remaining : R → Option (List ℕ))
+    (told : Option (List ℕ)) (records : List Record) (given : List Tree)
+    (reader : TableReader R) : Type 0 where
   pub seen : List Record
   pub extends : Extends records seen
   pub all : IfSome told (λ text. AreRecordsOf text seen)
@@ -89,7 +99,8 @@ pub record MeetsEnd {R : Type 0} (l : Allowance) (remaining : R → Option (List
 
 -- The records seen are refused at the last of them, for this reason, and the geometries returned
 -- are those that the refusal leaves complete. If no record was seen, the text has none.
-pub record IsRefusedAt (l : Allowance) (told : Option (List ℕ)) (records : List Record) (given : List Tree) (number : ℕ) (reason : RowReason) : Type 0 where
+pub record IsRefusedAt (l : Allowance) (told : Option (List ℕ)) (records : List Record)
+    (given : List Tree) (number : ℕ) (reason : RowReason) : Type 0 where
   pub seen : List Record
   pub extends : Extends records seen
   pub begins : IfSome told (λ text. BeginWith text seen)
@@ -98,7 +109,8 @@ pub record IsRefusedAt (l : Allowance) (told : Option (List ℕ)) (records : Lis
 
 -- The text begins with 2 ^ 32 records. Those before the last name geometries, of which all but
 -- the last were returned.
-pub record HasTooMany (l : Allowance) (told : Option (List ℕ)) (records : List Record) (given : List Tree) : Type 0 where
+pub record HasTooMany (l : Allowance) (told : Option (List ℕ)) (records : List Record)
+    (given : List Tree) : Type 0 where
   pub before : List Record
   pub here : Record
   pub extends : Extends records before
@@ -120,18 +132,21 @@ Explains l told records given fault.Spent = ⊥
 
 -- P holds of the limits, the text, the records read and the geometries returned, for every state
 -- the reader may be in
-abbrev pub Wherever : {R : Type 0} → (R → Option (List ℕ)) → TableReader R → (Allowance → Option (List ℕ) → List Record → List Tree → Type 0) → Type 0
+abbrev pub Wherever : {R : Type 0} → (R → Option (List ℕ)) → TableReader R
+    → (Allowance → Option (List ℕ) → List Record → List Tree → Type 0) → Type 0
 Wherever remaining old Holds =
     (l : Allowance) (told : Option (List ℕ)) (records : List Record) (given : List Tree)
     → StandsAfter l remaining told records given old → Holds l told records given
 
 -- the records name one more geometry with these rows, and the new reader is after it
 abbrev pub Gives : {R : Type 0} → (R → Option (List ℕ)) → TableReader R → List Row → TableReader R → Type 0
-Gives remaining old flat new = Wherever remaining old (λ l told records given. GivesNext l remaining told records given flat new)
+Gives remaining old flat new = Wherever remaining old
+    (λ l told records given. GivesNext l remaining told records given flat new)
 
 -- the records name this one more geometry, and the new reader is after it
 abbrev pub GivesGeometry : {R : Type 0} → (R → Option (List ℕ)) → TableReader R → Tree → TableReader R → Type 0
-GivesGeometry remaining old geometry new = Wherever remaining old (λ l told records given. GivesTree l remaining told records given geometry new)
+GivesGeometry remaining old geometry new = Wherever remaining old
+    (λ l told records given. GivesTree l remaining told records given geometry new)
 
 -- all records of the text name the geometries returned, and the new reader is at its end
 abbrev pub Ends : {R : Type 0} → (R → Option (List ℕ)) → TableReader R → TableReader R → Type 0
@@ -148,7 +163,9 @@ abbrev pub records_read : {R : Type 0} → TableReader R → ℕ
 records_read reader = reader.number
 
 -- The records name the geometries that were returned and one more, which has these rows so far.
-pub record IsReading {R : Type 0} (l : Allowance) (remaining : R → Option (List ℕ)) (told : Option (List ℕ)) (records : List Record) (given : List Tree) (so_far : List Row) (reader : TableReader R) : Type 0 where
+pub record IsReading {R : Type 0} (l : Allowance) (remaining : R → Option (List ℕ))
+    (told : Option (List ℕ)) (records : List Record) (given : List Tree) (so_far : List Row)
+    (reader : TableReader R) : Type 0 where
   pub source : HasRead remaining told records reader
   pub count : reader.number ≡ length records
   pub few : length records < 2 ^ 32
@@ -159,58 +176,77 @@ pub record IsReading {R : Type 0} (l : Allowance) (remaining : R → Option (Lis
   pub unspent : is_spent reader ≡ false
 
 -- The header was read, as the first record.
-pub record HasHeader {R : Type 0} (l : Allowance) (remaining : R → Option (List ℕ)) (told : Option (List ℕ)) (records : List Record) (given : List Tree) (reader : TableReader R) : Type 0 where
+pub record HasHeader {R : Type 0} (l : Allowance) (remaining : R → Option (List ℕ))
+    (told : Option (List ℕ)) (records : List Record) (given : List Tree)
+    (reader : TableReader R) : Type 0 where
   pub fresh : records ≡ []
   pub none : given ≡ []
   pub stands : StandsAfter l remaining told (header ∷ []) [] reader
 
 -- what reading the first record shows
-abbrev pub ReadsHeader : {R : Type 0} → Allowance → (R → Option (List ℕ)) → Option (List ℕ) → List Record → List Tree → TableReader R → Result (Unit {0}) TableFault → Type 0
+abbrev pub ReadsHeader : {R : Type 0} → Allowance → (R → Option (List ℕ)) → Option (List ℕ)
+    → List Record → List Tree → TableReader R → Result (Unit {0}) TableFault → Type 0
 ReadsHeader l remaining told records given reader (Ok done) = HasHeader l remaining told records given reader
 ReadsHeader l remaining told records given reader (Err fault) = Explains l told records given fault
 
 -- The records seen name one more geometry, of which only the root was read.
-pub record BeginsNext {R : Type 0} (l : Allowance) (remaining : R → Option (List ℕ)) (told : Option (List ℕ)) (records : List Record) (given : List Tree) (root : List Row) (reader : TableReader R) : Type 0 where
+pub record BeginsNext {R : Type 0} (l : Allowance) (remaining : R → Option (List ℕ))
+    (told : Option (List ℕ)) (records : List Record) (given : List Tree) (root : List Row)
+    (reader : TableReader R) : Type 0 where
   pub seen : List Record
   pub extends : Extends records seen
   pub reading : IsReading l remaining told seen given root reader
 
 -- what reading a root shows: it waits, or the table ended
-abbrev pub ReadsRoot : {R : Type 0} → Allowance → (R → Option (List ℕ)) → Option (List ℕ) → List Record → List Tree → TableReader R → Result Bool TableFault → Type 0
-ReadsRoot l remaining told records given reader (Ok true) = BeginsNext l remaining told records given (waiting reader.rows) reader
+abbrev pub ReadsRoot : {R : Type 0} → Allowance → (R → Option (List ℕ)) → Option (List ℕ)
+    → List Record → List Tree → TableReader R → Result Bool TableFault → Type 0
+ReadsRoot l remaining told records given reader (Ok true) = BeginsNext l remaining told records
+    given (waiting reader.rows) reader
 ReadsRoot l remaining told records given reader (Ok false) = MeetsEnd l remaining told records given reader
 ReadsRoot l remaining told records given reader (Err fault) = Explains l told records given fault
 
 -- what reading one record shows: one more row of the geometry, the geometry's end, or a fault
-abbrev pub ReadsOn : {R : Type 0} → Allowance → (R → Option (List ℕ)) → Option (List ℕ) → List Record → List Tree → List Row → TableReader R → Result Bool TableFault → Type 0
-ReadsOn l remaining told records given so_far reader (Ok true) = (here : Record) × IsReading l remaining told (records ++ here ∷ []) given so_far reader
+abbrev pub ReadsOn : {R : Type 0} → Allowance → (R → Option (List ℕ)) → Option (List ℕ)
+    → List Record → List Tree → List Row → TableReader R → Result Bool TableFault → Type 0
+ReadsOn l remaining told records given so_far reader (Ok true) = (here : Record)
+    × IsReading l remaining told (records ++ here ∷ []) given so_far reader
 ReadsOn l remaining told records given so_far reader (Ok false) = GivesNext l remaining told records given so_far reader
 ReadsOn l remaining told records given so_far reader (Err fault) = Explains l told records given fault
 
 -- reading the first record shows this, whatever the old reader's state
-abbrev pub ShowsHeader : {R : Type 0} → (R → Option (List ℕ)) → TableReader R → TableReader R → Result (Unit {0}) TableFault → Type 0
-ShowsHeader remaining old new result = Wherever remaining old (λ l told records given. ReadsHeader l remaining told records given new result)
+abbrev pub ShowsHeader : {R : Type 0} → (R → Option (List ℕ)) → TableReader R → TableReader R
+    → Result (Unit {0}) TableFault → Type 0
+ShowsHeader remaining old new result = Wherever remaining old
+    (λ l told records given. ReadsHeader l remaining told records given new result)
 
 -- reading a root shows this, whatever the old reader's state
-abbrev pub ShowsRoot : {R : Type 0} → (R → Option (List ℕ)) → TableReader R → TableReader R → Result Bool TableFault → Type 0
-ShowsRoot remaining old new result = Wherever remaining old (λ l told records given. ReadsRoot l remaining told records given new result)
+abbrev pub ShowsRoot : {R : Type 0} → (R → Option (List ℕ)) → TableReader R → TableReader R
+    → Result Bool TableFault → Type 0
+ShowsRoot remaining old new result = Wherever remaining old
+    (λ l told records given. ReadsRoot l remaining told records given new result)
 
 -- P holds of the limits, the text, the records read and the geometries returned, for every state
 -- in which the reader may be reading rows
-abbrev pub WhereverReading : {R : Type 0} → (R → Option (List ℕ)) → TableReader R → List Row → (Allowance → Option (List ℕ) → List Record → List Tree → Type 0) → Type 0
+abbrev pub WhereverReading : {R : Type 0} → (R → Option (List ℕ)) → TableReader R → List Row
+    → (Allowance → Option (List ℕ) → List Record → List Tree → Type 0) → Type 0
 WhereverReading remaining old so_far Holds =
     (l : Allowance) (told : Option (List ℕ)) (records : List Record) (given : List Tree)
     → IsReading l remaining told records given so_far old → Holds l told records given
 
 -- the records name the geometry that was being read, whose rows are these, and the new reader is
 -- after it
-abbrev pub Completes : {R : Type 0} → (R → Option (List ℕ)) → TableReader R → List Row → List Row → TableReader R → Type 0
-Completes remaining old so_far flat new = WhereverReading remaining old so_far (λ l told records given. GivesNext l remaining told records given flat new)
+abbrev pub Completes : {R : Type 0} → (R → Option (List ℕ)) → TableReader R → List Row → List Row
+    → TableReader R → Type 0
+Completes remaining old so_far flat new = WhereverReading remaining old so_far
+    (λ l told records given. GivesNext l remaining told records given flat new)
 
 -- the fault is true of the text, if a geometry was being read
 abbrev pub FaultsIn : {R : Type 0} → (R → Option (List ℕ)) → TableReader R → List Row → TableFault → Type 0
-FaultsIn remaining old so_far f = WhereverReading remaining old so_far (λ l told records given. Explains l told records given f)
+FaultsIn remaining old so_far f = WhereverReading remaining old so_far
+    (λ l told records given. Explains l told records given f)
 
 -- reading one record shows this, whatever state of reading the old reader was in
-abbrev pub ShowsRow : {R : Type 0} → (R → Option (List ℕ)) → TableReader R → List Row → List Row → TableReader R → Result Bool TableFault → Type 0
-ShowsRow remaining old so_far flat new result = WhereverReading remaining old so_far (λ l told records given. ReadsOn l remaining told records given flat new result)
+abbrev pub ShowsRow : {R : Type 0} → (R → Option (List ℕ)) → TableReader R → List Row → List Row
+    → TableReader R → Result Bool TableFault → Type 0
+ShowsRow remaining old so_far flat new result = WhereverReading remaining old so_far
+    (λ l told records given. ReadsOn l remaining told records given flat new result)

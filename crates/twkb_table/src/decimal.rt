@@ -1,7 +1,8 @@
 //! Canonical decimals: digits without a leading zero, after a minus sign if the number is negative.
 ghost use Rattle.std.specs.Prelude.{◌≡◌, ◌++◌, IfSome, OnOk, OnErr};
 ghost use Rattle.std.specs.Fmt.{signed_decimal};
-ghost use Rattle.twkb_table.specs.Fields.{Reads, IsDepthField, IsIdField, IsPrecisionField, IsOptionalId, IsOptionalPrecision};
+ghost use Rattle.twkb_table.specs.Fields.{Reads, IsDepthField, IsIdField, IsPrecisionField};
+ghost use Rattle.twkb_table.specs.Fields.{IsOptionalId, IsOptionalPrecision};
 
 use itoa::Buffer;
 use std::alloc::AllocError;

@@ -42,8 +42,11 @@ fn judge_standing<'a>(
     precision_field: &[u8],
     text: &'a [u8],
 ) -> Result<RowHead<'a>, RowReason>
-    ensures read { IfOk result (λ head. (v : Verdict) → JudgedAs head v → JudgedByPlace limits.now (place_seen standing.now) kind id_field.now precision_field.now text.now v) }
-    ensures refused { IfErr result (λ reason. JudgedByPlace limits.now (place_seen standing.now) kind id_field.now precision_field.now text.now (Refused reason)) }
+    ensures read { IfOk result (λ head. (v : Verdict) → JudgedAs head v
+        → JudgedByPlace limits.now (place_seen standing.now) kind id_field.now precision_field.now
+        text.now v) }
+    ensures refused { IfErr result (λ reason. JudgedByPlace limits.now (place_seen standing.now)
+        kind id_field.now precision_field.now text.now (Refused reason)) }
 {
     if let Err(reason) = check_place(limits, standing, kind) {
         return Err(reason);
@@ -76,8 +79,12 @@ fn judge_fields<'a>(
     held: u32,
     fields: &Fields<'a>,
 ) -> Result<RowHead<'a>, RowReason>
-    ensures read { IfOk result (λ head. (v : Verdict) → JudgedAs head v → (before : List TableRow) → StandsAfter before rows.now nodes held → Judged limits.now before (record_seen fields.now) v) }
-    ensures refused { IfErr result (λ reason. (before : List TableRow) → StandsAfter before rows.now nodes held → Judged limits.now before (record_seen fields.now) (Refused reason)) }
+    ensures read { IfOk result (λ head. (v : Verdict) → JudgedAs head v → (before : List TableRow)
+        → StandsAfter before rows.now nodes held → Judged limits.now before
+        (record_seen fields.now) v) }
+    ensures refused { IfErr result (λ reason. (before : List TableRow)
+        → StandsAfter before rows.now nodes held → Judged limits.now before (record_seen fields.now)
+        (Refused reason)) }
 {
     let Some(depth) = parse_depth(fields.depth) else {
         return Err(RowReason::BadDepth);
@@ -110,8 +117,12 @@ pub(crate) fn judge_head<'a>(
     held: u32,
     here: &'a ByteRecord,
 ) -> Result<RowHead<'a>, RowReason>
-    ensures read { IfOk result (λ head. (v : Verdict) → JudgedAs head v → (before : List TableRow) → StandsAfter before rows.now nodes held → Judged limits.now before (fields_of here.now) v) }
-    ensures refused { IfErr result (λ reason. (before : List TableRow) → StandsAfter before rows.now nodes held → Judged limits.now before (fields_of here.now) (Refused reason)) }
+    ensures read { IfOk result (λ head. (v : Verdict) → JudgedAs head v → (before : List TableRow)
+        → StandsAfter before rows.now nodes held → Judged limits.now before
+        (fields_of here.now) v) }
+    ensures refused { IfErr result (λ reason. (before : List TableRow)
+        → StandsAfter before rows.now nodes held → Judged limits.now before (fields_of here.now)
+        (Refused reason)) }
 {
     if here.len() != FIELD_COUNT {
         return Err(RowReason::FieldCount);
@@ -133,8 +144,12 @@ pub fn judge(
     here: &ByteRecord,
     points: &mut Vec<Pt>,
 ) -> Result<Row, JudgeFault>
-    ensures read { IfOk result (λ row. (before : List TableRow) → StandsAfter before rows.now nodes held → Judged limits.now before (fields_of here.now) (Accepted (row_with row points.new.items))) }
-    ensures refused { IfErr result (IfRefused (λ reason. (before : List TableRow) → StandsAfter before rows.now nodes held → Judged limits.now before (fields_of here.now) (Refused reason))) }
+    ensures read { IfOk result (λ row. (before : List TableRow)
+        → StandsAfter before rows.now nodes held → Judged limits.now before (fields_of here.now)
+        (Accepted (row_with row points.new.items))) }
+    ensures refused { IfErr result (IfRefused (λ reason. (before : List TableRow)
+        → StandsAfter before rows.now nodes held → Judged limits.now before (fields_of here.now)
+        (Refused reason))) }
 {
     let head = match judge_head(limits, rows, nodes, held, here) {
         Ok(head) => head,

@@ -20,64 +20,89 @@ ghost use Rattle.twkb_table.specs.declared.reason.RowReason.{RowReason};
 
 /// Records name at most one list of geometries.
 pub fn one_reading()
-    ensures { (l : Allowance) (records : List Record) (gs hs : List Tree) → IsAllowance l → Named l records gs → Named l records hs → gs ≡ hs }
+    ensures { (l : Allowance) (records : List Record) (gs hs : List Tree) → IsAllowance l
+        → Named l records gs → Named l records hs → gs ≡ hs }
 {}
 
 /// Each prefix of a table of valid geometries is such a table, except the empty prefix.
 pub fn fronts()
-    ensures { (l : Allowance) (front more : List Record) (gs : List Tree) → front ≢ [] → Named l (front ++ more) gs → (hs : List Tree) × Named l front hs }
+    ensures { (l : Allowance) (front more : List Record) (gs : List Tree) → front ≢ []
+        → Named l (front ++ more) gs → (hs : List Tree) × Named l front hs }
 {}
 
 /// The rows of two tables, one after the other below one header, name the geometries of both. A
 /// table that is cut before a row of depth 0 is two such tables.
 pub fn parts()
-    ensures joined { (l : Allowance) (rows more : List Record) (gs hs : List Tree) → Named l (header ∷ rows) gs → Named l (header ∷ more) hs → Named l (header ∷ (rows ++ more)) (gs ++ hs) }
-    ensures cut { (l : Allowance) (rows more : List Record) (ks : List Tree) → IsAllowance l → BeginAtRoot more → Named l (header ∷ (rows ++ more)) ks → NameApart l rows more ks }
+    ensures joined { (l : Allowance) (rows more : List Record) (gs hs : List Tree)
+        → Named l (header ∷ rows) gs → Named l (header ∷ more) hs
+        → Named l (header ∷ (rows ++ more)) (gs ++ hs) }
+    ensures cut { (l : Allowance) (rows more : List Record) (ks : List Tree) → IsAllowance l
+        → BeginAtRoot more → Named l (header ∷ (rows ++ more)) ks → NameApart l rows more ks }
 {}
 
 /// The reader of `csv`, set to no header row, flexible lengths and no trimming, reads the records
 /// of a table from their text.
 pub fn read_back()
-    ensures { (l : Allowance) (records : List Record) (gs : List Tree) → IsAllowance l → Named l records gs → AreRecords default_config StartRecord (strip_bom (csvtext records)) records }
+    ensures { (l : Allowance) (records : List Record) (gs : List Tree) → IsAllowance l
+        → Named l records gs → AreRecords default_config StartRecord
+        (strip_bom (csvtext records)) records }
 {}
 
 /// The verdict on a record is a row exactly if it is that row's record and the row may come next.
 pub fn judged_rows()
-    ensures { (l : Allowance) (rows : List Row) (fields : Record) (row : Row) → IsAllowance l → AreValidRows l rows → Judged l (reverse rows) fields (Accepted row) ↔ ((fields ≡ record_of row) × Accepts l (reverse rows) row) }
+    ensures { (l : Allowance) (rows : List Row) (fields : Record) (row : Row) → IsAllowance l
+        → AreValidRows l rows → Judged l (reverse rows) fields (Accepted row)
+        ↔ ((fields ≡ record_of row) × Accepts l (reverse rows) row) }
 {}
 
 /// Each record has exactly one verdict.
 pub fn one_verdict()
     ensures some { (l : Allowance) (before : List Row) (fields : Record) → (v : Verdict) × Judged l before fields v }
-    ensures one { (l : Allowance) (before : List Row) (fields : Record) (v w : Verdict) → Judged l before fields v → Judged l before fields w → v ≡ w }
+    ensures one { (l : Allowance) (before : List Row) (fields : Record) (v w : Verdict)
+        → Judged l before fields v → Judged l before fields w → v ≡ w }
 {}
 
 /// After records that name geometries, a record with a row as its verdict gives records that name
 /// geometries with that row; a refused record gives records that name none.
 pub fn judged()
-    ensures grows { (l : Allowance) (records : List Record) (here : Record) (gs : List Tree) (row : Row) → Named l records gs → JudgedBehind l gs here (Accepted row) → NameMore l records here gs row }
-    ensures refused { (l : Allowance) (records : List Record) (here : Record) (gs : List Tree) (reason : RowReason) → IsAllowance l → Named l records gs → JudgedBehind l gs here (Refused reason) → NamesNone l (records ++ here ∷ []) }
+    ensures grows { (l : Allowance) (records : List Record) (here : Record) (gs : List Tree)
+        (row : Row) → Named l records gs → JudgedBehind l gs here (Accepted row)
+        → NameMore l records here gs row }
+    ensures refused { (l : Allowance) (records : List Record) (here : Record) (gs : List Tree)
+        (reason : RowReason) → IsAllowance l → Named l records gs
+        → JudgedBehind l gs here (Refused reason) → NamesNone l (records ++ here ∷ []) }
 {}
 
 /// Records name geometries or have a fault, and never both; the fault has one place and one reason.
 pub fn faults()
-    ensures decided { (l : Allowance) (records : List Record) → IsAllowance l → ((gs : List Tree) × Named l records gs) ⊎ ((number : ℕ) × (reason : RowReason) × RowFault l records number reason) }
-    ensures none { (l : Allowance) (records : List Record) (number : ℕ) (reason : RowReason) → RowFault l records number reason → NamesNone l records }
-    ensures one { (l : Allowance) (records : List Record) (m n : ℕ) (why reason : RowReason) → IsAllowance l → RowFault l records m why → RowFault l records n reason → (m ≡ n) × (why ≡ reason) }
+    ensures decided { (l : Allowance) (records : List Record) → IsAllowance l
+        → ((gs : List Tree) × Named l records gs) ⊎ ((number : ℕ) × (reason : RowReason)
+        × RowFault l records number reason) }
+    ensures none { (l : Allowance) (records : List Record) (number : ℕ) (reason : RowReason)
+        → RowFault l records number reason → NamesNone l records }
+    ensures one { (l : Allowance) (records : List Record) (m n : ℕ) (why reason : RowReason)
+        → IsAllowance l → RowFault l records m why → RowFault l records n reason → (m ≡ n)
+        × (why ≡ reason) }
 {}
 
 /// A fault leaves one list of geometries complete, and none if it is at one of the first two
 /// records.
 pub fn complete()
-    ensures some { (l : Allowance) (records : List Record) (number : ℕ) (reason : RowReason) → RowFault l records number reason → (gs : List Tree) × AreComplete l records number reason gs }
-    ensures one { (l : Allowance) (records : List Record) (m n : ℕ) (why reason : RowReason) (gs hs : List Tree) → IsAllowance l → AreComplete l records m why gs → AreComplete l records n reason hs → gs ≡ hs }
-    ensures early { (l : Allowance) (records : List Record) (number : ℕ) (reason : RowReason) (gs : List Tree) → number ≤ 2 → AreComplete l records number reason gs → gs ≡ [] }
+    ensures some { (l : Allowance) (records : List Record) (number : ℕ) (reason : RowReason)
+        → RowFault l records number reason → (gs : List Tree)
+        × AreComplete l records number reason gs }
+    ensures one { (l : Allowance) (records : List Record) (m n : ℕ) (why reason : RowReason)
+        (gs hs : List Tree) → IsAllowance l → AreComplete l records m why gs
+        → AreComplete l records n reason hs → gs ≡ hs }
+    ensures early { (l : Allowance) (records : List Record) (number : ℕ) (reason : RowReason)
+        (gs : List Tree) → number ≤ 2 → AreComplete l records number reason gs → gs ≡ [] }
 {}
 
 /// With any correct judge of records, the plain reader reads the geometries that records name, or
 /// their fault.
 pub fn plain_reading()
-    ensures { (l : Allowance) (judge : List Row → Record → Verdict) (records : List Record) → IsAllowance l → Judges l judge → IsReading l records (read_table judge records) }
+    ensures { (l : Allowance) (judge : List Row → Record → Verdict) (records : List Record)
+        → IsAllowance l → Judges l judge → IsReading l records (read_table judge records) }
 {}
 
 /// Checks by computation that the definitions give the records of worked tables.

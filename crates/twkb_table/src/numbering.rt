@@ -23,12 +23,14 @@ pub(crate) fn next_record<R: Read>(
     ended: &mut bool,
     number: &mut u32,
 ) -> Result<bool, TableFault>
-    ensures more { IfOk result (λ found. found ≡ true → Advances R.remaining ended.old reader.old (fields_of held.new) ended.new reader.new) }
+    ensures more { IfOk result (λ found. found ≡ true
+        → Advances R.remaining ended.old reader.old (fields_of held.new) ended.new reader.new) }
     ensures counted { IfOk result (λ found. found ≡ true → (number.new ≡ number.old + 1) × (number.new < 2 ^ 32)) }
     ensures over { ended.old ≡ true → result ≡ Ok false }
     ensures ended { result ≡ Ok false → ended.new ≡ true }
     ensures going { IfOk result (λ found. found ≡ true → ended.new ≡ false) }
-    ensures end { IfOk result (λ found. found ≡ false → Finishes R.remaining ended.old reader.old ended.new reader.new) }
+    ensures end { IfOk result (λ found. found ≡ false
+        → Finishes R.remaining ended.old reader.old ended.new reader.new) }
     ensures uncounted { IfOk result (λ found. found ≡ false → number.new ≡ number.old) }
     ensures fault { IfErr result (λ fault. MissesRecord R.remaining ended.old reader.old number.old fault) }
 {

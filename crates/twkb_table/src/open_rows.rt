@@ -37,7 +37,8 @@ impl Model for OpenRows {
 #[inline(always)]
 fn write(places: &mut [OpenRow], depth: usize, kind: Kind, has_id: bool)
     requires { depth < length places.old }
-    ensures opened { (r : TableRow) → r.kind ≡ kind → is_some r.id ≡ has_id → take (depth + 1) places.new ≡ opened depth places.old r }
+    ensures opened { (r : TableRow) → r.kind ≡ kind → is_some r.id ≡ has_id
+        → take (depth + 1) places.new ≡ opened depth places.old r }
     ensures as_many { length places.new ≡ length places.old }
 {
     places[depth] = OpenRow {
@@ -59,7 +60,8 @@ fn write_apart(
     has_id: bool,
 ) -> Result<(), AllocError>
     requires { depth ≤ length places.old.items }
-    ensures opened { OnOk result ((r : TableRow) → r.kind ≡ kind → is_some r.id ≡ has_id → take (depth + 1) places.new.items ≡ opened depth places.old.items r) }
+    ensures opened { OnOk result ((r : TableRow) → r.kind ≡ kind → is_some r.id ≡ has_id
+        → take (depth + 1) places.new.items ≡ opened depth places.old.items r) }
     ensures enough { OnOk result (depth < length places.new.items) }
     ensures same { OnErr result (places.new.items ≡ places.old.items) }
 {
@@ -97,7 +99,8 @@ impl OpenRows {
     #[inline(always)]
     pub(crate) fn open_row(&mut self, row: &Row) -> Result<(), AllocError>
         requires { row.now.depth ≤ length self.old }
-        ensures opened { OnOk result ((points : List Point) → self.new ≡ opened row.now.depth self.old (row_with row.now points)) }
+        ensures opened { OnOk result ((points : List Point)
+            → self.new ≡ opened row.now.depth self.old (row_with row.now points)) }
         ensures same { OnErr result (self.new ≡ self.old) }
     {
         let depth = row.depth as usize;

@@ -77,7 +77,8 @@ fn write_part(
     records: &mut RecordWriter,
 ) -> Result<(), AllocError>
     requires ready { IsReady records.old.writer }
-    ensures { OnOk result (Writes records.old.writer records.new.writer (row_lines (plain_row depth kind id points.now ∷ []))) }
+    ensures { OnOk result (Writes records.old.writer records.new.writer
+        (row_lines (plain_row depth kind id points.now ∷ []))) }
 {
     let row = Row {
         depth,
@@ -99,7 +100,8 @@ fn write_members(
 ) -> Result<(), AllocError>
     requires nest { depth + nest_all (trees members.now) ≤ 2 ^ 31 }
     requires ready { IsReady records.old.writer }
-    ensures { OnOk result (Writes records.old.writer records.new.writer (row_lines (member_rows depth ids.now (trees members.now)))) }
+    ensures { OnOk result (Writes records.old.writer records.new.writer
+        (row_lines (member_rows depth ids.now (trees members.now)))) }
 {
     let mut index = 0;
     for member in members.as_slice() {
@@ -119,7 +121,8 @@ fn write_areas(
 ) -> Result<(), AllocError>
     requires depth { depth + 1 < 2 ^ 32 }
     requires ready { IsReady records.old.writer }
-    ensures { OnOk result (Writes records.old.writer records.new.writer (row_lines (rows_of_each (polygon_rows depth) ids.now areas.now))) }
+    ensures { OnOk result (Writes records.old.writer records.new.writer
+        (row_lines (rows_of_each (polygon_rows depth) ids.now areas.now))) }
 {
     let mut index = 0;
     for rings in areas {
@@ -141,7 +144,8 @@ fn write_lines(
     records: &mut RecordWriter,
 ) -> Result<(), AllocError>
     requires ready { IsReady records.old.writer }
-    ensures { OnOk result (Writes records.old.writer records.new.writer (row_lines (rows_of_each (λ id ps. plain_row depth kind id ps ∷ []) ids.now lines.now))) }
+    ensures { OnOk result (Writes records.old.writer records.new.writer
+        (row_lines (rows_of_each (λ id ps. plain_row depth kind id ps ∷ []) ids.now lines.now))) }
 {
     let mut index = 0;
     for line in lines {
@@ -161,7 +165,9 @@ fn write_points(
     records: &mut RecordWriter,
 ) -> Result<(), AllocError>
     requires ready { IsReady records.old.writer }
-    ensures { OnOk result (Writes records.old.writer records.new.writer (row_lines (rows_of_each (λ id p. plain_row depth Kind.Point id (p ∷ []) ∷ []) ids.now points.now))) }
+    ensures { OnOk result (Writes records.old.writer records.new.writer
+        (row_lines (rows_of_each (λ id p. plain_row depth Kind.Point id (p ∷ []) ∷ []) ids.now
+        points.now))) }
 {
     let mut index = 0;
     for point in points {

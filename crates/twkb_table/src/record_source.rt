@@ -31,7 +31,8 @@ pub struct RecordSource<'a, R> {
 }
 
 impl<'a, R: Read> RecordSource<'a, R> {
-    ghost use Rattle.twkb_table.specs.SourceStanding.{StandsAfter, GivesRecord, Ends, Faults, is_ended, is_spent, record_in};
+    ghost use Rattle.twkb_table.specs.SourceStanding.{StandsAfter, GivesRecord, Ends, Faults};
+    ghost use Rattle.twkb_table.specs.SourceStanding.{is_ended, is_spent, record_in};
 
     /// Makes a source that has read nothing. Takes no memory.
     pub fn new(alloc: Global, tap: &'a mut Tap<R>) -> RecordSource<'a, R>
@@ -82,8 +83,10 @@ pub(crate) fn read_next<R: Read>(
     held: &mut ByteRecord,
     ended: &mut bool,
 ) -> Result<bool, SourceFault>
-    ensures gives { IfOk result (λ found. found ≡ true → Advances R.remaining ended.old reader.old (fields_of held.new) ended.new reader.new) }
-    ensures ends { IfOk result (λ found. found ≡ false → Finishes R.remaining ended.old reader.old ended.new reader.new) }
+    ensures gives { IfOk result (λ found. found ≡ true
+        → Advances R.remaining ended.old reader.old (fields_of held.new) ended.new reader.new) }
+    ensures ends { IfOk result (λ found. found ≡ false
+        → Finishes R.remaining ended.old reader.old ended.new reader.new) }
     ensures source { IfErr result (λ fault. fault ≡ SourceFault.Source) }
     ensures over { ended.old ≡ true → result ≡ Ok false }
     ensures unread { ended.old ≡ true → (reader.new ≡ reader.old) × (held.new ≡ held.old) × (ended.new ≡ ended.old) }

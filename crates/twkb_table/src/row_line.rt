@@ -37,7 +37,8 @@ pub(crate) fn put_row(row: &Row, points: &[Pt], text: &mut Vec<u8>) -> Result<()
 #[inline(always)]
 fn push_head(row: &Row, head: &mut Piece<128>)
     requires empty { head.old ≡ [] }
-    ensures gathered { head.new ≡ ((decimal row.now.depth ++ 44 ∷ (word_of row.now.kind ++ 44 ∷ [])) ++ optional row.now.id) ++ 44 ∷ (optional row.now.precision ++ 44 ∷ []) }
+    ensures gathered { head.new ≡ ((decimal row.now.depth ++ 44 ∷ (word_of row.now.kind ++ 44 ∷ []))
+        ++ optional row.now.id) ++ 44 ∷ (optional row.now.precision ++ 44 ∷ []) }
     ensures short { length head.new ≤ 79 }
 {
     push_number(i64::from(row.depth), head);

@@ -37,7 +37,8 @@ pub(crate) struct RowReader {
 }
 
 impl RowReader {
-    ghost use Rattle.twkb_table.specs.RowReading.{limits_of, waiting, BeginsFirst, JudgedAfter, Keeps, GoesOn, EndsBefore};
+    ghost use Rattle.twkb_table.specs.RowReading.{limits_of, waiting, BeginsFirst, JudgedAfter};
+    ghost use Rattle.twkb_table.specs.RowReading.{Keeps, GoesOn, EndsBefore};
 
     // Makes a state with no rows. Takes no memory.
     pub(crate) fn new(alloc: Global, limits: Limits) -> RowReader
@@ -63,7 +64,9 @@ impl RowReader {
     // Reads a record while no row is open: the root of the first geometry, which then waits.
     pub(crate) fn read_root(&mut self, here: &ByteRecord) -> Result<(), JudgeFault>
         ensures read { OnOk result (BeginsFirst self.old (fields_of here.now) self.new) }
-        ensures refused { IfErr result (IfRefused (λ reason. Judged (limits_of self.old) [] (fields_of here.now) (Refused reason))) }
+        ensures refused { IfErr result
+            (IfRefused (λ reason. Judged (limits_of self.old) [] (fields_of here.now)
+            (Refused reason))) }
         ensures limits { limits_of self.new ≡ limits_of self.old }
         ensures sound { IsAllowance (limits_of self.old) }
     {
@@ -117,9 +120,13 @@ impl RowReader {
         flat: &mut Flat,
     ) -> Result<bool, JudgeFault>
         requires keeps { Keeps self.old flat.old }
-        ensures more { IfOk result (λ more. more ≡ true → GoesOn self.old flat.old (fields_of here.now) self.new flat.new) }
-        ensures root { IfOk result (λ more. more ≡ false → EndsBefore self.old flat.old (fields_of here.now) self.new × (flat.new ≡ flat.old)) }
-        ensures refused { IfErr result (IfRefused (λ reason. JudgedAfter (limits_of self.old) flat.old (fields_of here.now) (Refused reason))) }
+        ensures more { IfOk result (λ more. more ≡ true
+            → GoesOn self.old flat.old (fields_of here.now) self.new flat.new) }
+        ensures root { IfOk result (λ more. more ≡ false
+            → EndsBefore self.old flat.old (fields_of here.now) self.new × (flat.new ≡ flat.old)) }
+        ensures refused { IfErr result
+            (IfRefused (λ reason. JudgedAfter (limits_of self.old) flat.old (fields_of here.now)
+            (Refused reason))) }
         ensures limits { limits_of self.new ≡ limits_of self.old }
         ensures sound { IsAllowance (limits_of self.old) }
     {
@@ -156,8 +163,10 @@ impl RowReader {
     #[inline(always)]
     fn judge_next<'a>(&self, here: &'a ByteRecord, flat: &Flat) -> Result<RowHead<'a>, RowReason>
         requires keeps { Keeps self.now flat.now }
-        ensures read { IfOk result (λ head. (v : Verdict) → JudgedAs head v → JudgedAfter (limits_of self.now) flat.now (fields_of here.now) v) }
-        ensures refused { IfErr result (λ reason. JudgedAfter (limits_of self.now) flat.now (fields_of here.now) (Refused reason)) }
+        ensures read { IfOk result (λ head. (v : Verdict) → JudgedAs head v
+            → JudgedAfter (limits_of self.now) flat.now (fields_of here.now) v) }
+        ensures refused { IfErr result (λ reason. JudgedAfter (limits_of self.now) flat.now
+            (fields_of here.now) (Refused reason)) }
     {
         let nodes = flat.node_count();
         let count = flat.point_count();

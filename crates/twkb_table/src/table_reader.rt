@@ -1,5 +1,6 @@
 //! The geometries of a table, one after another.
-ghost use Rattle.std.specs.Prelude.{◌≡◌, ◌+◌, ◌⊎◌, ◌↔◌, ◌<◌, ◌^◌, ◌≢◌, [], length, None, Ok, Err, true, false, is_err, OnOk, IfOk, IfErr, IfSome, IsTrue};
+ghost use Rattle.std.specs.Prelude.{◌≡◌, ◌+◌, ◌⊎◌, ◌↔◌, ◌<◌, ◌^◌, ◌≢◌, [], length, None, Ok, Err};
+ghost use Rattle.std.specs.Prelude.{true, false, is_err, OnOk, IfOk, IfErr, IfSome, IsTrue};
 ghost use Rattle.twkb_io.specs.Taps.{device_of};
 
 use crate::header::is_header;
@@ -45,7 +46,10 @@ const BAD_HEADER: TableFault = TableFault::At {
 
 impl<'a, R: Read> TableReader<'a, R> {
     ghost use Rattle.twkb_table.specs.RowReading.{waiting, Keeps};
-    ghost use Rattle.twkb_table.specs.TableReading.{StandsAfter, Gives, GivesGeometry, Ends, Faults, Completes, FaultsIn, ShowsHeader, ShowsRoot, ShowsRow, IsOver, is_spent, records_read};
+    ghost use Rattle.twkb_table.specs.TableReading.{StandsAfter, Gives, GivesGeometry, Ends};
+    ghost use Rattle.twkb_table.specs.TableReading.{Faults, Completes, FaultsIn, ShowsHeader};
+    ghost use Rattle.twkb_table.specs.TableReading.{ShowsRoot, ShowsRow, IsOver, is_spent};
+    ghost use Rattle.twkb_table.specs.TableReading.{records_read};
 
     /// Makes a reader that has read nothing. Each geometry must keep the limits. Takes no memory.
     pub fn new(alloc: Global, tap: &'a mut Tap<R>, limits: Limits) -> TableReader<'a, R>
@@ -102,7 +106,8 @@ impl<'a, R: Read> TableReader<'a, R> {
     /// Returns the next geometry, or `None` at the table's end, as `next_flat` reads them; calls
     /// of the two may be mixed. Takes memory for the geometry too.
     pub fn next(&mut self) -> Result<Option<Geometry>, TableFault>
-        ensures gives { IfOk result (λ found. IfSome found (λ geometry. GivesGeometry R.remaining self.old geometry self.new)) }
+        ensures gives { IfOk result (λ found. IfSome found
+            (λ geometry. GivesGeometry R.remaining self.old geometry self.new)) }
         ensures ends { result ≡ Ok None → Ends R.remaining self.old self.new }
         ensures fault { IfErr result (λ fault. Faults R.remaining self.old fault) }
 
@@ -139,7 +144,8 @@ impl<'a, R: Read> TableReader<'a, R> {
     // Reads the next geometry into a flat form, and builds it.
     #[inline(never)]
     fn next_tree(&mut self, flat: &mut Flat) -> Result<Option<Geometry>, TableFault>
-        ensures gives { IfOk result (λ found. IfSome found (λ geometry. GivesGeometry R.remaining self.old geometry self.new)) }
+        ensures gives { IfOk result (λ found. IfSome found
+            (λ geometry. GivesGeometry R.remaining self.old geometry self.new)) }
         ensures ends { result ≡ Ok None → Ends R.remaining self.old self.new }
         ensures fault { IfErr result (λ fault. Faults R.remaining self.old fault) }
         ensures ended { result ≡ Ok None → IsOver self.new }
@@ -283,7 +289,9 @@ impl<'a, R: Read> TableReader<'a, R> {
         requires keeps { Keeps self.old.rows flat.old }
         ensures reads { ShowsRow R.remaining self.old flat.old flat.new self.new result }
         ensures keeps { IfOk result (λ more. more ≡ true → Keeps self.new.rows flat.new) }
-        ensures counts { IfOk result (λ more. more ≡ true → (records_read self.new ≡ records_read self.old + 1) × (records_read self.new < 2 ^ 32)) }
+        ensures counts { IfOk result (λ more. more ≡ true
+            → (records_read self.new ≡ records_read self.old + 1)
+            × (records_read self.new < 2 ^ 32)) }
         ensures some { OnOk result (0 < length flat.new) }
         ensures fresh { IfErr result (λ fault. fault ≢ TableFault.Spent) }
         ensures same { is_spent self.new ≡ is_spent self.old }

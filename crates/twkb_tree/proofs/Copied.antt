@@ -3,7 +3,9 @@ use Rattle.std.proofs.Common.{◌≡◌, ℕ, ◌+◌, ◌<◌, ◌≤◌, List,
 use Rattle.std.proofs.lemmas.List.{take_more, take_all}
 
 -- one more item is copied
-pub copied_more : {X : Type 0} (xs items more : List X) (i : ℕ) (item copy : X) → items ≡ take i xs → i < length xs → item ≡ get_or xs i item → copy ≡ item → more ≡ items ++ copy ∷ [] → more ≡ take (i + 1) xs
+pub copied_more : {X : Type 0} (xs items more : List X) (i : ℕ) (item copy : X) → items ≡ take i xs
+    → i < length xs → item ≡ get_or xs i item → copy ≡ item → more ≡ items ++ copy ∷ []
+    → more ≡ take (i + 1) xs
 copied_more xs items more i item copy before here item_is copied pushed =
     pushed ∙ (λ j. before j ++ (copied ∙ item_is) j ∷ []) ∙ sym (take_more xs i item here)
 

@@ -15,11 +15,13 @@ AreTrees-push [] g h s = (s, tt)
 AreTrees-push (u ∷ us) g h s = (h.0, AreTrees-push us g h.1 s)
 
 -- one more geometry with its points in range
-pub AreTreesInRange-push : (gs : List Tree) (g : Tree) → AreTreesInRange (trees gs) → IsTreeInRange g → AreTreesInRange (trees (gs ++ g ∷ []))
+pub AreTreesInRange-push : (gs : List Tree) (g : Tree) → AreTreesInRange (trees gs)
+    → IsTreeInRange g → AreTreesInRange (trees (gs ++ g ∷ []))
 AreTreesInRange-push [] g h s = (s, tt)
 AreTreesInRange-push (u ∷ us) g h s = (h.0, AreTreesInRange-push us g h.1 s)
 
 -- one more item for which P holds
-pub all_push : {X : Type 0} (P : X → Type 0) (xs : List X) (x : X) → AllByRecursion P xs → P x → AllByRecursion P (xs ++ x ∷ [])
+pub all_push : {X : Type 0} (P : X → Type 0) (xs : List X) (x : X) → AllByRecursion P xs → P x
+    → AllByRecursion P (xs ++ x ∷ [])
 all_push P [] x h s = (s, tt)
 all_push P (y ∷ ys) x h s = (h.0, all_push P ys x h.1 s)

@@ -2,7 +2,9 @@
 use Rattle.std.proofs.Common.{◌≤◌, List, [], ◌∷◌, ◌++◌, length}
 use Rattle.std.specs.Prelude.{None, Some, flat_map}
 use Rattle.twkb_points.specs.Point.{Point, AreInRange}
-use Rattle.twkb_tree.specs.Tree.{Simple, point, line, polygon, multi_point, multi_line, multi_polygon, Tree, simple, collection, Trees, end, ◌▷◌, flatten, points_in, flat, flat_all, nest, nodes, IsTree}
+use Rattle.twkb_tree.specs.Tree.{Simple, point, line, polygon, multi_point, multi_line}
+use Rattle.twkb_tree.specs.Tree.{multi_polygon, Tree, simple, collection, Trees, end, ◌▷◌, flatten}
+use Rattle.twkb_tree.specs.Tree.{points_in, flat, flat_all, nest, nodes, IsTree}
 use Rattle.twkb_tree.specs.Limits.{Allowance, IsValid}
 use Rattle.twkb_tree.specs.InRange.{LinesAreInRange, AreasAreInRange, IsSimpleInRange, IsTreeInRange, AreTreesInRange}
 
@@ -19,7 +21,8 @@ AreInRange-flatten (ps ∷ lines) h = AreInRange-append ps (flatten lines) h.0 (
 -- the points of polygons in range, joined, are in range
 AreInRange-areas : (areas : List (List (List Point))) → AreasAreInRange areas → AreInRange (flat_map flatten areas)
 AreInRange-areas [] h = tt
-AreInRange-areas (rings ∷ areas) h = AreInRange-append (flatten rings) (flat_map flatten areas) (AreInRange-flatten rings h.0) (AreInRange-areas areas h.1)
+AreInRange-areas (rings ∷ areas) h = AreInRange-append (flatten rings) (flat_map flatten areas)
+    (AreInRange-flatten rings h.0) (AreInRange-areas areas h.1)
 
 -- the points of a simple shape in range are in range
 AreInRange-points_in : (s : Simple) → IsSimpleInRange s → AreInRange (points_in s)
@@ -39,11 +42,19 @@ mutual
 
   AreInRange-flat_all : (gs : Trees) → AreTreesInRange gs → AreInRange (flat_all gs)
   AreInRange-flat_all end h = tt
-  AreInRange-flat_all (g ▷ gs) h = AreInRange-append (flat g) (flat_all gs) (AreInRange-flat g h.0) (AreInRange-flat_all gs h.1)
+  AreInRange-flat_all (g ▷ gs) h = AreInRange-append (flat g) (flat_all gs) (AreInRange-flat g h.0)
+      (AreInRange-flat_all gs h.1)
 
 -- a geometry with points in range that keeps each limit is valid
-pub valid_within : (l : Allowance) (g : Tree) → IsTree g → IsTreeInRange g → nest g ≤ l.nest → nodes g ≤ l.nodes → length (flat g) ≤ l.points → IsValid l g
+pub valid_within : (l : Allowance) (g : Tree) → IsTree g → IsTreeInRange g → nest g ≤ l.nest
+    → nodes g ≤ l.nodes → length (flat g) ≤ l.points → IsValid l g
 valid_within l g is_tree in_range few_levels few_nodes few_points =
-    record { tree = is_tree; in_range = AreInRange-flat g in_range; nest_kept = few_levels; nodes_kept = few_nodes; points_kept = few_points }
+    record {
+      tree = is_tree;
+      in_range = AreInRange-flat g in_range;
+      nest_kept = few_levels;
+      nodes_kept = few_nodes;
+      points_kept = few_points;
+    }
 
 pub ruleset validity = (valid_within)

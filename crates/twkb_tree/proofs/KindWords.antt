@@ -4,7 +4,9 @@ use Rattle.std.specs.Str.{IsUtf8}
 use lib.Utf8.{encode}
 use Rattle.twkb_tree.specs.Kind.{word_of}
 use Rattle.twkb_tree.specs.declared.kind.Kind.{Kind}
-use Rattle.twkb_tree.specs.declared.kind.Kind.TheVariants.{Point, Linestring, Polygon, Ring, MultiPoint, MultiLinestring, MultiPolygon, Collection}
+use Rattle.twkb_tree.specs.declared.kind.Kind.TheVariants.{Point, Linestring, Polygon, Ring}
+use Rattle.twkb_tree.specs.declared.kind.Kind.TheVariants.{MultiPoint, MultiLinestring}
+use Rattle.twkb_tree.specs.declared.kind.Kind.TheVariants.{MultiPolygon, Collection}
 
 -- the word of a kind is UTF-8
 pub word_is_text : (k : Kind) → IsUtf8 (word_of k)

@@ -10,13 +10,15 @@ use Rattle.twkb_tree.specs.Accepted.{Accepts, Continues, is_member, nest_kept}
 more_levels : (d m n : ℕ) → m ≤ n → nat_le d m ≡ true → nat_le d n ≡ true
 more_levels d m n le e = grind (arith, nat_tests)
 
-nest_largest : (l : Allowance) (p : Option Row) (d : ℕ) → IsAllowance l → nest_kept l p d ≡ true → nest_kept largest_limits p d ≡ true
+nest_largest : (l : Allowance) (p : Option Row) (d : ℕ) → IsAllowance l → nest_kept l p d ≡ true
+    → nest_kept largest_limits p d ≡ true
 nest_largest l p d sound e = elim (cases_Bool (is_member p)) [
   | inl member ↦ rw member (more_levels d l.nest 32 sound.nest_cap (rw member at e))
   | inr other ↦ rw other refl
 ]
 
-pub accepts_largest : (l : Allowance) (before : List Row) (r : Row) → IsAllowance l → Accepts l before r → Accepts largest_limits before r
+pub accepts_largest : (l : Allowance) (before : List Row) (r : Row) → IsAllowance l
+    → Accepts l before r → Accepts largest_limits before r
 accepts_largest l before r cap a = record {
   admitted = a.admitted;
   nest = nest_largest l _ r.depth cap a.nest;
@@ -25,5 +27,6 @@ accepts_largest l before r cap a = record {
   points = (let n = a.points in let c = cap.points_cap in omega (arith, n, c));
 }
 
-pub continues_largest : (l : Allowance) (rows : List Row) (r : Row) → IsAllowance l → Continues l rows r → Continues largest_limits rows r
+pub continues_largest : (l : Allowance) (rows : List Row) (r : Row) → IsAllowance l
+    → Continues l rows r → Continues largest_limits rows r
 continues_largest l rows r cap c = (accepts_largest l _ r cap c.0, c.1)

@@ -41,12 +41,14 @@ abbrev InRange : List Row → Row → Type 0
 InRange before r = HasPointsInRange r
 
 -- rows with their points in range along the reversed rows have their points in range
-range_onto : (rs before : List Row) → Along InRange (reverse_aux rs before) → AllByRecursion HasPointsInRange rs × Along InRange before
+range_onto : (rs before : List Row) → Along InRange (reverse_aux rs before)
+    → AllByRecursion HasPointsInRange rs × Along InRange before
 range_onto [] before a = (tt, a)
 range_onto (r ∷ rs) before a = let h = range_onto rs (r ∷ before) a in ((h.1.0, h.0), h.1.1)
 
 -- rows with their points in range have them so along the reversed rows
-onto_range : (rs before : List Row) → AllByRecursion HasPointsInRange rs → Along InRange before → Along InRange (reverse_aux rs before)
+onto_range : (rs before : List Row) → AllByRecursion HasPointsInRange rs → Along InRange before
+    → Along InRange (reverse_aux rs before)
 onto_range [] before h a = a
 onto_range (r ∷ rs) before h a = onto_range rs (r ∷ before) h.1 (h.0, a)
 
@@ -84,7 +86,13 @@ whole l (r ∷ before) p = (
     in_range = p.in_range.0;
     points = p.points.0;
   },
-  whole l before (record { admitted = p.admitted.1; in_range = p.in_range.1; nest = p.nest.1; nodes = p.nodes.1; points = p.points.1 }),
+  whole l before (record {
+    admitted = p.admitted.1;
+    in_range = p.in_range.1;
+    nest = p.nest.1;
+    nodes = p.nodes.1;
+    points = p.points.1;
+  }),
 )
 
 -- the facts about rows that make their members valid
@@ -107,7 +115,13 @@ valid_all l (g ▷ gs) v =
         nodes_kept = (let h = v.nodes.0 in omega (arith, h, weight-nodes g));
         points_kept = (let h = v.points.0 in omega (arith, h, point_count-rows g));
       },
-      valid_all l gs (record { are = v.are.1; in_range = range.1; nest = v.nest.1; nodes = v.nodes.1; points = v.points.1 }),
+      valid_all l gs (record {
+        are = v.are.1;
+        in_range = range.1;
+        nest = v.nest.1;
+        nodes = v.nodes.1;
+        points = v.points.1;
+      }),
     )
 
 -- the rows of valid members have these facts
@@ -117,7 +131,8 @@ of_valid l (g ∷ gs) v =
     let rest = of_valid l gs v.1 in
     record {
       are = (v.0.tree, rest.are);
-      in_range = all_join HasPointsInRange (rows 0 g) (rows_all (trees gs)) (rows_in_range g v.0.in_range) rest.in_range;
+      in_range = all_join HasPointsInRange (rows 0 g) (rows_all (trees gs))
+          (rows_in_range g v.0.in_range) rest.in_range;
       nest = (v.0.nest_kept, rest.nest);
       nodes = ((let h = v.0.nodes_kept in omega (arith, h, weight-nodes g)), rest.nodes);
       points = ((let h = v.0.points_kept in omega (arith, h, point_count-rows g)), rest.points);
@@ -132,11 +147,22 @@ valid_rows l rs a =
     let n = member_nodes 0 None gs in
     let past_is : past n [] ≡ reverse rs = past-listed n ∙ ap reverse (listed-members 0 None gs ∙ named.2) in
     let onto_is : reverse_aux (rows_all gs) [] ≡ reverse rs = ap reverse named.2 in
-    let nest = along_locally (Nests l) 0 None None n [] (fit_roots gs named.1) at_roots (subst (Along (UnderParent (Nests l))) (sym past_is) p.nest) in
+    let nest = along_locally (Nests l) 0 None None n [] (fit_roots gs named.1) at_roots
+    (subst (Along (UnderParent (Nests l))) (sym past_is) p.nest) in
     let nodes = totals (λ r. 1) l.nodes gs [] named.1 (subst (Along (Adds (λ r. 1) l.nodes)) (sym onto_is) p.nodes) in
-    let points = totals (λ r. length r.points) l.points gs [] named.1 (subst (Along (Adds (λ r. length r.points) l.points)) (sym onto_is) p.points) in
-    let range = range_onto (rows_all gs) [] (subst (Along InRange) (sym onto_is) p.in_range) in
-    (members gs, valid_all l gs (record { are = named.1; in_range = range.0; nest = roots_nest l gs nest.0; nodes = nodes.0; points = points.0 }), rows_of-members gs ∙ named.2)
+    let points = totals (λ r. length r.points) l.points gs [] named.1
+    (subst (Along (Adds (λ r. length r.points) l.points)) (sym onto_is) p.points) in
+    let range = range_onto (rows_all gs) [] (subst (Along InRange) (sym onto_is) p.in_range) in (
+      members gs,
+      valid_all l gs (record {
+        are = named.1;
+        in_range = range.0;
+        nest = roots_nest l gs nest.0;
+        nodes = nodes.0;
+        points = points.0;
+      }),
+      rows_of-members gs ∙ named.2,
+    )
 
 -- the rows of valid geometries are accepted one by one
 pub accepted_rows : (l : Allowance) (rs : List Row) → AreValidRows l rs → AreAccepted l (reverse rs)
@@ -150,9 +176,12 @@ accepted_rows l rs v =
     whole l (reverse rs) (record {
       admitted = subst IsAdmitted past_is (rows_admitted n (fit_roots gs f.are));
       in_range = subst (Along InRange) onto_is (onto_range (rows_all gs) [] f.in_range tt);
-      nest = subst (Along (UnderParent (Nests l))) past_is (locally_along (Nests l) 0 None None n [] (fit_roots gs f.are) at_roots (nest_roots l gs f.nest) tt);
+      nest = subst (Along (UnderParent (Nests l))) past_is
+          (locally_along (Nests l) 0 None None n [] (fit_roots gs f.are) at_roots
+          (nest_roots l gs f.nest) tt);
       nodes = subst (Along (Adds (λ r. 1) l.nodes)) onto_is (of_totals (λ r. 1) l.nodes gs [] f.are f.nodes tt);
-      points = subst (Along (Adds (λ r. length r.points) l.points)) onto_is (of_totals (λ r. length r.points) l.points gs [] f.are f.points tt);
+      points = subst (Along (Adds (λ r. length r.points) l.points)) onto_is
+          (of_totals (λ r. length r.points) l.points gs [] f.are f.points tt);
     })
 
 -- ---- one more row, and prefixes
@@ -165,11 +194,14 @@ accepted_tail l (x ∷ xs) ys h = accepted_tail l xs ys h.1
 -- a prefix of rows of valid geometries is rows of valid geometries
 pub valid_front : (l : Allowance) (front more : List Row) → AreValidRows l (front ++ more) → AreValidRows l front
 valid_front l front more v =
-    valid_rows l front (accepted_tail l (reverse more) (reverse front) (subst (AreAccepted l) (reverse-append front more) (accepted_rows l (front ++ more) v)))
+    valid_rows l front (accepted_tail l (reverse more) (reverse front)
+    (subst (AreAccepted l) (reverse-append front more) (accepted_rows l (front ++ more) v)))
 
 -- rows of valid geometries with one more accepted row are rows of valid geometries
-pub row_accepted : (l : Allowance) (rs : List Row) (r : Row) → AreValidRows l rs → Accepts l (reverse rs) r → AreValidRows l (rs ++ r ∷ [])
-row_accepted l rs r v h = valid_rows l (rs ++ r ∷ []) (subst (AreAccepted l) (sym (reverse-append rs (r ∷ []))) (h, accepted_rows l rs v))
+pub row_accepted : (l : Allowance) (rs : List Row) (r : Row) → AreValidRows l rs
+    → Accepts l (reverse rs) r → AreValidRows l (rs ++ r ∷ [])
+row_accepted l rs r v h = valid_rows l (rs ++ r ∷ [])
+    (subst (AreAccepted l) (sym (reverse-append rs (r ∷ []))) (h, accepted_rows l rs v))
 
 -- the last of the rows of valid geometries is accepted after the others
 pub accepts_row : (l : Allowance) (rs : List Row) (r : Row) → AreValidRows l (rs ++ r ∷ []) → Accepts l (reverse rs) r

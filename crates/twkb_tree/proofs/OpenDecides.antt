@@ -1,5 +1,6 @@
 -- What the open rows say of the rows so far: enough to decide about the next row.
-use Rattle.std.proofs.Common.{◌≡◌, ℕ, zero, suc, ◌+◌, ◌<◌, List, [], ◌∷◌, length, Option, Some, None, get_or, sym, ◌∙◌, ap, subst, arith}
+use Rattle.std.proofs.Common.{◌≡◌, ℕ, zero, suc, ◌+◌, ◌<◌, List, [], ◌∷◌, length, Option, Some}
+use Rattle.std.proofs.Common.{None, get_or, sym, ◌∙◌, ap, subst, arith}
 use Rattle.std.specs.Prelude.{is_some, nat_le}
 use Rattle.std.proofs.lemmas.Bool.Decides.{nat_tests}
 use Rattle.twkb_tree.specs.declared.kind.Kind.{Kind}
@@ -23,19 +24,23 @@ pub head_id : (f g : Row) → ids_by (Some f) ≡ ids_by (Some g) → is_some f.
 head_id f g e = cc e
 
 -- whether a row may come at a depth depends on the number of open rows alone
-pub steps_open : (d : ℕ) (before : List Row) (os : List OpenRow) → AreOpen before os → steps_to d before ≡ nat_le d (length os)
+pub steps_open : (d : ℕ) (before : List Row) (os : List OpenRow) → AreOpen before os
+    → steps_to d before ≡ nat_le d (length os)
 steps_open zero before os a = grind (arith, nat_tests)
 steps_open (suc d) [] os a = grind (arith, nat_tests, a.all)
 steps_open (suc d) (r ∷ before) os a = grind (arith, nat_tests, a.all)
 
 -- the open row at a depth, counted from a depth above it
-open_from : (j d e : ℕ) (before : List Row) (os : List OpenRow) (blank : OpenRow) → e ≡ j + d → d < length os → AreOpenFrom j before os → IsOpenAt e before (get_or os d blank)
+open_from : (j d e : ℕ) (before : List Row) (os : List OpenRow) (blank : OpenRow) → e ≡ j + d
+    → d < length os → AreOpenFrom j before os → IsOpenAt e before (get_or os d blank)
 open_from j d e before [] blank same lt h = absurd (omega arith)
 open_from j zero e before (o ∷ os) blank same lt h = subst (λ k. IsOpenAt k before o) (omega arith) h.0
-open_from j (suc d) e before (o ∷ os) blank same lt h = open_from (suc j) d e before os blank (omega arith) (omega arith) h.1
+open_from j (suc d) e before (o ∷ os) blank same lt h = open_from (suc j) d e before os blank
+    (omega arith) (omega arith) h.1
 
 -- the open row at a depth is that of the last row there
-pub open_at : (d : ℕ) (before : List Row) (os : List OpenRow) (blank : OpenRow) → AreOpen before os → d < length os → IsOpenAt d before (get_or os d blank)
+pub open_at : (d : ℕ) (before : List Row) (os : List OpenRow) (blank : OpenRow) → AreOpen before os
+    → d < length os → IsOpenAt d before (get_or os d blank)
 open_at d before os blank a lt = open_from 0 d d before os blank (omega arith) lt a.each
 
 -- the kind of an open row is that of the last row at its depth

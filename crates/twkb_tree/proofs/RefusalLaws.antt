@@ -1,5 +1,6 @@
 -- A row is refused exactly if it is not accepted.
-use Rattle.std.proofs.Common.{◌≡◌, ℕ, ◌+◌, ◌<◌, ◌≤◌, Bool, true, false, List, [], ◌∷◌, length, Option, Some, None, refl, ap, arith, inl, inr}
+use Rattle.std.proofs.Common.{◌≡◌, ℕ, ◌+◌, ◌<◌, ◌≤◌, Bool, true, false, List, [], ◌∷◌, length}
+use Rattle.std.proofs.Common.{Option, Some, None, refl, ap, arith, inl, inr}
 use Rattle.std.specs.Prelude.{ℤ, not, ◌&&◌, ◌||◌, is_some, is_none, nat_lt, nat_le, reverse}
 use Rattle.std.specs.List.{AllByRecursion}
 use Rattle.std.proofs.lemmas.Bool.{cases_Bool}
@@ -8,9 +9,13 @@ use Rattle.twkb_points.specs.Point.{Point, AreInRange}
 use Rattle.twkb_tree.specs.declared.kind.Kind.{Kind}
 use Rattle.twkb_tree.specs.Limits.{Allowance}
 use Rattle.twkb_tree.specs.Rows.{Row}
-use Rattle.twkb_tree.specs.Admits.{steps_to, parent, first_child, has_place, is_whole, has_points, id_in_range, id_allowed, has_same_ids, precision_in_range, precision_fits, points_fit, fits}
+use Rattle.twkb_tree.specs.Admits.{steps_to, parent, first_child, has_place, is_whole, has_points}
+use Rattle.twkb_tree.specs.Admits.{id_in_range, id_allowed, has_same_ids, precision_in_range}
+use Rattle.twkb_tree.specs.Admits.{precision_fits, points_fit, fits}
 use Rattle.twkb_tree.specs.Accepted.{nest_kept, geometry_rows, point_count, Accepts, IsOneRoot, Continues}
-use Rattle.twkb_tree.specs.Refusal.{Refusal, Check, checks_under, first_failed, are_in_range, has_none, refusal_after, refusal, accepts, is_one_root, continues}
+use Rattle.twkb_tree.specs.Refusal.{Refusal, Check, checks_under, first_failed, are_in_range}
+use Rattle.twkb_tree.specs.Refusal.{has_none, refusal_after, refusal, accepts, is_one_root}
+use Rattle.twkb_tree.specs.Refusal.{continues}
 use Rattle.twkb_tree.proofs.RowFacts.{facts, fits_by, none_fit}
 use Rattle.twkb_tree.proofs.RowTests.{both_true, both, below_test, test_below, within_test, test_within}
 use Rattle.twkb_tree.proofs.RowRanges.{are_in_range-true, points_in_range}
@@ -22,7 +27,9 @@ abbrev AllHold : List Check → Type 0
 AllHold cs = AllByRecursion (λ c. c.holds ≡ true) cs
 
 -- the first test holds, and none of the others fails
-fails_first : (b : Bool) (why : Refusal) (cs : List Check) → first_failed (record { holds = b; otherwise = why } ∷ cs) ≡ None → (b ≡ true) × (first_failed cs ≡ None)
+fails_first : (b : Bool) (why : Refusal) (cs : List Check)
+    → first_failed (record { holds = b; otherwise = why } ∷ cs) ≡ None → (b ≡ true)
+    × (first_failed cs ≡ None)
 fails_first true why cs e = (refl, e)
 fails_first false why cs e = cc e
 
@@ -39,12 +46,14 @@ none_fails (c ∷ cs) h = rw (h.0) (none_fails cs h.1)
 -- ---- the tests and what a row must be
 
 -- a precision that passes both tests fits
-precision_joined : (w : Bool) (p : Option Row) (q : Option ℤ) → is_whole p ≡ w → (not w || is_some q) ≡ true → (w || is_none q) ≡ true → precision_fits p q ≡ true
+precision_joined : (w : Bool) (p : Option Row) (q : Option ℤ) → is_whole p ≡ w
+    → (not w || is_some q) ≡ true → (w || is_none q) ≡ true → precision_fits p q ≡ true
 precision_joined true p q e a b = rw e a
 precision_joined false p q e a b = rw e b
 
 -- a precision that fits passes both tests
-missing_test : (w : Bool) (p : Option Row) (q : Option ℤ) → is_whole p ≡ w → precision_fits p q ≡ true → ((not w || is_some q) ≡ true) × ((w || is_none q) ≡ true)
+missing_test : (w : Bool) (p : Option Row) (q : Option ℤ) → is_whole p ≡ w
+    → precision_fits p q ≡ true → ((not w || is_some q) ≡ true) × ((w || is_none q) ≡ true)
 missing_test true p q e h = (rw e at h, refl)
 missing_test false p q e h = (refl, rw e at h)
 
@@ -78,7 +87,9 @@ pub record Passes (l : Allowance) (steps : Bool) (p f : Option Row) (nodes point
   pub number : points_fit r.kind (is_whole p) r.points ≡ true
 
 -- each test holds if none fails, by name
-pub passes : (l : Allowance) (steps : Bool) (p f : Option Row) (nodes points : ℕ) (r : Row) → first_failed (checks_under l steps p f nodes points r) ≡ None → Passes l steps p f nodes points r
+pub passes : (l : Allowance) (steps : Bool) (p f : Option Row) (nodes points : ℕ) (r : Row)
+    → first_failed (checks_under l steps p f nodes points r) ≡ None
+    → Passes l steps p f nodes points r
 passes l steps p f nodes points r e =
     let h = all_hold (checks_under l steps p f nodes points r) e in
     let from_4 = h.1.1.1.1 in
@@ -100,15 +111,39 @@ passes l steps p f nodes points r e =
     }
 
 -- none fails if each test holds, by name
-pub passed : (l : Allowance) (steps : Bool) (p f : Option Row) (nodes points : ℕ) (r : Row) → Passes l steps p f nodes points r → first_failed (checks_under l steps p f nodes points r) ≡ None
+pub passed : (l : Allowance) (steps : Bool) (p f : Option Row) (nodes points : ℕ) (r : Row)
+    → Passes l steps p f nodes points r → first_failed
+    (checks_under l steps p f nodes points r) ≡ None
 passed l steps p f nodes points r h =
     none_fails (checks_under l steps p f nodes points r) (
       h.place,
-      (h.nest, (h.nodes_left, (h.id_range, (h.id, (h.same, (h.range, (h.missing, (h.extra, (h.allowed, (h.in_range, (h.points_left, (h.number, tt)))))))))))),
+      (
+        h.nest,
+        (
+          h.nodes_left,
+          (
+            h.id_range,
+            (
+              h.id,
+              (
+                h.same,
+                (
+                  h.range,
+                  (
+                    h.missing,
+                    (h.extra, (h.allowed, (h.in_range, (h.points_left, (h.number, tt))))),
+                  ),
+                ),
+              ),
+            ),
+          ),
+        ),
+      ),
     )
 
 -- a row that passes the tests fits
-pub joined : (l : Allowance) (steps : Bool) (p f : Option Row) (nodes points : ℕ) (r : Row) → Passes l steps p f nodes points r → (steps && fits p f r) ≡ true
+pub joined : (l : Allowance) (steps : Bool) (p f : Option Row) (nodes points : ℕ) (r : Row)
+    → Passes l steps p f nodes points r → (steps && fits p f r) ≡ true
 joined l steps p f nodes points r h =
     let place = both_true steps (has_place p r.kind) h.place in
     both steps (fits p f r) place.0 (fits_by p f r (record {
@@ -122,7 +157,9 @@ joined l steps p f nodes points r h =
     }))
 
 -- a row that fits passes
-pub apart : (l : Allowance) (steps : Bool) (p f : Option Row) (nodes points : ℕ) (r : Row) → (steps && fits p f r) ≡ true → nest_kept l p r.depth ≡ true → nodes < l.nodes → AreInRange r.points → points + length r.points ≤ l.points → Passes l steps p f nodes points r
+pub apart : (l : Allowance) (steps : Bool) (p f : Option Row) (nodes points : ℕ) (r : Row)
+    → (steps && fits p f r) ≡ true → nest_kept l p r.depth ≡ true → nodes < l.nodes
+    → AreInRange r.points → points + length r.points ≤ l.points → Passes l steps p f nodes points r
 apart l steps p f nodes points r e nest few in_range room =
     let two = both_true steps (fits p f r) e in
     let h = facts p f r two.1 in
@@ -144,11 +181,15 @@ apart l steps p f nodes points r e nest few in_range room =
     }
 
 -- a row that is not refused is accepted
-pub accepts_unrefused : (l : Allowance) (before : List Row) (r : Row) → refusal_after l before r ≡ None → Accepts l before r
+pub accepts_unrefused : (l : Allowance) (before : List Row) (r : Row)
+    → refusal_after l before r ≡ None → Accepts l before r
 accepts_unrefused l before r e =
-    let h = passes l (steps_to r.depth before) (parent r.depth before) (first_child r.depth before) (length (geometry_rows r.depth before)) (point_count (geometry_rows r.depth before)) r e in
+    let h = passes l (steps_to r.depth before) (parent r.depth before) (first_child r.depth before)
+    (length (geometry_rows r.depth before)) (point_count (geometry_rows r.depth before)) r e in
     record {
-      admitted = joined l (steps_to r.depth before) (parent r.depth before) (first_child r.depth before) (length (geometry_rows r.depth before)) (point_count (geometry_rows r.depth before)) r h;
+      admitted = joined l (steps_to r.depth before) (parent r.depth before)
+          (first_child r.depth before) (length (geometry_rows r.depth before))
+          (point_count (geometry_rows r.depth before)) r h;
       nest = h.nest;
       nodes = below_test (length (geometry_rows r.depth before)) l.nodes h.nodes_left;
       in_range = points_in_range r.points h.in_range;
@@ -156,12 +197,14 @@ accepts_unrefused l before r e =
     }
 
 -- a row that is accepted is not refused
-pub accepted_unrefused : (l : Allowance) (before : List Row) (r : Row) → Accepts l before r → refusal_after l before r ≡ None
+pub accepted_unrefused : (l : Allowance) (before : List Row) (r : Row) → Accepts l before r
+    → refusal_after l before r ≡ None
 accepted_unrefused l before r a =
     let nodes = length (geometry_rows r.depth before) in
     let points = point_count (geometry_rows r.depth before) in
     passed l (steps_to r.depth before) (parent r.depth before) (first_child r.depth before) nodes points r
-    (apart l (steps_to r.depth before) (parent r.depth before) (first_child r.depth before) nodes points r a.admitted a.nest a.nodes a.in_range a.points)
+    (apart l (steps_to r.depth before) (parent r.depth before) (first_child r.depth before) nodes
+    points r a.admitted a.nest a.nodes a.in_range a.points)
 
 -- ---- the tests that compute
 

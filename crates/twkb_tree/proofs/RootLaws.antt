@@ -1,5 +1,6 @@
 -- The rows of one geometry: where they begin, continue and end.
-use Rattle.std.proofs.Common.{◌≡◌, ℕ, ◌<◌, ◌≤◌, true, List, [], ◌∷◌, ◌++◌, Some, None, refl, sym, ◌∙◌, ap, subst, arith, append-nil}
+use Rattle.std.proofs.Common.{◌≡◌, ℕ, ◌<◌, ◌≤◌, true, List, [], ◌∷◌, ◌++◌, Some, None, refl, sym}
+use Rattle.std.proofs.Common.{◌∙◌, ap, subst, arith, append-nil}
 use Rattle.std.specs.List.{AllByRecursion}
 use Rattle.twkb_tree.specs.Tree.{Tree, end, ◌▷◌, IsTree}
 use Rattle.twkb_tree.specs.Rows.{Row, rows, rows_of, own_row}
@@ -34,7 +35,11 @@ deep_mid d (x ∷ xs) y ys h = deep_mid d xs y ys h.1
 -- the rows of a deep forest are deep
 deep_listed : (d : ℕ) (n : Nodes) → IsDeep d n → AreDeep d (listed n)
 deep_listed d none h = tt
-deep_listed d (node r c l) h = (h.0, all_join (IsDeeper d) (listed c) (listed l) (deep_listed d c h.1) (deep_listed d l h.2))
+deep_listed d (node r c l) h = (
+  h.0,
+  all_join (IsDeeper d) (listed c) (listed l)
+      (deep_listed d c h.1) (deep_listed d l h.2),
+)
 
 -- the rows of a list of one geometry are those of the geometry
 pub one_tree : (g : Tree) → rows_of (g ∷ []) ≡ rows 0 g
@@ -44,8 +49,12 @@ one_tree g = append-nil (rows 0 g)
 pub below_root : (g : Tree) → IsTree g → (below : List Row) × (rows 0 g ≡ own_row None 0 g ∷ below) × AreDeep 1 below
 below_root g t =
     let fit = fit_roots (g ▷ end) (t, tt) in
-    let deep = fit_deep 1 (Some (own_row None 0 g)) None (tree_below 1 g) fit.2 in
-    (listed (tree_below 1 g), sym (one_tree g) ∙ sym (listed-members 0 None (g ▷ end)) ∙ ap (λ rs. own_row None 0 g ∷ rs) (append-nil (listed (tree_below 1 g))), deep_listed 1 (tree_below 1 g) deep)
+    let deep = fit_deep 1 (Some (own_row None 0 g)) None (tree_below 1 g) fit.2 in (
+      listed (tree_below 1 g),
+      sym (one_tree g) ∙ sym (listed-members 0 None (g ▷ end))
+          ∙ ap (λ rs. own_row None 0 g ∷ rs) (append-nil (listed (tree_below 1 g))),
+      deep_listed 1 (tree_below 1 g) deep,
+    )
 
 -- the root's row is at depth 0
 root_is_root : (g : Tree) → IsTree g → (own_row None 0 g).depth ≡ 0
@@ -68,14 +77,16 @@ rest_deep g r rest t e =
     subst (AreDeep 1) tail b.2
 
 -- rows with no second root are those of one geometry
-pub only_root : (gs : List Tree) (r : Row) (rest : List Row) → AreGeometries gs → rows_of gs ≡ r ∷ rest → AreDeep 1 rest → (g : Tree) × IsTree g × (gs ≡ g ∷ [])
+pub only_root : (gs : List Tree) (r : Row) (rest : List Row) → AreGeometries gs
+    → rows_of gs ≡ r ∷ rest → AreDeep 1 rest → (g : Tree) × IsTree g × (gs ≡ g ∷ [])
 only_root [] r rest t e deep = cc e
 only_root (g ∷ []) r rest t e deep = (g, t.0, refl)
 only_root (g ∷ h ∷ hs) r rest t e deep =
     let b = below_root g t.0 in
     let c = below_root h t.1.0 in
     let whole : (own_row None 0 g ∷ b.0) ++ ((own_row None 0 h ∷ c.0) ++ rows_of hs) ≡ r ∷ rest =
-    ap (λ rs. rs ++ ((own_row None 0 h ∷ c.0) ++ rows_of hs)) (sym b.1) ∙ ap (λ rs. rows 0 g ++ (rs ++ rows_of hs)) (sym c.1) ∙ e in
+    ap (λ rs. rs ++ ((own_row None 0 h ∷ c.0) ++ rows_of hs)) (sym b.1)
+    ∙ ap (λ rs. rows 0 g ++ (rs ++ rows_of hs)) (sym c.1) ∙ e in
     let tail : b.0 ++ (own_row None 0 h ∷ (c.0 ++ rows_of hs)) ≡ rest = cc whole in
     let low = deep_mid 1 b.0 (own_row None 0 h) (c.0 ++ rows_of hs) (subst (AreDeep 1) (sym tail) deep) in
     absurd (omega (arith, low, root_is_root h t.1.0))
@@ -91,14 +102,16 @@ pub as_list : (s : Row) (rs : List Row) → AreRowsOfOne (s ∷ rs) → AreRows 
 as_list s rs a = (a.0 ∷ [], (a.1, tt), one_tree a.0 ∙ a.2)
 
 -- rows of one geometry with one more admitted row are rows of one geometry
-pub one_grows : (rs : List Row) (r : Row) → AreRowsOfOne rs → admits rs r ≡ true → IsOneRoot rs r → AreRowsOfOne (rs ++ r ∷ [])
+pub one_grows : (rs : List Row) (r : Row) → AreRowsOfOne rs → admits rs r ≡ true → IsOneRoot rs r
+    → AreRowsOfOne (rs ++ r ∷ [])
 one_grows [] r a h root =
     let grown = row_admitted [] r ([], tt, refl) h in
     let one = only_root grown.0 r [] grown.1 grown.2 tt in
     (one.0, one.1, rows_of_only grown.0 one.0 (r ∷ []) one.2 grown.2)
 one_grows (s ∷ rs) r a h root =
     let grown = row_admitted (s ∷ rs) r (as_list s rs a) h in
-    let one = only_root grown.0 s (rs ++ r ∷ []) grown.1 grown.2 (all_join (IsDeeper 1) rs (r ∷ []) (rest_deep a.0 s rs a.1 a.2) (omega arith, tt)) in
+    let one = only_root grown.0 s (rs ++ r ∷ []) grown.1 grown.2
+    (all_join (IsDeeper 1) rs (r ∷ []) (rest_deep a.0 s rs a.1 a.2) (omega arith, tt)) in
     (one.0, one.1, rows_of_only grown.0 one.0 (s ∷ rs ++ r ∷ []) one.2 grown.2)
 
 -- only the first row is a root
@@ -120,7 +133,8 @@ one_geometry g h a b e =
     let only : g ≡ h = cc in only
 
 -- another geometry whose rows begin with these continues below its root
-pub goes_on_below : (g h : Tree) (r : Row) (more : List Row) → IsTree g → IsTree h → rows 0 g ++ r ∷ more ≡ rows 0 h → 0 < r.depth
+pub goes_on_below : (g h : Tree) (r : Row) (more : List Row) → IsTree g → IsTree h
+    → rows 0 g ++ r ∷ more ≡ rows 0 h → 0 < r.depth
 goes_on_below g h r more a b e =
     let c = below_root g a in
     let w : rows 0 h ≡ own_row None 0 g ∷ (c.0 ++ r ∷ more) = sym e ∙ ap (λ rs. rs ++ r ∷ more) c.1 in

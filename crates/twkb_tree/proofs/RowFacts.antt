@@ -6,7 +6,9 @@ use Rattle.twkb_tree.specs.declared.kind.Kind.{Kind}
 use Rattle.twkb_tree.specs.declared.kind.Kind.TheVariants as kind
 use Rattle.twkb_tree.specs.Rows.{Row, own_points}
 use Rattle.twkb_tree.specs.Tree.{point}
-use Rattle.twkb_tree.specs.Admits.{fits, has_same_ids, is_collection, may_have, has_place, id_in_range, id_allowed, precision_in_range, precision_fits, points_fit, is_whole, has_points}
+use Rattle.twkb_tree.specs.Admits.{fits, has_same_ids, is_collection, may_have, has_place}
+use Rattle.twkb_tree.specs.Admits.{id_in_range, id_allowed, precision_in_range, precision_fits}
+use Rattle.twkb_tree.specs.Admits.{points_fit, is_whole, has_points}
 use Rattle.twkb_tree.proofs.RowTests.{both_true}
 use Rattle.twkb_tree.proofs.RowForest.{Nodes, none, node, Fit, number_in, point_in}
 
@@ -21,7 +23,8 @@ pub record Facts (p f : Option Row) (r : Row) : Type 0 where
   pub points : points_fit r.kind (is_whole p) r.points ≡ true
 
 -- a conjunction of seven tests gives each of them
-all_true : (a b c d e f g : Bool) → (a && b && c && d && e && f && g) ≡ true → (a ≡ true) × (b ≡ true) × (c ≡ true) × (d ≡ true) × (e ≡ true) × (f ≡ true) × (g ≡ true)
+all_true : (a b c d e f g : Bool) → (a && b && c && d && e && f && g) ≡ true → (a ≡ true)
+    × (b ≡ true) × (c ≡ true) × (d ≡ true) × (e ≡ true) × (f ≡ true) × (g ≡ true)
 all_true a b c d e f g h =
     let six = both_true (a && b && c && d && e && f) g h in
     let five = both_true (a && b && c && d && e) f six.0 in
@@ -34,7 +37,9 @@ all_true a b c d e f g h =
 -- a row that fits has all facts
 pub facts : (p f : Option Row) (r : Row) → fits p f r ≡ true → Facts p f r
 facts p f r h =
-    let t = all_true (has_place p r.kind) (id_in_range r.id) (id_allowed p r.kind r.id) (has_same_ids f r.id) (precision_in_range r.precision) (precision_fits p r.precision) (points_fit r.kind (is_whole p) r.points) h in
+    let t = all_true (has_place p r.kind) (id_in_range r.id) (id_allowed p r.kind r.id)
+    (has_same_ids f r.id) (precision_in_range r.precision) (precision_fits p r.precision)
+    (points_fit r.kind (is_whole p) r.points) h in
     record { place = t.0; id_range = t.1; id = t.2; same = t.3; range = t.4; precision = t.5; points = t.6 }
 
 -- a row that has all facts fits
@@ -42,7 +47,14 @@ pub fits_by : (p f : Option Row) (r : Row) → Facts p f r → fits p f r ≡ tr
 fits_by p f r h = rw (h.place, h.id_range, h.id, h.same, h.range, h.precision, h.points) refl
 
 -- a row equals one with the same depth, kind and precision
-pub row_is : (r : Row) (d : ℕ) (k : Kind) (q : Option ℤ) → r.depth ≡ d → r.kind ≡ k → r.precision ≡ q → r ≡ record { depth = d; kind = k; id = r.id; precision = q; points = r.points }
+pub row_is : (r : Row) (d : ℕ) (k : Kind) (q : Option ℤ) → r.depth ≡ d → r.kind ≡ k
+    → r.precision ≡ q → r ≡ record {
+      depth = d;
+      kind = k;
+      id = r.id;
+      precision = q;
+      points = r.points;
+    }
 row_is r d k q a b c =
     ap (λ (x : ℕ). record { depth = x; kind = r.kind; id = r.id; precision = r.precision; points = r.points }) a
     ∙ ap (λ (x : Kind). record { depth = d; kind = x; id = r.id; precision = r.precision; points = r.points }) b
@@ -89,17 +101,20 @@ under_multi_polygon kind.Polygon h = refl
 under_multi_polygon _ h = cc h
 
 -- a part of a geometry has the kind that its parent's parts have
-pub part_kind : (p r : Row) (f : Option Row) (k l : Kind) → Facts (Some p) f r → p.kind ≡ k → ((m : Kind) → may_have k m ≡ true → m ≡ l) → r.kind ≡ l
+pub part_kind : (p r : Row) (f : Option Row) (k l : Kind) → Facts (Some p) f r → p.kind ≡ k
+    → ((m : Kind) → may_have k m ≡ true → m ≡ l) → r.kind ≡ l
 part_kind p r f k l h e only = only r.kind (ap (λ m. may_have m r.kind) (sym e) ∙ h.place)
 
 -- a part of a geometry has no precision
-pub part_precision : (p r : Row) (f : Option Row) (k : Kind) → Facts (Some p) f r → p.kind ≡ k → is_collection k ≡ false → r.precision ≡ None
+pub part_precision : (p r : Row) (f : Option Row) (k : Kind) → Facts (Some p) f r → p.kind ≡ k
+    → is_collection k ≡ false → r.precision ≡ None
 part_precision p r f k h e lacks =
     let w : is_whole (Some p) ≡ false = ap is_collection e ∙ lacks in
     is_none-none r.precision (rw w at h.precision)
 
 -- a row has no rows below it if its kind may have no child
-pub leaf : (d : ℕ) (p : Row) (f : Option Row) (n : Nodes) → Fit d (Some p) f n → ((m : Kind) → may_have p.kind m ≡ false) → n ≡ none
+pub leaf : (d : ℕ) (p : Row) (f : Option Row) (n : Nodes) → Fit d (Some p) f n
+    → ((m : Kind) → may_have p.kind m ≡ false) → n ≡ none
 leaf d p f none fit lacks = refl
 leaf d p f (node r c l) fit lacks = cc (lacks r.kind, (facts (Some p) f r fit.1).place)
 
@@ -122,7 +137,8 @@ most_one (q ∷ []) h = refl
 most_one (q ∷ s ∷ ps) h = cc h
 
 -- a kind that holds no points fits no row with a point
-pub none_fit : (k : Kind) (w : Bool) (q : Point) (ps : List Point) → has_points k ≡ false → points_fit k w (q ∷ ps) ≡ true → ⊥
+pub none_fit : (k : Kind) (w : Bool) (q : Point) (ps : List Point) → has_points k ≡ false
+    → points_fit k w (q ∷ ps) ≡ true → ⊥
 none_fit kind.Point w q ps lacks h = cc lacks
 none_fit kind.Linestring w q ps lacks h = cc lacks
 none_fit kind.Ring w q ps lacks h = cc lacks
@@ -133,6 +149,7 @@ none_fit kind.MultiPolygon w q ps lacks h = cc h
 none_fit kind.Collection w q ps lacks h = cc h
 
 -- the row of such a kind has no points
-pub no_points_of : (l k : Kind) (w : Bool) (ps : List Point) → k ≡ l → has_points l ≡ false → points_fit k w ps ≡ true → ps ≡ []
+pub no_points_of : (l k : Kind) (w : Bool) (ps : List Point) → k ≡ l → has_points l ≡ false
+    → points_fit k w ps ≡ true → ps ≡ []
 no_points_of l k w [] e lacks h = refl
 no_points_of l k w (q ∷ ps) e lacks h = absurd (none_fit l w q ps lacks (ap (λ j. points_fit j w (q ∷ ps)) (sym e) ∙ h))

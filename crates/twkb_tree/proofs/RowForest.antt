@@ -1,9 +1,11 @@
 -- Rows as a forest: each row with the rows below it.
-use Rattle.std.specs.Prelude.{◌≡◌, ℕ, zero, suc, ◌≤◌, ℤ, pos, List, [], ◌∷◌, ◌++◌, Option, Some, None, Bool, true, false, ⊤, is_some, if◌then◌else◌}
+use Rattle.std.specs.Prelude.{◌≡◌, ℕ, zero, suc, ◌≤◌, ℤ, pos, List, [], ◌∷◌, ◌++◌, Option, Some}
+use Rattle.std.specs.Prelude.{None, Bool, true, false, ⊤, is_some, if◌then◌else◌}
 use Rattle.twkb_points.specs.Point.{Point}
 use Rattle.twkb_tree.specs.declared.kind.Kind.{Kind}
 use Rattle.twkb_tree.specs.declared.kind.Kind.TheVariants as kind
-use Rattle.twkb_tree.specs.Tree.{Tree, Trees, Simple, Ids, simple, collection, end, ◌▷◌, point, line, polygon, multi_point, multi_line, multi_polygon}
+use Rattle.twkb_tree.specs.Tree.{Tree, Trees, Simple, Ids, simple, collection, end, ◌▷◌, point}
+use Rattle.twkb_tree.specs.Tree.{line, polygon, multi_point, multi_line, multi_polygon}
 use Rattle.twkb_tree.specs.Rows.{Row, plain_row, own_row, first_id, other_ids}
 use Rattle.twkb_tree.specs.Admits.{fits, is_collection}
 
@@ -31,7 +33,8 @@ next_first (Some p) (Some f) r = Some f
 -- each row is at its depth, and is what it must be under its parent
 abbrev pub Fit : ℕ → Option Row → Option Row → Nodes → Type 0
 Fit d p f none = ⊤
-Fit d p f (node r c l) = (r.depth ≡ d) × (fits p f r ≡ true) × Fit (suc d) (Some r) None c × Fit d p (next_first p f r) l
+Fit d p f (node r c l) = (r.depth ≡ d) × (fits p f r ≡ true) × Fit (suc d) (Some r) None c
+    × Fit d p (next_first p f r) l
 
 -- no row is above this depth
 abbrev pub IsDeep : ℕ → Nodes → Type 0
@@ -63,7 +66,8 @@ simple_below d (line ps) = none
 simple_below d (polygon rings) = ring_nodes d rings
 simple_below d (multi_point ids ps) = each_nodes (λ id p. plain_row d kind.Point id (p ∷ [])) (λ p. none) ids ps
 simple_below d (multi_line ids lines) = each_nodes (plain_row d kind.Linestring) (λ ps. none) ids lines
-simple_below d (multi_polygon ids areas) = each_nodes (λ id rings. plain_row d kind.Polygon id []) (ring_nodes (suc d)) ids areas
+simple_below d (multi_polygon ids areas) = each_nodes (λ id rings. plain_row d kind.Polygon id [])
+    (ring_nodes (suc d)) ids areas
 
 -- the forest below a geometry's own row, and that of members
 abbrev mutual
@@ -73,7 +77,8 @@ abbrev mutual
 
   pub member_nodes : ℕ → Ids → Trees → Nodes
   member_nodes d ids end = none
-  member_nodes d ids (g ▷ gs) = node (own_row (first_id ids) d g) (tree_below (suc d) g) (member_nodes d (other_ids ids) gs)
+  member_nodes d ids (g ▷ gs) = node (own_row (first_id ids) d g) (tree_below (suc d) g)
+      (member_nodes d (other_ids ids) gs)
 
 -- the number, or 0 if there is none
 abbrev pub number_in : Option ℤ → ℤ
@@ -132,7 +137,8 @@ simple_from kind.Collection ps c = point None
 
 -- the geometry of a row and the rows below it, given the geometries below it
 abbrev pub tree_from : Row → Nodes → Trees → Tree
-tree_from r c gs = if is_collection r.kind then collection (number_in r.precision) (ids_of c) gs else simple (number_in r.precision) (simple_from r.kind r.points c)
+tree_from r c gs = if is_collection r.kind then collection (number_in r.precision) (ids_of c) gs
+    else simple (number_in r.precision) (simple_from r.kind r.points c)
 
 -- the geometries of a forest
 abbrev pub trees_from : Nodes → Trees

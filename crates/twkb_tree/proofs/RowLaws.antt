@@ -14,7 +14,8 @@ use Rattle.twkb_tree.proofs.RowListing.{listed-members}
 use Rattle.twkb_tree.proofs.RowFitting.{fit_roots}
 use Rattle.twkb_tree.proofs.RowsBack.{trees_back}
 use Rattle.twkb_tree.proofs.RowRebuilding.{rebuilt}
-use Rattle.twkb_tree.proofs.RowsOfTrees.{rows_all, rows_all-trees, rows_of-members, members-trees, AreTrees-trees, geometries_are}
+use Rattle.twkb_tree.proofs.RowsOfTrees.{rows_all, rows_all-trees, rows_of-members, members-trees}
+use Rattle.twkb_tree.proofs.RowsOfTrees.{AreTrees-trees, geometries_are}
 
 -- ---- rows of geometries are admitted, and admitted rows are rows of geometries
 
@@ -36,7 +37,8 @@ admitted_forest rs h =
 
 -- rows of geometries are admitted
 pub admitted_rows : (rs : List Row) → AreRows rs → IsAdmitted (reverse rs)
-admitted_rows rs a = subst (λ xs. IsAdmitted (reverse xs)) (rows_all-trees a.0 ∙ a.2) (forest_admitted (trees a.0) (AreTrees-trees a.0 a.1))
+admitted_rows rs a = subst (λ xs. IsAdmitted (reverse xs)) (rows_all-trees a.0 ∙ a.2)
+    (forest_admitted (trees a.0) (AreTrees-trees a.0 a.1))
 
 -- admitted rows are rows of geometries
 pub rows_of_admitted : (rs : List Row) → IsAdmitted (reverse rs) → AreRows rs
@@ -46,7 +48,8 @@ rows_of_admitted rs h = let f = admitted_forest rs h in (members f.0, geometries
 
 -- rows of geometries with one more admitted row are rows of geometries
 pub row_admitted : (rs : List Row) (r : Row) → AreRows rs → admits rs r ≡ true → AreRows (rs ++ r ∷ [])
-row_admitted rs r a h = rows_of_admitted (rs ++ r ∷ []) (subst IsAdmitted (sym (reverse-append rs (r ∷ []))) (h, admitted_rows rs a))
+row_admitted rs r a h = rows_of_admitted (rs ++ r ∷ [])
+    (subst IsAdmitted (sym (reverse-append rs (r ∷ []))) (h, admitted_rows rs a))
 
 -- the last of the rows of geometries is admitted after the others
 pub admits_row : (rs : List Row) (r : Row) → AreRows (rs ++ r ∷ []) → admits rs r ≡ true
@@ -61,7 +64,9 @@ admitted_tail (x ∷ xs) ys h = admitted_tail xs ys h.1
 
 -- a prefix of rows of geometries is rows of geometries
 pub rows_front : (front more : List Row) → AreRows (front ++ more) → AreRows front
-rows_front front more a = rows_of_admitted front (admitted_tail (reverse more) (reverse front) (subst IsAdmitted (reverse-append front more) (admitted_rows (front ++ more) a)))
+rows_front front more a = rows_of_admitted front
+    (admitted_tail (reverse more) (reverse front)
+    (subst IsAdmitted (reverse-append front more) (admitted_rows (front ++ more) a)))
 
 -- ---- rows determine the geometries
 
@@ -71,12 +76,14 @@ one_trees gs hs a b e =
     let m = member_nodes 0 None gs in
     let n = member_nodes 0 None hs in
     let lists : listed m ++ [] ≡ listed n ++ [] =
-    append-nil (listed m) ∙ listed-members 0 None gs ∙ e ∙ sym (listed-members 0 None hs) ∙ sym (append-nil (listed n)) in
+    append-nil (listed m) ∙ listed-members 0 None gs ∙ e ∙ sym (listed-members 0 None hs)
+    ∙ sym (append-nil (listed n)) in
     let same = one_forest 0 None None None None m n [] [] (fit_roots gs a) (fit_roots hs b) tt tt lists in
     sym (trees_back 0 None gs a) ∙ ap (λ k. trees_from k) same.0 ∙ trees_back 0 None hs b
 
 -- rows determine geometries
 pub one_reading : (gs hs : List Tree) → AreGeometries gs → AreGeometries hs → rows_of gs ≡ rows_of hs → gs ≡ hs
 one_reading gs hs a b e =
-    let same = one_trees (trees gs) (trees hs) (AreTrees-trees gs a) (AreTrees-trees hs b) (rows_all-trees gs ∙ e ∙ sym (rows_all-trees hs)) in
+    let same = one_trees (trees gs) (trees hs) (AreTrees-trees gs a) (AreTrees-trees hs b)
+    (rows_all-trees gs ∙ e ∙ sym (rows_all-trees hs)) in
     sym (members-trees gs) ∙ ap members same ∙ members-trees hs

@@ -1,17 +1,22 @@
 -- The points of a geometry are those of its rows, in order.
-use Rattle.std.proofs.Common.{◌≡◌, ℕ, suc, List, [], ◌∷◌, ◌++◌, length, Option, Some, None, refl, sym, ◌∙◌, ap, subst, arith, length-append, append_assoc, append-nil}
+use Rattle.std.proofs.Common.{◌≡◌, ℕ, suc, List, [], ◌∷◌, ◌++◌, length, Option, Some, None, refl}
+use Rattle.std.proofs.Common.{sym, ◌∙◌, ap, subst, arith, length-append, append_assoc, append-nil}
 use Rattle.std.specs.Prelude.{ℤ, flat_map}
 use Rattle.std.specs.List.{AllByRecursion}
 use Rattle.twkb_points.specs.Point.{Point, IsInRange, AreInRange}
-use Rattle.twkb_tree.specs.Tree.{Tree, Trees, Simple, Ids, simple, collection, end, ◌▷◌, point, line, polygon, multi_point, multi_line, multi_polygon, flat, flat_all, flatten, points_in}
-use Rattle.twkb_tree.specs.Rows.{Row, rows, rows_with, member_rows, rows_below, ring_rows, row_points, own_points, first_id, other_ids}
+use Rattle.twkb_tree.specs.Tree.{Tree, Trees, Simple, Ids, simple, collection, end, ◌▷◌, point}
+use Rattle.twkb_tree.specs.Tree.{line, polygon, multi_point, multi_line, multi_polygon, flat}
+use Rattle.twkb_tree.specs.Tree.{flat_all, flatten, points_in}
+use Rattle.twkb_tree.specs.Rows.{Row, rows, rows_with, member_rows, rows_below, ring_rows}
+use Rattle.twkb_tree.specs.Rows.{row_points, own_points, first_id, other_ids}
 use Rattle.twkb_tree.specs.Accepted.{point_count}
 use Rattle.twkb_tree.proofs.AllJoined.{all_join, all_apart}
 
 -- the points of joined rows
 pub row_points-append : (xs ys : List Row) → row_points (xs ++ ys) ≡ row_points xs ++ row_points ys
 row_points-append [] ys = refl
-row_points-append (x ∷ xs) ys = ap (λ ps. x.points ++ ps) (row_points-append xs ys) ∙ sym (append_assoc x.points (row_points xs) (row_points ys))
+row_points-append (x ∷ xs) ys = ap (λ ps. x.points ++ ps) (row_points-append xs ys)
+    ∙ sym (append_assoc x.points (row_points xs) (row_points ys))
 
 -- the points of the rows of rings
 row_points-rings : (d : ℕ) (rings : List (List Point)) → row_points (ring_rows d rings) ≡ flatten rings
@@ -24,12 +29,14 @@ row_points-points d ids [] = refl
 row_points-points d ids (p ∷ ps) = ap (λ qs. p ∷ qs) (row_points-points d (other_ids ids) ps)
 
 -- the points of the rows of linestrings
-row_points-lines : (d : ℕ) (ids : Ids) (lines : List (List Point)) → row_points (rows_below d (multi_line ids lines)) ≡ flatten lines
+row_points-lines : (d : ℕ) (ids : Ids) (lines : List (List Point))
+    → row_points (rows_below d (multi_line ids lines)) ≡ flatten lines
 row_points-lines d ids [] = refl
 row_points-lines d ids (ps ∷ lines) = ap (λ qs. ps ++ qs) (row_points-lines d (other_ids ids) lines)
 
 -- the points of the rows of polygons
-row_points-areas : (d : ℕ) (ids : Ids) (areas : List (List (List Point))) → row_points (rows_below d (multi_polygon ids areas)) ≡ flat_map flatten areas
+row_points-areas : (d : ℕ) (ids : Ids) (areas : List (List (List Point)))
+    → row_points (rows_below d (multi_polygon ids areas)) ≡ flat_map flatten areas
 row_points-areas d ids [] = refl
 row_points-areas d ids (rings ∷ areas) =
     row_points-append (ring_rows (suc d) rings) (rows_below d (multi_polygon (other_ids ids) areas))

@@ -42,7 +42,11 @@ coordinate_is (negsuc n) h = (grind (arith, ints, nat_tests), omega (arith, ints
 -- points in range pass the test
 pub are_in_range-true : (ps : List Point) → AreInRange ps → are_in_range ps ≡ true
 are_in_range-true [] h = refl
-are_in_range-true (p ∷ ps) h = rw (is_coordinate-true p.x h.0.0, is_coordinate-true p.y h.0.1, are_in_range-true ps h.1) refl
+are_in_range-true (p ∷ ps) h = rw (
+  is_coordinate-true p.x h.0.0,
+  is_coordinate-true p.y h.0.1,
+  are_in_range-true ps h.1,
+) refl
 
 -- points that pass are in range
 pub points_in_range : (ps : List Point) → are_in_range ps ≡ true → AreInRange ps

@@ -1,10 +1,12 @@
 -- The rows of a forest that fits are admitted, and admitted rows are those of a forest that fits.
-use Rattle.std.proofs.Common.{◌≡◌, ℕ, zero, suc, ◌+◌, ◌<◌, ◌==◌, Bool, true, false, List, [], ◌∷◌, ◌++◌, Option, Some, None, refl, sym, ◌∙◌, ap, arith, eq-eqb, ne_eqb}
+use Rattle.std.proofs.Common.{◌≡◌, ℕ, zero, suc, ◌+◌, ◌<◌, ◌==◌, Bool, true, false, List, [], ◌∷◌}
+use Rattle.std.proofs.Common.{◌++◌, Option, Some, None, refl, sym, ◌∙◌, ap, arith, eq-eqb, ne_eqb}
 use Rattle.std.specs.Prelude.{reverse, ⊤, ◌&&◌}
 use mathlib.Core.List.{reverse_aux}
 use Rattle.std.proofs.lemmas.Bool.Decides.{nat_tests}
 use Rattle.twkb_tree.specs.Rows.{Row}
-use Rattle.twkb_tree.specs.Admits.{last_at, first_below, or_else, parent, first_child, steps_to, fits, admits_after, IsAdmitted}
+use Rattle.twkb_tree.specs.Admits.{last_at, first_below, or_else, parent, first_child, steps_to}
+use Rattle.twkb_tree.specs.Admits.{fits, admits_after, IsAdmitted}
 use Rattle.twkb_tree.proofs.RowTests.{both_true, both}
 use Rattle.twkb_tree.proofs.RowForest.{Nodes, none, node, listed, past, next_first, Fit, IsDeep, add}
 
@@ -17,7 +19,8 @@ onto-append (x ∷ xs) ys zs = onto-append xs ys (x ∷ zs)
 past-onto : (n : Nodes) (before : List Row) → past n before ≡ reverse_aux (listed n) before
 past-onto none before = refl
 past-onto (node r c l) before =
-    past-onto l (past c (r ∷ before)) ∙ ap (λ rs. reverse_aux (listed l) rs) (past-onto c (r ∷ before)) ∙ sym (onto-append (listed c) (listed l) (r ∷ before))
+    past-onto l (past c (r ∷ before)) ∙ ap (λ rs. reverse_aux (listed l) rs)
+    (past-onto c (r ∷ before)) ∙ sym (onto-append (listed c) (listed l) (r ∷ before))
 
 -- a forest on top of no rows
 pub past-listed : (n : Nodes) → past n [] ≡ reverse (listed n)
@@ -33,7 +36,11 @@ deep_less d (node r c l) h = (omega (arith, h.0), deep_less d c h.1, deep_less d
 -- a forest that fits at a depth is no higher than the depth
 pub fit_deep : (d : ℕ) (p f : Option Row) (n : Nodes) → Fit d p f n → IsDeep d n
 fit_deep d p f none h = tt
-fit_deep d p f (node r c l) h = (omega (arith, h.0), deep_less d c (fit_deep (suc d) (Some r) None c h.2), fit_deep d p (next_first p f r) l h.3)
+fit_deep d p f (node r c l) h = (
+  omega (arith, h.0),
+  deep_less d c (fit_deep (suc d) (Some r) None c h.2),
+  fit_deep d p (next_first p f r) l h.3,
+)
 
 -- ---- what a forest leaves unchanged of the rows before it
 
@@ -51,20 +58,29 @@ or_else-none None = refl
 or_else-none (Some r) = refl
 
 -- a deeper row leaves the first row below it unchanged
-pub first_below-other : (e : ℕ) (r : Row) (before : List Row) → suc e < r.depth → first_below e (r ∷ before) ≡ first_below e before
-first_below-other e r before h = rw (other_depth r.depth e (omega arith), other_depth r.depth (suc e) h) (or_else-none (first_below e before))
+pub first_below-other : (e : ℕ) (r : Row) (before : List Row) → suc e < r.depth
+    → first_below e (r ∷ before) ≡ first_below e before
+first_below-other e r before h = rw (
+  other_depth r.depth e (omega arith),
+  other_depth r.depth
+      (suc e) h,
+) (or_else-none (first_below e before))
 
 -- a deeper forest leaves the last row at a depth unchanged
-pub last_at-past : (e d : ℕ) (n : Nodes) (before : List Row) → IsDeep d n → e < d → last_at e (past n before) ≡ last_at e before
+pub last_at-past : (e d : ℕ) (n : Nodes) (before : List Row) → IsDeep d n → e < d
+    → last_at e (past n before) ≡ last_at e before
 last_at-past e d none before h lt = refl
 last_at-past e d (node r c l) before h lt =
-    last_at-past e d l (past c (r ∷ before)) h.2 lt ∙ last_at-past e d c (r ∷ before) h.1 lt ∙ last_at-other e r before (omega (arith, h.0))
+    last_at-past e d l (past c (r ∷ before)) h.2 lt ∙ last_at-past e d c (r ∷ before) h.1 lt
+    ∙ last_at-other e r before (omega (arith, h.0))
 
 -- a deeper forest leaves the first row below it unchanged
-pub first_below-past : (e d : ℕ) (n : Nodes) (before : List Row) → IsDeep d n → suc e < d → first_below e (past n before) ≡ first_below e before
+pub first_below-past : (e d : ℕ) (n : Nodes) (before : List Row) → IsDeep d n → suc e < d
+    → first_below e (past n before) ≡ first_below e before
 first_below-past e d none before h lt = refl
 first_below-past e d (node r c l) before h lt =
-    first_below-past e d l (past c (r ∷ before)) h.2 lt ∙ first_below-past e d c (r ∷ before) h.1 lt ∙ first_below-other e r before (omega (arith, h.0))
+    first_below-past e d l (past c (r ∷ before)) h.2 lt ∙ first_below-past e d c (r ∷ before) h.1 lt
+    ∙ first_below-other e r before (omega (arith, h.0))
 
 -- ---- the place of a forest: its parent, and the first child so far
 
@@ -82,7 +98,8 @@ pub record Stands (d : ℕ) (p f : Option Row) (before : List Row) : Type 0 wher
 
 -- the place below a row that has just come
 pub stands_below : (d : ℕ) (r : Row) (before : List Row) → r.depth ≡ d → Stands (suc d) (Some r) None (r ∷ before)
-stands_below d r before e = let t : (r.depth == d) ≡ true = eq-eqb r.depth d e in record { under = rw t refl; first = rw t refl; known = tt }
+stands_below d r before e = let t : (r.depth == d) ≡ true = eq-eqb r.depth d e in
+    record { under = rw t refl; first = rw t refl; known = tt }
 
 -- the first child after one more child
 first_or : (p f : Option Row) (r : Row) (d : ℕ) → HasParent (suc d) p → or_else f (Some r) ≡ next_first p f r
@@ -91,20 +108,25 @@ first_or (Some p) None r d h = refl
 first_or (Some p) (Some f) r d h = refl
 
 -- the place after a row and the rows below it
-pub stands_after : (d : ℕ) (p f : Option Row) (r : Row) (c : Nodes) (before : List Row) → r.depth ≡ d → IsDeep (suc d) c → Stands d p f before → Stands d p (next_first p f r) (past c (r ∷ before))
+pub stands_after : (d : ℕ) (p f : Option Row) (r : Row) (c : Nodes) (before : List Row)
+    → r.depth ≡ d → IsDeep (suc d) c → Stands d p f before
+    → Stands d p (next_first p f r) (past c (r ∷ before))
 stands_after zero p f r c before e deep s = record { under = s.under; first = rw s.known refl; known = s.known }
 stands_after (suc d) p f r c before e deep s =
     let off : (r.depth == d) ≡ false = other_depth r.depth d (omega arith) in
     let on : (r.depth == suc d) ≡ true = eq-eqb r.depth (suc d) e in
     let here : first_below d (r ∷ before) ≡ or_else (first_below d before) (Some r) = rw (off, on) refl in
     record {
-      under = last_at-past d (suc (suc d)) c (r ∷ before) deep (omega arith) ∙ last_at-other d r before (omega arith) ∙ s.under;
-      first = first_below-past d (suc (suc d)) c (r ∷ before) deep (omega arith) ∙ here ∙ ap (λ o. or_else o (Some r)) s.first ∙ first_or p f r d s.known;
+      under = last_at-past d (suc (suc d)) c (r ∷ before) deep (omega arith)
+          ∙ last_at-other d r before (omega arith) ∙ s.under;
+      first = first_below-past d (suc (suc d)) c (r ∷ before) deep (omega arith) ∙ here
+          ∙ ap (λ o. or_else o (Some r)) s.first ∙ first_or p f r d s.known;
       known = s.known;
     }
 
 -- a deeper forest still allows a row at the depth
-steps_on : (d : ℕ) (n : Nodes) (before : List Row) → IsDeep d n → steps_to (suc d) before ≡ true → steps_to (suc d) (past n before) ≡ true
+steps_on : (d : ℕ) (n : Nodes) (before : List Row) → IsDeep d n → steps_to (suc d) before ≡ true
+    → steps_to (suc d) (past n before) ≡ true
 steps_on d none before h s = s
 steps_on d (node r c l) before h s =
     let here : steps_to (suc d) (r ∷ before) ≡ true = grind (arith, nat_tests, h.0) in
@@ -127,20 +149,26 @@ at_depth : (d : ℕ) (before : List Row) (r : Row) → r.depth ≡ d → admits_
 at_depth d before r e = ap (λ k. admits_at k before r) e
 
 -- the first row of a forest that fits is admitted
-here_admitted : (d : ℕ) (p f : Option Row) (before : List Row) (r : Row) → r.depth ≡ d → Stands d p f before → steps_to d before ≡ true → fits p f r ≡ true → admits_after before r ≡ true
+here_admitted : (d : ℕ) (p f : Option Row) (before : List Row) (r : Row) → r.depth ≡ d
+    → Stands d p f before → steps_to d before ≡ true → fits p f r ≡ true
+    → admits_after before r ≡ true
 here_admitted d p f before r e s steps h =
     at_depth d before r e ∙ both (steps_to d before) (fits (parent d before) (first_child d before) r) steps
     (ap (λ q. fits q (first_child d before) r) s.under ∙ ap (λ q. fits p q r) s.first ∙ h)
 
 -- all rows of a forest that fits are admitted
-pub admitted : (d : ℕ) (p f : Option Row) (n : Nodes) (before : List Row) → Fit d p f n → Stands d p f before → steps_to d before ≡ true → IsAdmitted before → IsAdmitted (past n before)
+pub admitted : (d : ℕ) (p f : Option Row) (n : Nodes) (before : List Row) → Fit d p f n
+    → Stands d p f before → steps_to d before ≡ true → IsAdmitted before
+    → IsAdmitted (past n before)
 admitted d p f none before fit s steps a = a
 admitted d p f (node r c l) before fit s steps a =
     let deep = fit_deep (suc d) (Some r) None c fit.2 in
     let here : admits_after before r ≡ true = here_admitted d p f before r fit.0 s steps fit.1 in
     let one : steps_to (suc d) (r ∷ before) ≡ true = grind (arith, nat_tests, fit.0) in
     let below = admitted (suc d) (Some r) None c (r ∷ before) fit.2 (stands_below d r before fit.0) one (here, a) in
-    admitted d p (next_first p f r) l (past c (r ∷ before)) fit.3 (stands_after d p f r c before fit.0 deep s) (steps_less d (past c (r ∷ before)) (steps_on d c (r ∷ before) (deep_less d c deep) one)) below
+    admitted d p (next_first p f r) l (past c (r ∷ before)) fit.3
+    (stands_after d p f r c before fit.0 deep s) (steps_less d (past c (r ∷ before))
+    (steps_on d c (r ∷ before) (deep_less d c deep) one)) below
 
 -- ---- admitted rows fit
 
@@ -153,17 +181,26 @@ past-add (suc k) r (node s c none) before = past-add k r c (s ∷ before)
 past-add (suc k) r (node s c (node t b l)) before = past-add (suc k) r (node t b l) (past c (s ∷ before))
 
 -- an admitted row fits at the end of a forest
-fits_here : (d : ℕ) (p f : Option Row) (r : Row) (before : List Row) → Stands d p f before → r.depth ≡ d → admits_after before r ≡ true → fits p f r ≡ true
+fits_here : (d : ℕ) (p f : Option Row) (r : Row) (before : List Row) → Stands d p f before
+    → r.depth ≡ d → admits_after before r ≡ true → fits p f r ≡ true
 fits_here d p f r before s e h =
-    let two = both_true (steps_to d before) (fits (parent d before) (first_child d before) r) (sym (at_depth d before r e) ∙ h) in
+    let two = both_true (steps_to d before) (fits (parent d before) (first_child d before) r)
+    (sym (at_depth d before r e) ∙ h) in
     sym (ap (λ q. fits q (first_child d before) r) s.under ∙ ap (λ q. fits p q r) s.first) ∙ two.1
 
 -- one more row beside the last row
-fit_last : (d : ℕ) (p f : Option Row) (n : Nodes) (r : Row) (before : List Row) → Fit d p f n → Stands d p f before → r.depth ≡ d → admits_after (past n before) r ≡ true → Fit d p f (add zero r n)
+fit_last : (d : ℕ) (p f : Option Row) (n : Nodes) (r : Row) (before : List Row) → Fit d p f n
+    → Stands d p f before → r.depth ≡ d → admits_after (past n before) r ≡ true
+    → Fit d p f (add zero r n)
 fit_last d p f none r before fit s e h = (e, fits_here d p f r before s e h, tt, tt)
 fit_last d p f (node t c l) r before fit s e h =
-    let deep = fit_deep (suc d) (Some t) None c fit.2 in
-    (fit.0, fit.1, fit.2, fit_last d p (next_first p f t) l r (past c (t ∷ before)) fit.3 (stands_after d p f t c before fit.0 deep s) e h)
+    let deep = fit_deep (suc d) (Some t) None c fit.2 in (
+      fit.0,
+      fit.1,
+      fit.2,
+      fit_last d p (next_first p f t) l r (past c (t ∷ before)) fit.3
+          (stands_after d p f t c before fit.0 deep s) e h,
+    )
 
 -- if no row is below yet, a row can't go deeper
 abbrev Closed : ℕ → Nodes → List Row → Type 0
@@ -176,17 +213,30 @@ closed_below d r none before e = λ k h. grind (arith, nat_tests)
 closed_below d r (node s c l) before e = tt
 
 -- one more row, `k` levels down
-fit_add : (d k : ℕ) (p f : Option Row) (n : Nodes) (r : Row) (before : List Row) → Fit d p f n → Stands d p f before → Closed d n before → r.depth ≡ d + k → admits_after (past n before) r ≡ true → Fit d p f (add k r n)
+fit_add : (d k : ℕ) (p f : Option Row) (n : Nodes) (r : Row) (before : List Row) → Fit d p f n
+    → Stands d p f before → Closed d n before → r.depth ≡ d + k
+    → admits_after (past n before) r ≡ true → Fit d p f (add k r n)
 fit_add d zero p f n r before fit s closed e h = fit_last d p f n r before fit s (omega arith) h
 fit_add d (suc k) p f none r before fit s closed e h =
-    let steps = (both_true (steps_to r.depth before) (fits (parent r.depth before) (first_child r.depth before) r) h).0 in
+    let steps = (both_true (steps_to r.depth before)
+    (fits (parent r.depth before) (first_child r.depth before) r) h).0 in
     let e' : r.depth ≡ suc (d + k) = omega arith in
     absurd (closed k (rw e' at steps))
-fit_add d (suc k) p f (node t c none) r before fit s closed e h =
-    (fit.0, fit.1, fit_add (suc d) k (Some t) None c r (t ∷ before) fit.2 (stands_below d t before fit.0) (closed_below d t c before fit.0) (omega arith) h, tt)
+fit_add d (suc k) p f (node t c none) r before fit s closed e h = (
+  fit.0,
+  fit.1,
+  fit_add (suc d) k (Some t) None c r (t ∷ before) fit.2
+      (stands_below d t before fit.0) (closed_below d t c before fit.0) (omega arith) h,
+  tt,
+)
 fit_add d (suc k) p f (node t c (node u b l)) r before fit s closed e h =
-    let deep = fit_deep (suc d) (Some t) None c fit.2 in
-    (fit.0, fit.1, fit.2, fit_add d (suc k) p (next_first p f t) (node u b l) r (past c (t ∷ before)) fit.3 (stands_after d p f t c before fit.0 deep s) tt e h)
+    let deep = fit_deep (suc d) (Some t) None c fit.2 in (
+      fit.0,
+      fit.1,
+      fit.2,
+      fit_add d (suc k) p (next_first p f t) (node u b l) r
+          (past c (t ∷ before)) fit.3 (stands_after d p f t c before fit.0 deep s) tt e h,
+    )
 
 -- the forest of rows, last one first
 abbrev pub forest_of : List Row → Nodes
@@ -213,7 +263,8 @@ forest_fits [] a = tt
 forest_fits (r ∷ before) a =
     let same = past-forest_of before in
     let h : admits_after (past (forest_of before) []) r ≡ true = rw same a.0 in
-    fit_add 0 r.depth None None (forest_of before) r [] (forest_fits before a.1) at_roots (closed_roots (forest_of before)) (omega arith) h
+    fit_add 0 r.depth None None (forest_of before) r [] (forest_fits before a.1) at_roots
+    (closed_roots (forest_of before)) (omega arith) h
 
 -- ---- the rows of a forest are admitted, and determine it
 

@@ -5,7 +5,8 @@ use Rattle.twkb_tree.specs.Tree.{Tree, trees, members, precision_of, IsPrecision
 use Rattle.twkb_tree.specs.InRange.{IsTreeInRange}
 use Rattle.twkb_tree.specs.Shape.{tree_of, HasFitIds, HasTrees, IsShapeInRange}
 use Rattle.twkb_tree.specs.declared.geometry.Shape.{Shape}
-use Rattle.twkb_tree.specs.declared.geometry.Shape.TheVariants.{Point, Line, Polygon, MultiPoint, MultiLine, MultiPolygon, Collection}
+use Rattle.twkb_tree.specs.declared.geometry.Shape.TheVariants.{Point, Line, Polygon, MultiPoint}
+use Rattle.twkb_tree.specs.declared.geometry.Shape.TheVariants.{MultiLine, MultiPolygon, Collection}
 use Rattle.twkb_tree.proofs.Forest.{count-trees}
 
 -- a shape with fitting ids and a precision in range is a geometry
@@ -64,7 +65,9 @@ tree_of-shape p q (Collection gs is) (Collection hs js) e =
 tree_of-shape p q _ _ e = cc
 
 -- trees of the same precision are equal exactly if their shapes are
-pub same_trees : (g h : Tree) (s t : Shape) (r : Bool) → precision_of g ≡ precision_of h → tree_of (precision_of g) s ≡ g → tree_of (precision_of h) t ≡ h → (IsTrue r ↔ (s ≡ t)) → IsTrue r ↔ (g ≡ h)
+pub same_trees : (g h : Tree) (s t : Shape) (r : Bool) → precision_of g ≡ precision_of h
+    → tree_of (precision_of g) s ≡ g → tree_of (precision_of h) t ≡ h → (IsTrue r ↔ (s ≡ t))
+    → IsTrue r ↔ (g ≡ h)
 same_trees g h s t r same_precision g_is h_is same_shape = (
   λ so. sym g_is ∙ (λ i. tree_of (same_precision i) (same_shape.0 so i)) ∙ h_is,
   λ (e : g ≡ h). same_shape.1 (tree_of-shape (precision_of g) (precision_of h) s t (g_is ∙ e ∙ sym h_is)),

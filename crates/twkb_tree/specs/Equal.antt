@@ -41,14 +41,18 @@ own_code (gcons a b) = λ i. own_code a i && own_code b i
 
 -- the test holds exactly if the trees are equal
 pub tree_eq_decides : (g h : Tree) → Decides (tree_eq g h) (g ≡ h)
-tree_eq_decides g h =
-    (λ e. code_tree_inj g h (same_codes (code_tree g) (code_tree h) e), λ e. subst (λ (t : Tree). tree_eq g t ≡ true) e (own_code (code_tree g)))
+tree_eq_decides g h = (
+  λ e. code_tree_inj g h (same_codes (code_tree g) (code_tree h) e),
+  λ e.
+      subst (λ (t : Tree). tree_eq g t ≡ true) e (own_code (code_tree g)),
+)
 
 -- the test is an equivalence
 pub tree_eq_equiv : IsEquivalence tree_eq
 tree_eq_equiv = record {
   refl = λ g. own_code (code_tree g);
-  symm = λ g h. one_answer (tree_eq g h) (tree_eq h g) (tree_eq_decides g h) (λ e. sym ((tree_eq_decides h g).0 e), λ e. (tree_eq_decides h g).1 (sym e));
+  symm = λ g h. one_answer (tree_eq g h) (tree_eq h g) (tree_eq_decides g h)
+      (λ e. sym ((tree_eq_decides h g).0 e), λ e. (tree_eq_decides h g).1 (sym e));
   congr = λ g h k e. ap (λ (t : Tree). tree_eq t k) ((tree_eq_decides g h).0 e);
 }
 

@@ -2,7 +2,8 @@
 use Rattle.std.specs.Prelude.{List, None, Some, ⊤}
 use Rattle.std.specs.List.{AllByRecursion}
 use Rattle.twkb_points.specs.Point.{Point, IsInRange, AreInRange}
-use Rattle.twkb_tree.specs.Tree.{Simple, point, line, polygon, multi_point, multi_line, multi_polygon, Tree, simple, collection, Trees, end, ◌▷◌}
+use Rattle.twkb_tree.specs.Tree.{Simple, point, line, polygon, multi_point, multi_line}
+use Rattle.twkb_tree.specs.Tree.{multi_polygon, Tree, simple, collection, Trees, end, ◌▷◌}
 
 -- each point of the lines is in range
 abbrev pub LinesAreInRange : List (List Point) → Type 0

@@ -1,7 +1,9 @@
 -- The words of a table for the kinds of rows (profile).
 use Rattle.std.specs.Prelude.{ℕ, List, codes}
 use Rattle.twkb_tree.specs.declared.kind.Kind.{Kind}
-use Rattle.twkb_tree.specs.declared.kind.Kind.TheVariants.{Point, Linestring, Polygon, Ring, MultiPoint, MultiLinestring, MultiPolygon, Collection}
+use Rattle.twkb_tree.specs.declared.kind.Kind.TheVariants.{Point, Linestring, Polygon, Ring}
+use Rattle.twkb_tree.specs.declared.kind.Kind.TheVariants.{MultiPoint, MultiLinestring}
+use Rattle.twkb_tree.specs.declared.kind.Kind.TheVariants.{MultiPolygon, Collection}
 
 -- the ASCII word of a kind
 abbrev pub word_of : Kind → List ℕ

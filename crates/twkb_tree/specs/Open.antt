@@ -1,6 +1,7 @@
 -- The open rows: what a reader keeps of the rows so far, the root first, and the test of a row by
 -- them.
-use Rattle.std.specs.Prelude.{◌≡◌, ℕ, zero, suc, pos, List, [], ◌∷◌, length, Option, Some, None, Bool, true, false, ◌&&◌, ◌==◌, is_some, is_none, nat_le, nat_lt, ⊤}
+use Rattle.std.specs.Prelude.{◌≡◌, ℕ, zero, suc, pos, List, [], ◌∷◌, length, Option, Some, None}
+use Rattle.std.specs.Prelude.{Bool, true, false, ◌&&◌, ◌==◌, is_some, is_none, nat_le, nat_lt, ⊤}
 use Rattle.twkb_tree.specs.declared.kind.Kind.{Kind}
 use Rattle.twkb_tree.specs.declared.open_rows.OpenRow.{OpenRow}
 use Rattle.twkb_tree.specs.Rows.{Row}
@@ -16,7 +17,8 @@ ids_by (Some f) = Some (is_some f.id)
 -- the open row holds the kind of the last row at a depth, and whether that row's first child has an
 -- id
 abbrev pub IsOpenAt : ℕ → List Row → OpenRow → Type 0
-IsOpenAt d before o = (r : Row) × (last_at d before ≡ Some r) × (o.kind ≡ r.kind) × (o.child_ids ≡ ids_by (first_below d before))
+IsOpenAt d before o = (r : Row) × (last_at d before ≡ Some r) × (o.kind ≡ r.kind)
+    × (o.child_ids ≡ ids_by (first_below d before))
 
 -- these are the open rows of the last rows at this depth and at each deeper one
 abbrev pub AreOpenFrom : ℕ → List Row → List OpenRow → Type 0
@@ -43,7 +45,11 @@ first_answer (Some a) b = Some a
 abbrev pub opened : ℕ → List OpenRow → Row → List OpenRow
 opened zero os r = record { kind = r.kind; child_ids = None } ∷ []
 opened (suc d) [] r = []
-opened (suc zero) (o ∷ os) r = record { kind = o.kind; child_ids = first_answer o.child_ids (is_some r.id) } ∷ record { kind = r.kind; child_ids = None } ∷ []
+opened (suc zero) (o ∷ os) r = record {
+  kind = o.kind;
+  child_ids = first_answer o.child_ids (is_some r.id);
+}
+    ∷ record { kind = r.kind; child_ids = None } ∷ []
 opened (suc (suc d)) (o ∷ os) r = o ∷ opened (suc d) os r
 
 -- ---- the test of a row by the open rows
@@ -80,7 +86,8 @@ count_at (suc d) n = n
 -- since the last root
 abbrev pub open_refusal_at : Allowance → ℕ → List OpenRow → ℕ → ℕ → Row → Option Refusal
 open_refusal_at l d os nodes points r =
-    first_failed (checks_under l (nat_le d (length os)) (row_of (open_parent d os)) (child_of (open_parent d os)) (count_at d nodes) (count_at d points) r)
+    first_failed (checks_under l (nat_le d (length os)) (row_of (open_parent d os))
+    (child_of (open_parent d os)) (count_at d nodes) (count_at d points) r)
 
 -- the reason to refuse a row at the depth that it names
 abbrev pub open_refusal : Allowance → List OpenRow → ℕ → ℕ → Row → Option Refusal

@@ -1,10 +1,14 @@
 -- The reason to refuse a row: the first test that it fails, in the order of the table's reasons
 -- (profile).
-use Rattle.std.specs.Prelude.{ℕ, ◌+◌, ◌^◌, Bool, true, false, ◌&&◌, ◌||◌, not, is_some, is_none, nat_lt, nat_le, ℤ, pos, negsuc, List, [], ◌∷◌, ◌++◌, length, Option, Some, None, reverse, ◌==◌, if◌then◌else◌}
+use Rattle.std.specs.Prelude.{ℕ, ◌+◌, ◌^◌, Bool, true, false, ◌&&◌, ◌||◌, not, is_some, is_none}
+use Rattle.std.specs.Prelude.{nat_lt, nat_le, ℤ, pos, negsuc, List, [], ◌∷◌, ◌++◌, length, Option}
+use Rattle.std.specs.Prelude.{Some, None, reverse, ◌==◌, if◌then◌else◌}
 use Rattle.twkb_points.specs.Point.{Point}
 use Rattle.twkb_tree.specs.Limits.{Allowance}
 use Rattle.twkb_tree.specs.Rows.{Row}
-use Rattle.twkb_tree.specs.Admits.{parent, first_child, steps_to, has_place, id_in_range, id_allowed, has_same_ids, precision_in_range, is_whole, has_points, points_fit}
+use Rattle.twkb_tree.specs.Admits.{parent, first_child, steps_to, has_place, id_in_range}
+use Rattle.twkb_tree.specs.Admits.{id_allowed, has_same_ids, precision_in_range, is_whole}
+use Rattle.twkb_tree.specs.Admits.{has_points, points_fit}
 use Rattle.twkb_tree.specs.Accepted.{nest_kept, geometry_rows, point_count}
 
 -- the reasons for which a row may not come next
@@ -40,7 +44,8 @@ check holds otherwise = record { holds = holds; otherwise = otherwise }
 
 -- the tests of a row's id under this parent, given the parent's first child
 abbrev pub id_checks : Option Row → Option Row → Row → List Check
-id_checks p f r = check (id_in_range r.id) BadId ∷ check (id_allowed p r.kind r.id) IdNotAllowed ∷ check (has_same_ids f r.id) MixedIds ∷ []
+id_checks p f r = check (id_in_range r.id) BadId ∷ check (id_allowed p r.kind r.id) IdNotAllowed
+    ∷ check (has_same_ids f r.id) MixedIds ∷ []
 
 -- the tests of a row's precision under this parent
 abbrev pub precision_checks : Option Row → Row → List Check
@@ -71,7 +76,8 @@ checks_under l steps p f nodes points r =
 -- the tests of a row at this depth after the rows so far, last one first
 abbrev pub checks_at : Allowance → ℕ → List Row → Row → List Check
 checks_at l d before r =
-    checks_under l (steps_to d before) (parent d before) (first_child d before) (length (geometry_rows d before)) (point_count (geometry_rows d before)) r
+    checks_under l (steps_to d before) (parent d before) (first_child d before)
+    (length (geometry_rows d before)) (point_count (geometry_rows d before)) r
 
 -- the reason of the first test that fails
 abbrev pub first_failed : List Check → Option Refusal

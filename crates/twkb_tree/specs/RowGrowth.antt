@@ -6,7 +6,13 @@ use Rattle.twkb_tree.specs.Rows.{Row}
 
 -- the row with one more point
 abbrev pub with_point : Row → Point → Row
-with_point r p = record { depth = r.depth; kind = r.kind; id = r.id; precision = r.precision; points = r.points ++ p ∷ [] }
+with_point r p = record {
+  depth = r.depth;
+  kind = r.kind;
+  id = r.id;
+  precision = r.precision;
+  points = r.points ++ p ∷ [];
+}
 
 -- the rows with one more point in the last one
 abbrev pub point_added : Point → List Row → List Row

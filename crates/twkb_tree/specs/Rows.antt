@@ -2,7 +2,9 @@
 use Rattle.std.specs.Prelude.{ℕ, suc, ℤ, List, [], ◌∷◌, ◌++◌, Option, None, Some, flat_map, drop}
 use Rattle.twkb_points.specs.Point.{Point}
 use Rattle.twkb_tree.specs.declared.kind.Kind.{Kind}
-use Rattle.twkb_tree.specs.Tree.{Ids, Simple, point, line, polygon, multi_point, multi_line, multi_polygon, Tree, simple, collection, Trees, end, ◌▷◌, point_list}
+use Rattle.twkb_tree.specs.Tree.{Ids, Simple, point, line, polygon, multi_point, multi_line}
+use Rattle.twkb_tree.specs.Tree.{multi_polygon, Tree, simple, collection, Trees, end, ◌▷◌}
+use Rattle.twkb_tree.specs.Tree.{point_list}
 
 -- one row: its depth, its kind, its id and precision if it has them, and its own points
 pub record Row : Type 0 where
@@ -75,7 +77,13 @@ rows_below d (multi_polygon ids areas) = rows_of_each (polygon_rows d) ids areas
 -- the row of the geometry itself, with this id and at this depth
 abbrev pub own_row : Option ℤ → ℕ → Tree → Row
 own_row id d (simple p s) = record { depth = d; kind = kind_in s; id = id; precision = Some p; points = own_points s }
-own_row id d (collection p ids gs) = record { depth = d; kind = Kind.Collection; id = id; precision = Some p; points = [] }
+own_row id d (collection p ids gs) = record {
+  depth = d;
+  kind = Kind.Collection;
+  id = id;
+  precision = Some p;
+  points = [];
+}
 
 -- the rows of a geometry with this id at a depth, in preorder
 abbrev mutual

@@ -18,7 +18,8 @@ most_le-size [] = omega arith
 most_le-size (g ∷ gs) = omega (arith, most_le-size gs)
 
 -- a member is smaller than all members together
-pub member_smaller : (gs : List Tree) (i : ℕ) (g : Tree) → i < length gs → g ≡ get_or gs i g → size_of g < size_of_members gs
+pub member_smaller : (gs : List Tree) (i : ℕ) (g : Tree) → i < length gs → g ≡ get_or gs i g
+    → size_of g < size_of_members gs
 member_smaller [] i g h e = omega arith
 member_smaller (u ∷ us) zero g h e = rw e (omega arith)
 member_smaller (u ∷ us) (suc i) g h e = omega (arith, member_smaller us i g (omega arith) e)

@@ -2,7 +2,8 @@
 use Rattle.std.specs.Prelude.{ℤ, ◌*◌, ◌≤◌}
 use Rattle.std.proofs.Common.{arith}
 use Rattle.twkb_tree.specs.declared.geometry.Shape.{Shape}
-use Rattle.twkb_tree.specs.declared.geometry.Shape.TheVariants.{Point, Line, Polygon, MultiPoint, MultiLine, MultiPolygon, Collection}
+use Rattle.twkb_tree.specs.declared.geometry.Shape.TheVariants.{Point, Line, Polygon, MultiPoint}
+use Rattle.twkb_tree.specs.declared.geometry.Shape.TheVariants.{MultiLine, MultiPolygon, Collection}
 use Rattle.twkb_tree.specs.declared.geometry.Geometry.TheDeep.{deep-Shape}
 use Rattle.twkb_tree.specs.Tree.{nodes}
 use Rattle.twkb_tree.specs.Shape.{tree_of}

@@ -7,4 +7,9 @@ use Rattle.twkb_tree.specs.Open.{open_parent, count_at}
 -- the place of a row at this depth, from the open rows and the counts of rows and points since
 -- the last root
 abbrev pub standing_at : ℕ → List OpenRow → ℕ → ℕ → Standing
-standing_at depth rows nodes points = record { depth = depth; parent = open_parent depth rows; nodes = count_at depth nodes; points = count_at depth points }
+standing_at depth rows nodes points = record {
+  depth = depth;
+  parent = open_parent depth rows;
+  nodes = count_at depth nodes;
+  points = count_at depth points;
+}

@@ -4,7 +4,8 @@ use Rattle.std.proofs.Common.{ap}
 use Rattle.std.specs.Coded.{Coded, code_by, coded_ℤ, coded_list, coded_option, coded×}
 use base.Stored.{Gv, gnil, gnum, gcons}
 use Rattle.twkb_points.specs.Point.{Point}
-use Rattle.twkb_tree.specs.Tree.{Ids, Simple, point, line, polygon, multi_point, multi_line, multi_polygon, Tree, simple, collection, Trees, end, ◌▷◌}
+use Rattle.twkb_tree.specs.Tree.{Ids, Simple, point, line, polygon, multi_point, multi_line}
+use Rattle.twkb_tree.specs.Tree.{multi_polygon, Tree, simple, collection, Trees, end, ◌▷◌}
 
 -- the code of points
 abbrev pub coded_point : Coded Point
@@ -62,17 +63,27 @@ pub code_simple_inj : (x y : Simple) → code_simple x ≡ code_simple y → x �
 code_simple_inj (point a) (point b) e = λ i. point ((coded_option coded_point).inj a b (ap rest e) i)
 code_simple_inj (line a) (line b) e = λ i. line (coded_points.inj a b (ap rest e) i)
 code_simple_inj (polygon a) (polygon b) e = λ i. polygon (coded_lines.inj a b (ap rest e) i)
-code_simple_inj (multi_point is a) (multi_point js b) e = λ i. multi_point (coded_ids.inj is js (ap (λ g. rest (rest g)) e) i) (coded_points.inj a b (ap (λ g. first (rest g)) e) i)
-code_simple_inj (multi_line is a) (multi_line js b) e = λ i. multi_line (coded_ids.inj is js (ap (λ g. rest (rest g)) e) i) (coded_lines.inj a b (ap (λ g. first (rest g)) e) i)
-code_simple_inj (multi_polygon is a) (multi_polygon js b) e = λ i. multi_polygon (coded_ids.inj is js (ap (λ g. rest (rest g)) e) i) (coded_areas.inj a b (ap (λ g. first (rest g)) e) i)
+code_simple_inj (multi_point is a) (multi_point js b) e = λ i.
+    multi_point (coded_ids.inj is js (ap (λ g. rest (rest g)) e) i)
+    (coded_points.inj a b (ap (λ g. first (rest g)) e) i)
+code_simple_inj (multi_line is a) (multi_line js b) e = λ i.
+    multi_line (coded_ids.inj is js (ap (λ g. rest (rest g)) e) i)
+    (coded_lines.inj a b (ap (λ g. first (rest g)) e) i)
+code_simple_inj (multi_polygon is a) (multi_polygon js b) e = λ i.
+    multi_polygon (coded_ids.inj is js (ap (λ g. rest (rest g)) e) i)
+    (coded_areas.inj a b (ap (λ g. first (rest g)) e) i)
 code_simple_inj _ _ e = cc
 
 -- trees with the same code are equal
 mutual
   pub code_tree_inj : (x y : Tree) → code_tree x ≡ code_tree y → x ≡ y
-  code_tree_inj (simple p s) (simple q t) e = λ i. simple (coded_ℤ.inj p q (ap (λ g. first (rest g)) e) i) (code_simple_inj s t (ap (λ g. rest (rest g)) e) i)
+  code_tree_inj (simple p s) (simple q t) e = λ i.
+      simple (coded_ℤ.inj p q (ap (λ g. first (rest g)) e) i)
+      (code_simple_inj s t (ap (λ g. rest (rest g)) e) i)
   code_tree_inj (collection p is gs) (collection q js hs) e =
-      λ i. collection (coded_ℤ.inj p q (ap (λ g. first (rest g)) e) i) (coded_ids.inj is js (ap (λ g. rest (rest (rest g))) e) i) (code_trees_inj gs hs (ap (λ g. first (rest (rest g))) e) i)
+      λ i. collection (coded_ℤ.inj p q (ap (λ g. first (rest g)) e) i)
+      (coded_ids.inj is js (ap (λ g. rest (rest (rest g))) e) i)
+      (code_trees_inj gs hs (ap (λ g. first (rest (rest g))) e) i)
   code_tree_inj _ _ e = cc
 
   pub code_trees_inj : (x y : Trees) → code_trees x ≡ code_trees y → x ≡ y

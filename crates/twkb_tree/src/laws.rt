@@ -5,11 +5,18 @@ ghost use Rattle.twkb_tree.specs.Limits.{Allowance, IsValid};
 ghost use Rattle.twkb_tree.specs.Tree.{Tree, IsTree, nodes, flat};
 ghost use Rattle.twkb_tree.specs.Rows.{Row, rows, rows_of, row_points};
 ghost use Rattle.twkb_tree.specs.Admits.{admits, steps_to};
-ghost use Rattle.twkb_tree.specs.Accepted.{Accepts, AreAccepted, Continues, IsOneRoot, since_root, geometry_rows, point_count};
+ghost use Rattle.twkb_tree.specs.Accepted.{Accepts, AreAccepted, Continues, IsOneRoot, since_root};
+ghost use Rattle.twkb_tree.specs.Accepted.{geometry_rows, point_count};
 ghost use Rattle.twkb_tree.specs.Refusal.{refusal, refusal_after, accepts, continues};
-ghost use Rattle.twkb_tree.specs.RowLists.{AreGeometries, AreValid, AreRows, AreRowsOfOne, AreValidRows, AreValidRowsOfOne, BeginValidRows, IsAtRoot, AreShallow};
+ghost use Rattle.twkb_tree.specs.RowLists.{AreGeometries, AreValid, AreRows, AreRowsOfOne};
+ghost use Rattle.twkb_tree.specs.RowLists.{AreValidRows, AreValidRowsOfOne, BeginValidRows};
+ghost use Rattle.twkb_tree.specs.RowLists.{IsAtRoot, AreShallow};
 ghost use Rattle.twkb_tree.specs.Open.{AreOpen, opened, open_refusal, open_continues};
-ghost use Rattle.twkb_tree.specs.RowSamples.{MemberRows, PolygonRows, TwoRings, PointsWithIds, MembersWithIds, TwoPrecisions, EmptyLine, PolygonsWithIds, TwoRoots, IdsOnSome, NoLevel, NineLevels, TwoNodes, OnePoint, Precisions, FirstRows, PrecisionRange, CoordinateRanges, IdRange, SecondRoot};
+ghost use Rattle.twkb_tree.specs.RowSamples.{MemberRows, PolygonRows, TwoRings, PointsWithIds};
+ghost use Rattle.twkb_tree.specs.RowSamples.{MembersWithIds, TwoPrecisions, EmptyLine};
+ghost use Rattle.twkb_tree.specs.RowSamples.{PolygonsWithIds, TwoRoots, IdsOnSome, NoLevel};
+ghost use Rattle.twkb_tree.specs.RowSamples.{NineLevels, TwoNodes, OnePoint, Precisions, FirstRows};
+ghost use Rattle.twkb_tree.specs.RowSamples.{PrecisionRange, CoordinateRanges, IdRange, SecondRoot};
 
 // ---- rows and geometries
 
@@ -29,8 +36,11 @@ pub fn one_reading()
 /// another, the next row is no root. If the next row is a root, or there is none, the rows so far
 /// are those of a complete geometry.
 pub fn ends()
-    ensures below { (g h : Tree) (r : Row) (more : List Row) → IsTree g → IsTree h → rows 0 g ++ r ∷ more ≡ rows 0 h → 0 < r.depth }
-    ensures whole { (g : Tree) (more : List Row) (hs : List Tree) → IsTree g → AreGeometries hs → IsAtRoot more → rows 0 g ++ more ≡ rows_of hs → (rest : List Tree) × (hs ≡ g ∷ rest) × (rows_of rest ≡ more) }
+    ensures below { (g h : Tree) (r : Row) (more : List Row) → IsTree g → IsTree h
+        → rows 0 g ++ r ∷ more ≡ rows 0 h → 0 < r.depth }
+    ensures whole { (g : Tree) (more : List Row) (hs : List Tree) → IsTree g → AreGeometries hs
+        → IsAtRoot more → rows 0 g ++ more ≡ rows_of hs → (rest : List Tree) × (hs ≡ g ∷ rest)
+        × (rows_of rest ≡ more) }
 {}
 
 /// Each prefix of rows of geometries is rows of geometries. The same is true of valid geometries,
@@ -38,7 +48,8 @@ pub fn ends()
 pub fn fronts()
     ensures geometries { (front more : List Row) → AreRows (front ++ more) → AreRows front }
     ensures valid { (l : Allowance) (front more : List Row) → AreValidRows l (front ++ more) → AreValidRows l front }
-    ensures one { (l : Allowance) (front more : List Row) → AreValidRowsOfOne l (front ++ more) → AreValidRowsOfOne l front }
+    ensures one { (l : Allowance) (front more : List Row) → AreValidRowsOfOne l (front ++ more)
+        → AreValidRowsOfOne l front }
 {}
 
 /// No row of a valid geometry is more than two levels below the deepest member that the limits
@@ -54,36 +65,45 @@ pub fn depths()
 /// geometry.
 pub fn admitted()
     ensures list { (rs : List Row) (r : Row) → AreRows rs → (admits rs r ≡ true) ↔ AreRows (rs ++ r ∷ []) }
-    ensures one { (rs : List Row) (r : Row) → AreRowsOfOne rs → ((admits rs r ≡ true) × IsOneRoot rs r) ↔ AreRowsOfOne (rs ++ r ∷ []) }
+    ensures one { (rs : List Row) (r : Row) → AreRowsOfOne rs
+        → ((admits rs r ≡ true) × IsOneRoot rs r) ↔ AreRowsOfOne (rs ++ r ∷ []) }
 {}
 
 /// Rows are accepted one by one exactly if they are rows of valid geometries. After such rows one
 /// more is accepted exactly if rows of valid geometries begin with these rows and that one.
 pub fn accepted()
     ensures one_by_one { (l : Allowance) (rs : List Row) → AreAccepted l (reverse rs) ↔ AreValidRows l rs }
-    ensures next { (l : Allowance) (rs : List Row) (r : Row) → AreValidRows l rs → Accepts l (reverse rs) r ↔ AreValidRows l (rs ++ r ∷ []) }
-    ensures begins { (l : Allowance) (rs : List Row) (r : Row) → AreValidRows l rs → Accepts l (reverse rs) r ↔ BeginValidRows l (rs ++ r ∷ []) }
+    ensures next { (l : Allowance) (rs : List Row) (r : Row) → AreValidRows l rs
+        → Accepts l (reverse rs) r ↔ AreValidRows l (rs ++ r ∷ []) }
+    ensures begins { (l : Allowance) (rs : List Row) (r : Row) → AreValidRows l rs
+        → Accepts l (reverse rs) r ↔ BeginValidRows l (rs ++ r ∷ []) }
     ensures test { (l : Allowance) (rs : List Row) (r : Row) → (accepts l rs r ≡ true) ↔ Accepts l (reverse rs) r }
 {}
 
 /// After rows of one valid geometry a row continues it exactly if the rows with it are rows of
 /// one valid geometry.
 pub fn continued()
-    ensures next { (l : Allowance) (rs : List Row) (r : Row) → AreValidRowsOfOne l rs → Continues l rs r ↔ AreValidRowsOfOne l (rs ++ r ∷ []) }
+    ensures next { (l : Allowance) (rs : List Row) (r : Row) → AreValidRowsOfOne l rs
+        → Continues l rs r ↔ AreValidRowsOfOne l (rs ++ r ∷ []) }
     ensures test { (l : Allowance) (rs : List Row) (r : Row) → (continues l rs r ≡ true) ↔ Continues l rs r }
-    ensures counted { (rs : List Row) (r : Row) → AreRowsOfOne rs → IsOneRoot rs r → geometry_rows r.depth (reverse rs) ≡ reverse rs }
+    ensures counted { (rs : List Row) (r : Row) → AreRowsOfOne rs → IsOneRoot rs r
+        → geometry_rows r.depth (reverse rs) ≡ reverse rs }
 {}
 
 /// An accepted root begins a new geometry; any other accepted row is one more row of the last
 /// geometry.
 pub fn grows()
-    ensures root { (l : Allowance) (gs : List Tree) (r : Row) → Accepts l (reverse (rows_of gs)) r → r.depth ≡ 0 → (h : Tree) × IsValid l h × (rows 0 h ≡ r ∷ []) }
-    ensures below { (l : Allowance) (gs : List Tree) (g : Tree) (r : Row) → AreValid l (gs ++ g ∷ []) → Accepts l (reverse (rows_of (gs ++ g ∷ []))) r → 0 < r.depth → (h : Tree) × IsValid l h × (rows 0 h ≡ rows 0 g ++ r ∷ []) }
+    ensures root { (l : Allowance) (gs : List Tree) (r : Row) → Accepts l (reverse (rows_of gs)) r
+        → r.depth ≡ 0 → (h : Tree) × IsValid l h × (rows 0 h ≡ r ∷ []) }
+    ensures below { (l : Allowance) (gs : List Tree) (g : Tree) (r : Row)
+        → AreValid l (gs ++ g ∷ []) → Accepts l (reverse (rows_of (gs ++ g ∷ []))) r → 0 < r.depth
+        → (h : Tree) × IsValid l h × (rows 0 h ≡ rows 0 g ++ r ∷ []) }
 {}
 
 /// A row is judged by the rows of the last geometry alone, and a root by no row at all.
 pub fn last_geometry()
-    ensures local { (l : Allowance) (earlier : List Row) (s : Row) (rs : List Row) (r : Row) → AreRowsOfOne (s ∷ rs) → refusal l (earlier ++ s ∷ rs) r ≡ refusal l (s ∷ rs) r }
+    ensures local { (l : Allowance) (earlier : List Row) (s : Row) (rs : List Row) (r : Row)
+        → AreRowsOfOne (s ∷ rs) → refusal l (earlier ++ s ∷ rs) r ≡ refusal l (s ∷ rs) r }
     ensures root { (l : Allowance) (rs : List Row) (r : Row) → r.depth ≡ 0 → refusal l rs r ≡ refusal l [] r }
 {}
 
@@ -91,19 +111,30 @@ pub fn last_geometry()
 /// begin with some rows and a row that is refused after them.
 pub fn refused()
     ensures reasons { (l : Allowance) (rs : List Row) (r : Row) → (refusal l rs r ≡ None) ↔ Accepts l (reverse rs) r }
-    ensures dead { (l : Allowance) (rs : List Row) (r : Row) (more : List Row) → (¬ Accepts l (reverse rs) r) → ¬ AreValidRows l (rs ++ r ∷ more) }
+    ensures dead { (l : Allowance) (rs : List Row) (r : Row) (more : List Row)
+        → (¬ Accepts l (reverse rs) r) → ¬ AreValidRows l (rs ++ r ∷ more) }
 {}
 
 /// The open rows are kept up to date row by row, and with two counts they decide why a row is
 /// refused.
 pub fn open_rows()
     ensures none { AreOpen [] [] }
-    ensures more { (before : List Row) (os : List OpenRow) (r : Row) → steps_to r.depth before ≡ true → AreOpen before os → AreOpen (r ∷ before) (opened r.depth os r) }
-    ensures nodes { (before : List Row) (r : Row) → length (since_root (r ∷ before)) ≡ length (geometry_rows r.depth before) + 1 }
-    ensures points { (before : List Row) (r : Row) → point_count (since_root (r ∷ before)) ≡ point_count (geometry_rows r.depth before) + length r.points }
-    ensures kept { (l : Allowance) (before : List Row) → AreAccepted l before → (length (since_root before) ≤ l.nodes) × (point_count (since_root before) ≤ l.points) }
-    ensures decide { (l : Allowance) (before : List Row) (os : List OpenRow) (r : Row) → AreOpen before os → open_refusal l os (length (since_root before)) (point_count (since_root before)) r ≡ refusal_after l before r }
-    ensures decide_one { (l : Allowance) (rs : List Row) (os : List OpenRow) (r : Row) → AreRowsOfOne rs → AreOpen (reverse rs) os → open_continues l os (length rs) (point_count rs) r ≡ continues l rs r }
+    ensures more { (before : List Row) (os : List OpenRow) (r : Row)
+        → steps_to r.depth before ≡ true → AreOpen before os
+        → AreOpen (r ∷ before) (opened r.depth os r) }
+    ensures nodes { (before : List Row) (r : Row)
+        → length (since_root (r ∷ before)) ≡ length (geometry_rows r.depth before) + 1 }
+    ensures points { (before : List Row) (r : Row)
+        → point_count (since_root (r ∷ before)) ≡ point_count (geometry_rows r.depth before)
+        + length r.points }
+    ensures kept { (l : Allowance) (before : List Row) → AreAccepted l before
+        → (length (since_root before) ≤ l.nodes) × (point_count (since_root before) ≤ l.points) }
+    ensures decide { (l : Allowance) (before : List Row) (os : List OpenRow) (r : Row)
+        → AreOpen before os → open_refusal l os (length (since_root before))
+        (point_count (since_root before)) r ≡ refusal_after l before r }
+    ensures decide_one { (l : Allowance) (rs : List Row) (os : List OpenRow) (r : Row)
+        → AreRowsOfOne rs → AreOpen (reverse rs) os → open_continues l os (length rs)
+        (point_count rs) r ≡ continues l rs r }
 {}
 
 // ---- worked tables

@@ -11,7 +11,8 @@ use twkb_points::Pt;
 
 /// The kind of a geometry of this shape, and the points of its own row. Takes no memory.
 pub fn own_parts(shape: &Shape) -> (Kind, &[Pt])
-    ensures { (p : ℤ) (id : Option ℤ) (depth : ℕ) → own_row id depth (tree_of p shape.now) ≡ whole_row depth result.0 id p result.1.now }
+    ensures { (p : ℤ) (id : Option ℤ) (depth : ℕ)
+        → own_row id depth (tree_of p shape.now) ≡ whole_row depth result.0 id p result.1.now }
 {
     match shape {
         Shape::Point(None) => (Kind::Point, &[]),

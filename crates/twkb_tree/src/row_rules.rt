@@ -1,7 +1,8 @@
 //! The rules for a row under its parent, by the parent's open row.
 ghost use Rattle.std.specs.Prelude.{◌≡◌, ℤ, List, length, Option, is_some};
 ghost use Rattle.twkb_points.specs.Point.{Point};
-ghost use Rattle.twkb_tree.specs.Admits.{may_have, has_place, is_whole, id_allowed, has_same_ids, points_fit, has_points};
+ghost use Rattle.twkb_tree.specs.Admits.{may_have, has_place, is_whole, id_allowed, has_same_ids};
+ghost use Rattle.twkb_tree.specs.Admits.{points_fit, has_points};
 ghost use Rattle.twkb_tree.specs.Accepted.{nest_kept};
 ghost use Rattle.twkb_tree.specs.Open.{row_of, child_of};
 

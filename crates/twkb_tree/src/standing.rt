@@ -23,7 +23,9 @@ impl Standing {
     /// of rows and points since the last root. `None` if the depth is more than one below the
     /// last row. Takes no memory.
     pub fn at(depth: u32, rows: &[OpenRow], nodes: u32, points: u32) -> Option<Standing>
-        ensures stands { MatchOption result (length rows.now < depth) (λ standing. (depth ≤ length rows.now) × (standing ≡ standing_at depth rows.now nodes points)) }
+        ensures stands { MatchOption result (length rows.now < depth)
+            (λ standing. (depth ≤ length rows.now)
+            × (standing ≡ standing_at depth rows.now nodes points)) }
     {
         if depth == 0 {
             return Some(Standing {

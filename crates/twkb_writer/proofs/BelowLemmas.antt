@@ -1,11 +1,15 @@
 -- The members among the rows below a row.
-use Rattle.std.proofs.Common.{◌≡◌, ℕ, suc, ◌<◌, ◌≤◌, true, false, List, [], ◌∷◌, ◌++◌, map, length, Option, Some, None, refl, ap, sym, ◌∙◌, subst, append_assoc, arith}
+use Rattle.std.proofs.Common.{◌≡◌, ℕ, suc, ◌<◌, ◌≤◌, true, false, List, [], ◌∷◌, ◌++◌, map, length}
+use Rattle.std.proofs.Common.{Option, Some, None, refl, ap, sym, ◌∙◌, subst, append_assoc, arith}
 use Rattle.std.specs.Prelude.{⊤, ℤ, nat_le, nat_eq}
 use Rattle.std.proofs.lemmas.Bool.Decides.{nat_tests}
 use Rattle.twkb_points.specs.Point.{Point}
-use Rattle.twkb_tree.specs.Tree.{Simple, point, line, polygon, multi_point, multi_line, multi_polygon, Tree, simple, collection, Trees, end, ◌▷◌, Ids, members}
+use Rattle.twkb_tree.specs.Tree.{Simple, point, line, polygon, multi_point, multi_line}
+use Rattle.twkb_tree.specs.Tree.{multi_polygon, Tree, simple, collection, Trees, end, ◌▷◌, Ids}
+use Rattle.twkb_tree.specs.Tree.{members}
 use Rattle.twkb_tree.specs.declared.kind.Kind.{Kind}
-use Rattle.twkb_tree.specs.Rows.{Row, plain_row, polygon_rows, own_row, rows_with, rows_below, member_rows, ring_rows, rows_of_each, first_id, other_ids}
+use Rattle.twkb_tree.specs.Rows.{Row, plain_row, polygon_rows, own_row, rows_with, rows_below}
+use Rattle.twkb_tree.specs.Rows.{member_rows, ring_rows, rows_of_each, first_id, other_ids}
 use Rattle.twkb_tree.proofs.AllJoined.{all_join}
 use Rattle.twkb_tree.proofs.RootLaws.{AreDeep, IsDeeper}
 use Rattle.twkb_tree.proofs.RowFitting.{own_row-depth}
@@ -30,7 +34,8 @@ pub members-over : (d : ℕ) (r : Row) (rs : List Row) → r.depth ≤ d → mem
 members-over d r rs h = let le : nat_le r.depth d ≡ true = grind (arith, nat_tests) in rw le refl
 
 -- a row one level deeper is a member
-pub members-one : (d : ℕ) (r : Row) (rs : List Row) → r.depth ≡ suc d → members_below d (r ∷ rs) ≡ r ∷ members_below d rs
+pub members-one : (d : ℕ) (r : Row) (rs : List Row) → r.depth ≡ suc d
+    → members_below d (r ∷ rs) ≡ r ∷ members_below d rs
 members-one d r rs e =
     let le : nat_le r.depth d ≡ false = grind (arith, nat_tests) in
     let eq : nat_eq r.depth (suc d) ≡ true = grind (arith, nat_tests) in
@@ -51,14 +56,20 @@ members-stop d [] h = refl
 members-stop d (r ∷ rs) h = members-over d r rs h
 
 -- rows below the members are passed over
-pub members-deeper : (d : ℕ) (xs rs : List Row) → AreDeep (suc (suc d)) xs → members_below d (xs ++ rs) ≡ members_below d rs
+pub members-deeper : (d : ℕ) (xs rs : List Row) → AreDeep (suc (suc d)) xs
+    → members_below d (xs ++ rs) ≡ members_below d rs
 members-deeper d [] rs deep = refl
-members-deeper d (x ∷ xs) rs deep = members-past d x (xs ++ rs) (let low = deep.0 in omega (arith, low)) ∙ members-deeper d xs rs deep.1
+members-deeper d (x ∷ xs) rs deep = members-past d x (xs ++ rs) (let low = deep.0 in
+    omega (arith, low)) ∙ members-deeper d xs rs deep.1
 
 -- the member of each part is the part's first row
-pub members-each : {A : Type 0} (d : ℕ) (f : Option ℤ → A → List Row) (own : Option ℤ → A → Row) (deeper : Option ℤ → A → List Row)
-    → ((id : Option ℤ) (x : A) → f id x ≡ own id x ∷ deeper id x) → ((id : Option ℤ) (x : A) → (own id x).depth ≡ suc d) → ((id : Option ℤ) (x : A) → AreDeep (suc (suc d)) (deeper id x))
-    → (ids : Ids) (xs : List A) (rs : List Row) → members_below d (rows_of_each f ids xs ++ rs) ≡ rows_of_each (λ id x. own id x ∷ []) ids xs ++ members_below d rs
+pub members-each : {A : Type 0} (d : ℕ) (f : Option ℤ → A → List Row) (own : Option ℤ → A → Row)
+    (deeper : Option ℤ → A → List Row)
+    → ((id : Option ℤ) (x : A) → f id x ≡ own id x ∷ deeper id x)
+    → ((id : Option ℤ) (x : A) → (own id x).depth ≡ suc d)
+    → ((id : Option ℤ) (x : A) → AreDeep (suc (suc d)) (deeper id x))
+    → (ids : Ids) (xs : List A) (rs : List Row) → members_below d (rows_of_each f ids xs ++ rs)
+    ≡ rows_of_each (λ id x. own id x ∷ []) ids xs ++ members_below d rs
 members-each d f own deeper is at deep ids [] rs = refl
 members-each d f own deeper is at deep ids (x ∷ xs) rs =
     let id = first_id ids in
@@ -66,15 +77,19 @@ members-each d f own deeper is at deep ids (x ∷ xs) rs =
     ap (λ (l : List Row). members_below d ((l ++ rest) ++ rs)) (is id x)
     ∙ ap (λ (l : List Row). members_below d (own id x ∷ l)) (append_assoc (deeper id x) rest rs)
     ∙ members-one d (own id x) (deeper id x ++ (rest ++ rs)) (at id x)
-    ∙ ap (λ (l : List Row). own id x ∷ l) (members-deeper d (deeper id x) (rest ++ rs) (deep id x) ∙ members-each d f own deeper is at deep (other_ids ids) xs rs)
+    ∙ ap (λ (l : List Row). own id x ∷ l) (members-deeper d (deeper id x) (rest ++ rs) (deep id x)
+    ∙ members-each d f own deeper is at deep (other_ids ids) xs rs)
 
 -- there is one member for each part
-pub length-each : {A : Type 0} (own : Option ℤ → A → Row) (ids : Ids) (xs : List A) → length (rows_of_each (λ id x. own id x ∷ []) ids xs) ≡ length xs
+pub length-each : {A : Type 0} (own : Option ℤ → A → Row) (ids : Ids) (xs : List A)
+    → length (rows_of_each (λ id x. own id x ∷ []) ids xs) ≡ length xs
 length-each own ids [] = refl
 length-each own ids (x ∷ xs) = let more = length-each own (other_ids ids) xs in omega (arith, more)
 
 -- the ids of the members are those of the parts
-pub ids-each : {A : Type 0} (own : Option ℤ → A → Row) → ((id : Option ℤ) (x : A) → (own id x).id ≡ id) → (at : Point) (ids : List ℤ) (xs : List A) → length ids ≡ length xs
+pub ids-each : {A : Type 0} (own : Option ℤ → A → Row)
+    → ((id : Option ℤ) (x : A) → (own id x).id ≡ id) → (at : Point) (ids : List ℤ) (xs : List A)
+    → length ids ≡ length xs
     → ids_bytes (rows_of_each (λ id x. own id x ∷ []) (Some ids) xs) ≡ walked at (map OfId ids)
 ids-each own is at [] [] e = refl
 ids-each own is at [] (x ∷ xs) e = absurd (omega (arith, e))
@@ -86,9 +101,13 @@ ids-each own is at (id ∷ ids) (x ∷ xs) e =
 -- ---- depths
 
 -- parts are deep if each is
-pub deep-each : {A : Type 0} (d : ℕ) (f : Option ℤ → A → List Row) → ((id : Option ℤ) (x : A) → AreDeep d (f id x)) → (ids : Ids) (xs : List A) → AreDeep d (rows_of_each f ids xs)
+pub deep-each : {A : Type 0} (d : ℕ) (f : Option ℤ → A → List Row)
+    → ((id : Option ℤ) (x : A) → AreDeep d (f id x)) → (ids : Ids) (xs : List A)
+    → AreDeep d (rows_of_each f ids xs)
 deep-each d f deep ids [] = tt
-deep-each d f deep ids (x ∷ xs) = all_join (IsDeeper d) (f (first_id ids) x) (rows_of_each f (other_ids ids) xs) (deep (first_id ids) x) (deep-each d f deep (other_ids ids) xs)
+deep-each d f deep ids (x ∷ xs) = all_join (IsDeeper d) (f (first_id ids) x)
+    (rows_of_each f (other_ids ids) xs) (deep (first_id ids) x)
+    (deep-each d f deep (other_ids ids) xs)
 
 -- rows deeper than one depth are deeper than a smaller one
 pub deep-less : (d : ℕ) (rs : List Row) → AreDeep (suc d) rs → AreDeep d rs
@@ -97,15 +116,19 @@ deep-less d (r ∷ rs) h = (let low = h.0 in omega (arith, low), deep-less d rs 
 
 -- the rings of a polygon are deep
 pub deep-rings : (d : ℕ) (rings : List (List Point)) → AreDeep d (ring_rows d rings)
-deep-rings d rings = deep-each d (λ none ring. plain_row d Kind.Ring none ring ∷ []) (λ id x. (omega arith, tt)) None rings
+deep-rings d rings = deep-each d (λ none ring. plain_row d Kind.Ring none ring ∷ [])
+    (λ id x. (omega arith, tt)) None rings
 
 deep-simple : (d : ℕ) (s : Simple) → AreDeep d (rows_below d s)
 deep-simple d (point o) = tt
 deep-simple d (line ps) = tt
 deep-simple d (polygon rings) = deep-rings d rings
-deep-simple d (multi_point ids ps) = deep-each d (λ id p. plain_row d Kind.Point id (p ∷ []) ∷ []) (λ id x. (omega arith, tt)) ids ps
-deep-simple d (multi_line ids lines) = deep-each d (λ id ps. plain_row d Kind.Linestring id ps ∷ []) (λ id x. (omega arith, tt)) ids lines
-deep-simple d (multi_polygon ids areas) = deep-each d (polygon_rows d) (λ id x. (omega arith, deep-less d (ring_rows (suc d) x) (deep-rings (suc d) x))) ids areas
+deep-simple d (multi_point ids ps) = deep-each d (λ id p. plain_row d Kind.Point id (p ∷ []) ∷ [])
+    (λ id x. (omega arith, tt)) ids ps
+deep-simple d (multi_line ids lines) = deep-each d (λ id ps. plain_row d Kind.Linestring id ps ∷ [])
+    (λ id x. (omega arith, tt)) ids lines
+deep-simple d (multi_polygon ids areas) = deep-each d (polygon_rows d)
+    (λ id x. (omega arith, deep-less d (ring_rows (suc d) x) (deep-rings (suc d) x))) ids areas
 
 -- the rows below a geometry's own row, at depth d
 abbrev pub below_of : ℕ → Tree → List Row
@@ -130,9 +153,13 @@ mutual
 
   deep-members : (d : ℕ) (ids : Ids) (gs : Trees) → AreDeep d (member_rows d ids gs)
   deep-members d ids end = tt
-  deep-members d ids (g ▷ gs) = all_join (IsDeeper d) (rows_with (first_id ids) d g) (member_rows d (other_ids ids) gs) (deep-own d (first_id ids) g (deep-below (suc d) g)) (deep-members d (other_ids ids) gs)
+  deep-members d ids (g ▷ gs) = all_join (IsDeeper d) (rows_with (first_id ids) d g)
+      (member_rows d (other_ids ids) gs) (deep-own d (first_id ids) g (deep-below (suc d) g))
+      (deep-members d (other_ids ids) gs)
 
 -- the rows of members are those of each member
-pub member_rows-each : (d : ℕ) (ids : Ids) (gs : Trees) → member_rows d ids gs ≡ rows_of_each (λ id g. rows_with id d g) ids (members gs)
+pub member_rows-each : (d : ℕ) (ids : Ids) (gs : Trees)
+    → member_rows d ids gs ≡ rows_of_each (λ id g. rows_with id d g) ids (members gs)
 member_rows-each d ids end = refl
-member_rows-each d ids (g ▷ gs) = ap (λ (l : List Row). rows_with (first_id ids) d g ++ l) (member_rows-each d (other_ids ids) gs)
+member_rows-each d ids (g ▷ gs) = ap (λ (l : List Row). rows_with (first_id ids) d g ++ l)
+    (member_rows-each d (other_ids ids) gs)

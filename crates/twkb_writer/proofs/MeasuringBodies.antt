@@ -1,14 +1,17 @@
 -- The length of a simple geometry's body, from its rows.
-use Rattle.std.proofs.Common.{◌≡◌, ℕ, suc, ◌+◌, Bool, true, false, List, [], ◌∷◌, ◌++◌, length, map, None, Some, refl, sym, ◌∙◌, ap, arith, length-append}
+use Rattle.std.proofs.Common.{◌≡◌, ℕ, suc, ◌+◌, Bool, true, false, List, [], ◌∷◌, ◌++◌, length, map}
+use Rattle.std.proofs.Common.{None, Some, refl, sym, ◌∙◌, ap, arith, length-append}
 use Rattle.std.specs.Prelude.{ℤ, ◌-ℤ◌, flat_map, nat_eq, ◌&&◌}
 use Rattle.std.proofs.lemmas.Bool.Decides.{nat_tests}
 use Rattle.twkb_num.specs.Zigzag.{zigzag_of}
 use Rattle.twkb_num.specs.Varint.{varint_of}
 use Rattle.twkb_points.specs.Point.{Point, origin}
 use Rattle.twkb_tree.specs.declared.kind.Kind.TheVariants as kind
-use Rattle.twkb_tree.specs.Tree.{Ids, Simple, point, line, polygon, multi_point, multi_line, multi_polygon, points_in, IdsFit}
+use Rattle.twkb_tree.specs.Tree.{Ids, Simple, point, line, polygon, multi_point, multi_line}
+use Rattle.twkb_tree.specs.Tree.{multi_polygon, points_in, IdsFit}
 use Rattle.twkb_tree.specs.Rows.{kind_in, own_points}
-use Rattle.twkb_grammar.specs.Items.{Place, OfCount, OfId, OfPoint, fields, outline, run_of, rings_of, id_places, flags, members, parts}
+use Rattle.twkb_grammar.specs.Items.{Place, OfCount, OfId, OfPoint, fields, outline, run_of}
+use Rattle.twkb_grammar.specs.Items.{rings_of, id_places, flags, members, parts}
 use Rattle.twkb_grammar.specs.Written.{varints, is_empty}
 use Rattle.twkb_grammar.proofs.Places.{steps, places, fields_are, points_are}
 use Rattle.twkb_writer.specs.declared.levels.Level.{Level}
@@ -36,16 +39,31 @@ places_len (OfPoint p ∷ ps) = places_len ps
 -- points
 pub length-steps : (p : Point) (ps : List Place) → length (varints (steps p ps)) ≡ places_len ps + way_len p (places ps)
 length-steps p [] = refl
-length-steps p (OfCount c n ∷ ps) = omega (arith, length-append (varint_of n) (varints (steps p ps)), length-number n, length-steps p ps)
-length-steps p (OfId id ∷ ps) = omega (arith, length-append (varint_of (zigzag_of id)) (varints (steps p ps)), length-number (zigzag_of id), length-steps p ps)
+length-steps p (OfCount c n ∷ ps) = omega
+    (arith, length-append (varint_of n) (varints (steps p ps)), length-number n, length-steps p ps)
+length-steps p (OfId id ∷ ps) = omega (
+  arith,
+  length-append (varint_of (zigzag_of id))
+      (varints (steps p ps)),
+  length-number (zigzag_of id),
+  length-steps p ps,
+)
 length-steps p (OfPoint q ∷ ps) =
     let x : ℕ = zigzag_of (q.x -ℤ p.x) in
     let y : ℕ = zigzag_of (q.y -ℤ p.y) in
-    omega (arith, length-append (varint_of x) (varint_of y ++ varints (steps q ps)), length-append (varint_of y) (varints (steps q ps)), length-number x, length-number y, length-steps q ps)
+    omega (
+      arith,
+      length-append (varint_of x) (varint_of y ++ varints (steps q ps)),
+      length-append (varint_of y) (varints (steps q ps)),
+      length-number x,
+      length-number y,
+      length-steps q ps,
+    )
 
 -- the length of a simple geometry's body
 pub length-fields : (s : Simple) → length (varints (fields s)) ≡ places_len (outline s) + way_len origin (points_in s)
-length-fields s = ap (λ fs. length (varints fs)) (fields_are s) ∙ length-steps origin (outline s) ∙ ap (λ ps. places_len (outline s) + way_len origin ps) (points_are s)
+length-fields s = ap (λ fs. length (varints fs)) (fields_are s) ∙ length-steps origin (outline s)
+    ∙ ap (λ ps. places_len (outline s) + way_len origin ps) (points_are s)
 
 -- the bytes of the differences of a tail
 pub from_origin-tail_of : (ps : List Point) → from_origin (tail_of ps) ≡ way_len origin ps
@@ -70,9 +88,11 @@ places_len-id_places : (ids : Ids) → places_len (id_places ids) ≡ ids_len id
 places_len-id_places None = refl
 places_len-id_places (Some ids) = places_len-ids ids
 
-places_len-each : {A : Type 0} (f : A → List Place) (xs : List A) → places_len (flat_map f xs) ≡ total (λ x. places_len (f x)) xs
+places_len-each : {A : Type 0} (f : A → List Place) (xs : List A)
+    → places_len (flat_map f xs) ≡ total (λ x. places_len (f x)) xs
 places_len-each f [] = refl
-places_len-each f (x ∷ xs) = places_len-append (f x) (flat_map f xs) ∙ ap (λ n. places_len (f x) + n) (places_len-each f xs)
+places_len-each f (x ∷ xs) = places_len-append (f x) (flat_map f xs)
+    ∙ ap (λ n. places_len (f x) + n) (places_len-each f xs)
 
 places_len-run : (ps : List Point) → number_len (length ps) + 0 ≡ places_len (run_of ps)
 places_len-run ps = ap (λ n. number_len (length ps) + n) (sym (places_len-points ps))
@@ -89,51 +109,75 @@ parts_bytes (multi_line ids lines) = total (λ ps. places_len (run_of ps)) lines
 parts_bytes (multi_polygon ids areas) = total (λ rings. places_len (rings_of rings)) areas
 
 no_parts : IsTotal blank 0 None 0
-no_parts = record { members = refl; ids_are = refl; named = refl; bytes_are = refl; no_bounds = refl; no_precisions = refl }
+no_parts = record {
+  members = refl;
+  ids_are = refl;
+  named = refl;
+  bytes_are = refl;
+  no_bounds = refl;
+  no_precisions = refl;
+}
 
-total_rings : (rings : List (List Point)) → IsTotal (rings_level rings) (length rings) None (total (λ ps. places_len (run_of ps)) rings)
-total_rings rings = total_each kind.Ring (λ ps. length ps) (λ ps. blank) (λ ps. places_len (run_of ps)) places_len-run None rings tt
+total_rings : (rings : List (List Point)) → IsTotal (rings_level rings) (length rings) None
+    (total (λ ps. places_len (run_of ps)) rings)
+total_rings rings = total_each kind.Ring (λ ps. length ps) (λ ps. blank)
+    (λ ps. places_len (run_of ps)) places_len-run None rings tt
 
 -- the totals of a count, ids and parts
-lead_total : (l : Level) (n : ℕ) (ids : Ids) (bytes : ℕ) → IsTotal l n ids bytes → number_len l.members + l.ids + l.bytes ≡ number_len n + ids_len ids + bytes
+lead_total : (l : Level) (n : ℕ) (ids : Ids) (bytes : ℕ) → IsTotal l n ids bytes
+    → number_len l.members + l.ids + l.bytes ≡ number_len n + ids_len ids + bytes
 lead_total l n ids bytes t = λ i. number_len (t.members i) + t.ids_are i + t.bytes_are i
 
-lead_rings : (rings : List (List Point)) → number_len (rings_level rings).members + (rings_level rings).ids + (rings_level rings).bytes ≡ places_len (rings_of rings)
-lead_rings rings = omega (arith, lead_total (rings_level rings) (length rings) None (total (λ ps. places_len (run_of ps)) rings) (total_rings rings), places_len-each run_of rings)
+lead_rings : (rings : List (List Point)) → number_len (rings_level rings).members
+    + (rings_level rings).ids + (rings_level rings).bytes ≡ places_len (rings_of rings)
+lead_rings rings = omega (
+  arith,
+  lead_total (rings_level rings) (length rings) None
+      (total (λ ps. places_len (run_of ps)) rings) (total_rings rings),
+  places_len-each run_of rings,
+)
 
 -- the totals of the parts of a shape
 pub total_parts : (s : Simple) → IdsFit s → IsTotal (parts_level s) (parts_in s) (ids_in s) (parts_bytes s)
 total_parts (point o) h = no_parts
 total_parts (line ps) h = no_parts
 total_parts (polygon rings) h = total_rings rings
-total_parts (multi_point ids ps) h = total_each kind.Point (λ p. length (p ∷ [])) (λ p. blank) (λ p. 0) (λ p. refl) ids ps h
-total_parts (multi_line ids lines) h = total_each kind.Linestring (λ ps. length ps) (λ ps. blank) (λ ps. places_len (run_of ps)) places_len-run ids lines h
-total_parts (multi_polygon ids areas) h = total_each kind.Polygon (λ rings. 0) rings_level (λ rings. places_len (rings_of rings)) lead_rings ids areas h
+total_parts (multi_point ids ps) h = total_each kind.Point (λ p. length (p ∷ [])) (λ p. blank)
+    (λ p. 0) (λ p. refl) ids ps h
+total_parts (multi_line ids lines) h = total_each kind.Linestring (λ ps. length ps) (λ ps. blank)
+    (λ ps. places_len (run_of ps)) places_len-run ids lines h
+total_parts (multi_polygon ids areas) h = total_each kind.Polygon (λ rings. 0) rings_level
+    (λ rings. places_len (rings_of rings)) lead_rings ids areas h
 
 total_none : (ps : List Point) → total (λ (p : Point). 0) ps ≡ 0
 total_none [] = refl
 total_none (p ∷ ps) = omega (arith, total_none ps)
 
 -- the bytes of a count, ids and the places after them
-places_behind : (n : ℕ) (ids : Ids) (ps : List Place) → number_len n + ids_len ids + places_len ps ≡ number_len n + places_len (id_places ids ++ ps)
+places_behind : (n : ℕ) (ids : Ids) (ps : List Place) → number_len n + ids_len ids + places_len ps
+    ≡ number_len n + places_len (id_places ids ++ ps)
 places_behind n ids ps = omega (arith, places_len-append (id_places ids) ps, places_len-id_places ids)
 
 -- the bytes of the count and ids of a shape's row, and of its parts, are those of its places
-pub lead_parts : (s : Simple) → IdsFit s → lead_len (kind_in s) (length (own_points s)) (parts_level s) + (parts_level s).bytes ≡ places_len (outline s)
+pub lead_parts : (s : Simple) → IdsFit s → lead_len (kind_in s) (length (own_points s))
+    (parts_level s) + (parts_level s).bytes ≡ places_len (outline s)
 lead_parts (point None) h = refl
 lead_parts (point (Some p)) h = refl
 lead_parts (line ps) h = places_len-run ps
 lead_parts (polygon rings) h = lead_rings rings
 lead_parts (multi_point ids ps) h =
-    lead_total (parts_level (multi_point ids ps)) (length ps) ids (total (λ (p : Point). 0) ps) (total_parts (multi_point ids ps) h)
+    lead_total (parts_level (multi_point ids ps)) (length ps) ids (total (λ (p : Point). 0) ps)
+    (total_parts (multi_point ids ps) h)
     ∙ ap (λ n. number_len (length ps) + ids_len ids + n) (total_none ps ∙ sym (places_len-points ps))
     ∙ places_behind (length ps) ids (map OfPoint ps)
 lead_parts (multi_line ids lines) h =
-    lead_total (parts_level (multi_line ids lines)) (length lines) ids (parts_bytes (multi_line ids lines)) (total_parts (multi_line ids lines) h)
+    lead_total (parts_level (multi_line ids lines)) (length lines) ids
+    (parts_bytes (multi_line ids lines)) (total_parts (multi_line ids lines) h)
     ∙ ap (λ n. number_len (length lines) + ids_len ids + n) (sym (places_len-each run_of lines))
     ∙ places_behind (length lines) ids (flat_map run_of lines)
 lead_parts (multi_polygon ids areas) h =
-    lead_total (parts_level (multi_polygon ids areas)) (length areas) ids (parts_bytes (multi_polygon ids areas)) (total_parts (multi_polygon ids areas) h)
+    lead_total (parts_level (multi_polygon ids areas)) (length areas) ids
+    (parts_bytes (multi_polygon ids areas)) (total_parts (multi_polygon ids areas) h)
     ∙ ap (λ n. number_len (length areas) + ids_len ids + n) (sym (places_len-each rings_of areas))
     ∙ places_behind (length areas) ids (flat_map rings_of areas)
 
@@ -160,7 +204,12 @@ pub bare_shape : (s : Simple) → IdsFit s → is_bare (length (own_points s)) (
 bare_shape (point None) h = refl
 bare_shape (point (Some p)) h = refl
 bare_shape (line ps) h = and_true (nat_eq (length ps) 0) ∙ bare_parts ps (length ps) refl
-bare_shape (polygon rings) h = bare_parts rings (parts_level (polygon rings)).members (total_parts (polygon rings) h).members
-bare_shape (multi_point ids ps) h = bare_members ids ps (parts_level (multi_point ids ps)).members (total_parts (multi_point ids ps) h).members
-bare_shape (multi_line ids lines) h = bare_members ids lines (parts_level (multi_line ids lines)).members (total_parts (multi_line ids lines) h).members
-bare_shape (multi_polygon ids areas) h = bare_members ids areas (parts_level (multi_polygon ids areas)).members (total_parts (multi_polygon ids areas) h).members
+bare_shape (polygon rings) h = bare_parts rings (parts_level (polygon rings)).members
+    (total_parts (polygon rings) h).members
+bare_shape (multi_point ids ps) h = bare_members ids ps (parts_level (multi_point ids ps)).members
+    (total_parts (multi_point ids ps) h).members
+bare_shape (multi_line ids lines) h = bare_members ids lines
+    (parts_level (multi_line ids lines)).members (total_parts (multi_line ids lines) h).members
+bare_shape (multi_polygon ids areas) h = bare_members ids areas
+    (parts_level (multi_polygon ids areas)).members
+    (total_parts (multi_polygon ids areas) h).members

@@ -1,5 +1,7 @@
 -- Bounds on the totals of rows.
-use Rattle.std.proofs.Common.{◌≡◌, ℕ, suc, ◌+◌, ◌*◌, ◌<◌, ◌≤◌, ◌^◌, true, false, List, [], ◌∷◌, ◌++◌, length, Option, None, Some, inl, inr, refl, ap, arith, length-append}
+use Rattle.std.proofs.Common.{◌≡◌, ℕ, suc, ◌+◌, ◌*◌, ◌<◌, ◌≤◌, ◌^◌, true, false, List, [], ◌∷◌}
+use Rattle.std.proofs.Common.{◌++◌, length, Option, None, Some, inl, inr, refl, ap, arith}
+use Rattle.std.proofs.Common.{length-append}
 use Rattle.std.specs.Prelude.{ℤ, nat_lt, if◌then◌else◌}
 use Rattle.std.proofs.lemmas.Bool.{cases_lt, cases_eq}
 use Rattle.std.proofs.lemmas.Bool.Decides.{nat_tests}
@@ -41,18 +43,27 @@ bounded_none style k = omega arith
 
 -- the bound with one more row before the others, if the row adds at most its cost
 pub bounded_step : (style : Style) (r : Row) (rs : List Row) → IsBounded style rs
-    → load (row_level style r.kind (length r.points) r.id r.precision (level style (suc r.depth) rs) (tail_of (r.points ++ points_ahead rs)) (level style r.depth rs))
-    ≤ load (level style (suc r.depth) rs) + load (level style r.depth rs) + cost_of r.precision (20 * length (r.points ++ points_ahead rs))
+    → load (row_level style r.kind (length r.points) r.id r.precision (level style (suc r.depth) rs)
+    (tail_of (r.points ++ points_ahead rs)) (level style r.depth rs))
+    ≤ load (level style (suc r.depth) rs) + load (level style r.depth rs) + cost_of r.precision
+    (20 * length (r.points ++ points_ahead rs))
     → IsBounded style (r ∷ rs)
 bounded_step style r rs bounded own k =
     let cost : ℕ = cost_of r.precision (20 * length (r.points ++ points_ahead rs)) in
     elim (cases_lt r.depth k) [
-      | inl above ↦ omega (arith, ap load (level_above style k r rs above), costs_above r.depth (suc k) (cost + costs (suc k) rs) (omega arith))
+      | inl above ↦ omega (
+        arith,
+        ap load (level_above style k r rs above),
+        costs_above r.depth (suc k) (cost + costs (suc k) rs) (omega arith),
+      )
       | inr upper ↦ elim (cases_eq r.depth k) [
         | inl same ↦
-            (let below : load (level style (suc r.depth) rs) ≡ load (level style (suc k) rs) = ap (λ d. load (level style (suc d) rs)) same in
-            let others : load (level style r.depth rs) ≡ load (level style k rs) = ap (λ d. load (level style d rs)) same in
-            let here : load (level style r.depth (r ∷ rs)) ≡ load (level style k (r ∷ rs)) = ap (λ d. load (level style d (r ∷ rs))) same in
+            (let below : load (level style (suc r.depth) rs) ≡ load (level style (suc k) rs) =
+            ap (λ d. load (level style (suc d) rs)) same in
+            let others : load (level style r.depth rs) ≡ load (level style k rs) =
+            ap (λ d. load (level style d rs)) same in
+            let here : load (level style r.depth (r ∷ rs)) ≡ load (level style k (r ∷ rs)) =
+            ap (λ d. load (level style d (r ∷ rs))) same in
             let at = ap load (level_at style r.depth r rs refl) in
             omega (
               arith,
@@ -76,20 +87,32 @@ bounded_step style r rs bounded own k =
       ]
     ]
 
-cost_within : (p : Option ℤ) (ps ahead : List Point) → cost_of p (20 * length (ps ++ ahead)) + 20 * length (ahead_of p (ps ++ ahead)) ≤ 100 + 20 * length ps + 20 * length ahead
+cost_within : (p : Option ℤ) (ps ahead : List Point)
+    → cost_of p (20 * length (ps ++ ahead)) + 20 * length (ahead_of p (ps ++ ahead)) ≤ 100 + 20
+    * length ps + 20 * length ahead
 cost_within None ps ahead = omega (arith, length-append ps ahead)
 cost_within (Some p) ps ahead = omega (arith, length-append ps ahead)
 
 -- the costs of rows are bounded by the numbers of rows and points
-pub costs_within : (k : ℕ) (rs : List Row) → costs k rs + 20 * length (points_ahead rs) ≤ 100 * length rs + 20 * length (row_points rs)
+pub costs_within : (k : ℕ) (rs : List Row) → costs k rs + 20 * length (points_ahead rs) ≤ 100
+    * length rs + 20 * length (row_points rs)
 costs_within k [] = omega arith
 costs_within k (r ∷ rs) =
     let cost : ℕ = cost_of r.precision (20 * length (r.points ++ points_ahead rs)) in
-    omega (arith, chosen_cost-le r.depth k (cost + costs k rs), cost_within r.precision r.points (points_ahead rs), costs_within k rs, length-append r.points (row_points rs))
+    omega (
+      arith,
+      chosen_cost-le r.depth k (cost + costs k rs),
+      cost_within r.precision r.points
+          (points_ahead rs),
+      costs_within k rs,
+      length-append r.points (row_points rs),
+    )
 
 -- ---- members
 
-members_row : (style : Style) (r : Row) (p : Option ℤ) (below others : Level) (ps : List Point) → (row_level style r.kind (length r.points) r.id p below (tail_of ps) others).members ≡ others.members + 1
+members_row : (style : Style) (r : Row) (p : Option ℤ) (below others : Level) (ps : List Point)
+    → (row_level style r.kind (length r.points) r.id p below (tail_of ps) others).members
+    ≡ others.members + 1
 members_row style r None below others ps = refl
 members_row style r (Some p) below others ps = refl
 
@@ -105,12 +128,18 @@ members_within style k (r ∷ rs) = elim (cases_lt r.depth k) [
       members_row style r r.precision (level style (suc k) rs) (level style k rs) (r.points ++ points_ahead rs),
       members_within style k rs,
     )
-    | inr other ↦ omega (arith, ap (λ (l : Level). l.members) (level_below style k r rs (omega arith)), members_within style k rs)
+    | inr other ↦ omega (
+      arith,
+      ap (λ (l : Level). l.members)
+          (level_below style k r rs (omega arith)),
+      members_within style k rs,
+    )
   ]
 ]
 
 -- the totals of rows within the caps are small
-pub level_small : (style : Style) (k : ℕ) (rs : List Row) → IsBounded style rs → length rs ≤ 2 ^ 20 → length (row_points rs) ≤ 2 ^ 24 → IsSmall (level style k rs)
+pub level_small : (style : Style) (k : ℕ) (rs : List Row) → IsBounded style rs → length rs ≤ 2 ^ 20
+    → length (row_points rs) ≤ 2 ^ 24 → IsSmall (level style k rs)
 level_small style k rs bounded few few_points = record {
   members = omega (arith, members_within style k rs, few);
   ids = omega (arith, bounded k, costs_within k rs, few, few_points);

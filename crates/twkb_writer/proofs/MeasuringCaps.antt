@@ -1,5 +1,6 @@
 -- The caps of a flat form's rows.
-use Rattle.std.proofs.Common.{ℕ, zero, suc, ◌≤◌, ◌^◌, List, [], ◌∷◌, length, drop, None, ◌∙◌, ap, subst, arith, append-nil, length-append}
+use Rattle.std.proofs.Common.{ℕ, zero, suc, ◌≤◌, ◌^◌, List, [], ◌∷◌, length, drop, None, ◌∙◌, ap}
+use Rattle.std.proofs.Common.{subst, arith, append-nil, length-append}
 use Rattle.twkb_tree.specs.Tree.{Tree}
 use Rattle.twkb_tree.specs.Limits.{largest_limits, IsValid}
 use Rattle.twkb_tree.specs.Rows.{Row, rows, row_points}
@@ -25,7 +26,13 @@ capped (r ∷ rs) v =
     let all : AreValidRows largest_limits (r ∷ rs) = (g ∷ [], (valid, tt), append-nil (rows 0 g) ∙ v.2) in
     record {
       nodes = omega (arith, ap (λ (l : List Row). length l) v.2, length-rows_with None 0 g, valid.nodes_kept);
-      points = omega (arith, ap (λ (l : List Row). length (row_points l)) v.2, ap (λ ps. length ps) (row_points-with None 0 g), valid.points_kept);
+      points = omega (
+        arith,
+        ap (λ (l : List Row). length (row_points l)) v.2,
+        ap (λ ps. length ps)
+            (row_points-with None 0 g),
+        valid.points_kept,
+      );
       depths = valid_depths largest_limits (r ∷ rs) all;
     }
 

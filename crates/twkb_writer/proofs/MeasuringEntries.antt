@@ -1,5 +1,6 @@
 -- The entry of a geometry, from the rows below it.
-use Rattle.std.proofs.Common.{◌≡◌, ℕ, ◌+◌, Bool, true, false, List, [], ◌∷◌, ◌++◌, length, Option, None, Some, refl, sym, ◌∙◌, ap, arith, length-append}
+use Rattle.std.proofs.Common.{◌≡◌, ℕ, ◌+◌, Bool, true, false, List, [], ◌∷◌, ◌++◌, length, Option}
+use Rattle.std.proofs.Common.{None, Some, refl, sym, ◌∙◌, ap, arith, length-append}
 use Rattle.std.specs.Prelude.{ℤ, ◌-ℤ◌, is_some, not, ◌&&◌, if◌then◌else◌}
 use Rattle.twkb_num.specs.Zigzag.{zigzag_of}
 use Rattle.twkb_num.specs.Varint.{varint_of}
@@ -8,7 +9,8 @@ use Rattle.twkb_points.specs.Extent.{Extent, extent}
 use Rattle.twkb_tree.specs.declared.kind.Kind.{Kind}
 use Rattle.twkb_tree.specs.Tree.{Tree, simple, collection, flat, precision_of}
 use Rattle.twkb_tree.specs.Uniform.{uniform}
-use Rattle.twkb_grammar.specs.Written.{canonical_blob, written, sized, box_of, has_any, is_empty, flags_of_tree, metadata_byte, kind_of_tree}
+use Rattle.twkb_grammar.specs.Written.{canonical_blob, written, sized, box_of, has_any, is_empty}
+use Rattle.twkb_grammar.specs.Written.{flags_of_tree, metadata_byte, kind_of_tree}
 use Rattle.twkb_grammar.specs.Written.{is_point as is_point_tree}
 use Rattle.twkb_grammar.specs.Items.{header_byte}
 use Rattle.twkb_grammar.specs.declared.style.Style.{Style}
@@ -16,7 +18,8 @@ use Rattle.twkb_grammar.specs.declared.style.Style.TheVariants.{Full, Plain}
 use Rattle.twkb_writer.specs.declared.levels.Level.{Level}
 use Rattle.twkb_writer.specs.declared.tails.Tail.{Tail}
 use Rattle.twkb_writer.specs.Bytes.{signed, box_bytes}
-use Rattle.twkb_writer.specs.Levels.{lead_len, is_bare, body_len, all_bounds, is_point, box_for, box_len, entry_for, blob_len}
+use Rattle.twkb_writer.specs.Levels.{lead_len, is_bare, body_len, all_bounds, is_point, box_for}
+use Rattle.twkb_writer.specs.Levels.{box_len, entry_for, blob_len}
 use Rattle.twkb_writer.specs.Precisions.{all_are}
 use Rattle.twkb_writer.specs.Sizes.{body_of, own_body, bounds_of, content_of, part_count, ids_of, entry_of}
 use Rattle.twkb_writer.specs.Tails.{number_len, from_origin}
@@ -44,7 +47,8 @@ length-box (Some e) =
     )
 
 -- without points there is no box
-box_if : (a u : Bool) (ps : List Point) → (if a && u then extent ps else None) ≡ (if a && (has_any ps && u) then extent ps else None)
+box_if : (a u : Bool) (ps : List Point) → (if a && u then extent ps else None)
+    ≡ (if a && (has_any ps && u) then extent ps else None)
 box_if true true [] = refl
 box_if true false [] = refl
 box_if false u [] = refl
@@ -63,10 +67,12 @@ plain_length : (a b : ℕ) (rest : List ℕ) → length (a ∷ b ∷ rest) ≡ 2
 plain_length a b rest = omega arith
 
 -- the length of a blob follows from its box and body
-pub blob_length : (style : Style) (g : Tree) → blob_len style (length (content_of style g)) ≡ length (canonical_blob style g)
+pub blob_length : (style : Style) (g : Tree) → blob_len style (length (content_of style g)) ≡ length
+    (canonical_blob style g)
 blob_length Full g =
     ap (λ b. blob_len Full (length (b ++ own_body Full g))) (box_is_written g)
-    ∙ sym (sized_length (header_byte (kind_of_tree g) (precision_of g)) (metadata_byte Full g) (box_of g ++ own_body Full g))
+    ∙ sym (sized_length (header_byte (kind_of_tree g) (precision_of g)) (metadata_byte Full g)
+    (box_of g ++ own_body Full g))
     ∙ sym (ap (λ bs. length bs) (canonical_is Full g))
 blob_length Plain g =
     sym (plain_length (header_byte (kind_of_tree g) (precision_of g)) (metadata_byte Plain g) (own_body Plain g))
@@ -85,24 +91,31 @@ pub record IsMeasured (style : Style) (g : Tree) (k : Kind) (own : ℕ) (below :
   pub bare : is_bare own below ≡ is_empty (flags_of_tree g)
   pub body : lead_len k own below + below.bytes + from_origin t ≡ length (body_of style g)
 
-box_is : (style : Style) (g : Tree) (k : Kind) (own : ℕ) (below : Level) (t : Tail) → IsMeasured style g k own below t → box_for style k (precision_of g) below t ≡ bounds_of style g
+box_is : (style : Style) (g : Tree) (k : Kind) (own : ℕ) (below : Level) (t : Tail)
+    → IsMeasured style g k own below t → box_for style k (precision_of g) below t
+    ≡ bounds_of style g
 box_is Full g k own below t m =
     (λ i. if not (m.point i) && m.uniform_is i then m.extent_is i else None)
     ∙ box_if (not (is_point_tree g)) (uniform g) (flat g)
 box_is Plain g k own below t m = refl
 
-size_is : (b : Option Extent) (e : Bool) (n : ℕ) (bytes : List ℕ) → n ≡ length bytes → box_len b + (if e then 0 else n) ≡ length (box_bytes b ++ (if e then [] else bytes))
+size_is : (b : Option Extent) (e : Bool) (n : ℕ) (bytes : List ℕ) → n ≡ length bytes
+    → box_len b + (if e then 0 else n) ≡ length (box_bytes b ++ (if e then [] else bytes))
 size_is b true n bytes h = omega (arith, length-append (box_bytes b) [], length-box b)
 size_is b false n bytes h = omega (arith, length-append (box_bytes b) bytes, length-box b)
 
-content_is : (style : Style) (g : Tree) (k : Kind) (own : ℕ) (below : Level) (t : Tail) → IsMeasured style g k own below t
+content_is : (style : Style) (g : Tree) (k : Kind) (own : ℕ) (below : Level) (t : Tail)
+    → IsMeasured style g k own below t
     → box_len (box_for style k (precision_of g) below t) + body_len k own below t ≡ length (content_of style g)
 content_is style g k own below t m =
-    (λ i. box_len (box_is style g k own below t m i) + (if m.bare i then 0 else lead_len k own below + below.bytes + from_origin t))
-    ∙ size_is (bounds_of style g) (is_empty (flags_of_tree g)) (lead_len k own below + below.bytes + from_origin t) (body_of style g) m.body
+    (λ i. box_len (box_is style g k own below t m i)
+    + (if m.bare i then 0 else lead_len k own below + below.bytes + from_origin t))
+    ∙ size_is (bounds_of style g) (is_empty (flags_of_tree g))
+    (lead_len k own below + below.bytes + from_origin t) (body_of style g) m.body
 
 -- the entry of such a row is the geometry's
-pub entry_is : (style : Style) (g : Tree) (k : Kind) (own : ℕ) (below : Level) (t : Tail) → IsMeasured style g k own below t
+pub entry_is : (style : Style) (g : Tree) (k : Kind) (own : ℕ) (below : Level) (t : Tail)
+    → IsMeasured style g k own below t
     → entry_for style k (precision_of g) own below t ≡ entry_of style g
 entry_is style g k own below t m = λ i. record {
   size = content_is style g k own below t m i;

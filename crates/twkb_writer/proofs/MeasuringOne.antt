@@ -1,5 +1,6 @@
 -- The sizes of a flat form of one node, measured without a pass.
-use Rattle.std.proofs.Common.{◌≡◌, ℕ, ◌+◌, ◌<◌, ◌≤◌, ◌^◌, List, [], ◌∷◌, ◌++◌, length, drop, Option, None, Some, refl, sym, ◌∙◌, ap, subst, arith, append-nil}
+use Rattle.std.proofs.Common.{◌≡◌, ℕ, ◌+◌, ◌<◌, ◌≤◌, ◌^◌, List, [], ◌∷◌, ◌++◌, length, drop, Option}
+use Rattle.std.proofs.Common.{None, Some, refl, sym, ◌∙◌, ap, subst, arith, append-nil}
 use Rattle.std.specs.Prelude.{ℤ, slice_get}
 use Rattle.std.proofs.lemmas.List.{drop_all}
 use Rattle.twkb_points.specs.Point.{Point}
@@ -36,7 +37,8 @@ root_of (collection p ids gs) r rs e none =
     let some = ap (λ (q : Row). q.precision) same in cc
 
 -- the first node has a precision
-pub root_whole : (rs : List Row) (node : Node) → AreValidRowsOfOne largest_limits rs → IsNode rs 0 node → node.row.precision ≡ None → ⊥
+pub root_whole : (rs : List Row) (node : Node) → AreValidRowsOfOne largest_limits rs
+    → IsNode rs 0 node → node.row.precision ≡ None → ⊥
 root_whole [] node valid is none = let e = is.here in cc e
 root_whole (r ∷ rs) node valid is none = root_of valid.0 (row_with node.row is.own) is.rest (valid.2 ∙ is.here) none
 
@@ -48,25 +50,32 @@ none_behind rs node is one = rest_is rs 0 node is ∙ drop_all 1 rs (omega (arit
 
 -- the points up to the end are the node's own
 pub all_points : (rs : List Row) (node : Node) (is : IsNode rs 0 node) (points before : Tail) → before ≡ tail_of []
-    → ((ahead : List Point) → before ≡ tail_of ahead → points ≡ tail_of (points_at (drop 0 rs) ++ ahead)) → points ≡ tail_of is.own
-all_points rs node is points before none found = found [] none ∙ ap tail_of (append-nil (points_at (drop 0 rs)) ∙ own_at rs 0 node is)
+    → ((ahead : List Point) → before ≡ tail_of ahead
+    → points ≡ tail_of (points_at (drop 0 rs) ++ ahead)) → points ≡ tail_of is.own
+all_points rs node is points before none found = found [] none
+    ∙ ap tail_of (append-nil (points_at (drop 0 rs)) ∙ own_at rs 0 node is)
 
 -- the only point is the one that was read
-only_point : (rs : List Row) (node : Node) (is : IsNode rs 0 node) (p : Point) → node.points ≡ 1 → slice_get (row_points rs) node.first.0 ≡ Some p → is.own ≡ p ∷ []
+only_point : (rs : List Row) (node : Node) (is : IsNode rs 0 node) (p : Point) → node.points ≡ 1
+    → slice_get (row_points rs) node.first.0 ≡ Some p → is.own ≡ p ∷ []
 only_point rs node is p one read =
     let here : node.first.0 ≡ node.first.0 + 0 = omega arith in
     let all : length is.own ≤ 1 = omega (arith, is.count, one) in
     sym (own_at rs 0 node is)
-    ∙ read_back rs 0 node is 0 p (omega (arith, one)) (subst (λ (n : ℕ). slice_get (row_points rs) n ≡ Some p) here read)
+    ∙ read_back rs 0 node is 0 p (omega (arith, one))
+    (subst (λ (n : ℕ). slice_get (row_points rs) n ≡ Some p) here read)
     ∙ ap (λ (ps : List Point). p ∷ drop 1 ps) (own_at rs 0 node is)
     ∙ ap (λ (ps : List Point). p ∷ ps) (drop_all 1 is.own all)
 
 -- the reads of the node and its only point
 pub reads_point : (old next new : Work) (points all : ℕ) → old.node_reads < 2 ^ 64 → old.point_reads < 2 ^ 64
-    → next ≡ record old { node_reads = saturated (old.node_reads + 1) } → new ≡ record next { point_reads = saturated (next.point_reads + 1) }
+    → next ≡ record old { node_reads = saturated (old.node_reads + 1) }
+    → new ≡ record next { point_reads = saturated (next.point_reads + 1) }
     → points ≡ 1 → all ≡ points + 0 → ReadsExactly old 1 all new
 reads_point old next new points all few_nodes few_points node_read point_read one total =
-    let both : ReadsExactly old 1 1 new = exactly_point old next new 1 0 (exactly_node old old next 0 0 (exactly_none old few_nodes few_points) node_read) point_read in
+    let both : ReadsExactly old 1 1 new = exactly_point old next new 1 0
+    (exactly_node old old next 0 0 (exactly_none old few_nodes few_points) node_read)
+    point_read in
     let same : 1 ≡ all = omega (arith, one, total) in
     subst (λ (n : ℕ). ReadsExactly old 1 n new) same both
 
@@ -74,9 +83,11 @@ reads_point old next new points all few_nodes few_points node_read point_read on
 
 -- the entry that a pass finds
 measured_one : (style : Style) (rs : List Row) (node : Node) (is : IsNode rs 0 node) → length rs ≡ 1
-    → measured style rs ≡ option_list (row_entry style node.row.kind node.points node.row.precision blank (tail_of is.own))
+    → measured style rs ≡ option_list (row_entry style node.row.kind node.points node.row.precision
+    blank (tail_of is.own))
 measured_one style rs node is one =
-    let entry_with = λ (n : ℕ) (ps : List Point). option_list (row_entry style node.row.kind n node.row.precision blank (tail_of ps)) in
+    let entry_with = λ (n : ℕ) (ps : List Point).
+    option_list (row_entry style node.row.kind n node.row.precision blank (tail_of ps)) in
     ap (measured style) is.here
     ∙ ap (λ (more : List Row). measured style (row_with node.row is.own ∷ more)) (none_behind rs node is one)
     ∙ append-nil (entry_with (length is.own) (is.own ++ []))
@@ -84,8 +95,10 @@ measured_one style rs node is one =
     ∙ ap (λ (ps : List Point). entry_with node.points ps) (append-nil is.own)
 
 -- the entry of the only node is all sizes
-pub sizes_of_one : (style : Style) (rs : List Row) (node : Node) (p : ℤ) (below : Level) (points : Tail) (e : Entry) → AreValidRowsOfOne largest_limits rs → length rs ≡ 1
-    → (is : IsNode rs 0 node) → node.row.precision ≡ Some p → below ≡ blank → points ≡ tail_of is.own → e ≡ entry_for style node.row.kind p node.points below points
+pub sizes_of_one : (style : Style) (rs : List Row) (node : Node) (p : ℤ) (below : Level)
+    (points : Tail) (e : Entry) → AreValidRowsOfOne largest_limits rs → length rs ≡ 1
+    → (is : IsNode rs 0 node) → node.row.precision ≡ Some p → below ≡ blank
+    → points ≡ tail_of is.own → e ≡ entry_for style node.row.kind p node.points below points
     → AreSizes style rs (e ∷ [])
 sizes_of_one style rs node p below points e valid one is whole no_rows points_are entry_is =
     let entry : e ≡ entry_for style node.row.kind p node.points blank (tail_of is.own) =
@@ -94,16 +107,20 @@ sizes_of_one style rs node p below points e valid one is whole no_rows points_ar
     ∙ ap (λ (t : Tail). entry_for style node.row.kind p node.points blank t) points_are in
     sizes_are style rs (e ∷ []) valid
     (ap (λ (x : Entry). x ∷ []) entry
-    ∙ ap (λ (q : Option ℤ). option_list (row_entry style node.row.kind node.points q blank (tail_of is.own))) (sym whole)
+    ∙ ap (λ (q : Option ℤ). option_list (row_entry style node.row.kind node.points q blank
+    (tail_of is.own))) (sym whole)
     ∙ sym (measured_one style rs node is one))
 
 -- the entry of a point is all sizes if it is the only node
-pub sizes_of_point : (style : Style) (rs : List Row) (node : Node) (p : ℤ) (q : Point) (e : Entry) → AreValidRowsOfOne largest_limits rs → length rs ≡ 1 → IsNode rs 0 node
-    → node.row.precision ≡ Some p → (node.row.kind ≡ kind.Point) × (node.points ≡ 1) → slice_get (row_points rs) node.first.0 ≡ Some q
+pub sizes_of_point : (style : Style) (rs : List Row) (node : Node) (p : ℤ) (q : Point) (e : Entry)
+    → AreValidRowsOfOne largest_limits rs → length rs ≡ 1 → IsNode rs 0 node
+    → node.row.precision ≡ Some p → (node.row.kind ≡ kind.Point) × (node.points ≡ 1)
+    → slice_get (row_points rs) node.first.0 ≡ Some q
     → e ≡ entry_for style kind.Point p 1 blank (tail_of (q ∷ [])) → AreSizes style rs (e ∷ [])
 sizes_of_point style rs node p q e valid one is whole is_point read entry_is =
     sizes_of_one style rs node p blank (tail_of is.own) e valid one is whole refl refl
     (entry_is
     ∙ ap (λ k. entry_for style k p 1 blank (tail_of (q ∷ []))) (sym is_point.0)
     ∙ ap (λ (n : ℕ). entry_for style node.row.kind p n blank (tail_of (q ∷ []))) (sym is_point.1)
-    ∙ ap (λ (ps : List Point). entry_for style node.row.kind p node.points blank (tail_of ps)) (sym (only_point rs node is q is_point.1 read)))
+    ∙ ap (λ (ps : List Point). entry_for style node.row.kind p node.points blank (tail_of ps))
+    (sym (only_point rs node is q is_point.1 read)))

@@ -1,11 +1,14 @@
 -- The totals of the parts of a simple geometry, which are rows without a precision.
-use Rattle.std.proofs.Common.{◌≡◌, ℕ, suc, ◌<◌, List, [], ◌∷◌, ◌++◌, length, Option, None, refl, sym, ◌∙◌, ap, subst, arith, append_assoc}
+use Rattle.std.proofs.Common.{◌≡◌, ℕ, suc, ◌<◌, List, [], ◌∷◌, ◌++◌, length, Option, None, refl}
+use Rattle.std.proofs.Common.{sym, ◌∙◌, ap, subst, arith, append_assoc}
 use Rattle.std.specs.Prelude.{ℤ, flat_map}
 use Rattle.twkb_points.specs.Point.{Point}
 use Rattle.twkb_tree.specs.declared.kind.Kind.{Kind}
 use Rattle.twkb_tree.specs.declared.kind.Kind.TheVariants as kind
-use Rattle.twkb_tree.specs.Tree.{Ids, Simple, point, line, polygon, multi_point, multi_line, multi_polygon, flatten, points_in}
-use Rattle.twkb_tree.specs.Rows.{Row, rows_of_each, rows_below, ring_rows, polygon_rows, plain_row, first_id, other_ids, own_points}
+use Rattle.twkb_tree.specs.Tree.{Ids, Simple, point, line, polygon, multi_point, multi_line}
+use Rattle.twkb_tree.specs.Tree.{multi_polygon, flatten, points_in}
+use Rattle.twkb_tree.specs.Rows.{Row, rows_of_each, rows_below, ring_rows, polygon_rows, plain_row}
+use Rattle.twkb_tree.specs.Rows.{first_id, other_ids, own_points}
 use Rattle.twkb_tree.specs.RowLists.{IsAbove}
 use Rattle.twkb_grammar.specs.declared.style.Style.{Style}
 use Rattle.twkb_writer.specs.declared.levels.Level.{Level}
@@ -26,22 +29,30 @@ above_less d (r ∷ rs) h = omega arith
 
 -- what is true of the rows of one part at depth d: their totals are given by w, they have the
 -- points g, and none of them is a geometry
-pub record IsPart {A : Type 0} (style : Style) (d : ℕ) (f : Option ℤ → A → List Row) (w : Option ℤ → A → Level → Level) (g : A → List Point) : Type 0 where
+pub record IsPart {A : Type 0} (style : Style) (d : ℕ) (f : Option ℤ → A → List Row)
+    (w : Option ℤ → A → Level → Level) (g : A → List Point) : Type 0 where
   pub begins : (id : Option ℤ) (x : A) (more : List Row) → IsAbove (suc d) (f id x ++ more)
-  pub counts : (id : Option ℤ) (x : A) (more : List Row) → IsAbove (suc d) more → level style d (f id x ++ more) ≡ w id x (level style d more)
+  pub counts : (id : Option ℤ) (x : A) (more : List Row) → IsAbove (suc d) more
+      → level style d (f id x ++ more) ≡ w id x (level style d more)
   pub ahead : (id : Option ℤ) (x : A) (more : List Row) → points_ahead (f id x ++ more) ≡ g x ++ points_ahead more
   pub no_entry : (id : Option ℤ) (x : A) (more : List Row) → measured style (f id x ++ more) ≡ measured style more
 
 -- the first row of parts is no deeper than d
-above_each : {A : Type 0} (style : Style) (d : ℕ) (f : Option ℤ → A → List Row) (w : Option ℤ → A → Level → Level) (g : A → List Point) → IsPart style d f w g
-    → (ids : Ids) (xs : List A) (rest : List Row) → IsAbove (suc d) rest → IsAbove (suc d) (rows_of_each f ids xs ++ rest)
+above_each : {A : Type 0} (style : Style) (d : ℕ) (f : Option ℤ → A → List Row)
+    (w : Option ℤ → A → Level → Level) (g : A → List Point) → IsPart style d f w g
+    → (ids : Ids) (xs : List A) (rest : List Row) → IsAbove (suc d) rest
+    → IsAbove (suc d) (rows_of_each f ids xs ++ rest)
 above_each style d f w g part ids [] rest h = h
 above_each style d f w g part ids (x ∷ xs) rest h =
-    subst (IsAbove (suc d)) (sym (append_assoc (f (first_id ids) x) (rows_of_each f (other_ids ids) xs) rest)) (part.begins (first_id ids) x (rows_of_each f (other_ids ids) xs ++ rest))
+    subst (IsAbove (suc d))
+    (sym (append_assoc (f (first_id ids) x) (rows_of_each f (other_ids ids) xs) rest))
+    (part.begins (first_id ids) x (rows_of_each f (other_ids ids) xs ++ rest))
 
 -- the totals of parts
-pub level_each : {A : Type 0} (style : Style) (d : ℕ) (f : Option ℤ → A → List Row) (w : Option ℤ → A → Level → Level) (g : A → List Point) → IsPart style d f w g
-    → (ids : Ids) (xs : List A) (rest : List Row) → IsAbove (suc d) rest → level style d (rows_of_each f ids xs ++ rest) ≡ with_each w ids xs (level style d rest)
+pub level_each : {A : Type 0} (style : Style) (d : ℕ) (f : Option ℤ → A → List Row)
+    (w : Option ℤ → A → Level → Level) (g : A → List Point) → IsPart style d f w g
+    → (ids : Ids) (xs : List A) (rest : List Row) → IsAbove (suc d) rest
+    → level style d (rows_of_each f ids xs ++ rest) ≡ with_each w ids xs (level style d rest)
 level_each style d f w g part ids [] rest h = refl
 level_each style d f w g part ids (x ∷ xs) rest h =
     let others = rows_of_each f (other_ids ids) xs ++ rest in
@@ -50,8 +61,10 @@ level_each style d f w g part ids (x ∷ xs) rest h =
     ∙ ap (w (first_id ids) x) (level_each style d f w g part (other_ids ids) xs rest h)
 
 -- the points of parts
-pub ahead_each : {A : Type 0} (style : Style) (d : ℕ) (f : Option ℤ → A → List Row) (w : Option ℤ → A → Level → Level) (g : A → List Point) → IsPart style d f w g
-    → (ids : Ids) (xs : List A) (rest : List Row) → points_ahead (rows_of_each f ids xs ++ rest) ≡ flat_map g xs ++ points_ahead rest
+pub ahead_each : {A : Type 0} (style : Style) (d : ℕ) (f : Option ℤ → A → List Row)
+    (w : Option ℤ → A → Level → Level) (g : A → List Point) → IsPart style d f w g
+    → (ids : Ids) (xs : List A) (rest : List Row) → points_ahead (rows_of_each f ids xs ++ rest)
+    ≡ flat_map g xs ++ points_ahead rest
 ahead_each style d f w g part ids [] rest = refl
 ahead_each style d f w g part ids (x ∷ xs) rest =
     let others = rows_of_each f (other_ids ids) xs ++ rest in
@@ -61,7 +74,8 @@ ahead_each style d f w g part ids (x ∷ xs) rest =
     ∙ sym (append_assoc (g x) (flat_map g xs) (points_ahead rest))
 
 -- none of the parts is a geometry
-pub no_entry_each : {A : Type 0} (style : Style) (d : ℕ) (f : Option ℤ → A → List Row) (w : Option ℤ → A → Level → Level) (g : A → List Point) → IsPart style d f w g
+pub no_entry_each : {A : Type 0} (style : Style) (d : ℕ) (f : Option ℤ → A → List Row)
+    (w : Option ℤ → A → Level → Level) (g : A → List Point) → IsPart style d f w g
     → (ids : Ids) (xs : List A) (rest : List Row) → measured style (rows_of_each f ids xs ++ rest) ≡ measured style rest
 no_entry_each style d f w g part ids [] rest = refl
 no_entry_each style d f w g part ids (x ∷ xs) rest =
@@ -76,14 +90,16 @@ no_entry_each style d f w g part ids (x ∷ xs) rest =
 abbrev pub with_row_of : {A : Type 0} → Kind → (A → List Point) → Option ℤ → A → Level → Level
 with_row_of k g id x l = with_part k (length (g x)) id blank l
 
-counts_one : (style : Style) (d : ℕ) (k : Kind) (id : Option ℤ) (ps : List Point) (more : List Row) → IsAbove (suc d) more
+counts_one : (style : Style) (d : ℕ) (k : Kind) (id : Option ℤ) (ps : List Point) (more : List Row)
+    → IsAbove (suc d) more
     → level style d (plain_row d k id ps ∷ more) ≡ with_part k (length ps) id blank (level style d more)
 counts_one style d k id ps more h =
     level_at style d (plain_row d k id ps) more refl
     ∙ ap (λ (l : Level). with_part k (length ps) id l (level style d more)) (level_none style (suc d) more h)
 
 -- one such row is a part
-pub one_part : {A : Type 0} (style : Style) (d : ℕ) (k : Kind) (g : A → List Point) → IsPart style d (λ id x. plain_row d k id (g x) ∷ []) (with_row_of k g) g
+pub one_part : {A : Type 0} (style : Style) (d : ℕ) (k : Kind) (g : A → List Point)
+    → IsPart style d (λ id x. plain_row d k id (g x) ∷ []) (with_row_of k g) g
 one_part style d k g = record {
   begins = λ id x more. (let le : d < suc d = omega arith in le);
   counts = λ id x more h. counts_one style d k id (g x) more h;
@@ -102,12 +118,16 @@ abbrev pub with_polygon : Option ℤ → List (List Point) → Level → Level
 with_polygon id rings l = with_part kind.Polygon 0 id (rings_level rings) l
 
 -- the totals of rings before rows that are above them
-pub level_rings : (style : Style) (d : ℕ) (rings : List (List Point)) (rest : List Row) → IsAbove d rest → level style d (ring_rows d rings ++ rest) ≡ rings_level rings
+pub level_rings : (style : Style) (d : ℕ) (rings : List (List Point)) (rest : List Row)
+    → IsAbove d rest → level style d (ring_rows d rings ++ rest) ≡ rings_level rings
 level_rings style d rings rest h =
-    level_each style d (λ none ring. plain_row d kind.Ring none ring ∷ []) (with_row_of kind.Ring (λ ps. ps)) (λ ps. ps) (one_part style d kind.Ring (λ ps. ps)) None rings rest (above_less d rest h)
+    level_each style d (λ none ring. plain_row d kind.Ring none ring ∷ [])
+    (with_row_of kind.Ring (λ ps. ps)) (λ ps. ps) (one_part style d kind.Ring (λ ps. ps)) None
+    rings rest (above_less d rest h)
     ∙ ap (with_each (with_row_of kind.Ring (λ ps. ps)) None rings) (level_none style d rest h)
 
-counts_polygon : (style : Style) (d : ℕ) (id : Option ℤ) (rings : List (List Point)) (more : List Row) → IsAbove (suc d) more
+counts_polygon : (style : Style) (d : ℕ) (id : Option ℤ) (rings : List (List Point))
+    (more : List Row) → IsAbove (suc d) more
     → level style d (polygon_rows d id rings ++ more) ≡ with_polygon id rings (level style d more)
 counts_polygon style d id rings more h =
     level_at style d (plain_row d kind.Polygon id []) (ring_rows (suc d) rings ++ more) refl
@@ -119,8 +139,12 @@ pub polygon_part : (style : Style) (d : ℕ) → IsPart style d (polygon_rows d)
 polygon_part style d = record {
   begins = λ id rings more. (let le : d < suc d = omega arith in le);
   counts = λ id rings more h. counts_polygon style d id rings more h;
-  ahead = λ id rings more. ahead_each style (suc d) (λ none ring. plain_row (suc d) kind.Ring none ring ∷ []) (with_row_of kind.Ring (λ ps. ps)) (λ ps. ps) (one_part style (suc d) kind.Ring (λ ps. ps)) None rings more;
-  no_entry = λ id rings more. no_entry_each style (suc d) (λ none ring. plain_row (suc d) kind.Ring none ring ∷ []) (with_row_of kind.Ring (λ ps. ps)) (λ ps. ps) (one_part style (suc d) kind.Ring (λ ps. ps)) None rings more;
+  ahead = λ id rings more. ahead_each style (suc d)
+      (λ none ring. plain_row (suc d) kind.Ring none ring ∷ []) (with_row_of kind.Ring (λ ps. ps))
+      (λ ps. ps) (one_part style (suc d) kind.Ring (λ ps. ps)) None rings more;
+  no_entry = λ id rings more. no_entry_each style (suc d)
+      (λ none ring. plain_row (suc d) kind.Ring none ring ∷ []) (with_row_of kind.Ring (λ ps. ps))
+      (λ ps. ps) (one_part style (suc d) kind.Ring (λ ps. ps)) None rings more;
 }
 
 -- ---- the parts of a simple shape
@@ -135,15 +159,20 @@ parts_level (multi_line ids lines) = with_each (with_row_of kind.Linestring (λ 
 parts_level (multi_polygon ids areas) = with_each with_polygon ids areas blank
 
 -- the rows of the parts have these totals
-pub level_parts : (style : Style) (d : ℕ) (s : Simple) (rest : List Row) → IsAbove d rest → level style d (rows_below d s ++ rest) ≡ parts_level s
+pub level_parts : (style : Style) (d : ℕ) (s : Simple) (rest : List Row) → IsAbove d rest
+    → level style d (rows_below d s ++ rest) ≡ parts_level s
 level_parts style d (point o) rest h = level_none style d rest h
 level_parts style d (line ps) rest h = level_none style d rest h
 level_parts style d (polygon rings) rest h = level_rings style d rings rest h
 level_parts style d (multi_point ids ps) rest h =
-    level_each style d (λ id p. plain_row d kind.Point id (p ∷ []) ∷ []) (with_row_of kind.Point (λ p. p ∷ [])) (λ p. p ∷ []) (one_part style d kind.Point (λ p. p ∷ [])) ids ps rest (above_less d rest h)
+    level_each style d (λ id p. plain_row d kind.Point id (p ∷ []) ∷ [])
+    (with_row_of kind.Point (λ p. p ∷ [])) (λ p. p ∷ [])
+    (one_part style d kind.Point (λ p. p ∷ [])) ids ps rest (above_less d rest h)
     ∙ ap (with_each (with_row_of kind.Point (λ p. p ∷ [])) ids ps) (level_none style d rest h)
 level_parts style d (multi_line ids lines) rest h =
-    level_each style d (λ id ps. plain_row d kind.Linestring id ps ∷ []) (with_row_of kind.Linestring (λ ps. ps)) (λ ps. ps) (one_part style d kind.Linestring (λ ps. ps)) ids lines rest (above_less d rest h)
+    level_each style d (λ id ps. plain_row d kind.Linestring id ps ∷ [])
+    (with_row_of kind.Linestring (λ ps. ps)) (λ ps. ps)
+    (one_part style d kind.Linestring (λ ps. ps)) ids lines rest (above_less d rest h)
     ∙ ap (with_each (with_row_of kind.Linestring (λ ps. ps)) ids lines) (level_none style d rest h)
 level_parts style d (multi_polygon ids areas) rest h =
     level_each style d (polygon_rows d) with_polygon flatten (polygon_part style d) ids areas rest (above_less d rest h)
@@ -154,26 +183,42 @@ flat_map_ones [] = refl
 flat_map_ones (p ∷ ps) = ap (λ qs. p ∷ qs) (flat_map_ones ps)
 
 -- the points of the row and of its parts are those of the shape
-pub ahead_parts : (style : Style) (d : ℕ) (s : Simple) (rest : List Row) → own_points s ++ points_ahead (rows_below d s ++ rest) ≡ points_in s ++ points_ahead rest
+pub ahead_parts : (style : Style) (d : ℕ) (s : Simple) (rest : List Row)
+    → own_points s ++ points_ahead (rows_below d s ++ rest) ≡ points_in s ++ points_ahead rest
 ahead_parts style d (point o) rest = refl
 ahead_parts style d (line ps) rest = refl
 ahead_parts style d (polygon rings) rest =
-    ahead_each style d (λ none ring. plain_row d kind.Ring none ring ∷ []) (with_row_of kind.Ring (λ ps. ps)) (λ ps. ps) (one_part style d kind.Ring (λ ps. ps)) None rings rest
+    ahead_each style d (λ none ring. plain_row d kind.Ring none ring ∷ [])
+    (with_row_of kind.Ring (λ ps. ps)) (λ ps. ps) (one_part style d kind.Ring (λ ps. ps))
+    None rings rest
 ahead_parts style d (multi_point ids ps) rest =
-    ahead_each style d (λ id p. plain_row d kind.Point id (p ∷ []) ∷ []) (with_row_of kind.Point (λ p. p ∷ [])) (λ p. p ∷ []) (one_part style d kind.Point (λ p. p ∷ [])) ids ps rest
+    ahead_each style d (λ id p. plain_row d kind.Point id (p ∷ []) ∷ [])
+    (with_row_of kind.Point (λ p. p ∷ [])) (λ p. p ∷ [])
+    (one_part style d kind.Point (λ p. p ∷ [])) ids ps rest
     ∙ ap (λ qs. qs ++ points_ahead rest) (flat_map_ones ps)
 ahead_parts style d (multi_line ids lines) rest =
-    ahead_each style d (λ id ps. plain_row d kind.Linestring id ps ∷ []) (with_row_of kind.Linestring (λ ps. ps)) (λ ps. ps) (one_part style d kind.Linestring (λ ps. ps)) ids lines rest
-ahead_parts style d (multi_polygon ids areas) rest = ahead_each style d (polygon_rows d) with_polygon flatten (polygon_part style d) ids areas rest
+    ahead_each style d (λ id ps. plain_row d kind.Linestring id ps ∷ [])
+    (with_row_of kind.Linestring (λ ps. ps)) (λ ps. ps)
+    (one_part style d kind.Linestring (λ ps. ps)) ids lines rest
+ahead_parts style d (multi_polygon ids areas) rest = ahead_each style d (polygon_rows d)
+    with_polygon flatten (polygon_part style d) ids areas rest
 
 -- none of the rows of the parts is a geometry
-pub no_entry_parts : (style : Style) (d : ℕ) (s : Simple) (rest : List Row) → measured style (rows_below d s ++ rest) ≡ measured style rest
+pub no_entry_parts : (style : Style) (d : ℕ) (s : Simple) (rest : List Row)
+    → measured style (rows_below d s ++ rest) ≡ measured style rest
 no_entry_parts style d (point o) rest = refl
 no_entry_parts style d (line ps) rest = refl
 no_entry_parts style d (polygon rings) rest =
-    no_entry_each style d (λ none ring. plain_row d kind.Ring none ring ∷ []) (with_row_of kind.Ring (λ ps. ps)) (λ ps. ps) (one_part style d kind.Ring (λ ps. ps)) None rings rest
+    no_entry_each style d (λ none ring. plain_row d kind.Ring none ring ∷ [])
+    (with_row_of kind.Ring (λ ps. ps)) (λ ps. ps) (one_part style d kind.Ring (λ ps. ps))
+    None rings rest
 no_entry_parts style d (multi_point ids ps) rest =
-    no_entry_each style d (λ id p. plain_row d kind.Point id (p ∷ []) ∷ []) (with_row_of kind.Point (λ p. p ∷ [])) (λ p. p ∷ []) (one_part style d kind.Point (λ p. p ∷ [])) ids ps rest
+    no_entry_each style d (λ id p. plain_row d kind.Point id (p ∷ []) ∷ [])
+    (with_row_of kind.Point (λ p. p ∷ [])) (λ p. p ∷ [])
+    (one_part style d kind.Point (λ p. p ∷ [])) ids ps rest
 no_entry_parts style d (multi_line ids lines) rest =
-    no_entry_each style d (λ id ps. plain_row d kind.Linestring id ps ∷ []) (with_row_of kind.Linestring (λ ps. ps)) (λ ps. ps) (one_part style d kind.Linestring (λ ps. ps)) ids lines rest
-no_entry_parts style d (multi_polygon ids areas) rest = no_entry_each style d (polygon_rows d) with_polygon flatten (polygon_part style d) ids areas rest
+    no_entry_each style d (λ id ps. plain_row d kind.Linestring id ps ∷ [])
+    (with_row_of kind.Linestring (λ ps. ps)) (λ ps. ps)
+    (one_part style d kind.Linestring (λ ps. ps)) ids lines rest
+no_entry_parts style d (multi_polygon ids areas) rest = no_entry_each style d (polygon_rows d)
+    with_polygon flatten (polygon_part style d) ids areas rest

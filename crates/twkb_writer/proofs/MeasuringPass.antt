@@ -1,5 +1,6 @@
 -- The pass over a flat form's nodes, from the last to the first.
-use Rattle.std.proofs.Common.{◌≡◌, ℕ, ◌+◌, ◌*◌, ◌-◌, ◌<◌, ◌≤◌, ◌^◌, List, [], ◌∷◌, ◌++◌, length, drop, get_or, Option, sym, ◌∙◌, ap, subst, arith}
+use Rattle.std.proofs.Common.{◌≡◌, ℕ, ◌+◌, ◌*◌, ◌-◌, ◌<◌, ◌≤◌, ◌^◌, List, [], ◌∷◌, ◌++◌, length}
+use Rattle.std.proofs.Common.{drop, get_or, Option, sym, ◌∙◌, ap, subst, arith}
 use Rattle.std.specs.Prelude.{reverse}
 use Rattle.std.proofs.lemmas.List.{drop_all, reverse-reverse}
 use Rattle.twkb_points.specs.Point.{Point}
@@ -24,64 +25,88 @@ use Rattle.twkb_writer.proofs.MeasuringTrees.{measured_rows}
 use Rattle.twkb_writer.proofs.RowStep.{rest_is, points_step}
 
 -- at the start of the pass there is no row after the place
-pub pass_start : (style : Style) (rs : List Row) (n : ℕ) (levels : List Level) (t : Tail) (es : List Entry) → length rs ≤ n → length levels ≡ 36 → ((k : ℕ) → k < 36 → get_or levels k blank ≡ blank)
+pub pass_start : (style : Style) (rs : List Row) (n : ℕ) (levels : List Level) (t : Tail)
+    (es : List Entry) → length rs ≤ n → length levels ≡ 36
+    → ((k : ℕ) → k < 36 → get_or levels k blank ≡ blank)
     → t ≡ tail_of [] → es ≡ [] → Pass style (drop n rs) levels t es
 pass_start style rs n levels t es all whole blanks no_tail no_entries =
     subst (λ l. Pass style (drop n rs) levels t l) (sym no_entries)
     (subst (λ u. Pass style (drop n rs) levels u []) (sym no_tail)
-    (subst (λ (l : List Row). Pass style l levels (tail_of []) []) (sym (drop_all n rs all)) (pass_none style levels whole blanks)))
+    (subst (λ (l : List Row). Pass style l levels (tail_of []) []) (sym (drop_all n rs all))
+    (pass_none style levels whole blanks)))
 
 -- the totals kept for a depth are small
-pub pass_small : (style : Style) (rs : List Row) (levels : List Level) (t : Tail) (es : List Entry) → IsCapped rs → Pass style rs levels t es → (k : ℕ) → k < 36 → IsSmall (get_or levels k blank)
-pass_small style rs levels t es caps pass k small = subst IsSmall (sym (pass.stands k small)) (level_small style k rs pass.bounded caps.nodes caps.points)
+pub pass_small : (style : Style) (rs : List Row) (levels : List Level) (t : Tail) (es : List Entry)
+    → IsCapped rs → Pass style rs levels t es → (k : ℕ) → k < 36 → IsSmall (get_or levels k blank)
+pass_small style rs levels t es caps pass k small = subst IsSmall (sym (pass.stands k small))
+    (level_small style k rs pass.bounded caps.nodes caps.points)
 
 -- the points up to the next geometry are few
-pub tail_short : (style : Style) (rs : List Row) (levels : List Level) (t : Tail) (es : List Entry) → IsCapped rs → Pass style rs levels t es → t.bytes ≤ 2 ^ 29
+pub tail_short : (style : Style) (rs : List Row) (levels : List Level) (t : Tail) (es : List Entry)
+    → IsCapped rs → Pass style rs levels t es → t.bytes ≤ 2 ^ 29
 tail_short style rs levels t es caps pass = omega (arith, pass.tail_small, costs_within 0 rs, caps.nodes, caps.points)
 
 -- the pass after one more node, before the rows already seen
-pub pass_back : (style : Style) (rows : List Row) (i : ℕ) (node : Node) (levels new : List Level) (tail points : Tail) (e : Option Entry) (es : List Entry)
+pub pass_back : (style : Style) (rows : List Row) (i : ℕ) (node : Node) (levels new : List Level)
+    (tail points : Tail) (e : Option Entry) (es : List Entry)
     → IsCapped rows → (is : IsNode rows i node) → Pass style (drop (i + 1) rows) levels tail es
-    → ((ahead : List Point) → tail ≡ tail_of ahead → points ≡ tail_of (points_at (drop i rows) ++ ahead)) → points.bytes ≤ tail.bytes + 20 * node.points
+    → ((ahead : List Point) → tail ≡ tail_of ahead
+    → points ≡ tail_of (points_at (drop i rows) ++ ahead))
+    → points.bytes ≤ tail.bytes + 20 * node.points
     → TakenRow style node points levels new e
     → Pass style (drop i rows) new (tail_after node.row.precision points) (es ++ option_list e)
 pass_back style rows i node levels new tail points e es caps is pass found short taken =
     let r : Row = row_with node.row is.own in
     let rest : is.rest ≡ drop (i + 1) rows = rest_is rows i node is in
-    let behind : Pass style is.rest levels tail es = subst (λ (l : List Row). Pass style l levels tail es) (sym rest) pass in
+    let behind : Pass style is.rest levels tail es =
+    subst (λ (l : List Row). Pass style l levels tail es) (sym rest) pass in
     let child : IsAbove (node.row.depth + 2) is.rest =
-    subst (IsAbove (node.row.depth + 2)) (sym rest) (above_drop rows (i + 1) (node.row.depth + 2) (λ some. let c = is.child some in omega (arith, c))) in
-    let here : Pass style (r ∷ is.rest) (set_row levels node.row.depth taken.own) (tail_after node.row.precision points) (es ++ option_list e) =
+    subst (IsAbove (node.row.depth + 2)) (sym rest)
+    (above_drop rows (i + 1) (node.row.depth + 2) (λ some. let c = is.child some in
+    omega (arith, c))) in
+    let here : Pass style (r ∷ is.rest) (set_row levels node.row.depth taken.own)
+    (tail_after node.row.precision points) (es ++ option_list e) =
     pass_cons style r node.points is.rest levels tail points taken.own e es behind (record {
       deep = omega (arith, node_depth rows i node caps is);
       child = child;
       count = is.count;
-      points_are = found (points_ahead is.rest) behind.tail_is ∙ ap (λ ps. tail_of (ps ++ points_ahead is.rest)) (own_at rows i node is);
+      points_are = found (points_ahead is.rest) behind.tail_is
+          ∙ ap (λ ps. tail_of (ps ++ points_ahead is.rest)) (own_at rows i node is);
       points_small = short;
       own_is = taken.own_is;
       own_small = taken.own_small;
       entry_is = taken.entry_is;
     }) in
-    subst (λ (l : List Level). Pass style (drop i rows) l (tail_after node.row.precision points) (es ++ option_list e)) (sym taken.set_both)
-    (subst (λ (l : List Row). Pass style l (set_row levels node.row.depth taken.own) (tail_after node.row.precision points) (es ++ option_list e)) (sym is.here) here)
+    subst (λ (l : List Level). Pass style (drop i rows) l (tail_after node.row.precision points)
+    (es ++ option_list e)) (sym taken.set_both)
+    (subst (λ (l : List Row). Pass style l (set_row levels node.row.depth taken.own)
+    (tail_after node.row.precision points) (es ++ option_list e)) (sym is.here) here)
 
 -- the pass after one more node, with its place counted from the end
-pub pass_step : (style : Style) (rows : List Row) (total back : ℕ) (node : Node) (levels new : List Level) (tail points before : Tail) (e : Option Entry) (es kept : List Entry)
-    → back < total → IsCapped rows → IsNode rows (total - 1 - back) node → Pass style (drop (total - back) rows) levels tail es
-    → ((ahead : List Point) → tail ≡ tail_of ahead → points ≡ tail_of (points_at (drop (total - 1 - back) rows) ++ ahead)) → points.bytes ≤ tail.bytes + 20 * node.points
-    → TakenRow style node points levels new e → before ≡ tail_after node.row.precision points → kept ≡ es ++ option_list e
+pub pass_step : (style : Style) (rows : List Row) (total back : ℕ) (node : Node)
+    (levels new : List Level) (tail points before : Tail) (e : Option Entry) (es kept : List Entry)
+    → back < total → IsCapped rows → IsNode rows (total - 1 - back) node
+    → Pass style (drop (total - back) rows) levels tail es
+    → ((ahead : List Point) → tail ≡ tail_of ahead
+    → points ≡ tail_of (points_at (drop (total - 1 - back) rows) ++ ahead))
+    → points.bytes ≤ tail.bytes + 20 * node.points
+    → TakenRow style node points levels new e → before ≡ tail_after node.row.precision points
+    → kept ≡ es ++ option_list e
     → Pass style (drop (total - (back + 1)) rows) new before kept
-pass_step style rows total back node levels new tail points before e es kept some caps is pass found short taken tail_is kept_are =
+pass_step style rows total back node levels new tail points before e es kept some caps is pass found
+    short taken tail_is kept_are =
     let here : total - back ≡ total - 1 - back + 1 = omega arith in
     let there : total - 1 - back ≡ total - (back + 1) = omega arith in
-    let step = pass_back style rows (total - 1 - back) node levels new tail points e es caps is (subst (λ n. Pass style (drop n rows) levels tail es) here pass) found short taken in
+    let step = pass_back style rows (total - 1 - back) node levels new tail points e es caps is
+    (subst (λ n. Pass style (drop n rows) levels tail es) here pass) found short taken in
     subst (λ n. Pass style (drop n rows) new before kept) there
     (subst (λ (l : List Entry). Pass style (drop (total - 1 - back) rows) new before l) (sym kept_are)
     (subst (λ (t : Tail). Pass style (drop (total - 1 - back) rows) new t (es ++ option_list e)) (sym tail_is) step))
 
 -- the number of points from a node on
 pub points_back : (rows : List Row) (total back : ℕ) (node : Node) → back < total → IsNode rows (total - 1 - back) node
-    → length (row_points (drop (total - (back + 1)) rows)) ≡ node.points + length (row_points (drop (total - back) rows))
+    → length (row_points (drop (total - (back + 1)) rows)) ≡ node.points + length
+    (row_points (drop (total - back) rows))
 points_back rows total back node some is =
     let here : total - 1 - back + 1 ≡ total - back = omega arith in
     let there : total - (back + 1) ≡ total - 1 - back = omega arith in
@@ -90,16 +115,30 @@ points_back rows total back node some is =
     ∙ ap (λ n. node.points + length (row_points (drop n rows))) here
 
 -- the number of points if there is one node
-pub points_of_one : (rows : List Row) (node : Node) → length rows ≡ 1 → IsNode rows 0 node → length (row_points rows) ≡ node.points + 0
-points_of_one rows node one is = points_back rows 1 0 node (omega arith) is ∙ ap (λ (rs : List Row). node.points + length (row_points rs)) (drop_all 1 rows (omega (arith, one)))
+pub points_of_one : (rows : List Row) (node : Node) → length rows ≡ 1 → IsNode rows 0 node
+    → length (row_points rows) ≡ node.points + 0
+points_of_one rows node one is = points_back rows 1 0 node (omega arith) is
+    ∙ ap (λ (rs : List Row). node.points + length (row_points rs))
+    (drop_all 1 rows (omega (arith, one)))
 
 -- the entries that the pass finds are the sizes
-pub sizes_are : (style : Style) (rows : List Row) (sizes : List Entry) → AreValidRowsOfOne largest_limits rows → sizes ≡ measured style rows → AreSizes style rows sizes
+pub sizes_are : (style : Style) (rows : List Row) (sizes : List Entry)
+    → AreValidRowsOfOne largest_limits rows → sizes ≡ measured style rows
+    → AreSizes style rows sizes
 sizes_are style [] sizes valid e = e
-sizes_are style (r ∷ rs) sizes valid e = (valid.0, valid.1.tree, valid.2, e ∙ ap (measured style) (sym valid.2) ∙ measured_rows style valid.0 valid.1.tree)
+sizes_are style (r ∷ rs) sizes valid e = (
+  valid.0,
+  valid.1.tree,
+  valid.2,
+  e
+      ∙ ap (measured style) (sym valid.2) ∙ measured_rows style valid.0 valid.1.tree,
+)
 
 -- at the first row the entries, reversed, are the sizes
-pub pass_end : (style : Style) (rows : List Row) (n : ℕ) (levels : List Level) (t : Tail) (es sizes : List Entry) → AreValidRowsOfOne largest_limits rows → n ≡ 0
+pub pass_end : (style : Style) (rows : List Row) (n : ℕ) (levels : List Level) (t : Tail)
+    (es sizes : List Entry) → AreValidRowsOfOne largest_limits rows → n ≡ 0
     → Pass style (drop n rows) levels t es → sizes ≡ reverse es → AreSizes style rows sizes
 pass_end style rows n levels t es sizes valid first pass turned =
-    sizes_are style rows sizes valid (turned ∙ ap reverse (pass.kept ∙ ap (λ m. reverse (measured style (drop m rows))) first) ∙ reverse-reverse (measured style rows))
+    sizes_are style rows sizes valid (turned ∙ ap reverse
+    (pass.kept ∙ ap (λ m. reverse (measured style (drop m rows))) first)
+    ∙ reverse-reverse (measured style rows))

@@ -1,5 +1,7 @@
 -- The pass over rows, from the last to the first, one row at a time.
-use Rattle.std.proofs.Common.{◌≡◌, ◌≢◌, ℕ, zero, suc, ◌+◌, ◌*◌, ◌<◌, ◌≤◌, List, [], ◌∷◌, ◌++◌, length, drop, get_or, set, inl, inr, refl, sym, ◌∙◌, ap, arith, length-append}
+use Rattle.std.proofs.Common.{◌≡◌, ◌≢◌, ℕ, zero, suc, ◌+◌, ◌*◌, ◌<◌, ◌≤◌, List, [], ◌∷◌, ◌++◌}
+use Rattle.std.proofs.Common.{length, drop, get_or, set, inl, inr, refl, sym, ◌∙◌, ap, arith}
+use Rattle.std.proofs.Common.{length-append}
 use Rattle.std.specs.Prelude.{reverse, Option, None, Some, slice_index, ℤ}
 use Rattle.std.proofs.lemmas.List.{get_or-set_same, get_or-set_other, length-set, reverse-append}
 use Rattle.std.proofs.lemmas.Bool.{cases_lt, cases_eq}
@@ -12,7 +14,8 @@ use Rattle.twkb_writer.specs.declared.levels.Level.{Level}
 use Rattle.twkb_writer.specs.declared.sizes.Entry.{Entry}
 use Rattle.twkb_writer.specs.declared.tails.Tail.{Tail}
 use Rattle.twkb_writer.specs.Levels.{blank}
-use Rattle.twkb_writer.specs.Measuring.{level, measured, points_ahead, ahead_of, row_level, row_entry, option_list, tail_after, cost_of, load}
+use Rattle.twkb_writer.specs.Measuring.{level, measured, points_ahead, ahead_of, row_level}
+use Rattle.twkb_writer.specs.Measuring.{row_entry, option_list, tail_after, cost_of, load}
 use Rattle.twkb_writer.specs.Tails.{tail_of}
 use Rattle.twkb_writer.proofs.LevelLemmas.{level_above, level_at, level_below, level_none}
 use Rattle.twkb_writer.proofs.MeasuringBounds.{IsBounded, bounded_none, bounded_step}
@@ -30,8 +33,10 @@ above_more j k [] le h = tt
 above_more j k (r ∷ rs) le h = omega arith
 
 -- the array after one more row before the others
-pub stands_step : (style : Style) (levels : List Level) (r : Row) (rs : List Row) (own : Level) → length levels ≡ 36 → r.depth < 35 → IsAbove (r.depth + 2) rs
-    → own ≡ row_level style r.kind (length r.points) r.id r.precision (level style (suc r.depth) rs) (tail_of (r.points ++ points_ahead rs)) (level style r.depth rs)
+pub stands_step : (style : Style) (levels : List Level) (r : Row) (rs : List Row) (own : Level)
+    → length levels ≡ 36 → r.depth < 35 → IsAbove (r.depth + 2) rs
+    → own ≡ row_level style r.kind (length r.points) r.id r.precision (level style (suc r.depth) rs)
+    (tail_of (r.points ++ points_ahead rs)) (level style r.depth rs)
     → Stands style levels rs → Stands style (set_row levels r.depth own) (r ∷ rs)
 stands_step style levels r rs own whole deep child is stands k small =
     let d : ℕ = r.depth in
@@ -47,15 +52,19 @@ stands_step style levels r rs own whole deep child is stands k small =
           ∙ elim (cases_lt k d) [
             | inl lower ↦
                 (let apart : k ≢ d + 1 = λ e. omega arith in
-                get_or-set_other levels (d + 1) k blank blank apart ∙ stands k small ∙ sym (level_below style k r rs lower))
+                get_or-set_other levels (d + 1) k blank blank apart ∙ stands k small
+                ∙ sym (level_below style k r rs lower))
             | inr upper ↦ elim (cases_eq k (d + 1)) [
               | inl next ↦
                   (let low : d < k = omega arith in
-                  ap (λ (j : ℕ). get_or cleared j blank) next ∙ get_or-set_same levels (d + 1) blank blank (omega arith) ∙ sym (level_above style k r rs low))
+                  ap (λ (j : ℕ). get_or cleared j blank) next ∙ get_or-set_same levels (d + 1) blank
+                  blank (omega arith) ∙ sym (level_above style k r rs low))
               | inr apart ↦
                   (let low : d < k = omega arith in
                   let far : d + 2 ≤ k = omega arith in
-                  get_or-set_other levels (d + 1) k blank blank apart ∙ stands k small ∙ level_none style k rs (above_more (d + 2) k rs far child) ∙ sym (level_above style k r rs low))
+                  get_or-set_other levels (d + 1) k blank blank apart ∙ stands k small
+                  ∙ level_none style k rs (above_more (d + 2) k rs far child)
+                  ∙ sym (level_above style k r rs low))
             ]
           ]
     ]
@@ -65,7 +74,8 @@ tail_by : (p : Option ℤ) (ps : List Point) → tail_after p (tail_of ps) ≡ t
 tail_by None ps = refl
 tail_by (Some p) ps = refl
 
-tail_small_by : (p : Option ℤ) (ps : List Point) (t : Tail) → t.bytes ≤ 20 * length ps → (tail_after p t).bytes ≤ 20 * length (ahead_of p ps)
+tail_small_by : (p : Option ℤ) (ps : List Point) (t : Tail) → t.bytes ≤ 20 * length ps
+    → (tail_after p t).bytes ≤ 20 * length (ahead_of p ps)
 tail_small_by None ps t h = h
 tail_small_by (Some p) ps t h = omega arith
 
@@ -89,51 +99,80 @@ pub record Pass (style : Style) (rs : List Row) (levels : List Level) (tail : Ta
   pub kept : es ≡ reverse (measured style rs)
 
 -- what a pass adds with one more row: its points, the totals at its depth, and its entry
-pub record TakesIn (style : Style) (r : Row) (n : ℕ) (rs : List Row) (levels : List Level) (tail points : Tail) (own : Level) (e : Option Entry) : Type 0 where
+pub record TakesIn (style : Style) (r : Row) (n : ℕ) (rs : List Row) (levels : List Level)
+    (tail points : Tail) (own : Level) (e : Option Entry) : Type 0 where
   pub deep : r.depth < 35
   pub child : IsAbove (r.depth + 2) rs
   pub count : length r.points ≡ n
   pub points_are : points ≡ tail_of (r.points ++ points_ahead rs)
   pub points_small : points.bytes ≤ tail.bytes + 20 * n
-  pub own_is : own ≡ row_level style r.kind n r.id r.precision (get_or levels (r.depth + 1) blank) points (get_or levels r.depth blank)
-  pub own_small : load own ≤ load (get_or levels (r.depth + 1) blank) + load (get_or levels r.depth blank) + cost_of r.precision points.bytes
+  pub own_is : own ≡ row_level style r.kind n r.id r.precision (get_or levels (r.depth + 1) blank)
+      points (get_or levels r.depth blank)
+  pub own_small : load own ≤ load (get_or levels (r.depth + 1) blank) + load
+      (get_or levels r.depth blank) + cost_of r.precision points.bytes
   pub entry_is : e ≡ row_entry style r.kind n r.precision (get_or levels (r.depth + 1) blank) points
 
 -- the pass after one more row before the others
-pub pass_cons : (style : Style) (r : Row) (n : ℕ) (rs : List Row) (levels : List Level) (tail points : Tail) (own : Level) (e : Option Entry) (es : List Entry)
+pub pass_cons : (style : Style) (r : Row) (n : ℕ) (rs : List Row) (levels : List Level)
+    (tail points : Tail) (own : Level) (e : Option Entry) (es : List Entry)
     → Pass style rs levels tail es → TakesIn style r n rs levels tail points own e
     → Pass style (r ∷ rs) (set_row levels r.depth own) (tail_after r.precision points) (es ++ option_list e)
 pass_cons style r n rs levels tail points own e es pass t =
     let d : ℕ = r.depth in
     let next : d + 1 ≡ suc d = omega arith in
-    let below : get_or levels (d + 1) blank ≡ level style (suc d) rs = pass.stands (d + 1) (omega (arith, t.deep)) ∙ ap (λ k. level style k rs) next in
+    let below : get_or levels (d + 1) blank ≡ level style (suc d) rs = pass.stands (d + 1)
+    (omega (arith, t.deep)) ∙ ap (λ k. level style k rs) next in
     let others : get_or levels d blank ≡ level style d rs = pass.stands d (omega (arith, t.deep)) in
     let ps : List Point = r.points ++ points_ahead rs in
     let count : n ≡ length r.points = sym t.count in
-    let own_is : own ≡ row_level style r.kind (length r.points) r.id r.precision (level style (suc d) rs) (tail_of ps) (level style d rs) =
+    let own_is : own ≡ row_level style r.kind (length r.points) r.id r.precision
+    (level style (suc d) rs) (tail_of ps) (level style d rs) =
     t.own_is ∙ (λ i. row_level style r.kind (count i) r.id r.precision (below i) (t.points_are i) (others i)) in
-    let entry : row_entry style r.kind n r.precision (get_or levels (d + 1) blank) points ≡ row_entry style r.kind (length r.points) r.precision (level style (suc d) rs) (tail_of ps) =
+    let entry : row_entry style r.kind n r.precision (get_or levels (d + 1) blank) points
+    ≡ row_entry style r.kind (length r.points) r.precision (level style (suc d) rs)
+    (tail_of ps) =
     (λ i. row_entry style r.kind (count i) r.precision (below i) (t.points_are i)) in
-    let small : points.bytes ≤ 20 * length ps = omega (arith, t.points_small, t.count, pass.tail_small, length-append r.points (points_ahead rs)) in
+    let small : points.bytes ≤ 20 * length ps = omega
+    (arith, t.points_small, t.count, pass.tail_small, length-append r.points (points_ahead rs))
+    in
     record {
       whole = length-set (set levels (d + 1) blank) d own ∙ length-set levels (d + 1) blank ∙ pass.whole;
       stands = stands_step style levels r rs own pass.whole t.deep t.child own_is pass.stands;
       bounded = bounded_step style r rs pass.bounded
-          (omega (arith, t.own_small, ap load own_is, ap load below, ap load others, cost_more r.precision points.bytes (20 * length ps) small));
+          (omega (
+            arith,
+            t.own_small,
+            ap load own_is,
+            ap load below,
+            ap load others,
+            cost_more r.precision points.bytes (20 * length ps) small,
+          ));
       tail_is = ap (tail_after r.precision) t.points_are ∙ tail_by r.precision ps;
       tail_small = tail_small_by r.precision ps points small;
       kept =
           (λ i. pass.kept i ++ option_list ((t.entry_is ∙ entry) i))
-          ∙ ap (λ l. reverse (measured style rs) ++ l) (sym (reverse-option (row_entry style r.kind (length r.points) r.precision (level style (suc d) rs) (tail_of ps))))
-          ∙ sym (reverse-append (option_list (row_entry style r.kind (length r.points) r.precision (level style (suc d) rs) (tail_of ps))) (measured style rs));
+          ∙ ap (λ l. reverse (measured style rs) ++ l) (sym
+          (reverse-option (row_entry style r.kind (length r.points) r.precision
+          (level style (suc d) rs) (tail_of ps))))
+          ∙ sym (reverse-append (option_list (row_entry style r.kind (length r.points) r.precision
+          (level style (suc d) rs) (tail_of ps))) (measured style rs));
     }
 
 -- the pass before the last row
-pub pass_none : (style : Style) (levels : List Level) → length levels ≡ 36 → ((k : ℕ) → k < 36 → get_or levels k blank ≡ blank) → Pass style [] levels (tail_of []) []
-pass_none style levels whole blanks = record { whole = whole; stands = blanks; bounded = bounded_none style; tail_is = refl; tail_small = omega arith; kept = refl }
+pub pass_none : (style : Style) (levels : List Level) → length levels ≡ 36
+    → ((k : ℕ) → k < 36 → get_or levels k blank ≡ blank) → Pass style [] levels (tail_of []) []
+pass_none style levels whole blanks = record {
+  whole = whole;
+  stands = blanks;
+  bounded = bounded_none style;
+  tail_is = refl;
+  tail_small = omega arith;
+  kept = refl;
+}
 
 -- the rows after a node are no deeper than its members
-pub above_drop : (rows : List Row) (j n : ℕ) → (j < length rows → slice_index (depths rows) j < n) → IsAbove n (drop j rows)
+pub above_drop : (rows : List Row) (j n : ℕ) → (j < length rows → slice_index (depths rows) j < n)
+    → IsAbove n (drop j rows)
 above_drop [] zero n h = tt
 above_drop [] (suc j) n h = tt
 above_drop (r ∷ rows) zero n h = h (omega arith)

@@ -27,37 +27,52 @@ pub record IsCounted {A : Type 0} (w : Option ℤ → A → Level → Level) : T
   pub named : (id : Option ℤ) (x : A) (l : Level) → (w id x l).named ≡ (is_some id || l.named)
 
 -- a part is counted
-pub part_counted : {A : Type 0} (k : Kind) (own : A → ℕ) (below : A → Level) → IsCounted (λ id x l. with_part k (own x) id (below x) l)
+pub part_counted : {A : Type 0} (k : Kind) (own : A → ℕ) (below : A → Level)
+    → IsCounted (λ id x l. with_part k (own x) id (below x) l)
 part_counted k own below = record { members = λ id x l. refl; ids = λ id x l. refl; named = λ id x l. refl }
 
 -- there are as many members as parts
-pub members_each : {A : Type 0} (w : Option ℤ → A → Level → Level) → IsCounted w → (ids : Ids) (xs : List A) → (with_each w ids xs blank).members ≡ length xs
+pub members_each : {A : Type 0} (w : Option ℤ → A → Level → Level) → IsCounted w
+    → (ids : Ids) (xs : List A) → (with_each w ids xs blank).members ≡ length xs
 members_each w counted ids [] = refl
 members_each w counted ids (x ∷ xs) =
-    omega (arith, counted.members (first_id ids) x (with_each w (other_ids ids) xs blank), members_each w counted (other_ids ids) xs)
+    omega (
+      arith,
+      counted.members (first_id ids) x (with_each w (other_ids ids) xs blank),
+      members_each w counted (other_ids ids) xs,
+    )
 
-no_ids_each : {A : Type 0} (w : Option ℤ → A → Level → Level) → IsCounted w → (xs : List A) → (with_each w None xs blank).ids ≡ 0
+no_ids_each : {A : Type 0} (w : Option ℤ → A → Level → Level) → IsCounted w → (xs : List A)
+    → (with_each w None xs blank).ids ≡ 0
 no_ids_each w counted [] = refl
 no_ids_each w counted (x ∷ xs) = omega (arith, counted.ids None x (with_each w None xs blank), no_ids_each w counted xs)
 
-some_ids_each : {A : Type 0} (w : Option ℤ → A → Level → Level) → IsCounted w → (ids : List ℤ) (xs : List A) → length ids ≡ length xs → (with_each w (Some ids) xs blank).ids ≡ ids_sum ids
+some_ids_each : {A : Type 0} (w : Option ℤ → A → Level → Level) → IsCounted w
+    → (ids : List ℤ) (xs : List A) → length ids ≡ length xs
+    → (with_each w (Some ids) xs blank).ids ≡ ids_sum ids
 some_ids_each w counted [] [] e = refl
 some_ids_each w counted [] (x ∷ xs) e = absurd (omega (arith, e))
 some_ids_each w counted (id ∷ ids) [] e = absurd (omega (arith, e))
 some_ids_each w counted (id ∷ ids) (x ∷ xs) e =
-    counted.ids (Some id) x (with_each w (Some ids) xs blank) ∙ ap (λ n. signed_len id + n) (some_ids_each w counted ids xs (omega (arith, e)))
+    counted.ids (Some id) x (with_each w (Some ids) xs blank)
+    ∙ ap (λ n. signed_len id + n) (some_ids_each w counted ids xs (omega (arith, e)))
 
 -- the bytes of the ids are those of the parts' ids
-pub ids_each : {A : Type 0} (w : Option ℤ → A → Level → Level) → IsCounted w → (ids : Ids) (xs : List A) → HasIds ids (length xs) → (with_each w ids xs blank).ids ≡ ids_len ids
+pub ids_each : {A : Type 0} (w : Option ℤ → A → Level → Level) → IsCounted w
+    → (ids : Ids) (xs : List A) → HasIds ids (length xs)
+    → (with_each w ids xs blank).ids ≡ ids_len ids
 ids_each w counted None xs h = no_ids_each w counted xs
 ids_each w counted (Some ids) xs h = some_ids_each w counted ids xs h.1
 
-no_names_each : {A : Type 0} (w : Option ℤ → A → Level → Level) → IsCounted w → (xs : List A) → (with_each w None xs blank).named ≡ false
+no_names_each : {A : Type 0} (w : Option ℤ → A → Level → Level) → IsCounted w → (xs : List A)
+    → (with_each w None xs blank).named ≡ false
 no_names_each w counted [] = refl
 no_names_each w counted (x ∷ xs) = counted.named None x (with_each w None xs blank) ∙ no_names_each w counted xs
 
 -- the members have ids exactly if the parts have
-pub named_each : {A : Type 0} (w : Option ℤ → A → Level → Level) → IsCounted w → (ids : Ids) (xs : List A) → HasIds ids (length xs) → (with_each w ids xs blank).named ≡ is_some ids
+pub named_each : {A : Type 0} (w : Option ℤ → A → Level → Level) → IsCounted w
+    → (ids : Ids) (xs : List A) → HasIds ids (length xs)
+    → (with_each w ids xs blank).named ≡ is_some ids
 named_each w counted None xs h = no_names_each w counted xs
 named_each w counted (Some []) xs h = absurd (omega (arith, h.0, h.1))
 named_each w counted (Some (id ∷ ids)) [] h = absurd (omega (arith, h.0))
@@ -69,14 +84,17 @@ total f [] = 0
 total f (x ∷ xs) = f x + total f xs
 
 -- the bytes of parts
-bytes_each : {A : Type 0} (k : Kind) (own : A → ℕ) (below : A → Level) (f : A → ℕ) → ((x : A) → lead_len k (own x) (below x) + (below x).bytes ≡ f x)
-    → (ids : Ids) (xs : List A) → (with_each (λ id x l. with_part k (own x) id (below x) l) ids xs blank).bytes ≡ total f xs
+bytes_each : {A : Type 0} (k : Kind) (own : A → ℕ) (below : A → Level) (f : A → ℕ)
+    → ((x : A) → lead_len k (own x) (below x) + (below x).bytes ≡ f x)
+    → (ids : Ids) (xs : List A) → (with_each (λ id x l. with_part k (own x) id (below x) l) ids xs
+    blank).bytes ≡ total f xs
 bytes_each k own below f is ids [] = refl
 bytes_each k own below f is ids (x ∷ xs) =
     (λ i. is x i + bytes_each k own below f is (other_ids ids) xs i)
 
 -- parts are not geometries, so they add no bounds
-bounds_each : {A : Type 0} (k : Kind) (own : A → ℕ) (below : A → Level) (ids : Ids) (xs : List A) → (with_each (λ id x l. with_part k (own x) id (below x) l) ids xs blank).bounds ≡ None
+bounds_each : {A : Type 0} (k : Kind) (own : A → ℕ) (below : A → Level) (ids : Ids) (xs : List A)
+    → (with_each (λ id x l. with_part k (own x) id (below x) l) ids xs blank).bounds ≡ None
 bounds_each k own below ids [] = refl
 bounds_each k own below ids (x ∷ xs) = bounds_each k own below (other_ids ids) xs
 
@@ -96,8 +114,11 @@ pub record IsTotal (l : Level) (n : ℕ) (ids : Ids) (bytes : ℕ) : Type 0 wher
   pub no_precisions : l.precisions ≡ Absent
 
 -- the totals of parts, each with this many bytes
-pub total_each : {A : Type 0} (k : Kind) (own : A → ℕ) (below : A → Level) (f : A → ℕ) → ((x : A) → lead_len k (own x) (below x) + (below x).bytes ≡ f x)
-    → (ids : Ids) (xs : List A) → HasIds ids (length xs) → IsTotal (with_each (λ id x l. with_part k (own x) id (below x) l) ids xs blank) (length xs) ids (total f xs)
+pub total_each : {A : Type 0} (k : Kind) (own : A → ℕ) (below : A → Level) (f : A → ℕ)
+    → ((x : A) → lead_len k (own x) (below x) + (below x).bytes ≡ f x)
+    → (ids : Ids) (xs : List A) → HasIds ids (length xs)
+    → IsTotal (with_each (λ id x l. with_part k (own x) id (below x) l) ids xs blank) (length xs)
+    ids (total f xs)
 total_each k own below f is ids xs h = record {
   members = members_each (λ id x l. with_part k (own x) id (below x) l) (part_counted k own below) ids xs;
   ids_are = ids_each (λ id x l. with_part k (own x) id (below x) l) (part_counted k own below) ids xs h;

@@ -1,5 +1,7 @@
 -- The totals of the rows of a geometry.
-use Rattle.std.proofs.Common.{◌≡◌, ℕ, suc, ◌+◌, ◌<◌, ◌≤◌, false, List, [], ◌∷◌, ◌++◌, length, Option, None, Some, refl, sym, ◌∙◌, ap, subst, arith, append_assoc, append-nil, length-append}
+use Rattle.std.proofs.Common.{◌≡◌, ℕ, suc, ◌+◌, ◌<◌, ◌≤◌, false, List, [], ◌∷◌, ◌++◌, length}
+use Rattle.std.proofs.Common.{Option, None, Some, refl, sym, ◌∙◌, ap, subst, arith, append_assoc}
+use Rattle.std.proofs.Common.{append-nil, length-append}
 use Rattle.std.specs.Prelude.{ℤ, is_some, ◌||◌, nat_eq, map}
 use Rattle.std.proofs.lemmas.Bool.Decides.{nat_tests}
 use Rattle.twkb_num.specs.Zigzag.{zigzag_of}
@@ -8,8 +10,12 @@ use Rattle.twkb_points.specs.Point.{Point}
 use Rattle.twkb_points.specs.Extent.{joined_options, extent}
 use Rattle.twkb_points.proofs.ExtentLemmas.{joined_options-none, extent-append}
 use Rattle.twkb_tree.specs.declared.kind.Kind.TheVariants as kind
-use Rattle.twkb_tree.specs.Tree.{Ids, HasIds, IdsFit, Simple, point, line, polygon, multi_point, multi_line, multi_polygon, Tree, simple, collection, Trees, end, ◌▷◌, count, members, flat, flat_all, points_in, precision_of, IsTree, AreTrees}
-use Rattle.twkb_tree.specs.Rows.{Row, kind_in, own_points, own_row, rows, rows_below, rows_with, member_rows, first_id, other_ids}
+use Rattle.twkb_tree.specs.Tree.{Ids, HasIds, IdsFit, Simple, point, line, polygon, multi_point}
+use Rattle.twkb_tree.specs.Tree.{multi_line, multi_polygon, Tree, simple, collection, Trees, end}
+use Rattle.twkb_tree.specs.Tree.{◌▷◌, count, members, flat, flat_all, points_in, precision_of}
+use Rattle.twkb_tree.specs.Tree.{IsTree, AreTrees}
+use Rattle.twkb_tree.specs.Rows.{Row, kind_in, own_points, own_row, rows, rows_below, rows_with}
+use Rattle.twkb_tree.specs.Rows.{member_rows, first_id, other_ids}
 use Rattle.twkb_tree.specs.RowLists.{IsAbove}
 use Rattle.twkb_grammar.specs.Roles.{Count, Geometries}
 use Rattle.twkb_grammar.specs.Items.{id_fields, flags_all, filled, OfId}
@@ -26,9 +32,11 @@ use Rattle.twkb_writer.specs.Sizes.{entry_of, sizes_of, sizes_of_all, content_of
 use Rattle.twkb_writer.specs.Tails.{number_len, tail_of}
 use Rattle.twkb_writer.proofs.LevelLemmas.{level_at, level_none, level_past}
 use Rattle.twkb_writer.proofs.BelowLemmas.{deep-below}
-use Rattle.twkb_writer.proofs.MeasuringParts.{with_each, above_less, parts_level, level_parts, ahead_parts, no_entry_parts}
+use Rattle.twkb_writer.proofs.MeasuringParts.{with_each, above_less, parts_level, level_parts}
+use Rattle.twkb_writer.proofs.MeasuringParts.{ahead_parts, no_entry_parts}
 use Rattle.twkb_writer.proofs.MeasuringTotals.{IsCounted, members_each, ids_each, named_each, ids_sum, ids_len}
-use Rattle.twkb_writer.proofs.MeasuringBodies.{length-number, length-fields, from_origin-tail_of, total_parts, lead_parts, bare_shape}
+use Rattle.twkb_writer.proofs.MeasuringBodies.{length-number, length-fields, from_origin-tail_of}
+use Rattle.twkb_writer.proofs.MeasuringBodies.{total_parts, lead_parts, bare_shape}
 use Rattle.twkb_writer.proofs.MeasuringEntries.{IsMeasured, entry_is, blob_length}
 use Rattle.twkb_writer.proofs.PrecisionLemmas.{precisions_of, precisions_of_all, all_are-uniform}
 
@@ -54,15 +62,23 @@ length-members : (gs : Trees) → length (members gs) ≡ count gs
 length-members end = refl
 length-members (g ▷ gs) = ap suc (length-members gs)
 
-trees_bytes : (style : Style) (ids : Ids) (gs : Trees) → (trees_level style ids gs).bytes ≡ length (canonical_members style gs)
+trees_bytes : (style : Style) (ids : Ids) (gs : Trees)
+    → (trees_level style ids gs).bytes ≡ length (canonical_members style gs)
 trees_bytes style ids end = refl
-trees_bytes style ids (g ▷ gs) = omega (arith, length-append (canonical_blob style g) (canonical_members style gs), trees_bytes style (other_ids ids) gs)
+trees_bytes style ids (g ▷ gs) = omega (
+  arith,
+  length-append (canonical_blob style g)
+      (canonical_members style gs),
+  trees_bytes style (other_ids ids) gs,
+)
 
 trees_bounds : (style : Style) (ids : Ids) (gs : Trees) → (trees_level style ids gs).bounds ≡ extent (flat_all gs)
 trees_bounds style ids end = refl
-trees_bounds style ids (g ▷ gs) = ap (joined_options (extent (flat g))) (trees_bounds style (other_ids ids) gs) ∙ sym (extent-append (flat g) (flat_all gs))
+trees_bounds style ids (g ▷ gs) = ap (joined_options (extent (flat g)))
+    (trees_bounds style (other_ids ids) gs) ∙ sym (extent-append (flat g) (flat_all gs))
 
-pub trees_precisions : (style : Style) (ids : Ids) (gs : Trees) → (trees_level style ids gs).precisions ≡ precisions_of_all gs
+pub trees_precisions : (style : Style) (ids : Ids) (gs : Trees)
+    → (trees_level style ids gs).precisions ≡ precisions_of_all gs
 trees_precisions style ids end = refl
 trees_precisions style ids (g ▷ gs) = ap (agreed (precisions_of g)) (trees_precisions style (other_ids ids) gs)
 
@@ -76,7 +92,9 @@ simple_point (multi_point ids ps) p = refl
 simple_point (multi_line ids lines) p = refl
 simple_point (multi_polygon ids areas) p = refl
 
-pub simple_measured : (style : Style) (p : ℤ) (s : Simple) → IdsFit s → IsMeasured style (simple p s) (kind_in s) (length (own_points s)) (parts_level s) (tail_of (points_in s))
+pub simple_measured : (style : Style) (p : ℤ) (s : Simple) → IdsFit s
+    → IsMeasured style (simple p s) (kind_in s) (length (own_points s)) (parts_level s)
+    (tail_of (points_in s))
 simple_measured style p s h =
     let t = total_parts s h in
     record {
@@ -98,7 +116,12 @@ ids_fit ids gs h = subst (HasIds ids) (sym (length-members gs)) h
 id_fields_len : (ids : List ℤ) → length (varints (filled (map OfId ids) [])) ≡ ids_sum ids
 id_fields_len [] = refl
 id_fields_len (id ∷ ids) =
-    omega (arith, length-append (varint_of (zigzag_of id)) (varints (filled (map OfId ids) [])), length-number (zigzag_of id), id_fields_len ids)
+    omega (
+      arith,
+      length-append (varint_of (zigzag_of id)) (varints (filled (map OfId ids) [])),
+      length-number (zigzag_of id),
+      id_fields_len ids,
+    )
 
 ids_bytes_len : (ids : Ids) → length (varints (id_fields ids)) ≡ ids_len ids
 ids_bytes_len None = refl
@@ -107,15 +130,19 @@ ids_bytes_len (Some ids) = id_fields_len ids
 nat_eq_more : (n : ℕ) → nat_eq (n + 1) 0 ≡ false
 nat_eq_more n = grind (arith, nat_tests)
 
-bare_trees : (style : Style) (ids : Ids) (gs : Trees) → is_bare 0 (trees_level style ids gs) ≡ is_empty (flags_all ids gs)
+bare_trees : (style : Style) (ids : Ids) (gs : Trees)
+    → is_bare 0 (trees_level style ids gs) ≡ is_empty (flags_all ids gs)
 bare_trees style ids end = refl
 bare_trees style None (g ▷ gs) = nat_eq_more (trees_level style None gs).members
 bare_trees style (Some ids) (g ▷ gs) = nat_eq_more (trees_level style (other_ids (Some ids)) gs).members
 
 body_trees : (style : Style) (p : ℤ) (ids : Ids) (gs : Trees) → HasIds ids (length (members gs))
-    → number_len (trees_level style ids gs).members + (trees_level style ids gs).ids + (trees_level style ids gs).bytes + 0 ≡ length (body_of style (collection p ids gs))
+    → number_len (trees_level style ids gs).members + (trees_level style ids gs).ids
+    + (trees_level style ids gs).bytes + 0 ≡ length (body_of style (collection p ids gs))
 body_trees style p ids gs h =
-    let few : number_len (trees_level style ids gs).members ≡ number_len (count gs) = ap number_len (members_each (with_tree style) (tree_counted style) ids (members gs) ∙ length-members gs) in
+    let few : number_len (trees_level style ids gs).members ≡ number_len (count gs) = ap number_len
+    (members_each (with_tree style) (tree_counted style) ids (members gs)
+    ∙ length-members gs) in
     omega (
       arith,
       few,
@@ -142,12 +169,18 @@ collection_measured style p ids gs h = record {
 -- ---- the rows of a geometry, one after the other
 
 -- rows whose totals are those of a geometry
-pub row_is : (style : Style) (g : Tree) (r : Row) (below others below' others' : Level) (ahead ps : List Point) → below ≡ below' → others ≡ others' → r.points ++ ahead ≡ ps
-    → IsMeasured style g r.kind (length r.points) below' (tail_of ps) → agreed (One (precision_of g)) below'.precisions ≡ precisions_of g
-    → row_level style r.kind (length r.points) r.id (Some (precision_of g)) below (tail_of (r.points ++ ahead)) others ≡ with_tree style r.id g others'
+pub row_is : (style : Style) (g : Tree) (r : Row) (below others below' others' : Level)
+    (ahead ps : List Point) → below ≡ below' → others ≡ others' → r.points ++ ahead ≡ ps
+    → IsMeasured style g r.kind (length r.points) below' (tail_of ps)
+    → agreed (One (precision_of g)) below'.precisions ≡ precisions_of g
+    → row_level style r.kind (length r.points) r.id (Some (precision_of g)) below
+    (tail_of (r.points ++ ahead)) others ≡ with_tree style r.id g others'
 row_is style g r below others below' others' ahead ps eb eo ep m precisions =
-    let size : (entry_for style r.kind (precision_of g) (length r.points) below' (tail_of ps)).size ≡ length (content_of style g) = ap (λ (e : Entry). e.size) (entry_is style g r.kind (length r.points) below' (tail_of ps) m) in
-    (λ i. with_geometry style (entry_for style r.kind (precision_of g) (length r.points) (eb i) (tail_of (ep i))).size (precision_of g) r.id (eb i) (tail_of (ep i)) (eo i))
+    let size : (entry_for style r.kind (precision_of g) (length r.points) below' (tail_of ps)).size
+    ≡ length (content_of style g) = ap (λ (e : Entry). e.size)
+    (entry_is style g r.kind (length r.points) below' (tail_of ps) m) in
+    (λ i. with_geometry style (entry_for style r.kind (precision_of g) (length r.points) (eb i)
+    (tail_of (ep i))).size (precision_of g) r.id (eb i) (tail_of (ep i)) (eo i))
     ∙ (λ i. record {
       members = others'.members + 1;
       ids = id_len r.id + others'.ids;
@@ -158,10 +191,14 @@ row_is style g r below others below' others' ahead ps eb eo ep m precisions =
     })
 
 -- the entry of such rows is the geometry's
-pub row_entry_is : (style : Style) (g : Tree) (r : Row) (below below' : Level) (ahead ps : List Point) → below ≡ below' → r.points ++ ahead ≡ ps
-    → IsMeasured style g r.kind (length r.points) below' (tail_of ps) → entry_for style r.kind (precision_of g) (length r.points) below (tail_of (r.points ++ ahead)) ≡ entry_of style g
+pub row_entry_is : (style : Style) (g : Tree) (r : Row) (below below' : Level)
+    (ahead ps : List Point) → below ≡ below' → r.points ++ ahead ≡ ps
+    → IsMeasured style g r.kind (length r.points) below' (tail_of ps)
+    → entry_for style r.kind (precision_of g) (length r.points) below (tail_of (r.points ++ ahead))
+    ≡ entry_of style g
 row_entry_is style g r below below' ahead ps eb ep m =
-    (λ i. entry_for style r.kind (precision_of g) (length r.points) (eb i) (tail_of (ep i))) ∙ entry_is style g r.kind (length r.points) below' (tail_of ps) m
+    (λ i. entry_for style r.kind (precision_of g) (length r.points) (eb i) (tail_of (ep i)))
+    ∙ entry_is style g r.kind (length r.points) below' (tail_of ps) m
 
 -- the rows after a geometry at this depth: the first is no deeper and not a part
 pub record IsBehind (d : ℕ) (rest : List Row) : Type 0 where
@@ -170,9 +207,11 @@ pub record IsBehind (d : ℕ) (rest : List Row) : Type 0 where
 
 behind_tree : (d e : ℕ) (id : Option ℤ) (g : Tree) (rest : List Row) → d ≤ e → IsBehind e (rows_with id d g ++ rest)
 behind_tree d e id (simple p s) rest le = record { above = (let lt : d < suc e = omega arith in lt); no_part = refl }
-behind_tree d e id (collection p ids gs) rest le = record { above = (let lt : d < suc e = omega arith in lt); no_part = refl }
+behind_tree d e id (collection p ids gs) rest le =
+    record { above = (let lt : d < suc e = omega arith in lt); no_part = refl }
 
-behind_members : (d : ℕ) (ids : Ids) (gs : Trees) (rest : List Row) → IsBehind d rest → IsBehind d (member_rows d ids gs ++ rest)
+behind_members : (d : ℕ) (ids : Ids) (gs : Trees) (rest : List Row) → IsBehind d rest
+    → IsBehind d (member_rows d ids gs ++ rest)
 behind_members d ids end rest h = h
 behind_members d ids (g ▷ gs) rest h =
     subst (IsBehind d) (sym (append_assoc (rows_with (first_id ids) d g) (member_rows d (other_ids ids) gs) rest))
@@ -181,25 +220,37 @@ behind_members d ids (g ▷ gs) rest h =
 behind_deeper : (d : ℕ) (rest : List Row) → IsBehind d rest → IsBehind (suc d) rest
 behind_deeper d rest h = record { above = above_less (suc d) rest h.above; no_part = h.no_part }
 
-pub simple_points : (style : Style) (d : ℕ) (s : Simple) (rest : List Row) → points_ahead rest ≡ [] → own_points s ++ points_ahead (rows_below d s ++ rest) ≡ points_in s
+pub simple_points : (style : Style) (d : ℕ) (s : Simple) (rest : List Row) → points_ahead rest ≡ []
+    → own_points s ++ points_ahead (rows_below d s ++ rest) ≡ points_in s
 simple_points style d s rest h = ahead_parts style d s rest ∙ ap (λ ps. points_in s ++ ps) h ∙ append-nil (points_in s)
 
 mutual
   -- the totals of the rows of a geometry
-  pub level_tree : (style : Style) (d : ℕ) (id : Option ℤ) (g : Tree) (rest : List Row) → IsTree g → IsBehind d rest → level style d (rows_with id d g ++ rest) ≡ with_tree style id g (level style d rest)
+  pub level_tree : (style : Style) (d : ℕ) (id : Option ℤ) (g : Tree) (rest : List Row) → IsTree g
+      → IsBehind d rest → level style d (rows_with id d g ++ rest) ≡ with_tree style id g
+      (level style d rest)
   level_tree style d id (simple p s) rest fits h =
       let own = own_row id d (simple p s) in
       level_at style d own (rows_below (suc d) s ++ rest) refl
-      ∙ row_is style (simple p s) own (level style (suc d) (rows_below (suc d) s ++ rest)) (level style d (rows_below (suc d) s ++ rest)) (parts_level s) (level style d rest)
+      ∙ row_is style (simple p s) own (level style (suc d) (rows_below (suc d) s ++ rest))
+      (level style d (rows_below (suc d) s ++ rest)) (parts_level s) (level style d rest)
       (points_ahead (rows_below (suc d) s ++ rest)) (points_in s) (level_parts style (suc d) s rest h.above)
-      (level_past style d (rows_below (suc d) s) rest (deep-below (suc d) (simple p s))) (simple_points style (suc d) s rest h.no_part)
+      (level_past style d (rows_below (suc d) s) rest (deep-below (suc d) (simple p s)))
+      (simple_points style (suc d) s rest h.no_part)
       (simple_measured style p s fits.1) (ap (agreed (One p)) (total_parts s fits.1).no_precisions)
   level_tree style d id (collection p ids gs) rest fits h =
       let own = own_row id d (collection p ids gs) in
       level_at style d own (member_rows (suc d) ids gs ++ rest) refl
-      ∙ row_is style (collection p ids gs) own (level style (suc d) (member_rows (suc d) ids gs ++ rest)) (level style d (member_rows (suc d) ids gs ++ rest)) (trees_level style ids gs) (level style d rest)
-      (points_ahead (member_rows (suc d) ids gs ++ rest)) [] (level_members style (suc d) ids gs rest fits.2 (behind_deeper d rest h) ∙ ap (with_each (with_tree style) ids (members gs)) (level_none style (suc d) rest h.above))
-      (level_past style d (member_rows (suc d) ids gs) rest (deep-below (suc d) (collection p ids gs))) (behind_members (suc d) ids gs rest (behind_deeper d rest h)).no_part
+      ∙ row_is style (collection p ids gs) own (level style (suc d)
+      (member_rows (suc d) ids gs ++ rest)) (level style d (member_rows (suc d) ids gs ++ rest))
+      (trees_level style ids gs) (level style d rest)
+      (points_ahead (member_rows (suc d) ids gs ++ rest)) []
+      (level_members style (suc d) ids gs rest fits.2 (behind_deeper d rest h)
+      ∙ ap (with_each (with_tree style) ids (members gs))
+      (level_none style (suc d) rest h.above))
+      (level_past style d (member_rows (suc d) ids gs) rest
+      (deep-below (suc d) (collection p ids gs))) (behind_members (suc d) ids gs rest
+      (behind_deeper d rest h)).no_part
       (collection_measured style p ids gs (ids_fit ids gs fits.1)) (ap (agreed (One p)) (trees_precisions style ids gs))
 
   -- the totals of the rows of members, one after another
@@ -214,20 +265,31 @@ mutual
 
 mutual
   -- the entries of a geometry and of all members in it
-  pub measured_tree : (style : Style) (d : ℕ) (id : Option ℤ) (g : Tree) (rest : List Row) → IsTree g → IsBehind d rest → measured style (rows_with id d g ++ rest) ≡ sizes_of style g ++ measured style rest
+  pub measured_tree : (style : Style) (d : ℕ) (id : Option ℤ) (g : Tree) (rest : List Row)
+      → IsTree g → IsBehind d rest → measured style (rows_with id d g ++ rest) ≡ sizes_of style g
+      ++ measured style rest
   measured_tree style d id (simple p s) rest fits h =
       let own = own_row id d (simple p s) in
-      (λ i. row_entry_is style (simple p s) own (level style (suc d) (rows_below (suc d) s ++ rest)) (parts_level s) (points_ahead (rows_below (suc d) s ++ rest)) (points_in s)
-      (level_parts style (suc d) s rest h.above) (simple_points style (suc d) s rest h.no_part) (simple_measured style p s fits.1) i
+      (λ i. row_entry_is style (simple p s) own (level style (suc d) (rows_below (suc d) s ++ rest))
+      (parts_level s) (points_ahead (rows_below (suc d) s ++ rest)) (points_in s)
+      (level_parts style (suc d) s rest h.above) (simple_points style (suc d) s rest h.no_part)
+      (simple_measured style p s fits.1) i
       ∷ no_entry_parts style (suc d) s rest i)
   measured_tree style d id (collection p ids gs) rest fits h =
       let own = own_row id d (collection p ids gs) in
-      (λ i. row_entry_is style (collection p ids gs) own (level style (suc d) (member_rows (suc d) ids gs ++ rest)) (trees_level style ids gs) (points_ahead (member_rows (suc d) ids gs ++ rest)) []
-      (level_members style (suc d) ids gs rest fits.2 (behind_deeper d rest h) ∙ ap (with_each (with_tree style) ids (members gs)) (level_none style (suc d) rest h.above))
-      (behind_members (suc d) ids gs rest (behind_deeper d rest h)).no_part (collection_measured style p ids gs (ids_fit ids gs fits.1)) i
+      (λ i. row_entry_is style (collection p ids gs) own
+      (level style (suc d) (member_rows (suc d) ids gs ++ rest)) (trees_level style ids gs)
+      (points_ahead (member_rows (suc d) ids gs ++ rest)) []
+      (level_members style (suc d) ids gs rest fits.2 (behind_deeper d rest h)
+      ∙ ap (with_each (with_tree style) ids (members gs))
+      (level_none style (suc d) rest h.above))
+      (behind_members (suc d) ids gs rest (behind_deeper d rest h)).no_part
+      (collection_measured style p ids gs (ids_fit ids gs fits.1)) i
       ∷ measured_members style (suc d) ids gs rest fits.2 (behind_deeper d rest h) i)
 
-  measured_members : (style : Style) (d : ℕ) (ids : Ids) (gs : Trees) (rest : List Row) → AreTrees gs → IsBehind d rest → measured style (member_rows d ids gs ++ rest) ≡ sizes_of_all style gs ++ measured style rest
+  measured_members : (style : Style) (d : ℕ) (ids : Ids) (gs : Trees) (rest : List Row)
+      → AreTrees gs → IsBehind d rest → measured style (member_rows d ids gs ++ rest)
+      ≡ sizes_of_all style gs ++ measured style rest
   measured_members style d ids end rest fits h = refl
   measured_members style d ids (g ▷ gs) rest fits h =
       let others = member_rows d (other_ids ids) gs ++ rest in

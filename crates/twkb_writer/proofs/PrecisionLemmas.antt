@@ -37,7 +37,8 @@ apart : (p q r : ℤ) (b : Bool) → int_eq p q ≡ b → int_eq q r ≡ false �
 apart p q r true h e = sym (ap (λ z. int_eq z r) (int_eq_is p q h) ∙ e)
 apart p q r false h e = refl
 
-two_ones : (p q r : ℤ) (b : Bool) → int_eq q r ≡ b → all_are p (if b then One q else Several) ≡ (int_eq p q && int_eq p r)
+two_ones : (p q r : ℤ) (b : Bool) → int_eq q r ≡ b
+    → all_are p (if b then One q else Several) ≡ (int_eq p q && int_eq p r)
 two_ones p q r true e = and_self (int_eq p q) ∙ ap (λ z. int_eq p q && int_eq p z) (int_eq_is q r e)
 two_ones p q r false e = apart p q r (int_eq p q) refl e
 
@@ -62,7 +63,8 @@ abbrev mutual
 mutual
   all_are-precisions_of : (p : ℤ) (g : Tree) → all_are p (precisions_of g) ≡ has_precision p g
   all_are-precisions_of p (simple q s) = refl
-  all_are-precisions_of p (collection q ids gs) = all_are-agreed p (One q) (precisions_of_all gs) ∙ ap (λ b. int_eq p q && b) (all_are-precisions_of_all p gs)
+  all_are-precisions_of p (collection q ids gs) = all_are-agreed p (One q) (precisions_of_all gs)
+      ∙ ap (λ b. int_eq p q && b) (all_are-precisions_of_all p gs)
 
   all_are-precisions_of_all : (p : ℤ) (gs : Trees) → all_are p (precisions_of_all gs) ≡ have_precision p gs
   all_are-precisions_of_all p end = refl
@@ -79,4 +81,5 @@ members_precisions (collection p ids gs) = precisions_of_all gs
 -- a geometry's members have its precision if all precisions found are that one
 pub all_are-uniform : (g : Tree) → all_are (precision_of g) (members_precisions g) ≡ uniform g
 all_are-uniform (simple p s) = sym (int_eq_self p)
-all_are-uniform (collection p ids gs) = all_are-precisions_of_all p gs ∙ ap (λ b. b && have_precision p gs) (sym (int_eq_self p))
+all_are-uniform (collection p ids gs) = all_are-precisions_of_all p gs
+    ∙ ap (λ b. b && have_precision p gs) (sym (int_eq_self p))

@@ -1,5 +1,6 @@
 -- Puts one after another.
-use Rattle.std.proofs.Common.{◌≡◌, ◌∙◌, ℕ, List, [], ◌++◌, Option, None, Some, IsTrue, refl, sym, ap, append_assoc, subst}
+use Rattle.std.proofs.Common.{◌≡◌, ◌∙◌, ℕ, List, [], ◌++◌, Option, None, Some, IsTrue, refl, sym}
+use Rattle.std.proofs.Common.{ap, append_assoc, subst}
 use Rattle.std.specs.Prelude.{Result, Ok, Err, OnOk, IfErr, is_some}
 use Rattle.std.specs.Result.{result_err}
 use Rattle.std.proofs.lemmas.List.{append-nil}
@@ -8,17 +9,22 @@ use Rattle.twkb_writer.specs.declared.gatherer.Gatherer.{Gatherer}
 use Rattle.twkb_writer.specs.Putting.{Stands, Put, Progress}
 
 -- two lists appended, one after the other
-pub pushed_twice : (left mid now first second : List ℕ) → mid ≡ left ++ first → now ≡ mid ++ second → now ≡ left ++ (first ++ second)
+pub pushed_twice : (left mid now first second : List ℕ) → mid ≡ left ++ first → now ≡ mid ++ second
+    → now ≡ left ++ (first ++ second)
 pushed_twice left mid now first second e f = f ∙ ap (λ (l : List ℕ). l ++ second) e ∙ append_assoc left first second
 
 module _ {S F : Type 0} (took : S → List ℕ → S → Type 0) (refused : S → List ℕ → F → S → Type 0) where
   -- more bytes are held, or they are lost after a refusal
-  more : (from : S) (all bytes held : List ℕ) (o : Option F) (sink : S) → Stands took refused from all o sink held → Stands took refused from (all ++ bytes) o sink (held ++ bytes)
+  more : (from : S) (all bytes held : List ℕ) (o : Option F) (sink : S)
+      → Stands took refused from all o sink held → Stands took refused from (all ++ bytes) o sink
+      (held ++ bytes)
   more from all bytes held None sink h = (h.0, h.1, ap (λ (l : List ℕ). l ++ bytes) h.2 ∙ append_assoc h.0 held bytes)
-  more from all bytes held (Some fault) sink h = (h.0, h.1 ++ bytes, ap (λ (l : List ℕ). l ++ bytes) h.2 ∙ append_assoc h.0 h.1 bytes, h.3)
+  more from all bytes held (Some fault) sink h =
+      (h.0, h.1 ++ bytes, ap (λ (l : List ℕ). l ++ bytes) h.2 ∙ append_assoc h.0 h.1 bytes, h.3)
 
   -- after a refusal it does not matter which bytes are held
-  lost : (from : S) (all held left : List ℕ) (o : Option F) (sink : S) → IsTrue (is_some o) → Stands took refused from all o sink held → Stands took refused from all o sink left
+  lost : (from : S) (all held left : List ℕ) (o : Option F) (sink : S) → IsTrue (is_some o)
+      → Stands took refused from all o sink held → Stands took refused from all o sink left
   lost from all held left None sink some h = cc some
   lost from all held left (Some fault) sink some h = h
 
@@ -27,37 +33,49 @@ module _ {S F : Type 0} (took : S → List ℕ → S → Type 0) (refused : S �
   put_none a = record {
     same_sink = refl;
     same_fault = refl;
-    puts = λ from before h. subst (λ (l : List ℕ). Stands took refused from l a.fault.now a.sink.now a.piece.now) (sym (append-nil before)) h;
+    puts = λ from before h. subst (λ (l : List ℕ). Stands took refused from l a.fault.now a.sink.now
+        a.piece.now) (sym (append-nil before)) h;
   }
 
-  pub put_join : (a b c : Gatherer S F) (first second : List ℕ) → Put took refused a first b → Put took refused b second c → Put took refused a (first ++ second) c
+  pub put_join : (a b c : Gatherer S F) (first second : List ℕ) → Put took refused a first b
+      → Put took refused b second c → Put took refused a (first ++ second) c
   put_join a b c first second p q = record {
     same_sink = q.same_sink ∙ p.same_sink;
     same_fault = q.same_fault ∙ p.same_fault;
-    puts = λ from before h. subst (λ (l : List ℕ). Stands took refused from l c.fault.now c.sink.now c.piece.now) (append_assoc before first second) (q.puts from (before ++ first) (p.puts from before h));
+    puts = λ from before h. subst (λ (l : List ℕ). Stands took refused from l c.fault.now c.sink.now
+        c.piece.now) (append_assoc before first second)
+        (q.puts from (before ++ first) (p.puts from before h));
   }
 
   -- room was made, and the bytes stayed in the piece
-  pub pushed : (a b c : Gatherer S F) (bytes : List ℕ) → Put took refused a [] b → c.sink ≡ b.sink → c.fault ≡ b.fault → c.piece.now ≡ b.piece.now ++ bytes → Put took refused a bytes c
+  pub pushed : (a b c : Gatherer S F) (bytes : List ℕ) → Put took refused a [] b → c.sink ≡ b.sink
+      → c.fault ≡ b.fault → c.piece.now ≡ b.piece.now ++ bytes → Put took refused a bytes c
   pushed a b c bytes p same kept e = record {
     same_sink = ap (λ (sink : _). sink.ghost_name) same ∙ p.same_sink;
     same_fault = ap (λ (fault : _). fault.ghost_name) kept ∙ p.same_fault;
     puts = λ from before h.
-        let room : Stands took refused from before b.fault.now b.sink.now b.piece.now = subst (λ (l : List ℕ). Stands took refused from l b.fault.now b.sink.now b.piece.now) (append-nil before) (p.puts from before h) in
+        let room : Stands took refused from before b.fault.now b.sink.now b.piece.now =
+        subst (λ (l : List ℕ). Stands took refused from l b.fault.now b.sink.now b.piece.now)
+        (append-nil before) (p.puts from before h) in
         subst (λ (l : List ℕ). Stands took refused from (before ++ bytes) c.fault.now c.sink.now l) (sym e)
-        (subst (λ (sink : _). Stands took refused from (before ++ bytes) c.fault.now sink.now (b.piece.now ++ bytes)) (sym same)
-        (subst (λ (fault : _). Stands took refused from (before ++ bytes) fault.now b.sink.now (b.piece.now ++ bytes)) (sym kept) (more from before bytes b.piece.now b.fault.now b.sink.now room)));
+        (subst (λ (sink : _). Stands took refused from (before ++ bytes) c.fault.now sink.now
+        (b.piece.now ++ bytes)) (sym same)
+        (subst (λ (fault : _). Stands took refused from (before ++ bytes) fault.now b.sink.now
+        (b.piece.now ++ bytes)) (sym kept) (more from before bytes b.piece.now b.fault.now
+        b.sink.now room)));
   }
 
   -- the piece was emptied after a refusal
-  pub emptied : (a c : Gatherer S F) → IsTrue (is_some a.fault.now) → c.sink ≡ a.sink → c.fault ≡ a.fault → Put took refused a [] c
+  pub emptied : (a c : Gatherer S F) → IsTrue (is_some a.fault.now) → c.sink ≡ a.sink
+      → c.fault ≡ a.fault → Put took refused a [] c
   emptied a c some same kept = record {
     same_sink = ap (λ (sink : _). sink.ghost_name) same;
     same_fault = ap (λ (fault : _). fault.ghost_name) kept;
     puts = λ from before h.
         subst (λ (l : List ℕ). Stands took refused from l c.fault.now c.sink.now c.piece.now) (sym (append-nil before))
         (subst (λ (sink : _). Stands took refused from before c.fault.now sink.now c.piece.now) (sym same)
-        (subst (λ (fault : _). Stands took refused from before fault.now a.sink.now c.piece.now) (sym kept) (lost from before a.piece.now c.piece.now a.fault.now a.sink.now some h)));
+        (subst (λ (fault : _). Stands took refused from before fault.now a.sink.now c.piece.now)
+        (sym kept) (lost from before a.piece.now c.piece.now a.fault.now a.sink.now some h)));
   }
 
   -- ---- bytes that are still to be put
@@ -65,70 +83,108 @@ module _ {S F : Type 0} (took : S → List ℕ → S → Type 0) (refused : S �
   pub begun : (a : Gatherer S F) (all : List ℕ) → Progress took refused a all a all
   begun a all = record { written = []; put = put_none a; total = refl }
 
-  pub step : (a b c : Gatherer S F) (all rest bytes left : List ℕ) → rest ≡ bytes ++ left → Progress took refused a all b rest → Put took refused b bytes c → Progress took refused a all c left
+  pub step : (a b c : Gatherer S F) (all rest bytes left : List ℕ) → rest ≡ bytes ++ left
+      → Progress took refused a all b rest → Put took refused b bytes c
+      → Progress took refused a all c left
   step a b c all rest bytes left e p q = record {
     written = p.written ++ bytes;
     put = put_join a b c p.written bytes p.put q;
     total = append_assoc p.written bytes left ∙ ap (λ (l : List ℕ). p.written ++ l) (sym e) ∙ p.total;
   }
 
-  pub finished : (a b : Gatherer S F) (all rest : List ℕ) → rest ≡ [] → Progress took refused a all b rest → Put took refused a all b
+  pub finished : (a b : Gatherer S F) (all rest : List ℕ) → rest ≡ []
+      → Progress took refused a all b rest → Put took refused a all b
   finished a b all rest e p =
-      subst (λ (l : List ℕ). Put took refused a l b) (sym (append-nil p.written) ∙ ap (λ (l : List ℕ). p.written ++ l) (sym e) ∙ p.total) p.put
+      subst (λ (l : List ℕ). Put took refused a l b) (sym (append-nil p.written)
+      ∙ ap (λ (l : List ℕ). p.written ++ l) (sym e) ∙ p.total) p.put
 
   -- after a refusal it does not matter which bytes are left
-  pub given_up : (a b : Gatherer S F) (all rest : List ℕ) → IsTrue (is_some b.fault.now) → Progress took refused a all b rest → Put took refused a all b
+  pub given_up : (a b : Gatherer S F) (all rest : List ℕ) → IsTrue (is_some b.fault.now)
+      → Progress took refused a all b rest → Put took refused a all b
   given_up a b all rest some p = record {
     same_sink = p.put.same_sink;
     same_fault = p.put.same_fault;
     puts = λ from before h.
-        let total : (before ++ p.written) ++ rest ≡ before ++ all = append_assoc before p.written rest ∙ ap (λ (l : List ℕ). before ++ l) p.total in
+        let total : (before ++ p.written) ++ rest ≡ before ++ all = append_assoc before p.written
+        rest ∙ ap (λ (l : List ℕ). before ++ l) p.total in
         subst (λ (l : List ℕ). Stands took refused from l b.fault.now b.sink.now b.piece.now) total
-        (lost from ((before ++ p.written) ++ rest) (b.piece.now ++ rest) b.piece.now b.fault.now b.sink.now some (more from (before ++ p.written) rest b.piece.now b.fault.now b.sink.now (p.put.puts from before h)));
+        (lost from ((before ++ p.written) ++ rest) (b.piece.now ++ rest) b.piece.now b.fault.now
+        b.sink.now some (more from (before ++ p.written) rest b.piece.now b.fault.now b.sink.now
+        (p.put.puts from before h)));
   }
 
   -- ---- a run that began with an empty piece
 
-  begin : (a b : Gatherer S F) (bytes : List ℕ) → took a.sink.now [] a.sink.now → a.fault.now ≡ None → a.piece.now ≡ [] → Put took refused a bytes b → Stands took refused a.sink.now bytes b.fault.now b.sink.now b.piece.now
+  begin : (a b : Gatherer S F) (bytes : List ℕ) → took a.sink.now [] a.sink.now → a.fault.now ≡ None
+      → a.piece.now ≡ [] → Put took refused a bytes b
+      → Stands took refused a.sink.now bytes b.fault.now b.sink.now b.piece.now
   begin a b bytes none fresh empty p =
       let first : Stands took refused a.sink.now [] None a.sink.now a.piece.now = ([], none, sym empty) in
-      p.puts a.sink.now [] (subst (λ (o : Option F). Stands took refused a.sink.now [] o a.sink.now a.piece.now) (sym fresh) first)
+      p.puts a.sink.now [] (subst (λ (o : Option F). Stands took refused a.sink.now [] o a.sink.now
+      a.piece.now) (sym fresh) first)
 
   -- such a run that ended without a refusal and with an empty piece
-  pub whole_run : (a b c : Gatherer S F) (after : S) (o : Option F) (bytes : List ℕ) → took a.sink.now [] a.sink.now → a.fault.now ≡ None → a.piece.now ≡ [] → Put took refused a bytes b → Put took refused b [] c
+  pub whole_run : (a b c : Gatherer S F) (after : S) (o : Option F) (bytes : List ℕ)
+      → took a.sink.now [] a.sink.now → a.fault.now ≡ None → a.piece.now ≡ []
+      → Put took refused a bytes b → Put took refused b [] c
       → o ≡ c.fault.now → o ≡ None → c.piece.now ≡ [] → after ≡ c.sink.now → took a.sink.now bytes after
   whole_run a b c after o bytes none fresh empty p q told_is no_fault left same =
       let all = begin a c (bytes ++ []) none fresh empty (put_join a b c bytes [] p q) in
-      let told : Stands took refused a.sink.now (bytes ++ []) None c.sink.now c.piece.now = subst (λ (o : Option F). Stands took refused a.sink.now (bytes ++ []) o c.sink.now c.piece.now) (sym told_is ∙ no_fault) all in
-      let front_is : told.0 ≡ bytes = sym (append-nil told.0) ∙ ap (λ (l : List ℕ). told.0 ++ l) (sym left) ∙ sym told.2 ∙ append-nil bytes in
+      let told : Stands took refused a.sink.now (bytes ++ []) None c.sink.now c.piece.now =
+      subst (λ (o : Option F). Stands took refused a.sink.now (bytes ++ []) o c.sink.now
+      c.piece.now) (sym told_is ∙ no_fault) all in
+      let front_is : told.0 ≡ bytes = sym (append-nil told.0)
+      ∙ ap (λ (l : List ℕ). told.0 ++ l) (sym left) ∙ sym told.2 ∙ append-nil bytes in
       subst (took a.sink.now bytes) (sym same) (subst (λ (l : List ℕ). took a.sink.now l c.sink.now) front_is told.1)
 
   -- such a run that ended with a refusal
-  pub cut_run : (a b c : Gatherer S F) (after : S) (o : Option F) (bytes : List ℕ) (fault : F) → took a.sink.now [] a.sink.now → a.fault.now ≡ None → a.piece.now ≡ [] → Put took refused a bytes b → Put took refused b [] c
+  pub cut_run : (a b c : Gatherer S F) (after : S) (o : Option F) (bytes : List ℕ) (fault : F)
+      → took a.sink.now [] a.sink.now → a.fault.now ≡ None → a.piece.now ≡ []
+      → Put took refused a bytes b → Put took refused b [] c
       → o ≡ c.fault.now → o ≡ Some fault → after ≡ c.sink.now → TookFront refused a.sink.now bytes fault after
   cut_run a b c after o bytes fault none fresh empty p q told_is some same =
       let all = begin a c (bytes ++ []) none fresh empty (put_join a b c bytes [] p q) in
-      let told : Stands took refused a.sink.now (bytes ++ []) (Some fault) c.sink.now c.piece.now = subst (λ (o : Option F). Stands took refused a.sink.now (bytes ++ []) o c.sink.now c.piece.now) (sym told_is ∙ some) all in
-      subst (TookFront refused a.sink.now bytes fault) (sym same) (subst (λ (l : List ℕ). TookFront refused a.sink.now l fault c.sink.now) (append-nil bytes) told)
+      let told : Stands took refused a.sink.now (bytes ++ []) (Some fault) c.sink.now c.piece.now =
+      subst (λ (o : Option F). Stands took refused a.sink.now (bytes ++ []) o c.sink.now
+      c.piece.now) (sym told_is ∙ some) all in
+      subst (TookFront refused a.sink.now bytes fault) (sym same)
+      (subst (λ (l : List ℕ). TookFront refused a.sink.now l fault c.sink.now)
+      (append-nil bytes) told)
 
 -- the bytes that were held are put
 module _ {S F : Type 0} (took : S → List ℕ → S → Type 0) (refused : S → List ℕ → F → S → Type 0)
     (join : (a b c : S) (xs ys : List ℕ) → took a xs b → took b ys c → took a (xs ++ ys) c)
-    (join_refused : (a b c : S) (xs ys : List ℕ) (fault : F) → took a xs b → refused b ys fault c → refused a (xs ++ ys) fault c) where
-  handed : {T : Type 0} (from old new : S) (all held : List ℕ) (r : Result T F) → OnOk r (took old held new) → IfErr r (λ (fault : F). TookFront refused old held fault new)
+    (join_refused : (a b c : S) (xs ys : List ℕ) (fault : F) → took a xs b → refused b ys fault c
+    → refused a (xs ++ ys) fault c) where
+  handed : {T : Type 0} (from old new : S) (all held : List ℕ) (r : Result T F)
+      → OnOk r (took old held new) → IfErr r (λ (fault : F). TookFront refused old held fault new)
       → Stands took refused from all None old held → Stands took refused from all (result_err r) new []
-  handed from old new all held (Ok x) ok err h = (h.0 ++ held, join from old new h.0 held h.1 ok, h.2 ∙ sym (append-nil (h.0 ++ held)))
-  handed from old new all held (Err fault) ok err h =
-      (h.0 ++ err.0, err.1, h.2 ∙ ap (λ (l : List ℕ). h.0 ++ l) err.2 ∙ sym (append_assoc h.0 err.0 err.1), join_refused from old new h.0 err.0 fault h.1 err.3)
+  handed from old new all held (Ok x) ok err h =
+      (h.0 ++ held, join from old new h.0 held h.1 ok, h.2 ∙ sym (append-nil (h.0 ++ held)))
+  handed from old new all held (Err fault) ok err h = (
+    h.0 ++ err.0,
+    err.1,
+    h.2 ∙ ap (λ (l : List ℕ). h.0 ++ l) err.2
+        ∙ sym (append_assoc h.0 err.0 err.1),
+    join_refused from old new h.0 err.0 fault h.1 err.3,
+  )
 
-  pub flushed : {T : Type 0} (a c : Gatherer S F) (r : Result T F) (bytes : List ℕ) → bytes ≡ a.piece.now → c.sink.ghost_name ≡ a.sink.ghost_name → c.fault.ghost_name ≡ a.fault.ghost_name → a.fault.now ≡ None → c.fault.now ≡ result_err r → c.piece.now ≡ []
-      → OnOk r (took a.sink.now bytes c.sink.now) → IfErr r (λ (fault : F). TookFront refused a.sink.now bytes fault c.sink.now) → Put took refused a [] c
+  pub flushed : {T : Type 0} (a c : Gatherer S F) (r : Result T F) (bytes : List ℕ)
+      → bytes ≡ a.piece.now → c.sink.ghost_name ≡ a.sink.ghost_name
+      → c.fault.ghost_name ≡ a.fault.ghost_name → a.fault.now ≡ None → c.fault.now ≡ result_err r
+      → c.piece.now ≡ []
+      → OnOk r (took a.sink.now bytes c.sink.now) → IfErr r
+      (λ (fault : F). TookFront refused a.sink.now bytes fault c.sink.now) → Put took refused a [] c
   flushed a c r bytes held same same_fault fresh told empty ok err = record {
     same_sink = same;
     same_fault = same_fault;
     puts = λ from before h.
-        let first : Stands took refused from before None a.sink.now bytes = subst (λ (l : List ℕ). Stands took refused from before None a.sink.now l) (sym held) (subst (λ (o : Option F). Stands took refused from before o a.sink.now a.piece.now) fresh h) in
+        let first : Stands took refused from before None a.sink.now bytes =
+        subst (λ (l : List ℕ). Stands took refused from before None a.sink.now l) (sym held)
+        (subst (λ (o : Option F). Stands took refused from before o a.sink.now a.piece.now)
+        fresh h) in
         subst (λ (l : List ℕ). Stands took refused from l c.fault.now c.sink.now c.piece.now) (sym (append-nil before))
         (subst (λ (l : List ℕ). Stands took refused from before c.fault.now c.sink.now l) (sym empty)
-        (subst (λ (o : Option F). Stands took refused from before o c.sink.now []) (sym told) (handed from a.sink.now c.sink.now before bytes r ok err first)));
+        (subst (λ (o : Option F). Stands took refused from before o c.sink.now []) (sym told)
+        (handed from a.sink.now c.sink.now before bytes r ok err first)));
   }

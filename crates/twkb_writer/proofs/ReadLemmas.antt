@@ -6,9 +6,18 @@ use Rattle.twkb_flat.specs.declared.work.Work.{Work}
 use Rattle.twkb_writer.specs.Reads.{Reads, ReadsExactly}
 
 pub reads_none : (w : Work) (n m : ℕ) → Reads w n m w
-reads_none w n m = record { node_reads = omega arith; point_reads = omega arith; no_fewer_nodes = omega arith; no_fewer_points = omega arith; same_points = refl; same_nodes = refl; same_entries = refl }
+reads_none w n m = record {
+  node_reads = omega arith;
+  point_reads = omega arith;
+  no_fewer_nodes = omega arith;
+  no_fewer_points = omega arith;
+  same_points = refl;
+  same_nodes = refl;
+  same_entries = refl;
+}
 
-pub reads_join : (a b c : Work) (n m k j p q : ℕ) → Reads a n m b → Reads b k j c → n + k ≤ p → m + j ≤ q → Reads a p q c
+pub reads_join : (a b c : Work) (n m k j p q : ℕ) → Reads a n m b → Reads b k j c → n + k ≤ p
+    → m + j ≤ q → Reads a p q c
 reads_join a b c n m k j p q r s h i = record {
   node_reads = omega (arith, r.node_reads, s.node_reads);
   point_reads = omega (arith, r.point_reads, s.point_reads);
@@ -19,7 +28,8 @@ reads_join a b c n m k j p q r s h i = record {
   same_entries = s.same_entries ∙ r.same_entries;
 }
 
-pub one_node : (a b : Work) → a.node_reads ≤ b.node_reads → b ≡ record a { node_reads = saturated (a.node_reads + 1) } → Reads a 1 0 b
+pub one_node : (a b : Work) → a.node_reads ≤ b.node_reads
+    → b ≡ record a { node_reads = saturated (a.node_reads + 1) } → Reads a 1 0 b
 one_node a b more e = record {
   node_reads = omega (arith, ap (λ (w : Work). w.node_reads) e);
   point_reads = omega (arith, ap (λ (w : Work). w.point_reads) e);
@@ -30,7 +40,8 @@ one_node a b more e = record {
   same_entries = ap (λ (w : Work). w.entries) e;
 }
 
-pub one_point : (a b : Work) → a.point_reads ≤ b.point_reads → b ≡ record a { point_reads = saturated (a.point_reads + 1) } → Reads a 0 1 b
+pub one_point : (a b : Work) → a.point_reads ≤ b.point_reads
+    → b ≡ record a { point_reads = saturated (a.point_reads + 1) } → Reads a 0 1 b
 one_point a b more e = record {
   node_reads = omega (arith, ap (λ (w : Work). w.node_reads) e);
   point_reads = omega (arith, ap (λ (w : Work). w.point_reads) e);
@@ -41,26 +52,39 @@ one_point a b more e = record {
   same_entries = ap (λ (w : Work). w.entries) e;
 }
 
-pub two_points : (a b c : Work) → a.point_reads ≤ b.point_reads → b ≡ record a { point_reads = saturated (a.point_reads + 1) } → b.point_reads ≤ c.point_reads → c ≡ record b { point_reads = saturated (b.point_reads + 1) } → Reads a 0 2 c
-two_points a b c more e further f = reads_join a b c 0 1 0 1 0 2 (one_point a b more e) (one_point b c further f) (omega arith) (omega arith)
+pub two_points : (a b c : Work) → a.point_reads ≤ b.point_reads
+    → b ≡ record a { point_reads = saturated (a.point_reads + 1) } → b.point_reads ≤ c.point_reads
+    → c ≡ record b { point_reads = saturated (b.point_reads + 1) } → Reads a 0 2 c
+two_points a b c more e further f = reads_join a b c 0 1 0 1 0 2 (one_point a b more e)
+    (one_point b c further f) (omega arith) (omega arith)
 
 pub reads_if : (named : Bool) (a b : Work) (n : ℕ) → Reads a (if named then n else 0) 0 b → Reads a n 0 b
 reads_if true a b n r = r
 reads_if false a b n r = reads_join a b b 0 0 0 0 n 0 r (reads_none b 0 0) (omega arith) (omega arith)
 
-pub reads_row : (a b c d e : Work) (n m k p : ℕ) → Reads a n m b → Reads b 1 0 c → Reads c k 0 d → Reads d 0 p e → Reads a (n + (1 + k)) (m + p) e
+pub reads_row : (a b c d e : Work) (n m k p : ℕ) → Reads a n m b → Reads b 1 0 c → Reads c k 0 d
+    → Reads d 0 p e → Reads a (n + (1 + k)) (m + p) e
 reads_row a b c d e n m k p r s t u =
     reads_join a d e (n + (1 + k)) m 0 p (n + (1 + k)) (m + p)
-    (reads_join a c d (n + 1) m k 0 (n + (1 + k)) m (reads_join a b c n m 1 0 (n + 1) m r s (omega arith) (omega arith)) t (omega arith) (omega arith)) u (omega arith) (omega arith)
+    (reads_join a c d (n + 1) m k 0 (n + (1 + k)) m
+    (reads_join a b c n m 1 0 (n + 1) m r s (omega arith) (omega arith)) t (omega arith)
+    (omega arith)) u (omega arith) (omega arith)
 
 -- ---- exact counts
 
 -- no node and no point was read
 pub exactly_none : (w : Work) → w.node_reads < 2 ^ 64 → w.point_reads < 2 ^ 64 → ReadsExactly w 0 0 w
-exactly_none w nodes points = record { node_reads = omega arith; point_reads = omega arith; same_points = refl; same_nodes = refl; same_entries = refl }
+exactly_none w nodes points = record {
+  node_reads = omega arith;
+  point_reads = omega arith;
+  same_points = refl;
+  same_nodes = refl;
+  same_entries = refl;
+}
 
 -- exact counts, one after the other, add up
-pub exactly_join : (a b c : Work) (n m k j p q : ℕ) → ReadsExactly a n m b → ReadsExactly b k j c → p ≡ n + k → q ≡ m + j → ReadsExactly a p q c
+pub exactly_join : (a b c : Work) (n m k j p q : ℕ) → ReadsExactly a n m b → ReadsExactly b k j c
+    → p ≡ n + k → q ≡ m + j → ReadsExactly a p q c
 exactly_join a b c n m k j p q r s h i = record {
   node_reads = omega (arith, r.node_reads, s.node_reads);
   point_reads = omega (arith, r.point_reads, s.point_reads);
@@ -74,7 +98,8 @@ pub exactly_same : (a c : Work) (n m p : ℕ) → ReadsExactly a n m c → p ≡
 exactly_same a c n m p r e = subst (λ k. ReadsExactly a n k c) (sym e) r
 
 -- one more node was read
-pub exactly_node : (a b c : Work) (n m : ℕ) → ReadsExactly a n m b → c ≡ record b { node_reads = saturated (b.node_reads + 1) } → ReadsExactly a (n + 1) m c
+pub exactly_node : (a b c : Work) (n m : ℕ) → ReadsExactly a n m b
+    → c ≡ record b { node_reads = saturated (b.node_reads + 1) } → ReadsExactly a (n + 1) m c
 exactly_node a b c n m r e = record {
   node_reads = omega (arith, r.node_reads, ap (λ (w : Work). w.node_reads) e);
   point_reads = ap (λ (w : Work). w.point_reads) e ∙ r.point_reads;
@@ -84,7 +109,8 @@ exactly_node a b c n m r e = record {
 }
 
 -- one more point was read
-pub exactly_point : (a b c : Work) (n m : ℕ) → ReadsExactly a n m b → c ≡ record b { point_reads = saturated (b.point_reads + 1) } → ReadsExactly a n (m + 1) c
+pub exactly_point : (a b c : Work) (n m : ℕ) → ReadsExactly a n m b
+    → c ≡ record b { point_reads = saturated (b.point_reads + 1) } → ReadsExactly a n (m + 1) c
 exactly_point a b c n m r e = record {
   node_reads = ap (λ (w : Work). w.node_reads) e ∙ r.node_reads;
   point_reads = omega (arith, r.point_reads, ap (λ (w : Work). w.point_reads) e);

@@ -17,10 +17,16 @@ mutual
 
   length-sizes_of_all : (style : Style) (gs : Trees) → length (sizes_of_all style gs) ≡ geometries_of_all gs
   length-sizes_of_all style end = refl
-  length-sizes_of_all style (g ▷ gs) = omega (arith, length-append (sizes_of style g) (sizes_of_all style gs), length-sizes_of style g, length-sizes_of_all style gs)
+  length-sizes_of_all style (g ▷ gs) = omega (
+    arith,
+    length-append (sizes_of style g) (sizes_of_all style gs),
+    length-sizes_of style g,
+    length-sizes_of_all style gs,
+  )
 
 -- the sizes of a geometry's rows
-pub one_size_each : (style : Style) (g : Tree) (flat : List Row) (sizes : List Entry) → IsTree g → rows 0 g ≡ flat → AreSizes style flat sizes → length sizes ≡ geometries g
+pub one_size_each : (style : Style) (g : Tree) (flat : List Row) (sizes : List Entry) → IsTree g
+    → rows 0 g ≡ flat → AreSizes style flat sizes → length sizes ≡ geometries g
 one_size_each style g [] sizes tree same are = absurd (some_row g same)
 one_size_each style g (r ∷ rs) sizes tree same are =
     let one : are.0 ≡ g = one_geometry are.0 g are.1 tree (are.2 ∙ sym same) in

@@ -1,6 +1,7 @@
 -- No row is a member of two others, so walking over the members of each row reads each row at
 -- most once.
-use Rattle.std.proofs.Common.{◌≡◌, inl, inr, ℕ, zero, suc, ◌+◌, ◌-◌, ◌*◌, ◌<◌, ◌≤◌, List, [], ◌∷◌, length, refl, ap, arith}
+use Rattle.std.proofs.Common.{◌≡◌, inl, inr, ℕ, zero, suc, ◌+◌, ◌-◌, ◌*◌, ◌<◌, ◌≤◌, List, [], ◌∷◌}
+use Rattle.std.proofs.Common.{length, refl, ap, arith}
 use Rattle.std.proofs.lemmas.Bool.{cases_lt}
 use Rattle.twkb_tree.specs.Rows.{Row}
 use Rattle.twkb_writer.specs.Bytes.{members_below}
@@ -56,7 +57,8 @@ opens_more (suc n) r rs =
             let one = ap length (members-one n r rs (omega (arith, level))) in
             let rise = opens_rise (suc n) (r.depth) rs (omega arith) in omega (arith, before, one, rise))
       ]
-      | inr shallow ↦ (let before = opens_more n r rs in let none = ap length (members-over n r rs shallow) in omega (arith, before, none))
+      | inr shallow ↦ (let before = opens_more n r rs in
+          let none = ap length (members-over n r rs shallow) in omega (arith, before, none))
     ]
 
 walks_opens : (n : ℕ) (rs : List Row) → walks rs + opens n rs ≤ 2 * length rs

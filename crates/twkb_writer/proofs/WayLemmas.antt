@@ -17,26 +17,31 @@ walked at ps = varints (steps at ps)
 
 -- the bytes of joined places
 pub walked-append : (at : Point) (xs ys : List Place) → walked at (xs ++ ys) ≡ walked at xs ++ walked (reached at xs) ys
-walked-append at xs ys = ap varints (steps-append at xs ys) ∙ flat_map-append (λ (f : Field). varint_of f.1) (steps at xs) (steps (reached at xs) ys)
+walked-append at xs ys = ap varints (steps-append at xs ys)
+    ∙ flat_map-append (λ (f : Field). varint_of f.1) (steps at xs) (steps (reached at xs) ys)
 
 -- the bytes of points, and of places after them
-pub walked-points : (at : Point) (ps : List Point) (ms : List Place) → walked at (map OfPoint ps ++ ms) ≡ way_bytes at ps ++ walked (way_end at ps) ms
+pub walked-points : (at : Point) (ps : List Point) (ms : List Place)
+    → walked at (map OfPoint ps ++ ms) ≡ way_bytes at ps ++ walked (way_end at ps) ms
 walked-points at [] ms = refl
 walked-points at (p ∷ ps) ms =
     let x = signed (p.x -ℤ at.x) in
     let y = signed (p.y -ℤ at.y) in
     ap (λ l. x ++ (y ++ l)) (walked-points p ps ms)
-    ∙ sym (append_assoc x (y ++ way_bytes p ps) (walked (way_end p ps) ms) ∙ ap (λ l. x ++ l) (append_assoc y (way_bytes p ps) (walked (way_end p ps) ms)))
+    ∙ sym (append_assoc x (y ++ way_bytes p ps) (walked (way_end p ps) ms)
+    ∙ ap (λ l. x ++ l) (append_assoc y (way_bytes p ps) (walked (way_end p ps) ms)))
     ∙ ap (λ l. l ++ walked (way_end p ps) ms) (sym (append_assoc x y (way_bytes p ps)))
 
 -- the position after points, and after places after them
-pub reached-points : (at : Point) (ps : List Point) (ms : List Place) → reached at (map OfPoint ps ++ ms) ≡ reached (way_end at ps) ms
+pub reached-points : (at : Point) (ps : List Point) (ms : List Place)
+    → reached at (map OfPoint ps ++ ms) ≡ reached (way_end at ps) ms
 reached-points at [] ms = refl
 reached-points at (p ∷ ps) ms = reached-points p ps ms
 
 -- the bytes of points alone
 pub walked-way : (at : Point) (ps : List Point) → walked at (map OfPoint ps) ≡ way_bytes at ps
-walked-way at ps = ap (λ l. walked at l) (sym (append-nil (map OfPoint ps))) ∙ walked-points at ps [] ∙ append-nil (way_bytes at ps)
+walked-way at ps = ap (λ l. walked at l) (sym (append-nil (map OfPoint ps)))
+    ∙ walked-points at ps [] ∙ append-nil (way_bytes at ps)
 
 -- the position after points alone
 pub reached-way : (at : Point) (ps : List Point) → reached at (map OfPoint ps) ≡ way_end at ps
@@ -48,9 +53,11 @@ reached-ids at [] ms = refl
 reached-ids at (id ∷ ids) ms = reached-ids at ids ms
 
 -- the bytes of ids, and of places after them
-pub walked-ids : (at : Point) (ids : List ℤ) (ms : List Place) → walked at (map OfId ids ++ ms) ≡ walked at (map OfId ids) ++ walked at ms
+pub walked-ids : (at : Point) (ids : List ℤ) (ms : List Place)
+    → walked at (map OfId ids ++ ms) ≡ walked at (map OfId ids) ++ walked at ms
 walked-ids at [] ms = refl
-walked-ids at (id ∷ ids) ms = ap (λ l. signed id ++ l) (walked-ids at ids ms) ∙ sym (append_assoc (signed id) (walked at (map OfId ids)) (walked at ms))
+walked-ids at (id ∷ ids) ms = ap (λ l. signed id ++ l) (walked-ids at ids ms)
+    ∙ sym (append_assoc (signed id) (walked at (map OfId ids)) (walked at ms))
 
 -- the bytes of ids as fields
 pub filled-ids : (at : Point) (ids : List ℤ) → varints (filled (map OfId ids) []) ≡ walked at (map OfId ids)

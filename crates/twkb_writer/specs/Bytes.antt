@@ -1,5 +1,7 @@
 -- The bytes of rows in preorder, given the measured sizes of their geometries.
-use Rattle.std.specs.Prelude.{ℕ, zero, suc, ◌+◌, Bool, true, false, if◌then◌else◌, nat_le, nat_eq, not, ◌&&◌, is_some, List, [], ◌∷◌, ◌++◌, length, drop, flat_map, ℤ, Option, None, Some}
+use Rattle.std.specs.Prelude.{ℕ, zero, suc, ◌+◌, Bool, true, false, if◌then◌else◌, nat_le, nat_eq}
+use Rattle.std.specs.Prelude.{not, ◌&&◌, is_some, List, [], ◌∷◌, ◌++◌, length, drop, flat_map, ℤ}
+use Rattle.std.specs.Prelude.{Option, None, Some}
 use Rattle.twkb_num.specs.Zigzag.{zigzag_of}
 use Rattle.twkb_num.specs.Varint.{varint_of}
 use Rattle.twkb_points.specs.Point.{Point, origin}
@@ -40,7 +42,8 @@ way_end at (p ∷ ps) = way_end p ps
 -- that is no deeper than it
 abbrev pub members_below : ℕ → List Row → List Row
 members_below d [] = []
-members_below d (r ∷ rs) = if nat_le r.depth d then [] else if nat_eq r.depth (suc d) then r ∷ members_below d rs else members_below d rs
+members_below d (r ∷ rs) = if nat_le r.depth d then [] else if nat_eq r.depth (suc d) then r
+    ∷ members_below d rs else members_below d rs
 
 -- the bytes of an id; none if there is no id
 abbrev pub id_bytes : Option ℤ → List ℕ
@@ -113,7 +116,8 @@ header style k p own e = type_byte k p ∷ metadata_of style own e ∷ (size_byt
 -- number of its points and the rows after it
 abbrev pub geometry_lead : Style → ℤ → Entry → Kind → ℕ → ℕ → List Row → List ℕ
 geometry_lead style p e k d own rs =
-    header style k p own e ++ (if is_bare own e then [] else counts_bytes k own e.members (if e.named then ids_bytes (members_below d rs) else []))
+    header style k p own e ++ (if is_bare own e then [] else counts_bytes k own e.members
+    (if e.named then ids_bytes (members_below d rs) else []))
 
 -- the bytes before the points of a part of a geometry: a ring, or a member of a multi type
 abbrev pub part_lead : Kind → ℕ → ℕ → List Row → List ℕ

@@ -1,6 +1,7 @@
 -- The totals of the rows at one depth and of all rows below them, and what they add to the geometry
 -- above them.
-use Rattle.std.specs.Prelude.{ℕ, ◌+◌, ◌≤◌, ◌^◌, ℤ, ◌-ℤ◌, Bool, true, false, not, ◌&&◌, ◌||◌, if◌then◌else◌, nat_eq, is_some, Option, None, Some}
+use Rattle.std.specs.Prelude.{ℕ, ◌+◌, ◌≤◌, ◌^◌, ℤ, ◌-ℤ◌, Bool, true, false, not, ◌&&◌, ◌||◌}
+use Rattle.std.specs.Prelude.{if◌then◌else◌, nat_eq, is_some, Option, None, Some}
 use Rattle.twkb_points.specs.Extent.{Extent, joined_options}
 use Rattle.twkb_tree.specs.declared.kind.Kind.{Kind}
 use Rattle.twkb_tree.specs.declared.kind.Kind.TheVariants as kind
@@ -25,7 +26,8 @@ id_len (Some n) = signed_len n
 -- the number of bytes of the four numbers of a box (TWKB, bounding box)
 abbrev pub box_len : Option Extent → ℕ
 box_len None = 0
-box_len (Some e) = signed_len e.least.x + signed_len (e.greatest.x -ℤ e.least.x) + signed_len e.least.y + signed_len (e.greatest.y -ℤ e.least.y)
+box_len (Some e) = signed_len e.least.x + signed_len (e.greatest.x -ℤ e.least.x) + signed_len
+    e.least.y + signed_len (e.greatest.y -ℤ e.least.y)
 
 -- the number of bytes of a row's count, and of the ids if it counts members (TWKB, description of
 -- types)

@@ -1,5 +1,6 @@
 -- The totals of rows, found in one pass from the last row to the first.
-use Rattle.std.specs.Prelude.{◌≡◌, ℕ, suc, ◌+◌, ◌≤◌, ℤ, nat_lt, nat_eq, if◌then◌else◌, List, [], ◌∷◌, ◌++◌, length, slice_index_or, slice_set, Option, None, Some}
+use Rattle.std.specs.Prelude.{◌≡◌, ℕ, suc, ◌+◌, ◌≤◌, ℤ, nat_lt, nat_eq, if◌then◌else◌, List, []}
+use Rattle.std.specs.Prelude.{◌∷◌, ◌++◌, length, slice_index_or, slice_set, Option, None, Some}
 use Rattle.twkb_points.specs.Point.{Point}
 use Rattle.twkb_tree.specs.declared.kind.Kind.{Kind}
 use Rattle.twkb_tree.specs.Rows.{Row}
@@ -44,7 +45,8 @@ abbrev pub level : Style → ℕ → List Row → Level
 level style k [] = blank
 level style k (r ∷ rs) =
     chosen r.depth k
-    (row_level style r.kind (length r.points) r.id r.precision (level style (suc k) rs) (tail_of (r.points ++ points_ahead rs)) (level style k rs))
+    (row_level style r.kind (length r.points) r.id r.precision (level style (suc k) rs)
+    (tail_of (r.points ++ points_ahead rs)) (level style k rs))
     (level style k rs)
 
 -- the totals of points that the row before this one adds to: none if this row begins a geometry
@@ -71,7 +73,8 @@ option_list (Some e) = e ∷ []
 abbrev pub measured : Style → List Row → List Entry
 measured style [] = []
 measured style (r ∷ rs) =
-    option_list (row_entry style r.kind (length r.points) r.precision (level style (suc r.depth) rs) (tail_of (r.points ++ points_ahead rs)))
+    option_list (row_entry style r.kind (length r.points) r.precision (level style (suc r.depth) rs)
+    (tail_of (r.points ++ points_ahead rs)))
     ++ measured style rs
 
 -- the points of the first row
@@ -81,13 +84,16 @@ points_at (r ∷ rs) = r.points
 
 -- One row is added: the totals at each depth after it, and its entry, given the points up to the
 -- end of its geometry.
-pub record TakenRow (style : Style) (node : Node) (points : Tail) (old new : List Level) (entry : Option Entry) : Type 0 where
+pub record TakenRow (style : Style) (node : Node) (points : Tail) (old new : List Level)
+    (entry : Option Entry) : Type 0 where
   pub own : Level
   pub own_is : own ≡ row_level style node.row.kind node.points node.row.id node.row.precision
       (slice_index_or old (node.row.depth + 1) blank) points (slice_index_or old node.row.depth blank)
-  pub own_small : load own ≤ load (slice_index_or old (node.row.depth + 1) blank) + load (slice_index_or old node.row.depth blank) + cost_of node.row.precision points.bytes
+  pub own_small : load own ≤ load (slice_index_or old (node.row.depth + 1) blank) + load
+      (slice_index_or old node.row.depth blank) + cost_of node.row.precision points.bytes
   pub set_both : new ≡ slice_set (slice_set old (node.row.depth + 1) blank) node.row.depth own
-  pub entry_is : entry ≡ row_entry style node.row.kind node.points node.row.precision (slice_index_or old (node.row.depth + 1) blank) points
+  pub entry_is : entry ≡ row_entry style node.row.kind node.points node.row.precision
+      (slice_index_or old (node.row.depth + 1) blank) points
 
 -- these points, nodes and entries were measured, and each point and node was read exactly once
 pub record Counted (old : Work) (points nodes entries : ℕ) (new : Work) : Type 0 where

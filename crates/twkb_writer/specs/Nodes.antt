@@ -9,7 +9,8 @@ use Rattle.twkb_writer.specs.declared.job.Job.{Job}
 use Rattle.twkb_writer.specs.declared.job.Placed.{Placed}
 use Rattle.twkb_writer.specs.declared.members.MemberIds.{MemberIds}
 use Rattle.twkb_writer.specs.declared.sizes.Entry.{Entry}
-use Rattle.twkb_writer.specs.Bytes.{members_below, ids_bytes, counts_bytes, is_bare, header, part_lead, lead, rows_bytes}
+use Rattle.twkb_writer.specs.Bytes.{members_below, ids_bytes, counts_bytes, is_bare, header}
+use Rattle.twkb_writer.specs.Bytes.{part_lead, lead, rows_bytes}
 
 -- the rows after the node
 abbrev pub rows_after : List Row → Placed → List Row
@@ -37,7 +38,8 @@ header_of style p e node = header style node.row.kind p node.points e
 
 -- the bytes between the header of a geometry and its points: none if it has no body
 abbrev pub own_of : Entry → List Row → Placed → List ℕ
-own_of e rows at = if is_bare at.node.points e then [] else counts_of (record { count = e.members; named = e.named }) rows at
+own_of e rows at = if is_bare at.node.points e then [] else counts_of
+    (record { count = e.members; named = e.named }) rows at
 
 -- the counts of a node that is a part of a geometry
 abbrev pub part_of : List Row → Placed → List ℕ
@@ -46,7 +48,8 @@ part_of rows at = part_lead at.node.row.kind at.node.row.depth at.node.points (r
 -- the bytes before the node's points, given the entries from this index on
 abbrev pub lead_of : Job → ℕ → Placed → List ℕ
 lead_of job entry at =
-    lead job.style at.node.row.precision (drop entry job.sizes.now) at.node.row.kind at.node.row.depth at.node.points (rows_after job.flat.now at)
+    lead job.style at.node.row.precision (drop entry job.sizes.now) at.node.row.kind
+    at.node.row.depth at.node.points (rows_after job.flat.now at)
 
 -- the bytes of all rows
 abbrev pub bytes_of : Job → List ℕ

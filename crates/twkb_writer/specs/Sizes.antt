@@ -1,7 +1,9 @@
 -- The numbers of a geometry that its canonical blob needs before its body.
 use Rattle.std.specs.Prelude.{◌≡◌, ℕ, if◌then◌else◌, is_some, List, [], ◌∷◌, ◌++◌, length, Option, None}
 use Rattle.twkb_points.specs.Extent.{Extent, extent}
-use Rattle.twkb_tree.specs.Tree.{Simple, point, line, polygon, multi_point, multi_line, multi_polygon, Tree, simple, collection, Trees, end, ◌▷◌, Ids, IsTree, count, flat}
+use Rattle.twkb_tree.specs.Tree.{Simple, point, line, polygon, multi_point, multi_line}
+use Rattle.twkb_tree.specs.Tree.{multi_polygon, Tree, simple, collection, Trees, end, ◌▷◌, Ids}
+use Rattle.twkb_tree.specs.Tree.{IsTree, count, flat}
 use Rattle.twkb_tree.specs.Rows.{Row, rows}
 use Rattle.twkb_grammar.specs.Roles.{Count, Geometries}
 use Rattle.twkb_grammar.specs.Items.{fields, id_fields}
@@ -14,7 +16,8 @@ use Rattle.twkb_writer.specs.Bytes.{box_bytes}
 -- the body of a geometry's canonical blob, if it has one (TWKB, description of types)
 abbrev pub body_of : Style → Tree → List ℕ
 body_of style (simple p s) = varints (fields s)
-body_of style (collection p ids gs) = varints ((Count (Geometries 0), count gs) ∷ id_fields ids) ++ canonical_members style gs
+body_of style (collection p ids gs) = varints ((Count (Geometries 0), count gs) ∷ id_fields ids)
+    ++ canonical_members style gs
 
 -- the body, or nothing if bit 4 says that there is none (TWKB, metadata header)
 abbrev pub own_body : Style → Tree → List ℕ
@@ -60,7 +63,12 @@ ids_of (collection p ids gs) = ids
 -- the entry of one geometry in a style: the length of its content, the extent for its box, the
 -- number of its rings or members, and whether these have ids
 abbrev pub entry_of : Style → Tree → Entry
-entry_of style g = record { size = length (content_of style g); bounds = bounds_of style g; members = part_count g; named = is_some (ids_of g) }
+entry_of style g = record {
+  size = length (content_of style g);
+  bounds = bounds_of style g;
+  members = part_count g;
+  named = is_some (ids_of g);
+}
 
 -- the entries of a geometry and of all collection members in it, in preorder
 abbrev mutual

@@ -20,7 +20,8 @@ level_under g = level Full 0 (rows_under 0 g)
 -- the totals after the geometry is added before the rows at its depth
 abbrev pub tree_level : Option ℤ → Tree → Level → Level
 tree_level id g others =
-    row_level Full (own_row id 0 g).kind (length (own_row id 0 g).points) id (Some (precision_of g)) (level_under g) (tail_of (way_of g)) others
+    row_level Full (own_row id 0 g).kind (length (own_row id 0 g).points) id (Some (precision_of g))
+    (level_under g) (tail_of (way_of g)) others
 
 -- a bound on the bytes of this many rows and points
 abbrev pub most_of : ℕ → ℕ → ℕ

@@ -24,7 +24,8 @@ use twkb_tree::Kind;
 
 // Measures a point, which has no box.
 fn point_entry(point: Pt) -> Entry
-    ensures { (style : InStyle) (precision : ℤ) → result ≡ entry_for style PointKind precision 1 blank (tail_of (point ∷ [])) }
+    ensures { (style : InStyle) (precision : ℤ) → result ≡ entry_for style PointKind precision 1
+        blank (tail_of (point ∷ [])) }
 {
     let (x, y) = Cursor::origin().delta(point);
     Entry {

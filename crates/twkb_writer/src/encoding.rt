@@ -36,7 +36,8 @@ pub fn encode_styled<S: Sink>(
 ) -> Result<(), EncodeFault<S::Fault>>
     requires { IsValid largest_limits geometry.now }
     ensures ok { OnOk result (S.took sink.old (canonical_blob style geometry.now) sink.new) }
-    ensures err { IfErr result (λ fault. Stopped S.refused sink.old (canonical_blob style geometry.now) fault sink.new) }
+    ensures err { IfErr result (λ fault. Stopped S.refused sink.old
+        (canonical_blob style geometry.now) fault sink.new) }
 {
     let Ok(flat) = Flat::from_geometry(alloc, geometry) else {
         return Err(EncodeFault::Memory);

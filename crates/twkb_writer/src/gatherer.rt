@@ -138,7 +138,9 @@ impl<'a, 'b, 'c, S: Sink> Gatherer<'a, 'b, 'c, S, S::Fault> {
     // Puts the differences to two points, one after the other, and moves the cursor there.
     #[inline(always)]
     pub(crate) fn put_steps(&mut self, cursor: &mut Cursor, first: Pt, second: Pt)
-        ensures put { Put S.took S.refused self.old (step_bytes (first.x -ℤ cursor.old.x, first.y -ℤ cursor.old.y) ++ step_bytes (second.x -ℤ first.x, second.y -ℤ first.y)) self.new }
+        ensures put { Put S.took S.refused self.old (step_bytes
+            (first.x -ℤ cursor.old.x, first.y -ℤ cursor.old.y) ++ step_bytes
+            (second.x -ℤ first.x, second.y -ℤ first.y)) self.new }
         ensures moved { cursor.new ≡ second }
     {
         self.make_room();

@@ -10,5 +10,6 @@ ghost use Rattle.twkb_writer.specs.Sizes.{AreSizes};
 /// A geometry has one size for each of its TWKB geometries: itself, and the members of each
 /// collection in it.
 pub fn one_size_each()
-    ensures { (style : Style) (g : Tree) (flat : List Row) (sizes : List Entry) → IsTree g → rows 0 g ≡ flat → AreSizes style flat sizes → length sizes ≡ geometries g }
+    ensures { (style : Style) (g : Tree) (flat : List Row) (sizes : List Entry) → IsTree g
+        → rows 0 g ≡ flat → AreSizes style flat sizes → length sizes ≡ geometries g }
 {}

@@ -1,6 +1,8 @@
 //! The totals of the rows at one depth, which give the size of the geometry above them.
 ghost use Rattle.std.specs.Prelude.{◌≡◌, ◌+◌, ◌≤◌, ◌^◌};
-ghost use Rattle.twkb_writer.specs.Levels.{blank, lead_len, body_len, all_bounds, box_for, box_len, id_len, is_point, entry_for, blob_len, with_part, with_geometry};
+ghost use Rattle.twkb_writer.specs.Levels.{blank, lead_len, body_len, all_bounds, box_for, box_len};
+ghost use Rattle.twkb_writer.specs.Levels.{id_len, is_point, entry_for, blob_len, with_part};
+ghost use Rattle.twkb_writer.specs.Levels.{with_geometry};
 ghost use Rattle.twkb_grammar.specs.declared.style.Style.TheVariants.{Full};
 
 use crate::lengths::{number_len, signed_len};

@@ -1,5 +1,6 @@
 //! The sizes of a flat form, measured in one pass over its rows from the last to the first.
-ghost use Rattle.std.specs.Prelude.{◌≡◌, ◌+◌, ◌++◌, ◌*◌, ◌<◌, ◌≤◌, ◌^◌, ℕ, List, length, drop, slice_index_or, IfOk, OnOk};
+ghost use Rattle.std.specs.Prelude.{◌≡◌, ◌+◌, ◌++◌, ◌*◌, ◌<◌, ◌≤◌, ◌^◌, ℕ, List, length, drop};
+ghost use Rattle.std.specs.Prelude.{slice_index_or, IfOk, OnOk};
 ghost use Rattle.twkb_points.specs.Point.{Point};
 ghost use Rattle.twkb_tree.specs.Rows.{row_points};
 ghost use Rattle.twkb_flat.specs.Rows.{IsNode};
@@ -37,7 +38,8 @@ pub(crate) fn take_points(flat: &Flat, id: NodeId, node: &Node, tail: Tail, work
     requires node { IsNode flat.now id.0 node.now }
     requires few { length (row_points flat.now) ≤ 2 ^ 24 }
     requires room { tail.bytes ≤ 2 ^ 30 }
-    ensures value { (ahead : List Point) → tail ≡ tail_of ahead → result ≡ tail_of (points_at (drop id.0 flat.now) ++ ahead) }
+    ensures value { (ahead : List Point) → tail ≡ tail_of ahead
+        → result ≡ tail_of (points_at (drop id.0 flat.now) ++ ahead) }
     ensures most { result.bytes ≤ tail.bytes + 20 * node.now.points }
     ensures reads { ReadsExactly work.old 0 node.now.points work.new }
 {
@@ -195,7 +197,8 @@ fn measure_entries(
 // Counts these points, nodes and entries as measured.
 #[inline(always)]
 fn count_measured(points: u32, nodes: u32, entries: usize, work: &mut Work)
-    ensures { (before : Before) → ReadsExactly before nodes points work.old → Counted before points nodes entries work.new }
+    ensures { (before : Before) → ReadsExactly before nodes points work.old
+        → Counted before points nodes entries work.new }
 {
     work.points = work.points.saturating_add(points as u64);
     work.nodes = work.nodes.saturating_add(nodes as u64);
@@ -214,7 +217,8 @@ pub fn measure_into(
     work: &mut Work,
 ) -> Result<(), AllocError>
     ensures sizes { OnOk result (AreSizes style flat.now sizes.new) }
-    ensures work { OnOk result (Counted work.old (length (row_points flat.now)) (length flat.now) (length sizes.new) work.new) }
+    ensures work { OnOk result (Counted work.old (length (row_points flat.now)) (length flat.now)
+        (length sizes.new) work.new) }
 {
     measure_entries(flat, style, depths, &mut sizes.entries, work)?;
     count_measured(
@@ -236,7 +240,8 @@ pub fn measure_flat(
     work: &mut Work,
 ) -> Result<Sizes, AllocError>
     ensures sizes { IfOk result (λ sizes. AreSizes style flat.now sizes) }
-    ensures work { IfOk result (λ sizes. Counted work.old (length (row_points flat.now)) (length flat.now) (length sizes) work.new) }
+    ensures work { IfOk result (λ sizes. Counted work.old (length (row_points flat.now))
+        (length flat.now) (length sizes) work.new) }
 {
     let mut depths = Depths::new();
     let mut sizes = Sizes::new(alloc);

@@ -22,7 +22,8 @@ pub(crate) fn put_points<S: Sink>(
 )
     requires within { node.now.first.0 + node.now.points ≤ length (row_points flat.now) }
     requires fits { node.now.first.0 + node.now.points < 2 ^ 32 }
-    ensures put { Put S.took S.refused gatherer.old (way_bytes cursor.old (own_points_of flat.now node.now)) gatherer.new }
+    ensures put { Put S.took S.refused gatherer.old
+        (way_bytes cursor.old (own_points_of flat.now node.now)) gatherer.new }
     ensures moved { cursor.new ≡ way_end cursor.old (own_points_of flat.now node.now) }
     ensures reads { Reads work.old 0 node.now.points work.new }
 {

@@ -125,7 +125,8 @@ impl NonEmptyTail {
     #[inline(always)]
     pub(crate) fn with_first_two(self, point: Pt, next: Pt) -> NonEmptyTail
         requires room { self.bytes ≤ 2 ^ 31 }
-        ensures value { (ps : List Point) → tail_from self ≡ tail_of ps → tail_from result ≡ tail_of (point ∷ next ∷ ps) }
+        ensures value { (ps : List Point) → tail_from self ≡ tail_of ps
+            → tail_from result ≡ tail_of (point ∷ next ∷ ps) }
         ensures most { result.bytes ≤ self.bytes + 40 }
     {
         let mut others = Bounds::of(next);

@@ -95,7 +95,8 @@ fn tail_before<T: Part>(parts: &[T], tail: Tail) -> Tail
 fn parts_level<T: Part>(kind: Kind, parts: &[T], ids: &Ids) -> Level
     requires few { length parts.now ≤ 2 ^ 20 }
     requires few_points { length (flat_map T.own parts.now) ≤ 2 ^ 24 }
-    ensures value { result ≡ level Full 0 (rows_of_each (λ id part. plain_row 0 kind id (T.own part) ∷ []) ids.now parts.now) }
+    ensures value { result ≡ level Full 0 (rows_of_each
+        (λ id part. plain_row 0 kind id (T.own part) ∷ []) ids.now parts.now) }
     ensures most { load result ≤ 20 * length parts.now }
 {
     let mut level = Level::blank();
@@ -157,7 +158,8 @@ fn members_level(members: &Members, ids: &Ids) -> Level
 fn below(geometry: &Geometry) -> Level
     requires { IsWithinCaps (nodes geometry.now) (length (flat geometry.now)) }
     ensures value { result ≡ level_under geometry.now }
-    ensures most { load result + 20 * length (way_of geometry.now) + 100 ≤ most_of (nodes geometry.now) (length (flat geometry.now)) }
+    ensures most { load result + 20 * length (way_of geometry.now) + 100 ≤ most_of
+        (nodes geometry.now) (length (flat geometry.now)) }
 {
     match geometry.shape() {
         Shape::Point(_) | Shape::Line(_) => Level::blank(),

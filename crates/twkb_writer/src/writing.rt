@@ -32,8 +32,10 @@ pub fn write_through<S: Sink>(
     requires { AreSizes style flat.now sizes.now }
 
     // the blob, or a prefix of it
-    ensures ok { OnOk result ((g : Tree) → IsTree g → rows 0 g ≡ flat.now → S.took sink.old (canonical_blob style g) sink.new) }
-    ensures err { IfErr result (λ fault. (g : Tree) → IsTree g → rows 0 g ≡ flat.now → TookFront S.refused sink.old (canonical_blob style g) fault sink.new) }
+    ensures ok { OnOk result ((g : Tree) → IsTree g → rows 0 g ≡ flat.now
+        → S.took sink.old (canonical_blob style g) sink.new) }
+    ensures err { IfErr result (λ fault. (g : Tree) → IsTree g → rows 0 g ≡ flat.now
+        → TookFront S.refused sink.old (canonical_blob style g) fault sink.new) }
     ensures nothing { flat.now ≡ [] → (IsOk result) × (sink.new ≡ sink.old) }
 
     // the work that is counted
@@ -72,8 +74,10 @@ pub fn write_flat<S: Sink>(
     requires { AreSizes style flat.now sizes.now }
 
     // the blob, or a prefix of it
-    ensures ok { OnOk result ((g : Tree) → IsTree g → rows 0 g ≡ flat.now → S.took sink.old (canonical_blob style g) sink.new) }
-    ensures err { IfErr result (λ fault. (g : Tree) → IsTree g → rows 0 g ≡ flat.now → TookFront S.refused sink.old (canonical_blob style g) fault sink.new) }
+    ensures ok { OnOk result ((g : Tree) → IsTree g → rows 0 g ≡ flat.now
+        → S.took sink.old (canonical_blob style g) sink.new) }
+    ensures err { IfErr result (λ fault. (g : Tree) → IsTree g → rows 0 g ≡ flat.now
+        → TookFront S.refused sink.old (canonical_blob style g) fault sink.new) }
     ensures nothing { flat.now ≡ [] → (IsOk result) × (sink.new ≡ sink.old) }
 
     // the work that is counted

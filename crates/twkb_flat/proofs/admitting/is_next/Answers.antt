@@ -6,4 +6,5 @@ pub returns-then-levels-eq0 : goal.returns-then-levels-eq0
 returns-then-levels-eq0 c = λ os r all e. first_next c.args.depth os r e (omega (arith, all, c.if-levels-eq0.true))
 
 pub returns-else-levels-eq0 : goal.returns-else-levels-eq0
-returns-else-levels-eq0 c = λ os r all e. later_next c.args.depth os r e (λ none. omega (arith, all, none, c.if-levels-eq0.false))
+returns-else-levels-eq0 c = λ os r all e. later_next c.args.depth os r e
+    (λ none. omega (arith, all, none, c.if-levels-eq0.false))

@@ -19,7 +19,10 @@ decreases-take_members l = 3 * length (drop l.start l.flat.now) + 2
 abbrev pub invariant-take_members-loop-alloc : goal.invariant-take_members-loop-alloc
 invariant-take_members-loop-alloc l =
     (length (drop l.at l.flat) ≤ length (drop l.start l.flat))
-    × ((ids : Ids) (gs : List Tree) (rest : List Row) → EachAt IsTree (λ id g. rows_with id l.depth g) l.flat l.start l.depth ids gs rest → Left IsTree (λ id g. rows_with id l.depth g) l.flat ids gs rest l.at l.members.items l.ids.items)
+    × ((ids : Ids) (gs : List Tree) (rest : List Row)
+    → EachAt IsTree (λ id g. rows_with id l.depth g) l.flat l.start l.depth ids gs rest
+    → Left IsTree (λ id g. rows_with id l.depth g) l.flat ids gs rest l.at l.members.items
+    l.ids.items)
 
 abbrev pub decreases-take_members-loop-alloc : goal.decreases-take_members-loop-alloc
 decreases-take_members-loop-alloc l = length (drop l.at l.flat)

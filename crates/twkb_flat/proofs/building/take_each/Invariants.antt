@@ -10,8 +10,11 @@ use Rattle.twkb_flat.proofs.building.take_each.Given as goal
 
 abbrev pub invariant-loop-alloc : goal.invariant-loop-alloc
 invariant-loop-alloc g l =
-    (kind : Kind) (ids : Ids) (parts : List g.row.T.Denot) (rest : List Row) → EachAt IsAny (part_rows g.T.Part.own g.T.Part.below kind l.depth) l.flat l.start l.depth ids parts rest
-    → Left IsAny (part_rows g.T.Part.own g.T.Part.below kind l.depth) l.flat ids parts rest l.at l.parts.items l.ids.items
+    (kind : Kind) (ids : Ids) (parts : List g.row.T.Denot) (rest : List Row)
+    → EachAt IsAny (part_rows g.T.Part.own g.T.Part.below kind l.depth) l.flat l.start l.depth
+    ids parts rest
+    → Left IsAny (part_rows g.T.Part.own g.T.Part.below kind l.depth) l.flat ids parts rest l.at
+    l.parts.items l.ids.items
 
 abbrev pub decreases-loop-alloc : goal.decreases-loop-alloc
 decreases-loop-alloc g l = length (drop l.at l.flat)

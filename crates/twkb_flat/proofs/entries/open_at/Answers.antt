@@ -3,7 +3,8 @@ use Rattle.twkb_flat.proofs.ClosingLemmas.{rising_last, rising_within, rising_up
 use Rattle.twkb_flat.proofs.entries.open_at.Goals as goal
 
 pub loop-at-init : goal.loop-at-init
-loop-at-init c = rising_last c.args.entries.now c.args.depth (length c.args.entries.now - 1) (omega (arith, some_entry c.args.entries.now c.args.depth c.requires.within)) c.requires.within
+loop-at-init c = rising_last c.args.entries.now c.args.depth (length c.args.entries.now - 1)
+    (omega (arith, some_entry c.args.entries.now c.args.depth c.requires.within)) c.requires.within
 
 pub loop-at-smaller : goal.loop-at-smaller
 loop-at-smaller c =

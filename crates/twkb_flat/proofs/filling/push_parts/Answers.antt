@@ -7,39 +7,55 @@ use Rattle.twkb_flat.proofs.filling.push_parts.Goals as goal
 
 pub push_each-requires : goal.push_each-requires
 push_each-requires c =
-    under_valid _ _ _ _ c.requires.valid (ap (ring_rows c.args.depth) c.as_slice.ensures.items ∙ under_shape _ _ _ _ _ c.shape.ensures c.in-Polygon.is)
+    under_valid _ _ _ _ c.requires.valid (ap (ring_rows c.args.depth) c.as_slice.ensures.items
+    ∙ under_shape _ _ _ _ _ c.shape.ensures c.in-Polygon.is)
 
 pub push_each-requires-in-MultiPoint : goal.push_each-requires-in-MultiPoint
 push_each-requires-in-MultiPoint c =
     under_valid _ _ _ _ c.requires.valid
-    (ap (rows_of_each (λ id p. plain_row c.args.depth Kind.Point id (p ∷ []) ∷ []) c.in-MultiPoint.ids) c.as_slice-in-MultiPoint.ensures.items ∙ under_shape _ _ _ _ _ c.shape.ensures c.in-MultiPoint.is)
+    (ap (rows_of_each (λ id p. plain_row c.args.depth Kind.Point id (p ∷ []) ∷ [])
+    c.in-MultiPoint.ids) c.as_slice-in-MultiPoint.ensures.items
+    ∙ under_shape _ _ _ _ _ c.shape.ensures c.in-MultiPoint.is)
 
 pub push_each-requires-in-MultiLine : goal.push_each-requires-in-MultiLine
 push_each-requires-in-MultiLine c =
     under_valid _ _ _ _ c.requires.valid
-    (ap (rows_of_each (λ id ps. plain_row c.args.depth Kind.Linestring id ps ∷ []) c.in-MultiLine.ids) c.as_slice-in-MultiLine.ensures.items ∙ under_shape _ _ _ _ _ c.shape.ensures c.in-MultiLine.is)
+    (ap (rows_of_each (λ id ps. plain_row c.args.depth Kind.Linestring id ps ∷ [])
+    c.in-MultiLine.ids) c.as_slice-in-MultiLine.ensures.items
+    ∙ under_shape _ _ _ _ _ c.shape.ensures c.in-MultiLine.is)
 
 pub push_each-requires-in-MultiPolygon : goal.push_each-requires-in-MultiPolygon
 push_each-requires-in-MultiPolygon c =
-    under_valid _ _ _ _ c.requires.valid (ap (rows_of_each (polygon_rows c.args.depth) c.in-MultiPolygon.ids) c.as_slice-in-MultiPolygon.ensures.items ∙ under_shape _ _ _ _ _ c.shape.ensures c.in-MultiPolygon.is)
+    under_valid _ _ _ _ c.requires.valid
+    (ap (rows_of_each (polygon_rows c.args.depth) c.in-MultiPolygon.ids)
+    c.as_slice-in-MultiPolygon.ensures.items ∙ under_shape _ _ _ _ _ c.shape.ensures
+    c.in-MultiPolygon.is)
 
 pub returns-in-Polygon : goal.returns-in-Polygon
 returns-in-Polygon c =
-    under_pushed _ _ _ _ _ _ (ap (ring_rows c.args.depth) c.as_slice.ensures.items ∙ under_shape _ _ _ _ _ c.shape.ensures c.in-Polygon.is) c.push_each.ensures
+    under_pushed _ _ _ _ _ _ (ap (ring_rows c.args.depth) c.as_slice.ensures.items
+    ∙ under_shape _ _ _ _ _ c.shape.ensures c.in-Polygon.is) c.push_each.ensures
 
 pub returns-in-MultiPoint : goal.returns-in-MultiPoint
 returns-in-MultiPoint c =
     under_pushed _ _ _ _ _ _
-    (ap (rows_of_each (λ id p. plain_row c.args.depth Kind.Point id (p ∷ []) ∷ []) c.in-MultiPoint.ids) c.as_slice-in-MultiPoint.ensures.items ∙ under_shape _ _ _ _ _ c.shape.ensures c.in-MultiPoint.is) c.push_each-in-MultiPoint.ensures
+    (ap (rows_of_each (λ id p. plain_row c.args.depth Kind.Point id (p ∷ []) ∷ [])
+    c.in-MultiPoint.ids) c.as_slice-in-MultiPoint.ensures.items
+    ∙ under_shape _ _ _ _ _ c.shape.ensures c.in-MultiPoint.is)
+    c.push_each-in-MultiPoint.ensures
 
 pub returns-in-MultiLine : goal.returns-in-MultiLine
 returns-in-MultiLine c =
     under_pushed _ _ _ _ _ _
-    (ap (rows_of_each (λ id ps. plain_row c.args.depth Kind.Linestring id ps ∷ []) c.in-MultiLine.ids) c.as_slice-in-MultiLine.ensures.items ∙ under_shape _ _ _ _ _ c.shape.ensures c.in-MultiLine.is) c.push_each-in-MultiLine.ensures
+    (ap (rows_of_each (λ id ps. plain_row c.args.depth Kind.Linestring id ps ∷ [])
+    c.in-MultiLine.ids) c.as_slice-in-MultiLine.ensures.items
+    ∙ under_shape _ _ _ _ _ c.shape.ensures c.in-MultiLine.is) c.push_each-in-MultiLine.ensures
 
 pub returns-in-MultiPolygon : goal.returns-in-MultiPolygon
 returns-in-MultiPolygon c =
-    under_pushed _ _ _ _ _ _ (ap (rows_of_each (polygon_rows c.args.depth) c.in-MultiPolygon.ids) c.as_slice-in-MultiPolygon.ensures.items ∙ under_shape _ _ _ _ _ c.shape.ensures c.in-MultiPolygon.is) c.push_each-in-MultiPolygon.ensures
+    under_pushed _ _ _ _ _ _ (ap (rows_of_each (polygon_rows c.args.depth) c.in-MultiPolygon.ids)
+    c.as_slice-in-MultiPolygon.ensures.items ∙ under_shape _ _ _ _ _ c.shape.ensures
+    c.in-MultiPolygon.is) c.push_each-in-MultiPolygon.ensures
 
 pub returns-in-Point : goal.returns-in-Point
 returns-in-Point c = none_under _ _ _ _ _ c.shape.ensures c.in-Point.is

@@ -1,4 +1,5 @@
-use Rattle.twkb_grammar.proofs.Reaching.{reached_nothing, reached_bytes, leads, reached_blob, reached_cut, reached_long, reached_end}
+use Rattle.twkb_grammar.proofs.Reaching.{reached_nothing, reached_bytes, leads, reached_blob}
+use Rattle.twkb_grammar.proofs.Reaching.{reached_cut, reached_long, reached_end}
 use Rattle.twkb_grammar.proofs.Depths.{reached_depth}
 use Rattle.twkb_grammar.proofs.Frames.{reached_frames, reached_few}
 use Rattle.twkb_grammar.proofs.laws.reading.Goals as goal

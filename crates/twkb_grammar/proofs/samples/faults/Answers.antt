@@ -1,6 +1,9 @@
 use Rattle.std.proofs.Common.{refl}
-use Rattle.twkb_grammar.proofs.Computed.{standard_allowed, nest_eight_allowed, no_nest_allowed, two_nodes_allowed, one_point_only_allowed, no_points_allowed, fault_by}
-use Rattle.twkb_grammar.specs.Samples.{standard, nest_eight, no_nest, two_nodes, one_point_only, no_points, bare_collection, in_collections}
+use Rattle.twkb_grammar.proofs.Computed.{standard_allowed, nest_eight_allowed, no_nest_allowed}
+use Rattle.twkb_grammar.proofs.Computed.{two_nodes_allowed, one_point_only_allowed}
+use Rattle.twkb_grammar.proofs.Computed.{no_points_allowed, fault_by}
+use Rattle.twkb_grammar.specs.Samples.{standard, nest_eight, no_nest, two_nodes, one_point_only}
+use Rattle.twkb_grammar.specs.Samples.{no_points, bare_collection, in_collections}
 use Rattle.twkb_grammar.proofs.samples.faults.Goals as goal
 
 pub returns-clause-cut_line : goal.returns-clause-cut_line
@@ -40,7 +43,8 @@ pub returns-clause-ten_collections : goal.returns-clause-ten_collections
 returns-clause-ten_collections c = fault_by nest_eight _ _ _ nest_eight_allowed refl refl
 
 pub returns-clause-eighteen_collections : goal.returns-clause-eighteen_collections
-returns-clause-eighteen_collections c = fault_by standard (in_collections 17 bare_collection) _ _ standard_allowed refl refl
+returns-clause-eighteen_collections c = fault_by standard (in_collections 17 bare_collection) _ _
+    standard_allowed refl refl
 
 pub returns-clause-too_many_points : goal.returns-clause-too_many_points
 returns-clause-too_many_points c = fault_by standard _ _ _ standard_allowed refl refl

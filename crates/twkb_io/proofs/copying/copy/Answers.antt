@@ -20,21 +20,29 @@ returns-in_err-copy_piece g c =
           c.args.input.now c.loop.input c.copy_piece.new.input _ _ _ bytes _ copied stopped.err stopped.keeps;
       failures = rw so_far.failures at stopped.failures;
       too_long = λ same. stopped.too_long (same_fault same);
-      spent = (λ same. sym so_far.spent ∙ stopped.spent.0 (same_fault same), λ was. same_fault (stopped.spent.1 (so_far.spent ∙ was)));
+      spent = (
+        λ same. sym so_far.spent ∙ stopped.spent.0 (same_fault same),
+        λ was.
+            same_fault (stopped.spent.1 (so_far.spent ∙ was)),
+      );
     }
 
 pub returns-then-not-branch-clause-ok : goal.returns-then-not-branch-clause-ok
 returns-then-not-branch-clause-ok g c =
     let (bytes, copied) = c.loop.invariant.copied in
-    let (piece, more) = c.in_ok-copy_piece.ensures.ok in
-    (bytes ++ piece, copied_join g.S.Sink.took g.met.S.Sink.takes_join c.args.input.now c.loop.input c.copy_piece.new.input _ _ _ bytes piece copied more)
+    let (piece, more) = c.in_ok-copy_piece.ensures.ok in (
+      bytes ++ piece,
+      copied_join g.S.Sink.took g.met.S.Sink.takes_join c.args.input.now c.loop.input
+          c.copy_piece.new.input _ _ _ bytes piece copied more,
+    )
 
 pub returns-then-not-branch-clause-whole : goal.returns-then-not-branch-clause-whole
 returns-then-not-branch-clause-whole g c =
     let (bytes, copied) = c.loop.invariant.copied in
     let (piece, more) = c.in_ok-copy_piece.ensures.ok in
     copied_whole g.S.Sink.took g.met.S.Sink.takes_join c.args.input.now c.copy_piece.new.input _ _ (bytes ++ piece)
-    (copied_join g.S.Sink.took g.met.S.Sink.takes_join c.args.input.now c.loop.input c.copy_piece.new.input _ _ _ bytes piece copied more)
+    (copied_join g.S.Sink.took g.met.S.Sink.takes_join c.args.input.now c.loop.input
+    c.copy_piece.new.input _ _ _ bytes piece copied more)
     (c.in_ok-copy_piece.ensures.end c.if-not-branch.true).1
 
 pub loop-preserved : goal.loop-preserved
@@ -42,7 +50,11 @@ loop-preserved g c =
     let (bytes, copied) = c.loop.invariant.copied in
     let (piece, more) = c.in_ok-copy_piece.ensures.ok in
     record {
-      copied = (bytes ++ piece, copied_join g.S.Sink.took g.met.S.Sink.takes_join c.args.input.now c.loop.input c.copy_piece.new.input _ _ _ bytes piece copied more);
+      copied = (
+        bytes ++ piece,
+        copied_join g.S.Sink.took g.met.S.Sink.takes_join c.args.input.now
+            c.loop.input c.copy_piece.new.input _ _ _ bytes piece copied more,
+      );
       failures = ◌∙◌ {b = input_failures c.loop.input} c.in_ok-copy_piece.ensures.failures c.loop.invariant.failures;
       spent = ◌∙◌ {b = is_spent c.loop.input} c.in_ok-copy_piece.ensures.stays c.loop.invariant.spent;
     }

@@ -4,5 +4,7 @@ use Rattle.twkb_num.proofs.block.few_ends.Goals as goal
 
 pub returns : goal.returns
 returns c =
-    ends_of c.args.alphabet.base c.args.alphabet.radix c.args.alphabet.most 16 c.before_fault.result c.args.bytes.now c.requires.bound c.requires.in_bytes (omega (arith, c.if-bytes-lt16.false)) c.type_inv.bytes
+    ends_of c.args.alphabet.base c.args.alphabet.radix c.args.alphabet.most 16 c.before_fault.result
+    c.args.bytes.now c.requires.bound c.requires.in_bytes (omega (arith, c.if-bytes-lt16.false))
+    c.type_inv.bytes
     (c.before_fault.ensures c.args.alphabet.radix c.args.alphabet.most _ c.sixteen.ensures)

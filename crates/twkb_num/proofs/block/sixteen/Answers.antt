@@ -14,7 +14,8 @@ returns c =
     let long = length-lanes c.args.alphabet.base bytes enough in
     let are = lanes_are c.args.alphabet.base bytes enough in
     record {
-      ends = bitmask_splat w8 ltb units 16 c.args.alphabet.radix long (omega arith) ∙ ap (λ us. mask_l (map (λ u. ltb u c.args.alphabet.radix) us)) are;
+      ends = bitmask_splat w8 ltb units 16 c.args.alphabet.radix long (omega arith)
+          ∙ ap (λ us. mask_l (map (λ u. ltb u c.args.alphabet.radix) us)) are;
       zeros = bitmask_splat w8 eqb units 16 0 long (omega arith) ∙ ap (λ us. mask_l (map (λ u. eqb u 0) us)) are;
       bad = above_is units c.args.alphabet.most long ∙ ap (λ us. mask_l (map (λ u. ltb c.args.alphabet.most u) us)) are;
     }

@@ -11,7 +11,8 @@ overflow_mul-result c =
     let rest : 32 ≤ length (drop 32 bytes) = omega (arith, length-drop 32 bytes, enough) in
     let low = c.thirty_two-low.ensures in
     let high = c.thirty_two-high.ensures in
-    let low_small = marks_small (λ u. nat_lt u c.args.alphabet.radix) c.args.alphabet.base 32 bytes (omega (arith, enough)) in
+    let low_small = marks_small (λ u. nat_lt u c.args.alphabet.radix) c.args.alphabet.base 32 bytes
+    (omega (arith, enough)) in
     let high_small = marks_small (λ u. nat_lt u c.args.alphabet.radix) c.args.alphabet.base 32 (drop 32 bytes) rest in
     record { fits = omega (arith, high.ends, high_small) }
 
@@ -22,7 +23,8 @@ overflow_add-result c =
     let rest : 32 ≤ length (drop 32 bytes) = omega (arith, length-drop 32 bytes, enough) in
     let low = c.thirty_two-low.ensures in
     let high = c.thirty_two-high.ensures in
-    let low_small = marks_small (λ u. nat_lt u c.args.alphabet.radix) c.args.alphabet.base 32 bytes (omega (arith, enough)) in
+    let low_small = marks_small (λ u. nat_lt u c.args.alphabet.radix) c.args.alphabet.base 32 bytes
+    (omega (arith, enough)) in
     let high_small = marks_small (λ u. nat_lt u c.args.alphabet.radix) c.args.alphabet.base 32 (drop 32 bytes) rest in
     record { fits = omega (arith, low.ends, high.ends, low_small, high_small) }
 
@@ -55,7 +57,8 @@ overflow_mul-result-3 c =
     let rest : 32 ≤ length (drop 32 bytes) = omega (arith, length-drop 32 bytes, enough) in
     let low = c.thirty_two-low.ensures in
     let high = c.thirty_two-high.ensures in
-    let low_small = marks_small (λ u. nat_lt c.args.alphabet.most u) c.args.alphabet.base 32 bytes (omega (arith, enough)) in
+    let low_small = marks_small (λ u. nat_lt c.args.alphabet.most u) c.args.alphabet.base 32 bytes
+    (omega (arith, enough)) in
     let high_small = marks_small (λ u. nat_lt c.args.alphabet.most u) c.args.alphabet.base 32 (drop 32 bytes) rest in
     record { fits = omega (arith, high.bad, high_small) }
 
@@ -66,7 +69,8 @@ overflow_add-result-3 c =
     let rest : 32 ≤ length (drop 32 bytes) = omega (arith, length-drop 32 bytes, enough) in
     let low = c.thirty_two-low.ensures in
     let high = c.thirty_two-high.ensures in
-    let low_small = marks_small (λ u. nat_lt c.args.alphabet.most u) c.args.alphabet.base 32 bytes (omega (arith, enough)) in
+    let low_small = marks_small (λ u. nat_lt c.args.alphabet.most u) c.args.alphabet.base 32 bytes
+    (omega (arith, enough)) in
     let high_small = marks_small (λ u. nat_lt c.args.alphabet.most u) c.args.alphabet.base 32 (drop 32 bytes) rest in
     record { fits = omega (arith, low.bad, high.bad, low_small, high_small) }
 
@@ -78,7 +82,10 @@ returns c =
     let low = c.thirty_two-low.ensures in
     let high = c.thirty_two-high.ensures in
     record {
-      ends = let joined = marks_joined (λ u. nat_lt u c.args.alphabet.radix) c.args.alphabet.base 32 32 bytes (omega (arith, enough)) in omega (arith, joined, low.ends, high.ends);
-      zeros = let joined = marks_joined (λ u. nat_eq u 0) c.args.alphabet.base 32 32 bytes (omega (arith, enough)) in omega (arith, joined, low.zeros, high.zeros);
-      bad = let joined = marks_joined (λ u. nat_lt c.args.alphabet.most u) c.args.alphabet.base 32 32 bytes (omega (arith, enough)) in omega (arith, joined, low.bad, high.bad);
+      ends = let joined = marks_joined (λ u. nat_lt u c.args.alphabet.radix) c.args.alphabet.base 32
+          32 bytes (omega (arith, enough)) in omega (arith, joined, low.ends, high.ends);
+      zeros = let joined = marks_joined (λ u. nat_eq u 0) c.args.alphabet.base 32 32 bytes
+          (omega (arith, enough)) in omega (arith, joined, low.zeros, high.zeros);
+      bad = let joined = marks_joined (λ u. nat_lt c.args.alphabet.most u) c.args.alphabet.base 32
+          32 bytes (omega (arith, enough)) in omega (arith, joined, low.bad, high.bad);
     }

@@ -11,8 +11,11 @@ overflow_mul-result c =
     let enough : 32 ≤ length bytes = omega (arith, length-drop c.args.at c.args.bytes.now, c.requires) in
     let rest : 16 ≤ length (drop 16 bytes) = omega (arith, length-drop 16 bytes, enough) in
     let low = c.sixteen-low.ensures in
-    let high = subst (λ bs. AreMarks c.args.alphabet.radix c.args.alphabet.most (units_in c.args.alphabet.base (take 16 bs)) c.sixteen-high.result) (sym (drop-drop 16 c.args.at c.args.bytes.now)) c.sixteen-high.ensures in
-    let low_small = marks_small (λ u. nat_lt u c.args.alphabet.radix) c.args.alphabet.base 16 bytes (omega (arith, enough)) in
+    let high = subst (λ bs. AreMarks c.args.alphabet.radix c.args.alphabet.most
+    (units_in c.args.alphabet.base (take 16 bs)) c.sixteen-high.result)
+    (sym (drop-drop 16 c.args.at c.args.bytes.now)) c.sixteen-high.ensures in
+    let low_small = marks_small (λ u. nat_lt u c.args.alphabet.radix) c.args.alphabet.base 16 bytes
+    (omega (arith, enough)) in
     let high_small = marks_small (λ u. nat_lt u c.args.alphabet.radix) c.args.alphabet.base 16 (drop 16 bytes) rest in
     record { fits = omega (arith, high.ends, high_small) }
 
@@ -22,8 +25,11 @@ overflow_add-result c =
     let enough : 32 ≤ length bytes = omega (arith, length-drop c.args.at c.args.bytes.now, c.requires) in
     let rest : 16 ≤ length (drop 16 bytes) = omega (arith, length-drop 16 bytes, enough) in
     let low = c.sixteen-low.ensures in
-    let high = subst (λ bs. AreMarks c.args.alphabet.radix c.args.alphabet.most (units_in c.args.alphabet.base (take 16 bs)) c.sixteen-high.result) (sym (drop-drop 16 c.args.at c.args.bytes.now)) c.sixteen-high.ensures in
-    let low_small = marks_small (λ u. nat_lt u c.args.alphabet.radix) c.args.alphabet.base 16 bytes (omega (arith, enough)) in
+    let high = subst (λ bs. AreMarks c.args.alphabet.radix c.args.alphabet.most
+    (units_in c.args.alphabet.base (take 16 bs)) c.sixteen-high.result)
+    (sym (drop-drop 16 c.args.at c.args.bytes.now)) c.sixteen-high.ensures in
+    let low_small = marks_small (λ u. nat_lt u c.args.alphabet.radix) c.args.alphabet.base 16 bytes
+    (omega (arith, enough)) in
     let high_small = marks_small (λ u. nat_lt u c.args.alphabet.radix) c.args.alphabet.base 16 (drop 16 bytes) rest in
     record { fits = omega (arith, low.ends, high.ends, low_small, high_small) }
 
@@ -33,7 +39,9 @@ overflow_mul-result-2 c =
     let enough : 32 ≤ length bytes = omega (arith, length-drop c.args.at c.args.bytes.now, c.requires) in
     let rest : 16 ≤ length (drop 16 bytes) = omega (arith, length-drop 16 bytes, enough) in
     let low = c.sixteen-low.ensures in
-    let high = subst (λ bs. AreMarks c.args.alphabet.radix c.args.alphabet.most (units_in c.args.alphabet.base (take 16 bs)) c.sixteen-high.result) (sym (drop-drop 16 c.args.at c.args.bytes.now)) c.sixteen-high.ensures in
+    let high = subst (λ bs. AreMarks c.args.alphabet.radix c.args.alphabet.most
+    (units_in c.args.alphabet.base (take 16 bs)) c.sixteen-high.result)
+    (sym (drop-drop 16 c.args.at c.args.bytes.now)) c.sixteen-high.ensures in
     let low_small = marks_small (λ u. nat_eq u 0) c.args.alphabet.base 16 bytes (omega (arith, enough)) in
     let high_small = marks_small (λ u. nat_eq u 0) c.args.alphabet.base 16 (drop 16 bytes) rest in
     record { fits = omega (arith, high.zeros, high_small) }
@@ -44,7 +52,9 @@ overflow_add-result-2 c =
     let enough : 32 ≤ length bytes = omega (arith, length-drop c.args.at c.args.bytes.now, c.requires) in
     let rest : 16 ≤ length (drop 16 bytes) = omega (arith, length-drop 16 bytes, enough) in
     let low = c.sixteen-low.ensures in
-    let high = subst (λ bs. AreMarks c.args.alphabet.radix c.args.alphabet.most (units_in c.args.alphabet.base (take 16 bs)) c.sixteen-high.result) (sym (drop-drop 16 c.args.at c.args.bytes.now)) c.sixteen-high.ensures in
+    let high = subst (λ bs. AreMarks c.args.alphabet.radix c.args.alphabet.most
+    (units_in c.args.alphabet.base (take 16 bs)) c.sixteen-high.result)
+    (sym (drop-drop 16 c.args.at c.args.bytes.now)) c.sixteen-high.ensures in
     let low_small = marks_small (λ u. nat_eq u 0) c.args.alphabet.base 16 bytes (omega (arith, enough)) in
     let high_small = marks_small (λ u. nat_eq u 0) c.args.alphabet.base 16 (drop 16 bytes) rest in
     record { fits = omega (arith, low.zeros, high.zeros, low_small, high_small) }
@@ -55,8 +65,11 @@ overflow_mul-result-3 c =
     let enough : 32 ≤ length bytes = omega (arith, length-drop c.args.at c.args.bytes.now, c.requires) in
     let rest : 16 ≤ length (drop 16 bytes) = omega (arith, length-drop 16 bytes, enough) in
     let low = c.sixteen-low.ensures in
-    let high = subst (λ bs. AreMarks c.args.alphabet.radix c.args.alphabet.most (units_in c.args.alphabet.base (take 16 bs)) c.sixteen-high.result) (sym (drop-drop 16 c.args.at c.args.bytes.now)) c.sixteen-high.ensures in
-    let low_small = marks_small (λ u. nat_lt c.args.alphabet.most u) c.args.alphabet.base 16 bytes (omega (arith, enough)) in
+    let high = subst (λ bs. AreMarks c.args.alphabet.radix c.args.alphabet.most
+    (units_in c.args.alphabet.base (take 16 bs)) c.sixteen-high.result)
+    (sym (drop-drop 16 c.args.at c.args.bytes.now)) c.sixteen-high.ensures in
+    let low_small = marks_small (λ u. nat_lt c.args.alphabet.most u) c.args.alphabet.base 16 bytes
+    (omega (arith, enough)) in
     let high_small = marks_small (λ u. nat_lt c.args.alphabet.most u) c.args.alphabet.base 16 (drop 16 bytes) rest in
     record { fits = omega (arith, high.bad, high_small) }
 
@@ -66,8 +79,11 @@ overflow_add-result-3 c =
     let enough : 32 ≤ length bytes = omega (arith, length-drop c.args.at c.args.bytes.now, c.requires) in
     let rest : 16 ≤ length (drop 16 bytes) = omega (arith, length-drop 16 bytes, enough) in
     let low = c.sixteen-low.ensures in
-    let high = subst (λ bs. AreMarks c.args.alphabet.radix c.args.alphabet.most (units_in c.args.alphabet.base (take 16 bs)) c.sixteen-high.result) (sym (drop-drop 16 c.args.at c.args.bytes.now)) c.sixteen-high.ensures in
-    let low_small = marks_small (λ u. nat_lt c.args.alphabet.most u) c.args.alphabet.base 16 bytes (omega (arith, enough)) in
+    let high = subst (λ bs. AreMarks c.args.alphabet.radix c.args.alphabet.most
+    (units_in c.args.alphabet.base (take 16 bs)) c.sixteen-high.result)
+    (sym (drop-drop 16 c.args.at c.args.bytes.now)) c.sixteen-high.ensures in
+    let low_small = marks_small (λ u. nat_lt c.args.alphabet.most u) c.args.alphabet.base 16 bytes
+    (omega (arith, enough)) in
     let high_small = marks_small (λ u. nat_lt c.args.alphabet.most u) c.args.alphabet.base 16 (drop 16 bytes) rest in
     record { fits = omega (arith, low.bad, high.bad, low_small, high_small) }
 
@@ -77,9 +93,14 @@ returns c =
     let enough : 32 ≤ length bytes = omega (arith, length-drop c.args.at c.args.bytes.now, c.requires) in
     let rest : 16 ≤ length (drop 16 bytes) = omega (arith, length-drop 16 bytes, enough) in
     let low = c.sixteen-low.ensures in
-    let high = subst (λ bs. AreMarks c.args.alphabet.radix c.args.alphabet.most (units_in c.args.alphabet.base (take 16 bs)) c.sixteen-high.result) (sym (drop-drop 16 c.args.at c.args.bytes.now)) c.sixteen-high.ensures in
+    let high = subst (λ bs. AreMarks c.args.alphabet.radix c.args.alphabet.most
+    (units_in c.args.alphabet.base (take 16 bs)) c.sixteen-high.result)
+    (sym (drop-drop 16 c.args.at c.args.bytes.now)) c.sixteen-high.ensures in
     record {
-      ends = let joined = marks_joined (λ u. nat_lt u c.args.alphabet.radix) c.args.alphabet.base 16 16 bytes (omega (arith, enough)) in omega (arith, joined, low.ends, high.ends);
-      zeros = let joined = marks_joined (λ u. nat_eq u 0) c.args.alphabet.base 16 16 bytes (omega (arith, enough)) in omega (arith, joined, low.zeros, high.zeros);
-      bad = let joined = marks_joined (λ u. nat_lt c.args.alphabet.most u) c.args.alphabet.base 16 16 bytes (omega (arith, enough)) in omega (arith, joined, low.bad, high.bad);
+      ends = let joined = marks_joined (λ u. nat_lt u c.args.alphabet.radix) c.args.alphabet.base 16
+          16 bytes (omega (arith, enough)) in omega (arith, joined, low.ends, high.ends);
+      zeros = let joined = marks_joined (λ u. nat_eq u 0) c.args.alphabet.base 16 16 bytes
+          (omega (arith, enough)) in omega (arith, joined, low.zeros, high.zeros);
+      bad = let joined = marks_joined (λ u. nat_lt c.args.alphabet.most u) c.args.alphabet.base 16
+          16 bytes (omega (arith, enough)) in omega (arith, joined, low.bad, high.bad);
     }

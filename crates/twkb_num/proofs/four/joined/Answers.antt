@@ -14,7 +14,9 @@ nonzero_rem-groups c =
 
 pub returns : goal.returns
 returns c =
-    let square : c.from.result * c.from-2.result ≡ c.args.radix * c.args.radix = rw (c.from.ensures, c.from-2.ensures) refl in
+    let square : c.from.result * c.from-2.result ≡ c.args.radix * c.args.radix =
+    rw (c.from.ensures, c.from-2.ensures) refl in
     let groups = zip2 (λ a b. a % b) c.args.units (replicate 16 c.args.radix) in
-    rw c.from-3.ensures (joined_are c.args.radix (c.from.result * c.from-2.result) c.args.units groups c.requires.alphabet square c.fits-units.0 c.fits-units.1
+    rw c.from-3.ensures (joined_are c.args.radix (c.from.result * c.from-2.result) c.args.units
+    groups c.requires.alphabet square c.fits-units.0 c.fits-units.1
     (zip2_splat (λ a b. a % b) c.args.units 16 c.args.radix c.fits-units.0))

@@ -9,4 +9,5 @@ returns c = λ marks is.
     let read : get_or PLACES (c.args.ends % 256) 0 % 2 ≡ 0 = c.if-places-ne0.false in
     let even = rw is at read in
     let used : c.from.result ≡ get_or USED (c.args.ends % 256) 0 = c.from.ensures in
-    rw is (two_found marks (get_or PLACES (mask_l marks % 256) 0) c.from.result refl (used ∙ ap (λ ends. get_or USED (ends % 256) 0) is) even)
+    rw is (two_found marks (get_or PLACES (mask_l marks % 256) 0) c.from.result refl
+    (used ∙ ap (λ ends. get_or USED (ends % 256) 0) is) even)

@@ -1,4 +1,5 @@
-use Rattle.std.proofs.Common.{◌≡◌, ℤ, pos, Some, true, false, get_or, slice_get, SFits, w64, ◌∙◌, ap, subst, rules, arith}
+use Rattle.std.proofs.Common.{◌≡◌, ℤ, pos, Some, true, false, get_or, slice_get, SFits, w64, ◌∙◌}
+use Rattle.std.proofs.Common.{ap, subst, rules, arith}
 use Rattle.std.proofs.lemmas.Grind.{common_steps}
 use Rattle.std.proofs.lemmas.Int.{to_z-of_z}
 use Rattle.twkb_points.specs.Point.{IsInRange, moved_by}
@@ -19,7 +20,8 @@ refused c r =
     let d : ℤ × ℤ = get_or c.args.deltas.now c.loop-i.i (pos 0, pos 0) in
     let x_fits : SFits w64 d.0 = search rules in
     let y_fits : SFits w64 d.1 = search rules in
-    let told : false ≡ true = c.in_default.ensures.range.1 (simp (to_z-of_z w64 d.0 x_fits, to_z-of_z w64 d.1 y_fits) r) in
+    let told : false ≡ true = c.in_default.ensures.range.1
+    (simp (to_z-of_z w64 d.0 x_fits, to_z-of_z w64 d.1 y_fits) r) in
     cc
 
 pub returns-in_default-clause-stopped : goal.returns-in_default-clause-stopped
@@ -30,7 +32,8 @@ returns-in_default-clause-stopped c = λ p e r.
     refused c (subst IsInRange same r)
 
 pub returns-in_default-clause-back : goal.returns-in_default-clause-back
-returns-in_default-clause-back c = λ ps in_range e. absurd (refused c (in_range_again ps c.args.deltas.now c.loop-i.i _ in_range e (next c)))
+returns-in_default-clause-back c = λ ps in_range e.
+    absurd (refused c (in_range_again ps c.args.deltas.now c.loop-i.i _ in_range e (next c)))
 
 pub returns-clause-stopped : goal.returns-clause-stopped
 returns-clause-stopped c = λ p e r. no_next_point c.args.deltas.now p e

@@ -8,7 +8,8 @@ use Rattle.twkb_polyline.proofs.decoding.read_eights.Given as goal
 abbrev pub invariant-loop-left : goal.invariant-loop-left
 invariant-loop-left g l =
     record {
-      put : HasPutOn l.text l.start (l.room - l.left) l.fn.cursor (g.L.PointTail.held l.fn.points) (g.L.PointTail.held l.points) l.cursor l.at;
+      put : HasPutOn l.text l.start (l.room - l.left) l.fn.cursor (g.L.PointTail.held l.fn.points)
+          (g.L.PointTail.held l.points) l.cursor l.at;
       fits : l.left ≤ l.room;
       within : l.at ≤ length l.text;
       ends : AreEnds 63 32 (drop l.at l.text) l.ends;

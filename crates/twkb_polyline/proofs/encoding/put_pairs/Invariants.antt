@@ -8,6 +8,7 @@ use Rattle.twkb_polyline.proofs.encoding.put_pairs.Given as goal
 abbrev pub invariant-loop-pair : goal.invariant-loop-pair
 invariant-loop-pair l =
     record {
-      put : HasPut l.fn.cursor (points_of l.pairs) (points_of (drop l.pair-index l.pairs)) l.moved l.fn.text.items (l.text.items ++ l.piece);
+      put : HasPut l.fn.cursor (points_of l.pairs) (points_of (drop l.pair-index l.pairs)) l.moved
+          l.fn.text.items (l.text.items ++ l.piece);
       grown : (more : List ℕ) × (l.text.items ≡ l.fn.text.items ++ more);
     }

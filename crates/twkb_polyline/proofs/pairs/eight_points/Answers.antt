@@ -18,7 +18,8 @@ two_by-requires-2-clause-near c =
 pub two_by-requires-3-clause-near : goal.two_by-requires-3-clause-near
 two_by-requires-3-clause-near c =
     let inner : IsInner c.args.from = search rules in
-    near_further 4 6 c.in_ok-c.d (omega arith) (c.in_ok-c.ensures.onward 2 (c.in_ok-a.ensures.onward 0 (near_inner c.args.from inner)))
+    near_further 4 6 c.in_ok-c.d (omega arith) (c.in_ok-c.ensures.onward 2
+    (c.in_ok-a.ensures.onward 0 (near_inner c.args.from inner)))
 
 pub two_by-requires-4-clause-near : goal.two_by-requires-4-clause-near
 two_by-requires-4-clause-near c =
@@ -43,8 +44,12 @@ pub returns-clause-points : goal.returns-clause-points
 returns-clause-points c =
     let within : c.in_ok-a.two + c.in_ok-c.more + c.in_ok-e.more ≤ length c.args.text.now =
     omega (arith, c.in_ok-a.ensures.few, c.in_ok-c.ensures.few, c.in_ok-e.ensures.few, c.if-text-lt-BLOCK.false) in
-    eight_read c.args.text.now c.in_ok-a.two c.in_ok-c.more c.in_ok-e.more c.in_ok-g.more c.args.from c.in_ok-a.a c.in_ok-a.b c.in_ok-c.c c.in_ok-c.d c.in_ok-e.e c.in_ok-e.f c.in_ok-g.g c.in_ok-g.h within
-    c.in_ok-a.ensures.read c.in_ok-a.ensures.in_range c.in_ok-c.ensures.read c.in_ok-c.ensures.in_range c.in_ok-e.ensures.read c.in_ok-e.ensures.in_range c.in_ok-g.ensures.read c.in_ok-g.ensures.in_range
+    eight_read c.args.text.now c.in_ok-a.two c.in_ok-c.more c.in_ok-e.more c.in_ok-g.more
+    c.args.from c.in_ok-a.a c.in_ok-a.b c.in_ok-c.c c.in_ok-c.d c.in_ok-e.e c.in_ok-e.f
+    c.in_ok-g.g c.in_ok-g.h within
+    c.in_ok-a.ensures.read c.in_ok-a.ensures.in_range c.in_ok-c.ensures.read
+    c.in_ok-c.ensures.in_range c.in_ok-e.ensures.read c.in_ok-e.ensures.in_range
+    c.in_ok-g.ensures.read c.in_ok-g.ensures.in_range
 
 pub returns-clause-rest : goal.returns-clause-rest
 returns-clause-rest c =

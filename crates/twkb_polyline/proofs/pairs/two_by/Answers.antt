@@ -16,7 +16,8 @@ step-one-requires-clause-x_in_range c =
     let c_fits : FitsSigned w64 four.third = search rules in
     let d_fits : FitsSigned w64 four.fourth = search rules in
     let small = c.in_ok-four.ensures.four in
-    let one = near_moved 6 c.args.from four.second four.first c.requires.near (short_form four.second small.second_small) (short_form four.first small.first_small) in
+    let one = near_moved 6 c.args.from four.second four.first c.requires.near
+    (short_form four.second small.second_small) (short_form four.first small.first_small) in
     simp to_z-of_z (near_in_range 7 _ (omega arith) one).0
 
 pub step-one-requires-clause-y_in_range : goal.step-one-requires-clause-y_in_range
@@ -27,7 +28,8 @@ step-one-requires-clause-y_in_range c =
     let c_fits : FitsSigned w64 four.third = search rules in
     let d_fits : FitsSigned w64 four.fourth = search rules in
     let small = c.in_ok-four.ensures.four in
-    let one = near_moved 6 c.args.from four.second four.first c.requires.near (short_form four.second small.second_small) (short_form four.first small.first_small) in
+    let one = near_moved 6 c.args.from four.second four.first c.requires.near
+    (short_form four.second small.second_small) (short_form four.first small.first_small) in
     simp to_z-of_z (near_in_range 7 _ (omega arith) one).1
 
 pub step-two-requires-clause-x_in_range : goal.step-two-requires-clause-x_in_range
@@ -38,9 +40,13 @@ step-two-requires-clause-x_in_range c =
     let c_fits : FitsSigned w64 four.third = search rules in
     let d_fits : FitsSigned w64 four.fourth = search rules in
     let small = c.in_ok-four.ensures.four in
-    let first : c.step-one.result ≡ moved_by c.args.from four.second four.first = simp to_z-of_z at c.step-one.ensures in
-    let one = near_moved 6 c.args.from four.second four.first c.requires.near (short_form four.second small.second_small) (short_form four.first small.first_small) in
-    let two = near_moved 7 c.step-one.result four.fourth four.third (subst (IsNear 7) (sym first) one) (short_form four.fourth small.fourth_small) (short_form four.third small.third_small) in
+    let first : c.step-one.result ≡ moved_by c.args.from four.second four.first = simp to_z-of_z at
+    c.step-one.ensures in
+    let one = near_moved 6 c.args.from four.second four.first c.requires.near
+    (short_form four.second small.second_small) (short_form four.first small.first_small) in
+    let two = near_moved 7 c.step-one.result four.fourth four.third
+    (subst (IsNear 7) (sym first) one) (short_form four.fourth small.fourth_small)
+    (short_form four.third small.third_small) in
     simp to_z-of_z (near_in_range 8 _ (omega arith) two).0
 
 pub step-two-requires-clause-y_in_range : goal.step-two-requires-clause-y_in_range
@@ -51,9 +57,13 @@ step-two-requires-clause-y_in_range c =
     let c_fits : FitsSigned w64 four.third = search rules in
     let d_fits : FitsSigned w64 four.fourth = search rules in
     let small = c.in_ok-four.ensures.four in
-    let first : c.step-one.result ≡ moved_by c.args.from four.second four.first = simp to_z-of_z at c.step-one.ensures in
-    let one = near_moved 6 c.args.from four.second four.first c.requires.near (short_form four.second small.second_small) (short_form four.first small.first_small) in
-    let two = near_moved 7 c.step-one.result four.fourth four.third (subst (IsNear 7) (sym first) one) (short_form four.fourth small.fourth_small) (short_form four.third small.third_small) in
+    let first : c.step-one.result ≡ moved_by c.args.from four.second four.first = simp to_z-of_z at
+    c.step-one.ensures in
+    let one = near_moved 6 c.args.from four.second four.first c.requires.near
+    (short_form four.second small.second_small) (short_form four.first small.first_small) in
+    let two = near_moved 7 c.step-one.result four.fourth four.third
+    (subst (IsNear 7) (sym first) one) (short_form four.fourth small.fourth_small)
+    (short_form four.third small.third_small) in
     simp to_z-of_z (near_in_range 8 _ (omega arith) two).1
 
 pub returns-clause-read : goal.returns-clause-read
@@ -64,11 +74,14 @@ returns-clause-read c =
     let c_fits : FitsSigned w64 four.third = search rules in
     let d_fits : FitsSigned w64 four.fourth = search rules in
     let small = c.in_ok-four.ensures.four in
-    let first : c.step-one.result ≡ moved_by c.args.from four.second four.first = simp to_z-of_z at c.step-one.ensures in
-    let second : c.step-two.result ≡ moved_by c.step-one.result four.fourth four.third = simp to_z-of_z at c.step-two.ensures in
+    let first : c.step-one.result ≡ moved_by c.args.from four.second four.first = simp to_z-of_z at
+    c.step-one.ensures in
+    let second : c.step-two.result ≡ moved_by c.step-one.result four.fourth four.third =
+    simp to_z-of_z at c.step-two.ensures in
     let all : 0 + four.used ≡ four.used = omega arith in
     subst (IsPairAt c.args.text.now 0 c.args.from c.step-one.result c.step-two.result) all
-    (pair_read c.args.text.now 0 four.used four.second four.first four.fourth four.third c.args.from c.step-one.result c.step-two.result (omega arith) small first second)
+    (pair_read c.args.text.now 0 four.used four.second four.first four.fourth four.third c.args.from
+    c.step-one.result c.step-two.result (omega arith) small first second)
 
 pub returns-clause-in_range : goal.returns-clause-in_range
 returns-clause-in_range c =
@@ -78,11 +91,18 @@ returns-clause-in_range c =
     let c_fits : FitsSigned w64 four.third = search rules in
     let d_fits : FitsSigned w64 four.fourth = search rules in
     let small = c.in_ok-four.ensures.four in
-    let first : c.step-one.result ≡ moved_by c.args.from four.second four.first = simp to_z-of_z at c.step-one.ensures in
-    let second : c.step-two.result ≡ moved_by c.step-one.result four.fourth four.third = simp to_z-of_z at c.step-two.ensures in
-    let one = near_moved 6 c.args.from four.second four.first c.requires.near (short_form four.second small.second_small) (short_form four.first small.first_small) in
-    let two = near_moved 7 c.step-one.result four.fourth four.third (subst (IsNear 7) (sym first) one) (short_form four.fourth small.fourth_small) (short_form four.third small.third_small) in
-    (near_in_range 7 _ (omega arith) (subst (IsNear 7) (sym first) one), near_in_range 8 _ (omega arith) (subst (IsNear 8) (sym second) two))
+    let first : c.step-one.result ≡ moved_by c.args.from four.second four.first = simp to_z-of_z at
+    c.step-one.ensures in
+    let second : c.step-two.result ≡ moved_by c.step-one.result four.fourth four.third =
+    simp to_z-of_z at c.step-two.ensures in
+    let one = near_moved 6 c.args.from four.second four.first c.requires.near
+    (short_form four.second small.second_small) (short_form four.first small.first_small) in
+    let two = near_moved 7 c.step-one.result four.fourth four.third
+    (subst (IsNear 7) (sym first) one) (short_form four.fourth small.fourth_small)
+    (short_form four.third small.third_small) in (
+      near_in_range 7 _ (omega arith) (subst (IsNear 7) (sym first) one),
+      near_in_range 8 _ (omega arith) (subst (IsNear 8) (sym second) two),
+    )
 
 pub returns-clause-onward : goal.returns-clause-onward
 returns-clause-onward c = λ n near.
@@ -92,8 +112,13 @@ returns-clause-onward c = λ n near.
     let c_fits : FitsSigned w64 four.third = search rules in
     let d_fits : FitsSigned w64 four.fourth = search rules in
     let small = c.in_ok-four.ensures.four in
-    let first : c.step-one.result ≡ moved_by c.args.from four.second four.first = simp to_z-of_z at c.step-one.ensures in
-    let second : c.step-two.result ≡ moved_by c.step-one.result four.fourth four.third = simp to_z-of_z at c.step-two.ensures in
-    let one = near_moved n c.args.from four.second four.first near (short_form four.second small.second_small) (short_form four.first small.first_small) in
-    let two = near_moved (n + 1) c.step-one.result four.fourth four.third (subst (IsNear (n + 1)) (sym first) one) (short_form four.fourth small.fourth_small) (short_form four.third small.third_small) in
+    let first : c.step-one.result ≡ moved_by c.args.from four.second four.first = simp to_z-of_z at
+    c.step-one.ensures in
+    let second : c.step-two.result ≡ moved_by c.step-one.result four.fourth four.third =
+    simp to_z-of_z at c.step-two.ensures in
+    let one = near_moved n c.args.from four.second four.first near
+    (short_form four.second small.second_small) (short_form four.first small.first_small) in
+    let two = near_moved (n + 1) c.step-one.result four.fourth four.third
+    (subst (IsNear (n + 1)) (sym first) one) (short_form four.fourth small.fourth_small)
+    (short_form four.third small.third_small) in
     near_further (n + 1 + 1) (n + 2) c.step-two.result (omega arith) (subst (IsNear (n + 1 + 1)) (sym second) two)

@@ -3,4 +3,5 @@ use Rattle.twkb_table.proofs.DecimalLemmas.{one_digit}
 use Rattle.twkb_table.proofs.decimal.parse_id.Goals as goal
 
 pub returns-in-len1 : goal.returns-in-len1
-returns-in-len1 c = let spelled = one_digit c.args.field.now c.in-len1.len_at_least c.in-len1.len_below c.if-digit-ge48.true c.if-digit-le57.true in search rules
+returns-in-len1 c = let spelled = one_digit c.args.field.now c.in-len1.len_at_least
+    c.in-len1.len_below c.if-digit-ge48.true c.if-digit-le57.true in search rules

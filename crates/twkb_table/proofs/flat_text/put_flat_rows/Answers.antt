@@ -9,15 +9,19 @@ pub loop-index-init : goal.loop-index-init
 loop-index-init c = rows_put_none _ _ _
 
 pub loop-index-preserved : goal.loop-index-preserved
-loop-index-preserved c = rows_put_more _ _ (row_with c.row_at.result.0 c.row_at.result.1.now) _ _ _ _ _ _ c.loop-index.invariant c.row_at.ensures.row c.row_at.ensures.counted c.in-Ok.ensures.appended
+loop-index-preserved c = rows_put_more _ _ (row_with c.row_at.result.0 c.row_at.result.1.now) _ _ _
+    _ _ _ c.loop-index.invariant c.row_at.ensures.row c.row_at.ensures.counted
+    c.in-Ok.ensures.appended
 
 pub returns-in_default : goal.returns-in_default
 returns-in_default c = record {
   appended = search rules;
-  same = (let grown : Grows c.args.text.now.items c.put_row.new.text.items = grows_on _ _ _ (grows_by _ _ _ c.loop-index.invariant.lines) c.in_default.ensures.grown in
+  same = (let grown : Grows c.args.text.now.items c.put_row.new.text.items = grows_on _ _ _
+      (grows_by _ _ _ c.loop-index.invariant.lines) c.in_default.ensures.grown in
       grind (arith, common_steps));
   nodes = search rules;
-  points = (let read = rows_put_more _ _ (row_with c.row_at.result.0 c.row_at.result.1.now) _ _ _ _ _ _ c.loop-index.invariant c.row_at.ensures.row c.row_at.ensures.counted refl in
+  points = (let read = rows_put_more _ _ (row_with c.row_at.result.0 c.row_at.result.1.now) _ _ _ _
+      _ _ c.loop-index.invariant c.row_at.ensures.row c.row_at.ensures.counted refl in
       few_points _ _ _ _ _ _ read);
 }
 

@@ -8,4 +8,7 @@ use Rattle.twkb_table.proofs.judging.judge_head.Goals as goal
 
 pub returns-clause-read : goal.returns-clause-read
 returns-clause-read c =
-    subst (λ fields. IfOk c.judge_fields.result (λ head. (v : Verdict) → JudgedAs head v → (before : List Row) → StandsAfter before c.args.rows.now c.args.nodes c.args.held → Judged c.args.limits.now before fields v)) c.five_fields-fields.ensures.value c.judge_fields.ensures.read
+    subst (λ fields. IfOk c.judge_fields.result (λ head. (v : Verdict) → JudgedAs head v
+    → (before : List Row) → StandsAfter before c.args.rows.now c.args.nodes c.args.held
+    → Judged c.args.limits.now before fields v)) c.five_fields-fields.ensures.value
+    c.judge_fields.ensures.read

@@ -36,7 +36,15 @@ returns-then-number-eq-LAST_RECORD g c = record {
   going = search rules;
   end = search rules;
   uncounted = search rules;
-  fault = inr (refl, omega (arith, c.if-number-eq-LAST_RECORD.true), λ told records stands. (fields_of c.read_next.new.held, (c.in-Ok.ensures.gives c.if-not-found.false told records stands).1));
+  fault = inr (
+    refl,
+    omega (arith, c.if-number-eq-LAST_RECORD.true),
+    λ told records stands. (
+      fields_of c.read_next.new.held,
+      (c.in-Ok.ensures.gives c.if-not-found.false told records
+          stands).1,
+    ),
+  );
 }
 
 pub returns : goal.returns

@@ -5,4 +5,5 @@ use Rattle.twkb_table.proofs.RecordWritingLemmas.{HasWritten}
 use Rattle.twkb_table.proofs.printing.write_lines.Given as goal
 
 abbrev pub invariant-loop-line : goal.invariant-loop-line
-invariant-loop-line l = HasWritten (λ id ps. plain_row l.depth l.kind id ps ∷ []) l.ids l.lines l.line-index l.index l.fn.records.writer l.records.writer
+invariant-loop-line l = HasWritten (λ id ps. plain_row l.depth l.kind id ps ∷ []) l.ids l.lines
+    l.line-index l.index l.fn.records.writer l.records.writer

@@ -6,4 +6,5 @@ use Rattle.twkb_table.proofs.RecordWritingLemmas.{HasWritten}
 use Rattle.twkb_table.proofs.printing.write_points.Given as goal
 
 abbrev pub invariant-loop-point : goal.invariant-loop-point
-invariant-loop-point l = HasWritten (λ id p. plain_row l.depth Kind.Point id (p ∷ []) ∷ []) l.ids l.points l.point-index l.index l.fn.records.writer l.records.writer
+invariant-loop-point l = HasWritten (λ id p. plain_row l.depth Kind.Point id (p ∷ []) ∷ []) l.ids
+    l.points l.point-index l.index l.fn.records.writer l.records.writer

@@ -4,4 +4,5 @@ use Rattle.twkb_tree.proofs.counts.rows_of.Given as goal
 
 abbrev pub invariant-loop-area : goal.invariant-loop-area
 invariant-loop-area l =
-    (l.total < 2 ^ 64) × (saturated (l.total + area_nodes (drop l.area-index l.area-items)) ≡ saturated (area_nodes l.area-items))
+    (l.total < 2 ^ 64) × (saturated (l.total + area_nodes (drop l.area-index l.area-items))
+    ≡ saturated (area_nodes l.area-items))

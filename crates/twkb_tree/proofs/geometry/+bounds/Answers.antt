@@ -6,7 +6,9 @@ use Rattle.twkb_tree.proofs.ExtentSteps.{extent_step}
 use Rattle.twkb_tree.proofs.geometry.+bounds.Goals as goal
 
 pub Members::bounds-loop-member-preserved : goal.Members::bounds-loop-member-preserved
-Members::bounds-loop-member-preserved t c = extent_step (λ (xs : List Tree). flat_all (trees xs)) (flat) (λ _ _. refl) _ _ c.member-item.result _ _ c.loop-member-test.true c.member-item.is (rw c.bounds.ensures at c.merged-bounds.ensures) c.loop-member.invariant
+Members::bounds-loop-member-preserved t c = extent_step (λ (xs : List Tree). flat_all (trees xs))
+    (flat) (λ _ _. refl) _ _ c.member-item.result _ _ c.loop-member-test.true c.member-item.is
+    (rw c.bounds.ensures at c.merged-bounds.ensures) c.loop-member.invariant
 
 pub Members::bounds-loop-member-init : goal.Members::bounds-loop-member-init
 Members::bounds-loop-member-init t c = search rules

@@ -5,4 +5,5 @@ use Rattle.twkb_tree.proofs.placed.joined_bounds.Given as goal
 
 abbrev pub invariant-loop-item : goal.invariant-loop-item
 invariant-loop-item g l =
-    joined_options (l.bounds) (extent (flat_map g.T.Placed.points_of (drop l.item-index l.items))) ≡ extent (flat_map g.T.Placed.points_of l.items)
+    joined_options (l.bounds) (extent (flat_map g.T.Placed.points_of (drop l.item-index l.items)))
+    ≡ extent (flat_map g.T.Placed.points_of l.items)

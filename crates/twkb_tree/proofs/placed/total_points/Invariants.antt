@@ -5,4 +5,6 @@ use Rattle.twkb_tree.proofs.placed.total_points.Given as goal
 
 abbrev pub invariant-loop-item : goal.invariant-loop-item
 invariant-loop-item g l =
-    (l.total < 2 ^ 64) × (saturated (l.total + length (flat_map g.T.Placed.points_of (drop l.item-index l.items))) ≡ saturated (length (flat_map g.T.Placed.points_of l.items)))
+    (l.total < 2 ^ 64) × (saturated (l.total + length
+    (flat_map g.T.Placed.points_of (drop l.item-index l.items))) ≡ saturated
+    (length (flat_map g.T.Placed.points_of l.items)))

@@ -6,5 +6,7 @@ pub returns-clause-sizes : goal.returns-clause-sizes
 returns-clause-sizes c =
     let fits : SFits w8 c.args.precision = search rules in
     let entry = simp (to_z-of_z, fits) at c.entry_for.ensures.value in
-    sizes_of_one c.args.style c.args.flat.now c.args.node.now c.args.precision c.blank.result c.take_points-points.result _ c.requires.valid c.requires.one c.requires.node c.requires.whole
+    sizes_of_one c.args.style c.args.flat.now c.args.node.now c.args.precision c.blank.result
+    c.take_points-points.result _ c.requires.valid c.requires.one c.requires.node
+    c.requires.whole
     c.blank.ensures (all_points _ _ c.requires.node _ _ c.none.ensures c.take_points-points.ensures.value) entry

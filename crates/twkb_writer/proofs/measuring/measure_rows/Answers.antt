@@ -9,9 +9,13 @@ pub loop-back-init : goal.loop-back-init
 loop-back-init c =
     let blanks = c.clear.ensures in
     record {
-      pass = pass_start c.args.style c.args.flat.now (c.node_count-total.result - 0) _ _ _ (omega (arith, c.node_count-total.ensures.value)) blanks.size (λ k h. blanks.blanks k (omega arith) h)
+      pass = pass_start c.args.style c.args.flat.now (c.node_count-total.result - 0) _ _ _
+          (omega (arith, c.node_count-total.ensures.value)) blanks.size
+          (λ k h. blanks.blanks k (omega arith) h)
           c.none-tail.ensures c.clear-2.ensures.items;
-      reads = reads_behind _ c.args.flat.now (c.node_count-total.result - 0) (omega (arith, c.node_count-total.ensures.value)) c.look_at_reads.ensures.nodes c.look_at_reads.ensures.points;
+      reads = reads_behind _ c.args.flat.now (c.node_count-total.result - 0)
+          (omega (arith, c.node_count-total.ensures.value)) c.look_at_reads.ensures.nodes
+          c.look_at_reads.ensures.points;
     }
 
 pub take_points-points-requires-clause-few : goal.take_points-points-requires-clause-few
@@ -19,21 +23,33 @@ take_points-points-requires-clause-few c = (capped c.args.flat.now c.node_count-
 
 pub take_points-points-requires-clause-room : goal.take_points-points-requires-clause-room
 take_points-points-requires-clause-room c =
-    let caps = capped_drop (c.node_count-total.result - c.loop-back.back) c.args.flat.now (capped c.args.flat.now c.node_count-total.ensures.sound) in
+    let caps = capped_drop (c.node_count-total.result - c.loop-back.back) c.args.flat.now
+    (capped c.args.flat.now c.node_count-total.ensures.sound) in
     omega (arith, tail_short _ _ _ _ _ caps c.loop-back.invariant.pass)
 
 pub take_row-entry-requires-clause-deep : goal.take_row-entry-requires-clause-deep
-take_row-entry-requires-clause-deep c = omega (arith, node_depth _ _ _ (capped c.args.flat.now c.node_count-total.ensures.sound) c.node-node.ensures.node)
+take_row-entry-requires-clause-deep c = omega (
+  arith,
+  node_depth _ _ _ (capped c.args.flat.now c.node_count-total.ensures.sound)
+      c.node-node.ensures.node,
+)
 
 pub take_row-entry-requires-clause-small : goal.take_row-entry-requires-clause-small
 take_row-entry-requires-clause-small c =
-    pass_small _ _ _ _ _ (capped_drop (c.node_count-total.result - c.loop-back.back) c.args.flat.now (capped c.args.flat.now c.node_count-total.ensures.sound)) c.loop-back.invariant.pass
+    pass_small _ _ _ _ _ (capped_drop (c.node_count-total.result - c.loop-back.back) c.args.flat.now
+    (capped c.args.flat.now c.node_count-total.ensures.sound)) c.loop-back.invariant.pass
 
 pub take_row-entry-requires-clause-points : goal.take_row-entry-requires-clause-points
 take_row-entry-requires-clause-points c =
     let caps = capped c.args.flat.now c.node_count-total.ensures.sound in
     let behind = capped_drop (c.node_count-total.result - c.loop-back.back) c.args.flat.now caps in
-    omega (arith, c.take_points-points.ensures.most, tail_short _ _ _ _ _ behind c.loop-back.invariant.pass, points_within _ _ _ c.node-node.ensures.node, caps.points)
+    omega (
+      arith,
+      c.take_points-points.ensures.most,
+      tail_short _ _ _ _ _ behind c.loop-back.invariant.pass,
+      points_within _ _ _ c.node-node.ensures.node,
+      caps.points,
+    )
 
 pub loop-back-preserved : goal.loop-back-preserved
 loop-back-preserved c =
@@ -41,18 +57,24 @@ loop-back-preserved c =
     let inv = c.loop-back.invariant in
     let read = c.take_points-points.ensures in
     record {
-      pass = pass_step _ _ c.node_count-total.result c.loop-back.back c.node-node.result _ _ _ _ _ _ _ _ c.loop-back-test.true caps c.node-node.ensures.node inv.pass read.value read.most
+      pass = pass_step _ _ c.node_count-total.result c.loop-back.back c.node-node.result _ _ _ _ _ _
+          _ _ c.loop-back-test.true caps c.node-node.ensures.node inv.pass read.value read.most
           c.take_row-entry.ensures c.before_row-tail.ensures c.in_ok-keep.ensures;
-      reads = reads_back c.args.work.now c.loop-back.work _ _ c.loop-back.back _ c.node-node.result.points _ inv.reads c.node-node.ensures.counted read.reads
-          (points_back c.args.flat.now c.node_count-total.result c.loop-back.back c.node-node.result c.loop-back-test.true c.node-node.ensures.node);
+      reads = reads_back c.args.work.now c.loop-back.work _ _ c.loop-back.back _
+          c.node-node.result.points _ inv.reads c.node-node.ensures.counted read.reads
+          (points_back c.args.flat.now c.node_count-total.result c.loop-back.back c.node-node.result
+          c.loop-back-test.true c.node-node.ensures.node);
     }
 
 pub returns-clause-sizes : goal.returns-clause-sizes
 returns-clause-sizes c =
-    pass_end _ _ (c.node_count-total.result - c.loop-back.back) _ _ _ _ c.node_count-total.ensures.sound (omega (arith, c.loop-back-test.false)) c.loop-back.invariant.pass c.reverse.ensures.items
+    pass_end _ _ (c.node_count-total.result - c.loop-back.back) _ _ _ _
+    c.node_count-total.ensures.sound (omega (arith, c.loop-back-test.false))
+    c.loop-back.invariant.pass c.reverse.ensures.items
 
 pub returns-clause-reads : goal.returns-clause-reads
 returns-clause-reads c =
     let none_left : c.node_count-total.result - c.loop-back.back ≡ 0 = omega (arith, c.loop-back-test.false) in
-    let all_read : c.loop-back.back ≡ length c.args.flat.now = omega (arith, c.loop-back-test.false, c.node_count-total.ensures.value) in
+    let all_read : c.loop-back.back ≡ length c.args.flat.now = omega
+    (arith, c.loop-back-test.false, c.node_count-total.ensures.value) in
     rw all_read at rw none_left at c.loop-back.invariant.reads

@@ -23,7 +23,9 @@ loop-child-preserved c =
       at = next_at _ _ _ _ _ _ ends inv.at c.loop-child-test.true inv.after member;
       small = omega (arith, member.next.after, inv.small);
       total = omega (arith, inv.total, ap length more);
-      reads = reads_join _ _ _ _ _ _ _ _ _ inv.reads (one_node _ _ c.node-member.ensures.no_fewer c.node-member.ensures.counted) (omega arith) (omega arith);
+      reads = reads_join _ _ _ _ _ _ _ _ _ inv.reads
+          (one_node _ _ c.node-member.ensures.no_fewer c.node-member.ensures.counted) (omega arith)
+          (omega arith);
     }
 
 pub returns-clause-count : goal.returns-clause-count

@@ -11,7 +11,8 @@ invariant-loop-child l =
       after : l.fn.at.id.0 + 1 ≤ l.child;
       at : At l.flat d l.at.node.next.0 l.child;
       small : l.count ≤ l.child;
-      total : l.count + length (members_below d (drop l.child l.flat)) ≡ length (members_below d (drop (l.fn.at.id.0 + 1) l.flat));
+      total : l.count + length (members_below d (drop l.child l.flat)) ≡ length
+          (members_below d (drop (l.fn.at.id.0 + 1) l.flat));
       reads : Reads l.fn.work l.count 0 l.work;
     }
 

@@ -24,13 +24,21 @@ loop-child-preserved g c =
       after = omega (arith, member.next.after, inv.after);
       at = next_at _ _ _ _ _ _ ends inv.at c.loop-child-test.true inv.after member;
       progress = step g.S.Sink.took g.S.Sink.refused _ _ _ _ _ _ _ (ap ids_bytes more) inv.progress c.put_id.ensures;
-      read = (n + 1, omega (arith, total, ap length more), reads_join _ _ _ _ _ _ _ _ _ reads (one_node _ _ c.node-member.ensures.no_fewer c.node-member.ensures.counted) (omega arith) (omega arith));
+      read = (
+        n + 1,
+        omega (arith, total, ap length more),
+        reads_join _ _ _ _ _ _ _ _ _ reads
+            (one_node _ _ c.node-member.ensures.no_fewer c.node-member.ensures.counted) (omega arith)
+            (omega arith),
+      );
     }
 
 pub returns-clause-put : goal.returns-clause-put
 returns-clause-put g c =
     let inv = c.loop-child.invariant in
-    finished g.S.Sink.took g.S.Sink.refused _ _ _ _ (ap ids_bytes (members_end _ _ _ _ _ (node_ends _ _ _ c.requires) inv.at (omega arith))) inv.progress
+    finished g.S.Sink.took g.S.Sink.refused _ _ _ _
+    (ap ids_bytes (members_end _ _ _ _ _ (node_ends _ _ _ c.requires) inv.at (omega arith)))
+    inv.progress
 
 pub returns-clause-reads : goal.returns-clause-reads
 returns-clause-reads g c =

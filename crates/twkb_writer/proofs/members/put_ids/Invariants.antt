@@ -11,8 +11,11 @@ invariant-loop-child g l =
     record {
       after : l.fn.at.id.0 + 1 ≤ l.child;
       at : At l.flat d l.at.node.next.0 l.child;
-      progress : Progress g.S.Sink.took g.S.Sink.refused l.fn.gatherer (ids_bytes (members_below d (drop (l.fn.at.id.0 + 1) l.flat))) l.gatherer (ids_bytes (members_below d (drop l.child l.flat)));
-      read : (n : ℕ) × (n + length (members_below d (drop l.child l.flat)) ≡ length (members_below d (drop (l.fn.at.id.0 + 1) l.flat))) × Reads l.fn.work n 0 l.work;
+      progress : Progress g.S.Sink.took g.S.Sink.refused l.fn.gatherer
+          (ids_bytes (members_below d (drop (l.fn.at.id.0 + 1) l.flat))) l.gatherer
+          (ids_bytes (members_below d (drop l.child l.flat)));
+      read : (n : ℕ) × (n + length (members_below d (drop l.child l.flat)) ≡ length
+          (members_below d (drop (l.fn.at.id.0 + 1) l.flat))) × Reads l.fn.work n 0 l.work;
     }
 
 abbrev pub decreases-loop-child : goal.decreases-loop-child

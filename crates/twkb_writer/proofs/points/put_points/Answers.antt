@@ -27,9 +27,16 @@ loop-index-preserved g c =
       behind = omega (arith, c.loop-index.invariant.behind);
       within = omega (arith, c.loop-index.invariant.within);
       progress = rw c.put_steps.ensures.moved (step g.S.Sink.took g.S.Sink.refused _ _ _ _ _ _ _
-          (way_two ps i end at c.point-to.result c.point-next.result (omega arith) c.point-to.ensures.point c.point-next.ensures.point) c.loop-index.invariant.progress c.put_steps.ensures.put);
-      last = rw c.put_steps.ensures.moved (sym (end_two ps i end at c.point-to.result c.point-next.result (omega arith) c.point-to.ensures.point c.point-next.ensures.point) ∙ c.loop-index.invariant.last);
-      reads = reads_join _ _ _ _ _ _ _ _ _ c.loop-index.invariant.reads (two_points _ _ _ c.point-to.ensures.no_fewer c.point-to.ensures.counted c.point-next.ensures.no_fewer c.point-next.ensures.counted) (omega arith) (omega (arith, c.loop-index.invariant.behind));
+          (way_two ps i end at c.point-to.result c.point-next.result (omega arith)
+          c.point-to.ensures.point c.point-next.ensures.point) c.loop-index.invariant.progress
+          c.put_steps.ensures.put);
+      last = rw c.put_steps.ensures.moved
+          (sym (end_two ps i end at c.point-to.result c.point-next.result (omega arith)
+          c.point-to.ensures.point c.point-next.ensures.point) ∙ c.loop-index.invariant.last);
+      reads = reads_join _ _ _ _ _ _ _ _ _ c.loop-index.invariant.reads
+          (two_points _ _ _ c.point-to.ensures.no_fewer c.point-to.ensures.counted
+          c.point-next.ensures.no_fewer c.point-next.ensures.counted) (omega arith)
+          (omega (arith, c.loop-index.invariant.behind));
     }
 
 pub returns-then-index-end-clause-put : goal.returns-then-index-end-clause-put
@@ -39,7 +46,10 @@ returns-then-index-end-clause-put g c =
     let end = c.args.node.now.first.0 + c.args.node.now.points in
     let to = c.point-to-then-index-end.result in
     finished g.S.Sink.took g.S.Sink.refused _ _ _ _ (ap (way_bytes to) (nothing_left ps (i + 1) end (omega arith)))
-    (step g.S.Sink.took g.S.Sink.refused _ _ _ _ _ _ _ (way_more ps i end c.loop-index.cursor to (omega arith) c.point-to-then-index-end.ensures.point) c.loop-index.invariant.progress c.put_step.ensures.put)
+    (step g.S.Sink.took g.S.Sink.refused _ _ _ _ _ _ _
+    (way_more ps i end c.loop-index.cursor to (omega arith)
+    c.point-to-then-index-end.ensures.point) c.loop-index.invariant.progress
+    c.put_step.ensures.put)
 
 pub returns-then-index-end-clause-moved : goal.returns-then-index-end-clause-moved
 returns-then-index-end-clause-moved g c =
@@ -48,19 +58,29 @@ returns-then-index-end-clause-moved g c =
     let end = c.args.node.now.first.0 + c.args.node.now.points in
     let to = c.point-to-then-index-end.result in
     c.put_step.ensures.moved ∙ sym (ap (way_end to) (nothing_left ps (i + 1) end (omega arith)))
-    ∙ sym (end_more ps i end c.loop-index.cursor to (omega arith) c.point-to-then-index-end.ensures.point) ∙ c.loop-index.invariant.last
+    ∙ sym (end_more ps i end c.loop-index.cursor to (omega arith)
+    c.point-to-then-index-end.ensures.point) ∙ c.loop-index.invariant.last
 
 pub returns-then-index-end-clause-reads : goal.returns-then-index-end-clause-reads
 returns-then-index-end-clause-reads g c =
-    reads_join _ _ _ _ _ _ _ _ _ c.loop-index.invariant.reads (one_point _ _ c.point-to-then-index-end.ensures.no_fewer c.point-to-then-index-end.ensures.counted) (omega arith) (omega (arith, c.loop-index.invariant.behind))
+    reads_join _ _ _ _ _ _ _ _ _ c.loop-index.invariant.reads
+    (one_point _ _ c.point-to-then-index-end.ensures.no_fewer
+    c.point-to-then-index-end.ensures.counted) (omega arith)
+    (omega (arith, c.loop-index.invariant.behind))
 
 pub returns-else-index-end-clause-put : goal.returns-else-index-end-clause-put
 returns-else-index-end-clause-put g c =
-    finished g.S.Sink.took g.S.Sink.refused _ _ _ _ (ap (way_bytes c.loop-index.cursor) (nothing_left (row_points c.args.flat.now) c.loop-index.index (c.args.node.now.first.0 + c.args.node.now.points) (omega arith))) c.loop-index.invariant.progress
+    finished g.S.Sink.took g.S.Sink.refused _ _ _ _
+    (ap (way_bytes c.loop-index.cursor) (nothing_left (row_points c.args.flat.now)
+    c.loop-index.index (c.args.node.now.first.0 + c.args.node.now.points) (omega arith)))
+    c.loop-index.invariant.progress
 
 pub returns-else-index-end-clause-moved : goal.returns-else-index-end-clause-moved
 returns-else-index-end-clause-moved g c =
-    sym (ap (way_end c.loop-index.cursor) (nothing_left (row_points c.args.flat.now) c.loop-index.index (c.args.node.now.first.0 + c.args.node.now.points) (omega arith))) ∙ c.loop-index.invariant.last
+    sym (ap (way_end c.loop-index.cursor) (nothing_left (row_points c.args.flat.now)
+    c.loop-index.index (c.args.node.now.first.0 + c.args.node.now.points) (omega arith)))
+    ∙ c.loop-index.invariant.last
 
 pub returns-else-index-end-clause-reads : goal.returns-else-index-end-clause-reads
-returns-else-index-end-clause-reads g c = reads_join _ _ _ _ _ 0 0 _ _ c.loop-index.invariant.reads (reads_none _ _ _) (omega arith) (omega (arith, c.loop-index.invariant.within))
+returns-else-index-end-clause-reads g c = reads_join _ _ _ _ _ 0 0 _ _ c.loop-index.invariant.reads
+    (reads_none _ _ _) (omega arith) (omega (arith, c.loop-index.invariant.within))

@@ -11,9 +11,12 @@ invariant-loop-index g l =
     record {
       behind : l.fn.node.first.0 ≤ l.index;
       within : l.index ≤ l.fn.node.first.0 + l.fn.node.points;
-      progress : Progress g.S.Sink.took g.S.Sink.refused l.fn.gatherer (way_bytes l.fn.cursor (take l.fn.node.points (drop l.fn.node.first.0 ps))) l.gatherer
+      progress : Progress g.S.Sink.took g.S.Sink.refused l.fn.gatherer
+          (way_bytes l.fn.cursor (take l.fn.node.points (drop l.fn.node.first.0 ps))) l.gatherer
           (way_bytes l.cursor (take (l.fn.node.first.0 + l.fn.node.points - l.index) (drop l.index ps)));
-      last : way_end l.cursor (take (l.fn.node.first.0 + l.fn.node.points - l.index) (drop l.index ps)) ≡ way_end l.fn.cursor (take l.fn.node.points (drop l.fn.node.first.0 ps));
+      last : way_end l.cursor (take (l.fn.node.first.0 + l.fn.node.points - l.index)
+          (drop l.index ps)) ≡ way_end l.fn.cursor (take l.fn.node.points
+          (drop l.fn.node.first.0 ps));
       reads : Reads l.fn.work 0 (l.index - l.fn.node.first.0) l.work;
     }
 

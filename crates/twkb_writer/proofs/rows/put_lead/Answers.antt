@@ -11,5 +11,8 @@ returns-in-Some-clause-put g c =
     let here = room_here _ _ c.args.entry _ c.in-Some.is c.requires.room in
     let fits : SFits w8 c.in-Some.precision = search rules in
     let first = simp to_z-of_z at c.put_header.ensures in
-    rw (own_at c.args.job.now.style _ _ c.args.job.now.sizes.now c.args.entry c.index.result.now c.args.at.now.node.row.kind c.args.at.now.node.row.depth c.args.at.now.node.points _ c.in-Some.is here (c.index.ensures ∙ ap (λ (es : List Entry). get_or es c.args.entry c.index.result.now) c.sizes.view_is))
+    rw (own_at c.args.job.now.style _ _ c.args.job.now.sizes.now c.args.entry c.index.result.now
+    c.args.at.now.node.row.kind c.args.at.now.node.row.depth c.args.at.now.node.points _
+    c.in-Some.is here (c.index.ensures ∙ ap (λ (es : List Entry).
+    get_or es c.args.entry c.index.result.now) c.sizes.view_is))
     (put_join g.S.Sink.took g.S.Sink.refused _ _ _ _ _ first c.put_own.ensures.put)

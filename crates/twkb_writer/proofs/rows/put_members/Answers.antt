@@ -5,7 +5,8 @@ use Rattle.twkb_writer.proofs.rows.put_members.Goals as goal
 pub returns-then-not-members-clause-put : goal.returns-then-not-members-clause-put
 returns-then-not-members-clause-put g c =
     let unnamed : c.args.members.named ≡ false = search rules in
-    rw unnamed (put_join g.S.Sink.took g.S.Sink.refused _ _ _ _ _ c.put_number.ensures (put_none g.S.Sink.took g.S.Sink.refused _))
+    rw unnamed (put_join g.S.Sink.took g.S.Sink.refused _ _ _ _ _ c.put_number.ensures
+    (put_none g.S.Sink.took g.S.Sink.refused _))
 
 pub returns-clause-put : goal.returns-clause-put
 returns-clause-put g c =

@@ -3,7 +3,8 @@ use Rattle.std.proofs.lemmas.List.{drop_all}
 use Rattle.twkb_writer.specs.Bytes.{members_below, rows_bytes}
 use Rattle.twkb_writer.proofs.PutLemmas.{begun, step, finished, given_up}
 use Rattle.twkb_writer.proofs.ReadLemmas.{reads_none, reads_join, reads_row, one_node}
-use Rattle.twkb_writer.proofs.RowStep.{rows_step, entries_step, walks_step, points_step, points_within, few_points, next_rows}
+use Rattle.twkb_writer.proofs.RowStep.{rows_step, entries_step, walks_step, points_step}
+use Rattle.twkb_writer.proofs.RowStep.{points_within, few_points, next_rows}
 use Rattle.twkb_writer.proofs.WalkLemmas.{walks_twice}
 use Rattle.twkb_writer.proofs.rows.put_rows.Goals as goal
 
@@ -15,22 +16,37 @@ loop-index-init g c = record {
 }
 
 pub place_of_points-place-requires : goal.place_of_points-place-requires
-place_of_points-place-requires g c = omega (arith, entries_step _ _ _ c.node-node.ensures.node, c.loop-index.invariant.room, c.len-learnt.ensures)
+place_of_points-place-requires g c = omega (
+  arith,
+  entries_step _ _ _ c.node-node.ensures.node,
+  c.loop-index.invariant.room,
+  c.len-learnt.ensures,
+)
 
 pub put_points-requires-clause-within : goal.put_points-requires-clause-within
 put_points-requires-clause-within g c = points_within _ _ _ c.node-node.ensures.node
 
 pub put_points-requires-clause-fits : goal.put_points-requires-clause-fits
-put_points-requires-clause-fits g c = let within = points_within _ _ _ c.node-node.ensures.node in omega (arith, within, few_points _ c.node_count-index-end.ensures.sound)
+put_points-requires-clause-fits g c = let within = points_within _ _ _ c.node-node.ensures.node in
+    omega (arith, within, few_points _ c.node_count-index-end.ensures.sound)
 
 pub loop-index-preserved : goal.loop-index-preserved
 loop-index-preserved g c =
     let node = c.node-node.ensures.node in
     let (n, m, walked, seen, reads) = c.loop-index.invariant.read in
-    let e = rows_step c.args.job.now.style c.args.job.now.flat.now c.loop-index.index c.node-node.result node c.loop-index.place.cursor (drop c.loop-index.place.entry c.args.job.now.sizes.now) in
-    let after = step g.S.Sink.took g.S.Sink.refused _ _ _ _ _ _ _ e c.loop-index.invariant.progress c.put_lead.ensures.put in
-    let next = next_rows c.args.job.now.style c.node-node.result.row.precision c.args.job.now.sizes.now c.loop-index.place.entry c.place_of_points-place.result.entry c.loop-index.place.cursor _ c.place_of_points-place.result.cursor _ (drop (c.loop-index.index + 1) c.args.job.now.flat.now) c.place_of_points-place.ensures.entry c.place_of_points-place.ensures.at c.put_points.ensures.moved in
-    let members_read = length (members_below c.node-node.result.row.depth (drop (c.loop-index.index + 1) c.args.job.now.flat.now)) in
+    let e = rows_step c.args.job.now.style c.args.job.now.flat.now c.loop-index.index
+    c.node-node.result node c.loop-index.place.cursor
+    (drop c.loop-index.place.entry c.args.job.now.sizes.now) in
+    let after = step g.S.Sink.took g.S.Sink.refused _ _ _ _ _ _ _ e c.loop-index.invariant.progress
+    c.put_lead.ensures.put in
+    let next = next_rows c.args.job.now.style c.node-node.result.row.precision
+    c.args.job.now.sizes.now c.loop-index.place.entry c.place_of_points-place.result.entry
+    c.loop-index.place.cursor _ c.place_of_points-place.result.cursor _
+    (drop (c.loop-index.index + 1) c.args.job.now.flat.now)
+    c.place_of_points-place.ensures.entry c.place_of_points-place.ensures.at
+    c.put_points.ensures.moved in
+    let members_read = length (members_below c.node-node.result.row.depth
+    (drop (c.loop-index.index + 1) c.args.job.now.flat.now)) in
     let walk = walks_step c.args.job.now.flat.now c.loop-index.index c.node-node.result node in
     let see = points_step c.args.job.now.flat.now c.loop-index.index c.node-node.result node in
     record {
@@ -41,12 +57,14 @@ loop-index-preserved g c =
         m + c.node-node.result.points,
         omega (arith, walked, walk),
         omega (arith, seen, see),
-        reads_row _ _ _ _ _ _ _ _ _ reads (one_node _ _ c.node-node.ensures.no_fewer c.node-node.ensures.counted) c.put_lead.ensures.reads c.put_points.ensures.reads,
+        reads_row _ _ _ _ _ _ _ _ _ reads (one_node _ _ c.node-node.ensures.no_fewer
+            c.node-node.ensures.counted) c.put_lead.ensures.reads c.put_points.ensures.reads,
       );
     }
 
 pub returns-then-is_some-clause-put : goal.returns-then-is_some-clause-put
-returns-then-is_some-clause-put g c = given_up g.S.Sink.took g.S.Sink.refused _ _ _ _ (search rules) c.loop-index.invariant.progress
+returns-then-is_some-clause-put g c = given_up g.S.Sink.took g.S.Sink.refused _ _ _ _ (search rules)
+    c.loop-index.invariant.progress
 
 pub returns-then-is_some-clause-reads : goal.returns-then-is_some-clause-reads
 returns-then-is_some-clause-reads g c =
@@ -56,7 +74,11 @@ returns-then-is_some-clause-reads g c =
 
 pub returns-clause-put : goal.returns-clause-put
 returns-clause-put g c =
-    finished g.S.Sink.took g.S.Sink.refused _ _ _ _ (ap (rows_bytes c.args.job.now.style c.loop-index.place.cursor (drop c.loop-index.place.entry c.args.job.now.sizes.now)) (drop_all c.loop-index.index c.args.job.now.flat.now (omega arith))) c.loop-index.invariant.progress
+    finished g.S.Sink.took g.S.Sink.refused _ _ _ _
+    (ap (rows_bytes c.args.job.now.style c.loop-index.place.cursor
+    (drop c.loop-index.place.entry c.args.job.now.sizes.now))
+    (drop_all c.loop-index.index c.args.job.now.flat.now (omega arith)))
+    c.loop-index.invariant.progress
 
 pub returns-clause-reads : goal.returns-clause-reads
 returns-clause-reads g c =

@@ -9,7 +9,9 @@ use Rattle.twkb_grammar.specs.declared.style.Style.TheVariants.{Full}
 use Rattle.twkb_writer.specs.Measuring.{level}
 use Rattle.twkb_writer.proofs.MeasuringParts.{flat_map_ones}
 use Rattle.twkb_writer.proofs.MeasuringTrees.{with_tree, tree_counted}
-use Rattle.twkb_writer.proofs.TreeLevels.{each_back, member_more, geometry_more, nodes_back, flat_back, fewer_nodes, fewer_flat, members_have_rows, counted_from, members_are, own_within, by_shape}
+use Rattle.twkb_writer.proofs.TreeLevels.{each_back, member_more, geometry_more, nodes_back}
+use Rattle.twkb_writer.proofs.TreeLevels.{flat_back, fewer_nodes, fewer_flat, members_have_rows}
+use Rattle.twkb_writer.proofs.TreeLevels.{counted_from, members_are, own_within, by_shape}
 use Rattle.twkb_writer.proofs.tree_measuring.+measuring.Goals as goal
 
 pub members_level-with_member-level-requires : goal.members_level-with_member-level-requires
@@ -29,8 +31,23 @@ members_level-with_member-level-requires t c =
           few_points = omega (arith, c.requires.few_points, points, all_points, fewer_flat (k - 1) gs);
         },
         (
-          omega (arith, c.requires.few_rows, all_rows, members_have_rows gs, counted_from (with_tree Full) (tree_counted Full) c.args.ids.now k gs _ inv.value),
-          omega (arith, inv.most, c.requires.few_rows, c.requires.few_points, all_rows, all_points, fewer_nodes k gs, fewer_flat k gs),
+          omega (
+            arith,
+            c.requires.few_rows,
+            all_rows,
+            members_have_rows gs,
+            counted_from (with_tree Full) (tree_counted Full) c.args.ids.now k gs _ inv.value,
+          ),
+          omega (
+            arith,
+            inv.most,
+            c.requires.few_rows,
+            c.requires.few_points,
+            all_rows,
+            all_points,
+            fewer_nodes k gs,
+            fewer_flat k gs,
+          ),
         ),
       ),
     )
@@ -41,8 +58,10 @@ members_level-loop-index-preserved t c =
     let member = c.index-items-index in
     let gs = c.as_slice-items.result.now in
     record {
-      value = each_back (with_tree Full) c.args.ids.now gs k member.result _ _ c.loop-index-test.true c.loop-index.auto.index member.is c.loop-index.invariant.value
-          (member_more c.args.ids.now (k - 1) member.result _ _ _ c.with_member-level.ensures.sound c.id_at.ensures c.with_member-level.ensures.value);
+      value = each_back (with_tree Full) c.args.ids.now gs k member.result _ _
+          c.loop-index-test.true c.loop-index.auto.index member.is c.loop-index.invariant.value
+          (member_more c.args.ids.now (k - 1) member.result _ _ _ c.with_member-level.ensures.sound
+          c.id_at.ensures c.with_member-level.ensures.value);
       most = omega (
         arith,
         c.loop-index.invariant.most,
@@ -55,10 +74,13 @@ members_level-loop-index-preserved t c =
 pub members_level-returns-clause-value : goal.members_level-returns-clause-value
 members_level-returns-clause-value t c =
     let items = c.as_slice-items.ensures.items in
-    members_are c.args.ids.now c.as_slice-items.result.now _ _ (subst (λ (ms : List Tree). AreTrees (trees ms)) (sym items) c.as_slice-items.ensures.trees) (omega arith) c.loop-index.invariant.value
+    members_are c.args.ids.now c.as_slice-items.result.now _ _
+    (subst (λ (ms : List Tree). AreTrees (trees ms)) (sym items) c.as_slice-items.ensures.trees)
+    (omega arith) c.loop-index.invariant.value
     ∙ ap (λ (ms : List Tree). level Full 0 (member_rows 0 c.args.ids.now (trees ms))) items
 
-pub below-parts_level-requires-in-MultiPoint-clause-few_points : goal.below-parts_level-requires-in-MultiPoint-clause-few_points
+pub below-parts_level-requires-in-MultiPoint-clause-few_points
+    : goal.below-parts_level-requires-in-MultiPoint-clause-few_points
 below-parts_level-requires-in-MultiPoint-clause-few_points t c =
     let ones = flat_map_ones c.as_slice-in-MultiPoint.result.now ∙ c.as_slice-in-MultiPoint.ensures.items in
     let few : length (flat_map (λ (p : Point). p ∷ []) c.as_slice-in-MultiPoint.result.now) ≤ 2 ^ 24 = omega (
@@ -71,13 +93,22 @@ below-parts_level-requires-in-MultiPoint-clause-few_points t c =
 
 pub with_member-overflow_cast-own : goal.with_member-overflow_cast-own
 with_member-overflow_cast-own t c =
-    let whole = ap (own_row c.args.id 0) (sym c.shape.ensures) ∙ c.own_parts-kind.ensures (precision_of c.args.geometry.now) c.args.id 0 in
-    omega (arith, c.requires.caps.few_points, own_within c.args.id c.args.geometry.now, ap (λ (r : Row). length r.points) whole)
+    let whole = ap (own_row c.args.id 0) (sym c.shape.ensures)
+    ∙ c.own_parts-kind.ensures (precision_of c.args.geometry.now) c.args.id 0 in
+    omega (
+      arith,
+      c.requires.caps.few_points,
+      own_within c.args.id c.args.geometry.now,
+      ap (λ (r : Row). length r.points) whole,
+    )
 
 pub with_member-returns-clause-value : goal.with_member-returns-clause-value
 with_member-returns-clause-value t c =
     let fits : SFits w8 c.precision-precision.result = search rules in
     let entry = simp (to_z-of_z, fits) at c.entry_for-entry.ensures.value in
     let more = simp (to_z-of_z, fits) at c.with_geometry.ensures.value in
-    let whole = ap (own_row c.args.id 0) (sym c.shape.ensures) ∙ c.own_parts-kind.ensures (precision_of c.args.geometry.now) c.args.id 0 in
-    geometry_more c.args.geometry.now c.args.id _ _ _ _ _ _ c.args.others _ whole c.precision-precision.ensures.value c.below-level.ensures.value c.own_tail-tail.ensures.value entry more
+    let whole = ap (own_row c.args.id 0) (sym c.shape.ensures)
+    ∙ c.own_parts-kind.ensures (precision_of c.args.geometry.now) c.args.id 0 in
+    geometry_more c.args.geometry.now c.args.id _ _ _ _ _ _ c.args.others _ whole
+    c.precision-precision.ensures.value c.below-level.ensures.value
+    c.own_tail-tail.ensures.value entry more

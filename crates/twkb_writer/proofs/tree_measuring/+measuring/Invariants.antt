@@ -13,5 +13,6 @@ use Rattle.twkb_writer.proofs.tree_measuring.+measuring.Given as goal
 abbrev pub invariant-members_level-loop-index : goal.invariant-members_level-loop-index
 invariant-members_level-loop-index l = record {
   value : l.level ≡ with_each (with_tree Full) (ids_from l.index l.ids) (drop l.index l.items) blank;
-  most : load l.level ≤ most_of (nodes_all (trees (drop l.index l.items))) (length (flat_all (trees (drop l.index l.items))));
+  most : load l.level ≤ most_of (nodes_all (trees (drop l.index l.items)))
+      (length (flat_all (trees (drop l.index l.items))));
 }

@@ -7,7 +7,9 @@ use Rattle.twkb_grammar.specs.declared.style.Style.TheVariants.{Full}
 use Rattle.twkb_writer.specs.Measuring.{level}
 use Rattle.twkb_writer.proofs.MeasuringParts.{with_polygon, rings_level}
 use Rattle.twkb_writer.proofs.MeasuringTotals.{part_counted}
-use Rattle.twkb_writer.proofs.TreeLevels.{each_back, polygon_more, count_back, fewer_points, areas_back, fewer_areas, area_within, areas_have_rows, counted_from, areas_are}
+use Rattle.twkb_writer.proofs.TreeLevels.{each_back, polygon_more, count_back, fewer_points}
+use Rattle.twkb_writer.proofs.TreeLevels.{areas_back, fewer_areas, area_within, areas_have_rows}
+use Rattle.twkb_writer.proofs.TreeLevels.{counted_from, areas_are}
 use Rattle.twkb_writer.proofs.tree_measuring.areas_level.Goals as goal
 
 pub parts_level-rings-requires-clause-few : goal.parts_level-rings-requires-clause-few
@@ -15,7 +17,8 @@ parts_level-rings-requires-clause-few c =
     omega (
       arith,
       c.requires.few,
-      area_within c.args.areas.now c.loop-index.index c.index-areas-index.result c.loop-index-test.true c.loop-index.auto.index c.index-areas-index.is,
+      area_within c.args.areas.now c.loop-index.index c.index-areas-index.result
+          c.loop-index-test.true c.loop-index.auto.index c.index-areas-index.is,
       ap (λ (rings : List (List Point)). length rings) c.as_slice.ensures.items,
     )
 
@@ -25,7 +28,8 @@ parts_level-rings-requires-clause-few_points c =
     let few : length (flatten c.as_slice.result.now) ≤ 2 ^ 24 = omega (
       arith,
       c.requires.few_points,
-      count_back flatten c.args.areas.now k c.index-areas-index.result c.loop-index-test.true c.loop-index.auto.index c.index-areas-index.is,
+      count_back flatten c.args.areas.now k c.index-areas-index.result c.loop-index-test.true
+          c.loop-index.auto.index c.index-areas-index.is,
       fewer_points flatten (k - 1) c.args.areas.now,
       ap (λ (rings : List (List Point)). length (flatten rings)) c.as_slice.ensures.items,
     ) in
@@ -37,7 +41,8 @@ with_part-level-requires-clause-members c =
       arith,
       c.requires.few,
       areas_have_rows c.args.areas.now,
-      counted_from with_polygon (part_counted kind.Polygon (λ rings. 0) rings_level) c.args.ids.now c.loop-index.index c.args.areas.now _ c.loop-index.invariant.value,
+      counted_from with_polygon (part_counted kind.Polygon (λ rings. 0) rings_level) c.args.ids.now
+          c.loop-index.index c.args.areas.now _ c.loop-index.invariant.value,
     )
 
 pub with_part-level-requires-clause-ids : goal.with_part-level-requires-clause-ids
@@ -54,7 +59,8 @@ with_part-level-requires-clause-ids_below c =
       arith,
       c.requires.few,
       c.parts_level-rings.ensures.most,
-      area_within c.args.areas.now c.loop-index.index c.index-areas-index.result c.loop-index-test.true c.loop-index.auto.index c.index-areas-index.is,
+      area_within c.args.areas.now c.loop-index.index c.index-areas-index.result
+          c.loop-index-test.true c.loop-index.auto.index c.index-areas-index.is,
       ap (λ (rings : List (List Point)). length rings) c.as_slice.ensures.items,
     )
 
@@ -64,7 +70,8 @@ with_part-level-requires-clause-bytes_below c =
       arith,
       c.requires.few,
       c.parts_level-rings.ensures.most,
-      area_within c.args.areas.now c.loop-index.index c.index-areas-index.result c.loop-index-test.true c.loop-index.auto.index c.index-areas-index.is,
+      area_within c.args.areas.now c.loop-index.index c.index-areas-index.result
+          c.loop-index-test.true c.loop-index.auto.index c.index-areas-index.is,
       ap (λ (rings : List (List Point)). length rings) c.as_slice.ensures.items,
     )
 
@@ -73,8 +80,11 @@ loop-index-preserved c =
     let k = c.loop-index.index in
     let area = c.index-areas-index in
     record {
-      value = each_back with_polygon c.args.ids.now c.args.areas.now k area.result _ _ c.loop-index-test.true c.loop-index.auto.index area.is c.loop-index.invariant.value
-          (polygon_more c.args.ids.now (k - 1) area.result _ _ _ _ c.id_at.ensures (c.parts_level-rings.ensures.value ∙ ap (λ rings. level Full 0 (ring_rows 0 rings)) c.as_slice.ensures.items) c.with_part-level.ensures.value);
+      value = each_back with_polygon c.args.ids.now c.args.areas.now k area.result _ _
+          c.loop-index-test.true c.loop-index.auto.index area.is c.loop-index.invariant.value
+          (polygon_more c.args.ids.now (k - 1) area.result _ _ _ _ c.id_at.ensures
+          (c.parts_level-rings.ensures.value ∙ ap (λ rings. level Full 0 (ring_rows 0 rings))
+          c.as_slice.ensures.items) c.with_part-level.ensures.value);
       most = omega (
         arith,
         c.loop-index.invariant.most,

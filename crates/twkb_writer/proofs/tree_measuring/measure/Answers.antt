@@ -4,4 +4,5 @@ use Rattle.twkb_writer.proofs.TreeLevels.{blob_is}
 use Rattle.twkb_writer.proofs.tree_measuring.measure.Goals as goal
 
 pub returns : goal.returns
-returns c = blob_is c.args.geometry.now _ c.requires.tree (c.with_member.ensures.value ∙ ap (tree_level None c.args.geometry.now) c.blank.ensures)
+returns c = blob_is c.args.geometry.now _ c.requires.tree (c.with_member.ensures.value
+    ∙ ap (tree_level None c.args.geometry.now) c.blank.ensures)

@@ -15,12 +15,17 @@ returns-in-MultiPolygon-clause-value c =
 
 pub returns-in-Point-Some-clause-value : goal.returns-in-Point-Some-clause-value
 returns-in-Point-Some-clause-value c =
-    let value : c.with_first.result ≡ tail_of (c.in-Point-Some.point ∷ []) = c.with_first.ensures.value [] c.none.ensures in search rules
+    let value : c.with_first.result ≡ tail_of (c.in-Point-Some.point ∷ []) =
+    c.with_first.ensures.value [] c.none.ensures in search rules
 
 pub returns-in-Line-clause-value : goal.returns-in-Line-clause-value
 returns-in-Line-clause-value c =
-    let value : c.in_front_of-in-Line.result ≡ tail_of c.in-Line.points = c.in_front_of-in-Line.ensures.value [] c.none-in-Line.ensures ∙ ap tail_of (append-nil c.in-Line.points) in search rules
+    let value : c.in_front_of-in-Line.result ≡ tail_of c.in-Line.points =
+    c.in_front_of-in-Line.ensures.value [] c.none-in-Line.ensures
+    ∙ ap tail_of (append-nil c.in-Line.points) in search rules
 
 pub returns-in-Polygon-clause-value : goal.returns-in-Polygon-clause-value
 returns-in-Polygon-clause-value c =
-    let value : c.in_front_of.result ≡ tail_of (flatten c.in-Polygon.lines) = c.in_front_of.ensures.value [] c.none-in-Polygon.ensures ∙ ap tail_of (append-nil (flatten c.in-Polygon.lines)) in search rules
+    let value : c.in_front_of.result ≡ tail_of (flatten c.in-Polygon.lines) =
+    c.in_front_of.ensures.value [] c.none-in-Polygon.ensures
+    ∙ ap tail_of (append-nil (flatten c.in-Polygon.lines)) in search rules

@@ -5,7 +5,8 @@ use Rattle.twkb_writer.specs.Levels.{blank}
 use Rattle.twkb_writer.specs.Measuring.{load}
 use Rattle.twkb_writer.proofs.MeasuringParts.{with_row_of}
 use Rattle.twkb_writer.proofs.MeasuringTotals.{part_counted}
-use Rattle.twkb_writer.proofs.TreeLevels.{each_back, part_more, count_back, fewer, fewer_points, length_back, counted_from, parts_are}
+use Rattle.twkb_writer.proofs.TreeLevels.{each_back, part_more, count_back, fewer, fewer_points}
+use Rattle.twkb_writer.proofs.TreeLevels.{length_back, counted_from, parts_are}
 use Rattle.twkb_writer.proofs.tree_measuring.parts_level.Goals as goal
 
 pub overflow_cast-own : goal.overflow_cast-own
@@ -14,7 +15,8 @@ overflow_cast-own g c =
     omega (
       arith,
       c.requires.few_points,
-      count_back g.T.Part.own c.args.parts.now k c.index-parts-index.result c.loop-index-test.true c.loop-index.auto.index c.index-parts-index.is,
+      count_back g.T.Part.own c.args.parts.now k c.index-parts-index.result c.loop-index-test.true
+          c.loop-index.auto.index c.index-parts-index.is,
       fewer_points g.T.Part.own (k - 1) c.args.parts.now,
       ap (λ (ps : List Point). length ps) c.own_points.ensures,
     )
@@ -24,14 +26,18 @@ with_part-level-requires-clause-members g c =
     omega (
       arith,
       c.requires.few,
-      counted_from (with_row_of c.args.kind g.T.Part.own) (part_counted c.args.kind (λ x. length (g.T.Part.own x)) (λ x. blank)) c.args.ids.now c.loop-index.index c.args.parts.now _ c.loop-index.invariant.value,
+      counted_from (with_row_of c.args.kind g.T.Part.own)
+          (part_counted c.args.kind (λ x. length (g.T.Part.own x)) (λ x. blank)) c.args.ids.now
+          c.loop-index.index c.args.parts.now _ c.loop-index.invariant.value,
     )
 
 pub with_part-level-requires-clause-ids : goal.with_part-level-requires-clause-ids
-with_part-level-requires-clause-ids g c = omega (arith, c.requires.few, c.loop-index.invariant.most, fewer c.loop-index.index c.args.parts.now)
+with_part-level-requires-clause-ids g c = omega
+    (arith, c.requires.few, c.loop-index.invariant.most, fewer c.loop-index.index c.args.parts.now)
 
 pub with_part-level-requires-clause-bytes : goal.with_part-level-requires-clause-bytes
-with_part-level-requires-clause-bytes g c = omega (arith, c.requires.few, c.loop-index.invariant.most, fewer c.loop-index.index c.args.parts.now)
+with_part-level-requires-clause-bytes g c = omega
+    (arith, c.requires.few, c.loop-index.invariant.most, fewer c.loop-index.index c.args.parts.now)
 
 pub with_part-level-requires-clause-ids_below : goal.with_part-level-requires-clause-ids_below
 with_part-level-requires-clause-ids_below g c = omega (arith, ap (λ (l : Level). l.ids) c.blank.ensures)
@@ -44,8 +50,11 @@ loop-index-preserved g c =
     let k = c.loop-index.index in
     let part = c.index-parts-index in
     record {
-      value = each_back (with_row_of c.args.kind g.T.Part.own) c.args.ids.now c.args.parts.now k part.result _ _ c.loop-index-test.true c.loop-index.auto.index part.is c.loop-index.invariant.value
-          (part_more c.args.kind g.T.Part.own c.args.ids.now (k - 1) part.result _ _ _ _ _ c.own_points.ensures c.id_at.ensures c.blank.ensures c.with_part-level.ensures.value);
+      value = each_back (with_row_of c.args.kind g.T.Part.own) c.args.ids.now c.args.parts.now k
+          part.result _ _ c.loop-index-test.true c.loop-index.auto.index part.is
+          c.loop-index.invariant.value
+          (part_more c.args.kind g.T.Part.own c.args.ids.now (k - 1) part.result _ _ _ _ _
+          c.own_points.ensures c.id_at.ensures c.blank.ensures c.with_part-level.ensures.value);
       most = omega (
         arith,
         c.loop-index.invariant.most,
@@ -56,4 +65,5 @@ loop-index-preserved g c =
     }
 
 pub returns-clause-value : goal.returns-clause-value
-returns-clause-value g c = parts_are c.args.kind g.T.Part.own c.args.ids.now c.args.parts.now _ _ (omega arith) c.loop-index.invariant.value
+returns-clause-value g c = parts_are c.args.kind g.T.Part.own c.args.ids.now c.args.parts.now _ _
+    (omega arith) c.loop-index.invariant.value

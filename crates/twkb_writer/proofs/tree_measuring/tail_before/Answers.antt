@@ -10,7 +10,8 @@ in_front_of-tail-requires g c =
         arith,
         c.loop-index.invariant.most,
         c.requires.room,
-        count_back g.T.Part.all c.args.parts.now k c.index-parts-index.result c.loop-index-test.true c.loop-index.auto.index c.index-parts-index.is,
+        count_back g.T.Part.all c.args.parts.now k c.index-parts-index.result c.loop-index-test.true
+            c.loop-index.auto.index c.index-parts-index.is,
         fewer_points g.T.Part.all (k - 1) c.args.parts.now,
       );
     }
@@ -26,12 +27,14 @@ loop-index-preserved g c =
     let inv = c.loop-index.invariant in
     let k = c.loop-index.index in
     record {
-      value = λ ahead starts. tail_back g.T.Part.all c.args.parts.now k c.index-parts-index.result ahead _ c.loop-index-test.true c.loop-index.auto.index c.index-parts-index.is
+      value = λ ahead starts. tail_back g.T.Part.all c.args.parts.now k c.index-parts-index.result
+          ahead _ c.loop-index-test.true c.loop-index.auto.index c.index-parts-index.is
           (c.in_front_of-tail.ensures.value _ (inv.value ahead starts));
       most = omega (
         arith,
         inv.most,
         c.in_front_of-tail.ensures.most,
-        count_back g.T.Part.all c.args.parts.now k c.index-parts-index.result c.loop-index-test.true c.loop-index.auto.index c.index-parts-index.is,
+        count_back g.T.Part.all c.args.parts.now k c.index-parts-index.result c.loop-index-test.true
+            c.loop-index.auto.index c.index-parts-index.is,
       );
     }

@@ -12,9 +12,13 @@ returns-then-is_empty-clause-ok g c = λ h t e. absurd (some_row h (e ∙ c.is_e
 pub returns-in-Some-clause-err : goal.returns-in-Some-clause-err
 returns-in-Some-clause-err g c =
     took_front g.S.Sink.refused _ _ _ _ _ _ c.requires
-    (cut_run g.S.Sink.took g.S.Sink.refused _ _ _ _ _ _ _ (g.met.S.Sink.takes_nothing _) refl c.clear.ensures c.put_rows.ensures.put c.flush.ensures.put (search rules) c.in-Some.is (search rules))
+    (cut_run g.S.Sink.took g.S.Sink.refused _ _ _ _ _ _ _ (g.met.S.Sink.takes_nothing _) refl
+    c.clear.ensures c.put_rows.ensures.put c.flush.ensures.put (search rules) c.in-Some.is
+    (search rules))
 
 pub returns-in-None-clause-ok : goal.returns-in-None-clause-ok
 returns-in-None-clause-ok g c =
     took_blob g.S.Sink.took _ _ _ _ _ c.requires
-    (whole_run g.S.Sink.took g.S.Sink.refused _ _ _ _ _ _ (g.met.S.Sink.takes_nothing _) refl c.clear.ensures c.put_rows.ensures.put c.flush.ensures.put (search rules) c.in-None.is c.flush.ensures.empty (search rules))
+    (whole_run g.S.Sink.took g.S.Sink.refused _ _ _ _ _ _ (g.met.S.Sink.takes_nothing _) refl
+    c.clear.ensures c.put_rows.ensures.put c.flush.ensures.put (search rules) c.in-None.is
+    c.flush.ensures.empty (search rules))

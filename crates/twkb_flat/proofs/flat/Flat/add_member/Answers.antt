@@ -8,12 +8,19 @@ use Rattle.twkb_flat.proofs.PushLemmas.{Pushed, kept_flat, kept_view, same_count
 use Rattle.twkb_flat.proofs.flat.Flat.add_member.Goals as goal
 
 -- the entries with the member
-pushed : (c : goal.After-self-1) → Pushed c.self.inside.entries.items c.link.new.entries c.self.inside.points.items (c.args.point ∷ []) c.put_point.new.points.items (record { depth = c.args.depth; kind = Kind.Point; id = c.args.id; precision = None })
+pushed : (c : goal.After-self-1) → Pushed c.self.inside.entries.items c.link.new.entries
+    c.self.inside.points.items (c.args.point ∷ []) c.put_point.new.points.items
+    (record { depth = c.args.depth; kind = Kind.Point; id = c.args.id; precision = None })
 pushed c =
     let some = member_entry _ _ _ _ _ c.self.view_is c.requires.member in
     let count = c.len-next.ensures ∙ c.self.inside.entries.ok.0 in
-    member_pushed c.self.inside.entries.items c.deref_mut.result.now c.link.new.entries c.self.inside.points.items c.put_point.new.points.items c.args.point c.index.result.now (c.len-next.result - 1) c.len.result c.len-next.result c.args.depth c.args.id _ c.self.invariant c.self.view_is c.requires.member
-    (omega (arith, some.0, count)) (sym count) (sym (c.len.ensures ∙ c.self.inside.points.ok.0)) c.index.ensures (c.deref_mut.ensures.value ∙ c.in_default.ensures.node) c.in_default.ensures.point c.link.ensures.spans c.link.ensures.links
+    member_pushed c.self.inside.entries.items c.deref_mut.result.now c.link.new.entries
+    c.self.inside.points.items c.put_point.new.points.items c.args.point c.index.result.now
+    (c.len-next.result - 1) c.len.result c.len-next.result c.args.depth c.args.id _
+    c.self.invariant c.self.view_is c.requires.member
+    (omega (arith, some.0, count)) (sym count) (sym (c.len.ensures ∙ c.self.inside.points.ok.0))
+    c.index.ensures (c.deref_mut.ensures.value ∙ c.in_default.ensures.node)
+    c.in_default.ensures.point c.link.ensures.spans c.link.ensures.links
 
 -- there are as many entries as before the link was set
 same : (c : goal.After-self-1) → length c.link.new.entries ≡ c.put_point.new.entries.len
@@ -27,10 +34,16 @@ returns-in-Err-clause-same c = kept_view _ _ _ _ _ c.self.view_is c.in-Err.ensur
 
 pub invariant_of-self-2 : goal.invariant_of-self-2
 invariant_of-self-2 c =
-    subst (λ (es : List KeptNode). IsFlat es c.put_point.new.points.items) (sym (with_items_is c.put_point.new.entries c.link.new.entries (same c)))
-    (member_kept _ _ _ _ c.args.point c.args.depth c.args.id _ c.self.invariant c.self.view_is c.requires.member c.look_at_id.ensures c.x-learnt.ensures.in_range c.requires.nodes c.requires.points (pushed c)).0
+    subst (λ (es : List KeptNode). IsFlat es c.put_point.new.points.items)
+    (sym (with_items_is c.put_point.new.entries c.link.new.entries (same c)))
+    (member_kept _ _ _ _ c.args.point c.args.depth c.args.id _ c.self.invariant c.self.view_is
+    c.requires.member c.look_at_id.ensures c.x-learnt.ensures.in_range c.requires.nodes
+    c.requires.points (pushed c)).0
 
 pub returns-clause-added : goal.returns-clause-added
 returns-clause-added c =
-    ap (λ (es : List KeptNode). listed (map span_of es) c.put_point.new.points.items) (with_items_is c.put_point.new.entries c.link.new.entries (same c))
-    ∙ (member_kept _ _ _ _ c.args.point c.args.depth c.args.id _ c.self.invariant c.self.view_is c.requires.member c.look_at_id.ensures c.x-learnt.ensures.in_range c.requires.nodes c.requires.points (pushed c)).1
+    ap (λ (es : List KeptNode). listed (map span_of es) c.put_point.new.points.items)
+    (with_items_is c.put_point.new.entries c.link.new.entries (same c))
+    ∙ (member_kept _ _ _ _ c.args.point c.args.depth c.args.id _ c.self.invariant c.self.view_is
+    c.requires.member c.look_at_id.ensures c.x-learnt.ensures.in_range c.requires.nodes
+    c.requires.points (pushed c)).1

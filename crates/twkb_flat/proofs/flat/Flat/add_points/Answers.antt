@@ -12,14 +12,23 @@ before : (c : After-self) → StandFor c.args.self.now c.self.inside.entries.ite
 before c = record { flat = c.self.invariant; view = c.self.view_is; line = c.requires.line }
 
 -- after the points
-behind : (c : After-count_points) → StandFor (points_added c.args.points.now c.args.self.now) (with_items c.self.inside.entries c.count_points.new.entries).items c.put_reserved.new.points.items
+behind : (c : After-count_points) → StandFor (points_added c.args.points.now c.args.self.now)
+    (with_items c.self.inside.entries c.count_points.new.entries).items
+    c.put_reserved.new.points.items
 behind c =
-    let counted = vec_counted_by (length c.args.points.now) c.self.inside.entries c.deref_mut.result.now c.count_points.new.entries c.deref_mut.ensures.value c.count_points.ensures.spans c.count_points.ensures.links in
-    let appended = c.put_reserved.ensures ∙ ap (λ (ps : List Point). ps ++ c.args.points.now) c.in_ok-make_room.ensures.same in
-    points_more c.args.points.now _ _ _ _ _ (record { flat = c.self.invariant; view = c.self.view_is; line = c.requires.line }) c.requires.room c.look.ensures counted.0 counted.1 appended
+    let counted = vec_counted_by (length c.args.points.now) c.self.inside.entries
+    c.deref_mut.result.now c.count_points.new.entries c.deref_mut.ensures.value
+    c.count_points.ensures.spans c.count_points.ensures.links in
+    let appended = c.put_reserved.ensures ∙ ap (λ (ps : List Point). ps ++ c.args.points.now)
+    c.in_ok-make_room.ensures.same in
+    points_more c.args.points.now _ _ _ _ _
+    (record { flat = c.self.invariant; view = c.self.view_is; line = c.requires.line })
+    c.requires.room c.look.ensures counted.0 counted.1 appended
 
 pub count_points-requires-clause-room : goal.count_points-requires-clause-room
-count_points-requires-clause-room c = (can_count_more (length c.args.points.now) _ _ _ _ (before (goal.at.count_points-requires-clause-room c).After-self) c.requires.room c.deref_mut.ensures.value).1
+count_points-requires-clause-room c = (can_count_more (length c.args.points.now) _ _ _ _
+    (before (goal.at.count_points-requires-clause-room c).After-self) c.requires.room
+    c.deref_mut.ensures.value).1
 
 pub invariant_of-self-2 : goal.invariant_of-self-2
 invariant_of-self-2 c = (behind (goal.at.invariant_of-self-2 c).After-count_points).flat

@@ -12,7 +12,9 @@ returns-then-not-is_next c =
     let r = row_with c.args.row.now c.args.points.now in
     let os = rows_open rows c.levels-levels.ensures.sound in
     decides rows r false (
-    misplaced largest_limits os.0 (length rows) (length (row_points rows)) r (sym (c.is_next.ensures os.0 r (os.1.all ∙ sym c.levels-levels.ensures.value) refl) ∙ c.if-not-is_next.true)
+    misplaced largest_limits os.0 (length rows) (length (row_points rows)) r
+    (sym (c.is_next.ensures os.0 r (os.1.all ∙ sym c.levels-levels.ensures.value) refl)
+    ∙ c.if-not-is_next.true)
     ∙ kept_continues rows os.0 (length rows) (length (row_points rows)) r c.levels-levels.ensures.sound os.1 refl refl)
 
 pub returns-then-row-levels : goal.returns-then-row-levels
@@ -21,7 +23,8 @@ returns-then-row-levels c =
     let r = row_with c.args.row.now c.args.points.now in
     let os = rows_open rows c.levels-levels.ensures.sound in
     decides rows r false (
-    too_deep largest_limits os.0 (length rows) (length (row_points rows)) r (omega (arith, os.1.all, c.levels-levels.ensures.value, c.if-row-levels.true))
+    too_deep largest_limits os.0 (length rows) (length (row_points rows)) r
+    (omega (arith, os.1.all, c.levels-levels.ensures.value, c.if-row-levels.true))
     ∙ kept_continues rows os.0 (length rows) (length (row_points rows)) r c.levels-levels.ensures.sound os.1 refl refl)
 
 pub returns : goal.returns
@@ -32,6 +35,11 @@ returns c =
     decides rows r c.admits_at.result (
     c.admits_at.ensures c.args.points.now refl
     ∙ ap (λ (l : Allowance). is_admitted_at l c.standing-standing.result r) c.largest.ensures
-    ∙ continues_there largest_limits os.0 (length rows) (length (row_points rows)) c.standing-standing.result r c.look.ensures (sym (c.is_next.ensures os.0 r (os.1.all ∙ sym c.levels-levels.ensures.value) refl) ∙ c.if-not-is_next.false)
-    (omega (arith, os.1.all, c.levels-levels.ensures.value, c.if-row-levels.false), c.standing-standing.ensures os.0 os.1)
+    ∙ continues_there largest_limits os.0 (length rows) (length (row_points rows))
+    c.standing-standing.result r c.look.ensures (sym
+    (c.is_next.ensures os.0 r (os.1.all ∙ sym c.levels-levels.ensures.value) refl)
+    ∙ c.if-not-is_next.false) (
+      omega (arith, os.1.all, c.levels-levels.ensures.value, c.if-row-levels.false),
+      c.standing-standing.ensures os.0 os.1,
+    )
     ∙ kept_continues rows os.0 (length rows) (length (row_points rows)) r c.levels-levels.ensures.sound os.1 refl refl)

@@ -12,12 +12,15 @@ points_are c = ap (λ v. v.items) c.swap.ensures.x_after
 pub invariant_of-self-2 : goal.invariant_of-self-2
 invariant_of-self-2 c =
     subst (λ ps. IsFlat c.push.new.self.items ps) (sym (points_are c))
-    (begun_flat _ _ _ c.args.points.now.items c.len.result c.args.root (c.self.view_is ∙ c.clear.ensures) c.requires (counted c) c.in_default.ensures.items)
+    (begun_flat _ _ _ c.args.points.now.items c.len.result c.args.root
+    (c.self.view_is ∙ c.clear.ensures) c.requires (counted c) c.in_default.ensures.items)
 
 pub returns-clause-begun : goal.returns-clause-begun
 returns-clause-begun c =
     ap (λ ps. listed (map span_of c.push.new.self.items) ps) (points_are c)
-    ∙ begun_rows _ _ _ c.args.points.now.items c.len.result c.args.root (c.self.view_is ∙ c.clear.ensures) c.requires (counted c) c.in_default.ensures.items
+    ∙ begun_rows _ _ _ c.args.points.now.items c.len.result c.args.root
+    (c.self.view_is ∙ c.clear.ensures) c.requires (counted c) c.in_default.ensures.items
 
 pub returns-clause-taken : goal.returns-clause-taken
-returns-clause-taken c = ap (λ v. v.items) c.swap.ensures.y_after ∙ no_points _ _ c.self.invariant (c.self.view_is ∙ c.clear.ensures)
+returns-clause-taken c = ap (λ v. v.items) c.swap.ensures.y_after
+    ∙ no_points _ _ c.self.invariant (c.self.view_is ∙ c.clear.ensures)

@@ -12,22 +12,27 @@ abbrev row_is : goal.In_default → Row
 row_is c = record { depth = 0; kind = Kind.Point; id = None; precision = Some c.args.precision }
 
 points_are : (c : goal.In_default) → c.put_point.new.points.items ≡ c.args.point ∷ []
-points_are c = c.in_default.ensures.point ∙ ap (λ (ps : List Point). ps ++ c.args.point ∷ []) (no_points _ _ c.self.invariant (c.self.view_is ∙ c.clear.ensures))
+points_are c = c.in_default.ensures.point ∙ ap (λ (ps : List Point). ps ++ c.args.point ∷ [])
+    (no_points _ _ c.self.invariant (c.self.view_is ∙ c.clear.ensures))
 
 pub invariant_of-self : goal.invariant_of-self
 invariant_of-self c = kept_flat _ _ _ _ c.self.invariant c.in-Err.ensures.no_node c.in-Err.ensures.no_point
 
 pub returns-in-Err-clause-none : goal.returns-in-Err-clause-none
-returns-in-Err-clause-none c = kept_view _ _ _ _ _ (c.self.view_is ∙ c.clear.ensures) c.in-Err.ensures.no_node c.in-Err.ensures.no_point
+returns-in-Err-clause-none c = kept_view _ _ _ _ _ (c.self.view_is ∙ c.clear.ensures)
+    c.in-Err.ensures.no_node c.in-Err.ensures.no_point
 
 pub invariant_of-self-2 : goal.invariant_of-self-2
 invariant_of-self-2 c =
     let put = simp (to_z-of_z, c.ranges.precision) at c.in_default.ensures.node in
     subst (λ (ps : List Point). IsFlat c.put_point.new.entries.items ps) (sym (points_are c))
-    (begun_flat _ _ _ (c.args.point ∷ []) 1 (row_is c) (c.self.view_is ∙ c.clear.ensures) (point_begins c.args.precision c.args.point c.requires c.x-learnt.ensures.in_range) refl put)
+    (begun_flat _ _ _ (c.args.point ∷ []) 1 (row_is c) (c.self.view_is ∙ c.clear.ensures)
+    (point_begins c.args.precision c.args.point c.requires c.x-learnt.ensures.in_range) refl
+    put)
 
 pub returns-clause-begun : goal.returns-clause-begun
 returns-clause-begun c =
     let put = simp (to_z-of_z, c.ranges.precision) at c.in_default.ensures.node in
     ap (λ (ps : List Point). listed (map span_of c.put_point.new.entries.items) ps) (points_are c)
-    ∙ begun_rows _ _ _ (c.args.point ∷ []) 1 (row_is c) (c.self.view_is ∙ c.clear.ensures) (point_begins c.args.precision c.args.point c.requires c.x-learnt.ensures.in_range) refl put
+    ∙ begun_rows _ _ _ (c.args.point ∷ []) 1 (row_is c) (c.self.view_is ∙ c.clear.ensures)
+    (point_begins c.args.precision c.args.point c.requires c.x-learnt.ensures.in_range) refl put

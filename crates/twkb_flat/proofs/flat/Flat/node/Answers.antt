@@ -13,12 +13,15 @@ index-entry-requires c =
 pub returns-clause-node : goal.returns-clause-node
 returns-clause-node c =
     let same = simp (length-listed, length-map) at (ap length c.self.view_is) in
-    let answers : Answers c.args.id.0 c.index-entry.result.now.next.0 (length c.self.inside.entries.items) c.if-entry-id.next =
+    let answers : Answers c.args.id.0 c.index-entry.result.now.next.0
+    (length c.self.inside.entries.items) c.if-entry-id.next =
     elim c.if-entry-id.branch [
       | then-entry-id w ↦ inl (w.if-entry-id.true, w.next-is ∙ omega (arith, w.node_count-next.ensures.value, same))
       | else-entry-id w ↦ inr (w.if-entry-id.false, w.next-is)
     ] in
-    node_is _ _ c.args.id.0 _ c.index-entry.result.now _ c.self.invariant.laid c.self.invariant.linked c.self.view_is (omega (arith, c.requires, same)) c.index-entry.ensures answers
+    node_is _ _ c.args.id.0 _ c.index-entry.result.now _ c.self.invariant.laid
+    c.self.invariant.linked c.self.view_is (omega (arith, c.requires, same))
+    c.index-entry.ensures answers
 
 pub returns-clause-counted : goal.returns-clause-counted
 returns-clause-counted c = search rules

@@ -14,6 +14,10 @@ open_at-at-requires-clause-within c =
 
 pub returns : goal.returns
 returns c =
-    row_open c.self.inside.entries.items c.self.inside.points.items _ c.args.depth c.open_at-at.result c.index.result.now c.child_ids.result c.self.invariant c.self.view_is
-    (subst (λ (es : List KeptNode). OpenPlace (depths_in es) c.args.depth c.open_at-at.result) c.deref.ensures.value c.open_at-at.ensures) c.index.ensures
-    (subst (λ (es : List KeptNode). c.child_ids.result ≡ ids_by (slice_get (listed (map span_of es) c.self.inside.points.items) (c.open_at-at.result + 1))) c.deref-2.ensures.value (c.child_ids.ensures c.self.inside.points.items))
+    row_open c.self.inside.entries.items c.self.inside.points.items _ c.args.depth
+    c.open_at-at.result c.index.result.now c.child_ids.result c.self.invariant c.self.view_is
+    (subst (λ (es : List KeptNode). OpenPlace (depths_in es) c.args.depth c.open_at-at.result)
+    c.deref.ensures.value c.open_at-at.ensures) c.index.ensures
+    (subst (λ (es : List KeptNode). c.child_ids.result ≡ ids_by
+    (slice_get (listed (map span_of es) c.self.inside.points.items) (c.open_at-at.result + 1)))
+    c.deref-2.ensures.value (c.child_ids.ensures c.self.inside.points.items))

@@ -10,8 +10,10 @@ returns-clause-points c =
     let all = length-rows _ _ _ c.self.view_is in
     λ row rest here.
     c.part.ensures
-    ∙ ap (λ ps. take (c.index.result.now.span.first + c.index.result.now.span.points - c.index.result.now.span.first) (drop c.index.result.now.span.first ps)) c.deref.ensures.value
-    ∙ points_here _ _ c.args.at c.index.result.now _ row rest c.self.invariant.laid c.self.view_is (omega (arith, c.requires, all)) c.index.ensures here
+    ∙ ap (λ ps. take (c.index.result.now.span.first + c.index.result.now.span.points
+    - c.index.result.now.span.first) (drop c.index.result.now.span.first ps)) c.deref.ensures.value
+    ∙ points_here _ _ c.args.at c.index.result.now _ row rest c.self.invariant.laid c.self.view_is
+    (omega (arith, c.requires, all)) c.index.ensures here
 
 pub returns-clause-few : goal.returns-clause-few
 returns-clause-few c = omega (arith, length-rows _ _ _ c.self.view_is, c.self.invariant.nodes)
@@ -19,5 +21,6 @@ returns-clause-few c = omega (arith, length-rows _ _ _ c.self.view_is, c.self.in
 pub part-requires : goal.part-requires
 part-requires c =
     let all = length-rows _ _ _ c.self.view_is in
-    let inside = points_inside _ _ c.args.at c.index.result.now c.self.invariant.laid (omega (arith, c.requires, all)) c.index.ensures in
+    let inside = points_inside _ _ c.args.at c.index.result.now c.self.invariant.laid
+    (omega (arith, c.requires, all)) c.index.ensures in
     record { order = omega arith; within = omega (arith, inside, ap length c.deref.ensures.value) }

@@ -11,4 +11,5 @@ index-requires c =
 pub returns-clause-point : goal.returns-clause-point
 returns-clause-point c =
     let same = rw c.self.view_is at (flat_points _ _ c.self.invariant.laid) in
-    rw same (slice_get_read c.self.inside.points.items _ c.args.id.0 _ refl (omega (arith, c.requires, ap length same)) c.index.ensures)
+    rw same (slice_get_read c.self.inside.points.items _ c.args.id.0 _ refl
+    (omega (arith, c.requires, ap length same)) c.index.ensures)

@@ -3,4 +3,5 @@ use Rattle.twkb_flat.proofs.RowLemmas.{flat_points}
 use Rattle.twkb_flat.proofs.flat.Flat.point_count.Goals as goal
 
 pub returns : goal.returns
-returns c = rw (← c.self.view_is) (c.len.ensures ∙ c.self.inside.points.ok.0 ∙ sym (ap length (flat_points _ _ c.self.invariant.laid)))
+returns c = rw (← c.self.view_is) (c.len.ensures ∙ c.self.inside.points.ok.0
+    ∙ sym (ap length (flat_points _ _ c.self.invariant.laid)))

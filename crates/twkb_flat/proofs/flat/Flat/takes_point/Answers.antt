@@ -9,11 +9,18 @@ use Rattle.twkb_flat.proofs.flat.Flat.takes_point.Goals as goal
 
 pub returns-then-not-ends_in_line : goal.returns-then-not-ends_in_line
 returns-then-not-ends_in_line c =
-    let same = subst (λ (es : List KeptNode). IsTrue c.ends_in_line.result ↔ LastIsLine es) c.deref.ensures.value c.ends_in_line.ensures in
-    neither c.ends_in_line.result 16777216 c.self.inside.entries.items c.self.inside.points.items c.args.self.now c.self.view_is same c.if-not-ends_in_line.true
+    let same = subst (λ (es : List KeptNode). IsTrue c.ends_in_line.result ↔ LastIsLine es)
+    c.deref.ensures.value c.ends_in_line.ensures in
+    neither c.ends_in_line.result 16777216 c.self.inside.entries.items c.self.inside.points.items
+    c.args.self.now c.self.view_is same c.if-not-ends_in_line.true
 
 pub returns : goal.returns
 returns c =
-    let same = subst (λ (es : List KeptNode). IsTrue c.ends_in_line.result ↔ LastIsLine es) c.deref.ensures.value c.ends_in_line.ensures in
-    let total = c.len.ensures ∙ c.self.inside.points.ok.0 ∙ sym (ap length (flat_points _ _ c.self.invariant.laid)) ∙ ap (λ rs. length (row_points rs)) c.self.view_is in
-    both c.ends_in_line.result c.len.result 16777216 c.self.inside.entries.items c.self.inside.points.items c.args.self.now c.self.view_is total same c.if-not-ends_in_line.false
+    let same = subst (λ (es : List KeptNode). IsTrue c.ends_in_line.result ↔ LastIsLine es)
+    c.deref.ensures.value c.ends_in_line.ensures in
+    let total = c.len.ensures ∙ c.self.inside.points.ok.0
+    ∙ sym (ap length (flat_points _ _ c.self.invariant.laid))
+    ∙ ap (λ rs. length (row_points rs)) c.self.view_is in
+    both c.ends_in_line.result c.len.result 16777216 c.self.inside.entries.items
+    c.self.inside.points.items c.args.self.now c.self.view_is total same
+    c.if-not-ends_in_line.false

@@ -5,10 +5,18 @@ use Rattle.twkb_flat.proofs.parts.LinesPart.take.Goals as goal
 
 pub take_each-requires : goal.take_each-requires
 take_each-requires c =
-    let w = c.requires.stands in
-    (Kind.Ring, None, w.3, w.4, part_rings_at c.args.flat.now c.args.at w.0 w.1 w.2 w.3 w.4 c.row-row.result w.5 c.row-row.ensures.row)
+    let w = c.requires.stands in (
+      Kind.Ring,
+      None,
+      w.3,
+      w.4,
+      part_rings_at c.args.flat.now c.args.at w.0 w.1 w.2 w.3 w.4
+          c.row-row.result w.5 c.row-row.ensures.row,
+    )
 
 pub returns : goal.returns
 returns c = λ kind d id part rest it.
-    let taken = c.in_ok-rings.ensures Kind.Ring None part rest (part_rings_at c.args.flat.now c.args.at kind d id part rest c.row-row.result it c.row-row.ensures.row) in
+    let taken = c.in_ok-rings.ensures Kind.Ring None part rest
+    (part_rings_at c.args.flat.now c.args.at kind d id part rest c.row-row.result it
+    c.row-row.ensures.row) in
     (taken.0, taken.2)

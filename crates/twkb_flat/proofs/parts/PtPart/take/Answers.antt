@@ -5,5 +5,7 @@ use Rattle.twkb_flat.proofs.parts.PtPart.take.Goals as goal
 
 pub returns : goal.returns
 returns c = λ kind d id part rest it.
-    let own = c.own_points.ensures.points (plain_row d kind id (part ∷ [])) rest it.here in
-    (c.index-own_points-0.is ∙ ap (λ ps. get_or ps 0 c.index-own_points-0.result) own, drop_more c.args.flat.now c.args.at (plain_row d kind id (part ∷ [])) rest it.here)
+    let own = c.own_points.ensures.points (plain_row d kind id (part ∷ [])) rest it.here in (
+      c.index-own_points-0.is ∙ ap (λ ps. get_or ps 0 c.index-own_points-0.result) own,
+      drop_more c.args.flat.now c.args.at (plain_row d kind id (part ∷ [])) rest it.here,
+    )

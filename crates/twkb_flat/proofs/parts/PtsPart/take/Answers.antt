@@ -5,5 +5,8 @@ use Rattle.twkb_flat.proofs.parts.PtsPart.take.Goals as goal
 
 pub returns : goal.returns
 returns c = λ kind d id part rest it.
-    let own = c.own_points.ensures.points (plain_row d kind id part) rest it.here in
-    (c.from_vec.ensures ∙ c.in_ok-points.ensures.items ∙ own, drop_more c.args.flat.now c.args.at (plain_row d kind id part) rest it.here)
+    let own = c.own_points.ensures.points (plain_row d kind id part) rest it.here in (
+      c.from_vec.ensures ∙ c.in_ok-points.ensures.items
+          ∙ own,
+      drop_more c.args.flat.now c.args.at (plain_row d kind id part) rest it.here,
+    )

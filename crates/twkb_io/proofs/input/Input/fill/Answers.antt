@@ -40,7 +40,9 @@ returns-in_err-refill g c =
       end = tt;
       ended = λ ended. absurd (not_spent new.one_end filled.stays ended);
       for_good = λ ended. absurd (not_both refl (filled.unread (inr ended)).0);
-      unread = λ held. absurd (not_both refl (filled.unread (inl (held_unused old.held old.at old.filled _ old.in_order held))).0);
+      unread = λ held. absurd
+          (not_both refl (filled.unread
+          (inl (held_unused old.held old.at old.filled _ old.in_order held))).0);
       once = filled.once;
       failures = filled.failures;
       too_long = λ other. absurd (cc other);
@@ -60,7 +62,8 @@ returns-then-self-2 g c =
       keeps = filled.keeps;
       given = filled.given;
       end = λ _. c.if-self-2.true;
-      ended = λ ended. ended_rest new.held (g.R.Read.remaining (device_of new.tap.now)) new.at new.filled _ (new.used_up ended) (new.at_end ended);
+      ended = λ ended. ended_rest new.held (g.R.Read.remaining (device_of new.tap.now)) new.at
+          new.filled _ (new.used_up ended) (new.at_end ended);
       for_good = λ ended. (refl, (filled.unread (inr ended)).1);
       unread = λ held. (filled.unread (inl (held_unused old.held old.at old.filled _ old.in_order held))).1;
       once = filled.once;
@@ -75,11 +78,18 @@ returns-then-self-2 g c =
 pub returns-then-self-ge-MAX_BYTES-clause-too_long : goal.returns-then-self-ge-MAX_BYTES-clause-too_long
 returns-then-self-ge-MAX_BYTES-clause-too_long g c =
     let filled = c.refill.new.self in
-    let more = not_used_up filled.at filled.filled filled.ended filled.in_order c.in_ok-refill.ensures.end c.if-self-2.false in
-    λ _. (omega arith, kept_rest _ _ c.refill.ensures.keeps (held_rest filled.held _ filled.at filled.filled more filled.in_array))
+    let more = not_used_up filled.at filled.filled filled.ended filled.in_order
+    c.in_ok-refill.ensures.end c.if-self-2.false in
+    λ _. (
+      omega arith,
+      kept_rest _ _ c.refill.ensures.keeps
+          (held_rest filled.held _ filled.at filled.filled more filled.in_array),
+    )
 
 pub returns-clause-end : goal.returns-clause-end
 returns-clause-end g c =
     let filled = c.refill.new.self in
-    let more = not_used_up filled.at filled.filled filled.ended filled.in_order c.in_ok-refill.ensures.end c.if-self-2.false in
-    λ none. absurd (some_held filled.held filled.at filled.filled (2 ^ 62 - filled.offset) more filled.in_array (omega arith) none)
+    let more = not_used_up filled.at filled.filled filled.ended filled.in_order
+    c.in_ok-refill.ensures.end c.if-self-2.false in
+    λ none. absurd (some_held filled.held filled.at filled.filled (2 ^ 62 - filled.offset) more
+    filled.in_array (omega arith) none)

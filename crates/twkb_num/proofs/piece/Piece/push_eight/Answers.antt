@@ -9,4 +9,5 @@ returns g c =
     let len = c.self.inside.len in
     let held = length-take-le len bytes (omega (arith, c.self.invariant, c.self.told)) in
     let within : len + 8 ≤ length bytes = omega (arith, c.self.told, held, ap length c.self.view_is, c.requires.room) in
-    eight_stored bytes _ c.args.bytes len _ c.args.count (omega arith) within c.self.view_is c.requires.few c.fits-bytes.0
+    eight_stored bytes _ c.args.bytes len _ c.args.count (omega arith) within c.self.view_is
+    c.requires.few c.fits-bytes.0

@@ -6,7 +6,8 @@ use Rattle.twkb_num.proofs.LengthLemmas.{lens_added, few_lens, grown_few}
 use Rattle.twkb_num.proofs.varint_lens.VarintLens.add_short.Goals as goal
 
 pub invariant_of-self : goal.invariant_of-self
-invariant_of-self c = length-zip2 _ c.self.inside.lanes c.more_lens.result (c.self.invariant ∙ sym (ap length c.more_lens.ensures)) ∙ c.self.invariant
+invariant_of-self c = length-zip2 _ c.self.inside.lanes c.more_lens.result
+    (c.self.invariant ∙ sym (ap length c.more_lens.ensures)) ∙ c.self.invariant
 
 pub returns-clause-value : goal.returns-clause-value
 returns-clause-value c =
@@ -21,4 +22,5 @@ returns-clause-value c =
 pub returns-clause-most : goal.returns-clause-most
 returns-clause-most c =
     grown_few _ _ _ (returns-clause-value c)
-    (few_lens c.args.first c.args.second c.args.third c.args.fourth c.requires.first_small c.requires.second_small c.requires.third_small c.requires.fourth_small)
+    (few_lens c.args.first c.args.second c.args.third c.args.fourth c.requires.first_small
+    c.requires.second_small c.requires.third_small c.requires.fourth_small)

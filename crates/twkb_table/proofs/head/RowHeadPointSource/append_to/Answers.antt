@@ -1,7 +1,8 @@
 use Rattle.std.proofs.Common.{rules, [], ◌∷◌}
-use Rattle.twkb_table.proofs.HeadLemmas.{HasNeedlessText, cut_back, has_grown, kind_has, no_text, not_allowed, points_accepted, points_refused, text_refused}
+use Rattle.twkb_table.proofs.HeadLemmas.{HasNeedlessText, cut_back, has_grown, kind_has, no_text}
+use Rattle.twkb_table.proofs.HeadLemmas.{not_allowed, points_accepted, points_refused, text_refused}
 use Rattle.twkb_table.proofs.head.RowHeadPointSource.append_to.Goals as goal
-use Rattle.twkb_table.proofs.head.RowHeadPointSource.append_to.Goals.{else-not-is_empty-via-then-not-is_empty+else-not-has_points, else-not-is_empty-via-else-not-is_empty}
+use Rattle.twkb_table.proofs.head.RowHeadPointSource.append_to.Goals.{else-not-is_empty-via-else-not-is_empty}
 
 pub overflow_sub-count : goal.overflow_sub-count
 overflow_sub-count g c = has_grown _ _ _ _ _ _ c.in-Ok-decode_into.ensures.decodes c.count-held.ensures c.count.ensures
@@ -23,7 +24,8 @@ returns-in-Err g c = record {
 pub returns-then-not-has_points : goal.returns-then-not-has_points
 returns-then-not-has_points g c = record {
   given = search rules;
-  refused = not_allowed c.args.self.now c.is_empty.result c.has_points.result c.is_empty.ensures c.if-not-is_empty.true c.has_points.ensures.value c.if-not-has_points.true;
+  refused = not_allowed c.args.self.now c.is_empty.result c.has_points.result c.is_empty.ensures
+      c.if-not-is_empty.true c.has_points.ensures.value c.if-not-has_points.true;
   same = search rules;
 }
 
@@ -39,10 +41,15 @@ returns-in-Err-At g c = record {
   given = search rules;
   refused = (let head = c.args.self.now in
       let needed : HasNeedlessText head → ⊥ = elim c.else-not-is_empty.branch [
-        | else-not-is_empty-via-then-not-is_empty+else-not-has_points w ↦ kind_has head w.has_points.result w.has_points.ensures.value w.if-not-has_points.false
-        | else-not-is_empty-via-else-not-is_empty w ↦ no_text head c.is_empty.result c.is_empty.ensures w.if-not-is_empty.false
+        | goal.else-not-is_empty-via-then-not-is_empty+else-not-has_points w ↦ kind_has head
+            w.has_points.result w.has_points.ensures.value w.if-not-has_points.false
+        | else-not-is_empty-via-else-not-is_empty w ↦ no_text head c.is_empty.result
+            c.is_empty.ensures w.if-not-is_empty.false
       ] in
-      text_refused head c.points.result c.saturating_sub-left.result c.in-Err-At.offset c.in-Err-At.reason c.in-Err-At.field-0 needed (c.points.ensures, c.saturating_sub-left.ensures) c.in-Err-At.field-0-is c.in-Err-At.ensures.refuses);
+      text_refused head c.points.result c.saturating_sub-left.result c.in-Err-At.offset
+      c.in-Err-At.reason c.in-Err-At.field-0 needed
+      (c.points.ensures, c.saturating_sub-left.ensures) c.in-Err-At.field-0-is
+      c.in-Err-At.ensures.refuses);
   same = c.in-Err-At.ensures.same;
 }
 
@@ -50,10 +57,15 @@ pub returns-then-count_fits : goal.returns-then-count_fits
 returns-then-count_fits g c = record {
   given = (let head = c.args.self.now in
       let needed : HasNeedlessText head → ⊥ = elim c.else-not-is_empty.branch [
-        | else-not-is_empty-via-then-not-is_empty+else-not-has_points w ↦ kind_has head w.has_points.result w.has_points.ensures.value w.if-not-has_points.false
-        | else-not-is_empty-via-else-not-is_empty w ↦ no_text head c.is_empty.result c.is_empty.ensures w.if-not-is_empty.false
+        | goal.else-not-is_empty-via-then-not-is_empty+else-not-has_points w ↦ kind_has head
+            w.has_points.result w.has_points.ensures.value w.if-not-has_points.false
+        | else-not-is_empty-via-else-not-is_empty w ↦ no_text head c.is_empty.result
+            c.is_empty.ensures w.if-not-is_empty.false
       ] in
-      points_accepted head c.points.result c.saturating_sub-left.result c.count-held.result c.count.result c.is_whole-whole.result c.count_fits.result _ _ needed (c.points.ensures, c.saturating_sub-left.ensures) c.in-Ok-decode_into.ensures.decodes c.count-held.ensures c.count.ensures
+      points_accepted head c.points.result c.saturating_sub-left.result c.count-held.result
+      c.count.result c.is_whole-whole.result c.count_fits.result _ _ needed
+      (c.points.ensures, c.saturating_sub-left.ensures) c.in-Ok-decode_into.ensures.decodes
+      c.count-held.ensures c.count.ensures
       (c.is_whole-whole.ensures.value, c.count_fits.ensures.value) c.if-count_fits.true);
   refused = search rules;
   same = search rules;
@@ -64,10 +76,15 @@ returns-else-count_fits g c = record {
   given = search rules;
   refused = (let head = c.args.self.now in
       let needed : HasNeedlessText head → ⊥ = elim c.else-not-is_empty.branch [
-        | else-not-is_empty-via-then-not-is_empty+else-not-has_points w ↦ kind_has head w.has_points.result w.has_points.ensures.value w.if-not-has_points.false
-        | else-not-is_empty-via-else-not-is_empty w ↦ no_text head c.is_empty.result c.is_empty.ensures w.if-not-is_empty.false
+        | goal.else-not-is_empty-via-then-not-is_empty+else-not-has_points w ↦ kind_has head
+            w.has_points.result w.has_points.ensures.value w.if-not-has_points.false
+        | else-not-is_empty-via-else-not-is_empty w ↦ no_text head c.is_empty.result
+            c.is_empty.ensures w.if-not-is_empty.false
       ] in
-      points_refused head c.points.result c.saturating_sub-left.result c.count-held.result c.count.result c.is_whole-whole.result c.count_fits.result _ _ needed (c.points.ensures, c.saturating_sub-left.ensures) c.in-Ok-decode_into.ensures.decodes c.count-held.ensures c.count.ensures
+      points_refused head c.points.result c.saturating_sub-left.result c.count-held.result
+      c.count.result c.is_whole-whole.result c.count_fits.result _ _ needed
+      (c.points.ensures, c.saturating_sub-left.ensures) c.in-Ok-decode_into.ensures.decodes
+      c.count-held.ensures c.count.ensures
       (c.is_whole-whole.ensures.value, c.count_fits.ensures.value) c.if-count_fits.false);
   same = cut_back _ _ _ _ _ _ c.in-Ok-decode_into.ensures.decodes c.count-held.ensures c.cut.ensures;
 }

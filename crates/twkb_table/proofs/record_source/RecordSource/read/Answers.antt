@@ -20,22 +20,39 @@ returns-then-self-clause-stays g c = c.if-self.true
 
 pub returns-clause-gives : goal.returns-clause-gives
 returns-clause-gives g c =
-    let new = record c.args.self.now { reader = c.read_next-found.new.reader; held = c.read_next-found.new.held; ended = c.read_next-found.new.ended; spent = c.is_err-self.result } in
-    source_gives g.R.Read.remaining c.args.self.now new c.read_next-found.result c.is_err-self.ensures.value c.read_next-found.ensures.gives
+    let new = record c.args.self.now {
+      reader = c.read_next-found.new.reader;
+      held = c.read_next-found.new.held;
+      ended = c.read_next-found.new.ended;
+      spent = c.is_err-self.result;
+    } in
+    source_gives g.R.Read.remaining c.args.self.now new c.read_next-found.result
+    c.is_err-self.ensures.value c.read_next-found.ensures.gives
 
 pub returns-clause-ends : goal.returns-clause-ends
 returns-clause-ends g c =
-    let new = record c.args.self.now { reader = c.read_next-found.new.reader; held = c.read_next-found.new.held; ended = c.read_next-found.new.ended; spent = c.is_err-self.result } in
-    source_ends g.R.Read.remaining c.args.self.now new c.read_next-found.result c.is_err-self.ensures.value c.read_next-found.ensures.ends
+    let new = record c.args.self.now {
+      reader = c.read_next-found.new.reader;
+      held = c.read_next-found.new.held;
+      ended = c.read_next-found.new.ended;
+      spent = c.is_err-self.result;
+    } in
+    source_ends g.R.Read.remaining c.args.self.now new c.read_next-found.result
+    c.is_err-self.ensures.value c.read_next-found.ensures.ends
 
 pub returns-clause-source : goal.returns-clause-source
-returns-clause-source g c = source_faults g.R.Read.remaining c.args.self.now c.read_next-found.result c.read_next-found.ensures.source
+returns-clause-source g c = source_faults g.R.Read.remaining c.args.self.now
+    c.read_next-found.result c.read_next-found.ensures.source
 
 pub returns-clause-over : goal.returns-clause-over
 returns-clause-over g c ended unspent = c.read_next-found.ensures.over ended
 
 pub returns-clause-spent : goal.returns-clause-spent
-returns-clause-spent g c = (λ e. absurd (never_spent c.read_next-found.result c.read_next-found.ensures.source e), λ spent. absurd (true≢false (sym spent ∙ c.if-self.false)))
+returns-clause-spent g c = (
+  λ e. absurd (never_spent c.read_next-found.result c.read_next-found.ensures.source e),
+  λ spent.
+      absurd (true≢false (sym spent ∙ c.if-self.false)),
+)
 
 pub returns-clause-ended : goal.returns-clause-ended
 returns-clause-ended g c none = c.read_next-found.ensures.ended none

@@ -9,7 +9,11 @@ pub invariant_of-self : goal.invariant_of-self
 invariant_of-self c =
     let l = c.args.self.now.limits in
     let points = c.judge.new.points.items in
-    record { waits = may_wait_as l c.in-Ok.row points (begins_first l (fields_of c.args.here.now) (row_with c.in-Ok.row points) (c.in-Ok.ensures.read [] stands_nowhere)) }
+    record {
+      waits = may_wait_as l c.in-Ok.row points
+          (begins_first l (fields_of c.args.here.now) (row_with c.in-Ok.row points)
+          (c.in-Ok.ensures.read [] stands_nowhere));
+    }
 
 pub returns-in-Ok-clause-read : goal.returns-in-Ok-clause-read
 returns-in-Ok-clause-read c =
@@ -18,4 +22,10 @@ returns-in-Ok-clause-read c =
     let row = row_with c.in-Ok.row points in
     let judged = c.in-Ok.ensures.read [] stands_nowhere in
     let begins = begins_first l (fields_of c.args.here.now) row judged in
-    record { row = row; waits = ap (λ (r : Row). r ∷ []) (sym (root_is l c.in-Ok.row points begins)); root = begins.1; judged = judged }
+    record {
+      row = row;
+      waits = ap (λ (r : Row). r ∷ [])
+          (sym (root_is l c.in-Ok.row points begins));
+      root = begins.1;
+      judged = judged;
+    }

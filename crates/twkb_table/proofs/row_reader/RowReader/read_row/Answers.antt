@@ -7,7 +7,8 @@ use Rattle.twkb_flat.specs.Rows.{row_with}
 use Rattle.twkb_table.specs.Judged.{Refused}
 use Rattle.twkb_table.proofs.HeadLemmas.{given_row, comes_next}
 use Rattle.twkb_table.proofs.RecordJudged.{if_refused}
-use Rattle.twkb_table.proofs.RowReaderLemmas.{begins_anew, continues_below, depth_within, keeps_next, may_wait_as, root_is}
+use Rattle.twkb_table.proofs.RowReaderLemmas.{begins_anew, continues_below, depth_within}
+use Rattle.twkb_table.proofs.RowReaderLemmas.{keeps_next, may_wait_as, root_is}
 use Rattle.twkb_table.proofs.row_reader.RowReader.read_row.Goals as goal
 
 pub invariant_of-self-then-row-eq0 : goal.invariant_of-self-then-row-eq0
@@ -15,24 +16,36 @@ invariant_of-self-then-row-eq0 c =
     let l = c.args.self.now.limits in
     let own = c.in_default.ensures.given in
     let points = c.append_to.new.points.items in
-    let row_is = given_row c.in-Ok.head c.row-row.result c.clear.new.self.items points own.0 c.row-row.ensures c.clear.ensures.items own.1 in
-    let next = comes_next l c.args.flat.now (fields_of c.args.here.now) c.in-Ok.head (row_with c.row-row.result points) own.0 c.requires.keeps.of_one c.in-Ok.ensures.read row_is own.2 in
-    record { waits = may_wait_as l c.row-row.result points (begins_anew l c.args.flat.now (row_with c.row-row.result points) next.accepts c.if-row-eq0.true) }
+    let row_is = given_row c.in-Ok.head c.row-row.result c.clear.new.self.items points own.0
+    c.row-row.ensures c.clear.ensures.items own.1 in
+    let next = comes_next l c.args.flat.now (fields_of c.args.here.now) c.in-Ok.head
+    (row_with c.row-row.result points) own.0 c.requires.keeps.of_one c.in-Ok.ensures.read
+    row_is own.2 in
+    record {
+      waits = may_wait_as l c.row-row.result points
+          (begins_anew l c.args.flat.now (row_with c.row-row.result points) next.accepts
+          c.if-row-eq0.true);
+    }
 
 pub push_from-requires : goal.push_from-requires
 push_from-requires c own given =
     let l = c.args.self.now.limits in
     let row = row_with c.row-row.result own in
     let below : 0 < c.row-row.result.depth = omega (arith, c.if-row-eq0.false) in
-    let next = comes_next l c.args.flat.now (fields_of c.args.here.now) c.in-Ok.head row own c.requires.keeps.of_one c.in-Ok.ensures.read (ap (λ r. row_with r own) (sym c.row-row.ensures)) given in
-    continues_largest l c.args.flat.now row c.nest-learnt.ensures.sound (continues_below l c.args.flat.now row c.requires.keeps.some next.accepts below)
+    let next = comes_next l c.args.flat.now (fields_of c.args.here.now) c.in-Ok.head row own
+    c.requires.keeps.of_one c.in-Ok.ensures.read (ap (λ r. row_with r own)
+    (sym c.row-row.ensures)) given in
+    continues_largest l c.args.flat.now row c.nest-learnt.ensures.sound
+    (continues_below l c.args.flat.now row c.requires.keeps.some next.accepts below)
 
 pub open_row-requires : goal.open_row-requires
 open_row-requires c =
     let l = c.args.self.now.limits in
     let own = c.in_default-push_from.ensures.pushed in
     let row = row_with c.row-row.result own.0 in
-    let next = comes_next l c.args.flat.now (fields_of c.args.here.now) c.in-Ok.head row own.0 c.requires.keeps.of_one c.in-Ok.ensures.read (ap (λ r. row_with r own.0) (sym c.row-row.ensures)) own.2 in
+    let next = comes_next l c.args.flat.now (fields_of c.args.here.now) c.in-Ok.head row own.0
+    c.requires.keeps.of_one c.in-Ok.ensures.read (ap (λ r. row_with r own.0)
+    (sym c.row-row.ensures)) own.2 in
     depth_within l (reverse c.args.flat.now) c.args.self.now.open_rows row next.accepts c.requires.keeps.open_rows
 
 pub returns-in-Err : goal.returns-in-Err
@@ -42,7 +55,8 @@ pub returns-in-Err-append_to : goal.returns-in-Err-append_to
 returns-in-Err-append_to c = record {
   more = search rules;
   root = search rules;
-  refused = if_refused _ _ c.in-Err-append_to.fault (λ reason j. c.in-Ok.ensures.read (Refused reason) j) c.in-Err-append_to.ensures.refused;
+  refused = if_refused _ _ c.in-Err-append_to.fault
+      (λ reason j. c.in-Ok.ensures.read (Refused reason) j) c.in-Err-append_to.ensures.refused;
   limits = search rules;
   sound = search rules;
 }
@@ -54,10 +68,20 @@ returns-then-row-eq0 c = record {
       let own = c.in_default.ensures.given in
       let points = c.append_to.new.points.items in
       let row = row_with c.row-row.result points in
-      let row_is = given_row c.in-Ok.head c.row-row.result c.clear.new.self.items points own.0 c.row-row.ensures c.clear.ensures.items own.1 in
-      let next = comes_next l c.args.flat.now (fields_of c.args.here.now) c.in-Ok.head row own.0 c.requires.keeps.of_one c.in-Ok.ensures.read row_is own.2 in
-      let begins = begins_anew l c.args.flat.now row next.accepts c.if-row-eq0.true in
-      (record { row = row; waits = ap (λ (r : Row). r ∷ []) (sym (root_is l c.row-row.result points begins)); root = c.if-row-eq0.true; judged = next.judged }, refl));
+      let row_is = given_row c.in-Ok.head c.row-row.result c.clear.new.self.items points own.0
+      c.row-row.ensures c.clear.ensures.items own.1 in
+      let next = comes_next l c.args.flat.now (fields_of c.args.here.now) c.in-Ok.head row own.0
+      c.requires.keeps.of_one c.in-Ok.ensures.read row_is own.2 in
+      let begins = begins_anew l c.args.flat.now row next.accepts c.if-row-eq0.true in (
+        record {
+          row = row;
+          waits = ap (λ (r : Row). r ∷ [])
+              (sym (root_is l c.row-row.result points begins));
+          root = c.if-row-eq0.true;
+          judged = next.judged;
+        },
+        refl,
+      ));
   refused = search rules;
   limits = search rules;
   sound = search rules;
@@ -67,7 +91,8 @@ pub returns-in-Err-push_from : goal.returns-in-Err-push_from
 returns-in-Err-push_from c = record {
   more = search rules;
   root = search rules;
-  refused = if_refused _ _ c.in-Err-push_from.fault (λ reason j. c.in-Ok.ensures.read (Refused reason) j) c.in-Err-push_from.ensures.refused;
+  refused = if_refused _ _ c.in-Err-push_from.fault
+      (λ reason j. c.in-Ok.ensures.read (Refused reason) j) c.in-Err-push_from.ensures.refused;
   limits = search rules;
   sound = search rules;
 }
@@ -81,8 +106,13 @@ returns c = record {
       let own = c.in_default-push_from.ensures.pushed in
       let row = row_with c.row-row.result own.0 in
       let below : 0 < c.row-row.result.depth = omega (arith, c.if-row-eq0.false) in
-      let next = comes_next l c.args.flat.now (fields_of c.args.here.now) c.in-Ok.head row own.0 c.requires.keeps.of_one c.in-Ok.ensures.read (ap (λ r. row_with r own.0) (sym c.row-row.ensures)) own.2 in
-      let kept = keeps_next l row c.args.flat.now c.push_from.new.self c.args.self.now.open_rows c.open_row.new.self c.requires.keeps.of_one c.requires.keeps.some c.requires.keeps.open_rows next.accepts below own.1 (c.in-Ok-open_row.ensures.opened own.0) in
+      let next = comes_next l c.args.flat.now (fields_of c.args.here.now) c.in-Ok.head row own.0
+      c.requires.keeps.of_one c.in-Ok.ensures.read (ap (λ r. row_with r own.0)
+      (sym c.row-row.ensures)) own.2 in
+      let kept = keeps_next l row c.args.flat.now c.push_from.new.self c.args.self.now.open_rows
+      c.open_row.new.self c.requires.keeps.of_one c.requires.keeps.some
+      c.requires.keeps.open_rows next.accepts below own.1
+      (c.in-Ok-open_row.ensures.opened own.0) in
       record {
         row = row;
         rows = own.1;

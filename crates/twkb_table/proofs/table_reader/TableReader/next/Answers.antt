@@ -9,7 +9,8 @@ returns-then-is_spent g c = search rules
 pub returns-then-is_over : goal.returns-then-is_over
 returns-then-is_over g c = record {
   gives = search rules;
-  ends = λ none l told records given s. over_meets l g.R.Read.remaining told records given c.args.self.now s (c.is_over.ensures.0 c.if-is_over.true);
+  ends = λ none l told records given s. over_meets l g.R.Read.remaining told records given
+      c.args.self.now s (c.is_over.ensures.0 c.if-is_over.true);
   fault = search rules;
   over = search rules;
   ended = search rules;
@@ -20,12 +21,16 @@ returns-then-is_over g c = record {
 
 pub returns : goal.returns
 returns g c = record {
-  gives = found_kept g.R.Read.remaining c.args.self.now c.next_tree-found.new.self _ c.next_tree-found.new.flat c.next_tree-found.result c.next_tree-found.ensures.gives;
-  ends = λ none. none_kept g.R.Read.remaining c.args.self.now c.next_tree-found.new.self _ c.next_tree-found.new.flat (c.next_tree-found.ensures.ends none);
+  gives = found_kept g.R.Read.remaining c.args.self.now c.next_tree-found.new.self _
+      c.next_tree-found.new.flat c.next_tree-found.result c.next_tree-found.ensures.gives;
+  ends = λ none. none_kept g.R.Read.remaining c.args.self.now c.next_tree-found.new.self _
+      c.next_tree-found.new.flat (c.next_tree-found.ensures.ends none);
   fault = search rules;
-  over = λ over unspent. goes_on c.is_over.result c.args.self.now.spent c.is_over.ensures c.if-is_over.false c.if-is_spent.false (inl over);
+  over = λ over unspent. goes_on c.is_over.result c.args.self.now.spent c.is_over.ensures
+      c.if-is_over.false c.if-is_spent.false (inl over);
   ended = search rules;
   spent = c.next_tree-found.ensures.spent;
-  unchanged = λ either. goes_on c.is_over.result c.args.self.now.spent c.is_over.ensures c.if-is_over.false c.if-is_spent.false either;
+  unchanged = λ either. goes_on c.is_over.result c.args.self.now.spent c.is_over.ensures
+      c.if-is_over.false c.if-is_spent.false either;
   stays = c.next_tree-found.ensures.stays;
 }

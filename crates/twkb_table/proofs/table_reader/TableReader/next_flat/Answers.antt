@@ -21,7 +21,8 @@ returns-then-self g c = record {
 pub returns-then-is_over : goal.returns-then-is_over
 returns-then-is_over g c = record {
   gives = λ e. absurd (false≢true e);
-  ends = λ found l told records given s. over_meets l g.R.Read.remaining told records given c.args.self.now s (c.is_over.ensures.0 c.if-is_over.true);
+  ends = λ found l told records given s. over_meets l g.R.Read.remaining told records given
+      c.args.self.now s (c.is_over.ensures.0 c.if-is_over.true);
   fault = tt;
   cleared = inr c.clear.ensures;
   some = λ e. cc e;
@@ -39,7 +40,8 @@ returns-in-Ok g c = record {
   fault = tt;
   cleared = given_or_none c.in-Ok.found _ c.in-Ok.ensures.none;
   some = c.in-Ok.ensures.some;
-  over = λ over fresh. goes_on c.is_over.result c.args.self.now.spent c.is_over.ensures c.if-is_over.false c.if-self.false (inl over);
+  over = λ over fresh. goes_on c.is_over.result c.args.self.now.spent c.is_over.ensures
+      c.if-is_over.false c.if-self.false (inl over);
   ended = c.in-Ok.ensures.ended;
   spent = not_spent _ _ c.args.self.now.spent c.if-self.false;
   unchanged = goes_on c.is_over.result c.args.self.now.spent c.is_over.ensures c.if-is_over.false c.if-self.false;
@@ -53,7 +55,8 @@ returns-in-Err g c = record {
   fault = c.in-Err.ensures.fault;
   cleared = inr c.clear-in-Err.ensures;
   some = λ e. cc e;
-  over = λ over fresh. goes_on c.is_over.result c.args.self.now.spent c.is_over.ensures c.if-is_over.false c.if-self.false (inl over);
+  over = λ over fresh. goes_on c.is_over.result c.args.self.now.spent c.is_over.ensures
+      c.if-is_over.false c.if-self.false (inl over);
   ended = λ e. cc e;
   spent = (λ e. absurd (c.in-Err.ensures.fresh (cc e)), λ spent. absurd (true≢false (sym spent ∙ c.if-self.false)));
   unchanged = goes_on c.is_over.result c.args.self.now.spent c.is_over.ensures c.if-is_over.false c.if-self.false;

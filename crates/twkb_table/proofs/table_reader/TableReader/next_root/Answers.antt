@@ -7,7 +7,8 @@ use Rattle.twkb_table.proofs.table_reader.TableReader.next_root.Goals as goal
 
 pub returns-then-has_root : goal.returns-then-has_root
 returns-then-has_root g c = record {
-  reads = λ l told records given s. waited l g.R.Read.remaining told records given c.args.self.now s (c.has_root.ensures.0 c.if-has_root.true);
+  reads = λ l told records given s. waited l g.R.Read.remaining told records given c.args.self.now s
+      (c.has_root.ensures.0 c.if-has_root.true);
   waits = λ found. c.has_root.ensures.0 c.if-has_root.true;
   ended = search rules;
   fresh = search rules;
@@ -26,7 +27,9 @@ first_root-requires g c = search rules
 pub returns-in-Ok : goal.returns-in-Ok
 returns-in-Ok g c = record {
   reads = λ l told records given s. (let h = c.in-Ok.ensures.reads l told records given s in
-      after_header l g.R.Read.remaining told records given c.read_header.new.self c.first_root.new.self c.first_root.result h (c.first_root.ensures.reads l told (header ∷ []) [] h.stands));
+      after_header l g.R.Read.remaining told records given c.read_header.new.self
+      c.first_root.new.self c.first_root.result h (c.first_root.ensures.reads l told
+      (header ∷ []) [] h.stands));
   waits = search rules;
   ended = search rules;
   fresh = search rules;

@@ -20,8 +20,10 @@ returns-in_default g c = search rules
 
 pub returns : goal.returns
 returns g c = record {
-  gives = λ l told records given stands. (tree_given l g.R.Read.remaining told records given _ c.next_flat.new.self c.in-Ok.geometry
-      (c.in-Ok-true.ensures.gives c.in-Ok-true.field-0-test l told records given stands) c.in-Ok.ensures.rows c.in-Ok.ensures.valid.tree);
+  gives = λ l told records given stands. (tree_given l g.R.Read.remaining told records given _
+      c.next_flat.new.self c.in-Ok.geometry
+      (c.in-Ok-true.ensures.gives c.in-Ok-true.field-0-test l told records given stands)
+      c.in-Ok.ensures.rows c.in-Ok.ensures.valid.tree);
   ends = search rules;
   fault = search rules;
   ended = search rules;

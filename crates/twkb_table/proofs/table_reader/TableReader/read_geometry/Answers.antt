@@ -8,22 +8,35 @@ use Rattle.twkb_table.proofs.table_reader.TableReader.read_geometry.Goals as goa
 pub returns-clause-gives : goal.returns-clause-gives
 returns-clause-gives g c =
     if_ok _ _ c.read_rows.result (λ found completes is l told records given s.
-    (let begun = root_by l g.R.Read.remaining told records given c.next_root.new.self c.in-Ok-true.field-0 c.in-Ok-true.field-0-test (c.in-Ok-true.ensures.reads l told records given s) in
-    let reading = reading_in l g.R.Read.remaining told begun.seen given _ c.begin.new.flat c.next_root.new.self (record c.next_root.new.self { rows = c.begin.new.self }) begun.reading c.in-Ok.ensures.put refl refl refl c.begin.ensures.limits refl in
-    gives_from l g.R.Read.remaining told records begun.seen given c.read_rows.new.flat c.read_rows.new.self begun.extends (completes l told begun.seen given reading))) c.read_rows.ensures.gives
+    (let begun = root_by l g.R.Read.remaining told records given c.next_root.new.self
+    c.in-Ok-true.field-0 c.in-Ok-true.field-0-test
+    (c.in-Ok-true.ensures.reads l told records given s) in
+    let reading = reading_in l g.R.Read.remaining told begun.seen given _ c.begin.new.flat
+    c.next_root.new.self (record c.next_root.new.self { rows = c.begin.new.self }) begun.reading
+    c.in-Ok.ensures.put refl refl refl c.begin.ensures.limits refl in
+    gives_from l g.R.Read.remaining told records begun.seen given c.read_rows.new.flat
+    c.read_rows.new.self begun.extends (completes l told begun.seen given reading)))
+    c.read_rows.ensures.gives
 
 pub returns-clause-fault : goal.returns-clause-fault
 returns-clause-fault g c =
     if_err _ _ c.read_rows.result (λ fault faults l told records given s.
-    (let begun = root_by l g.R.Read.remaining told records given c.next_root.new.self c.in-Ok-true.field-0 c.in-Ok-true.field-0-test (c.in-Ok-true.ensures.reads l told records given s) in
-    let reading = reading_in l g.R.Read.remaining told begun.seen given _ c.begin.new.flat c.next_root.new.self (record c.next_root.new.self { rows = c.begin.new.self }) begun.reading c.in-Ok.ensures.put refl refl refl c.begin.ensures.limits refl in
-    explains_from l told records begun.seen given fault begun.extends (faults l told begun.seen given reading))) c.read_rows.ensures.fault
+    (let begun = root_by l g.R.Read.remaining told records given c.next_root.new.self
+    c.in-Ok-true.field-0 c.in-Ok-true.field-0-test
+    (c.in-Ok-true.ensures.reads l told records given s) in
+    let reading = reading_in l g.R.Read.remaining told begun.seen given _ c.begin.new.flat
+    c.next_root.new.self (record c.next_root.new.self { rows = c.begin.new.self }) begun.reading
+    c.in-Ok.ensures.put refl refl refl c.begin.ensures.limits refl in
+    explains_from l told records begun.seen given fault begun.extends
+    (faults l told begun.seen given reading))) c.read_rows.ensures.fault
 
 pub returns-in-Ok-false-clause-gives : goal.returns-in-Ok-false-clause-gives
 returns-in-Ok-false-clause-gives g c e = absurd (false≢true e)
 
 pub returns-in-Ok-false-clause-ends : goal.returns-in-Ok-false-clause-ends
-returns-in-Ok-false-clause-ends g c found l told records given s = end_by l g.R.Read.remaining told records given c.next_root.new.self c.in-Ok-false.field-0 c.in-Ok-false.field-0-test (c.in-Ok-false.ensures.reads l told records given s)
+returns-in-Ok-false-clause-ends g c found l told records given s = end_by l g.R.Read.remaining told
+    records given c.next_root.new.self c.in-Ok-false.field-0 c.in-Ok-false.field-0-test
+    (c.in-Ok-false.ensures.reads l told records given s)
 
 pub returns-in-Ok-false-clause-ended : goal.returns-in-Ok-false-clause-ended
 returns-in-Ok-false-clause-ended g c found = c.in-Ok-false.ensures.ended (ap Ok c.in-Ok-false.field-0-test)

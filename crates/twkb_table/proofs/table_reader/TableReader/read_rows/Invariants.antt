@@ -14,6 +14,8 @@ invariant-loop g l =
       counted : l.counter ≤ l.self.number;
       few : l.self.number < 2 ^ 32;
       same : is_spent l.self ≡ is_spent l.fn.self;
-      reads : (lim : Allowance) (told : Option (List ℕ)) (records : List Record) (given : List Tree) → IsReading lim g.R.Read.remaining told records given l.fn.flat l.fn.self
-          → (seen : List Record) × Extends records seen × IsReading lim g.R.Read.remaining told seen given l.flat l.self;
+      reads : (lim : Allowance) (told : Option (List ℕ)) (records : List Record) (given : List Tree)
+          → IsReading lim g.R.Read.remaining told records given l.fn.flat l.fn.self
+          → (seen : List Record) × Extends records seen
+          × IsReading lim g.R.Read.remaining told seen given l.flat l.self;
     }

@@ -12,5 +12,8 @@ pub returns : goal.returns
 returns c = search rules
 
 pub invariant_of-result : goal.invariant_of-result
-invariant_of-result c =
-    (IsTree-tree_of _ _ (search rules) (c.has_fit_ids.ensures.fit.0 c.if-not-has_fit_ids.false) c.has_fit_ids.ensures.trees, IsTreeInRange-tree_of _ _ c.has_fit_ids.ensures.in_range)
+invariant_of-result c = (
+  IsTree-tree_of _ _ (search rules) (c.has_fit_ids.ensures.fit.0 c.if-not-has_fit_ids.false)
+      c.has_fit_ids.ensures.trees,
+  IsTreeInRange-tree_of _ _ c.has_fit_ids.ensures.in_range,
+)

@@ -8,8 +8,10 @@ pub returns : goal.returns
 returns c =
     let few_levels : nest c.args.self.now ≤ c.args.limits.now.nest = search rules in
     let few_nodes : nodes c.args.self.now ≤ c.args.limits.now.nodes = search rules in (
-      λ few_points. valid_within c.args.limits.now c.args.self.now c.precision-learnt.ensures.sound c.precision-learnt.ensures.in_range few_levels few_nodes (search rules),
-      λ (valid : IsValid c.args.limits.now c.args.self.now). let few_points : length (flat c.args.self.now) ≤ c.args.limits.now.points = valid.points_kept in search rules,
+      λ few_points. valid_within c.args.limits.now c.args.self.now c.precision-learnt.ensures.sound
+          c.precision-learnt.ensures.in_range few_levels few_nodes (search rules),
+      λ (valid : IsValid c.args.limits.now c.args.self.now). let few_points : length
+          (flat c.args.self.now) ≤ c.args.limits.now.points = valid.points_kept in search rules,
     )
 
 pub returns-then-count_nodes-from : goal.returns-then-count_nodes-from

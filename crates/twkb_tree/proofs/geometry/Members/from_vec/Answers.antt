@@ -10,7 +10,8 @@ pub loop-member-preserved : goal.loop-member-preserved
 loop-member-preserved c =
     rw (take_more _ _ c.member-item.result c.loop-member-test.true) (
       AreTrees-push _ _ c.loop-member.invariant.0 (subst IsTree c.member-item.is c.precision-learnt.ensures.sound),
-      AreTreesInRange-push _ _ c.loop-member.invariant.1 (subst IsTreeInRange c.member-item.is c.precision-learnt.ensures.in_range),
+      AreTreesInRange-push _ _ c.loop-member.invariant.1
+          (subst IsTreeInRange c.member-item.is c.precision-learnt.ensures.in_range),
     )
 
 pub invariant_of-result : goal.invariant_of-result

@@ -6,7 +6,9 @@ use Rattle.twkb_tree.proofs.lists.Items.from_vec.Goals as goal
 
 pub loop-item-preserved : goal.loop-item-preserved
 loop-item-preserved g c =
-    rw (take_more _ _ c.item-item.result c.loop-item-test.true) (all_push g.T.Item.Fits _ _ c.loop-item.invariant (subst g.T.Item.Fits c.item-item.is c.look-learnt.ensures))
+    rw (take_more _ _ c.item-item.result c.loop-item-test.true)
+    (all_push g.T.Item.Fits _ _ c.loop-item.invariant
+    (subst g.T.Item.Fits c.item-item.is c.look-learnt.ensures))
 
 pub returns : goal.returns
 returns g c = search rules

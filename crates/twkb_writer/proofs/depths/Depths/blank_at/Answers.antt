@@ -3,4 +3,5 @@ use Rattle.twkb_writer.proofs.DepthLemmas.{blank_there}
 use Rattle.twkb_writer.proofs.depths.Depths.blank_at.Goals as goal
 
 pub returns-else-self-depth : goal.returns-else-self-depth
-returns-else-self-depth c = blank_there c.self.inside.used _ _ c.args.depth c.self.invariant c.self.view_is (omega (arith, c.if-self-depth.false)) c.requires
+returns-else-self-depth c = blank_there c.self.inside.used _ _ c.args.depth c.self.invariant
+    c.self.view_is (omega (arith, c.if-self-depth.false)) c.requires

@@ -4,5 +4,11 @@ use Rattle.twkb_writer.proofs.gatherer.Gatherer+S+S+Fault.put_steps.Goals as goa
 
 pub returns-clause-put : goal.returns-clause-put
 returns-clause-put g c =
-    let spelled = rw (c.step_to-x.ensures.x, c.step_to-x.ensures.y, c.step_to-next_x.ensures.x, c.step_to-next_x.ensures.y, c.step_to-x.ensures.moved) at c.push_four_varints.ensures in
+    let spelled = rw (
+      c.step_to-x.ensures.x,
+      c.step_to-x.ensures.y,
+      c.step_to-next_x.ensures.x,
+      c.step_to-next_x.ensures.y,
+      c.step_to-x.ensures.moved,
+    ) at c.push_four_varints.ensures in
     pushed g.S.Sink.took g.S.Sink.refused _ _ _ _ c.make_room.ensures.put refl refl spelled
