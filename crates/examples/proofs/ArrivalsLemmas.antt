@@ -3,14 +3,12 @@ use Rattle.std.proofs.Common.{◌≡◌, ◌∙◌, ◌+◌, ◌<◌, ◌≤◌,
 use Rattle.std.specs.Prelude.{Ok}
 use Rattle.std.proofs.lemmas.List.{append-nil, length-take-le, take-append-drop}
 use Rattle.std.proofs.Math.Seq.{take-add}
-use Rattle.std.proofs.KnownBytes.{Consumes-nil, Consumes-trans, Consumes-whole}
-use Rattle.std.specs.Io.KnownBytes.{Consumes, IsAtEnd}
+use Rattle.std.proofs.KnownBytes.{Consumes-trans}
+use Rattle.std.specs.Io.KnownBytes.{Consumes}
 use Rattle.twkb_tree.specs.Tree.{Tree}
-use Rattle.twkb_tree.specs.Limits.{Allowance}
-use Rattle.twkb_grammar.specs.Blob.{Stream}
 use Rattle.twkb_blob.specs.Sessions.{FedFlat, Stands}
 use Rattle.twkb_blob.specs.declared.session.Session.{Session}
-use Rattle.examples.specs.Counting.{HasGeometries, TookPiece}
+use Rattle.examples.specs.Counting.{TookPiece}
 
 -- ---- one piece
 
@@ -84,9 +82,6 @@ pub record TookBytes (told rest : Option (List ℕ)) (taken count : ℕ) (sessio
   pub size : taken ≡ length bytes
   pub counted : count ≡ length geometries
 
-pub bytes_none : (told : Option (List ℕ)) (session : Session) → Stands [] [] session → TookBytes told told 0 0 session
-bytes_none told session stands = record { bytes = []; geometries = []; stands = stands; used = Consumes-nil told; size = refl; counted = refl }
-
 -- one more piece: the start of a buffer
 pub bytes_more : (told rest left : Option (List ℕ)) (taken count n more : ℕ) (buffer piece : List ℕ) (old new : Session) (took : TookBytes told rest taken count old)
     → n ≤ length buffer → piece ≡ take n buffer → TookPiece took.bytes took.geometries piece more new → Consumes rest left (take n buffer) → TookBytes told left (taken + n) (count + more) new
@@ -106,15 +101,3 @@ bytes_fewer told rest taken count n session took some = omega (arith, took.size,
 -- there are still at most as many geometries as bytes
 pub few_more : (geometries bytes n more : ℕ) (buffer piece : List ℕ) → geometries ≤ bytes → more ≤ length piece → piece ≡ take n buffer → n ≤ length buffer → geometries + more ≤ bytes + n
 few_more geometries bytes n more buffer piece few fewer cut fits = omega (arith, few, fewer, ap length cut, length-take-le n buffer fits)
-
--- at the end of the device all bytes were taken
-pub bytes_all : (limits : Allowance) (told rest left : Option (List ℕ)) (taken count : ℕ) (session : Session) (took : TookBytes told rest taken count session)
-    → Consumes rest left [] → IsAtEnd left → Stream limits took.bytes took.geometries → HasGeometries limits told count taken
-bytes_all limits told rest left taken count session took none ended stream =
-    let used : Consumes told left (took.bytes ++ []) = Consumes-trans told rest left took.bytes [] took.used none in
-    let all : Consumes told left took.bytes = subst (λ bs. Consumes told left bs) (append-nil took.bytes) used in
-    record {
-      geometries = took.geometries;
-      stream = Consumes-whole told left took.bytes (λ bytes. Stream limits bytes took.geometries × (taken ≡ length bytes)) all ended (stream, took.size);
-      counted = took.counted;
-    }

@@ -1,8 +1,8 @@
 -- The points of blobs that a reader gave, counted.
 use Rattle.std.proofs.Common.{◌≡◌, ◌∙◌, ◌+◌, ℕ, List, [], ◌∷◌, ◌++◌, Option, length, arith, refl, sym, subst, length-append, false}
-use Rattle.std.specs.Prelude.{None, Some, Ok}
+use Rattle.std.specs.Prelude.{Some, Ok}
 use Rattle.std.proofs.lemmas.List.{append-nil}
-use Rattle.std.proofs.KnownBytes.{Consumes-nil, Consumes-trans, Consumes-whole}
+use Rattle.std.proofs.KnownBytes.{Consumes-trans}
 use Rattle.std.specs.Io.KnownBytes.{Consumes}
 use Rattle.std.specs.declared.io.traits.Read.{Ghosts}
 use Rattle.twkb_tree.specs.Tree.{Tree, flat, saturated}
@@ -12,7 +12,7 @@ use Rattle.twkb_grammar.proofs.Streams.{stream-append}
 use Rattle.twkb_io.specs.Inputs.{rest_of}
 use Rattle.twkb_blob.specs.Readers.{IsNext, Makes, has_ended, is_spent, reader_input, reader_limits}
 use Rattle.twkb_blob.specs.declared.reader.Reader.{Reader}
-use Rattle.examples.specs.Counting.{HasPoints, all_points}
+use Rattle.examples.specs.Counting.{all_points}
 
 -- A reader of all that a device gave has given geometries, which have this many points.
 pub record GavePoints {R : Type 0} {read : Ghosts R} (limits : Allowance) (told : Option (List ℕ)) (reader : Reader R read) (count : ℕ) : Type 0 where
@@ -32,19 +32,6 @@ points_more (h ∷ gs) g =
     omega (arith, length-append (flat h) (all_points (gs ++ g ∷ [])), length-append (flat h) (all_points gs), points_more gs g)
 
 module _ {R : Type 0} {read : Ghosts R} (limits : Allowance) (told : Option (List ℕ)) where
-  -- before the first blob nothing was counted
-  pub gave_none : (reader : Reader R read) → rest_of (reader_input reader) ≡ told → reader_limits reader ≡ limits → is_spent reader ≡ false → has_ended reader ≡ false → GavePoints limits told reader 0
-  gave_none reader same limited live going_on = record {
-    geometries = [];
-    bytes = [];
-    stream = refl;
-    used = subst (λ rest. Consumes told rest []) (sym same) (Consumes-nil told);
-    points = omega arith;
-    limited = limited;
-    live = live;
-    going_on = going_on;
-  }
-
   -- one more blob was counted
   pub gave_more : (old new : Reader R read) (count points total : ℕ) (found : Option Tree) (g : Tree) → GavePoints limits told old count
       → IsNext (reader_limits old) (reader_input old) (reader_input new) (Ok found) → found ≡ Some g → points ≡ saturated (length (flat g)) → total ≡ saturated (count + points)
@@ -62,11 +49,3 @@ module _ {R : Type 0} {read : Ghosts R} (limits : Allowance) (told : Option (Lis
         live = live;
         going_on = going_on;
       }
-
-  -- at the end all blobs were counted
-  pub gave_all : (old new : Reader R read) (count : ℕ) → GavePoints limits told old count → IsNext (reader_limits old) (reader_input old) (reader_input new) (Ok None) → HasPoints limits told count
-  gave_all old new count gave next = record {
-    geometries = gave.geometries;
-    stream = Consumes-whole told (rest_of (reader_input old)) gave.bytes (λ bytes. Stream limits bytes gave.geometries) gave.used next.0 gave.stream;
-    points = gave.points;
-  }

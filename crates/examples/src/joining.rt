@@ -1,4 +1,4 @@
-//! Two routes joined to one, each a polyline.
+//! Joining the polylines of two routes.
 ghost use Rattle.std.specs.Prelude.{IfOk};
 ghost use Rattle.examples.specs.Routes.{IsJoined};
 

@@ -7,6 +7,7 @@ use std::process::ExitCode;
 use twkb_command::{lack_memory, lack_words, run};
 use twkb_io::{Ending, Tap};
 
+// Runs the command over the standard streams, and exits with its status.
 fn main(rt: HostRuntime) -> ExitCode {
     // a terminal would go on after the end that it reported
     let mut reader = Tap::new(Ending::new(rt.stdin()));

@@ -8,9 +8,9 @@ use Rattle.twkb_buffer.specs.Calls.{Answers, Ends, Fills, Stops}
 use Rattle.twkb_buffer.specs.Fillers.{buffer_of, filled_of, held}
 use Rattle.twkb_buffer.specs.declared.filler.Filler.{Filler}
 
--- The borrow is the same one, and these bytes are the start of its slice.
+-- The writer keeps its borrow, and these bytes are the start of the borrowed slice.
 pub record Filled (old new : Filler) (bytes : List ℕ) : Type 0 where
-  pub same_loan : (buffer_of new).ghost_name ≡ (buffer_of old).ghost_name
+  pub same_borrow : (buffer_of new).ghost_name ≡ (buffer_of old).ghost_name
   pub within : length bytes ≤ length (buffer_of new).now
   pub front : take (length bytes) (buffer_of new).now ≡ bytes
 
@@ -26,16 +26,16 @@ filled old new bytes none appends =
     let front : take (filled_of new) (buffer_of new).now ≡ bytes = tail_same _ name _ bytes all in
     let count : filled_of new ≡ length bytes = sym (length-take-le (filled_of new) (buffer_of new).now new.within) ∙ ap length front in
     record {
-      same_loan = head_same _ name _ bytes all;
+      same_borrow = head_same _ name _ bytes all;
       within = subst (λ n. n ≤ length (buffer_of new).now) count new.within;
       front = ap (λ n. take n (buffer_of new).now) (sym count) ∙ front;
     }
 
 -- the bytes written by a writer that was moved under a tap and back
-pub moved_back : (lent started ended given : Filler) (bytes : List ℕ) → started ≡ lent → given ≡ ended → filled_of lent ≡ 0 → Appends (held started) (held ended) bytes → Filled lent given bytes
-moved_back lent started ended given bytes first last none appends =
-    let behind : Appends (held lent) (held ended) bytes = subst (λ (f : Filler). Appends (held f) (held ended) bytes) first appends in
-    filled lent given bytes none (subst (λ (f : Filler). Appends (held lent) (held f) bytes) (sym last) behind)
+pub moved_back : (borrowed started ended given : Filler) (bytes : List ℕ) → started ≡ borrowed → given ≡ ended → filled_of borrowed ≡ 0 → Appends (held started) (held ended) bytes → Filled borrowed given bytes
+moved_back borrowed started ended given bytes first last none appends =
+    let added : Appends (held borrowed) (held ended) bytes = subst (λ (f : Filler). Appends (held f) (held ended) bytes) first appends in
+    filled borrowed given bytes none (subst (λ (f : Filler). Appends (held borrowed) (held f) bytes) (sym last) added)
 
 -- the start of a slice is the bytes written
 pub fills : (Ended : Ends) (Halted : Stops) (answer : Result Report ConvertFault) (bytes slice : List ℕ) → Answers Ended Halted bytes answer

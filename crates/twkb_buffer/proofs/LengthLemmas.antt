@@ -39,7 +39,7 @@ refused_table_length style l table written done n cause.Memory f refused e = abs
 refused_table_length style l table written done n cause.TooLong f refused e = absurd refused
 refused_table_length style l table written done n cause.TooManyRecords f refused e = absurd refused
 
--- nothing is left, so everything was written for the complete ones
+-- no output is left, so all output of the complete geometries was written
 all_written : {A : Type 0} (text_of : List A → List ℕ) (whole later : List A) (written left : List ℕ) → text_of (whole ++ later) ≡ written ++ left → later ≡ [] → left ≡ []
     → written ≡ text_of whole
 all_written text_of whole later written left cut no_later none =

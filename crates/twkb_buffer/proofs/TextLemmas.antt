@@ -1,4 +1,4 @@
--- A number is that of at most one text; how a text is copied into a buffer.
+-- The words of the reason with a number, and how a text is copied into a buffer.
 use Rattle.std.specs.Prelude.{◌≢◌}
 use Rattle.std.proofs.Common.{◌≡◌, ◌∙◌, ℕ, ◌+◌, ◌-◌, ◌<◌, ◌≤◌, List, [], ◌∷◌, ◌++◌, length, take, drop, set, min, arith, refl, sym, subst, ap, eqb, if◌then◌else◌}
 use Rattle.std.proofs.Math.Nat.{min_comm, min-le_right}
@@ -105,11 +105,11 @@ found_at n why has = ap (λ (k : ℕ). words_at all_causes k) (sym has.0) ∙ fo
 pub named : (n : ℕ) (why : Cause) (words : List ℕ) → HasReason n why → words ≡ cause_words why → AreWordsOf n words
 named n why words has e = record { told = λ other same. e ∙ (sym (found_at n why has) ∙ found_at n other same); none = λ lacks. absurd (lacks why has) }
 
--- a number that no cause has has no words
+-- a number that no cause has is that of no words
 pub unnamed : (n : ℕ) → ((why : Cause) → HasReason n why → ⊥) → AreWordsOf n []
 unnamed n lacks = record { told = λ why has. absurd (lacks why has); none = λ _. refl }
 
--- a number that is none of these is not that of a text of points
+-- no reason of a polyline has a number other than these
 no_point_text : (n : ℕ) → NamesNoPointText n → (reason : PolyReason) → point_text_number_of reason ≢ n
 no_point_text n lacks text.BadChar = λ e. lacks.0 (sym e)
 no_point_text n lacks text.Cut = λ e. lacks.1 (sym e)
@@ -119,7 +119,7 @@ no_point_text n lacks text.Half = λ e. lacks.4 (sym e)
 no_point_text n lacks text.Range = λ e. lacks.5 (sym e)
 no_point_text n lacks text.TooMany = λ e. lacks.6 (sym e)
 
--- a number that is none of these is not that of a record
+-- no reason of a record has a number other than these
 no_row : (n : ℕ) → NamesNoRow n → NamesNoPointText n → (reason : RowReason) → row_number_of reason ≢ n
 no_row n lacks points row.BadHeader = λ e. lacks.0 (sym e)
 no_row n lacks points row.FieldCount = λ e. lacks.1 (sym e)
@@ -138,7 +138,7 @@ no_row n lacks points row.PolylineNotAllowed = λ e. lacks.13 (sym e)
 no_row n lacks points row.PointCount = λ e. lacks.14 (sym e)
 no_row n lacks points (row.Polyline offset why) = no_point_text n points why
 
--- a number that is none of these is not that of an item of a blob
+-- no reason of a blob has a number other than these
 no_blob : (n : ℕ) → NamesNoBlob n → (reason : BlobReason) → blob_number_of reason ≢ n
 no_blob n lacks blob.Truncated = λ e. lacks.0 (sym e)
 no_blob n lacks blob.BadType = λ e. lacks.1 (sym e)
@@ -150,7 +150,7 @@ no_blob n lacks blob.TooManyPoints = λ e. lacks.6 (sym e)
 no_blob n lacks blob.CoordinateRange = λ e. lacks.7 (sym e)
 no_blob n lacks blob.SizeMismatch = λ e. lacks.8 (sym e)
 
--- a number that is none of all these is not that of a cause
+-- no cause has a number other than all these
 pub no_cause : (n : ℕ) → NamesNoRow n → NamesNoPointText n → NamesNoBlob n → n ≢ 61 → n ≢ 62 → (why : Cause) → HasReason n why → ⊥
 no_cause n rows points items long many (cause.Row number reason) has = no_row n rows points reason has.0
 no_cause n rows points items long many (cause.Blob offset reason) has = no_blob n items reason has.0

@@ -34,8 +34,8 @@ pub record Fills (Ended : Ends) (Halted : Stops) (slice : List ℕ) (answer : Re
   pub fits : sent_of answer ≤ length slice
   pub agrees : Answers Ended Halted (take (sent_of answer) slice) answer
 
--- a cause for which the input is refused; then everything was written to which the whole input is
--- converted
+-- the cause is one for which the input is refused: everything that the input is converted to was
+-- written
 abbrev pub IsRefusal : Cause → Type 0
 IsRefusal (cause.Row number reason) = ⊤
 IsRefusal (cause.Blob offset reason) = ⊤

@@ -9,7 +9,8 @@ use Rattle.twkb_engine.specs.declared.blob_reason.BlobReason.TheVariants as blob
 use Rattle.twkb_convert.specs.declared.report.Cause.{Cause}
 use Rattle.twkb_convert.specs.declared.report.Cause.TheVariants as cause
 
--- 1 if the input is refused, 3 if the reader failed, 4 for want of memory, 5 if the output took no more
+-- the status: 1 if the input is refused, 3 if the reader failed, 4 if memory was refused, 5 if the
+-- output is full
 abbrev pub status_of : Cause → ℕ
 status_of (cause.Row number reason) = 1
 status_of (cause.Blob offset reason) = 1
@@ -19,7 +20,7 @@ status_of cause.Memory = 4
 status_of cause.TooLong = 1
 status_of cause.TooManyRecords = 1
 
--- the number of a fault in a text of points: 21 to 27
+-- the numbers of the reasons for which a polyline is refused: 21 to 27
 abbrev pub point_text_number_of : PolyReason → ℕ
 point_text_number_of text.BadChar = 21
 point_text_number_of text.Cut = 22
@@ -29,8 +30,8 @@ point_text_number_of text.Half = 25
 point_text_number_of text.Range = 26
 point_text_number_of text.TooMany = 27
 
--- the number of a fault in the id, the precision or the points of a record: 8 to 16, or that of
--- its text of points
+-- the numbers of the reasons for which an id, a precision or points are refused: 8 to 16, with the
+-- polyline's number in place of 15
 abbrev pub value_number_of : RowReason → ℕ
 value_number_of row.BadId = 8
 value_number_of row.IdNotAllowed = 9
@@ -43,7 +44,8 @@ value_number_of (row.Polyline offset why) = point_text_number_of why
 value_number_of row.PointCount = 16
 value_number_of reason = 0
 
--- the number of a fault in a record: 1 to 7 for its form or its place, otherwise that of a value in it
+-- the numbers of the reasons for which a record is refused: 1 to 7 for its form or its place, and
+-- others for a value in it
 abbrev pub row_number_of : RowReason → ℕ
 row_number_of row.BadHeader = 1
 row_number_of row.FieldCount = 2
@@ -54,7 +56,7 @@ row_number_of row.TooDeep = 6
 row_number_of row.TooManyNodes = 7
 row_number_of reason = value_number_of reason
 
--- the number of a fault in an item of a blob: 41 to 49
+-- the numbers of the reasons for which a blob is refused: 41 to 49
 abbrev pub blob_number_of : BlobReason → ℕ
 blob_number_of blob.Truncated = 41
 blob_number_of blob.BadType = 42
@@ -76,7 +78,7 @@ reason_number_of cause.Memory = 0
 reason_number_of cause.TooLong = 61
 reason_number_of cause.TooManyRecords = 62
 
--- the number of the refused record, from 1, or the offset of the refused item; 0 if nothing is refused
+-- the number of the refused record, from 1, or the offset of the refused item; 0 if none is refused
 abbrev pub place_of : Cause → ℕ
 place_of (cause.Row number reason) = number
 place_of (cause.Blob offset reason) = offset

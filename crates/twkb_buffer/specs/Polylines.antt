@@ -60,7 +60,8 @@ pub record FindsNoMemory {A : Type 0} (old new : List A) (report : BufferReport)
   pub report_is : report ≡ nothing_report 4 0
   pub same : new ≡ old
 
--- Some point is out of range: the reason is that of a polyline, and the place is that of the first such point.
+-- Some point is out of range: the reason is that of a polyline, and the place is the first such
+-- point.
 pub record RefusesPoints (given : List BufferPoint) (old new : List ℕ) (report : BufferReport) : Type 0 where
   pub report_is : report ≡ record (nothing_report 1 0) { reason = 26; place = report.place }
   pub outside : FirstOutside given report.place

@@ -1,4 +1,4 @@
--- The text of a reason, by its number, and how a text is copied into a buffer (profile).
+-- The texts of reasons, by their numbers, and how a text is copied into a buffer (profile).
 use Rattle.std.specs.Prelude.{◌≡◌, ◌≢◌, ◌≤◌, ℕ, List, [], ◌∷◌, ◌++◌, length, take, drop}
 use Rattle.twkb_convert.specs.declared.report.Cause.{Cause}
 use Rattle.twkb_convert.specs.Texts.{cause_words}
@@ -8,13 +8,13 @@ use Rattle.twkb_buffer.specs.Numbers.{reason_number_of}
 abbrev pub HasReason : ℕ → Cause → Type 0
 HasReason number why = (reason_number_of why ≡ number) × (number ≢ 0)
 
--- The words are those of the command for the reason with this number; there are none if no reason
--- has it.
+-- The words are those of the command for the reason with this number, or empty if no reason has
+-- this number.
 pub record AreWordsOf (number : ℕ) (words : List ℕ) : Type 0 where
   pub told : (why : Cause) → HasReason number why → words ≡ cause_words why
   pub none : ((why : Cause) → HasReason number why → ⊥) → words ≡ []
 
--- a text with a zero byte after it, written over the bytes of a buffer; a text that is too long is cut
+-- a text with a zero byte after it, written over the bytes of a buffer, and cut if it is too long
 abbrev pub with_text : List ℕ → List ℕ → List ℕ
 with_text words [] = []
 with_text words (b ∷ bs) = take (length bs) words ++ (0 ∷ drop (length words) bs)
@@ -27,16 +27,16 @@ pub record PutsText (AreWords : List ℕ → Type 0) (old new : List ℕ) (count
   pub count_is : count ≡ length words
   pub short : count ≤ 31
 
--- the number is not that of a text of points
+-- no reason of a polyline has this number
 abbrev pub NamesNoPointText : ℕ → Type 0
 NamesNoPointText n = (n ≢ 21) × (n ≢ 22) × (n ≢ 23) × (n ≢ 24) × (n ≢ 25) × (n ≢ 26) × (n ≢ 27)
 
--- the number is not that of a record without its text of points
+-- no reason of a record has this number, but for those of its polyline
 abbrev pub NamesNoRow : ℕ → Type 0
 NamesNoRow n =
     (n ≢ 1) × (n ≢ 2) × (n ≢ 3) × (n ≢ 4) × (n ≢ 5) × (n ≢ 6) × (n ≢ 7) × (n ≢ 8)
     × (n ≢ 9) × (n ≢ 10) × (n ≢ 11) × (n ≢ 12) × (n ≢ 13) × (n ≢ 14) × (n ≢ 16)
 
--- the number is not that of an item of a blob
+-- no reason of a blob has this number
 abbrev pub NamesNoBlob : ℕ → Type 0
 NamesNoBlob n = (n ≢ 41) × (n ≢ 42) × (n ≢ 43) × (n ≢ 44) × (n ≢ 45) × (n ≢ 46) × (n ≢ 47) × (n ≢ 48) × (n ≢ 49)

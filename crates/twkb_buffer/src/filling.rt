@@ -22,7 +22,7 @@ fn run_into(
     limits: Limits,
 ) -> Result<Report, ConvertFault>
     requires { filled_of filler.old ≡ 0 }
-    ensures same_loan { (buffer_of filler.new).ghost_name ≡ (buffer_of filler.old).ghost_name }
+    ensures same_borrow { (buffer_of filler.new).ghost_name ≡ (buffer_of filler.old).ghost_name }
     ensures fills { Fills (Finished what limits input.now) (Stopped what limits input.now) (buffer_of filler.new).now result }
 {
     let mut reader = Tap::new(input);

@@ -19,7 +19,7 @@ pub(crate) const MEMORY: u32 = 4;
 // The output is too small.
 pub(crate) const TOO_SMALL: u32 = 5;
 
-// The code for C of the reason why a text of points is refused.
+// The reasons for which a polyline is refused are numbered from 21 to 27.
 pub(crate) fn point_text_number(reason: PolyReason) -> u32
     ensures { result ≡ point_text_number_of reason }
 {
@@ -34,7 +34,8 @@ pub(crate) fn point_text_number(reason: PolyReason) -> u32
     }
 }
 
-// The number of a fault in a record.
+// The reasons for which a record is refused are numbered from 1 to 16. A fault of its polyline has
+// the polyline's number in place of 15.
 fn row_number(reason: RowReason) -> u32
     ensures { result ≡ row_number_of reason }
 {
@@ -58,7 +59,7 @@ fn row_number(reason: RowReason) -> u32
     }
 }
 
-// The number of a fault in an item of a blob.
+// The reasons for which a blob is refused are numbered from 41 to 49.
 fn blob_number(reason: BlobReason) -> u32
     ensures { result ≡ blob_number_of reason }
 {
@@ -75,7 +76,7 @@ fn blob_number(reason: BlobReason) -> u32
     }
 }
 
-// The number of the reason for which the input is refused; 0 if it is not refused.
+// The number of a cause's reason; 0 if the input is not refused.
 pub(crate) fn reason_number(cause: Cause) -> u32
     ensures { result ≡ reason_number_of cause }
 {
@@ -100,8 +101,7 @@ pub(crate) fn status(cause: Cause) -> u32
     }
 }
 
-// The number of the refused record, or the offset of the refused item; 0 for any other
-// cause.
+// The number of the refused record, or the offset of the refused item; 0 for any other cause.
 pub(crate) fn place(cause: Cause) -> u64
     ensures { result ≡ place_of cause }
 {
@@ -112,7 +112,8 @@ pub(crate) fn place(cause: Cause) -> u64
     }
 }
 
-// The offset at which a record's text of points is refused; 0 if it is not.
+// The offset at which a record's polyline is refused, in bytes from the polyline's start; 0 if it
+// is not.
 fn row_text_offset(reason: RowReason) -> u64
     ensures { result ≡ row_text_offset_of reason }
 {
@@ -122,7 +123,7 @@ fn row_text_offset(reason: RowReason) -> u64
     }
 }
 
-// The offset at which a text of points is refused, in bytes from its start; 0 if it is not.
+// The offset at which a cause's polyline is refused; 0 if none is.
 pub(crate) fn text_offset(cause: Cause) -> u64
     ensures { result ≡ text_offset_of cause }
 {

@@ -1,4 +1,4 @@
-//! The text of a reason, by its number, and the text of the version, for a caller's buffer.
+//! The texts of reasons, by their numbers, and of the version, copied into a caller's buffer.
 ghost use Rattle.std.specs.Prelude.{◌≡◌, ◌≢◌, ◌≤◌, IfSome, IsNone, length};
 ghost use Rattle.twkb_convert.specs.declared.report.Cause.{Cause};
 ghost use Rattle.twkb_convert.specs.Version.{version_text};
@@ -7,7 +7,7 @@ ghost use Rattle.twkb_buffer.specs.Texts.{AreWordsOf, HasReason, NamesNoBlob, Na
 
 use twkb_convert::{BlobReason, Cause, PolyReason, RowReason, VERSION};
 
-// The fault of a text of points with this number.
+// The reason with this number for which a polyline is refused.
 fn point_text_reason(number: u32) -> Option<PolyReason>
     ensures some { IfSome result (λ reason. (point_text_number_of reason ≡ number) × (number ≢ 0)) }
     ensures none { IsNone result → NamesNoPointText number }
@@ -24,7 +24,7 @@ fn point_text_reason(number: u32) -> Option<PolyReason>
     }
 }
 
-// The fault of a record itself with this number.
+// The reason with this number for which a record is refused, but for its polyline.
 fn row_reason(number: u32) -> Option<RowReason>
     ensures some { IfSome result (λ reason. (row_number_of reason ≡ number) × (number ≢ 0)) }
     ensures none { IsNone result → NamesNoRow number }
@@ -49,7 +49,7 @@ fn row_reason(number: u32) -> Option<RowReason>
     }
 }
 
-// The fault of an item of a blob with this number.
+// The reason with this number for which a blob is refused.
 fn blob_reason(number: u32) -> Option<BlobReason>
     ensures some { IfSome result (λ reason. (blob_number_of reason ≡ number) × (number ≢ 0)) }
     ensures none { IsNone result → NamesNoBlob number }
@@ -68,7 +68,7 @@ fn blob_reason(number: u32) -> Option<BlobReason>
     }
 }
 
-// A cause whose reason has this number, at the first of its places.
+// A cause whose reason has this number, with 0 for each place.
 #[tactic(auto, using(crate::proofs::TextLemmas::no_cause))]
 fn cause_of(number: u32) -> Option<Cause>
     ensures some { IfSome result (HasReason number) }
@@ -116,7 +116,7 @@ fn put(words: &[u8], text: &mut [u8])
 }
 
 /// Copies the text of a reason and a zero byte into a buffer, cut if there is too little room,
-/// and returns its full length without that byte. A number that is no reason's has the empty
+/// and returns its full length without that byte. A number that no reason has gives the empty
 /// text.
 pub fn put_reason(reason: u32, text: &mut [u8]) -> usize
     ensures { PutsText (AreWordsOf reason) text.old text.new result }

@@ -23,9 +23,9 @@ pub struct BufferReport {
     pub done: u64,
     /// The number of bytes written.
     pub sent: u64,
-    /// From `measure`, the length of the whole output in bytes, or 0 if it is not known. From `fill`,
-    /// the number of bytes written; but if the output is too small, the size needed, or 0 if it is
-    /// not known.
+    /// From `measure`, the length of the whole output in bytes, or 0 if it is not known. From
+    /// `fill`, the number of bytes written; but if the output is too small, the size needed, or 0
+    /// if it is not known.
     pub needed: u64,
 }
 

@@ -1,4 +1,4 @@
--- From the limits and the styles of the conversions to those that C names.
+-- The effect of a call on slices, for the limits and the style as C passes them.
 use Rattle.std.proofs.Common.{◌≡◌, ℕ, List, arith, refl, subst}
 use Rattle.twkb_tree.specs.Limits.{Allowance}
 use Rattle.twkb_grammar.specs.declared.style.Style.{Style}
@@ -10,7 +10,7 @@ use Rattle.twkb_buffer.specs.declared.report.BufferReport.{BufferReport}
 apart : (n : ℕ) → n ≡ 0 → n ≡ 1 → ⊥
 apart n a b = omega (arith, a, b)
 
--- a number is that of only one style
+-- each number is that of at most one style
 one_style : (s t : Style) (n : ℕ) → IsStyleNumber s n → IsStyleNumber t n → s ≡ t
 one_style Full Full n a b = refl
 one_style Full Plain n a b = absurd (apart n a b)

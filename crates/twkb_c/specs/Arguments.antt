@@ -1,4 +1,4 @@
--- The limits, the styles and the conversions under C's names (profile).
+-- Limits, styles and conversions, as C passes them (profile).
 use Rattle.std.specs.Prelude.{◌≡◌, ℕ}
 use Rattle.twkb_tree.specs.Limits.{Allowance}
 use Rattle.twkb_grammar.specs.declared.style.Style.{Style}
@@ -13,7 +13,7 @@ abbrev pub IsStyleNumber : Style → ℕ → Type 0
 IsStyleNumber Full number = number ≡ 0
 IsStyleNumber Plain number = number ≡ 1
 
--- the number of a conversion; packing has this style
+-- the number of a conversion, which has this style if it packs
 abbrev pub IsConversionNumber : Style → Conversion → ℕ → Type 0
 IsConversionNumber style (conversion.Pack s) number = (s ≡ style) × (number ≡ 0)
 IsConversionNumber style conversion.Unpack number = number ≡ 1

@@ -1,4 +1,4 @@
-//! The limits, the styles and the conversions under C's names.
+//! Limits, styles and conversions, as C passes them.
 ghost use Rattle.std.specs.Prelude.{◌≡◌, ◌≢◌, ◌↔◌, IsSome, IfSome, IsNone};
 ghost use Rattle.twkb_tree.specs.Limits.{IsAllowance};
 ghost use Rattle.twkb_c.specs.Arguments.{IsConversionNumber, IsStyleNumber, allowance_of, arguments_report};
@@ -19,7 +19,7 @@ pub struct BufferLimits {
 }
 
 impl BufferLimits {
-    // The limits; `None` if one is out of its range.
+    // Checks the limits; `None` if one is out of its range.
     pub(crate) fn limits(self) -> Option<Limits>
         ensures accepted { IsSome result ↔ IsAllowance (allowance_of self) }
         ensures value { IfSome result (λ limits. limits ≡ allowance_of self) }

@@ -1,4 +1,4 @@
--- If words have no fault, a fact that each use of an argument keeps is true of the rows of the parse.
+-- A fact that each use of an argument keeps is true of the rows of words without a fault.
 use Rattle.std.proofs.Common.{◌≡◌, ℕ, ◌&&◌, zero, suc, Bool, true, false, cond, refl, List, [], ◌∷◌, length, drop, Option, Some, None, is_some, fold, find, option_map, chars, encode_utf8, bytes_eq, slice_get}
 use Rattle.std.specs.Prelude.{⊤}
 use Rattle.std.specs.Option.{option_map_or}
@@ -248,7 +248,7 @@ module _ (Holds : List Row → Type 0) where
   entered_holds a (Some p) each empty none =
       level_below (find (λ s. answers_to p.0 (label_of s)) a.subs) p.1 (found_level (λ s. answers_to p.0 (label_of s)) a.subs each) empty none
 
-  -- a fact that each use keeps is true of the rows of the subcommand that words without a fault enter
+  -- a fact that each use keeps is true of the rows of the subcommand, if words have no fault
   pub subcommand_holds : (a : App) (words : List Text) → EachLevel (built a).subs → Holds [] → fault_of a words ≡ [] → HoldsBelow (subcommand_of a words)
   subcommand_holds a words each empty none =
       entered_holds (built a) _ each empty (first_none _ _ (last_none _ _ none))

@@ -29,7 +29,7 @@ module _ {R W E : Type 0} (told : E → Option (List ℕ)) (kinds : Kinds) (read
   lacks_memory : TellsMemory told writer errors writer_after errors_after status → LacksMemory told reader writer errors reader writer_after errors_after status
   lacks_memory tells = record { unread = refl; unwritten = tells.unwritten; status_is = tells.status_is; line = tells.line }
 
-  -- words without a fault are only refused for want of memory
+  -- words without a fault are refused only if memory was
   pub fine_lacks : (r : Refusal) → IsRefusalAmong kinds r → Refuses told r writer errors writer_after errors_after status
       → kinds ≡ [] → LacksMemory told reader writer errors reader writer_after errors_after status
   fine_lacks refusal.Memory among refuses none = lacks_memory refuses

@@ -3,7 +3,7 @@ use Rattle.std.specs.Prelude.{ℕ}
 use Rattle.twkb_convert.specs.declared.report.Cause.{Cause}
 use Rattle.twkb_convert.specs.declared.report.Cause.TheVariants as cause
 
--- 1 if the input is refused, 3 if a device failed, 4 for want of memory
+-- 1 if the input is refused, 3 if a device failed, 4 if memory was refused
 abbrev pub status_of : Cause → ℕ
 status_of (cause.Row number reason) = 1
 status_of (cause.Blob offset reason) = 1

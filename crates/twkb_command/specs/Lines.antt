@@ -1,4 +1,5 @@
--- The line on standard error that says why a conversion stopped, or why words were refused (profile).
+-- The line on standard error for a conversion that stopped, or for words that were refused
+-- (profile).
 use Rattle.std.specs.Prelude.{ℕ, List, ◌++◌, codes, decimal}
 use Rattle.twkb_polyline.specs.declared.fault.PolyReason.{PolyReason}
 use Rattle.twkb_polyline.specs.Texts.{point_text_words}

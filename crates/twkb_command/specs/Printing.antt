@@ -6,13 +6,13 @@ use Rattle.twkb_io.specs.declared.output.Output.{Output}
 use Rattle.twkb_io.specs.Taps.{count_failure, device_of, failures_of}
 use Rattle.twkb_io.specs.Outputs.{Took, is_spent, output_failures, output_tap, sent_of}
 
--- a write failed, and nothing more is put
+-- A write failed, and no more bytes are taken.
 pub record Fails {W : Type 0} (old new : Output W) : Type 0 where
   pub same_tap : (output_tap new).ghost_name ≡ (output_tap old).ghost_name
   pub failures : output_failures new ≡ count_failure true (output_failures old)
   pub spent : is_spent new ≡ true
 
--- the writer took all of these bytes, or a write failed, now or before
+-- The writer took all of these bytes, or a write failed, now or earlier.
 pub record Prints {W : Type 0} (contents : W → Option (List ℕ)) (old : Output W) (bytes : List ℕ) (new : Output W) : Type 0 where
   pub puts : is_spent old ≡ false → sent_of old + length bytes ≤ 2 ^ 62 → Took contents old bytes new ⊎ Fails old new
   pub stays : is_spent old ≡ true → new ≡ old

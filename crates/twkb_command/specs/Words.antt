@@ -44,11 +44,15 @@ abbrev pub IsStyle : Option Text → Style → Type 0
 IsStyle None style = style ≡ Full
 IsStyle (Some name) style = (style ≡ Plain) ↔ (name ≡ codes "plain")
 
+-- the conversion packs in the style that the option gives, or has no style
+abbrev pub HasStyle : Option Text → Conversion → Type 0
+HasStyle given (conversion.Pack style) = IsStyle given style
+HasStyle given conversion.Unpack = ⊤
+HasStyle given conversion.Show = ⊤
+
 -- the subcommand with this name is this conversion, with the style that its option gives
 abbrev pub Names : Text → Option Text → Conversion → Type 0
-Names name given (conversion.Pack style) = (name ≡ codes "pack") × IsStyle given style
-Names name given conversion.Unpack = name ≡ codes "unpack"
-Names name given conversion.Show = name ≡ codes "show"
+Names name given what = (name ≡ name_of what) × HasStyle given what
 
 -- the rows of a subcommand name this conversion, with its style and these limits
 abbrev pub IsAskedBy : Option (Text × List Row) → Request → Type 0

@@ -14,7 +14,7 @@ use twkb_convert::{Cause, convert};
 use twkb_io::Tap;
 
 /// Carries out a request, and returns the status: 0 if all was converted, 1 if the input is
-/// refused or a length passes its bound, 3 if a device failed, 4 for want of memory. A fault is
+/// refused or a length passes its bound, 3 if a device failed, 4 if memory was refused. A fault is
 /// reported to `errors`; a failure there changes nothing else.
 pub fn carry_out<R: Read, W: Write, E: Write>(
     alloc: Global,
@@ -43,8 +43,8 @@ fn tell<W: Write>(writer: &mut Tap<W>, text: &str) -> u8
 }
 
 /// Answers words that ask for no conversion: help and the version go to `writer`, everything else
-/// to `errors`. The status is 0 for help and the version, 2 if the words are refused, 4 for want
-/// of memory. Takes no memory.
+/// to `errors`. The status is 0 for help and the version, 2 if the words are refused, 4 if memory
+/// was refused. Takes no memory.
 pub fn refuse<W: Write, E: Write>(refusal: &Refusal, writer: &mut Tap<W>, errors: &mut Tap<E>) -> u8
     ensures { Refuses E.contents refusal.now writer.old errors.old writer.new errors.new result }
 {

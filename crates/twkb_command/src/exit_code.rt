@@ -20,7 +20,7 @@ const DEVICE: u8 = 3;
 pub(crate) const MEMORY: u8 = 4;
 
 /// The status of a conversion that stopped: 1 if the input is refused or a length passes its
-/// bound, 3 if a device failed, 4 for want of memory.
+/// bound, 3 if a device failed, 4 if memory was refused.
 pub fn status(cause: &Cause) -> u8
     ensures { result ≡ status_of cause.now }
 {

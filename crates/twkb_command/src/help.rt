@@ -23,7 +23,7 @@ pub(crate) const SHOW: &str =
 // The usage of `show`.
 pub(crate) const CALL_SHOW: &str = "polytwkb show [OPTIONS] < STREAM > LINES";
 
-// Where the help of a subcommand points to.
+// The end of a subcommand's help.
 pub(crate) const ELSEWHERE: &str = "'polytwkb --help' describes tables, streams and exit statuses.";
 
 // The meaning of `--max-nest`.
@@ -33,7 +33,7 @@ pub(crate) const MAX_NEST: &str =
 // The meaning of `--style`.
 pub(crate) const STYLE: &str = "full: blobs with sizes and boxes; plain: without [default: full]";
 
-// What `--help` adds: the program's usage, the table, the stream, the lines of `show`, the statuses.
+// What `--help` adds: usage, the table, the stream, the lines of `show`, and the statuses.
 pub(crate) const MORE: &str = "Each command reads standard input and writes standard output:
 
   polytwkb pack < places.csv > places.twkb

@@ -1,4 +1,4 @@
-//! The conversion that is asked for, and its limits.
+//! Requests, and the limits and the style that options give.
 ghost use Rattle.std.specs.Prelude.{◌≡◌, ◌≤◌, ◌↔◌, IfSome, IsSome, codes};
 ghost use Rattle.twkb_tree.specs.Limits.{standard_limits};
 

@@ -13,8 +13,8 @@ use twkb_io::Tap;
 
 /// Runs the command with its words, the first of which is the program's name, and returns its
 /// status: 0 if all was converted, or if help or the version was asked for, 1 if the input is
-/// refused or a length passes its bound, 2 if the words are refused, 3 if a device failed, 4 for
-/// want of memory. A fault is reported to `errors`; a failure there changes nothing else.
+/// refused or a length passes its bound, 2 if the words are refused, 3 if a device failed, 4 if
+/// memory was refused. A fault is reported to `errors`; a failure there changes nothing else.
 pub fn run<R: Read, W: Write, E: Write>(
     alloc: Global,
     words: &[String],

@@ -1,10 +1,10 @@
 -- Blobs whose texts were sent, one after another.
-use Rattle.twkb_convert.proofs.Prelude.{◌≡◌, ◌∙◌, ◌+◌, ℕ, List, [], ◌∷◌, ◌++◌, Option, Some, None, length, ap, arith, refl, sym, subst, inl, inr, append_assoc, length-append, false, IfSome, append-nil, Consumes, Ghosts, BeginsWith, count_failure, Cut, Sent, Took, is_spent, output_failures, sent_of, refused_join, took_join, took_nothing, Output, OutFault, Allowance, Reader, BlobFault, Located, LocatedStream, TellsSpans, blob_text, blobs_text, Listing, StreamObstacle}
-use Rattle.std.proofs.KnownBytes.{Consumes-nil, Consumes-trans, Consumes-whole}
+use Rattle.twkb_convert.proofs.Prelude.{◌≡◌, ◌∙◌, ◌+◌, ℕ, List, [], ◌∷◌, ◌++◌, Option, Some, None, length, ap, arith, refl, sym, subst, inl, inr, append_assoc, length-append, false, append-nil, Consumes, Ghosts, BeginsWith, count_failure, Cut, Sent, Took, is_spent, output_failures, sent_of, refused_join, took_join, took_nothing, Output, OutFault, Allowance, Reader, BlobFault, Located, LocatedStream, TellsSpans, blobs_text, Layout, StreamObstacle}
+use Rattle.std.proofs.KnownBytes.{Consumes-nil, Consumes-trans}
 use Rattle.twkb_convert.specs.BlobReading.{Misses, RefusesBlob, Used, given, limits_of, rest_of, told_of}
 use Rattle.twkb_blob.specs.declared.fault.BlobFault.TheVariants as blob
 use Rattle.twkb_io.specs.declared.input.InFault.TheVariants as input
-use Rattle.twkb_convert.specs.BlobSending.{CutBlob, CutText, EndsBlobs, ExplainsObstacle, ExplainsStream, Follows, GivesText, SentBlob, SentBlobs, SentText, StopsBlob, StopsRead, UnlessOutput, is_write}
+use Rattle.twkb_convert.specs.BlobSending.{CutBlob, CutText, ExplainsObstacle, ExplainsStream, Follows, GivesText, SentBlob, SentBlobs, StopsBlob, UnlessOutput, is_write}
 use Rattle.twkb_convert.specs.declared.obstacle.StreamObstacle.TheVariants as obstacle
 use Rattle.twkb_convert.proofs.LocatedLemmas.{located-append, located-one}
 use Rattle.twkb_convert.proofs.ListingTexts.{blobs_text-append, blobs_text-one}
@@ -22,7 +22,7 @@ used_join a b c m n o xs ys first second = record {
   counted = omega (arith, first.counted, second.counted, length-append xs ys);
 }
 
--- the reader's answer if no blob came
+-- what a fault says if no blob was read
 explained : (l : Allowance) (old mid told : Option (List ℕ)) (before middle : ℕ) (bytes : List ℕ) (why : BlobFault) → Used old before bytes mid middle → Misses l mid middle told why
     → ExplainsStream l old told before bytes why
 explained l old mid told before middle bytes blob.Memory used misses = tt
@@ -39,12 +39,6 @@ explained l (Some all) None told before middle bytes (blob.At offset reason) use
 explained l (Some all) (Some left) told before middle bytes (blob.At offset reason) used misses =
     (left, used.consumed, subst (λ n. RefusesBlob l left n offset reason) used.counted misses)
 
--- the known bytes end here
-pub ended_later : (old mid : Option (List ℕ)) (bytes : List ℕ) (P : Type 0) → Consumes old mid bytes → IfSome mid (λ left. P) → IfSome old (λ all. P)
-ended_later None mid bytes P used ended = tt
-ended_later (Some all) None bytes P used ended = absurd used
-ended_later (Some all) (Some left) bytes P used ended = ended
-
 -- ---- the reader
 
 module _ {R : Type 0} {read : Ghosts R} where
@@ -54,13 +48,6 @@ module _ {R : Type 0} {read : Ghosts R} where
     limits = second.limits ∙ first.limits;
     failures = rw first.failures at second.failures;
     within = second.within;
-  }
-
-  pub stops_later : (a b c : Reader R read) (why : StreamObstacle) → Follows a b false → StopsRead b why c → StopsRead a why c
-  stops_later a b c why first stops = record {
-    has_failed = stops.has_failed;
-    follows = follows_trans a b c stops.has_failed first stops.follows;
-    told = stops.told;
   }
 
 -- ---- blobs
@@ -74,8 +61,8 @@ one_more l m before after bytes front bs b blobs same place tells =
 
 -- ---- texts that were sent
 
-module _ {R W : Type 0} {read : Ghosts R} (what : Listing) (contents : W → Option (List ℕ)) where
-  pub sent_none : (from : Reader R read) (old : Output W) → SentBlobs what contents from old from old 0
+module _ {R W : Type 0} {read : Ghosts R} (layout : Layout) (contents : W → Option (List ℕ)) where
+  pub sent_none : (from : Reader R read) (old : Output W) → SentBlobs layout contents from old from old 0
   sent_none from old = record {
     found = [];
     bytes = [];
@@ -85,8 +72,8 @@ module _ {R W : Type 0} {read : Ghosts R} (what : Listing) (contents : W → Opt
     count = refl;
   }
 
-  pub sent_more : (from mid to : Reader R read) (old out new : Output W) (done : ℕ) → SentBlobs what contents from old mid out done → limits_of mid ≡ limits_of from
-      → SentBlob what contents mid out to new → SentBlobs what contents from old to new (done + 1)
+  pub sent_more : (from mid to : Reader R read) (old out new : Output W) (done : ℕ) → SentBlobs layout contents from old mid out done → limits_of mid ≡ limits_of from
+      → SentBlob layout contents mid out to new → SentBlobs layout contents from old to new (done + 1)
   sent_more from mid to old out new done sent same one =
       record {
         found = sent.found ++ one.found ∷ [];
@@ -94,29 +81,18 @@ module _ {R W : Type 0} {read : Ghosts R} (what : Listing) (contents : W → Opt
         blobs = one_more (limits_of from) (limits_of mid) (given from) (given mid) sent.bytes one.gives.front sent.found one.found sent.blobs same sent.used.counted one.gives.tells;
         used = used_join (rest_of from) (rest_of mid) (rest_of to) (given from) (given mid) (given to) sent.bytes one.gives.front sent.used one.gives.used;
         took = subst (λ text. Took contents old text new)
-            (ap (λ t. blobs_text what sent.found ++ t) (sym (blobs_text-one what one.found)) ∙ sym (blobs_text-append what sent.found (one.found ∷ [])))
-            (took_join contents old out new (blobs_text what sent.found) (blob_text what one.found) sent.took one.took);
+            (ap (λ t. blobs_text layout sent.found ++ t) (sym (blobs_text-one layout one.found)) ∙ sym (blobs_text-append layout sent.found (one.found ∷ [])))
+            (took_join contents old out new (blobs_text layout sent.found) (layout.text_of one.found) sent.took one.took);
         count = omega (arith, sent.count, length-append sent.found (one.found ∷ []));
       }
 
-  pub sent_all : (remaining : R → Option (List ℕ)) (from mid to : Reader R read) (old out : Output W) (done : ℕ) → SentBlobs what contents from old mid out done
-      → EndsBlobs remaining mid to → SentText (blobs_text what) contents from old out done
-  sent_all remaining from mid to old out done sent ends = record {
-    found = sent.found;
-    bytes = sent.bytes;
-    blobs = sent.blobs;
-    all = Consumes-whole (rest_of from) (rest_of mid) sent.bytes (λ bytes. bytes ≡ sent.bytes) sent.used.consumed ends.empty refl;
-    took = sent.took;
-    count = sent.count;
-  }
-
   -- no text was sent after those of complete blobs
-  cut_none : (from mid to : Reader R read) (old out new : Output W) (done : ℕ) (why : StreamObstacle) (sent : SentBlobs what contents from old mid out done) → new ≡ out → is_spent out ≡ false
+  cut_none : (from mid to : Reader R read) (old out new : Output W) (done : ℕ) (why : StreamObstacle) (sent : SentBlobs layout contents from old mid out done) → new ≡ out → is_spent out ≡ false
       → is_write why ≡ false → ((fact : Type 0) → fact → UnlessOutput why fact)
-      → ExplainsObstacle (limits_of from) (rest_of from) (told_of to) (given from) sent.bytes why (sent_of old) (blobs_text what (sent.found ++ [])) [] []
-      → CutText (blobs_text what) contents from old to new (record { done = done; why = why })
+      → ExplainsObstacle (limits_of from) (rest_of from) (told_of to) (given from) sent.bytes why (sent_of old) (blobs_text layout (sent.found ++ [])) [] []
+      → CutText (blobs_text layout) contents from old to new (record { done = done; why = why })
   cut_none from mid to old out new done why sent same fresh no_write unless explains = record {
-    text = blobs_text what sent.found;
+    text = blobs_text layout sent.found;
     part = record {
       whole = sent.found;
       later = [];
@@ -124,11 +100,11 @@ module _ {R W : Type 0} {read : Ghosts R} (what : Listing) (contents : W → Opt
       left = [];
       blobs = subst (λ bs. LocatedStream (limits_of from) (given from) sent.bytes bs) (sym (append-nil sent.found)) sent.blobs;
       begins = consumes_begins (rest_of from) (rest_of mid) sent.bytes sent.used.consumed;
-      cut = ap (blobs_text what) (append-nil sent.found) ∙ sym (append-nil (blobs_text what sent.found));
+      cut = ap (blobs_text layout) (append-nil sent.found) ∙ sym (append-nil (blobs_text layout sent.found));
       one = inl refl;
-      holds = inr ([], sym (append-nil (blobs_text what sent.found)));
+      holds = inr ([], sym (append-nil (blobs_text layout sent.found)));
     };
-    sends = subst (λ o. Sent contents old (blobs_text what sent.found) o) (sym same) sent.took.sends;
+    sends = subst (λ o. Sent contents old (blobs_text layout sent.found) o) (sym same) sent.took.sends;
     count = sent.count;
     explains = explains;
     failures = ap output_failures same ∙ (sent.took.failures ∙ ap (λ b. count_failure b (output_failures old)) (sym no_write));
@@ -136,19 +112,19 @@ module _ {R W : Type 0} {read : Ghosts R} (what : Listing) (contents : W → Opt
   }
 
   -- the text that was cut is that of the blob that was used
-  pub cut_blob : (from to : Reader R read) (old new : Output W) (text : List ℕ) (why : OutFault) → GivesText what from to text → Cut contents old text why new → CutBlob what contents from old to why new
+  pub cut_blob : (from to : Reader R read) (old new : Output W) (text : List ℕ) (why : OutFault) → GivesText layout from to text → Cut contents old text why new → CutBlob layout contents from old to why new
   cut_blob from to old new text why given cut = record { found = given.found; gives = given.gives; cut = subst (λ (t : List ℕ). Cut contents old t why new) given.own cut }
 
   -- a prefix of the text of one more blob was sent
-  cut_one : (from mid to : Reader R read) (old out new : Output W) (done : ℕ) (why : OutFault) (sent : SentBlobs what contents from old mid out done) → limits_of mid ≡ limits_of from
-      → is_spent out ≡ false → CutBlob what contents mid out to why new → CutText (blobs_text what) contents from old to new (record { done = done; why = obstacle.Output why })
+  cut_one : (from mid to : Reader R read) (old out new : Output W) (done : ℕ) (why : OutFault) (sent : SentBlobs layout contents from old mid out done) → limits_of mid ≡ limits_of from
+      → is_spent out ≡ false → CutBlob layout contents mid out to why new → CutText (blobs_text layout) contents from old to new (record { done = done; why = obstacle.Output why })
   cut_one from mid to old out new done why sent same fresh one =
       let all = used_join (rest_of from) (rest_of mid) (rest_of to) (given from) (given mid) (given to) sent.bytes one.gives.front sent.used one.gives.used in
-      let refused = refused_join contents old out new (blobs_text what sent.found) one.cut.front why sent.took one.cut.refused in
-      let single : blobs_text what (one.found ∷ []) ≡ blob_text what one.found = blobs_text-one what one.found in
-      let joined : blobs_text what (sent.found ++ one.found ∷ []) ≡ blobs_text what sent.found ++ blobs_text what (one.found ∷ []) = blobs_text-append what sent.found (one.found ∷ []) in
+      let refused = refused_join contents old out new (blobs_text layout sent.found) one.cut.front why sent.took one.cut.refused in
+      let single : blobs_text layout (one.found ∷ []) ≡ layout.text_of one.found = blobs_text-one layout one.found in
+      let joined : blobs_text layout (sent.found ++ one.found ∷ []) ≡ blobs_text layout sent.found ++ blobs_text layout (one.found ∷ []) = blobs_text-append layout sent.found (one.found ∷ []) in
       record {
-        text = blobs_text what sent.found ++ one.cut.front;
+        text = blobs_text layout sent.found ++ one.cut.front;
         part = record {
           whole = sent.found;
           later = one.found ∷ [];
@@ -156,7 +132,7 @@ module _ {R W : Type 0} {read : Ghosts R} (what : Listing) (contents : W → Opt
           left = one.cut.rest;
           blobs = one_more (limits_of from) (limits_of mid) (given from) (given mid) sent.bytes one.gives.front sent.found one.found sent.blobs same sent.used.counted one.gives.tells;
           begins = consumes_begins (rest_of from) (rest_of to) (sent.bytes ++ one.gives.front) all.consumed;
-          cut = joined ∙ ap (λ t. blobs_text what sent.found ++ t) (single ∙ one.cut.whole) ∙ sym (append_assoc (blobs_text what sent.found) one.cut.front one.cut.rest);
+          cut = joined ∙ ap (λ t. blobs_text layout sent.found ++ t) (single ∙ one.cut.whole) ∙ sym (append_assoc (blobs_text layout sent.found) one.cut.front one.cut.rest);
           one = inr (one.found, refl, one.cut.left fresh);
           holds = inr (one.cut.front, refl);
         };
@@ -164,15 +140,15 @@ module _ {R W : Type 0} {read : Ghosts R} (what : Listing) (contents : W → Opt
         count = sent.count;
         explains = (
           λ long. let far = one.cut.too_long long in
-              omega (arith, far, sent.took.sends.sent, ap length joined, ap length single, length-append (blobs_text what sent.found) (blobs_text what (one.found ∷ []))),
+              omega (arith, far, sent.took.sends.sent, ap length joined, ap length single, length-append (blobs_text layout sent.found) (blobs_text layout (one.found ∷ []))),
           one.cut.unspent fresh,
         );
         failures = refused.failures;
         unspent = tt;
       }
 
-  pub cut_blobs : (from mid to : Reader R read) (old out new : Output W) (done : ℕ) (why : StreamObstacle) → SentBlobs what contents from old mid out done → limits_of mid ≡ limits_of from
-      → is_spent out ≡ false → StopsBlob what contents mid out why to new → CutText (blobs_text what) contents from old to new (record { done = done; why = why })
+  pub cut_blobs : (from mid to : Reader R read) (old out new : Output W) (done : ℕ) (why : StreamObstacle) → SentBlobs layout contents from old mid out done → limits_of mid ≡ limits_of from
+      → is_spent out ≡ false → StopsBlob layout contents mid out why to new → CutText (blobs_text layout) contents from old to new (record { done = done; why = why })
   cut_blobs from mid to old out new done (obstacle.Stream why) sent same fresh stops =
       let misses : Misses (limits_of from) (rest_of mid) (given mid) (told_of to) why = subst (λ l. Misses l (rest_of mid) (given mid) (told_of to) why) same stops.1 in
       cut_none from mid to old out new done (obstacle.Stream why) sent stops.0 fresh refl (λ fact held. held)

@@ -1,11 +1,11 @@
 -- What the caller of a stream's conversion learns from a stop.
-use Rattle.twkb_convert.proofs.Prelude.{◌≡◌, ◌∙◌, ◌+◌, ◌<◌, ◌^◌, ℕ, List, [], ◌++◌, Option, Some, None, Bool, true, false, length, ap, arith, refl, sym, subst, inl, inr, IfSome, ◌⊎◌, append-nil, Appends, IsAtEnd, Ghosts, BeginsWith, count_failure, device_of, failures_of, output_tap, sent_of, Tap, Output, Tree, Allowance, Stream, StreamFault, reason_of, BlobReason, Reader, Located, LocatedStream, geometries_of, listing_text, IsDeviceCause, Listing, StreamObstacle, Unfinished, Cause}
+use Rattle.twkb_convert.proofs.Prelude.{◌≡◌, ◌∙◌, ◌+◌, ◌<◌, ◌^◌, ℕ, List, [], ◌++◌, Option, Some, None, Bool, true, false, length, ap, arith, refl, sym, subst, inl, inr, IfSome, ◌⊎◌, append-nil, Appends, Ghosts, BeginsWith, count_failure, device_of, failures_of, output_tap, sent_of, Tap, Output, Tree, Allowance, Stream, StreamFault, reason_of, BlobReason, Reader, Located, LocatedStream, geometries_of, listing_text, IsDeviceCause, Layout, StreamObstacle, Unfinished, Cause}
 use Rattle.twkb_io.specs.declared.input.InFault.TheVariants as input
 use Rattle.twkb_io.specs.declared.output.OutFault.TheVariants as out
 use Rattle.twkb_convert.specs.BlobReading.{RefusesBlob, given, limits_of, reader_failures, reader_tap, rest_of, told_of}
 use Rattle.twkb_blob.specs.declared.fault.BlobFault.TheVariants as blob
-use Rattle.twkb_convert.specs.BlobSending.{CutText, ExplainsObstacle, Follows, IsEnded, SentText, StopsRead, is_read, is_write}
-use Rattle.twkb_convert.specs.Listed.{ExplainsListingCause, Listed, StoppedListing, cause_of_obstacle}
+use Rattle.twkb_convert.specs.BlobSending.{CutText, ExplainsObstacle, StopsRead, is_read, is_write}
+use Rattle.twkb_convert.specs.Listed.{ExplainsListingCause, StoppedListing, cause_of_obstacle}
 use Rattle.twkb_convert.specs.declared.obstacle.StreamObstacle.TheVariants as obstacle
 use Rattle.twkb_convert.specs.declared.report.Cause.TheVariants as causes
 use Rattle.twkb_convert.proofs.LocatedLemmas.{located-stream}
@@ -62,64 +62,35 @@ none_later : (l : Allowance) (offset : ℕ) (bytes : List ℕ) (whole later : Li
 none_later l offset bytes whole later blobs none =
     located-stream l offset bytes whole (subst (λ bs. LocatedStream l offset bytes bs) (ap (λ bs. whole ++ bs) none ∙ append-nil whole) blobs)
 
-caused : (what : Listing) (l : Allowance) (old told : Option (List ℕ)) (before : ℕ) (bytes : List ℕ) (why : StreamObstacle) (sent : ℕ) (whole later : List Located) (left : List ℕ)
+caused : (layout : Layout) (l : Allowance) (old told : Option (List ℕ)) (before : ℕ) (bytes : List ℕ) (why : StreamObstacle) (sent : ℕ) (whole later : List Located) (left : List ℕ)
     → before ≡ 0 → sent ≡ 0 → LocatedStream l before bytes (whole ++ later)
-    → ExplainsObstacle l old told before bytes why sent (listing_text what (whole ++ later)) later left
-    → ExplainsListingCause geometries_of (listing_text what) l old told bytes (cause_of_obstacle why) whole later left
-caused what l old told before bytes (obstacle.Stream blob.Memory) sent whole later left start none blobs e = (e.0, e.1)
-caused what l old told before bytes (obstacle.Stream blob.Spent) sent whole later left start none blobs e = absurd e.2
-caused what l old told before bytes (obstacle.Stream (blob.Device input.Read)) sent whole later left start none blobs e = e
-caused what l old told before bytes (obstacle.Stream (blob.Device input.TooLong)) sent whole later left start none blobs e = inl (long_input old before start e.2)
-caused what l old told before bytes (obstacle.Stream (blob.Device input.Spent)) sent whole later left start none blobs e = absurd e.2
-caused what l old told before bytes (obstacle.Stream (blob.At offset reason)) sent whole later left start none blobs e =
+    → ExplainsObstacle l old told before bytes why sent (listing_text layout (whole ++ later)) later left
+    → ExplainsListingCause geometries_of (listing_text layout) l old told bytes (cause_of_obstacle why) whole later left
+caused layout l old told before bytes (obstacle.Stream blob.Memory) sent whole later left start none blobs e = (e.0, e.1)
+caused layout l old told before bytes (obstacle.Stream blob.Spent) sent whole later left start none blobs e = absurd e.2
+caused layout l old told before bytes (obstacle.Stream (blob.Device input.Read)) sent whole later left start none blobs e = e
+caused layout l old told before bytes (obstacle.Stream (blob.Device input.TooLong)) sent whole later left start none blobs e = inl (long_input old before start e.2)
+caused layout l old told before bytes (obstacle.Stream (blob.Device input.Spent)) sent whole later left start none blobs e = absurd e.2
+caused layout l old told before bytes (obstacle.Stream (blob.At offset reason)) sent whole later left start none blobs e =
     (e.0, e.1, stream_fault l old before bytes (geometries_of whole) offset reason start (none_later l before bytes whole later blobs e.0) e.2)
-caused what l old told before bytes (obstacle.Output out.Write) sent whole later left start none blobs e = tt
-caused what l old told before bytes (obstacle.Output out.Stuck) sent whole later left start none blobs e = tt
-caused what l old told before bytes (obstacle.Output out.TooLong) sent whole later left start none blobs e = inr (let far = e.0 refl in omega (arith, far, none))
-caused what l old told before bytes (obstacle.Output out.Spent) sent whole later left start none blobs e = absurd (e.1 refl)
-
--- ---- the end of the stream
-
--- the known bytes are those of the blobs
-known_stream : (l : Allowance) (known : Option (List ℕ)) (bytes : List ℕ) (found : List Located) → LocatedStream l 0 bytes found → IfSome known (λ whole. whole ≡ bytes) → IfSome known (λ whole. LocatedStream l 0 whole found)
-known_stream l None bytes found blobs all = tt
-known_stream l (Some whole) bytes found blobs all = subst (λ bs. LocatedStream l 0 bs found) (sym all) blobs
-
-module _ {R W : Type 0} {read : Ghosts R} (what : Listing) (remaining : R → Option (List ℕ)) (contents : W → Option (List ℕ)) where
-  pub listed : (l : Allowance) (reader after : Tap R) (writer written : Tap W) (from to : Reader R read) (old new : Output W) (done sent : ℕ)
-      → limits_of from ≡ l → rest_of from ≡ remaining (device_of reader) → given from ≡ 0 → reader_failures from ≡ failures_of reader
-      → (output_tap old).now ≡ writer → sent_of old ≡ 0 → sent ≡ sent_of new
-      → (reader_tap to).now ≡ after → (output_tap new).now ≡ written
-      → SentText (listing_text what) contents from old new done → Follows from to false × IsEnded remaining from to
-      → Listed (LocatedStream l 0) (listing_text what) remaining contents reader writer (record { geometries = done; bytes = sent }) after written
-  listed l reader after writer written from to old new done sent limits told start failures lent none count ends closes sends (follows, ended) =
-      let blobs : LocatedStream l 0 sends.bytes sends.found = subst (λ n. LocatedStream l n sends.bytes sends.found) start (subst (λ a. LocatedStream a (given from) sends.bytes sends.found) limits sends.blobs) in
-      record {
-        found = sends.found;
-        stream = subst (λ k. IfSome k (λ bytes. LocatedStream l 0 bytes sends.found)) told (known_stream l (rest_of from) sends.bytes sends.found blobs sends.all);
-        appends = subst (λ t. Appends (contents (device_of t)) (contents (device_of written)) (listing_text what sends.found)) lent
-            (subst (λ t. Appends (contents (device_of (output_tap old).now)) (contents (device_of t)) (listing_text what sends.found)) closes sends.took.sends.appends);
-        geometries = sends.count;
-        bytes = (let more = sends.took.sends.sent in omega (arith, more, count, none));
-        end = subst (λ k. IfSome k (λ bytes. IsAtEnd (remaining (device_of after)))) told
-            (subst (λ t. IfSome (rest_of from) (λ bytes. IsAtEnd (remaining (device_of t)))) ends ended);
-        reads = ap failures_of (sym ends) ∙ (follows.failures ∙ failures);
-        writes = ap failures_of (sym closes) ∙ (sends.took.failures ∙ ap failures_of lent);
-      }
+caused layout l old told before bytes (obstacle.Output out.Write) sent whole later left start none blobs e = tt
+caused layout l old told before bytes (obstacle.Output out.Stuck) sent whole later left start none blobs e = tt
+caused layout l old told before bytes (obstacle.Output out.TooLong) sent whole later left start none blobs e = inr (let far = e.0 refl in omega (arith, far, none))
+caused layout l old told before bytes (obstacle.Output out.Spent) sent whole later left start none blobs e = absurd (e.1 refl)
 
 -- ---- the stop
 
-module _ {R W : Type 0} {read : Ghosts R} (what : Listing) (remaining : R → Option (List ℕ)) (contents : W → Option (List ℕ)) where
+module _ {R W : Type 0} {read : Ghosts R} (layout : Layout) (remaining : R → Option (List ℕ)) (contents : W → Option (List ℕ)) where
   pub stopped : (l : Allowance) (reader after : Tap R) (writer written : Tap W) (from to : Reader R read) (old new : Output W) (stop : Unfinished StreamObstacle) (sent : ℕ) (why : Cause)
       → limits_of from ≡ l → rest_of from ≡ remaining (device_of reader) → given from ≡ 0 → reader_failures from ≡ failures_of reader
       → (output_tap old).now ≡ writer → sent_of old ≡ 0 → sent ≡ sent_of new → why ≡ cause_of_obstacle stop.why
       → (reader_tap to).now ≡ after → (output_tap new).now ≡ written → told_of to ≡ remaining (device_of after)
-      → CutText (listing_text what) contents from old to new stop → StopsRead from stop.why to
-      → StoppedListing (LocatedStream l 0) geometries_of (listing_text what) l remaining contents reader writer (record { done = stop.done; sent = sent; cause = why }) after written
-  stopped l reader after writer written from to old new stop sent why limits told start failures lent none count is_cause ends closes later_told cut stops =
+      → CutText (listing_text layout) contents from old to new stop → StopsRead from stop.why to
+      → StoppedListing (LocatedStream l 0) geometries_of (listing_text layout) l remaining contents reader writer (record { done = stop.done; sent = sent; cause = why }) after written
+  stopped l reader after writer written from to old new stop sent why limits told start failures borrowed none count is_cause ends closes later_told cut stops =
       let p = cut.part in
       let total : sent ≡ length cut.text = omega (arith, count, cut.sends.sent, none) in
-      let all = listing_text what (p.whole ++ p.later) in
+      let all = listing_text layout (p.whole ++ p.later) in
       let within : LocatedStream l (given from) p.bytes (p.whole ++ p.later) = subst (λ a. LocatedStream a (given from) p.bytes (p.whole ++ p.later)) limits p.blobs in
       let known : ExplainsObstacle l (remaining (device_of reader)) (remaining (device_of after)) (given from) p.bytes stop.why (sent_of old) all p.later p.left =
       subst (λ a. ExplainsObstacle a (remaining (device_of reader)) (remaining (device_of after)) (given from) p.bytes stop.why (sent_of old) all p.later p.left) limits
@@ -138,17 +109,17 @@ module _ {R W : Type 0} {read : Ghosts R} (what : Listing) (remaining : R → Op
           one = p.one;
           holds = p.holds;
         };
-        appends = subst (λ t. Appends (contents (device_of t)) (contents (device_of written)) cut.text) lent
+        appends = subst (λ t. Appends (contents (device_of t)) (contents (device_of written)) cut.text) borrowed
             (subst (λ t. Appends (contents (device_of (output_tap old).now)) (contents (device_of t)) cut.text) closes cut.sends.appends);
         done = cut.count;
         sent = total;
-        explains = subst (λ c. ExplainsListingCause geometries_of (listing_text what) l (remaining (device_of reader)) (remaining (device_of after)) p.bytes c p.whole p.later p.left) (sym is_cause)
-            (caused what l (remaining (device_of reader)) (remaining (device_of after)) (given from) p.bytes stop.why (sent_of old) p.whole p.later p.left start none within known);
+        explains = subst (λ c. ExplainsListingCause geometries_of (listing_text layout) l (remaining (device_of reader)) (remaining (device_of after)) p.bytes c p.whole p.later p.left) (sym is_cause)
+            (caused layout l (remaining (device_of reader)) (remaining (device_of after)) (given from) p.bytes stop.why (sent_of old) p.whole p.later p.left start none within known);
         devices = record {
           read_failed = stops.has_failed;
           write_failed = is_write stop.why;
           reads = ap failures_of (sym ends) ∙ (stops.follows.failures ∙ ap (count_failure stops.has_failed) failures);
-          writes = ap failures_of (sym closes) ∙ (cut.failures ∙ ap (λ t. count_failure (is_write stop.why) (failures_of t)) lent);
+          writes = ap failures_of (sym closes) ∙ (cut.failures ∙ ap (λ t. count_failure (is_write stop.why) (failures_of t)) borrowed);
           tell = subst (λ c. IsDeviceCause stops.has_failed (is_write stop.why) c) (sym is_cause) (tell stop.why stops.has_failed stops.told);
         };
       }

@@ -1,10 +1,8 @@
 -- Blobs with their spans, one after another.
-use Rattle.std.proofs.Common.{◌≡◌, ◌∙◌, ◌+◌, ◌<◌, ◌≤◌, ℕ, List, [], ◌∷◌, ◌++◌, length, ap, arith, refl, sym, subst, length-append, append_assoc}
+use Rattle.std.proofs.Common.{◌≡◌, ◌∙◌, ◌+◌, ◌≤◌, ℕ, List, [], ◌∷◌, ◌++◌, length, ap, arith, refl, sym, subst, length-append, append_assoc}
 use Rattle.std.proofs.lemmas.List.{append-nil}
-use Rattle.twkb_tree.specs.Tree.{Tree, simple, collection}
 use Rattle.twkb_tree.specs.Limits.{Allowance}
-use Rattle.twkb_grammar.specs.Blob.{Blob, Stream}
-use Rattle.twkb_grammar.specs.Spans.{spans_of_blob}
+use Rattle.twkb_grammar.specs.Blob.{Stream}
 use Rattle.twkb_grammar.proofs.Streams.{blob_long}
 use Rattle.twkb_blob.specs.declared.spans.Located.{Located}
 use Rattle.twkb_convert.specs.LocatedBlobs.{LocatedStream, TellsSpans, geometries_of}
@@ -37,8 +35,3 @@ located-append l offset xs ys (b ∷ bs) cs s t =
       s.3,
       located-append l (offset + length s.0) s.1 ys bs cs s.4 (subst (λ n. LocatedStream l n ys cs) place t),
     )
-
--- a blob has at least one span
-pub spans_some : (l : Allowance) (offset : ℕ) (bytes : List ℕ) (g : Tree) (b : Blob l bytes g) → 0 < length (spans_of_blob offset b)
-spans_some l offset bytes (simple p s) b = omega arith
-spans_some l offset bytes (collection p ids gs) b = omega arith

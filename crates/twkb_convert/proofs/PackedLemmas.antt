@@ -24,10 +24,10 @@ read_explained style l told passed (obstacle.Output out.TooLong) sent whole late
 read_explained style l told passed (obstacle.Output out.Spent) sent whole later front quiet none e = absurd (e.1 refl)
 
 -- the writer appended the bytes that the output appended, since it is borrowed by it
-appends_lent : {W : Type 0} (contents : W → Option (List ℕ)) (writer written : Tap W) (old new : Output W) (bytes : List ℕ) → (output_tap old).now ≡ writer → (output_tap new).now ≡ written
+appends_borrowed : {W : Type 0} (contents : W → Option (List ℕ)) (writer written : Tap W) (old new : Output W) (bytes : List ℕ) → (output_tap old).now ≡ writer → (output_tap new).now ≡ written
     → Appends (contents (device_of (output_tap old).now)) (contents (device_of (output_tap new).now)) bytes → Appends (contents (device_of writer)) (contents (device_of written)) bytes
-appends_lent contents writer written old new bytes lent closes appends =
-    subst (λ t. Appends (contents (device_of t)) (contents (device_of written)) bytes) lent
+appends_borrowed contents writer written old new bytes borrowed closes appends =
+    subst (λ t. Appends (contents (device_of t)) (contents (device_of written)) bytes) borrowed
     (subst (λ t. Appends (contents (device_of (output_tap old).now)) (contents (device_of t)) bytes) closes appends)
 
 -- two counts say whether the tap's call failed
@@ -35,7 +35,7 @@ changed : (failed : Bool) (before after old new : ℕ) → before ≡ old → af
 changed failed before after old new first last changes = subst (λ n. Changes failed old n) last (subst (λ n. Changes failed n after) first changes)
 
 module _ {R W : Type 0} (style : Style) (l : Allowance) (remaining : R → Option (List ℕ)) (contents : W → Option (List ℕ)) (reader read : Tap R) (writer written : Tap W) (old new : Output W)
-    (failed : Bool) (before after sent : ℕ) (lent : (output_tap old).now ≡ writer) (closes : (output_tap new).now ≡ written) (none : sent_of old ≡ 0) (total : sent ≡ sent_of new)
+    (failed : Bool) (before after sent : ℕ) (borrowed : (output_tap old).now ≡ writer) (closes : (output_tap new).now ≡ written) (none : sent_of old ≡ 0) (total : sent ≡ sent_of new)
     (first : before ≡ failures_of reader) (last : after ≡ failures_of read) (changes : Changes failed before after) where
   -- the whole table was sent, and no read failed
   pub packed_with : (tally : Tally) → tally.work.point_reads < 2 ^ 64 → tally.work.node_reads < 2 ^ 64 → failed ≡ false → IsAtEnd (remaining (device_of read))
@@ -44,12 +44,12 @@ module _ {R W : Type 0} (style : Style) (l : Allowance) (remaining : R → Optio
   packed_with tally few_points few_nodes is end all = record {
     packed = record {
       table = all.table;
-      appends = appends_lent contents writer written old new (canonical_stream style all.table.geometries) lent closes all.took.sends.appends;
+      appends = appends_borrowed contents writer written old new (canonical_stream style all.table.geometries) borrowed closes all.took.sends.appends;
       count = all.count;
       bytes = (let more = all.took.sends.sent in omega (arith, total, more, none));
       end = end;
       reads = subst (λ f. Changes f (failures_of reader) (failures_of read)) is (changed failed before after (failures_of reader) (failures_of read) first last changes);
-      writes = ap failures_of (sym closes) ∙ (all.took.failures ∙ ap failures_of lent);
+      writes = ap failures_of (sym closes) ∙ (all.took.failures ∙ ap failures_of borrowed);
     };
     work_of = all.work_of;
     point_reads = read_twice tally.work.point_reads tally.work.points _ few_points all.work_of.all_points all.work_of.point_reads;
@@ -66,7 +66,7 @@ module _ {R W : Type 0} (style : Style) (l : Allowance) (remaining : R → Optio
         bytes = s.bytes;
         part = s.part;
         one = s.one;
-        appends = appends_lent contents writer written old new s.bytes lent closes s.sends.appends;
+        appends = appends_borrowed contents writer written old new s.bytes borrowed closes s.sends.appends;
         sent = (let more = s.sends.sent in omega (arith, total, more, none));
         done = s.count;
         explains = subst (λ n. ExplainsPackingCause style l (remaining (device_of reader)) n answer s.part.whole s.part.later s.part.front) gave
@@ -75,7 +75,7 @@ module _ {R W : Type 0} (style : Style) (l : Allowance) (remaining : R → Optio
           read_failed = failed;
           write_failed = is_write stop.why;
           reads = changed failed before after (failures_of reader) (failures_of read) first last changes;
-          writes = ap failures_of (sym closes) ∙ (s.failures ∙ ap (λ (t : Tap W). count_failure (is_write stop.why) (failures_of t)) lent);
+          writes = ap failures_of (sym closes) ∙ (s.failures ∙ ap (λ (t : Tap W). count_failure (is_write stop.why) (failures_of t)) borrowed);
           tell = device;
         };
       }
@@ -88,7 +88,7 @@ module _ {R W : Type 0} (style : Style) (l : Allowance) (remaining : R → Optio
         bytes = canonical_stream style all.table.geometries;
         part = whole_front style l (remaining (device_of reader)) all.table.geometries (all_ready style l contents (remaining (device_of reader)) old new tally all);
         one = inl refl;
-        appends = appends_lent contents writer written old new (canonical_stream style all.table.geometries) lent closes all.took.sends.appends;
+        appends = appends_borrowed contents writer written old new (canonical_stream style all.table.geometries) borrowed closes all.took.sends.appends;
         sent = (let more = all.took.sends.sent in omega (arith, total, more, none));
         done = all.count;
         explains = inl (refl, refl);
@@ -96,7 +96,7 @@ module _ {R W : Type 0} (style : Style) (l : Allowance) (remaining : R → Optio
           read_failed = true;
           write_failed = false;
           reads = subst (λ f. Changes f (failures_of reader) (failures_of read)) is (changed failed before after (failures_of reader) (failures_of read) first last changes);
-          writes = ap failures_of (sym closes) ∙ (all.took.failures ∙ ap failures_of lent);
+          writes = ap failures_of (sym closes) ∙ (all.took.failures ∙ ap failures_of borrowed);
           tell = refl;
         };
       }

@@ -25,12 +25,12 @@ packed_cut style l rows more cap root (ks, named) =
 -- ---- streams as tables
 
 -- the rows after the header's line
-rows_behind : (rows : List ℕ) (gs : List Tree) → csvtext (header ∷ []) ++ rows ≡ table_text gs → rows ≡ rows_text gs
-rows_behind rows gs e = append_cancel_left (csvtext (header ∷ [])) rows (rows_text gs) (e ∙ sym (table_text-rows gs))
+rows_after : (rows : List ℕ) (gs : List Tree) → csvtext (header ∷ []) ++ rows ≡ table_text gs → rows ≡ rows_text gs
+rows_after rows gs e = append_cancel_left (csvtext (header ∷ [])) rows (rows_text gs) (e ∙ sym (table_text-rows gs))
 
 texts_joined : (first rows : List ℕ) (gs hs : List Tree) → first ≡ table_text gs → csvtext (header ∷ []) ++ rows ≡ table_text hs → first ++ rows ≡ table_text (gs ++ hs)
 texts_joined first rows gs hs one other =
-    ap (λ k. k ++ rows) one ∙ ap (λ k. table_text gs ++ k) (rows_behind rows hs other) ∙ sym (table_text-append gs hs)
+    ap (λ k. k ++ rows) one ∙ ap (λ k. table_text gs ++ k) (rows_after rows hs other) ∙ sym (table_text-append gs hs)
 
 pub unpacked_joined : (l : Allowance) (a b : List ℕ) (gs : List Tree) (first rows : List ℕ) → Stream l a gs → UnpackTo l a first → UnpackTo l b (csvtext (header ∷ []) ++ rows) → UnpackTo l (a ++ b) (first ++ rows)
 unpacked_joined l a b gs first rows s out (inl (hs, t, e)) =
@@ -70,10 +70,10 @@ lines_joined n bs cs = sym (flat_map-append (λ (b : Located). span_lines b.span
 abbrev ShowsMoved : Allowance → (a b first second : List ℕ) → Type 0
 ShowsMoved l a b first second = (later : List ℕ) × AreMovedLines (length a) second later × ShowTo l (a ++ b) (first ++ later)
 
-behind_located : (l : Allowance) (a b first second : List ℕ) (bs : List Located) → LocatedStream l 0 a bs → first ≡ lines_text bs → ShowTo l b second → ShowsMoved l a b first second
-behind_located l a b first second bs s e (inl (cs, t, lines)) =
+located_after : (l : Allowance) (a b first second : List ℕ) (bs : List Located) → LocatedStream l 0 a bs → first ≡ lines_text bs → ShowTo l b second → ShowsMoved l a b first second
+located_after l a b first second bs s e (inl (cs, t, lines)) =
     (lines_text (all_moved (length a) cs), (cs, lines, refl), inl (bs ++ all_moved (length a) cs, located_joined l a b bs cs s t, ap (λ k. k ++ lines_text (all_moved (length a) cs)) e ∙ lines_joined (length a) bs cs))
-behind_located l a b first second bs s e (inr (offset, reason, cs, f, (front, rest, whole, t), lines)) =
+located_after l a b first second bs s e (inr (offset, reason, cs, f, (front, rest, whole, t), lines)) =
     let both = fault-append l a b (geometries_of bs) (geometries_of cs) offset reason (located-stream l 0 a bs s) f in
     let begin : BeginLocated l (a ++ b) (bs ++ all_moved (length a) cs) = (a ++ front, rest, ap (λ k. a ++ k) whole ∙ sym (append_assoc a front rest), located_joined l a front bs cs s t) in (
       lines_text (all_moved (length a) cs),
@@ -91,4 +91,4 @@ behind_located l a b first second bs s e (inr (offset, reason, cs, f, (front, re
 pub shown_joined : (l : Allowance) (a b : List ℕ) (gs : List Tree) (first second : List ℕ) → Stream l a gs → ShowTo l a first → ShowTo l b second → ShowsMoved l a b first second
 shown_joined l a b gs first second s one other =
     let (bs, located, are) = some_located_stream l 0 a gs s in
-    behind_located l a b first second bs located (one_shown l a first (lines_text bs) one (inl (bs, located, refl))) other
+    located_after l a b first second bs located (one_shown l a first (lines_text bs) one (inl (bs, located, refl))) other

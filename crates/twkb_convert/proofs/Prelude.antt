@@ -34,9 +34,8 @@ pub use Rattle.twkb_convert.specs.Fronts.{FrontOfBlobs, HoldsWhole}
 pub use Rattle.twkb_convert.specs.Outputs.{PackTextTo, PackTo, UnpackTo, rows_text, table_text, AtMostOneCut, IsTable}
 pub use Rattle.twkb_convert.specs.RefusedRows.{MayBeWritten, IsRefusedText}
 pub use Rattle.twkb_convert.specs.LocatedBlobs.{LocatedStream, geometries_of, TellsSpans, BeginLocated, ShowTo, lines_text}
-pub use Rattle.twkb_convert.specs.Listings.{listing_text, blob_text, blobs_text, first_line}
+pub use Rattle.twkb_convert.specs.Listings.{Layout, listing_text, blobs_text}
 pub use Rattle.twkb_convert.specs.Devices.{IsDeviceCause, Changes}
-pub use Rattle.twkb_convert.specs.declared.listing.Listing.{Listing}
 pub use Rattle.twkb_convert.specs.declared.obstacle.StreamObstacle.{StreamObstacle}
 pub use Rattle.twkb_convert.specs.declared.obstacle.TableObstacle.{TableObstacle}
 pub use Rattle.twkb_convert.specs.declared.obstacle.Unfinished.{Unfinished}

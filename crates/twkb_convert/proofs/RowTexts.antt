@@ -1,11 +1,11 @@
 -- Texts of rows, joined.
-use Rattle.std.proofs.Common.{◌≡◌, ◌∙◌, ◌<◌, List, [], ◌∷◌, ◌++◌, ap, arith, sym, length, length-append, append_assoc, None}
+use Rattle.std.proofs.Common.{◌≡◌, ◌∙◌, List, [], ◌∷◌, ◌++◌, ap, sym, append_assoc}
 use Rattle.std.specs.Prelude.{map}
 use Rattle.std.proofs.lemmas.List.{append-nil}
 use Rattle.std.proofs.lemmas.Grind.{flat_map-append}
-use Rattle.twkb_tree.specs.Tree.{Tree, simple, collection}
-use Rattle.twkb_tree.specs.Rows.{member_rows, own_row, rows, rows_below, rows_of}
-use Rattle.twkb_table.specs.Record.{Record, header, record_of}
+use Rattle.twkb_tree.specs.Tree.{Tree}
+use Rattle.twkb_tree.specs.Rows.{rows, rows_of}
+use Rattle.twkb_table.specs.Record.{header, record_of}
 use Rattle.twkb_table.specs.Text.{csvtext, joined}
 use Rattle.twkb_table.proofs.PartsLemmas.{records-append}
 use Rattle.twkb_convert.specs.Outputs.{rows_text, table_text}
@@ -27,12 +27,3 @@ pub table_text-append : (gs hs : List Tree) → table_text (gs ++ hs) ≡ table_
 table_text-append gs hs =
     let line = csvtext (header ∷ []) in
     sym (table_text-rows (gs ++ hs)) ∙ ap (λ k. line ++ k) (rows_text-append gs hs) ∙ sym (append_assoc line (rows_text gs) (rows_text hs)) ∙ ap (λ k. k ++ rows_text hs) (table_text-rows gs)
-
--- a line has at least its end
-line_some : (r : Record) (rs : List Record) → 0 < length (csvtext (r ∷ rs))
-line_some r rs = omega (arith, length-append (joined r ++ 10 ∷ []) (csvtext rs), length-append (joined r) (10 ∷ []))
-
--- a geometry has at least one row
-pub rows_text_some : (g : Tree) → 0 < length (rows_text (g ∷ []))
-rows_text_some (simple p s) = line_some (record_of (own_row None 0 (simple p s))) (map record_of (rows_below 1 s ++ []))
-rows_text_some (collection p ids gs) = line_some (record_of (own_row None 0 (collection p ids gs))) (map record_of (member_rows 1 ids gs ++ []))

@@ -1,8 +1,8 @@
--- A stream that was written as a table, without its spans.
+-- From a listing of located blobs as a table to the result of unpacking.
 use Rattle.twkb_convert.proofs.Prelude.{IfSome, IfOk, IfErr, Result, Ok, Err, ◌≡◌, ◌∙◌, ◌<◌, ◌^◌, ℕ, List, ◌++◌, Option, Some, None, length, ap, sym, subst, inl, inr, Appends, map-append, length-map, Tap, device_of, Tree, Allowance, Stream, Located, AtMostOneCut, table_text, LocatedStream, geometries_of, listing_text, HoldsWhole, Report, ConvertFault, Cause}
+use Rattle.twkb_convert.specs.Listings.{table_layout}
 use Rattle.twkb_convert.specs.Listed.{ExplainsListingCause, Listed, StoppedListing}
 use Rattle.twkb_convert.specs.Unpacked.{StoppedUnpacking, Unpacked}
-use Rattle.twkb_convert.specs.declared.listing.Listing.TheVariants as listing
 use Rattle.twkb_convert.specs.declared.report.Cause.TheVariants as causes
 use Rattle.twkb_convert.proofs.LocatedLemmas.{located-stream}
 use Rattle.twkb_convert.proofs.ListingTexts.{table_of_blobs}
@@ -18,16 +18,16 @@ cut_without : (later : List Located) (left : List ℕ) → AtMostOneCut later le
 cut_without later left (inl none) = inl (ap geometries_of none)
 cut_without later left (inr one) = inr (one.0.geometry, ap geometries_of one.1, one.2)
 
-holds_without : (text : List ℕ) (whole : List Located) → HoldsWhole (listing_text listing.Table) text whole → HoldsWhole table_text text (geometries_of whole)
+holds_without : (text : List ℕ) (whole : List Located) → HoldsWhole (listing_text table_layout) text whole → HoldsWhole table_text text (geometries_of whole)
 holds_without text whole (inl none) = inl (ap geometries_of none)
 holds_without text whole (inr more) = inr (more.0, more.1 ∙ ap (λ t. t ++ more.0) (table_of_blobs whole))
 
 -- the text of the table of all these blobs
-all_text : (whole later : List Located) → listing_text listing.Table (whole ++ later) ≡ table_text (geometries_of whole ++ geometries_of later)
+all_text : (whole later : List Located) → listing_text table_layout (whole ++ later) ≡ table_text (geometries_of whole ++ geometries_of later)
 all_text whole later = table_of_blobs (whole ++ later) ∙ ap table_text (joined whole later)
 
 explains_without : (l : Allowance) (old told : Option (List ℕ)) (bytes : List ℕ) (why : Cause) (whole later : List Located) (left : List ℕ)
-    → ExplainsListingCause geometries_of (listing_text listing.Table) l old told bytes why whole later left
+    → ExplainsListingCause geometries_of (listing_text table_layout) l old told bytes why whole later left
     → ExplainsListingCause (λ (trees : List Tree). trees) table_text l old told bytes why (geometries_of whole) (geometries_of later) left
 explains_without l old told bytes (causes.Row number reason) whole later left e = e
 explains_without l old told bytes (causes.Blob offset reason) whole later left e = (ap geometries_of e.0, e.1, e.2)
@@ -39,7 +39,7 @@ explains_without l old told bytes causes.TooLong whole later left (inr long) = i
 explains_without l old told bytes causes.TooManyRecords whole later left e = e
 
 module _ {R W : Type 0} (l : Allowance) (remaining : R → Option (List ℕ)) (contents : W → Option (List ℕ)) (reader : Tap R) (writer : Tap W) where
-  unpacked : (report : Report) (read : Tap R) (written : Tap W) → Listed (LocatedStream l 0) (listing_text listing.Table) remaining contents reader writer report read written
+  unpacked : (report : Report) (read : Tap R) (written : Tap W) → Listed (LocatedStream l 0) (listing_text table_layout) remaining contents reader writer report read written
       → Unpacked l remaining contents reader writer report read written
   unpacked report read written listed =
       let text = table_of_blobs listed.found in
@@ -55,7 +55,7 @@ module _ {R W : Type 0} (l : Allowance) (remaining : R → Option (List ℕ)) (c
       }
 
   stopped_unpacking : (fault : ConvertFault) (read : Tap R) (written : Tap W)
-      → StoppedListing (LocatedStream l 0) geometries_of (listing_text listing.Table) l remaining contents reader writer fault read written
+      → StoppedListing (LocatedStream l 0) geometries_of (listing_text table_layout) l remaining contents reader writer fault read written
       → StoppedUnpacking l remaining contents reader writer fault read written
   stopped_unpacking fault read written stopped =
       let p = stopped.part in
@@ -80,13 +80,13 @@ module _ {R W : Type 0} (l : Allowance) (remaining : R → Option (List ℕ)) (c
       }
 
   pub table_unpacked : (answer : Result Report ConvertFault) (read : Tap R) (written : Tap W)
-      → IfOk answer (λ report. Listed (LocatedStream l 0) (listing_text listing.Table) remaining contents reader writer report read written)
+      → IfOk answer (λ report. Listed (LocatedStream l 0) (listing_text table_layout) remaining contents reader writer report read written)
       → IfOk answer (λ report. Unpacked l remaining contents reader writer report read written)
   table_unpacked (Ok report) read written listed = unpacked report read written listed
   table_unpacked (Err fault) read written listed = tt
 
   pub table_stopped : (answer : Result Report ConvertFault) (read : Tap R) (written : Tap W)
-      → IfErr answer (λ fault. StoppedListing (LocatedStream l 0) geometries_of (listing_text listing.Table) l remaining contents reader writer fault read written)
+      → IfErr answer (λ fault. StoppedListing (LocatedStream l 0) geometries_of (listing_text table_layout) l remaining contents reader writer fault read written)
       → IfErr answer (λ fault. StoppedUnpacking l remaining contents reader writer fault read written)
   table_stopped (Ok report) read written stopped = tt
   table_stopped (Err fault) read written stopped = stopped_unpacking fault read written stopped

@@ -29,11 +29,11 @@ reader_failures reader = Inputs.input_failures (reader_input reader)
 abbrev pub given : {R : Type 0} {read : Ghosts R} → Reader R read → ℕ
 given reader = Inputs.given (reader_input reader)
 
--- the bytes that are left
+-- the bytes left to read, if they are known
 abbrev pub rest_of : {R : Type 0} {read : Ghosts R} → Reader R read → Option (List ℕ)
 rest_of reader = Inputs.rest_of (reader_input reader)
 
--- the bytes that the device still gives
+-- the bytes that the device still gives, if they are known
 abbrev pub told_of : {R : Type 0} {read : Ghosts R} → Reader R read → Option (List ℕ)
 told_of reader = told_by (reader_input reader)
 
@@ -50,27 +50,27 @@ pub record Used (old : Option (List ℕ)) (before : ℕ) (bytes : List ℕ) (new
   pub consumed : Consumes old new bytes
   pub counted : after ≡ before + length bytes
 
--- The bytes of one blob were used, and they determine these spans at the place of the blob.
+-- One blob was read, and its bytes determine these spans at its offset.
 pub record GivesBlob (limits : Allowance) (old : Option (List ℕ)) (before : ℕ) (b : Located) (new : Option (List ℕ)) (after : ℕ) : Type 0 where
   pub front : List ℕ
   pub tells : TellsSpans limits before front b
   pub used : Used old before front new after
 
--- The bytes left have a first fault; the offset counts the bytes given out before it.
+-- The bytes left have a first fault, at this offset from the start of the stream.
 pub record RefusesBlob (limits : Allowance) (bytes : List ℕ) (before : ℕ) (offset : ℕ) (why : BlobReason) : Type 0 where
   pub within : ℕ
   pub place : offset ≡ before + within
   pub first : FirstFault limits bytes within (reason_of why)
 
--- The device gave these bytes, which end before a blob or inside one, and now it gives the bytes
--- after them.
+-- The device gave these bytes and then at most a part of a blob. The bytes after that part are
+-- still to come.
 pub record GaveOnly (limits : Allowance) (old : Option (List ℕ)) (bytes : List ℕ) (told : Option (List ℕ)) : Type 0 where
   pub cut : List ℕ
   pub consumed : Consumes old told (bytes ++ cut)
   pub cut_off : AreCutOff limits cut
 
--- why no blob came, given the bytes left, the number given out before, and the bytes that the
--- device now gives
+-- what a fault says if no blob was read, given the bytes left, the number of bytes before them, and
+-- the bytes that the device still gives
 abbrev pub Misses : Allowance → Option (List ℕ) → ℕ → Option (List ℕ) → BlobFault → Type 0
 Misses limits old before told stop.Memory = ⊤
 Misses limits old before told (stop.Device input.Read) = GaveOnly limits old [] told

@@ -19,13 +19,12 @@ use Rattle.twkb_blob.specs.declared.fault.BlobFault.TheVariants as blob
 use Rattle.twkb_blob.specs.declared.spans.Located.{Located}
 use Rattle.twkb_convert.specs.Fronts.{FrontOfText}
 use Rattle.twkb_convert.specs.LocatedBlobs.{LocatedStream}
-use Rattle.twkb_convert.specs.Listings.{blob_text, blobs_text}
-use Rattle.twkb_convert.specs.declared.listing.Listing.{Listing}
+use Rattle.twkb_convert.specs.Listings.{Layout, blobs_text}
 use Rattle.twkb_convert.specs.declared.obstacle.StreamObstacle.{StreamObstacle}
 use Rattle.twkb_convert.specs.declared.obstacle.StreamObstacle.TheVariants as obstacle
 use Rattle.twkb_convert.specs.declared.obstacle.Unfinished.{Unfinished}
 
--- whether the reader refused a blob because a read failed
+-- whether the fault is a failed read
 abbrev pub is_read_stop : BlobFault → Bool
 is_read_stop blob.Memory = false
 is_read_stop (blob.Device input.Read) = true
@@ -49,7 +48,7 @@ abbrev pub UnlessOutput : StreamObstacle → Type 0 → Type 0
 UnlessOutput (obstacle.Stream why) fact = fact
 UnlessOutput (obstacle.Output why) fact = ⊤
 
--- The reader has the same tap and limits, and the tap counted whether a read failed.
+-- The reader kept its tap and its limits, and the tap counted whether a read failed.
 pub record Follows {R : Type 0} {read : Ghosts R} (old new : Reader R read) (has_failed : Bool) : Type 0 where
   pub same_tap : (reader_tap new).ghost_name ≡ (reader_tap old).ghost_name
   pub limits : limits_of new ≡ limits_of old
@@ -60,14 +59,14 @@ pub record Follows {R : Type 0} {read : Ghosts R} (old new : Reader R read) (has
 abbrev pub IsEnded : {R : Type 0} {read : Ghosts R} → (R → Option (List ℕ)) → Reader R read → Reader R read → Type 0
 IsEnded remaining from to = IfSome (rest_of from) (λ bytes. IsAtEnd (remaining (device_of (reader_tap to).now)))
 
--- What a stop says of the reader: if a read failed, that is the obstacle, or a write or flush
--- failed after it.
+-- What a stop says about the reader: if a read failed, the obstacle is that read, or a write or
+-- flush that failed later.
 pub record StopsRead {R : Type 0} {read : Ghosts R} (from : Reader R read) (why : StreamObstacle) (to : Reader R read) : Type 0 where
   pub has_failed : Bool
   pub follows : Follows from to has_failed
   pub told : (has_failed ≡ is_read why) ⊎ (is_write why ≡ true)
 
--- The session reads what the reader reads: it is between two blobs, after as many bytes.
+-- The session is between two blobs, at the reader's offset and with the reader's limits.
 abbrev pub IsReady : {R : Type 0} {read : Ghosts R} → Reader R read → Session → Type 0
 IsReady reader s = IsAbreast (limits_of reader) (reader_input reader) s
 
@@ -79,42 +78,42 @@ pub record EndsBlobs {R : Type 0} {read : Ghosts R} (remaining : R → Option (L
 
 -- ---- one blob
 
--- One blob was used, and this is its text.
-pub record GivesText {R : Type 0} {read : Ghosts R} (what : Listing) (from to : Reader R read) (text : List ℕ) : Type 0 where
+-- One blob was read, and this is its text.
+pub record GivesText {R : Type 0} {read : Ghosts R} (layout : Layout) (from to : Reader R read) (text : List ℕ) : Type 0 where
   pub found : Located
   pub gives : GivesBlob (limits_of from) (rest_of from) (given from) found (rest_of to) (given to)
-  pub own : text ≡ blob_text what found
+  pub own : text ≡ layout.text_of found
 
--- what the fault says if no text came
+-- what a fault says if no text was made
 abbrev pub StopsText : {R : Type 0} {read : Ghosts R} → Reader R read → BlobFault → Reader R read → Type 0
 StopsText from why to = Misses (limits_of from) (rest_of from) (given from) (told_of to) why
 
--- One blob was used, and its text was sent.
-pub record SentBlob {R W : Type 0} {read : Ghosts R} (what : Listing) (contents : W → Option (List ℕ)) (from : Reader R read) (old : Output W) (to : Reader R read) (new : Output W) : Type 0 where
+-- One blob was read, and its text was sent.
+pub record SentBlob {R W : Type 0} {read : Ghosts R} (layout : Layout) (contents : W → Option (List ℕ)) (from : Reader R read) (old : Output W) (to : Reader R read) (new : Output W) : Type 0 where
   pub found : Located
   pub gives : GivesBlob (limits_of from) (rest_of from) (given from) found (rest_of to) (given to)
-  pub took : Took contents old (blob_text what found) new
+  pub took : Took contents old (layout.text_of found) new
 
--- One blob was used, and the put of its text was refused.
-pub record CutBlob {R W : Type 0} {read : Ghosts R} (what : Listing) (contents : W → Option (List ℕ)) (from : Reader R read) (old : Output W) (to : Reader R read) (why : OutFault) (new : Output W) : Type 0 where
+-- One blob was read, and the put of its text was refused.
+pub record CutBlob {R W : Type 0} {read : Ghosts R} (layout : Layout) (contents : W → Option (List ℕ)) (from : Reader R read) (old : Output W) (to : Reader R read) (why : OutFault) (new : Output W) : Type 0 where
   pub found : Located
   pub gives : GivesBlob (limits_of from) (rest_of from) (given from) found (rest_of to) (given to)
-  pub cut : Cut contents old (blob_text what found) why new
+  pub cut : Cut contents old (layout.text_of found) why new
 
--- what the obstacle says if not all of one blob's text was sent
-abbrev pub StopsBlob : {R W : Type 0} {read : Ghosts R} → Listing → (W → Option (List ℕ)) → Reader R read → Output W → StreamObstacle → Reader R read → Output W → Type 0
-StopsBlob what contents from old (obstacle.Stream why) to new = (new ≡ old) × StopsText from why to
-StopsBlob what contents from old (obstacle.Output why) to new = CutBlob what contents from old to why new
+-- what an obstacle says if the text of a blob was not sent whole
+abbrev pub StopsBlob : {R W : Type 0} {read : Ghosts R} → Layout → (W → Option (List ℕ)) → Reader R read → Output W → StreamObstacle → Reader R read → Output W → Type 0
+StopsBlob layout contents from old (obstacle.Stream why) to new = (new ≡ old) × StopsText from why to
+StopsBlob layout contents from old (obstacle.Output why) to new = CutBlob layout contents from old to why new
 
 -- ---- all blobs
 
 -- The texts of some blobs were sent.
-pub record SentBlobs {R W : Type 0} {read : Ghosts R} (what : Listing) (contents : W → Option (List ℕ)) (from : Reader R read) (old : Output W) (to : Reader R read) (new : Output W) (done : ℕ) : Type 0 where
+pub record SentBlobs {R W : Type 0} {read : Ghosts R} (layout : Layout) (contents : W → Option (List ℕ)) (from : Reader R read) (old : Output W) (to : Reader R read) (new : Output W) (done : ℕ) : Type 0 where
   pub found : List Located
   pub bytes : List ℕ
   pub blobs : LocatedStream (limits_of from) (given from) bytes found
   pub used : Used (rest_of from) (given from) bytes (rest_of to) (given to)
-  pub took : Took contents old (blobs_text what found) new
+  pub took : Took contents old (blobs_text layout found) new
   pub count : done ≡ length found
 
 -- The whole text of a stream was sent, given the text of its blobs.
@@ -126,7 +125,7 @@ pub record SentText {R W : Type 0} {read : Ghosts R} (text_of : List Located →
   pub took : Took contents old (text_of found) new
   pub count : done ≡ length found
 
--- the reader's answer after blobs of these bytes
+-- what a fault says after blobs with these bytes were read
 abbrev pub ExplainsStream : Allowance → Option (List ℕ) → Option (List ℕ) → ℕ → List ℕ → BlobFault → Type 0
 ExplainsStream l old told before bytes blob.Memory = ⊤
 ExplainsStream l old told before bytes blob.Spent = ⊥
@@ -136,14 +135,14 @@ ExplainsStream l old told before bytes (blob.Device input.Spent) = ⊥
 ExplainsStream l old told before bytes (blob.At offset reason) =
     IfSome old (λ all. (left : List ℕ) × (all ≡ bytes ++ left) × RefusesBlob l left (before + length bytes) offset reason)
 
--- what the obstacle says, given the bytes to be sent in all and the number that the output had
--- sent before
+-- what an obstacle says, given the whole text to be sent and the number of bytes that the output
+-- had sent before
 abbrev pub ExplainsObstacle : Allowance → Option (List ℕ) → Option (List ℕ) → ℕ → List ℕ → StreamObstacle → ℕ → List ℕ → List Located → List ℕ → Type 0
 ExplainsObstacle l old told before bytes (obstacle.Stream why) sent text later left = (later ≡ []) × (left ≡ []) × ExplainsStream l old told before bytes why
 ExplainsObstacle l old told before bytes (obstacle.Output why) sent text later left = (why ≡ out.TooLong → 2 ^ 62 < sent + length text) × (why ≢ out.Spent)
 
--- A prefix of the text of a stream was sent, at least that of the first blobs, given the text of
--- its blobs.
+-- A prefix of the text of a stream was sent, with the whole text of the first blobs, given the
+-- text of its blobs.
 pub record CutText {R W : Type 0} {read : Ghosts R} (text_of : List Located → List ℕ) (contents : W → Option (List ℕ)) (from : Reader R read) (old : Output W) (to : Reader R read) (new : Output W)
     (stop : Unfinished StreamObstacle) : Type 0 where
   pub text : List ℕ

@@ -8,7 +8,7 @@ use Rattle.twkb_grammar.specs.Spans.{geometries}
 abbrev pub points : Tree → ℕ
 points g = length (flat g)
 
--- the sum over geometries
+-- the sum of a count over geometries
 abbrev pub total : (Tree → ℕ) → List Tree → ℕ
 total count [] = 0
 total count (g ∷ gs) = count g + total count gs

@@ -24,8 +24,8 @@ pub record FrontOfBlobs (style : Style) (l : Allowance) (told : Option (List ℕ
 abbrev pub HoldsWhole : {A : Type 0} → (List A → List ℕ) → List ℕ → List A → Type 0
 HoldsWhole text_of text bs = (bs ≡ []) ⊎ ((more : List ℕ) × (text ≡ text_of bs ++ more))
 
--- The known bytes begin with blobs, and this is a prefix of their text, with all of that of the
--- first blobs; of at most one more it has a part.
+-- The known bytes begin with blobs, and this is a prefix of their text: the whole text of the first
+-- blobs, and a part of the text of at most one more.
 pub record FrontOfText {A : Type 0} (AreBlobs : List ℕ → List A → Type 0) (text_of : List A → List ℕ) (told : Option (List ℕ)) (written : List ℕ) : Type 0 where
   pub whole : List A
   pub later : List A

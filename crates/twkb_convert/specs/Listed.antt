@@ -1,5 +1,5 @@
--- The text of a stream that was written, and where it stopped, for any sort of item that a blob
--- has with its text.
+-- How far the text of a stream was written, and why it stopped. The blobs are given as trees, or as
+-- trees with their spans.
 use Rattle.std.specs.Prelude.{◌≡◌, ℕ, ◌^◌, ◌<◌, ◌⊎◌, List, [], ◌++◌, length, Option, IfSome, ⊤}
 use Rattle.std.specs.Io.KnownBytes.{Appends, IsAtEnd}
 use Rattle.twkb_io.specs.Taps.{device_of, failures_of}
@@ -49,8 +49,8 @@ ExplainsListingCause trees_of text_of l old told bytes cause.TooLong whole later
     IfSome old (λ all. 2 ^ 62 < length all) ⊎ (2 ^ 62 < length (text_of (whole ++ later)))
 ExplainsListingCause trees_of text_of l old told bytes cause.TooManyRecords whole later left = ⊥
 
--- The bytes of the reader begin with blobs, and the writer took a prefix of their text, with that
--- of the first of them.
+-- The bytes of the reader begin with blobs, and the writer took a prefix of their text, with the
+-- whole text of the first ones.
 pub record StoppedListing {R W A : Type 0} (AreBlobs : List ℕ → List A → Type 0) (trees_of : List A → List Tree) (text_of : List A → List ℕ) (l : Allowance)
     (remaining : R → Option (List ℕ)) (contents : W → Option (List ℕ)) (reader : Tap R) (writer : Tap W) (fault : ConvertFault) (read : Tap R) (written : Tap W) : Type 0 where
   pub text : List ℕ
@@ -61,7 +61,7 @@ pub record StoppedListing {R W A : Type 0} (AreBlobs : List ℕ → List A → T
   pub explains : ExplainsListingCause trees_of text_of l (remaining (device_of reader)) (remaining (device_of read)) part.bytes fault.cause part.whole part.later part.left
   pub devices : DevicesTell CountsOne reader writer fault.cause read written
 
--- the cause that an obstacle is for a caller
+-- the cause that the caller is given for an obstacle
 abbrev pub cause_of_obstacle : StreamObstacle → Cause
 cause_of_obstacle (obstacle.Stream blob.Memory) = cause.Memory
 cause_of_obstacle (obstacle.Stream (blob.Device input.Read)) = cause.ReadDevice

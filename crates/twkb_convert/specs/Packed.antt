@@ -58,14 +58,12 @@ ExplainsPackingCause style l told given cause.Memory whole later front = (later 
 ExplainsPackingCause style l told given cause.TooLong whole later front =
     (2 ^ 62 < length (canonical_stream style (whole ++ later))) ⊎ ((later ≡ []) × (front ≡ []) × NamesAll l told whole × (2 ^ 64 - 1 ≤ given))
 
--- this cause says what the obstacle says of an output that had sent nothing before, whatever was
--- written
+-- the cause says what the obstacle says, for any output that had sent nothing before
 abbrev pub ExplainsAs : TableObstacle → Cause → Type 0
 ExplainsAs why answer = (style : Style) (l : Allowance) (told : Option (List ℕ)) (given sent : ℕ) (whole later : List Tree) (front : List ℕ) → sent ≡ 0
     → ExplainsWhy style l told given why sent whole later front → ExplainsPackingCause style l told given answer whole later front
 
--- Geometries of the reader's text may be written: the canonical blobs of the first ones were, and
--- a prefix of the next one's.
+-- The writer took canonical blobs of geometries that may be written, and a prefix of the next blob.
 pub record StoppedPacking {R W : Type 0} (style : Style) (l : Allowance) (remaining : R → Option (List ℕ)) (contents : W → Option (List ℕ)) (reader : Tap R) (writer : Tap W)
     (fault : ConvertFault) (read : Tap R) (written : Tap W) : Type 0 where
   pub bytes : List ℕ

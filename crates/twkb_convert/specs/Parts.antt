@@ -1,4 +1,4 @@
--- Parts of a table or of a stream, as they are in the whole.
+-- Parts of a table or of a stream that are converted separately.
 use Rattle.std.specs.Prelude.{◌≡◌, ℕ, List, ◌∷◌, ◌++◌, map}
 use Rattle.twkb_tree.specs.Limits.{Allowance}
 use Rattle.twkb_grammar.specs.Spans.{moved_span}
@@ -12,20 +12,19 @@ use Rattle.twkb_convert.specs.Outputs.{NamesSome, PackTo}
 abbrev pub RowsName : Allowance → List Record → Type 0
 RowsName l rows = NamesSome l (header ∷ rows)
 
--- the outputs of two lists of rows, each below a header, are in order the output of both lists
--- below one header
+-- two lists of rows, each packed below a header, have outputs whose join is the output of both
+-- lists below one header
 abbrev pub PackApart : Style → Allowance → List Record → List Record → Type 0
 PackApart style l rows more = (a b : List ℕ) → PackTo style l (header ∷ rows) a → PackTo style l (header ∷ more) b → PackTo style l (header ∷ (rows ++ more)) (a ++ b)
 
--- a blob with its spans, if this many more bytes come before it
+-- a blob with its spans, moved by this many bytes
 abbrev pub moved : ℕ → Located → Located
 moved n b = record { geometry = b.geometry; spans = map (moved_span n) b.spans }
 
--- each of some blobs, moved
+-- blobs with their spans, each moved by this many bytes
 abbrev pub all_moved : ℕ → List Located → List Located
 all_moved n bs = map (moved n) bs
 
--- the first lines are those of blobs, and the others are theirs if this many more bytes come
--- before them
+-- the second lines are the first, with this number added to each offset
 abbrev pub AreMovedLines : ℕ → List ℕ → List ℕ → Type 0
 AreMovedLines n lines others = (bs : List Located) × (lines ≡ lines_text bs) × (others ≡ lines_text (all_moved n bs))

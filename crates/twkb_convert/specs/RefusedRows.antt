@@ -9,20 +9,20 @@ use Rattle.twkb_table.specs.declared.reason.RowReason.{RowReason}
 use Rattle.twkb_table.specs.CsvRecords.{AreRecordsOf, BeginWith}
 use Rattle.twkb_table.specs.TableReading.{NameSoFar}
 
--- The records of the text begin with some that are refused at the record with this number, for
--- this reason, and these geometries are complete. If there is no record, the text has none.
+-- The first records of the text are refused at the record with this number, for this reason, and
+-- these geometries are complete before it. If they are no records, the text has none.
 pub record IsRefusedAt (l : Allowance) (told : Option (List ℕ)) (number : ℕ) (reason : RowReason) (gs : List Tree) : Type 0 where
   pub seen : List Record
   pub begins : IfSome told (λ text. BeginWith text seen)
   pub none : seen ≡ [] → IfSome told (λ text. AreRecordsOf text [])
   pub fault : AreComplete l seen number reason gs
 
--- the text has these records, and is refused at this one
+-- the text has these records, and is refused at the record with this number
 abbrev pub IsRefusedText : Allowance → List ℕ → List Record → ℕ → RowReason → List Tree → Type 0
 IsRefusedText l text records number reason gs = AreRecordsOf text records × IsRefusedAt l (Some text) number reason gs
 
--- The text begins with 2 ^ 32 records. Those before the last name geometries, and these are all
--- of them but the last.
+-- The text begins with 2 ^ 32 records. The records before the last name geometries, and these are
+-- all of those geometries but the last.
 pub record HasTooMany (l : Allowance) (told : Option (List ℕ)) (gs : List Tree) : Type 0 where
   pub before : List Record
   pub here : Record
@@ -32,8 +32,8 @@ pub record HasTooMany (l : Allowance) (told : Option (List ℕ)) (gs : List Tree
   pub named : Named l before geometries
   pub complete : gs ≡ all_but_last geometries
 
--- After these records, the first of a text, these geometries may be written: all but the last of
--- those that they name, and the last too if the text has no more records.
+-- These geometries may be written: all but the last of those that the first records of the text
+-- name, and the last too if the text has no more records.
 pub record MayBeWritten (l : Allowance) (told : Option (List ℕ)) (gs : List Tree) : Type 0 where
   pub records : List Record
   pub geometries : List Tree

@@ -66,7 +66,7 @@ pub record CutsOne {W : Type 0} (style : Style) (l : Allowance) (contents : W �
   pub ready : MayBeWritten l told (given ++ geometry ∷ [])
   pub cut : Cut contents old (canonical_blob style geometry) f new
 
--- what sending the next geometry after these shows
+-- the result of sending the next geometry, after these records and geometries
 abbrev pub SendsNext : {R W : Type 0} → Style → Allowance → (R → Option (List ℕ)) → (W → Option (List ℕ)) → Option (List ℕ) → List Record → List Tree → TableReader R → Output W → Work → Output W → Work → Result Bool TableObstacle → Type 0
 SendsNext style l remaining contents told records given table old before new after (Ok true) = SendsOne style l remaining contents told given table old before new after
 SendsNext style l remaining contents told records given table old before new after (Ok false) = EndsTable l remaining told records given table old before new after
@@ -74,7 +74,7 @@ SendsNext style l remaining contents told records given table old before new aft
 SendsNext style l remaining contents told records given table old before new after (Err obstacle.Undrained) = ⊥
 SendsNext style l remaining contents told records given table old before new after (Err (obstacle.Output f)) = CutsOne style l contents told given old f new
 
--- from whatever state of the table, its next geometry was sent
+-- the result of sending the next geometry, from any state of the table's reader
 abbrev pub SendsFrom : {R W : Type 0} → Style → (R → Option (List ℕ)) → (W → Option (List ℕ)) → TableReader R → Output W → Work → TableReader R → Output W → Work → Result Bool TableObstacle → Type 0
 SendsFrom style remaining contents from old before to new after answer = (l : Allowance) (told : Option (List ℕ)) (records : List Record) (given : List Tree)
     → StandsAfter l remaining told records given from → SendsNext style l remaining contents told records given to old before new after answer
@@ -99,7 +99,7 @@ pub record SentTable {W : Type 0} (style : Style) (l : Allowance) (contents : W 
   pub work_of : IsWorkOf table.geometries tally.work
 
 -- what a stop says about the table, the number of bytes given, and the bytes written, for an
--- output that had sent this many before
+-- output that had sent this many bytes before
 abbrev pub ExplainsWhy : Style → Allowance → Option (List ℕ) → ℕ → TableObstacle → ℕ → List Tree → List Tree → List ℕ → Type 0
 ExplainsWhy style l told given (obstacle.Table (fault.At number reason)) sent whole later front = (later ≡ []) × (front ≡ []) × IsRefusedAt l told number reason whole
 ExplainsWhy style l told given (obstacle.Table fault.TooManyRecords) sent whole later front = (later ≡ []) × (front ≡ []) × HasTooMany l told whole
@@ -110,7 +110,7 @@ ExplainsWhy style l told given obstacle.Undrained sent whole later front = (late
 ExplainsWhy style l told given (obstacle.Output f) sent whole later front =
     (f ≡ out.TooLong → 2 ^ 62 < sent + length (canonical_stream style (whole ++ later))) × (f ≢ out.Spent)
 
--- the blobs of some geometries were written, and a prefix of the next one's
+-- The blobs of some geometries were sent, and a prefix of the next blob.
 pub record Stopped {W : Type 0} (style : Style) (l : Allowance) (contents : W → Option (List ℕ)) (told : Option (List ℕ)) (given : ℕ) (old new : Output W) (stop : Unfinished TableObstacle) : Type 0 where
   pub bytes : List ℕ
   pub part : FrontOfBlobs style l told bytes
@@ -126,7 +126,7 @@ abbrev pub SendsTable : {W : Type 0} → Style → Allowance → (W → Option (
 SendsTable style l contents told given old new (Ok tally) = SentTable style l contents told old new tally
 SendsTable style l contents told given old new (Err stop) = Stopped style l contents told given old new stop
 
--- from a reader that had read nothing, the whole table was sent, or a prefix of its output
+-- the whole table was sent, or a prefix of its output, from a reader that had read nothing
 abbrev pub SendsAll : {R W : Type 0} → Style → (R → Option (List ℕ)) → (W → Option (List ℕ)) → TableReader R → Output W → Output W → Result Tally (Unfinished TableObstacle) → Type 0
 SendsAll style remaining contents from old new answer =
     (l : Allowance) (told : Option (List ℕ)) (given : ℕ) → StandsAfter l remaining told [] [] from → SendsTable style l contents told given old new answer

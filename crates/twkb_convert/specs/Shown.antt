@@ -11,7 +11,7 @@ use Rattle.twkb_convert.specs.declared.report.ConvertFault.{ConvertFault}
 abbrev pub Shown : {R W : Type 0} → Allowance → (R → Option (List ℕ)) → (W → Option (List ℕ)) → Tap R → Tap W → Report → Tap R → Tap W → Type 0
 Shown l = Listed (LocatedStream l 0) lines_text
 
--- The bytes of the reader begin with blobs, and the writer took a prefix of their lines, with
--- those of the first of them.
+-- The bytes of the reader begin with blobs, and the writer took a prefix of their lines, with all
+-- lines of the first ones.
 abbrev pub StoppedShowing : {R W : Type 0} → Allowance → (R → Option (List ℕ)) → (W → Option (List ℕ)) → Tap R → Tap W → ConvertFault → Tap R → Tap W → Type 0
 StoppedShowing l = StoppedListing (LocatedStream l 0) geometries_of lines_text l

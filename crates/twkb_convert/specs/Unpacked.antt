@@ -13,6 +13,6 @@ abbrev pub Unpacked : {R W : Type 0} → Allowance → (R → Option (List ℕ))
 Unpacked l = Listed (Stream l) table_text
 
 -- The bytes of the reader begin with blobs, and the writer took a prefix of the text of their
--- table, with the rows of the first of them.
+-- table, with all rows of the first ones.
 abbrev pub StoppedUnpacking : {R W : Type 0} → Allowance → (R → Option (List ℕ)) → (W → Option (List ℕ)) → Tap R → Tap W → ConvertFault → Tap R → Tap W → Type 0
 StoppedUnpacking l = StoppedListing (Stream l) (λ trees. trees) table_text l

@@ -7,8 +7,7 @@ ghost use Rattle.twkb_convert.specs.BlobReading.{given, is_input_spent, limits_o
 ghost use Rattle.twkb_convert.specs.Listings.{blobs_text, listing_text};
 ghost use Rattle.twkb_convert.specs.BlobSending.{CutText, EndsBlobs, Follows, IsEnded, IsReady, SentBlob, SentText, StopsBlob, StopsRead, UnlessOutput};
 
-use crate::blob_text::{TextRoom, next_text};
-use crate::listing::{Listing, first_text};
+use crate::blob_text::BlobText;
 use crate::obstacle::{StreamObstacle, Unfinished};
 use std::alloc::Global;
 use std::io::{Read, Write};
@@ -17,8 +16,8 @@ use twkb_io::{Output, Sink};
 use twkb_tree::Limits;
 
 // Sends the text of a stream, and flushes the output unless it refused a put.
-pub(crate) fn send_listing_and_flush<R: Read, W: Write>(
-    what: Listing,
+pub(crate) fn send_listing_and_flush<R: Read, W: Write, T: BlobText>(
+    text: &mut T,
     alloc: Global,
     limits: Limits,
     reader: &mut Reader<'_, R>,
@@ -30,14 +29,14 @@ pub(crate) fn send_listing_and_flush<R: Read, W: Write>(
     requires start { given reader.old ≡ 0 }
     requires limits { limits_of reader.old ≡ limits }
     requires output { Outputs.is_spent output.old ≡ false }
-    ensures ok { IfOk result (λ done. SentText (listing_text what) W.contents reader.old output.old output.new done) }
+    ensures ok { IfOk result (λ done. SentText (listing_text T.layout) W.contents reader.old output.old output.new done) }
     ensures unfailed { IfOk result (λ done. Follows reader.old reader.new false × IsEnded R.remaining reader.old reader.new) }
-    ensures err { IfErr result (λ stop. CutText (listing_text what) W.contents reader.old output.old reader.new output.new stop) }
+    ensures err { IfErr result (λ stop. CutText (listing_text T.layout) W.contents reader.old output.old reader.new output.new stop) }
     ensures stops { IfErr result (λ stop. StopsRead reader.old stop.why reader.new) }
     ensures flushed { OnOk result (has_unflushed (Outputs.output_tap output.new).now ≡ false) }
     ensures stop_flushed { IfErr result (λ stop. UnlessOutput stop.why (has_unflushed (Outputs.output_tap output.new).now ≡ false)) }
 {
-    let done = match send_listing(what, alloc, limits, reader, output) {
+    let done = match send_listing(text, alloc, limits, reader, output) {
         Ok(done) => done,
         Err(stop) => {
             if let StreamObstacle::Output(_) = stop.why {
@@ -59,8 +58,8 @@ pub(crate) fn send_listing_and_flush<R: Read, W: Write>(
 }
 
 // Sends the text before the first blob, and then the text of each blob.
-fn send_listing<R: Read, W: Write>(
-    what: Listing,
+fn send_listing<R: Read, W: Write, T: BlobText>(
+    text: &mut T,
     alloc: Global,
     limits: Limits,
     reader: &mut Reader<'_, R>,
@@ -72,13 +71,13 @@ fn send_listing<R: Read, W: Write>(
     requires start { given reader.old ≡ 0 }
     requires limits { limits_of reader.old ≡ limits }
     requires output { Outputs.is_spent output.old ≡ false }
-    ensures ok { IfOk result (λ done. SentText (listing_text what) W.contents reader.old output.old output.new done) }
+    ensures ok { IfOk result (λ done. SentText (listing_text T.layout) W.contents reader.old output.old output.new done) }
     ensures unfailed { IfOk result (λ done. Follows reader.old reader.new false × IsEnded R.remaining reader.old reader.new) }
-    ensures err { IfErr result (λ stop. CutText (listing_text what) W.contents reader.old output.old reader.new output.new stop) }
+    ensures err { IfErr result (λ stop. CutText (listing_text T.layout) W.contents reader.old output.old reader.new output.new stop) }
     ensures stops { IfErr result (λ stop. StopsRead reader.old stop.why reader.new) }
 {
-    match output.put(first_text(what)) {
-        Ok(()) => send_blobs(what, alloc, limits, reader, output),
+    match output.put(T::first_line()) {
+        Ok(()) => send_blobs(text, alloc, limits, reader, output),
         Err(fault) => Err(Unfinished {
             done: 0,
             why: StreamObstacle::Output(fault),
@@ -87,8 +86,8 @@ fn send_listing<R: Read, W: Write>(
 }
 
 // Sends the text of each blob before a byte of the next one is read.
-fn send_blobs<R: Read, W: Write>(
-    what: Listing,
+fn send_blobs<R: Read, W: Write, T: BlobText>(
+    text: &mut T,
     alloc: Global,
     limits: Limits,
     reader: &mut Reader<'_, R>,
@@ -100,23 +99,21 @@ fn send_blobs<R: Read, W: Write>(
     requires start { given reader.old ≡ 0 }
     requires limits { limits_of reader.old ≡ limits }
     requires output { Outputs.is_spent output.old ≡ false }
-    ensures ok { IfOk result (λ done. SentText (blobs_text what) W.contents reader.old output.old output.new done) }
+    ensures ok { IfOk result (λ done. SentText (blobs_text T.layout) W.contents reader.old output.old output.new done) }
     ensures unfailed { IfOk result (λ done. Follows reader.old reader.new false × IsEnded R.remaining reader.old reader.new) }
-    ensures err { IfErr result (λ stop. CutText (blobs_text what) W.contents reader.old output.old reader.new output.new stop) }
+    ensures err { IfErr result (λ stop. CutText (blobs_text T.layout) W.contents reader.old output.old reader.new output.new stop) }
     ensures stops { IfErr result (λ stop. StopsRead reader.old stop.why reader.new) }
 {
     let mut session = Session::new(alloc, limits);
-    let mut room = TextRoom::new(alloc);
-    send_each(what, reader, &mut session, &mut room, output)
+    send_each(text, reader, &mut session, output)
 }
 
-// Sends the text of each blob through a session that is ready. The session and the room are
-// reused from one blob to the next.
-fn send_each<R: Read, W: Write>(
-    what: Listing,
+// Sends the text of each blob through a session that is ready, which is reused from one blob to
+// the next.
+fn send_each<R: Read, W: Write, T: BlobText>(
+    text: &mut T,
     reader: &mut Reader<'_, R>,
     session: &mut Session,
-    room: &mut TextRoom,
     output: &mut Output<'_, W>,
 ) -> Result<u64, Unfinished<StreamObstacle>>
     requires reader { is_spent reader.old ≡ false }
@@ -124,15 +121,15 @@ fn send_each<R: Read, W: Write>(
     requires input { is_input_spent reader.old ≡ false }
     requires session { IsReady reader.old session.old }
     requires output { Outputs.is_spent output.old ≡ false }
-    ensures ok { IfOk result (λ done. SentText (blobs_text what) W.contents reader.old output.old output.new done) }
+    ensures ok { IfOk result (λ done. SentText (blobs_text T.layout) W.contents reader.old output.old output.new done) }
     ensures unfailed { IfOk result (λ done. Follows reader.old reader.new false × IsEnded R.remaining reader.old reader.new) }
-    ensures err { IfErr result (λ stop. CutText (blobs_text what) W.contents reader.old output.old reader.new output.new stop) }
+    ensures err { IfErr result (λ stop. CutText (blobs_text T.layout) W.contents reader.old output.old reader.new output.new stop) }
     ensures stops { IfErr result (λ stop. StopsRead reader.old stop.why reader.new) }
 {
     twkb_grammar::laws::some_byte();
     let mut done = 0;
     loop {
-        match send_blob(what, reader, session, room, output) {
+        match send_blob(text, reader, session, output) {
             Ok(true) => done += 1,
             Ok(false) => return Ok(done),
             Err(why) => return Err(Unfinished { done, why }),
@@ -141,11 +138,10 @@ fn send_each<R: Read, W: Write>(
 }
 
 // Sends the text of the next blob in one put, and returns whether there was one.
-fn send_blob<R: Read, W: Write>(
-    what: Listing,
+fn send_blob<R: Read, W: Write, T: BlobText>(
+    text: &mut T,
     reader: &mut Reader<'_, R>,
     session: &mut Session,
-    room: &mut TextRoom,
     output: &mut Output<'_, W>,
 ) -> Result<bool, StreamObstacle>
     requires reader { is_spent reader.old ≡ false }
@@ -153,22 +149,22 @@ fn send_blob<R: Read, W: Write>(
     requires input { is_input_spent reader.old ≡ false }
     requires session { IsReady reader.old session.old }
     requires output { Outputs.is_spent output.old ≡ false }
-    ensures more { IfOk result (λ found. found ≡ true → SentBlob what W.contents reader.old output.old reader.new output.new) }
+    ensures more { IfOk result (λ found. found ≡ true → SentBlob T.layout W.contents reader.old output.old reader.new output.new) }
     ensures fresh { IfOk result (λ found. is_spent reader.new ≡ false) }
     ensures going_on { IfOk result (λ found. found ≡ true → has_ended reader.new ≡ false) }
     ensures input { IfOk result (λ found. found ≡ true → is_input_spent reader.new ≡ false) }
     ensures session { IfOk result (λ found. found ≡ true → IsReady reader.new session.new) }
     ensures end { IfOk result (λ found. found ≡ false → EndsBlobs R.remaining reader.old reader.new × (output.new ≡ output.old)) }
     ensures follows { IfOk result (λ found. Follows reader.old reader.new false) }
-    ensures err { IfErr result (λ why. StopsBlob what W.contents reader.old output.old why reader.new output.new) }
+    ensures err { IfErr result (λ why. StopsBlob T.layout W.contents reader.old output.old why reader.new output.new) }
     ensures stops { IfErr result (λ why. StopsRead reader.old why reader.new) }
 {
-    match next_text(what, reader, session, room) {
+    match text.read_next(reader, session) {
         Ok(true) => {}
         Ok(false) => return Ok(false),
         Err(fault) => return Err(StreamObstacle::Stream(fault)),
     }
-    if let Err(fault) = output.put(room.text.as_slice()) {
+    if let Err(fault) = output.put(text.bytes()) {
         return Err(StreamObstacle::Output(fault));
     }
     Ok(true)

@@ -11,14 +11,14 @@ use twkb_io::Tap;
 use twkb_tree::Limits;
 use twkb_writer::Style;
 
-/// The conversion to be carried out.
+/// A conversion between tables and streams.
 #[derive(Clone, Copy, PartialEq, Eq, Debug)]
 pub enum Conversion {
-    /// A table to a stream, in a style.
+    /// Packs a table into a stream, in a style.
     Pack(Style),
-    /// A stream to a table.
+    /// Unpacks a stream into a table.
     Unpack,
-    /// A stream to lines of its headers.
+    /// Shows a stream as lines of its headers.
     Show,
 }
 

@@ -15,7 +15,7 @@ const PIECE: usize = 64;
 pub(crate) enum DrainFault {
     // A read failed.
     Read,
-    // As many reads as can be counted gave bytes.
+    // 2^64 - 1 reads gave bytes, and the end was not reached.
     TooLong,
 }
 

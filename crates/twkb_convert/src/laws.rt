@@ -21,29 +21,28 @@ ghost use Rattle.twkb_convert.specs.Outputs.{IsTable, PackTextTo, PackTo, Unpack
 ghost use Rattle.twkb_convert.specs.Parts.{AreMovedLines, PackApart, RowsName, all_moved};
 ghost use Rattle.twkb_convert.specs.RefusedRows.{IsRefusedText};
 
-/// If the records of a text name geometries, they are packed to a stream, in either style, and
-/// the reader of `csv` reads the same records from the table to which that stream is unpacked.
+/// If the records of a table name geometries, unpacking its packed stream, in either style, gives a
+/// table with these records, as `csv` reads them.
 pub fn unpack_of_pack()
     ensures { (style : Style) (l : Allowance) (table bytes text : List ℕ) (records : List Record) → IsAllowance l
         → IsTable l table records → PackTo style l records bytes → UnpackTo l bytes text → AreRecordsOf text records }
 {}
 
-/// If bytes are a stream of geometries, the records of the table to which they are unpacked are
-/// packed to the canonical stream of these geometries.
+/// Packing an unpacked stream gives the canonical stream of its geometries.
 pub fn pack_of_unpack()
     ensures { (style : Style) (l : Allowance) (bytes text packed : List ℕ) (gs : List Tree) → IsAllowance l
         → Stream l bytes gs → UnpackTo l bytes text → PackTextTo style l text packed → packed ≡ canonical_stream style gs }
 {}
 
-/// Any records are packed to exactly one output in a style.
+/// Any records have exactly one packed output in each style.
 pub fn one_packed_output()
     ensures some { (style : Style) (l : Allowance) (records : List Record) → IsAllowance l → (bytes : List ℕ) × PackTo style l records bytes }
     ensures one { (style : Style) (l : Allowance) (records : List Record) (a b : List ℕ) → IsAllowance l → PackTo style l records a → PackTo style l records b → a ≡ b }
 {}
 
-/// The record that a stop of `pack` reports as refused is the first of all records of the text
-/// that is refused, and the geometries are those that the refusal leaves complete. So the records
-/// name no geometries.
+/// The refused record that `pack` reports is the first one refused in the whole table, and the
+/// geometries that it reports are those complete before that record. So the records of the whole
+/// table name no geometries.
 pub fn refused_table()
     ensures complete { (l : Allowance) (text : List ℕ) (records : List Record) (number : ℕ) (reason : RowReason) (gs : List Tree)
         → IsRefusedText l text records number reason gs → AreComplete l records number reason gs }
@@ -51,48 +50,47 @@ pub fn refused_table()
         → IsRefusedText l text records number reason gs → NamesNone l records }
 {}
 
-/// The blobs of the geometries that a refused record leaves complete, as a stop of `pack` reports
-/// them, are all that the records of the text are packed to.
+/// The packed output of a table with a refused record is the canonical stream of the geometries
+/// that are complete before that record.
 pub fn refused_output()
     ensures { (style : Style) (l : Allowance) (text : List ℕ) (records : List Record) (number : ℕ) (reason : RowReason) (gs : List Tree)
         → IsRefusedText l text records number reason gs → PackTo style l records (canonical_stream style gs) }
 {}
 
-/// The bytes that a stop of `pack` reports as written are a prefix of the output for the whole
-/// text: the blobs of the first of the geometries that may be written, and a prefix of the next
-/// one's.
+/// The bytes that `pack` has written when it stops, some blobs and a prefix of the next one, are a
+/// prefix of the output for the whole table.
 pub fn pack_front()
     ensures { (style : Style) (l : Allowance) (text written bytes : List ℕ) → IsAllowance l
         → FrontOfBlobs style l (Some text) written → PackTextTo style l text bytes → BeginsWith (Some bytes) written }
 {}
 
-/// Any bytes are unpacked to exactly one text.
+/// Any bytes have exactly one unpacked output.
 pub fn one_unpacked_output()
     ensures some { (l : Allowance) (bytes : List ℕ) → IsAllowance l → AreBytes bytes → (text : List ℕ) × UnpackTo l bytes text }
     ensures one { (l : Allowance) (bytes a b : List ℕ) → UnpackTo l bytes a → UnpackTo l bytes b → a ≡ b }
 {}
 
-/// The bytes that a stop of `unpack` reports as written are a prefix of the output for all bytes:
-/// a prefix of the table of the blobs with which the bytes begin.
+/// The text that `unpack` has written when it stops, a prefix of the table of the first blobs, is a
+/// prefix of the output for all bytes.
 pub fn unpack_front()
     ensures { (l : Allowance) (all bytes text written : List ℕ) (gs : List Tree) → BeginsWith (Some all) bytes → Stream l bytes gs
         → BeginsWith (Some (table_text gs)) written → UnpackTo l all text → BeginsWith (Some text) written }
 {}
 
-/// A stream has one list of blobs with their spans.
+/// A stream has exactly one list of blobs with their spans.
 pub fn one_located_stream()
     ensures some { (l : Allowance) (offset : ℕ) (bytes : List ℕ) (gs : List Tree) → Stream l bytes gs → (bs : List Located) × LocatedStream l offset bytes bs × (geometries_of bs ≡ gs) }
     ensures one { (l : Allowance) (offset : ℕ) (bytes : List ℕ) (bs cs : List Located) → LocatedStream l offset bytes bs → LocatedStream l offset bytes cs → bs ≡ cs }
 {}
 
-/// Any bytes are shown by exactly one text.
+/// Any bytes have exactly one output of `show`.
 pub fn one_shown_output()
     ensures some { (l : Allowance) (bytes : List ℕ) → IsAllowance l → AreBytes bytes → (text : List ℕ) × ShowTo l bytes text }
     ensures one { (l : Allowance) (bytes a b : List ℕ) → ShowTo l bytes a → ShowTo l bytes b → a ≡ b }
 {}
 
-/// The bytes that a stop of `show` reports as written are a prefix of the output for all bytes: a
-/// prefix of the lines of the blobs with which the bytes begin.
+/// The text that `show` has written when it stops, a prefix of the lines of the first blobs, is a
+/// prefix of the output for all bytes.
 pub fn show_front()
     ensures { (l : Allowance) (all bytes text written : List ℕ) (bs : List Located) → BeginsWith (Some all) bytes → LocatedStream l 0 bytes bs
         → BeginsWith (Some (lines_text bs)) written → ShowTo l all text → BeginsWith (Some text) written }
@@ -100,23 +98,23 @@ pub fn show_front()
 
 // ---- parts, converted separately
 
-/// If two tables name geometries, the rows of both, one after the other below one header, are
-/// packed to the outputs of the two tables, joined. The same is true of a table that is cut
-/// before a row of depth 0.
+/// Two tables that name geometries may be packed separately: their outputs, joined, are the output
+/// of the rows of both below one header. A table that names geometries may be cut for this before
+/// any row of depth 0.
 pub fn packed_parts()
     ensures joined { (style : Style) (l : Allowance) (rows more : List Record) → IsAllowance l → RowsName l rows → RowsName l more → PackApart style l rows more }
     ensures cut { (style : Style) (l : Allowance) (rows more : List Record) → IsAllowance l → BeginAtRoot more → RowsName l (rows ++ more) → PackApart style l rows more }
 {}
 
-/// A stream followed by other bytes is unpacked to its own table and then the rows of the other
-/// bytes: their table without the header's line.
+/// Bytes that begin with a stream may be unpacked in two parts: the output is the stream's table,
+/// and then the table of the other bytes without the header's line.
 pub fn unpacked_parts()
     ensures { (l : Allowance) (a b : List ℕ) (gs : List Tree) (table rows : List ℕ) → Stream l a gs
         → UnpackTo l a table → UnpackTo l b (csvtext (header ∷ []) ++ rows) → UnpackTo l (a ++ b) (table ++ rows) }
 {}
 
-/// A stream followed by other bytes is shown by its own lines and then those of the other bytes,
-/// with each offset moved by the length of the stream.
+/// Bytes that begin with a stream may be shown in two parts: the output is the stream's lines, and
+/// then those of the other bytes, with the stream's length added to each offset.
 pub fn shown_parts()
     ensures blobs { (l : Allowance) (a b : List ℕ) (bs cs : List Located) → LocatedStream l 0 a bs → LocatedStream l 0 b cs → LocatedStream l 0 (a ++ b) (bs ++ all_moved (length a) cs) }
     ensures text { (l : Allowance) (a b : List ℕ) (gs : List Tree) (first second : List ℕ) → Stream l a gs → ShowTo l a first

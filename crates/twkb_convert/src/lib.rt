@@ -7,7 +7,6 @@ mod blob_writing;
 mod conversion;
 mod draining;
 pub mod laws;
-mod listing;
 mod obstacle;
 mod packing;
 mod report;

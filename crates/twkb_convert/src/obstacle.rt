@@ -10,7 +10,7 @@ use twkb_table::TableFault;
 pub(crate) enum TableObstacle {
     // The table gave no geometry, or there was no memory for the sizes of one.
     Table(TableFault),
-    // After the last record, as many reads as can be counted gave bytes.
+    // After the last record 2^64 - 1 reads gave bytes, and the end was not reached.
     Undrained,
     // The output refused a put or a flush.
     Output(OutFault),

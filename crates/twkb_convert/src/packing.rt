@@ -118,7 +118,8 @@ fn packed(tally: Tally, sent: u64) -> (Report, Work)
     (report, tally.work)
 }
 
-// The cause of a stop: a failed write if there was one, then a failed read, then the obstacle's own.
+// The cause of a stop: a failed write if there was one, else a failed read, else the reason that
+// the obstacle gives.
 #[tactic(auto, using(crate::proofs::PackedLemmas::read_explained))]
 fn packing_cause(why: TableObstacle, has_read_failed: bool) -> Cause
     ensures devices { IsDeviceCause has_read_failed (is_write why) result }

@@ -3,7 +3,7 @@ ghost use Rattle.std.specs.Prelude.{IfOk, IfErr};
 ghost use Rattle.twkb_convert.specs.Flushing.{IsFlushed};
 ghost use Rattle.twkb_convert.specs.Shown.{Shown, StoppedShowing};
 
-use crate::listing::Listing;
+use crate::blob_text::HeaderLines;
 use crate::report::{ConvertFault, Report};
 use crate::stream_listing::list_stream;
 use std::alloc::Global;
@@ -30,5 +30,6 @@ pub fn show<R: Read, W: Write>(
     ensures err { IfErr result (λ fault. StoppedShowing limits R.remaining W.contents reader.old writer.old fault reader.new writer.new) }
     ensures flushed { IsFlushed result writer.new }
 {
-    list_stream(Listing::Headers, alloc, reader, writer, limits)
+    let mut lines = HeaderLines::new(alloc);
+    list_stream(&mut lines, alloc, reader, writer, limits)
 }

@@ -54,16 +54,16 @@ fn push_precision(precision: i8, line: &mut Piece<128>)
 
 // Appends a count as a decimal, and a byte after it. Most counts have one or two digits.
 #[inline(always)]
-fn push_count(count: u64, behind: u8, line: &mut Piece<128>)
+fn push_count(count: u64, end: u8, line: &mut Piece<128>)
     requires room { length line.old + 21 ≤ 128 }
-    ensures appended { line.new ≡ line.old ++ (decimal count ++ behind ∷ []) }
+    ensures appended { line.new ≡ line.old ++ (decimal count ++ end ∷ []) }
     ensures most { length line.new ≤ length line.old + 21 }
 {
     match one_digit(count) {
         Some(digit) => line.push(digit),
         None => push_digits(count, line),
     }
-    line.push(behind);
+    line.push(end);
 }
 
 // Appends a count of at least two digits as a decimal.

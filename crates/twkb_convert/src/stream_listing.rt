@@ -6,7 +6,7 @@ ghost use Rattle.twkb_convert.specs.Flushing.{IsFlushed};
 ghost use Rattle.twkb_convert.specs.Listed.{Listed, StoppedListing, cause_of_obstacle};
 
 use crate::blob_sending::send_listing_and_flush;
-use crate::listing::Listing;
+use crate::blob_text::BlobText;
 use crate::obstacle::StreamObstacle;
 use crate::report::{Cause, ConvertFault, Report};
 use std::alloc::Global;
@@ -17,20 +17,20 @@ use twkb_tree::Limits;
 
 // Writes the text of a stream of blobs, each blob's text before a byte of the next one is read.
 // The writer is flushed last, unless it refused a write.
-pub(crate) fn list_stream<R: Read, W: Write>(
-    what: Listing,
+pub(crate) fn list_stream<R: Read, W: Write, T: BlobText>(
+    text: &mut T,
     alloc: Global,
     reader: &mut Tap<R>,
     writer: &mut Tap<W>,
     limits: Limits,
 ) -> Result<Report, ConvertFault>
-    ensures ok { IfOk result (λ report. Listed (LocatedStream limits 0) (listing_text what) R.remaining W.contents reader.old writer.old report reader.new writer.new) }
-    ensures err { IfErr result (λ fault. StoppedListing (LocatedStream limits 0) geometries_of (listing_text what) limits R.remaining W.contents reader.old writer.old fault reader.new writer.new) }
+    ensures ok { IfOk result (λ report. Listed (LocatedStream limits 0) (listing_text T.layout) R.remaining W.contents reader.old writer.old report reader.new writer.new) }
+    ensures err { IfErr result (λ fault. StoppedListing (LocatedStream limits 0) geometries_of (listing_text T.layout) limits R.remaining W.contents reader.old writer.old fault reader.new writer.new) }
     ensures flushed { IsFlushed result writer.new }
 {
     let mut output = Output::new(writer);
     let mut blobs = Reader::new(Input::new(reader), limits);
-    let listing = send_listing_and_flush(what, alloc, limits, &mut blobs, &mut output);
+    let listing = send_listing_and_flush(text, alloc, limits, &mut blobs, &mut output);
     let sent = output.sent();
     match listing {
         Ok(done) => Ok(Report {

@@ -3,7 +3,7 @@ ghost use Rattle.std.specs.Prelude.{IfOk, IfErr};
 ghost use Rattle.twkb_convert.specs.Flushing.{IsFlushed};
 ghost use Rattle.twkb_convert.specs.Unpacked.{StoppedUnpacking, Unpacked};
 
-use crate::listing::Listing;
+use crate::blob_text::TableRows;
 use crate::report::{ConvertFault, Report};
 use crate::stream_listing::list_stream;
 use std::alloc::Global;
@@ -27,5 +27,6 @@ pub fn unpack<R: Read, W: Write>(
     ensures err { IfErr result (λ fault. StoppedUnpacking limits R.remaining W.contents reader.old writer.old fault reader.new writer.new) }
     ensures flushed { IsFlushed result writer.new }
 {
-    list_stream(Listing::Table, alloc, reader, writer, limits)
+    let mut rows = TableRows::new(alloc);
+    list_stream(&mut rows, alloc, reader, writer, limits)
 }

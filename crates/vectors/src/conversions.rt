@@ -1,43 +1,17 @@
 //! The results of the conversions of blobs and tables, as lines of text.
 use super::text::{put_counts, put_hex, put_lines, put_stop};
 use std::alloc::Global;
-use twkb_convert::{ConvertFault, Report, Style, pack_styled, show, unpack};
+use twkb_convert::{Conversion, ConvertFault, Report, Style, convert};
 use twkb_geom::Limits;
 use twkb_io::Tap;
-
-/// A conversion.
-#[derive(Clone, Copy)]
-pub enum Conversion {
-    Unpack,
-    Show,
-    Full,
-    Plain,
-}
-
-// Converts an input to memory.
-fn convert(
-    alloc: Global,
-    what: Conversion,
-    limits: Limits,
-    input: &[u8],
-    writer: &mut Tap<Vec<u8>>,
-) -> Result<Report, ConvertFault> {
-    let mut reader = Tap::new(input);
-    match what {
-        Conversion::Unpack => unpack(alloc, &mut reader, writer, limits),
-        Conversion::Show => show(alloc, &mut reader, writer, limits),
-        Conversion::Full => pack_styled(alloc, &mut reader, writer, limits, Style::Full),
-        Conversion::Plain => pack_styled(alloc, &mut reader, writer, limits, Style::Plain),
-    }
-}
 
 // The word of a conversion.
 fn word_of(what: Conversion) -> &'static [u8] {
     match what {
         Conversion::Unpack => b"\n  unpack",
         Conversion::Show => b"\n  show",
-        Conversion::Full => b"\n  full",
-        Conversion::Plain => b"\n  plain",
+        Conversion::Pack(Style::Full) => b"\n  full",
+        Conversion::Pack(Style::Plain) => b"\n  plain",
     }
 }
 
@@ -58,13 +32,14 @@ pub fn put_conversion(
     input: &[u8],
     text: &mut Vec<u8>,
 ) -> Vec<u8> {
+    let mut reader = Tap::new(input);
     let mut writer = Tap::new(Vec::new(alloc));
-    let answer = convert(alloc, what, limits, input, &mut writer);
+    let answer = convert(alloc, what, &mut reader, &mut writer, limits);
     let written = writer.into_inner();
     put_counts(alloc, text, word_of(what), &counts_of(answer));
     match what {
         Conversion::Unpack | Conversion::Show => put_lines(text, &written),
-        _ => put_hex(alloc, text, &written),
+        Conversion::Pack(_) => put_hex(alloc, text, &written),
     }
     put_stop(alloc, text, answer.err());
     written
@@ -75,6 +50,6 @@ pub fn put_conversion(
 pub fn put_all(alloc: Global, limits: Limits, blob: &[u8], text: &mut Vec<u8>) {
     put_conversion(alloc, Conversion::Show, limits, blob, text);
     let table = put_conversion(alloc, Conversion::Unpack, limits, blob, text);
-    put_conversion(alloc, Conversion::Full, limits, &table, text);
-    put_conversion(alloc, Conversion::Plain, limits, &table, text);
+    put_conversion(alloc, Conversion::Pack(Style::Full), limits, &table, text);
+    put_conversion(alloc, Conversion::Pack(Style::Plain), limits, &table, text);
 }

@@ -1,5 +1,5 @@
 //! The words that begin a line of the input.
-use super::conversions::{Conversion, put_all, put_conversion};
+use super::conversions::{put_all, put_conversion};
 use super::devices::{put_input, put_output};
 use super::fields::put_field;
 use super::forms::{put_form, put_tree};
@@ -10,6 +10,7 @@ use super::streams::{put_located, put_read};
 use super::tables::{put_rows_table, put_table};
 use super::text::{bytes_of, count_of, cut_word, lines_of};
 use std::alloc::Global;
+use twkb_convert::{Conversion, Style};
 use twkb_geom::Limits;
 use twkb_num::{Five, Leb128};
 
@@ -95,9 +96,9 @@ fn answer_lines(alloc: Global, limits: Limits, what: Word, lines: &[u8], text: &
     match what {
         Word::Geometry => put_tree(alloc, limits, lines, text),
         Word::Form => put_form(alloc, lines, text),
-        Word::Full => put_rows_table(alloc, Conversion::Full, limits, lines, text),
-        Word::Plain => put_rows_table(alloc, Conversion::Plain, limits, lines, text),
-        Word::Table => put_table(alloc, Conversion::Full, limits, lines, text),
+        Word::Full => put_rows_table(alloc, Style::Full, limits, lines, text),
+        Word::Plain => put_rows_table(alloc, Style::Plain, limits, lines, text),
+        Word::Table => put_table(alloc, Style::Full, limits, lines, text),
         _ => {}
     }
 }

@@ -1,8 +1,9 @@
 //! Each way to read a table: the rows of its geometries, and the fault after them.
-use super::conversions::{Conversion, put_conversion};
+use super::conversions::put_conversion;
 use super::text::{put, put_lines, put_stop, table_of};
 use std::alloc::Global;
 use std::io::Read;
+use twkb_convert::{Conversion, Style};
 use twkb_geom::{Flat, Geometry, Limits, Rows, Work};
 use twkb_io::Tap;
 use twkb_table::{TableFault, TableReader, header_text, put_flat_rows, put_rows};
@@ -92,14 +93,8 @@ fn is_one(
 
 /// Prints the blobs of a table in a style and its rows as read, and whether some way to read it
 /// differs.
-pub fn put_table(
-    alloc: Global,
-    what: Conversion,
-    limits: Limits,
-    table: &[u8],
-    text: &mut Vec<u8>,
-) {
-    let blobs = put_conversion(alloc, what, limits, table, text);
+pub fn put_table(alloc: Global, style: Style, limits: Limits, table: &[u8], text: &mut Vec<u8>) {
+    let blobs = put_conversion(alloc, Conversion::Pack(style), limits, table, text);
     let mut rows = Vec::new(alloc);
     let fault = read_by(alloc, Way::Trees, limits, table, &mut rows);
     put(text, b"\n  rows");
@@ -113,10 +108,10 @@ pub fn put_table(
 /// Prints the blobs and rows of the table with these rows.
 pub fn put_rows_table(
     alloc: Global,
-    what: Conversion,
+    style: Style,
     limits: Limits,
     rows: &[u8],
     text: &mut Vec<u8>,
 ) {
-    put_table(alloc, what, limits, &table_of(alloc, rows), text);
+    put_table(alloc, style, limits, &table_of(alloc, rows), text);
 }

@@ -5,7 +5,7 @@ use Rattle.twkb_convert.proofs.blob_sending.send_each.Goals as goal
 
 pub loop-done-init : goal.loop-done-init
 loop-done-init g c = record {
-  sent = sent_none c.args.what g.W.Write.contents c.args.reader.now c.args.output.now;
+  sent = sent_none g.T.BlobText.layout g.W.Write.contents c.args.reader.now c.args.output.now;
   follows = record { same_tap = refl; limits = refl; failures = refl; within = c.args.reader.now.input.within };
   reader = c.requires.reader;
   going_on = c.requires.going_on;
@@ -29,7 +29,7 @@ loop-done-preserved g c =
     let kept = c.loop-done.invariant in
     let one = c.in-Ok-true.ensures.more (search rules) in
     record {
-      sent = sent_more c.args.what g.W.Write.contents _ _ _ _ _ _ c.loop-done.done kept.sent kept.follows.limits one;
+      sent = sent_more g.T.BlobText.layout g.W.Write.contents _ _ _ _ _ _ c.loop-done.done kept.sent kept.follows.limits one;
       follows = follows_trans _ _ _ _ kept.follows c.in-Ok-true.ensures.follows;
       reader = c.in-Ok-true.ensures.fresh;
       going_on = c.in-Ok-true.ensures.going_on (search rules);
@@ -57,6 +57,6 @@ returns-in-Err g c =
     record {
       ok = tt;
       unfailed = tt;
-      err = cut_blobs c.args.what g.W.Write.contents _ _ _ _ _ _ c.loop-done.done c.in-Err.why kept.sent kept.follows.limits kept.output c.in-Err.ensures.err;
+      err = cut_blobs g.T.BlobText.layout g.W.Write.contents _ _ _ _ _ _ c.loop-done.done c.in-Err.why kept.sent kept.follows.limits kept.output c.in-Err.ensures.err;
       stops = search rules;
     }

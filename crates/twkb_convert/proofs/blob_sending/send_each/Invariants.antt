@@ -9,7 +9,7 @@ use Rattle.twkb_convert.proofs.blob_sending.send_each.Given as goal
 abbrev pub invariant-loop-done : goal.invariant-loop-done
 invariant-loop-done g l =
     record {
-      sent : SentBlobs l.what g.W.Write.contents l.fn.reader l.fn.output l.reader l.output l.done;
+      sent : SentBlobs g.T.BlobText.layout g.W.Write.contents l.fn.reader l.fn.output l.reader l.output l.done;
       follows : Follows l.fn.reader l.reader false;
       reader : is_spent l.reader ≡ false;
       going_on : has_ended l.reader ≡ false;

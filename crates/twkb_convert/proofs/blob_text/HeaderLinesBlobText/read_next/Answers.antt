@@ -2,7 +2,7 @@ use Rattle.std.proofs.Common.{Bool, rules}
 use Rattle.twkb_blob.specs.Sessions.{session_rows}
 use Rattle.twkb_convert.proofs.BlobTexts.{follows_stop, lines_given, text_stopped}
 use Rattle.twkb_convert.proofs.SessionLemmas.{ended_blobs}
-use Rattle.twkb_convert.proofs.blob_text.next_lines.Goals as goal
+use Rattle.twkb_convert.proofs.blob_text.HeaderLinesBlobText.read_next.Goals as goal
 
 pub returns-in-Ok-false : goal.returns-in-Ok-false
 returns-in-Ok-false g c = record {

@@ -2,7 +2,7 @@ use Rattle.std.proofs.Common.{Bool, rules}
 use Rattle.twkb_blob.specs.Sessions.{session_rows}
 use Rattle.twkb_convert.proofs.BlobTexts.{follows_stop, rows_given, text_stopped}
 use Rattle.twkb_convert.proofs.SessionLemmas.{ended_blobs}
-use Rattle.twkb_convert.proofs.blob_text.next_rows.Goals as goal
+use Rattle.twkb_convert.proofs.blob_text.TableRowsBlobText.read_next.Goals as goal
 
 pub returns-clause-more : goal.returns-clause-more
 returns-clause-more g c = λ found.
