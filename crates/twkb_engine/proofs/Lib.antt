@@ -5,6 +5,7 @@ pub mod Lists
 pub mod BodyItems
 pub mod Counts
 pub mod Parts
+pub mod Items
 pub mod Members
 pub mod Ahead
 pub mod Steps
