@@ -1,5 +1,5 @@
 -- A y: where it leads, and what it brings.
-use Rattle.std.proofs.Common.{◌≡◌, ℕ, zero, suc, ◌+◌, ◌-◌, ◌<◌, ◌^◌, List, refl, sym, ap, ◌∙◌, subst, arith, true, if◌then◌else◌, Ok, None}
+use Rattle.std.proofs.Common.{◌≡◌, ℕ, zero, suc, ◌-◌, ◌<◌, List, refl, sym, ap, ◌∙◌, subst, arith, true, if◌then◌else◌, Ok, None}
 use Rattle.std.specs.Prelude.{ℤ, Option}
 use Rattle.twkb_points.specs.Point.{Point}
 use Rattle.twkb_tree.specs.Tree.{Ids}
@@ -9,7 +9,6 @@ use Rattle.twkb_tree.specs.declared.kind.Kind.TheVariants as kinds
 use Rattle.twkb_grammar.specs.Roles as role
 use Rattle.twkb_grammar.specs.Fault.{moved}
 use Rattle.twkb_grammar.specs.Machine as machine
-use Rattle.twkb_grammar.specs.Machine.{Sums}
 use Rattle.twkb_body.specs.Outline.{Group, OnBody, Wanted, shut, outline_ends}
 use Rattle.twkb_body.specs.Growing.{NewPoint, point_change}
 use Rattle.twkb_body.specs.Head.{head_of, form_of}
@@ -17,21 +16,11 @@ use Rattle.twkb_body.specs.Ids.{ids_of}
 use Rattle.twkb_engine.specs.Collections.{groups_of}
 use Rattle.twkb_engine.specs.State.{ids_in, body_at}
 use Rattle.twkb_engine.specs.Fits.{lists_of, left_fit, lists_fit, has_lines, has_members}
-use Rattle.twkb_engine.specs.Taking.{IsFree, sums_with, shut_at, last_lists, point_row}
-use Rattle.twkb_engine.specs.Standing.{IsAlive}
+use Rattle.twkb_engine.specs.Taking.{IsFree, shut_at, last_lists, point_row}
+use Rattle.twkb_engine.specs.Standing.{ComesNext}
 use Rattle.twkb_engine.specs.declared.next_item.NextItem.TheVariants as next
 use Rattle.twkb_engine.specs.declared.engine.Engine.{Engine}
 use Rattle.twkb_engine.proofs.Items.{Leads, leads_as, number_leads, past_with}
-use Rattle.twkb_engine.proofs.Parts.{add_zero}
-
-pub y_sums : (e : Sums) (n width : ℕ) {p : Point} → p ≡ moved e.position role.Y n
-    → (let s : Sums = record { bytes = e.bytes + width; position = p; nodes = e.nodes; points = e.points } in s) ≡ sums_with e role.Y n width
-y_sums e n width there = λ i. record {
-  bytes = e.bytes + width;
-  position = there i;
-  nodes = add_zero e.nodes i;
-  points = add_zero e.points i;
-}
 
 -- a kind with points left in a list has lists of points
 lines_left : (k : Kind) (p r m : ℕ) → 0 < p → left_fit k p r m ≡ true → has_lines k ≡ true
@@ -40,37 +29,46 @@ lines_left kinds.Linestring (suc p) r m some fits = refl
 lines_left k (suc p) r m some fits = grind arith
 
 -- there a point comes to the last row
-line_point : (k : Kind) (p : Point) (depth : ℕ) (id : Option ℤ) (precision : ℤ) (member : Option ℤ)
-    → has_lines k ≡ true → point_change p depth id precision (form_of k) member ≡ NewPoint p
+line_point : (k : Kind) (p : Point) (depth : ℕ) (id : Option ℤ) (precision : ℤ) (member : Option ℤ) → has_lines k ≡ true → point_change p depth id precision (form_of k) member ≡ NewPoint p
 line_point kinds.Linestring p depth id precision member has = refl
 line_point k p depth id precision member has = cc
 
 -- and the next one comes
-line_goes_on : (k : Kind) (h : machine.Head) (ids : Ids) (gs : List Group) (bytes p r m : ℕ) → has_lines k ≡ true
-    → (let there = if has_members k then ids else None in
-    outline_ends bytes (gs, shut h (form_of k) there 0 (lists_of k (suc p) r m)) ≡ Ok (gs, OnBody h (form_of k) there (Wanted 0 (lists_of k p r m))))
+line_goes_on : (k : Kind) (h : machine.Head) (ids : Ids) (gs : List Group) (bytes p r m : ℕ)
+    → has_lines k ≡ true → (let there = if has_members k then ids else None in
+    outline_ends bytes (gs, shut h (form_of k) there 0 (lists_of k (suc p) r m))
+    ≡ Ok (gs, OnBody h (form_of k) there (Wanted 0 (lists_of k p r m))))
 line_goes_on kinds.Linestring h ids gs bytes p r m has = refl
 line_goes_on k h ids gs bytes p r m has = cc
 
-module _ {rs : List Row} {d : Engine} {n : ℕ} {p : Point} (alive : IsAlive rs d) (is : d.next ≡ next.Y) (wide : n < 2 ^ 64) (width : ℕ) (free : IsFree role.Y n d) (there : p ≡ moved d.position role.Y n) where
-  y_leads : Leads rs d role.Y n width (past_with width d (shut_at d 0 (lists_of d.head.kind d.points_left d.rings_left d.members_left))) (point_row p d)
+module _ {rs : List Row} {d : Engine} {n width : ℕ} {p : Point} (at : ComesNext next.Y rs d n width)
+    (free : IsFree role.Y n d) (there : p ≡ moved d.position role.Y n) where
+  y_leads : Leads rs d role.Y n width (past_with width d (shut_at d 0 (lists_of d.head.kind
+      d.points_left d.rings_left d.members_left))) (point_row p d)
   y_leads =
-      leads_as (number_leads alive is role.Y n width refl (λ at. at) tt wide free) refl
+      leads_as (number_leads at.alive at.next role.Y n width refl (λ p. p) tt at.wide free) refl
       (ap (λ q. point_row q d) (sym there))
 
   -- the last point of a list leads past its end
-  pub y_last : d.points_left ≡ 0 → Leads rs d role.Y n width (past_with width d (shut_at d 0 (last_lists d))) (point_row p d)
+  pub y_last : d.points_left ≡ 0 → Leads rs d role.Y n width (past_with width d (shut_at d 0
+      (last_lists d))) (point_row p d)
   y_last none =
       leads_as y_leads
-      (ap (λ k. past_with width d (shut_at d 0 (lists_of d.head.kind k d.rings_left d.members_left))) none) refl
+      (ap (λ k. past_with width d (shut_at d 0 (lists_of d.head.kind k d.rings_left
+      d.members_left))) none) refl
 
   -- another to the next one, and it comes to the last row
-  pub y_more : 0 < d.points_left → Leads rs d role.Y n width (Ok (groups_of d.collections, body_at d (Wanted 0 (lists_of d.head.kind (d.points_left - 1) d.rings_left d.members_left)))) (NewPoint p)
+  pub y_more : 0 < d.points_left
+      → Leads rs d role.Y n width
+      (Ok (groups_of d.collections, body_at d (Wanted 0 (lists_of d.head.kind (d.points_left - 1) d.rings_left d.members_left)))) (NewPoint p)
   y_more some =
       let one : d.points_left ≡ suc (d.points_left - 1) = omega (arith, some) in
-      let fits = subst (λ i. lists_fit i d.head.kind d.points_left d.rings_left d.members_left ≡ true) is d.lists_fit in
+      let fits = subst (λ i. lists_fit i d.head.kind d.points_left d.rings_left d.members_left
+      ≡ true) at.next d.lists_fit in
       let has = lines_left d.head.kind d.points_left d.rings_left d.members_left some fits in
       leads_as y_leads
-      (ap (λ k. past_with width d (shut_at d 0 (lists_of d.head.kind k d.rings_left d.members_left))) one
-      ∙ line_goes_on d.head.kind (head_of d.head) (ids_of d.ids) (groups_of d.collections) _ _ d.rings_left d.members_left has)
+      (ap (λ k. past_with width d (shut_at d 0 (lists_of d.head.kind k d.rings_left
+      d.members_left))) one
+      ∙ line_goes_on d.head.kind (head_of d.head) (ids_of d.ids) (groups_of d.collections) _ _
+      d.rings_left d.members_left has)
       (line_point d.head.kind p d.head.depth d.head.id d.head.precision (first_id (ids_in d)) has)

@@ -56,7 +56,9 @@ last_id below (g ∷ f ∷ gs) (suc i) d at = last_id (group_of g ∷ below) (f 
 
 -- ---- a collection that ends, or whose member does, in the places of all
 
-module _ (places : SmallVec OpenCollection) {m now : List OpenCollection} {n : ℕ} (d k : OpenCollection) (same : m ≡ places.items) (le : n ≤ length places.items) (is : now ≡ take n places.items) (some : 0 < n) (bytes : ℕ) where
+module _ (places : SmallVec OpenCollection) {m now : List OpenCollection} {n : ℕ}
+    (d k : OpenCollection) (same : m ≡ places.items) (le : n ≤ length places.items) (is : now
+    ≡ take n places.items) (some : 0 < n) (bytes : ℕ) where
   abbrev last : OpenCollection
   last = get_or m (n - 1) d
 
@@ -64,30 +66,37 @@ module _ (places : SmallVec OpenCollection) {m now : List OpenCollection} {n : �
   stood : now ≡ take (n - 1) places.items ++ last ∷ []
   stood =
       let one : n ≡ suc (n - 1) = omega (arith, some) in
-      is ∙ (ap (λ j. take j places.items) one ∙ (take-suc places.items (n - 1) d (omega (arith, le, some))
-      ∙ ap (λ (xs : List OpenCollection). take (n - 1) places.items ++ get_or xs (n - 1) d ∷ []) (sym same)))
+      is ∙ (ap (λ j. take j places.items) one ∙ (take-suc places.items (n - 1) d
+      (omega (arith, le, some))
+      ∙ ap (λ (xs : List OpenCollection). take (n - 1) places.items ++ get_or xs (n - 1) d ∷ [])
+      (sym same)))
 
   -- another takes its place
   changed : (with_items places (set m (n - 1) k)).items ≡ set m (n - 1) k
   changed = items-with_items places (set m (n - 1) k) (length-set m (n - 1) k ∙ ap length same)
 
   -- a member ends that others follow
-  pub member_goes_on : 0 < last.members_left → k.members_left ≡ last.members_left - 1 → head_of k.head ≡ head_of last.head
-      → ids_of k.ids ≡ other_ids (ids_of last.ids)
-      → outline_past_end true bytes (groups_of now) ≡ Ok (groups_of (take n (with_items places (set m (n - 1) k)).items), OnHeader)
+  pub member_goes_on : 0 < last.members_left → k.members_left ≡ last.members_left - 1
+      → head_of k.head ≡ head_of last.head → ids_of k.ids ≡ other_ids (ids_of last.ids)
+      → outline_past_end true bytes (groups_of now)
+      ≡ Ok (groups_of (take n (with_items places (set m (n - 1) k)).items), OnHeader)
   member_goes_on =
       going_on bytes now (take (n - 1) places.items) _ last k stood
-      (ap (take n) changed ∙ (take-set_at m (n - 1) n k (omega (arith, some)) (omega (arith, le, some, ap length same))
+      (ap (take n) changed ∙ (take-set_at m (n - 1) n k (omega (arith, some))
+      (omega (arith, le, some, ap length same))
       ∙ ap (λ (xs : List OpenCollection). take (n - 1) xs ++ k ∷ []) same))
 
   -- the last member ends
   pub member_goes_up : last.members_left ≤ 0
-      → outline_past_end (exact last.head.size (bytes - last.head.from)) bytes (groups_of (take (n - 1) (with_items places (set m (n - 1) k)).items))
+      → outline_past_end (exact last.head.size (bytes - last.head.from)) bytes
+      (groups_of (take (n - 1) (with_items places (set m (n - 1) k)).items))
       ≡ outline_past_end true bytes (groups_of now)
   member_goes_up z =
-      ap (λ (gs : List OpenCollection). outline_past_end (exact last.head.size (bytes - last.head.from)) bytes (groups_of gs))
+      ap (λ (gs : List OpenCollection). outline_past_end (exact last.head.size
+      (bytes - last.head.from)) bytes (groups_of gs))
       (ap (take (n - 1)) changed ∙ (take-set m (n - 1) k ∙ ap (take (n - 1)) same))
-      ∙ going_up bytes now (take (n - 1) places.items) last (head_of last.head) stood (omega (arith, z)) refl
+      ∙ going_up bytes now (take (n - 1) places.items) last (head_of last.head) stood
+      (omega (arith, z)) refl
 
 -- the id of the open member of the innermost
 pub innermost_id : (items m now : List OpenCollection) (n : ℕ) (d : OpenCollection) → m ≡ items → n ≤ length items → now ≡ take n items → 0 < n

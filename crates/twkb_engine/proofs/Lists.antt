@@ -59,12 +59,13 @@ next_inside kinds.Collection n en body = absurd cc
 next_inside k n en body = rw en tt
 
 -- the header keeps its place
-placed_by : (k : Kind) (n : NextItem) (e : Engine) → n ≡ first_item k → is_bodied k ≡ true → IsHere e → IsPlaced n e
+placed_by : (k : Kind) (n : NextItem) (e : Engine) → n ≡ first_item k → is_bodied k ≡ true
+    → IsHere e → IsPlaced n e
 placed_by kinds.Collection n e en body at = absurd cc
 placed_by k n e en body at = subst (λ (m : NextItem). IsPlaced m e) (sym en) at
 
-pub next_placed : (d e : Engine) → e.next ≡ first_item d.head.kind → is_bodied d.head.kind ≡ true → e.head ≡ d.head
-    → e.collections ≡ d.collections → IsHere d → IsPlaced e.next e
+pub next_placed : (d e : Engine) → e.next ≡ first_item d.head.kind → is_bodied d.head.kind ≡ true
+    → e.head ≡ d.head → e.collections ≡ d.collections → IsHere d → IsPlaced e.next e
 next_placed d e en body eh eg at = placed_by d.head.kind e.next e en body (place_at d e eg eh at)
 
 -- ---- what a point brings

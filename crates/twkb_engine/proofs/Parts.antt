@@ -64,13 +64,15 @@ begun_noted holds old new d told (Err e) f few = tt
 pub add_zero : (a : ℕ) → a ≡ a + 0
 add_zero a = omega arith
 
--- the sums after an item that announces nothing
-pub none_more : (b : ℕ) (p : Point) (nodes points : ℕ) → (let s : machine.Sums = record { bytes = b; position = p; nodes = nodes; points = points } in s) ≡ record { bytes = b; position = p; nodes = nodes + 0; points = points + 0 }
-none_more b p nodes points = λ i. record { bytes = b; position = p; nodes = add_zero nodes i; points = add_zero points i }
-
 -- the sums, which are those after the item
+pub sums_as : {b c : ℕ} {p q : Point} {nodes many points most : ℕ} → b ≡ c → p ≡ q → nodes ≡ many
+    → points ≡ most
+    → (let s : machine.Sums = record { bytes = b; position = p; nodes = nodes; points = points } in
+    s) ≡ record { bytes = c; position = q; nodes = many; points = most }
+sums_as eb ep en et = λ i. record { bytes = eb i; position = ep i; nodes = en i; points = et i }
+
 pub sums_same : (b c : ℕ) (p q : Point) (nodes many points most : ℕ) → b ≡ c → p ≡ q → nodes ≡ many → points ≡ most → (let s : machine.Sums = record { bytes = b; position = p; nodes = nodes; points = points } in s) ≡ record { bytes = c; position = q; nodes = many; points = most }
-sums_same b c p q nodes many points most eb ep en et = λ i. record { bytes = eb i; position = ep i; nodes = en i; points = et i }
+sums_same b c p q nodes many points most = sums_as
 
 -- ---- after a metadata byte
 

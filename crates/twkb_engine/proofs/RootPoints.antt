@@ -55,7 +55,9 @@ exact_behind None first used exact = refl
 exact_behind (Some n) first used exact = let same : (0 + used) - 3 ≡ used - 3 = omega arith in ap (λ k. is_exact (Some n) k) same ∙ exact
 
 -- such a point is a blob
-pub point_blob : (limits : Allowance) (bytes : List ℕ) (used : ℕ) (size : Option ℕ) (to : Point) → IsAllowance limits → 0 < limits.points → WholePoint bytes to used size → get_or bytes 0 0 < 256 → is_exact size (used - 3) ≡ true
+pub point_blob : (limits : Allowance) (bytes : List ℕ) (used : ℕ) (size : Option ℕ) (to : Point)
+    → IsAllowance limits → 0 < limits.points → WholePoint bytes to used size
+    → get_or bytes 0 0 < 256 → is_exact size (used - 3) ≡ true
     → MadeIn limits [] bytes used (root_rows bytes to)
 point_blob limits bytes used size to allowed some p low exact =
     let first = get_or bytes 0 0 in
@@ -63,11 +65,16 @@ point_blob limits bytes used size to allowed some p low exact =
     let blob : List ℕ = take used bytes in
     let after : ℕ → Sums = λ n. sums_behind nothing n to in
     let rows_are = root_rows bytes to in
-    let there = header_point_read limits [] nothing [] [] (header_bytes first size) p.steps known to (header_read limits first allowed low p.kind some size p.short) p.pair in
-    let cut = subst (λ l. Outlined limits l (after (length l)) ([], OnEnd known) rows_are) (sym p.whole) there in
-    let ended = subst (λ n. Outlined limits blob (after n) ([], OnEnd known) rows_are) (length-take-le used bytes p.within) cut in
+    let there = header_point_read limits [] nothing [] [] (header_bytes first size) p.steps known to
+    (header_read limits first allowed low p.kind some size p.short) p.pair in
+    let cut = subst (λ l. Outlined limits l (after (length l)) ([], OnEnd known) rows_are)
+    (sym p.whole) there in
+    let ended = subst (λ n. Outlined limits blob (after n) ([], OnEnd known) rows_are)
+    (length-take-le used bytes p.within) cut in
     let way = ap (λ t. outline_past_end t (0 + used) []) (exact_behind size first used exact) in
-    let w = outlined_whole limits blob (after used) rows_are (subst (OutlineLanded limits blob (after used) rows_are) way (outlined_ends limits blob (after used) ([], OnEnd known) rows_are ended)) in
+    let w = outlined_whole limits blob (after used) rows_are (subst (OutlineLanded limits blob
+    (after used) rows_are) way (outlined_ends limits blob (after used) ([], OnEnd known)
+    rows_are ended)) in
     record { some = p.some; within = p.within; geometry = w.0; blob = w.1; made = sym w.2 }
 
 -- the only row is this one, a point's of this precision
@@ -88,10 +95,13 @@ point_spans limits bytes (simple q (point o)) start p own b first (is, named, pr
     let all : length (join b.items) ≡ length bytes = ap length b.spelled in
     let meta : b.are_items.meta ≡ get_or bytes 1 0 = ap (λ l. get_or (join l) 1 0) (sym b.are_items.whole) ∙ ap (λ l. get_or l 1 0) b.spelled in
     λ t. record { level = 0; offset = start; kind = kind.Point; precision = same t; metadata = meta t; length = all t; points = one t } ∷ []
-point_spans limits bytes g start p own b first is = absurd (let k = first_kind (rows 0 g) own p is in cc)
+point_spans limits bytes g start p own b first is =
+    absurd (let k = first_kind (rows 0 g) own p is in cc)
 
 -- a point at the start of these bytes has the span of its bytes
-root_spans : (limits : Allowance) (start used : ℕ) (piece : List ℕ) (g : Tree) (to : Point) (b : Blob limits (take used piece) g) → 3 ≤ used → root_rows piece to ≡ rows 0 g → point_span start (take used piece) ∷ [] ≡ spans_of_blob start b
+root_spans : (limits : Allowance) (start used : ℕ) (piece : List ℕ) (g : Tree) (to : Point)
+    (b : Blob limits (take used piece) g) → 3 ≤ used → root_rows piece to ≡ rows 0 g
+    → point_span start (take used piece) ∷ [] ≡ spans_of_blob start b
 root_spans limits start used piece g to b long made =
     let p : ℤ = first_precision piece in
     let own : Row = whole_row 0 kind.Point None p (to ∷ []) in
@@ -153,9 +163,13 @@ root_stops rs d piece used more bare none m = λ bs s.
     subst (λ l. PartIn d.limits l piece) (sym (no_bytes bs rs d s bare none)) (record { used = used; some = m.some; within = m.within; part = blob_judged d.limits (take used piece) m.geometry m.blob })
 
 -- the point was taken
-pub root_fed : {S : Type 0} (holds : S → Notes → Type 0) (bs piece : List ℕ) (rs more : List Row) (d e : Engine) (old new : S) (used : ℕ) (to : Point) (s : StandsAt bs rs d) → d.bytes ≡ 0 → held_in d ≡ [] → held_in e ≡ [] → (BeginsAt d.start d → BeginsAt (d.start + used) e)
-    → 3 ≤ used → MadeIn d.limits [] piece used more → more ≡ root_rows piece to → (holds old no_notes → holds new (record { spans = point_span d.start (take used piece) ∷ []; begun = [] }))
-    → IsFed holds (holds old (notes_at s)) d.limits d.start bs piece (Ok (used, true)) more e new
+pub root_fed : {S : Type 0} (holds : S → Notes → Type 0) (bs piece : List ℕ) (rs more : List Row)
+    (d e : Engine) (old new : S) (used : ℕ) (to : Point) (s : StandsAt bs rs d) → d.bytes ≡ 0
+    → held_in d ≡ [] → held_in e ≡ [] → (BeginsAt d.start d → BeginsAt (d.start + used) e)
+    → 3 ≤ used → MadeIn d.limits [] piece used more → more ≡ root_rows piece to
+    → (holds old no_notes → holds new
+    (record { spans = point_span d.start (take used piece) ∷ []; begun = [] })) → IsFed holds
+    (holds old (notes_at s)) d.limits d.start bs piece (Ok (used, true)) more e new
 root_fed holds bs piece rs more d e old new used to s bare none alone onward long m row put =
     let none_read = no_bytes bs rs d s bare none in
     let b = onward (begins bs rs d s bare none) in

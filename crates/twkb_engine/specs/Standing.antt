@@ -1,5 +1,5 @@
 -- What an engine stands for.
-use Rattle.std.specs.Prelude.{◌≡◌, ◌⊎◌, ℕ, ◌+◌, ◌<◌, ◌≤◌, List, [], ◌++◌, length, take, Bool, true, false, Result, Ok, Err, ⊤}
+use Rattle.std.specs.Prelude.{◌≡◌, ◌⊎◌, ℕ, ◌+◌, ◌<◌, ◌≤◌, ◌^◌, List, [], ◌++◌, length, take, Bool, true, false, Result, Ok, Err, ⊤}
 use Rattle.twkb_tree.specs.Tree.{Tree}
 use Rattle.twkb_tree.specs.Limits.{Allowance}
 use Rattle.twkb_tree.specs.Rows.{Row, rows}
@@ -15,6 +15,7 @@ use Rattle.twkb_engine.specs.State.{IsPlaced, IsNext, allowance_of, sums_of, out
 use Rattle.twkb_engine.specs.Fits.{IsByte}
 use Rattle.twkb_body.specs.JudgedParts.{IsJudged, PartIn}
 use Rattle.twkb_engine.specs.Stops.{reason_of}
+use Rattle.twkb_engine.specs.declared.next_item.NextItem.{NextItem}
 use Rattle.twkb_engine.specs.declared.engine.Engine.{Engine}
 use Rattle.twkb_engine.specs.declared.stop.Stop.{Stop}
 use Rattle.twkb_engine.specs.declared.stop.Stop.TheVariants.{Memory, Refused}
@@ -71,6 +72,13 @@ pub record SaysNext (d : Engine) (bytes : List ℕ) (n count : ℕ) : Type 0 whe
   pub within : count ≤ length bytes
   pub fits : IsByte d.next → (n < 256) × (count ≡ 1)
   pub gives : (r : Role) → IsNext r d → Gives r n (take count bytes)
+
+-- this item comes next, with this number, in this number of bytes, for which there is room
+pub record ComesNext (item : NextItem) (rs : List Row) (d : Engine) (n width : ℕ) : Type 0 where
+  pub next : d.next ≡ item
+  pub room : d.start + (d.bytes + width) ≤ 2 ^ 63
+  pub wide : n < 2 ^ 64
+  pub alive : IsAlive rs d
 
 -- wherever the engine stands, a prefix of these bytes ends a part that was judged
 abbrev pub StopsIn : List Row → Engine → List ℕ → Type 0

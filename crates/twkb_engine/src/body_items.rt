@@ -25,7 +25,7 @@ impl Engine {
     ghost use Rattle.twkb_engine.specs.Fits.{left_fit, is_bodied, are_shut, IsInside};
     ghost use Rattle.twkb_engine.specs.Taking.{Takes, Lands, IsFree, SameBlob, Keeps, past_end, past_last, point_row};
     ghost use Rattle.twkb_engine.specs.Notes.{NotesGo, notes_with, notes_past, open_in};
-    ghost use Rattle.twkb_engine.specs.Standing.{IsAlive};
+    ghost use Rattle.twkb_engine.specs.Standing.{ComesNext};
 
     // Takes an x. Refused if it leads out of range.
     #[inline(always)]
@@ -53,7 +53,8 @@ impl Engine {
     fn moved_y(&self, number: u64) -> Option<Pt>
         ensures moved { IfSome result (λ to. to ≡ moved self.now.position role.Y number) }
         ensures free { IfSome result (λ to. IsFree role.Y number self.now) }
-        ensures refused { IfNone result (objection self.now.limits (sums_of self.now) role.Y number ≡ Some CoordinateRange) }
+        ensures refused { IfNone result
+            (objection self.now.limits (sums_of self.now) role.Y number ≡ Some CoordinateRange) }
     {
         let Some(position) = self.position.moved_y(unzigzag(number)) else {
             return None;
@@ -70,9 +71,7 @@ impl Engine {
         number: u64,
         width: u64,
     ) -> Result<bool, Stop>
-        requires next { self.old.next ≡ next.Y }
-        requires room { self.old.start + (self.old.bytes + width) ≤ 2 ^ 63 }
-        requires alive { IsAlive flat.old self.old }
+        requires { ComesNext next.Y flat.old self.old number width }
         ensures taken { Takes role.Y number width self.old flat.old result self.new flat.new }
         ensures noted { IfOk result (λ ends. NotesGo S.holds (notes_with role.Y number width self.old self.new ends) self.old spans.old spans.new) }
         ensures placed { IsPlaced self.old.next self.old → OnOk result (IsPlaced self.new.next self.new) }
@@ -126,9 +125,7 @@ impl Engine {
         count: u64,
         width: u64,
     ) -> Result<bool, Stop>
-        requires next { self.old.next ≡ next.PointCount }
-        requires room { self.old.start + (self.old.bytes + width) ≤ 2 ^ 63 }
-        requires alive { IsAlive flat.old self.old }
+        requires { ComesNext next.PointCount flat.old self.old count width }
         ensures taken { Takes (role.Count (listed 0)) count width self.old flat.old result self.new flat.new }
         ensures noted { IfOk result (λ ends. NotesGo S.holds (notes_with (role.Count (listed 0)) count width self.old self.new ends) self.old spans.old spans.new) }
         ensures placed { IsPlaced self.old.next self.old → OnOk result (IsPlaced self.new.next self.new) }
@@ -158,9 +155,7 @@ impl Engine {
         count: u64,
         width: u64,
     ) -> Result<bool, Stop>
-        requires next { self.old.next ≡ next.RingCount }
-        requires room { self.old.start + (self.old.bytes + width) ≤ 2 ^ 63 }
-        requires alive { IsAlive flat.old self.old }
+        requires { ComesNext next.RingCount flat.old self.old count width }
         ensures taken { Takes (role.Count (listed 1)) count width self.old flat.old result self.new flat.new }
         ensures noted { IfOk result (λ ends. NotesGo S.holds (notes_with (role.Count (listed 1)) count width self.old self.new ends) self.old spans.old spans.new) }
         ensures placed { IsPlaced self.old.next self.old → OnOk result (IsPlaced self.new.next self.new) }

@@ -33,7 +33,7 @@ impl Engine {
     ghost use Rattle.twkb_engine.specs.Fits.{IsInside, are_shut, is_typed};
     ghost use Rattle.twkb_engine.specs.Taking.{Takes, Lands, SameBlob, SameBut, Keeps, Stays, past_parts, header_row};
     ghost use Rattle.twkb_engine.specs.Notes.{NotesGo, notes_with, notes_past};
-    ghost use Rattle.twkb_engine.specs.Standing.{IsAlive, LeadsOn, StopsIn, held_in};
+    ghost use Rattle.twkb_engine.specs.Standing.{IsAlive, ComesNext, LeadsOn, StopsIn, held_in};
 
     // The geometry that this type byte begins, and its span. A span takes memory.
     #[inline(always)]
@@ -174,9 +174,7 @@ impl Engine {
         number: u64,
         width: u64,
     ) -> Result<bool, Stop>
-        requires next { self.old.next ≡ next.Size }
-        requires room { self.old.start + (self.old.bytes + width) ≤ 2 ^ 63 }
-        requires alive { IsAlive flat.old self.old }
+        requires { ComesNext next.Size flat.old self.old number width }
         ensures taken { Takes role.Size number width self.old flat.old result self.new flat.new }
         ensures noted { IfOk result (λ ends. NotesGo S.holds (notes_with role.Size number width self.old self.new ends) self.old spans.old spans.new) }
         ensures placed { IsPlaced self.old.next self.old → OnOk result (IsPlaced self.new.next self.new) }

@@ -1,5 +1,5 @@
 //! The items before the members of a multi-geometry or a collection: their count and their ids.
-ghost use Rattle.std.specs.Prelude.{◌≡◌, ◌+◌, ◌≤◌, ◌<◌, ◌^◌, ◌++◌, ◌∷◌, [], nat_lt, suc, length, false, None, IfOk, OnOk};
+ghost use Rattle.std.specs.Prelude.{◌≡◌, ◌+◌, ◌<◌, ◌++◌, ◌∷◌, [], nat_lt, suc, length, false, None, IfOk, OnOk};
 ghost use Rattle.twkb_num.specs.Zigzag.{unzigzag_of};
 ghost use Rattle.twkb_grammar.specs.Bits.{bit};
 ghost use Rattle.twkb_grammar.specs.Roles as role;
@@ -30,7 +30,8 @@ use twkb_tree::Kind;
 // Appends the id that this number says. It takes memory.
 #[inline(always)]
 fn push_id(ids: &mut MemberIds, number: u64) -> Result<(), AllocError>
-    ensures pushed { OnOk result (ids_read ids.new ≡ ids_read ids.old ++ unzigzag_of number ∷ []) }
+    ensures pushed { OnOk result
+        (ids_read ids.new ≡ ids_read ids.old ++ unzigzag_of number ∷ []) }
     ensures has { ids.new.has_ids ≡ ids.old.has_ids }
 {
     ids.push(unzigzag(number))?;
@@ -43,7 +44,7 @@ impl Engine {
     ghost use Rattle.twkb_engine.specs.Fits.{depth_cap};
     ghost use Rattle.twkb_engine.specs.Taking.{Takes, Lands, SameBlob, Keeps, own_row, counted_row, past_end};
     ghost use Rattle.twkb_engine.specs.Notes.{NotesGo, notes_with, notes_past, open_in};
-    ghost use Rattle.twkb_engine.specs.Standing.{IsAlive};
+    ghost use Rattle.twkb_engine.specs.Standing.{ComesNext};
 
     // Why this number of further rows and points is not allowed, if it is not.
     #[inline(always)]
@@ -93,9 +94,7 @@ impl Engine {
         count: u64,
         width: u64,
     ) -> Result<bool, Stop>
-        requires next { self.old.next ≡ next.MemberCount }
-        requires room { self.old.start + (self.old.bytes + width) ≤ 2 ^ 63 }
-        requires alive { IsAlive flat.old self.old }
+        requires { ComesNext next.MemberCount flat.old self.old count width }
         ensures taken { Takes (role.Count (first_count (many_of self.old.head.kind) (length (groups_of self.old.collections)))) count width self.old flat.old result self.new flat.new }
         ensures noted { IfOk result (λ ends. NotesGo S.holds (notes_with (role.Count (first_count (many_of self.old.head.kind) (length (groups_of self.old.collections)))) count width self.old self.new ends) self.old spans.old spans.new) }
         ensures placed { IsPlaced self.old.next self.old → OnOk result (IsPlaced self.new.next self.new) }
@@ -120,7 +119,8 @@ impl Engine {
     fn end_counted<S: SpanNotes>(&mut self, flat: &mut Flat, spans: &mut S) -> Result<bool, Stop>
         requires next { self.old.next ≡ next.MemberCount }
         requires row { Admits (own_row self.old) flat.old }
-        ensures landed { Lands (past_end self.old) (own_row self.old) self.old flat.old result self.new flat.new }
+        ensures landed { Lands (past_end self.old) (own_row self.old) self.old flat.old result
+            self.new flat.new }
         ensures noted { IfOk result (λ ends. NotesGo S.holds (notes_past self.old self.new ends) self.old spans.old spans.new) }
         ensures placed { OnOk result (IsPlaced self.new.next self.new) }
         ensures kept { Keeps self.old self.new }
@@ -157,9 +157,7 @@ impl Engine {
     // Takes an id. It takes memory.
     #[inline(always)]
     pub(crate) fn id(&mut self, flat: &mut Flat, number: u64, width: u64) -> Result<bool, Stop>
-        requires next { self.old.next ≡ next.Id }
-        requires room { self.old.start + (self.old.bytes + width) ≤ 2 ^ 63 }
-        requires alive { IsAlive flat.old self.old }
+        requires { ComesNext next.Id flat.old self.old number width }
         ensures taken { Takes role.Id number width self.old flat.old result self.new flat.new }
         ensures begun { OnOk result (open_in self.new ≡ open_in self.old) }
         ensures placed { IsPlaced self.old.next self.old → OnOk result (IsPlaced self.new.next self.new) }

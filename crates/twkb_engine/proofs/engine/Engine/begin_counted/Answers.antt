@@ -14,9 +14,11 @@ returns-clause-step c =
     let bare : bit d.head.metadata 2 ≡ false = search rules in
     let none = c.restart.ensures.ids ∙ ap (λ b. if b then Some [] else None) c.if-has_ids.false in
     c.in_ok-begin_members.ensures.step
-    ∙ (ap (λ ids. open_at d ids (suc (c.args.count - 1))) none ∙ counted_bare (many_of d.head.kind) (head_of d.head) (groups_of d.collections) c.args.count c.requires.some bare)
+    ∙ (ap (λ ids. open_at d ids (suc (c.args.count - 1))) none ∙ counted_bare (many_of d.head.kind)
+    (head_of d.head) (groups_of d.collections) c.args.count c.requires.some bare)
 
 pub returns-clause-rows : goal.returns-clause-rows
 returns-clause-rows c =
     let bare : bit c.args.self.now.head.metadata 2 ≡ false = search rules in
-    c.in_ok-begin_members.ensures.rows ∙ ap (λ b. applied (if b then Nothing else own_row c.args.self.now) c.args.flat.now) (sym bare)
+    c.in_ok-begin_members.ensures.rows ∙ ap (λ b. applied (if b then Nothing else own_row
+    c.args.self.now) c.args.flat.now) (sym bare)

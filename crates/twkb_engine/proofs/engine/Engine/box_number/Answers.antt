@@ -9,12 +9,13 @@ use Rattle.twkb_engine.specs.declared.next_item.NextItem.TheVariants as next
 use Rattle.twkb_engine.specs.declared.engine.Engine.{Engine}
 use Rattle.twkb_engine.proofs.Admitted.{alive_placed}
 use Rattle.twkb_engine.proofs.Items.{Leads, past_with, given_leads, number_leads, takes}
-use Rattle.twkb_engine.proofs.Parts.{none_more}
+use Rattle.twkb_engine.proofs.Parts.{sums_as, add_zero}
 use Rattle.twkb_engine.proofs.engine.Engine.box_number.Goals as goal
 
 -- the last number of a box, whatever it is
 last_leads : {rs : List Row} {d : Engine} → IsAlive rs d → d.next ≡ next.BoxNumber 0 → (n width : ℕ)
-    → Leads rs d role.Box n width (past_with width d (options (kind_of d.head.kind) (head_of d.head) [])) (header_row d [])
+    → Leads rs d role.Box n width (past_with width d (options (kind_of d.head.kind) (head_of d.head)
+    [])) (header_row d [])
 last_leads {rs} {d} alive is n width =
     let here = alive_placed rs d (next.BoxNumber 0) is (λ at. at) alive in
     given_leads alive is role.Box n width refl (sym here.depth_is) (sym here.id_is) refl
@@ -28,5 +29,6 @@ begin_body-requires-clause-may g c =
 pub returns-clause-taken : goal.returns-clause-taken
 returns-clause-taken g c = λ number.
     let last : c.args.left ≡ 0 = omega (arith, c.if-left-gt0.false) in
-    takes (last_leads c.requires.alive (c.requires.next ∙ ap next.BoxNumber last) number c.args.width)
-    _ _ _ _ (none_more _ _ _ _) refl refl c.begin_body.ensures.landed
+    takes (last_leads c.requires.alive (c.requires.next ∙ ap next.BoxNumber last) number
+    c.args.width)
+    _ _ _ _ (sums_as refl refl (add_zero _) (add_zero _)) refl refl c.begin_body.ensures.landed

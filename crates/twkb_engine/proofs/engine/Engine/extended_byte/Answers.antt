@@ -1,14 +1,16 @@
 use Rattle.std.proofs.Common.{refl, rules}
 use Rattle.twkb_grammar.specs.Roles as role
 use Rattle.twkb_engine.proofs.Items.{byte_leads, takes}
-use Rattle.twkb_engine.proofs.Parts.{none_more}
+use Rattle.twkb_engine.proofs.Parts.{sums_as, add_zero}
 use Rattle.twkb_engine.proofs.engine.Engine.extended_byte.Goals as goal
 
 pub after_extended-requires-clause-may : goal.after_extended-requires-clause-may
 after_extended-requires-clause-may g c =
-    (byte_leads c.requires.alive c.requires.next role.Extended c.args.number 1 refl _ (λ at. at) (c.requires.byte, refl) (search rules)).admits
+    (byte_leads c.requires.alive c.requires.next role.Extended c.args.number 1 refl _ (λ at. at)
+    (c.requires.byte, refl) (search rules)).admits
 
 pub returns-clause-taken : goal.returns-clause-taken
 returns-clause-taken g c =
-    takes (byte_leads c.requires.alive c.requires.next role.Extended c.args.number 1 refl _ (λ at. at) (c.requires.byte, refl) (search rules))
-    _ _ _ _ (none_more _ _ _ _) refl refl c.after_extended.ensures.landed
+    takes (byte_leads c.requires.alive c.requires.next role.Extended c.args.number 1 refl _
+    (λ at. at) (c.requires.byte, refl) (search rules))
+    _ _ _ _ (sums_as refl refl (add_zero _) (add_zero _)) refl refl c.after_extended.ensures.landed

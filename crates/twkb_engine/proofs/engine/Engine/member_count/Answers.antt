@@ -1,31 +1,33 @@
-use Rattle.std.proofs.Common.{◌∙◌, ◌<◌, Ok, refl, sym, ap, subst, arith, rules}
+use Rattle.std.proofs.Common.{◌∙◌, ◌+◌, ◌<◌, Ok, refl, sym, ap, subst, arith, rules}
 use Rattle.std.specs.Prelude.{if◌then◌else◌}
 use Rattle.twkb_body.specs.Growing.{Nothing}
 use Rattle.twkb_body.specs.Admitting.{Admits}
-use Rattle.twkb_body.specs.Head.{head_of, many_of}
 use Rattle.twkb_body.specs.Reading.{open_count}
 use Rattle.twkb_engine.specs.State.{step_at}
 use Rattle.twkb_engine.specs.Collections.{groups_of}
 use Rattle.twkb_engine.specs.Taking.{own_row}
 use Rattle.twkb_engine.proofs.Admitted.{alive_room}
 use Rattle.twkb_engine.proofs.Items.{takes, takes_on, takes_none}
-use Rattle.twkb_engine.proofs.Members.{count_in, count_none, count_some, count_sums, counted_begin, open_after}
+use Rattle.twkb_engine.proofs.Members.{count_in, count_none, count_some, count_nodes, count_begins, open_after}
+use Rattle.twkb_engine.proofs.Parts.{sums_as}
 use Rattle.twkb_engine.proofs.Steps.{quiet_noted}
 use Rattle.twkb_engine.proofs.engine.Engine.member_count.Goals as goal
 
 pub end_counted-requires-clause-row : goal.end_counted-requires-clause-row
 end_counted-requires-clause-row g c =
-    (count_none c.requires.alive c.ranges.count.fits 0 c.requires.next (search rules) (search rules)).admits
+    (count_none c.requires (search rules) (search rules)).admits
 
 pub returns-then-count-eq0-clause-taken : goal.returns-then-count-eq0-clause-taken
 returns-then-count-eq0-clause-taken g c =
-    takes (count_none c.requires.alive c.ranges.count.fits c.args.width c.requires.next (search rules) (search rules))
-    _ _ _ _ (count_sums c.args.self.now c.args.count _ c.member_points-points.ensures) refl refl c.end_counted.ensures.landed
+    takes (count_none c.requires (search rules) (search rules)) _ _ _ _
+    (sums_as refl refl (count_nodes c.args.self.now c.args.count)
+    (ap (λ x. c.args.self.now.points + x) c.member_points-points.ensures)) refl refl
+    c.end_counted.ensures.landed
 
 pub begin_counted-requires-clause-row : goal.begin_counted-requires-clause-row
 begin_counted-requires-clause-row g c = λ bare.
-    let l = count_some c.requires.alive c.ranges.count.fits 0 c.requires.next (search rules) (omega (arith, c.if-count-eq0.false)) in
-    subst (λ b. Admits (if b then Nothing else own_row c.args.self.now) c.args.flat.now) bare l.admits
+    subst (λ b. Admits (if b then Nothing else own_row c.args.self.now) c.args.flat.now) bare
+    (count_some c.requires (search rules) (omega (arith, c.if-count-eq0.false))).admits
 
 pub begin_counted-requires-clause-room : goal.begin_counted-requires-clause-room
 begin_counted-requires-clause-room g c = alive_room c.args.flat.now c.args.self.now c.requires.alive
@@ -33,20 +35,26 @@ begin_counted-requires-clause-room g c = alive_room c.args.flat.now c.args.self.
 pub returns-in_err-begin_counted-clause-taken : goal.returns-in_err-begin_counted-clause-taken
 returns-in_err-begin_counted-clause-taken g c =
     let some : 0 < c.args.count = omega (arith, c.if-count-eq0.false) in
-    takes_none (count_some c.requires.alive c.ranges.count.fits c.args.width c.requires.next (search rules) some)
-    _ _ _ c.from_residual.ensures.1 (counted_begin {bytes = 0} {gs = groups_of c.args.self.now.collections} (head_of c.args.self.now.head) (many_of c.args.self.now.head.kind) c.args.count some).pass
+    takes_none (count_some c.requires (search rules) some) _ _ _ c.from_residual.ensures.1
+    (count_begins c.args.self.now some).pass
 
 pub returns-clause-taken : goal.returns-clause-taken
 returns-clause-taken g c =
+    let d = c.args.self.now in
     let b = c.in_ok-begin_counted.ensures in
     let called = c.begin_counted.ensures in
-    takes_on (count_some c.requires.alive c.ranges.count.fits c.args.width c.requires.next (search rules) (omega (arith, c.if-count-eq0.false)))
-    (ap Ok (sym b.step)) (called.sums ∙ count_sums c.args.self.now c.args.count _ c.member_points-points.ensures) b.rows
+    takes_on (count_some c.requires (search rules) (omega (arith, c.if-count-eq0.false)))
+    (ap Ok (sym b.step))
+    (called.sums ∙ sums_as refl refl (count_nodes d c.args.count) (ap (λ x. d.points + x)
+    c.member_points-points.ensures)) b.rows
     (record { limits = called.same.limits; start = called.same.start })
 
 pub returns-clause-noted : goal.returns-clause-noted
 returns-clause-noted g c =
     let d = c.args.self.now in
-    let begins = counted_begin {bytes = 0} {gs = groups_of d.collections} (head_of d.head) (many_of d.head.kind) c.args.count (omega (arith, c.if-count-eq0.false)) in
-    quiet_noted g.S.SpanNotes.holds (count_in d) c.args.count c.args.width d c.begin_counted.new.self c.args.spans.now tt
-    (open_after d c.begin_counted.new.self c.in_ok-begin_counted.ensures.step begins (ap (λ i. open_count (groups_of d.collections, step_at i d)) c.requires.next))
+    quiet_noted g.S.SpanNotes.holds (count_in d) c.args.count c.args.width d
+    c.begin_counted.new.self
+    c.args.spans.now tt (open_after d c.begin_counted.new.self
+    c.in_ok-begin_counted.ensures.step
+    (count_begins d (omega (arith, c.if-count-eq0.false)))
+    (ap (λ i. open_count (groups_of d.collections, step_at i d)) c.requires.next))

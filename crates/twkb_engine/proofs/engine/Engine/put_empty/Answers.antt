@@ -9,9 +9,12 @@ pub returns-in_err-push_row-clause-shut : goal.returns-in_err-push_row-clause-sh
 returns-in_err-push_row-clause-shut g c =
     let d = c.args.self.now in
     let e = c.end_value.new.self in
-    lands_unkept (past_last d) d e c.args.flat.now (NewRow (row_with c.args.row [])) c.push_row.new.flat
-    c.from_residual-in_err-push_row.result c.from_residual-in_err-push_row.ensures.1 (λ y same. same)
-    (lands_passed (past_last d) d e c.args.flat.now c.in_ok-ends.ends (past_lists d (last_lists d))
+    lands_unkept (past_last d) d e c.args.flat.now (NewRow (row_with c.args.row []))
+    c.push_row.new.flat
+    c.from_residual-in_err-push_row.result c.from_residual-in_err-push_row.ensures.1
+    (λ y same. same)
+    (lands_passed (past_last d) d e c.args.flat.now c.in_ok-ends.ends (past_lists d
+    (last_lists d))
     (c.in_ok-ends.ensures.ended c.args.flat.now))
 
 pub returns-clause-shut : goal.returns-clause-shut

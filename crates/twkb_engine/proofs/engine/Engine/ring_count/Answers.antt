@@ -1,27 +1,31 @@
 use Rattle.std.proofs.Common.{sym, arith, refl}
-use Rattle.twkb_engine.specs.State.{sums_of}
 use Rattle.twkb_engine.proofs.Items.{takes, takes_on}
-use Rattle.twkb_engine.proofs.Counts.{ring_sums, rings_end, rings_begin}
+use Rattle.twkb_engine.proofs.Counts.{rings_end, rings_begin}
+use Rattle.twkb_engine.proofs.Parts.{sums_as, add_zero}
 use Rattle.twkb_engine.proofs.engine.Engine.ring_count.Goals as goal
 
 pub put_empty-requires-clause-may : goal.put_empty-requires-clause-may
 put_empty-requires-clause-may g c =
-    (rings_end _ c.requires.alive c.ranges.count.fits 0 c.first.ensures c.requires.next (sym c.in_default.ensures)
-    c.ring_list_row-row.ensures c.if-count-eq0.true).admits
+    (rings_end _ c.requires c.first.ensures refl (sym c.in_default.ensures)
+    c.ring_list_row-row.ensures
+    c.if-count-eq0.true).admits
 
 pub returns-then-count-eq0-clause-taken : goal.returns-then-count-eq0-clause-taken
 returns-then-count-eq0-clause-taken g c =
-    takes (rings_end _ c.requires.alive c.ranges.count.fits c.args.width c.first.ensures c.requires.next
-    (sym c.in_default.ensures) c.ring_list_row-row.ensures c.if-count-eq0.true)
-    _ _ _ _ (ring_sums (sums_of c.args.self.now) _ _) refl refl c.put_empty.ensures.shut
+    takes (rings_end _ c.requires c.first.ensures refl (sym c.in_default.ensures)
+    c.ring_list_row-row.ensures
+    c.if-count-eq0.true) _ _ _ _ (sums_as refl refl refl (add_zero _)) refl refl
+    c.put_empty.ensures.shut
 
 pub push_row-requires : goal.push_row-requires
 push_row-requires g c =
-    (rings_begin _ c.requires.alive c.ranges.count.fits 0 c.first.ensures c.requires.next (sym c.in_default.ensures)
-    c.ring_list_row-row.ensures (omega (arith, c.if-count-eq0.false))).admits
+    (rings_begin _ c.requires c.first.ensures refl (sym c.in_default.ensures)
+    c.ring_list_row-row.ensures
+    (omega (arith, c.if-count-eq0.false))).admits
 
 pub returns-clause-taken : goal.returns-clause-taken
 returns-clause-taken g c =
-    takes_on (rings_begin _ c.requires.alive c.ranges.count.fits c.args.width c.first.ensures c.requires.next
-    (sym c.in_default.ensures) c.ring_list_row-row.ensures (omega (arith, c.if-count-eq0.false)))
-    refl (ring_sums (sums_of c.args.self.now) _ _) c.in_ok-push_row.ensures.pushed (record { limits = refl; start = refl })
+    takes_on (rings_begin _ c.requires c.first.ensures refl (sym c.in_default.ensures)
+    c.ring_list_row-row.ensures
+    (omega (arith, c.if-count-eq0.false))) refl (sums_as refl refl refl (add_zero _))
+    c.in_ok-push_row.ensures.pushed (record { limits = refl; start = refl })
