@@ -53,21 +53,18 @@ module _ {rs : List Row} {d : Engine} {n width : ℕ} {p : Point} (at : ComesNex
   pub y_last : d.points_left ≡ 0 → Leads rs d role.Y n width (past_with width d (shut_at d 0
       (last_lists d))) (point_row p d)
   y_last none =
-      leads_as y_leads
-      (ap (λ k. past_with width d (shut_at d 0 (lists_of d.head.kind k d.rings_left
+      leads_as y_leads (ap (λ k. past_with width d (shut_at d 0 (lists_of d.head.kind k d.rings_left
       d.members_left))) none) refl
 
   -- another to the next one, and it comes to the last row
-  pub y_more : 0 < d.points_left
-      → Leads rs d role.Y n width
+  pub y_more : 0 < d.points_left → Leads rs d role.Y n width
       (Ok (groups_of d.collections, body_at d (Wanted 0 (lists_of d.head.kind (d.points_left - 1) d.rings_left d.members_left)))) (NewPoint p)
   y_more some =
       let one : d.points_left ≡ suc (d.points_left - 1) = omega (arith, some) in
       let fits = subst (λ i. lists_fit i d.head.kind d.points_left d.rings_left d.members_left
       ≡ true) at.next d.lists_fit in
       let has = lines_left d.head.kind d.points_left d.rings_left d.members_left some fits in
-      leads_as y_leads
-      (ap (λ k. past_with width d (shut_at d 0 (lists_of d.head.kind k d.rings_left
+      leads_as y_leads (ap (λ k. past_with width d (shut_at d 0 (lists_of d.head.kind k d.rings_left
       d.members_left))) one
       ∙ line_goes_on d.head.kind (head_of d.head) (ids_of d.ids) (groups_of d.collections) _ _
       d.rings_left d.members_left has)

@@ -95,8 +95,7 @@ module _ {i : NextItem} {rs : List Row} {d : Engine} {n width : ℕ} {member : O
       → Begins inner here
   begins inner lists here l same some =
       let one : n ≡ suc (n - 1) = omega (arith, some) in
-      leads_as l
-      (ap (λ k. list_at inner k lists) one ∙ ap (λ (ls : List ℕ). past_with width d
+      leads_as l (ap (λ k. list_at inner k lists) one ∙ ap (λ (ls : List ℕ). past_with width d
       (body_at d (Wanted inner ls))) (sym same)) refl
 
   module _ (is : i ≡ next.PointCount) (free : IsFree (role.Count (listed 0)) n d)
@@ -107,8 +106,7 @@ module _ {i : NextItem} {rs : List Row} {d : Engine} {n width : ℕ} {member : O
     points_lead : Counts 0 (line_lists_of d.head.kind d.rings_left d.members_left)
     points_lead =
         leads_as (number_leads at.alive (at.next ∙ is) (role.Count (listed 0)) n width refl (λ p. p)
-        tt at.wide free) refl
-        (ap NewRow (made_here 0 made lined))
+        tt at.wide free) refl (ap NewRow (made_here 0 made lined))
 
     pub points_end : Ends 0
     points_end =
@@ -127,8 +125,7 @@ module _ {i : NextItem} {rs : List Row} {d : Engine} {n width : ℕ} {member : O
     rings_lead : Counts 1 (area_lists_of d.head.kind d.members_left)
     rings_lead =
         leads_as (number_leads at.alive (at.next ∙ is) (role.Count (listed 1)) n width refl (λ p. p)
-        tt at.wide free) refl
-        (ap NewRow (made_here 1 made (areas_lined d.head.kind area)))
+        tt at.wide free) refl (ap NewRow (made_here 1 made (areas_lined d.head.kind area)))
 
     no_rings_left : d.rings_left ≡ 0
     no_rings_left =
@@ -141,8 +138,7 @@ module _ {i : NextItem} {rs : List Row} {d : Engine} {n width : ℕ} {member : O
         let lines = line_lists d.head.kind 0 d.rings_left d.members_left (areas_lined d.head.kind
         area) in
         let areas = area_lists d.head.kind d.rings_left d.members_left area in
-        ends 1 _ rings_lead
-        (ap (shut_at d 0) (lines ∙ (ap (λ (l : List ℕ). 0 ∷ l) areas
+        ends 1 _ rings_lead (ap (shut_at d 0) (lines ∙ (ap (λ (l : List ℕ). 0 ∷ l) areas
         ∙ ap (λ r. 0 ∷ r ∷ area_lists_of d.head.kind d.members_left) no_rings_left)))
 
     pub rings_begin : Begins 1 (line_lists_of d.head.kind (n - 1) d.members_left)

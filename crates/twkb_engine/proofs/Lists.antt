@@ -15,7 +15,7 @@ use Rattle.twkb_body.specs.Ids.{ids_of}
 use Rattle.twkb_engine.specs.Collections.{groups_of}
 use Rattle.twkb_engine.specs.State.{step_at, outline_in, IsHere, IsPlaced}
 use Rattle.twkb_engine.specs.Fits.{lists_of, left_fit, has_members, is_bodied, first_item, item_fits, lists_fit, IsInside}
-use Rattle.twkb_engine.specs.Taking.{past_value, point_row}
+use Rattle.twkb_engine.specs.Taking.{past_last, point_row}
 use Rattle.twkb_engine.specs.declared.next_item.NextItem.{NextItem}
 use Rattle.twkb_engine.specs.declared.open_collections.OpenCollection.{OpenCollection}
 use Rattle.twkb_body.specs.declared.head.Head.{Head}
@@ -38,7 +38,7 @@ begun_member kinds.MultiPolygon e h ids gs bytes has body ek eg eh ei = rw (ek, 
 begun_member k e h ids gs bytes has body ek eg eh ei = absurd cc
 
 pub next_member : (d e : Engine) → d.rings_left ≡ 0 → has_members d.head.kind ≡ true → is_bodied d.head.kind ≡ true → 0 < d.members_left → e.members_left ≡ d.members_left - 1 → e.head ≡ d.head → e.collections ≡ d.collections
-    → ids_of e.ids ≡ other_ids (ids_of d.ids) → e.next ≡ first_item d.head.kind → past_value d 0 (lists_of d.head.kind 0 d.rings_left d.members_left) ≡ Ok (outline_in e)
+    → ids_of e.ids ≡ other_ids (ids_of d.ids) → e.next ≡ first_item d.head.kind → past_last d ≡ Ok (outline_in e)
 next_member d e er has body some em eh eg ei en =
     let one : d.members_left ≡ suc e.members_left = omega (arith, some, em) in
     rw (er, one)

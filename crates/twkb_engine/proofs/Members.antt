@@ -157,8 +157,7 @@ module _ {rs : List Row} {d : Engine} {n width : ℕ} (at : ComesNext next.Membe
   pub count_none : n ≡ 0 → Leads rs d (count_in d) n width (past_with width d
       (OnEnd (head_of d.head))) (own_row d)
   count_none none =
-      leads_as count_leads
-      (ap (λ x. outline_ends (d.bytes + width) (counted_at d x)) none
+      leads_as count_leads (ap (λ x. outline_ends (d.bytes + width) (counted_at d x)) none
       ∙ ap (outline_ends (d.bytes + width)) (members_none (many_of d.head.kind) (head_of d.head)
       (groups_of d.collections)))
       (ap (λ x. count_change d.head.depth d.head.id (many_of d.head.kind) (head_of d.head) x) none
@@ -188,17 +187,14 @@ module _ {rs : List Row} {d : Engine} {n width : ℕ} (at : ComesNext next.Id rs
     longer = ap length pushed ∙ length-append (ids_read d.ids) (unzigzag_of n ∷ [])
 
     -- others follow it
-    pub id_more : length more ≤ d.members_left
-        → Leads rs d role.Id n width
+    pub id_more : length more ≤ d.members_left → Leads rs d role.Id n width
         (Ok (groups_of d.collections, on_id d more (d.members_left - length more))) Nothing
     id_more few =
         let left : d.members_left - length (ids_read d.ids) ≡ suc (d.members_left - length more) =
         omega (arith, longer, few) in
-        leads_as id_leads
-        (ap (λ l. way_at n width d (on_id d (ids_read d.ids) l)) left
+        leads_as id_leads (ap (λ l. way_at n width d (on_id d (ids_read d.ids) l)) left
         ∙ ap (λ (xs : List ℤ). past_with width d (on_id d xs (d.members_left - length more)))
-        (sym pushed))
-        (ap (λ l. id_change n d (on_id d (ids_read d.ids) l)) left)
+        (sym pushed)) (ap (λ l. id_change n d (on_id d (ids_read d.ids) l)) left)
 
     -- it is the last
     pub id_last : {ids : Ids} → ids ≡ Some more → d.members_left < length more
@@ -207,8 +203,7 @@ module _ {rs : List Row} {d : Engine} {n width : ℕ} (at : ComesNext next.Id rs
         let none : d.members_left - length (ids_read d.ids) ≡ 0 = omega (arith, longer, all) in
         let read : Some (ids_read d.ids ++ unzigzag_of n ∷ []) ≡ ids = ap Some (sym pushed)
         ∙ sym begun in
-        leads_as id_leads
-        (ap (λ l. way_at n width d (on_id d (ids_read d.ids) l)) none
+        leads_as id_leads (ap (λ l. way_at n width d (on_id d (ids_read d.ids) l)) none
         ∙ (ap (λ i. outline_ends (d.bytes + width) (open_at d i (suc d.members_left))) read
         ∙ (members_begin (head_of d.head) (many_of d.head.kind) ids d.members_left).past))
         (ap (λ l. id_change n d (on_id d (ids_read d.ids) l)) none

@@ -58,8 +58,7 @@ brought to h ids = point_change to h.depth h.id h.precision (form_of h.kind)
 module _ (rs : List Row) (d : Engine) (is : d.next ≡ next.X) (last : d.points_left ≡ 0) where
   here : outline_in d ≡ (groups_of d.collections, body_at d (Wanted 0 (last_lists d)))
   here =
-      ap (λ i. (groups_of d.collections, step_at i d)) is
-      ∙ ap (λ p.
+      ap (λ i. (groups_of d.collections, step_at i d)) is ∙ ap (λ p.
       (groups_of d.collections, body_at d (Wanted 0 (lists_of d.head.kind p d.rings_left d.members_left)))) last
 
   -- the header is that of the geometry in the open collections

@@ -17,8 +17,7 @@ pub returns-then-count-self-clause-taken : goal.returns-then-count-self-clause-t
 returns-then-count-self-clause-taken c =
     takes_on (id_more c.requires c.in_ok-push_id.ensures.pushed
     (omega (arith, c.count.ensures, c.if-count-self.true))) refl (sums_as refl refl (add_zero _)
-    (add_zero _)) refl
-    (record { limits = refl; start = refl })
+    (add_zero _)) refl (record { limits = refl; start = refl })
 
 pub begin_members-requires-clause-row : goal.begin_members-requires-clause-row
 begin_members-requires-clause-row c =

@@ -10,8 +10,7 @@ pub returns-in_err-ends-clause-shut : goal.returns-in_err-ends-clause-shut
 returns-in_err-ends-clause-shut g c =
     let d = c.args.self.now in
     lands_stopped (past_last d) d c.end_value.new.self _ (point_row c.args.position d) _
-    c.from_residual.result
-    c.in_err-ends.field-0.0 c.from_residual.ensures.1 (λ y same. same)
+    c.from_residual.result c.in_err-ends.field-0.0 c.from_residual.ensures.1 (λ y same. same)
     (c.in_err-ends.ensures.ended c.args.flat.now)
 
 pub put_point-requires : goal.put_point-requires
@@ -28,18 +27,15 @@ returns-in_err-put_point-clause-shut g c =
     lands_unkept (past_last d) d e c.args.flat.now (point_row c.args.position d)
     c.put_point.new.flat
     c.from_residual-in_err-put_point.result c.from_residual-in_err-put_point.ensures.1
-    (λ y same. same)
-    (lands_passed (past_last d) d e c.args.flat.now c.in_ok-ends.ends (past_lists d
-    (last_lists d))
-    (c.in_ok-ends.ensures.ended c.args.flat.now))
+    (λ y same. same) (lands_passed (past_last d) d e c.args.flat.now c.in_ok-ends.ends (past_lists d
+    (last_lists d)) (c.in_ok-ends.ensures.ended c.args.flat.now))
 
 pub returns-clause-shut : goal.returns-clause-shut
 returns-clause-shut g c =
     let d = c.args.self.now in
     let e = c.end_value.new.self in
     lands_brought (past_last d) d e c.args.flat.now (point_row c.args.position d)
-    c.put_point.new.flat
-    c.in_ok-ends.ends (c.in_ok-ends.ensures.ended c.args.flat.now)
+    c.put_point.new.flat c.in_ok-ends.ends (c.in_ok-ends.ensures.ended c.args.flat.now)
     (c.in_ok-put_point.ensures.put
     ∙ ap (λ (h : Change). applied h c.args.flat.now) (point_there d e.head c.first-member.result
     c.args.position c.in_ok-ends.ensures.head c.first-member.ensures))

@@ -53,8 +53,6 @@ pub returns-clause-noted : goal.returns-clause-noted
 returns-clause-noted g c =
     let d = c.args.self.now in
     quiet_noted g.S.SpanNotes.holds (count_in d) c.args.count c.args.width d
-    c.begin_counted.new.self
-    c.args.spans.now tt (open_after d c.begin_counted.new.self
-    c.in_ok-begin_counted.ensures.step
-    (count_begins d (omega (arith, c.if-count-eq0.false)))
+    c.begin_counted.new.self c.args.spans.now tt (open_after d c.begin_counted.new.self
+    c.in_ok-begin_counted.ensures.step (count_begins d (omega (arith, c.if-count-eq0.false)))
     (ap (λ i. open_count (groups_of d.collections, step_at i d)) c.requires.next))

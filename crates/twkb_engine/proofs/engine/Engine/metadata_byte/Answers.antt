@@ -74,5 +74,4 @@ returns-clause-taken g c =
     one (search rules) (sym c.has_extended.ensures ∙ c.if-has_extended.false) s.same.collections
     s.same.bytes s.kind s.head s.placed)
     _ _ _ _ (sums_as s.same.bytes s.position (s.same.nodes ∙ add_zero d.nodes) (s.same.points
-    ∙ ap (λ x. d.points + x) one))
-    s.same.limits s.same.start c.after_extended.ensures.landed)
+    ∙ ap (λ x. d.points + x) one)) s.same.limits s.same.start c.after_extended.ensures.landed)

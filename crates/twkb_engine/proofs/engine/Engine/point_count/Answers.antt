@@ -19,8 +19,7 @@ returns-then-count-eq0-clause-taken g c =
 pub push_row-requires : goal.push_row-requires
 push_row-requires g c =
     (points_begin _ c.requires c.first.ensures refl (sym c.in_default.ensures)
-    c.line_row-row.ensures
-    (omega (arith, c.if-count-eq0.false))).admits
+    c.line_row-row.ensures (omega (arith, c.if-count-eq0.false))).admits
 
 pub returns-clause-taken : goal.returns-clause-taken
 returns-clause-taken g c =

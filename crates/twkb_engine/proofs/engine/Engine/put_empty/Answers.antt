@@ -12,10 +12,8 @@ returns-in_err-push_row-clause-shut g c =
     lands_unkept (past_last d) d e c.args.flat.now (NewRow (row_with c.args.row []))
     c.push_row.new.flat
     c.from_residual-in_err-push_row.result c.from_residual-in_err-push_row.ensures.1
-    (λ y same. same)
-    (lands_passed (past_last d) d e c.args.flat.now c.in_ok-ends.ends (past_lists d
-    (last_lists d))
-    (c.in_ok-ends.ensures.ended c.args.flat.now))
+    (λ y same. same) (lands_passed (past_last d) d e c.args.flat.now c.in_ok-ends.ends (past_lists d
+    (last_lists d)) (c.in_ok-ends.ensures.ended c.args.flat.now))
 
 pub returns-clause-shut : goal.returns-clause-shut
 returns-clause-shut g c =

@@ -7,8 +7,7 @@ use Rattle.twkb_engine.proofs.engine.Engine.ring_count.Goals as goal
 pub put_empty-requires-clause-may : goal.put_empty-requires-clause-may
 put_empty-requires-clause-may g c =
     (rings_end _ c.requires c.first.ensures refl (sym c.in_default.ensures)
-    c.ring_list_row-row.ensures
-    c.if-count-eq0.true).admits
+    c.ring_list_row-row.ensures c.if-count-eq0.true).admits
 
 pub returns-then-count-eq0-clause-taken : goal.returns-then-count-eq0-clause-taken
 returns-then-count-eq0-clause-taken g c =
@@ -20,8 +19,7 @@ returns-then-count-eq0-clause-taken g c =
 pub push_row-requires : goal.push_row-requires
 push_row-requires g c =
     (rings_begin _ c.requires c.first.ensures refl (sym c.in_default.ensures)
-    c.ring_list_row-row.ensures
-    (omega (arith, c.if-count-eq0.false))).admits
+    c.ring_list_row-row.ensures (omega (arith, c.if-count-eq0.false))).admits
 
 pub returns-clause-taken : goal.returns-clause-taken
 returns-clause-taken g c =

@@ -32,5 +32,4 @@ pub returns-clause-taken : goal.returns-clause-taken
 returns-clause-taken g c =
     let at = c.in-Some.ensures in
     takes (y_last c.requires at.free at.moved (omega (arith, c.if-self-gt0.false)))
-    _ _ _ _ (sums_as refl at.moved (add_zero _) (add_zero _)) refl refl
-    c.last_point.ensures.shut
+    _ _ _ _ (sums_as refl at.moved (add_zero _) (add_zero _)) refl refl c.last_point.ensures.shut

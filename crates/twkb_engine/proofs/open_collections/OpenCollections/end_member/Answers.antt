@@ -12,5 +12,4 @@ returns-then-innermost-gt0-clause-goes_on c = λ bytes.
 pub returns-clause-goes_up : goal.returns-clause-goes_up
 returns-clause-goes_up c = λ bytes.
     member_goes_up c.self.inside.places _ _ c.as_mut_slice.ensures.value c.self.invariant
-    (sym c.self.view_is)
-    (omega (arith, c.if-self-eq0.false)) bytes c.if-innermost-gt0.false
+    (sym c.self.view_is) (omega (arith, c.if-self-eq0.false)) bytes c.if-innermost-gt0.false
