@@ -53,6 +53,11 @@ pub record StandsAt (bytes : List ℕ) (rs : List Row) (d : Engine) : Type 0 whe
 abbrev pub IsAlive : List Row → Engine → Type 0
 IsAlive rs d = ∥ ((bytes : List ℕ) × StandsAt bytes rs d) ∥₁
 
+-- it stands somewhere, and there is room for this number of bytes
+pub record IsReady (rs : List Row) (d : Engine) (many : ℕ) : Type 0 where
+  pub room : d.start + (count_of d + many) ≤ 2 ^ 63
+  pub alive : IsAlive rs d
+
 -- what was noted of the items that it took
 abbrev pub notes_at : {bytes : List ℕ} {rs : List Row} {d : Engine} → StandsAt bytes rs d → Notes
 notes_at {d = d} s = notes_in d.start s.outlined
@@ -139,3 +144,8 @@ IsEnd limits bs offset false = FirstFault limits bs offset Truncated
 -- those of its items before
 abbrev pub FedBy : {S : Type 0} → (S → Notes → Type 0) → Engine → List Row → S → List ℕ → Result (ℕ × Bool) Stop → Engine → List Row → S → Type 0
 FedBy holds d rs old bytes answer e more new = (bs : List ℕ) (s : StandsAt bs rs d) → IsFed holds (holds old (notes_at s)) (allowance_of d) d.start bs bytes answer more e new
+
+-- that is its answer to the bytes, wherever it stands, and it keeps its limits
+pub record IsAnswer {S : Type 0} (holds : S → Notes → Type 0) (d : Engine) (rs : List Row) (old : S) (bytes : List ℕ) (answer : Result (ℕ × Bool) Stop) (e : Engine) (more : List Row) (new : S) : Type 0 where
+  pub limits : e.limits ≡ d.limits
+  pub fed : FedBy holds d rs old bytes answer e more new

@@ -34,7 +34,7 @@ impl Engine {
         requires next { self.old.next ≡ next.X }
         requires room { self.old.start + (self.old.bytes + width) ≤ 2 ^ 63 }
         ensures taken { (rs : List TableRow) → Takes role.X number width self.old rs result self.new rs }
-        ensures begun { OnOk result (open_in self.new ≡ open_in self.old) }
+        ensures begun { IfOk result (λ ends. (ends ≡ false) × (open_in self.new ≡ open_in self.old)) }
         ensures placed { IsPlaced self.old.next self.old → OnOk result (IsPlaced self.new.next self.new) }
         ensures kept { Keeps self.old self.new }
     {
