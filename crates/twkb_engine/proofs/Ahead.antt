@@ -34,7 +34,7 @@ use Rattle.twkb_engine.specs.Notes.{NotesGo}
 use Rattle.twkb_engine.specs.declared.next_item.NextItem.{NextItem}
 use Rattle.twkb_engine.specs.declared.next_item.NextItem.TheVariants as next
 use Rattle.twkb_engine.specs.declared.engine.Engine.{Engine}
-use Rattle.twkb_engine.proofs.Parts.{point_allowed, sums_same, add_zero}
+use Rattle.twkb_engine.proofs.Parts.{point_allowed, sums_as, add_zero}
 use Rattle.twkb_engine.proofs.Steps.{open_noted, all_whole, noted_at, stands_whole}
 
 -- no bytes lead nowhere
@@ -159,7 +159,7 @@ module _ (d : Engine) (rs : List Row) (rest : List ℕ) (h : FrontHeader) (is : 
         let from : d.bytes + h.from ≡ (sums_there.bytes + 1) + h.parts.from = (let f = found.from in omega (arith, f)) in
         let o : ℕ → ℕ → Outline = λ x k. (groups_of d.collections, begins kind_here (sized_head precision_here x h.parts.size k)) in
         let t = stands_whole (front ++ take h.used rest) rs e read limits
-        (sums ∙ sums_same _ _ _ _ _ _ _ _ used refl (add_zero d.nodes) refl)
+        (sums ∙ sums_as used refl (add_zero d.nodes) refl)
         (step ∙ (ap (λ x. o x (d.bytes + h.from)) same ∙ ap (o (get_or left 0 0)) from))
         refl placed whole none in
         let noted = ap (λ x. note_metadata x (told_type e.start)) (sym same) ∙ ap (λ k. note_metadata h.metadata (told_type k)) start in

@@ -71,9 +71,6 @@ pub sums_as : {b c : ℕ} {p q : Point} {nodes many points most : ℕ} → b ≡
     s) ≡ record { bytes = c; position = q; nodes = many; points = most }
 sums_as eb ep en et = λ i. record { bytes = eb i; position = ep i; nodes = en i; points = et i }
 
-pub sums_same : (b c : ℕ) (p q : Point) (nodes many points most : ℕ) → b ≡ c → p ≡ q → nodes ≡ many → points ≡ most → (let s : machine.Sums = record { bytes = b; position = p; nodes = nodes; points = points } in s) ≡ record { bytes = c; position = q; nodes = many; points = most }
-sums_same b c p q nodes many points most = sums_as
-
 -- ---- after a metadata byte
 
 -- one point more may be announced

@@ -1,23 +1,17 @@
 -- A point that is complete at the start of the bytes, and the ends after it.
-use Rattle.std.proofs.Common.{◌≡◌, inr, ℕ, ◌+◌, List, [], ◌++◌, length, take, refl, sym, ap, ◌∙◌, subst, append-nil, length-append, arith, true, false, Bool, Result, Ok, Err, OnOk, IfOk}
+use Rattle.std.proofs.Common.{◌≡◌, ℕ, ◌+◌, List, [], ◌++◌, length, take, refl, sym, ap, ◌∙◌, subst, arith, true, false, Bool, Result, Ok, Err, OnOk, IfOk}
 use Rattle.std.specs.Prelude.{if◌then◌else◌, None}
 use Rattle.std.proofs.lemmas.List.{length-take-le}
 use Rattle.twkb_points.specs.Point.{Point}
 use Rattle.twkb_tree.specs.Rows.{Row, first_id}
-use Rattle.twkb_grammar.specs.Blob.{Blob}
-use Rattle.twkb_grammar.specs.Fault.{FirstFault}
-use Rattle.twkb_grammar.specs.Noting.{Notes, note_ends_to}
-use Rattle.twkb_grammar.specs.Spans.{spans_of_blob}
-use Rattle.twkb_body.specs.Outline.{Outline, Step, Wanted, OnFinished, shut}
+use Rattle.twkb_grammar.specs.Noting.{Notes}
+use Rattle.twkb_body.specs.Outline.{Outline, Step, Wanted, shut}
 use Rattle.twkb_body.specs.Growing.{Change, applied, point_change}
 use Rattle.twkb_body.specs.Admitting.{Admits}
-use Rattle.twkb_body.specs.Reading.{Outlined, OutlineLanded}
+use Rattle.twkb_body.specs.Reading.{Outlined}
 use Rattle.twkb_body.specs.Noting.{NotedOutline, notes_in}
-use Rattle.twkb_body.specs.JudgedParts.{IsJudged}
 use Rattle.twkb_body.proofs.Admitting.{admitted_by, point_admitted}
 use Rattle.twkb_body.proofs.NotedPairs.{noted_point}
-use Rattle.twkb_body.proofs.Outlined.{outlined_bytes, outlined_ends}
-use Rattle.twkb_body.proofs.Judging.{landed_judged}
 use Rattle.twkb_body.specs.Front.{PointInFront}
 use Rattle.twkb_body.specs.Head.{head_of, form_of}
 use Rattle.twkb_body.specs.Ids.{ids_of}
@@ -37,13 +31,9 @@ use Rattle.twkb_engine.specs.declared.next_item.NextItem.TheVariants as next
 use Rattle.twkb_engine.specs.declared.stop.Stop.{Stop}
 use Rattle.twkb_engine.specs.declared.stop.Stop.TheVariants.{Memory, Refused}
 use Rattle.twkb_engine.proofs.Ends.{many_open}
-use Rattle.twkb_engine.proofs.Steps.{all_whole, open_noted, noted_ends, outlined_blob, stands_begun}
+use Rattle.twkb_engine.proofs.Feeds.{Reads, past_on, past_blob, past_judged, past_wrong}
+use Rattle.twkb_engine.proofs.Steps.{all_whole, open_noted}
 use Rattle.twkb_engine.proofs.Many.{IsFurther, place_at}
-
--- an answer that is another by an equation
-pub answered_as : {S : Type 0} (holds : S → Notes → Type 0) (rest : List ℕ) (rs more : List Row) (d e : Engine) (old new : S) (used : ℕ) (answer other : Result Bool Stop) → answer ≡ other
-    → FedBy holds d rs old rest (with_used used answer) e more new → FedBy holds d rs old rest (with_used used other) e more new
-answered_as holds rest rs more d e old new used answer other is fed = subst (λ a. FedBy holds d rs old rest (with_used used a) e more new) is fed
 
 -- the step after a point that is the last of its list, or in none
 abbrev step_past : Head → MemberIds → (rings members : ℕ) → Step
@@ -128,8 +118,12 @@ module _ (rs : List Row) (d : Engine) (is : d.next ≡ next.X) (last : d.points_
             (record { bytes = size t; position = q.position t; nodes = q.nodes t; points = q.points t })
             (groups_of (q.collections t), step_past (q.head t) (q.ids t) (q.rings_left t) (q.members_left t)) (applied (brought to (q.head t) (q.ids t)) rs) told)) read
 
-        landed : OutlineLanded m.limits all (sums_of m) grown (past_last m)
-        landed = outlined_ends m.limits all (sums_of m) ended grown stood.outlined
+        reads : Reads m.limits bs rest used (sums_of m) ended grown told
+        reads = record {
+          some = cut.some;
+          within = cut.within;
+          stood = subst (λ l. NotedOutline m.limits l (sums_of m) ended grown told) whole stood;
+        }
 
         -- what is noted at its ends
         kept : (ends : Bool) → NotesGo holds (notes_past m e ends) m old new → Known
@@ -144,44 +138,13 @@ module _ (rs : List Row) (d : Engine) (is : d.next ≡ next.X) (last : d.points_
             → OnOk answer (IsPlaced e.next e) → IsFed holds Known m.limits m.start bs rest
             (with_used used answer) more e new
         fed limits empty (Ok false) l go placed =
-            let far : ℕ → Notes = λ start. note_ends_to (open_in e) (start + m.bytes) m.points
-            (told start) in
-            let a = noted_ends m.limits all (sums_of m) grown ended (outline_in e) told l.0 stood in
-            let f : NotedOutline e.limits all (sums_of e) (outline_in e) more far =
-            subst (λ (X : Type 0). X) (λ t. NotedOutline (sym limits t) all (sym l.1 t)
-            (outline_in e) (sym l.2 t) far) a in
-            let here : StandsAt all more e =
-            record { front = all; whole = sym (ap (λ l. all ++ l) empty ∙ append-nil all); outlined = f.outlined; placed = placed; spelled = inr empty } in
-            let noted : Known → holds new (notes_at here) = λ known. subst (holds new)
-            (sym (ap (λ start. notes_in start f.outlined) l.3.start ∙ f.notes m.start))
-            (kept false go known) in
-            let both = subst (λ b. (t : StandsAt b more e) × (Known → holds new (notes_at t))) whole
-            (here, noted) in
-            (cut.within, l.3.start, both.0, both.1)
+            past_on reads holds Known m.start more e new l.0 l.1 limits l.3.start l.2 placed empty
+            (kept false go)
         fed limits empty (Ok true) l go placed =
-            let a = noted_ends m.limits all (sums_of m) grown ended ([], OnFinished) told l.0
-            stood in
-            let w = outlined_blob m.limits all (sums_of m) grown a.outlined in
-            let last_told : Notes = notes_past m e true (told m.start) in
-            let spans : last_told.spans ≡ spans_of_blob m.start w.2 = ap (λ (v : Notes). v.spans)
-            (sym (a.notes m.start)) ∙ w.3 m.start in
-            let both = subst (λ b. (x : Blob m.limits b w.0) × (last_told.spans
-            ≡ spans_of_blob m.start x)) whole (w.2, spans) in (
-              record { some = cut.some; within = cut.within; geometry = w.0; blob = both.0; made = l.1 ∙ w.1 },
-              λ known. (last_told, kept true go known, both.1),
-              stands_begun (m.start + m.bytes) e l.2 empty,
-              omega (arith, l.2.start, ap (λ (l : List ℕ). length l) whole, length-append bs (take used rest), length-take-le used rest cut.within, outlined_bytes m.limits all (sums_of m) ended grown stood.outlined),
-            )
-        fed limits empty (Err Memory) l go placed =
-            record { used = used; some = cut.some; within = cut.within; part = subst (IsJudged m.limits) whole (landed_judged m.limits all (sums_of m) grown (past_last m) landed l) }
-        fed limits empty (Err (Refused why)) l go placed = record {
-          used = used;
-          some = cut.some;
-          within = cut.within;
-          fault = λ after. subst (λ (X : Type 0). X) (λ t. FirstFault m.limits (whole t ++ after)
-              (sym l.1 t) (reason_of why)) (subst (OutlineLanded m.limits all (sums_of m) grown) l.0
-              landed after);
-        }
+            past_blob reads holds Known m.start more e new l.0 l.2 l.1 empty (kept true go)
+        fed limits empty (Err Memory) l go placed = past_judged reads l
+        fed limits empty (Err (Refused why)) l go placed = past_wrong reads e.bytes (reason_of why)
+            l.0 l.1
 
       -- the answer to it is the answer to the piece
       pub point_fed : (answer : Result Bool Stop) → e.limits ≡ m.limits → e.held ≡ m.held

@@ -12,7 +12,7 @@ use Rattle.twkb_body.specs.Head.{kind_of, IsHeadAt}
 use Rattle.twkb_body.specs.declared.head.Head as place
 use Rattle.twkb_engine.specs.Collections.{groups_of}
 use Rattle.twkb_engine.proofs.Ahead.{leads_nowhere, kind_shown, step_kind, step_precision, any_placed, type_stops, header_leads}
-use Rattle.twkb_engine.proofs.Parts.{sums_same}
+use Rattle.twkb_engine.proofs.Parts.{sums_as}
 use Rattle.twkb_engine.proofs.engine.Engine.take_header.Goals as goal
 
 pub returns-in_default-clause-led : goal.returns-in_default-clause-led
@@ -54,5 +54,5 @@ returns-clause-led g c = λ rs front s.
     let placed = any_placed e.next e (subst (λ cs. IsHeadAt (length (groups_of cs)) (id_in (groups_of cs)) e.head) (sym last.collections) at) in
     header_leads d rs rest h c.requires.next c.requires.alone c.in-Some.ensures low front s low_meta points announced few g.S.SpanNotes.holds c.args.spans.now c.begin_geometry.new.spans c.set_metadata.new.spans e
     (last.kept.limits ∙ (t.same.limits ∙ b.same.limits)) (last.kept.held ∙ (t.same.held ∙ (b.same.held ∙ c.requires.alone))) (last.same.start ∙ (t.same.start ∙ b.same.start)) placed
-    (last.sums ∙ sums_same _ _ _ _ _ _ _ _ (ap (λ x. x + h.used) bytes) (t.position ∙ b.position) (t.same.nodes ∙ b.same.nodes) (t.same.points ∙ ap (λ x. x + points) b.same.points))
+    (last.sums ∙ sums_as (ap (λ x. x + h.used) bytes) (t.position ∙ b.position) (t.same.nodes ∙ b.same.nodes) (t.same.points ∙ ap (λ x. x + points) b.same.points))
     (last.step ∙ (λ i. (groups_of (collections i), begins (kind_is i) (sized_head (precision i) (meta i) h.parts.size (bytes i + h.from))))) b.noted t.told
