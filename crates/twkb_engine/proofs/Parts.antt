@@ -44,6 +44,8 @@ header_begins_as d k is t = rw is refl
 pub header_begins : (d : Engine) → d.next ≡ header_item d.head.kind → is_typed d.head.kind ≡ true → outline_in d ≡ (groups_of d.collections, begins (kind_of d.head.kind) (head_of d.head))
 header_begins d is t = ap (λ n. (groups_of d.collections, step_at n d)) is ∙ ap (λ s. (groups_of d.collections, s)) (header_begins_as d d.head.kind refl t)
 
+pub ruleset headers = (header_fits, header_lists, header_begins)
+
 -- ---- notes
 
 -- before a type byte few geometries are open

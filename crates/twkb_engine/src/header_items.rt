@@ -285,7 +285,7 @@ impl Engine {
 
     // The body begins, or the count of members comes next.
     #[inline(always)]
-    #[tactic(auto, using(crate::proofs::Parts::header_fits, crate::proofs::Parts::header_lists, crate::proofs::Parts::header_begins))]
+    #[tactic(auto, using(crate::proofs::Parts::headers))]
     fn go_to_body(&mut self)
         requires typed { is_typed self.old.head.kind ≡ true }
         requires shut { are_shut self.old.points_left self.old.rings_left self.old.members_left ≡ true }
