@@ -43,13 +43,9 @@ leads_nowhere holds rs d old = λ front s. (record { front = s.front; whole = ap
 
 -- a header is of a kind that is shown as the code shows it
 pub kind_shown : (k : machine.Kind) → kind_of (shown k) ≡ k
-kind_shown (machine.SimpleKind machine.PointForm) = refl
-kind_shown (machine.SimpleKind machine.LineForm) = refl
-kind_shown (machine.SimpleKind machine.PolygonForm) = refl
-kind_shown (machine.SimpleKind machine.MultiPointForm) = refl
-kind_shown (machine.SimpleKind machine.MultiLineForm) = refl
-kind_shown (machine.SimpleKind machine.MultiPolygonForm) = refl
 kind_shown machine.CollectionKind = refl
+kind_shown (machine.SimpleKind machine.PointForm) = refl
+kind_shown (machine.SimpleKind f) = refl
 
 -- the byte names a type
 type_free : (n : ℕ) → 0 < n → n < 8 → unless (nat_eq n 0 || nat_lt 7 n) BadType None ≡ None

@@ -10,6 +10,7 @@ pub mod Members
 pub mod Ahead
 pub mod Steps
 pub mod Feeds
+pub mod Answering
 pub mod Between
 pub mod Many
 pub mod RootPoints

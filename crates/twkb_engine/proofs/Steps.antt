@@ -1,5 +1,6 @@
 -- An item that comes next: its role, what it notes, and the step after it and the ends that follow.
 use Rattle.std.proofs.Common.{◌≡◌, ◌⊎◌, inl, inr, ℕ, zero, suc, ◌+◌, ◌-◌, ◌<◌, List, [], ◌∷◌, ◌++◌, length, refl, sym, ap, ◌∙◌, subst, append-nil, arith, true, false, Bool, Result, Some, None, Ok, Err, IfOk}
+use Rattle.std.proofs.Math.Nat.{add-zero}
 use Rattle.std.specs.Prelude.{not}
 use Rattle.twkb_num.specs.Varint.{IsVarint}
 use Rattle.twkb_tree.specs.Tree.{Tree}
@@ -113,10 +114,7 @@ module _ (limits : Allowance) (bytes : List ℕ) (e : Sums) (rs : List Row) wher
       let i : Item = record { role = role.End h.size (e.bytes - h.from); number = 0; bytes = [] } in
       let after : ℕ → Notes = λ start. note_end (start + e.bytes) e.points (told start) in
       let a : NotedOutline limits (bytes ++ []) (added e i) (outline_ended gs) rs after = noted_item limits bytes e (gs, OnEnd h) rs told i n refl (refl, refl) (ap (λ b. unless (not b) SizeMismatch None) exact) in
-      let b : e.bytes + 0 ≡ e.bytes = omega arith in
-      let c : e.nodes + 0 ≡ e.nodes = omega arith in
-      let p : e.points + 0 ≡ e.points = omega arith in
-      let same : added e i ≡ e = λ t. record { bytes = b t; position = e.position; nodes = c t; points = p t } in
+      let same : added e i ≡ e = λ t. record { bytes = add-zero e.bytes t; position = e.position; nodes = add-zero e.nodes t; points = add-zero e.points t } in
       subst (λ s. NotedOutline limits bytes s (outline_ended gs) rs after) same (subst (λ l. NotedOutline limits l (added e i) (outline_ended gs) rs after) (append-nil bytes) a)
 
   abbrev Past : Outline → (ℕ → Notes) → Type 0

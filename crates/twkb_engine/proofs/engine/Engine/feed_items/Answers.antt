@@ -1,6 +1,6 @@
 use Rattle.std.proofs.Common.{rules, ◌+◌, ◌≤◌, length, arith}
 use Rattle.twkb_body.proofs.Pieces.{one_within}
-use Rattle.twkb_engine.proofs.Feeds.{none_fed, joined, ready_left, used_within, same_stop}
+use Rattle.twkb_engine.proofs.Answering.{none_fed, joined, ready_left, few_used, same_stop}
 use Rattle.twkb_engine.proofs.engine.Engine.feed_items.Goals as goal
 
 pub loop-used-init : goal.loop-used-init
@@ -17,7 +17,7 @@ returns-in_err-count-clause-answer g c =
 pub overflow_add-used : goal.overflow_add-used
 overflow_add-used g c =
     let l = c.loop-used in
-    let few = used_within c.in_ok-count.ends (ready_left l.invariant.answer c.requires) c.in_ok-count.ensures.answer in
+    let few = few_used c.in_ok-count.ends (ready_left l.invariant.answer c.requires) c.in_ok-count.ensures.answer in
     let within : l.used + c.in_ok-count.count ≤ length c.args.piece.now = one_within c.args.piece.now l.used c.in_ok-count.count l.invariant.within few in
     search rules
 
@@ -27,7 +27,7 @@ returns-then-ends-clause-answer g c = joined c.loop-used.invariant.answer (rw c.
 pub loop-used-preserved : goal.loop-used-preserved
 loop-used-preserved g c =
     let l = c.loop-used in
-    let few = used_within c.in_ok-count.ends (ready_left l.invariant.answer c.requires) c.in_ok-count.ensures.answer in
+    let few = few_used c.in_ok-count.ends (ready_left l.invariant.answer c.requires) c.in_ok-count.ensures.answer in
     record {
       within = one_within c.args.piece.now l.used c.in_ok-count.count l.invariant.within few;
       answer = joined l.invariant.answer (rw c.if-ends.false at c.in_ok-count.ensures.answer);

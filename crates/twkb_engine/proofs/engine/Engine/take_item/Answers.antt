@@ -1,7 +1,7 @@
 use Rattle.std.proofs.Common.{◌≡◌, arith, []}
 use Rattle.std.proofs.lemmas.List.{nil_from_length}
 use Rattle.twkb_engine.specs.Standing.{held_in}
-use Rattle.twkb_engine.proofs.Feeds.{front_fed, first_fed}
+use Rattle.twkb_engine.proofs.Answering.{front_fed, first_fed}
 use Rattle.twkb_engine.proofs.engine.Engine.take_item.Goals as goal
 
 pub returns-in-Some-clause-answer : goal.returns-in-Some-clause-answer

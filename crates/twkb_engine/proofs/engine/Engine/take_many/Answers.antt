@@ -1,4 +1,4 @@
-use Rattle.twkb_engine.proofs.Feeds.{none_fed, led_fed, quiet_fed, stops_fed}
+use Rattle.twkb_engine.proofs.Answering.{none_fed, led_fed, quiet_fed, stops_fed}
 use Rattle.twkb_engine.proofs.engine.Engine.take_many.Goals as goal
 
 pub returns-then-len-gt0 : goal.returns-then-len-gt0

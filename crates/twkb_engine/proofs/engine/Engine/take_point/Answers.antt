@@ -1,5 +1,5 @@
 use Rattle.std.proofs.Common.{refl}
-use Rattle.twkb_engine.proofs.Feeds.{none_fed}
+use Rattle.twkb_engine.proofs.Answering.{none_fed}
 use Rattle.twkb_engine.proofs.Points.{front_admits, point_fed}
 use Rattle.twkb_engine.proofs.engine.Engine.take_point.Goals as goal
 

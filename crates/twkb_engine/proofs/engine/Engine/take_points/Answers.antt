@@ -1,5 +1,5 @@
 use Rattle.std.proofs.Common.{false}
-use Rattle.twkb_engine.proofs.Feeds.{stops_fed, quiet_fed, ready_still, answer_next}
+use Rattle.twkb_engine.proofs.Answering.{stops_fed, quiet_fed, ready_still, answer_next}
 use Rattle.twkb_engine.proofs.engine.Engine.take_points.Goals as goal
 
 pub returns-in_err-take_list : goal.returns-in_err-take_list

@@ -1,4 +1,4 @@
-use Rattle.twkb_engine.proofs.Feeds.{same_stop, ready_still, answer_next}
+use Rattle.twkb_engine.proofs.Answering.{same_stop, ready_still, answer_next}
 use Rattle.twkb_engine.proofs.engine.Engine.take_some.Goals as goal
 
 pub returns-in_err-taken-clause-answer : goal.returns-in_err-taken-clause-answer
