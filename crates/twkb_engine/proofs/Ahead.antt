@@ -1,5 +1,5 @@
 -- An engine after a header that is complete at the start of the bytes.
-use Rattle.std.proofs.Common.{◌≡◌, ℕ, ◌+◌, ◌-◌, ◌<◌, ◌≤◌, ◌%◌, ◌/◌, List, [], ◌∷◌, ◌++◌, append_assoc, append-nil, length, take, drop, false, ◌||◌, nat_eq, nat_lt, inr, refl, sym, ap, subst, ◌∙◌, None, arith}
+use Rattle.std.proofs.Common.{◌≡◌, ℕ, ◌+◌, ◌-◌, ◌<◌, ◌≤◌, ◌%◌, ◌/◌, List, [], ◌∷◌, ◌++◌, append_assoc, append-nil, length, take, drop, false, ◌||◌, nat_eq, nat_lt, refl, sym, ap, subst, ◌∙◌, None, arith}
 use Rattle.std.specs.Prelude.{ℤ, pos, get_or, if◌then◌else◌}
 use Rattle.std.proofs.Math.Seq.{take-suc}
 use Rattle.std.proofs.lemmas.List.{length-drop, take_rest, drop-drop}
@@ -34,8 +34,8 @@ use Rattle.twkb_engine.specs.Notes.{NotesGo}
 use Rattle.twkb_engine.specs.declared.next_item.NextItem.{NextItem}
 use Rattle.twkb_engine.specs.declared.next_item.NextItem.TheVariants as next
 use Rattle.twkb_engine.specs.declared.engine.Engine.{Engine}
-use Rattle.twkb_engine.proofs.Parts.{point_allowed, sums_same, add_zero}
-use Rattle.twkb_engine.proofs.Steps.{open_noted}
+use Rattle.twkb_engine.proofs.Parts.{point_allowed, sums_as, add_zero}
+use Rattle.twkb_engine.proofs.Steps.{open_noted, all_whole, noted_at, stands_whole}
 
 -- no bytes lead nowhere
 pub leads_nowhere : {S : Type 0} (holds : S → Notes → Type 0) (rs : List Row) (d : Engine) (old : S) → LeadsOn holds rs d old [] rs d old
@@ -43,13 +43,9 @@ leads_nowhere holds rs d old = λ front s. (record { front = s.front; whole = ap
 
 -- a header is of a kind that is shown as the code shows it
 pub kind_shown : (k : machine.Kind) → kind_of (shown k) ≡ k
-kind_shown (machine.SimpleKind machine.PointForm) = refl
-kind_shown (machine.SimpleKind machine.LineForm) = refl
-kind_shown (machine.SimpleKind machine.PolygonForm) = refl
-kind_shown (machine.SimpleKind machine.MultiPointForm) = refl
-kind_shown (machine.SimpleKind machine.MultiLineForm) = refl
-kind_shown (machine.SimpleKind machine.MultiPolygonForm) = refl
 kind_shown machine.CollectionKind = refl
+kind_shown (machine.SimpleKind machine.PointForm) = refl
+kind_shown (machine.SimpleKind f) = refl
 
 -- the byte names a type
 type_free : (n : ℕ) → 0 < n → n < 8 → unless (nat_eq n 0 || nat_lt 7 n) BadType None ≡ None
@@ -75,17 +71,9 @@ step_precision _ = pos 0
 pub any_placed : (n : NextItem) (e : Engine) → (let gs = groups_of e.collections in IsHeadAt (length gs) (id_in gs) e.head) → IsPlaced n e
 any_placed next.TypeByte e p = tt
 any_placed next.MetadataByte e p = tt
-any_placed next.ExtendedByte e p = p
-any_placed next.Size e p = p
-any_placed (next.BoxNumber left) e p = p
-any_placed next.MemberCount e p = p
-any_placed next.Id e p = p
-any_placed next.X e p = p
-any_placed next.Y e p = p
-any_placed next.PointCount e p = p
-any_placed next.RingCount e p = p
+any_placed _ e p = p
 
-module _ (d : Engine) (rs : List Row) (rest : List ℕ) (h : FrontHeader) (is : d.next ≡ next.TypeByte) (alone : held_in d ≡ []) (found : HeaderInFront rest h) (low : h.type_byte < 256) (front : List ℕ) (s : StandsAt front rs d) where
+module _ (d : Engine) (rs : List Row) (rest : List ℕ) (h : FrontHeader) (is : d.next ≡ next.TypeByte) (alone : held_in d ≡ []) (found : HeaderInFront rest h) (low : get_or rest 0 0 < 256) (front : List ℕ) (s : StandsAt front rs d) where
   abbrev kind_here : machine.Kind
   kind_here = kind_at (h.type_byte % 16)
 
@@ -95,20 +83,23 @@ module _ (d : Engine) (rs : List Row) (rest : List ℕ) (h : FrontHeader) (is : 
   abbrev type_item : Item
   type_item = record { role = role.Header; number = h.type_byte; bytes = h.type_byte ∷ [] }
 
-  whole_front : s.front ≡ front
-  whole_front = sym (s.whole ∙ (ap (λ l. s.front ++ l) alone ∙ append-nil s.front))
+  abbrev sums_there : Sums
+  sums_there = machine.added (sums_of d) type_item
+
+  abbrev told_type : ℕ → Notes
+  told_type start = note_header (start + d.bytes) d.points h.type_byte (notes_in start s.outlined)
 
   -- after its type byte
-  after_type : NotedOutline d.limits (front ++ h.type_byte ∷ []) (machine.added (sums_of d) type_item) (groups_of d.collections, OnMetadata kind_here precision_here) rs (λ start. note_header (start + d.bytes) d.points h.type_byte (notes_in start s.outlined))
+  after_type : NotedOutline d.limits (s.front ++ h.type_byte ∷ []) sums_there (groups_of d.collections, OnMetadata kind_here precision_here) rs told_type
   after_type =
-      let told : ℕ → Notes = λ start. notes_in start s.outlined in
-      let stood : NotedOutline d.limits s.front (sums_of d) (outline_in d) rs told = record { outlined = s.outlined; notes = λ start. refl } in
-      let there : NotedOutline d.limits front (sums_of d) (groups_of d.collections, OnHeader) rs told =
-      subst (λ l. NotedOutline d.limits l (sums_of d) (groups_of d.collections, OnHeader) rs told) whole_front (subst (λ n. NotedOutline d.limits s.front (sums_of d) (groups_of d.collections, step_at n d) rs told) is stood) in
-      noted_item d.limits front (sums_of d) (groups_of d.collections, OnHeader) rs told type_item there refl (low, refl) (type_free (h.type_byte % 16) found.some_type found.known_type)
+      noted_item d.limits s.front (sums_of d) (groups_of d.collections, OnHeader) rs _ type_item
+      (subst (λ n. NotedOutline d.limits s.front (sums_of d) (groups_of d.collections, step_at n d) rs (λ start. notes_in start s.outlined)) is (noted_at s))
+      refl (subst (λ x. x < 256) (sym found.type_byte) low, refl) (type_free (h.type_byte % 16) found.some_type found.known_type)
 
-  one_byte : take 1 rest ≡ h.type_byte ∷ []
-  one_byte = (let two = found.two in take-suc rest 0 0 (omega (arith, two))) ∙ ap (λ b. b ∷ []) (sym found.type_byte)
+  type_front : s.front ++ h.type_byte ∷ [] ≡ front ++ take 1 rest
+  type_front =
+      let byte = take-suc rest 0 0 (let two = found.two in omega (arith, two)) ∙ ap (λ b. b ∷ []) (sym found.type_byte) in
+      λ i. sym (all_whole front rs d alone s) i ++ sym byte i
 
   -- there may be no memory for its span
   pub type_stops : PartIn d.limits front rest
@@ -116,60 +107,56 @@ module _ (d : Engine) (rs : List Row) (rest : List ℕ) (h : FrontHeader) (is : 
     used = 1;
     some = omega arith;
     within = (let two = found.two in omega (arith, two));
-    part = subst (λ l. IsJudged d.limits (front ++ l)) (sym one_byte) (outlined_judged d.limits (front ++ h.type_byte ∷ []) _ (groups_of d.collections, OnMetadata kind_here precision_here) rs after_type.outlined tt);
+    part = subst (IsJudged d.limits) type_front (outlined_judged d.limits (s.front ++ h.type_byte ∷ []) _ (groups_of d.collections, OnMetadata kind_here precision_here) rs after_type.outlined tt);
   }
 
-  module _ (low_meta : h.metadata < 256) (points : ℕ) (announced : points ≡ (if announces_point (kind_number kind_here) h.metadata then 1 else 0)) (few : points ≤ d.limits.points - d.points) where
-    abbrev told_header : ℕ → Notes
-    told_header start = note_metadata h.metadata (note_header (start + d.bytes) d.points h.type_byte (notes_in start s.outlined))
+  module _ (low_meta : get_or rest 1 0 < 256) (points : ℕ) (announced : points ≡ (if announces_point (kind_number kind_here) h.metadata then 1 else 0)) (few : points ≤ d.limits.points - d.points) where
+    abbrev left : List ℕ
+    left = drop 1 rest
 
-    -- after the optional parts
-    after_parts : NotedOutline d.limits (front ++ take h.used rest) (record { bytes = d.bytes + h.used; position = origin; nodes = d.nodes; points = d.points + points })
-        (groups_of d.collections, begins kind_here (sized_head precision_here h.metadata h.parts.size (d.bytes + h.from))) rs told_header
-    after_parts =
-        let left = drop 1 rest in
-        let meta : ℕ = get_or left 0 0 in
-        let gs = groups_of d.collections in
-        let at = machine.added (sums_of d) type_item in
-        let kept = d.points_kept in
-        let two = found.two in
-        let same : h.metadata ≡ meta = found.metadata ∙ sym (second rest) in
-        let parts : PartsInFront h.metadata (drop 2 rest) h.parts.size h.parts.from h.parts.used = found.parts in
-        let others : take (length left - 1) (drop 1 left) ≡ drop 2 rest = take_rest left 1 ∙ drop-drop 1 1 rest in
-        let parts_here : PartsInFront meta (take (length left - 1) (drop 1 left)) h.parts.size h.parts.from h.parts.used =
-        subst (λ x. PartsInFront x (take (length left - 1) (drop 1 left)) h.parts.size h.parts.from h.parts.used) same (subst (λ l. PartsInFront h.metadata l h.parts.size h.parts.from h.parts.used) (sym others) parts) in
-        let free : objection d.limits at (role.Metadata (kind_number kind_here)) h.metadata ≡ None = point_allowed (announces_point (kind_number kind_here) h.metadata) d.limits.points (d.points + 0) points announced (omega (arith, kept)) (omega (arith, few)) in
-        let more : d.points + points ≡ (d.points + 0) + (if announces_point (kind_number kind_here) h.metadata then 1 else 0) = ap (λ x. x + points) (add_zero d.points) ∙ ap (λ x. (d.points + 0) + x) announced in
-        let read = read_ahead d.limits (front ++ h.type_byte ∷ []) at gs kind_here precision_here rs (λ start. note_header (start + d.bytes) d.points h.type_byte (notes_in start s.outlined)) left h.parts.size h.parts.from h.parts.used (d.points + points)
-        (omega (arith, length-drop 1 rest, two)) (subst (λ x. x < 256) same low_meta) (subst (λ x. bit x 4 ≡ false) same found.body)
-        (subst (λ x. objection d.limits at (role.Metadata (kind_number kind_here)) x ≡ None) same free)
-        (more ∙ ap (λ x. (d.points + 0) + (if announces_point (kind_number kind_here) x then 1 else 0)) same) parts_here after_type in
-        let used_is : 1 + (1 + h.parts.used) ≡ h.used = (let u = found.used in omega (arith, u)) in
-        let bytes : (front ++ h.type_byte ∷ []) ++ take (1 + h.parts.used) left ≡ front ++ take h.used rest =
-        append_assoc front (h.type_byte ∷ []) (take (1 + h.parts.used) left)
-        ∙ ap (λ l. front ++ l) (ap (λ l. l ++ take (1 + h.parts.used) left) (sym one_byte)
-        ∙ (ap (λ l. take 1 rest ++ take (1 + h.parts.used) l) (sym (take_rest rest 1)) ∙ (sym (used_join rest 1 (1 + h.parts.used)) ∙ ap (λ n. take n rest) used_is))) in
-        let sums : (let e : Sums = record { bytes = at.bytes + (1 + h.parts.used); position = at.position; nodes = at.nodes; points = d.points + points } in e) ≡ record { bytes = d.bytes + h.used; position = origin; nodes = d.nodes; points = d.points + points } =
-        sums_same _ _ _ _ _ _ _ _ (let u = found.used in omega (arith, u)) refl (sym (add_zero d.nodes)) refl in
-        let from_is : (at.bytes + 1) + h.parts.from ≡ d.bytes + h.from = (let f = found.from in omega (arith, f)) in
-        let o : ℕ → ℕ → Outline = λ x from. (gs, begins kind_here (sized_head precision_here x h.parts.size from)) in
-        let told : ℕ → ℕ → Notes = λ x start. note_metadata x (note_header (start + d.bytes) d.points h.type_byte (notes_in start s.outlined)) in
-        let read_sums : Sums = record { bytes = at.bytes + (1 + h.parts.used); position = at.position; nodes = at.nodes; points = d.points + points } in
-        let a = subst (λ l. NotedOutline d.limits l read_sums (o meta ((at.bytes + 1) + h.parts.from)) rs (told meta)) bytes read in
-        let b = subst (λ e. NotedOutline d.limits (front ++ take h.used rest) e (o meta ((at.bytes + 1) + h.parts.from)) rs (told meta)) sums a in
-        let c = subst (λ x. NotedOutline d.limits (front ++ take h.used rest) (record { bytes = d.bytes + h.used; position = origin; nodes = d.nodes; points = d.points + points }) (o meta x) rs (λ start. note_metadata meta (note_header (start + d.bytes) d.points h.type_byte (notes_in start s.outlined)))) from_is b in
-        subst (λ x. NotedOutline d.limits (front ++ take h.used rest) (record { bytes = d.bytes + h.used; position = origin; nodes = d.nodes; points = d.points + points }) (o x (d.bytes + h.from)) rs (λ start. note_metadata x (note_header (start + d.bytes) d.points h.type_byte (notes_in start s.outlined)))) (sym same) c
+    -- what the metadata byte says, and the parts after it
+    abbrev Says : ℕ → List ℕ → Type 0
+    Says x parts = (x < 256) × (bit x 4 ≡ false) × (objection d.limits sums_there (role.Metadata (kind_number kind_here)) x ≡ None)
+        × (d.points + points ≡ sums_there.points + (if announces_point (kind_number kind_here) x then 1 else 0))
+        × PartsInFront x parts h.parts.size h.parts.from h.parts.used
 
-    -- an engine whose fields say so stands there
+    same : h.metadata ≡ get_or left 0 0
+    same = found.metadata ∙ sym (second rest)
+
+    said : Says (get_or left 0 0) (take (length left - 1) (drop 1 left))
+    said = (let kept = d.points_kept in
+        subst (λ (x : ℕ × List ℕ). Says x.0 x.1) (λ i. (same i, sym (take_rest left 1 ∙ drop-drop 1 1 rest) i)) (
+          subst (λ x. x < 256) (sym found.metadata) low_meta,
+          found.body,
+          point_allowed (announces_point (kind_number kind_here) h.metadata) d.limits.points (d.points + 0) points announced (omega (arith, kept)) (omega (arith, few)),
+          ap (λ x. x + points) (add_zero d.points) ∙ ap (λ x. (d.points + 0) + x) announced,
+          found.parts,
+        ))
+
+    -- the bytes of the header
+    whole : front ++ take h.used rest ≡ (s.front ++ h.type_byte ∷ []) ++ take (1 + h.parts.used) left
+    whole =
+        let n : ℕ = 1 + h.parts.used in
+        let used_is : h.used ≡ 1 + n = (let u = found.used in omega (arith, u)) in
+        ap (λ k. front ++ take k rest) used_is
+        ∙ (ap (λ l. front ++ l) (used_join rest 1 n ∙ ap (λ l. take 1 rest ++ take n l) (take_rest rest 1))
+        ∙ (sym (append_assoc front (take 1 rest) (take n left)) ∙ ap (λ l. l ++ take n left) (sym type_front)))
+
+    -- an engine whose fields say so stands after the optional parts
     pub header_leads : {S : Type 0} (holds : S → Notes → Type 0) (old mid new : S) (e : Engine) → e.limits ≡ d.limits → held_in e ≡ [] → e.start ≡ d.start → IsPlaced e.next e
         → sums_of e ≡ record { bytes = d.bytes + h.used; position = origin; nodes = d.nodes; points = d.points + points }
         → outline_in e ≡ (groups_of d.collections, begins kind_here (sized_head precision_here h.metadata h.parts.size (d.bytes + h.from)))
         → NotesGo holds (note_header (d.start + d.bytes) d.points h.type_byte) d old mid → ((w : Notes) → holds mid w → holds new (note_metadata h.metadata w))
         → (t : StandsAt (front ++ take h.used rest) rs e) × (holds old (notes_at s) → holds new (notes_at t))
     header_leads holds old mid new e limits none start placed sums step first next_told =
-        let bytes = front ++ take h.used rest in
-        let a = subst (λ x. NotedOutline d.limits bytes x (groups_of d.collections, begins kind_here (sized_head precision_here h.metadata h.parts.size (d.bytes + h.from))) rs told_header) (sym sums) after_parts in
-        let b = subst (λ o. NotedOutline d.limits bytes (sums_of e) o rs told_header) (sym step) a in
-        let c : NotedOutline e.limits bytes (sums_of e) (outline_in e) rs told_header = subst (λ l. NotedOutline l bytes (sums_of e) (outline_in e) rs told_header) (sym limits) b in
-        let t : StandsAt bytes rs e = record { front = bytes; whole = sym (ap (λ l. bytes ++ l) none ∙ append-nil bytes); outlined = c.outlined; placed = placed; spelled = inr none } in
-        (t, λ held. subst (holds new) (sym (c.notes e.start ∙ ap told_header start)) (next_told _ (first _ (open_noted d.limits s.front (sums_of d) (outline_in d) rs s.outlined d.start) held)))
+        let read = read_ahead d.limits (s.front ++ h.type_byte ∷ []) sums_there (groups_of d.collections) kind_here precision_here rs told_type left h.parts.size h.parts.from h.parts.used (d.points + points)
+        (let two = found.two in omega (arith, length-drop 1 rest, two)) said.0 said.1 said.2 said.3 said.4 after_type in
+        let used : d.bytes + h.used ≡ sums_there.bytes + (1 + h.parts.used) = (let u = found.used in omega (arith, u)) in
+        let from : d.bytes + h.from ≡ (sums_there.bytes + 1) + h.parts.from = (let f = found.from in omega (arith, f)) in
+        let o : ℕ → ℕ → Outline = λ x k. (groups_of d.collections, begins kind_here (sized_head precision_here x h.parts.size k)) in
+        let t = stands_whole (front ++ take h.used rest) rs e read limits
+        (sums ∙ sums_as used refl (add_zero d.nodes) refl)
+        (step ∙ (ap (λ x. o x (d.bytes + h.from)) same ∙ ap (o (get_or left 0 0)) from))
+        refl placed whole none in
+        let noted = ap (λ x. note_metadata x (told_type e.start)) (sym same) ∙ ap (λ k. note_metadata h.metadata (told_type k)) start in
+        (t.0, λ held. subst (holds new) (sym (t.1 ∙ noted)) (next_told _ (first _ (open_noted d.limits s.front (sums_of d) (outline_in d) rs s.outlined d.start) held)))

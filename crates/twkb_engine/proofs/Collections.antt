@@ -56,52 +56,47 @@ last_id below (g ∷ f ∷ gs) (suc i) d at = last_id (group_of g ∷ below) (f 
 
 -- ---- a collection that ends, or whose member does, in the places of all
 
--- some are open
-pub some_open : (items now : List OpenCollection) (n : ℕ) → n ≤ length items → now ≡ take n items → 0 < n → 0 < length now
-some_open items now n le is some = omega (arith, some, ap length is, length-take-le n items le)
+module _ (places : SmallVec OpenCollection) {m now : List OpenCollection} {n : ℕ}
+    (d k : OpenCollection) (same : m ≡ places.items) (le : n ≤ length places.items) (is : now
+    ≡ take n places.items) (some : 0 < n) (bytes : ℕ) where
+  abbrev last : OpenCollection
+  last = get_or m (n - 1) d
 
--- how many are open
-many : (items now : List OpenCollection) (n : ℕ) → n ≤ length items → now ≡ take n items → 0 < length now → 0 < n
-many items now n le is some = omega (arith, some, ap length is, length-take-le n items le)
+  -- the innermost comes after the others
+  stood : now ≡ take (n - 1) places.items ++ last ∷ []
+  stood =
+      let one : n ≡ suc (n - 1) = omega (arith, some) in
+      is ∙ (ap (λ j. take j places.items) one ∙ (take-suc places.items (n - 1) d
+      (omega (arith, le, some))
+      ∙ ap (λ (xs : List OpenCollection). take (n - 1) places.items ++ get_or xs (n - 1) d ∷ [])
+      (sym same)))
 
--- the innermost comes after the others
-innermost : (items now : List OpenCollection) (n : ℕ) (d : OpenCollection) → n ≤ length items → now ≡ take n items → 0 < n → now ≡ take (n - 1) items ++ get_or items (n - 1) d ∷ []
-innermost items now n d le is some =
-    let one : n ≡ suc (n - 1) = omega (arith, some) in
-    is ∙ (ap (λ k. take k items) one ∙ take-suc items (n - 1) d (omega (arith, le, some)))
+  -- another takes its place
+  changed : (with_items places (set m (n - 1) k)).items ≡ set m (n - 1) k
+  changed = items-with_items places (set m (n - 1) k) (length-set m (n - 1) k ∙ ap length same)
 
--- another takes the place of the innermost
-replaced : (places : SmallVec OpenCollection) (m : List OpenCollection) (n : ℕ) (k : OpenCollection) → m ≡ places.items → n ≤ length places.items → 0 < n
-    → take n (with_items places (set m (n - 1) k)).items ≡ take (n - 1) places.items ++ k ∷ []
-replaced places m n k same le some =
-    ap (take n) (items-with_items places (set m (n - 1) k) (length-set m (n - 1) k ∙ ap length same))
-    ∙ (take-set_at m (n - 1) n k (omega (arith, some)) (omega (arith, le, some, ap length same)) ∙ ap (λ (xs : List OpenCollection). take (n - 1) xs ++ k ∷ []) same)
+  -- a member ends that others follow
+  pub member_goes_on : 0 < last.members_left → k.members_left ≡ last.members_left - 1
+      → head_of k.head ≡ head_of last.head → ids_of k.ids ≡ other_ids (ids_of last.ids)
+      → outline_past_end true bytes (groups_of now)
+      ≡ Ok (groups_of (take n (with_items places (set m (n - 1) k)).items), OnHeader)
+  member_goes_on =
+      going_on bytes now (take (n - 1) places.items) _ last k stood
+      (ap (take n) changed ∙ (take-set_at m (n - 1) n k (omega (arith, some))
+      (omega (arith, le, some, ap length same))
+      ∙ ap (λ (xs : List OpenCollection). take (n - 1) xs ++ k ∷ []) same))
 
--- a member ends that others follow
-pub member_goes_on : (bytes : ℕ) (places : SmallVec OpenCollection) (m now : List OpenCollection) (n : ℕ) (d k : OpenCollection) → m ≡ places.items → n ≤ length places.items → now ≡ take n places.items → 0 < length now
-    → 0 < (get_or m (n - 1) d).members_left → k.members_left ≡ (get_or m (n - 1) d).members_left - 1 → head_of k.head ≡ head_of (get_or m (n - 1) d).head
-    → ids_of k.ids ≡ other_ids (ids_of (get_or m (n - 1) d).ids)
-    → outline_past_end true bytes (groups_of now) ≡ Ok (groups_of (take n (with_items places (set m (n - 1) k)).items), OnHeader)
-member_goes_on bytes places m now n d k same le is some z l hd ids =
-    let items = places.items in
-    let more : 0 < n = many items now n le is some in
-    let stood : now ≡ take (n - 1) items ++ get_or m (n - 1) d ∷ [] = innermost items now n d le is more ∙ ap (λ (xs : List OpenCollection). take (n - 1) items ++ get_or xs (n - 1) d ∷ []) (sym same) in
-    going_on bytes now (take (n - 1) items) _ (get_or m (n - 1) d) k stood (replaced places m n k same le more) z l hd ids
-
--- the last member ends
-pub member_goes_up : (bytes : ℕ) (places : SmallVec OpenCollection) (m now : List OpenCollection) (n : ℕ) (d k : OpenCollection) → m ≡ places.items → n ≤ length places.items → now ≡ take n places.items → 0 < length now
-    → (get_or m (n - 1) d).members_left ≤ 0
-    → outline_past_end (exact (get_or m (n - 1) d).head.size (bytes - (get_or m (n - 1) d).head.from)) bytes (groups_of (take (n - 1) (with_items places (set m (n - 1) k)).items))
-    ≡ outline_past_end true bytes (groups_of now)
-member_goes_up bytes places m now n d k same le is some z =
-    let items = places.items in
-    let more : 0 < n = many items now n le is some in
-    let stood : now ≡ take (n - 1) items ++ get_or m (n - 1) d ∷ [] = innermost items now n d le is more ∙ ap (λ (xs : List OpenCollection). take (n - 1) items ++ get_or xs (n - 1) d ∷ []) (sym same) in
-    let f = get_or m (n - 1) d in
-    let left_are : take (n - 1) (with_items places (set m (n - 1) k)).items ≡ take (n - 1) items =
-    ap (take (n - 1)) (items-with_items places (set m (n - 1) k) (length-set m (n - 1) k ∙ ap length same)) ∙ (take-set m (n - 1) k ∙ ap (take (n - 1)) same) in
-    ap (λ (gs : List OpenCollection). outline_past_end (exact f.head.size (bytes - f.head.from)) bytes (groups_of gs)) left_are
-    ∙ going_up bytes now (take (n - 1) items) f (head_of f.head) stood (omega (arith, z)) refl
+  -- the last member ends
+  pub member_goes_up : last.members_left ≤ 0
+      → outline_past_end (exact last.head.size (bytes - last.head.from)) bytes
+      (groups_of (take (n - 1) (with_items places (set m (n - 1) k)).items))
+      ≡ outline_past_end true bytes (groups_of now)
+  member_goes_up z =
+      ap (λ (gs : List OpenCollection). outline_past_end (exact last.head.size
+      (bytes - last.head.from)) bytes (groups_of gs))
+      (ap (take (n - 1)) changed ∙ (take-set m (n - 1) k ∙ ap (take (n - 1)) same))
+      ∙ going_up bytes now (take (n - 1) places.items) last (head_of last.head) stood
+      (omega (arith, z)) refl
 
 -- the id of the open member of the innermost
 pub innermost_id : (items m now : List OpenCollection) (n : ℕ) (d : OpenCollection) → m ≡ items → n ≤ length items → now ≡ take n items → 0 < n

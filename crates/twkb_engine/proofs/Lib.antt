@@ -5,10 +5,12 @@ pub mod Lists
 pub mod BodyItems
 pub mod Counts
 pub mod Parts
+pub mod Items
 pub mod Members
 pub mod Ahead
 pub mod Steps
 pub mod Feeds
+pub mod Answering
 pub mod Between
 pub mod Many
 pub mod RootPoints

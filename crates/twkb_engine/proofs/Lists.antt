@@ -1,5 +1,5 @@
 -- The ends of lists in a body.
-use Rattle.std.proofs.Common.{◌≡◌, ◌-◌, ◌<◌, ℕ, zero, suc, List, length, refl, sym, ap, subst, ◌∙◌, arith, true, if◌then◌else◌, Result, Ok, None}
+use Rattle.std.proofs.Common.{◌≡◌, ◌-◌, ◌<◌, ℕ, zero, suc, List, refl, sym, ap, subst, ◌∙◌, arith, true, if◌then◌else◌, Result, Ok, None}
 use Rattle.std.specs.Prelude.{ℤ, Option}
 use Rattle.twkb_points.specs.Point.{Point}
 use Rattle.twkb_tree.specs.Tree.{Ids}
@@ -9,25 +9,23 @@ use Rattle.twkb_tree.specs.declared.kind.Kind.TheVariants as kinds
 use Rattle.twkb_grammar.specs.Machine as machine
 use Rattle.twkb_grammar.specs.Fault.{Reason}
 use Rattle.twkb_body.specs.Outline.{Outline, Group, shut, outline_ends}
-use Rattle.twkb_body.specs.Growing.{id_in, point_change}
-use Rattle.twkb_body.specs.Head.{head_of, form_of, IsHeadAt}
+use Rattle.twkb_body.specs.Growing.{point_change}
+use Rattle.twkb_body.specs.Head.{head_of, form_of}
 use Rattle.twkb_body.specs.Ids.{ids_of}
 use Rattle.twkb_engine.specs.Collections.{groups_of}
-use Rattle.twkb_engine.specs.State.{step_at, outline_in, IsPlaced}
+use Rattle.twkb_engine.specs.State.{step_at, outline_in, IsHere, IsPlaced}
 use Rattle.twkb_engine.specs.Fits.{lists_of, left_fit, has_members, is_bodied, first_item, item_fits, lists_fit, IsInside}
-use Rattle.twkb_engine.specs.Taking.{past_value, point_row}
+use Rattle.twkb_engine.specs.Taking.{past_last, point_row}
 use Rattle.twkb_engine.specs.declared.next_item.NextItem.{NextItem}
 use Rattle.twkb_engine.specs.declared.open_collections.OpenCollection.{OpenCollection}
 use Rattle.twkb_body.specs.declared.head.Head.{Head}
 use Rattle.twkb_engine.specs.declared.engine.Engine.{Engine}
+use Rattle.twkb_engine.proofs.Many.{place_at}
 
 -- a kind of whose members some are left has members
 pub has_some : (k : Kind) (p r m : ℕ) → 0 < m → left_fit k p r m ≡ true → has_members k ≡ true
-has_some kinds.MultiPoint p r m some fits = refl
-has_some kinds.MultiLinestring p r m some fits = refl
-has_some kinds.MultiPolygon p r m some fits = refl
-has_some kinds.Collection p r m some fits = refl
 has_some k p r zero some fits = absurd (omega (arith, some))
+has_some kinds.MultiPoint p r (suc m) some fits = refl
 has_some k p r (suc m) some fits = grind arith
 
 -- past the last list of a member, the next member begins
@@ -37,11 +35,10 @@ begun_member : (k : Kind) (e : Engine) (h : machine.Head) (ids : Ids) (gs : List
 begun_member kinds.MultiPoint e h ids gs bytes has body ek eg eh ei = rw (ek, eg, eh, ei) refl
 begun_member kinds.MultiLinestring e h ids gs bytes has body ek eg eh ei = rw (ek, eg, eh, ei) refl
 begun_member kinds.MultiPolygon e h ids gs bytes has body ek eg eh ei = rw (ek, eg, eh, ei) refl
-begun_member kinds.Collection e h ids gs bytes has body ek eg eh ei = absurd cc
 begun_member k e h ids gs bytes has body ek eg eh ei = absurd cc
 
 pub next_member : (d e : Engine) → d.rings_left ≡ 0 → has_members d.head.kind ≡ true → is_bodied d.head.kind ≡ true → 0 < d.members_left → e.members_left ≡ d.members_left - 1 → e.head ≡ d.head → e.collections ≡ d.collections
-    → ids_of e.ids ≡ other_ids (ids_of d.ids) → e.next ≡ first_item d.head.kind → past_value d 0 (lists_of d.head.kind 0 d.rings_left d.members_left) ≡ Ok (outline_in e)
+    → ids_of e.ids ≡ other_ids (ids_of d.ids) → e.next ≡ first_item d.head.kind → past_last d ≡ Ok (outline_in e)
 next_member d e er has body some em eh eg ei en =
     let one : d.members_left ≡ suc e.members_left = omega (arith, some, em) in
     rw (er, one)
@@ -50,34 +47,26 @@ next_member d e er has body some em eh eg ei en =
 
 -- what fits before it fits then
 pub next_fits : (k : Kind) (n : NextItem) → n ≡ first_item k → is_bodied k ≡ true → item_fits n k ≡ true
-next_fits kinds.Ring n en body = absurd cc
-next_fits kinds.Collection n en body = absurd cc
-next_fits k n en body = rw en refl
+next_fits kinds.Point n en body = rw en refl
+next_fits k n en body = rw en cc
 
 pub next_lists_fit : (k : Kind) (n : NextItem) (p r m : ℕ) → n ≡ first_item k → p ≡ 0 → r ≡ 0 → has_members k ≡ true → is_bodied k ≡ true → lists_fit n k p r m ≡ true
 next_lists_fit kinds.MultiPoint n p r m en ep er has body = rw (en, ep, er) refl
-next_lists_fit kinds.MultiLinestring n p r m en ep er has body = rw (en, ep, er) refl
-next_lists_fit kinds.MultiPolygon n p r m en ep er has body = rw (en, ep, er) refl
-next_lists_fit kinds.Collection n p r m en ep er has body = absurd cc
-next_lists_fit k n p r m en ep er has body = absurd cc
+next_lists_fit k n p r m en ep er has body = rw (en, ep, er) cc
 
 pub next_inside : (k : Kind) (n : NextItem) → n ≡ first_item k → is_bodied k ≡ true → IsInside n
-next_inside kinds.Ring n en body = absurd cc
 next_inside kinds.Collection n en body = absurd cc
 next_inside k n en body = rw en tt
 
 -- the header keeps its place
-placed_by : (k : Kind) (n : NextItem) (e : Engine) → n ≡ first_item k → is_bodied k ≡ true → IsHeadAt (length (groups_of e.collections)) (id_in (groups_of e.collections)) e.head → IsPlaced n e
-placed_by kinds.Ring n e en body at = absurd cc
+placed_by : (k : Kind) (n : NextItem) (e : Engine) → n ≡ first_item k → is_bodied k ≡ true
+    → IsHere e → IsPlaced n e
 placed_by kinds.Collection n e en body at = absurd cc
 placed_by k n e en body at = subst (λ (m : NextItem). IsPlaced m e) (sym en) at
 
-pub next_placed : (d e : Engine) → e.next ≡ first_item d.head.kind → is_bodied d.head.kind ≡ true → e.head ≡ d.head → e.collections ≡ d.collections
-    → IsHeadAt (length (groups_of d.collections)) (id_in (groups_of d.collections)) d.head → IsPlaced e.next e
-next_placed d e en body eh eg at =
-    placed_by d.head.kind e.next e en body
-    (subst (λ (gs : List OpenCollection). IsHeadAt (length (groups_of gs)) (id_in (groups_of gs)) e.head) (sym eg)
-    (subst (λ (h : Head). IsHeadAt (length (groups_of d.collections)) (id_in (groups_of d.collections)) h) (sym eh) at))
+pub next_placed : (d e : Engine) → e.next ≡ first_item d.head.kind → is_bodied d.head.kind ≡ true
+    → e.head ≡ d.head → e.collections ≡ d.collections → IsHere d → IsPlaced e.next e
+next_placed d e en body eh eg at = placed_by d.head.kind e.next e en body (place_at d e eg eh at)
 
 -- ---- what a point brings
 
@@ -85,13 +74,7 @@ next_placed d e en body eh eg at =
 member_there : (k : Kind) (ids : Ids) (p : Point) (depth : ℕ) (id : Option ℤ) (precision : ℤ)
     → point_change p depth id precision (form_of k) (first_id ids) ≡ point_change p depth id precision (form_of k) (first_id (if has_members k then ids else None))
 member_there kinds.Point ids p depth id precision = refl
-member_there kinds.Linestring ids p depth id precision = refl
-member_there kinds.Polygon ids p depth id precision = refl
-member_there kinds.Ring ids p depth id precision = refl
-member_there kinds.MultiPoint ids p depth id precision = refl
-member_there kinds.MultiLinestring ids p depth id precision = refl
-member_there kinds.MultiPolygon ids p depth id precision = refl
-member_there kinds.Collection ids p depth id precision = refl
+member_there k ids p depth id precision = refl
 
 -- the change is that of the engine
 pub point_there : (d : Engine) (h : Head) (member : Option ℤ) (p : Point) → h ≡ d.head → member ≡ first_id (ids_of d.ids) → point_change p h.depth h.id h.precision (form_of h.kind) member ≡ point_row p d

@@ -3,7 +3,7 @@ use Rattle.std.proofs.Common.{◌≡◌, ℕ, ℤ, ◌+◌, ◌-◌, ◌<◌, �
 use Rattle.std.proofs.lemmas.List.{get_or-take, length-take-le, nil_from_length}
 use Rattle.twkb_num.specs.Zigzag.{unzigzag_of}
 use Rattle.twkb_points.specs.Point.{Point}
-use Rattle.twkb_tree.specs.Tree.{Tree, point, line, polygon, multi_point, multi_line, multi_polygon, simple, collection, point_list}
+use Rattle.twkb_tree.specs.Tree.{Tree, point, simple, point_list}
 use Rattle.twkb_tree.specs.Limits.{Allowance, IsAllowance}
 use Rattle.twkb_tree.specs.Rows.{Row, rows, whole_row}
 use Rattle.twkb_tree.specs.declared.kind.Kind.TheVariants as kind
@@ -12,12 +12,12 @@ use Rattle.twkb_grammar.specs.Blob.{Blob}
 use Rattle.twkb_grammar.specs.Fault.{SizeMismatch}
 use Rattle.twkb_grammar.specs.Spans.{spans_of_blob}
 use Rattle.twkb_grammar.specs.PlainReader.{is_exact}
-use Rattle.twkb_grammar.specs.Machine.{Head, Sums, Stack, Runs, nothing, started}
+use Rattle.twkb_grammar.specs.Machine.{Head, Sums, Stack, Runs, nothing, started, sums_after}
 use Rattle.twkb_grammar.specs.Noting.{Notes, no_notes, noted}
 use Rattle.twkb_grammar.proofs.Streams.{first_item}
 use Rattle.twkb_grammar.proofs.PartBytes.{blob_is_part}
 use Rattle.twkb_grammar.proofs.OneFault.{no_fault}
-use Rattle.twkb_body.specs.Outline.{Outline, OnHeader, OnEnd, outline_of, outline_past_end}
+use Rattle.twkb_body.specs.Outline.{OnHeader, OnEnd, outline_of, outline_past_end}
 use Rattle.twkb_body.specs.Reading.{Outlined, OutlineLanded}
 use Rattle.twkb_body.specs.JudgedParts.{PartIn, IsJudged}
 use Rattle.twkb_body.proofs.Outlined.{outlined_start, outlined_ends, outlined_whole, outlined_bytes}
@@ -35,6 +35,10 @@ use Rattle.twkb_engine.proofs.Steps.{all_whole, stands_begun}
 abbrev first_precision : List ℕ → ℤ
 first_precision bytes = unzigzag_of (get_or bytes 0 0 / 16)
 
+-- the rows of such a blob
+abbrev root_rows : List ℕ → Point → List Row
+root_rows bytes to = whole_row 0 kind.Point None (first_precision bytes) (to ∷ []) ∷ []
+
 -- what is read of its header
 abbrev known_by : (first : ℕ) → Option ℕ → Head
 known_by first size = record { precision = unzigzag_of (first / 16); meta = metadata_with size; size = size; from = length (header_bytes first size) }
@@ -51,17 +55,26 @@ exact_behind None first used exact = refl
 exact_behind (Some n) first used exact = let same : (0 + used) - 3 ≡ used - 3 = omega arith in ap (λ k. is_exact (Some n) k) same ∙ exact
 
 -- such a point is a blob
-pub point_blob : (limits : Allowance) (bytes : List ℕ) (used : ℕ) (size : Option ℕ) (to : Point) → IsAllowance limits → 0 < limits.points → WholePoint bytes to used size → get_or bytes 0 0 < 256 → is_exact size (used - 3) ≡ true
-    → MadeIn limits [] bytes used (whole_row 0 kind.Point None (unzigzag_of (get_or bytes 0 0 / 16)) (to ∷ []) ∷ [])
+pub point_blob : (limits : Allowance) (bytes : List ℕ) (used : ℕ) (size : Option ℕ) (to : Point)
+    → IsAllowance limits → 0 < limits.points → WholePoint bytes to used size
+    → get_or bytes 0 0 < 256 → is_exact size (used - 3) ≡ true
+    → MadeIn limits [] bytes used (root_rows bytes to)
 point_blob limits bytes used size to allowed some p low exact =
     let first = get_or bytes 0 0 in
     let known = known_by first size in
     let blob : List ℕ = take used bytes in
-    let Rows : List Row = whole_row 0 kind.Point None (unzigzag_of (first / 16)) (to ∷ []) ∷ [] in
-    let there = subst (λ l. Outlined limits l (sums_behind nothing (length l) to) ([], OnEnd known) Rows) (sym p.whole) (header_point_read limits [] nothing [] [] (header_bytes first size) p.steps known to (header_read limits first allowed low p.kind some size p.short) p.pair) in
-    let ended = subst (λ n. Outlined limits blob (sums_behind nothing n to) ([], OnEnd known) Rows) (length-take-le used bytes p.within) there in
+    let after : ℕ → Sums = λ n. sums_behind nothing n to in
+    let rows_are = root_rows bytes to in
+    let there = header_point_read limits [] nothing [] [] (header_bytes first size) p.steps known to
+    (header_read limits first allowed low p.kind some size p.short) p.pair in
+    let cut = subst (λ l. Outlined limits l (after (length l)) ([], OnEnd known) rows_are)
+    (sym p.whole) there in
+    let ended = subst (λ n. Outlined limits blob (after n) ([], OnEnd known) rows_are)
+    (length-take-le used bytes p.within) cut in
     let way = ap (λ t. outline_past_end t (0 + used) []) (exact_behind size first used exact) in
-    let w = outlined_whole limits blob (sums_behind nothing used to) Rows (subst (OutlineLanded limits blob (sums_behind nothing used to) Rows) way (outlined_ends limits blob (sums_behind nothing used to) ([], OnEnd known) Rows ended)) in
+    let w = outlined_whole limits blob (after used) rows_are (subst (OutlineLanded limits blob
+    (after used) rows_are) way (outlined_ends limits blob (after used) ([], OnEnd known)
+    rows_are ended)) in
     record { some = p.some; within = p.within; geometry = w.0; blob = w.1; made = sym w.2 }
 
 -- the only row is this one, a point's of this precision
@@ -82,15 +95,13 @@ point_spans limits bytes (simple q (point o)) start p own b first (is, named, pr
     let all : length (join b.items) ≡ length bytes = ap length b.spelled in
     let meta : b.are_items.meta ≡ get_or bytes 1 0 = ap (λ l. get_or (join l) 1 0) (sym b.are_items.whole) ∙ ap (λ l. get_or l 1 0) b.spelled in
     λ t. record { level = 0; offset = start; kind = kind.Point; precision = same t; metadata = meta t; length = all t; points = one t } ∷ []
-point_spans limits bytes (simple q (line ps)) start p own b first is = absurd (let k = first_kind (rows 0 (simple q (line ps))) own p is in cc)
-point_spans limits bytes (simple q (polygon ps)) start p own b first is = absurd (let k = first_kind (rows 0 (simple q (polygon ps))) own p is in cc)
-point_spans limits bytes (simple q (multi_point ids ps)) start p own b first is = absurd (let k = first_kind (rows 0 (simple q (multi_point ids ps))) own p is in cc)
-point_spans limits bytes (simple q (multi_line ids ps)) start p own b first is = absurd (let k = first_kind (rows 0 (simple q (multi_line ids ps))) own p is in cc)
-point_spans limits bytes (simple q (multi_polygon ids ps)) start p own b first is = absurd (let k = first_kind (rows 0 (simple q (multi_polygon ids ps))) own p is in cc)
-point_spans limits bytes (collection q ids gs) start p own b first is = absurd (let k = first_kind (rows 0 (collection q ids gs)) own p is in cc)
+point_spans limits bytes g start p own b first is =
+    absurd (let k = first_kind (rows 0 g) own p is in cc)
 
 -- a point at the start of these bytes has the span of its bytes
-root_spans : (limits : Allowance) (start used : ℕ) (piece : List ℕ) (g : Tree) (to : Point) (b : Blob limits (take used piece) g) → 3 ≤ used → whole_row 0 kind.Point None (first_precision piece) (to ∷ []) ∷ [] ≡ rows 0 g → point_span start (take used piece) ∷ [] ≡ spans_of_blob start b
+root_spans : (limits : Allowance) (start used : ℕ) (piece : List ℕ) (g : Tree) (to : Point)
+    (b : Blob limits (take used piece) g) → 3 ≤ used → root_rows piece to ≡ rows 0 g
+    → point_span start (take used piece) ∷ [] ≡ spans_of_blob start b
 root_spans limits start used piece g to b long made =
     let p : ℤ = first_precision piece in
     let own : Row = whole_row 0 kind.Point None p (to ∷ []) in
@@ -111,16 +122,7 @@ no_items (i ∷ is) st r e = absurd (first_item i is st r e)
 
 type_byte : (i : NextItem) (d : Engine) → step_at i d ≡ OnHeader → i ≡ next.TypeByte
 type_byte next.TypeByte d e = refl
-type_byte next.MetadataByte d e = absurd cc
-type_byte next.ExtendedByte d e = absurd cc
-type_byte next.Size d e = absurd cc
-type_byte (next.BoxNumber left) d e = absurd cc
-type_byte next.MemberCount d e = absurd cc
-type_byte next.Id d e = absurd cc
-type_byte next.X d e = absurd cc
-type_byte next.Y d e = absurd cc
-type_byte next.PointCount d e = absurd cc
-type_byte next.RingCount d e = absurd cc
+type_byte i d e = cc
 
 module _ (bs : List ℕ) (rs : List Row) (d : Engine) (s : StandsAt bs rs d) (bare : d.bytes ≡ 0) (none : held_in d ≡ []) where
   no_front : s.front ≡ []
@@ -135,21 +137,21 @@ module _ (bs : List ℕ) (rs : List Row) (d : Engine) (s : StandsAt bs rs d) (ba
   stack : started ≡ s.outlined.stack
   stack = subst (λ is. Runs nothing started is s.outlined.stack) items s.outlined.reached.ran.runs
 
-  outline : ([], OnHeader) ≡ outline_in d
-  outline = ap outline_of stack ∙ s.outlined.outline
+  outline : outline_in d ≡ ([], OnHeader)
+  outline = sym (ap outline_of stack ∙ s.outlined.outline)
 
-  sums : nothing ≡ sums_of d
-  sums = ap (λ is. Rattle.twkb_grammar.specs.Machine.sums_after nothing is) (sym items) ∙ s.outlined.reached.sums
+  sums : sums_of d ≡ nothing
+  sums = sym (ap (λ is. sums_after nothing is) (sym items) ∙ s.outlined.reached.sums)
 
   pub begins : BeginsAt d.start d
   begins = record {
     start = refl;
-    next = type_byte d.next d (sym (ap (λ (o : Outline). o.1) outline));
+    next = type_byte d.next d (λ t. (outline t).1);
     bytes = bare;
-    nodes = sym (ap (λ (e : Sums). e.nodes) sums);
-    points = sym (ap (λ (e : Sums). e.points) sums);
-    position = sym (ap (λ (e : Sums). e.position) sums);
-    collections = sym (ap (λ (o : Outline). o.0) outline);
+    nodes = λ t. (sums t).nodes;
+    points = λ t. (sums t).points;
+    position = λ t. (sums t).position;
+    collections = λ t. (outline t).0;
   }
 
   pub noted_none : notes_at s ≡ no_notes
@@ -161,9 +163,13 @@ root_stops rs d piece used more bare none m = λ bs s.
     subst (λ l. PartIn d.limits l piece) (sym (no_bytes bs rs d s bare none)) (record { used = used; some = m.some; within = m.within; part = blob_judged d.limits (take used piece) m.geometry m.blob })
 
 -- the point was taken
-pub root_fed : {S : Type 0} (holds : S → Notes → Type 0) (bs piece : List ℕ) (rs more : List Row) (d e : Engine) (old new : S) (used : ℕ) (to : Point) (s : StandsAt bs rs d) → d.bytes ≡ 0 → held_in d ≡ [] → held_in e ≡ [] → (BeginsAt d.start d → BeginsAt (d.start + used) e)
-    → 3 ≤ used → MadeIn d.limits [] piece used more → more ≡ whole_row 0 kind.Point None (unzigzag_of (get_or piece 0 0 / 16)) (to ∷ []) ∷ [] → (holds old no_notes → holds new (record { spans = point_span d.start (take used piece) ∷ []; begun = [] }))
-    → IsFed holds (holds old (notes_at s)) d.limits d.start bs piece (Ok (used, true)) more e new
+pub root_fed : {S : Type 0} (holds : S → Notes → Type 0) (bs piece : List ℕ) (rs more : List Row)
+    (d e : Engine) (old new : S) (used : ℕ) (to : Point) (s : StandsAt bs rs d) → d.bytes ≡ 0
+    → held_in d ≡ [] → held_in e ≡ [] → (BeginsAt d.start d → BeginsAt (d.start + used) e)
+    → 3 ≤ used → MadeIn d.limits [] piece used more → more ≡ root_rows piece to
+    → (holds old no_notes → holds new
+    (record { spans = point_span d.start (take used piece) ∷ []; begun = [] })) → IsFed holds
+    (holds old (notes_at s)) d.limits d.start bs piece (Ok (used, true)) more e new
 root_fed holds bs piece rs more d e old new used to s bare none alone onward long m row put =
     let none_read = no_bytes bs rs d s bare none in
     let b = onward (begins bs rs d s bare none) in

@@ -7,11 +7,4 @@ use Rattle.twkb_engine.specs.Texts.{blob_words}
 -- what is wrong with an item of a blob
 pub short_blob : (reason : BlobReason) → length (blob_words reason) ≤ 31
 short_blob blob.Truncated = omega arith
-short_blob blob.BadType = omega arith
-short_blob blob.ExtraDimensions = omega arith
-short_blob blob.BadVarint = omega arith
-short_blob blob.TooDeep = omega arith
-short_blob blob.TooManyNodes = omega arith
-short_blob blob.TooManyPoints = omega arith
-short_blob blob.CoordinateRange = omega arith
-short_blob blob.SizeMismatch = omega arith
+short_blob reason = omega arith

@@ -1,17 +1,17 @@
 -- An item that comes next: its role, what it notes, and the step after it and the ends that follow.
-use Rattle.std.proofs.Common.{◌≡◌, ◌⊎◌, inl, inr, ℕ, zero, suc, ◌+◌, ◌-◌, ◌<◌, List, [], ◌∷◌, ◌++◌, length, refl, sym, ap, ◌∙◌, subst, append-nil, arith, true, false, Bool, Result, Some, None, Ok, Err, OnOk, IfOk}
-use Rattle.std.specs.Prelude.{⊤, not, if◌then◌else◌}
+use Rattle.std.proofs.Common.{◌≡◌, ◌⊎◌, inl, inr, ℕ, zero, suc, ◌+◌, ◌-◌, ◌<◌, List, [], ◌∷◌, ◌++◌, length, refl, sym, ap, ◌∙◌, subst, append-nil, arith, true, false, Bool, Result, Some, None, Ok, Err, IfOk}
+use Rattle.std.proofs.Math.Nat.{add-zero}
+use Rattle.std.specs.Prelude.{not}
 use Rattle.twkb_num.specs.Varint.{IsVarint}
-use Rattle.twkb_points.specs.Point.{Point, origin}
 use Rattle.twkb_tree.specs.Tree.{Tree}
-use Rattle.twkb_tree.specs.Limits.{Allowance, IsAllowance}
+use Rattle.twkb_tree.specs.Limits.{Allowance}
 use Rattle.twkb_tree.specs.Rows.{Row, rows}
 use Rattle.twkb_grammar.specs.Roles.{Role, Item, IsNumber, join}
 use Rattle.twkb_grammar.specs.Roles as role
 use Rattle.twkb_grammar.specs.Blob.{Blob}
 use Rattle.twkb_grammar.specs.Fault.{Reason, SizeMismatch, points_by}
 use Rattle.twkb_grammar.specs.PlainReader.{is_exact, unless}
-use Rattle.twkb_grammar.specs.Machine.{Head, Frame, Phase, AtHeader, AtMetadata, AtOption, AtCount, AtId, AtBody, AtEnd, Finished, Want, WantY, Done, Sums, nothing, added, kind_number, first_count, listed}
+use Rattle.twkb_grammar.specs.Machine.{Head, Frame, Phase, AtBody, Finished, Want, WantY, Done, Sums, nothing, added, kind_number, first_count, listed}
 use Rattle.twkb_grammar.specs.Reading.{Ran, Reached, Gives}
 use Rattle.twkb_grammar.specs.Noting.{Notes, no_notes, noted, note_end, note_ends, note_ends_to, IsQuiet}
 use Rattle.twkb_grammar.specs.Spans.{spans_of_blob}
@@ -24,21 +24,21 @@ use Rattle.twkb_grammar.proofs.NotedEnds.{all_open, ends_to}
 use Rattle.twkb_grammar.proofs.Frames.{reached_frames}
 use Rattle.twkb_grammar.proofs.Running.{ran_blob}
 use Rattle.twkb_grammar.proofs.TreesBack.{runs_are_items}
-use Rattle.twkb_body.specs.Outline.{Outline, Group, group_of, Step, OnHeader, OnMetadata, OnOption, OnCount, OnId, OnBody, OnEnd, OnFinished, Wanted, WantedY, step_of, step_role, outline_ended, outline_past_end, outline_advanced, outline_ends}
+use Rattle.twkb_body.specs.Outline.{Outline, Group, group_of, Step, OnEnd, OnFinished, step_of, step_role, outline_ended, outline_past_end, outline_ends}
 use Rattle.twkb_body.specs.Reading.{Outlined, open_count}
 use Rattle.twkb_body.specs.Growing.{rows_so_far, id_in}
 use Rattle.twkb_body.specs.Noting.{NotedOutline, notes_in}
 use Rattle.twkb_body.proofs.Outlined.{outlined_start, noted_item}
 use Rattle.twkb_body.proofs.Notings.{same_count}
 use Rattle.twkb_body.specs.declared.head.Head as place
-use Rattle.twkb_body.specs.Head.{head_of, kind_of, form_of, many_of, IsHeadAt}
-use Rattle.twkb_body.specs.Ids.{ids_of, ids_read}
+use Rattle.twkb_body.specs.Head.{kind_of, many_of, IsHeadAt}
 use Rattle.twkb_engine.specs.Collections.{groups_of}
-use Rattle.twkb_engine.specs.Fits.{IsByte, lists_of, line_lists_of, area_lists_of, has_members}
-use Rattle.twkb_engine.specs.State.{IsNext, IsPlaced, sums_of, outline_in, step_at, size_roles, box_roles, boxes}
-use Rattle.twkb_engine.specs.Taking.{Takes, BeginsAt}
+use Rattle.twkb_engine.specs.Fits.{IsByte}
+use Rattle.twkb_engine.specs.State.{IsNext, IsPlaced, sums_of, outline_in, step_at}
+use Rattle.twkb_engine.specs.Taking.{BeginsAt}
 use Rattle.twkb_engine.specs.Notes.{NotesGo, notes_with, open_in}
 use Rattle.twkb_engine.specs.Standing.{StandsAt, notes_at, held_in}
+use Rattle.twkb_engine.specs.declared.open_collections.OpenCollection.{OpenCollection}
 use Rattle.twkb_engine.specs.declared.next_item.NextItem.{NextItem}
 use Rattle.twkb_engine.specs.declared.next_item.NextItem.TheVariants as next
 use Rattle.twkb_engine.specs.declared.engine.Engine.{Engine}
@@ -52,24 +52,16 @@ quiet_noted holds r n width d e old q same = λ w begun h.
     let none : length w.begun - open_in e ≡ 0 = omega (arith, begun, same) in
     subst (holds old) (sym (ap (note_ends_to (open_in e) at points) (quiet d.start (sums_of d) r n w q) ∙ ap (λ k. note_ends k at points w) none)) h
 
--- no blob ends
-abbrev GoesOn : Step → Type 0
-GoesOn OnFinished = ⊥
-GoesOn _ = ⊤
-
-abbrev Goes : Result Outline Reason → Type 0
-Goes (Ok o) = GoesOn o.1
-Goes (Err reason) = ⊤
-
-x_goes : (i : NextItem) → i ≡ next.X → (bytes n : ℕ) (d : Engine) → Goes (outline_ends bytes (outline_advanced bytes n (groups_of d.collections, step_at i d)))
-x_goes i is bytes n d = subst (λ j. Goes (outline_ends bytes (outline_advanced bytes n (groups_of d.collections, step_at j d)))) (sym is) tt
-
 -- an x
-pub x_noted : {S : Type 0} (holds : S → Notes → Type 0) (r : Role) (n width : ℕ) (d e : Engine) (old : S) (answer : Result Bool Stop) → d.next ≡ next.X → IsNext r d → ((rs : List Row) → Takes role.X n width d rs answer e rs)
-    → OnOk answer (open_in e ≡ open_in d) → IfOk answer (λ ends. NotesGo holds (notes_with r n width d e ends) d old old)
-x_noted holds r n width d e old (Ok false) is says takes same = quiet_noted holds r n width d e old (subst IsQuiet (sym (some_role role.X r (sym (ap (λ i. Rattle.twkb_body.specs.Outline.step_role (length (outline_in d).0) d.bytes (step_at i d)) is) ∙ says))) tt) same
-x_noted holds r n width d e old (Ok true) is says takes same = absurd (subst Goes ((takes []).1) (x_goes d.next is (d.bytes + width) n d))
-x_noted holds r n width d e old (Err stop) is says takes same = tt
+pub x_noted : {S : Type 0} (holds : S → Notes → Type 0) (r : Role) (n width : ℕ) (d e : Engine)
+    (old : S) (answer : Result Bool Stop) → d.next ≡ next.X → IsNext r d
+    → IfOk answer (λ ends. (ends ≡ false) × (open_in e ≡ open_in d))
+    → IfOk answer (λ ends. NotesGo holds (notes_with r n width d e ends) d old old)
+x_noted holds r n width d e old (Ok false) is says same =
+    let x = ap (λ i. step_role (length (outline_in d).0) d.bytes (step_at i d)) (sym is) ∙ says in
+    quiet_noted holds r n width d e old (subst IsQuiet (sym (some_role role.X r x)) tt) same.1
+x_noted holds r n width d e old (Ok true) is says same = absurd (let f = same.0 in cc)
+x_noted holds r n width d e old (Err stop) is says same = tt
 
 -- ---- the role of the next item
 
@@ -108,10 +100,7 @@ ends_swap : (n offset points : ℕ) (w : Notes) → note_ends n offset points (n
 ends_swap zero offset points w = refl
 ends_swap (suc n) offset points w = ap (λ v. note_end offset points v) (ends_swap n offset points w)
 
-abbrev way : Outline → Result Outline Reason
-way o = Ok o
-
-ok_same : (o p : Outline) → way o ≡ way p → o ≡ p
+ok_same : (o p : Outline) → ◌≡◌ {A = Result Outline Reason} (Ok o) (Ok p) → o ≡ p
 ok_same o p at = cc
 
 -- as many geometries are begun in the notes as stand open
@@ -126,10 +115,7 @@ module _ (limits : Allowance) (bytes : List ℕ) (e : Sums) (rs : List Row) wher
       let i : Item = record { role = role.End h.size (e.bytes - h.from); number = 0; bytes = [] } in
       let after : ℕ → Notes = λ start. note_end (start + e.bytes) e.points (told start) in
       let a : NotedOutline limits (bytes ++ []) (added e i) (outline_ended gs) rs after = noted_item limits bytes e (gs, OnEnd h) rs told i n refl (refl, refl) (ap (λ b. unless (not b) SizeMismatch None) exact) in
-      let b : e.bytes + 0 ≡ e.bytes = omega arith in
-      let c : e.nodes + 0 ≡ e.nodes = omega arith in
-      let p : e.points + 0 ≡ e.points = omega arith in
-      let same : added e i ≡ e = λ t. record { bytes = b t; position = e.position; nodes = c t; points = p t } in
+      let same : added e i ≡ e = λ t. record { bytes = add-zero e.bytes t; position = e.position; nodes = add-zero e.nodes t; points = add-zero e.points t } in
       subst (λ s. NotedOutline limits bytes s (outline_ended gs) rs after) same (subst (λ l. NotedOutline limits l (added e i) (outline_ended gs) rs after) (append-nil bytes) a)
 
   abbrev Past : Outline → (ℕ → Notes) → Type 0
@@ -138,34 +124,33 @@ module _ (limits : Allowance) (bytes : List ℕ) (e : Sums) (rs : List Row) wher
   one_more : (p : Outline) (told : ℕ → Notes) → Past p (λ start. note_end (start + e.bytes) e.points (told start)) → Past p told
   one_more p told (k, n) = (suc k, record { outlined = n.outlined; notes = λ start. n.notes start ∙ ends_swap k (start + e.bytes) e.points (told start) })
 
+  none_past : (o p : Outline) (told : ℕ → Notes) → ◌≡◌ {A = Result Outline Reason} (Ok o) (Ok p)
+      → NotedOutline limits bytes e o rs told → Past p told
+  none_past o p told at n =
+      (0, subst (λ q. NotedOutline limits bytes e q rs told) (ok_same o p at) n)
+
   -- it ends, and the collections of which it is the last member
-  noted_past : (gs : List Group) (h : Head) (told : ℕ → Notes) (p : Outline) (b : Bool) → is_exact h.size (e.bytes - h.from) ≡ b → NotedOutline limits bytes e (gs, OnEnd h) rs told → outline_past_end b e.bytes gs ≡ Ok p → Past p told
-  noted_past gs h told p false x n at = absurd cc
-  noted_past [] h told p true x n at = (1, subst (λ q. NotedOutline limits bytes e q rs (λ start. note_end (start + e.bytes) e.points (told start))) (ok_same ([], OnFinished) p at) (noted_end [] h told x n))
-  noted_past (g ∷ gs) h told p true x n at =
+  noted_past : (gs : List Group) (h : Head) (told : ℕ → Notes) (p : Outline) (b : Bool)
+      → is_exact h.size (e.bytes - h.from) ≡ b → outline_past_end b e.bytes gs ≡ Ok p
+      → NotedOutline limits bytes e (gs, OnEnd h) rs told → Past p told
+  noted_past gs h told p false x at n = absurd cc
+  noted_past [] h told p true x at n =
+      one_more p told (none_past ([], OnFinished) p _ at (noted_end [] h told x n))
+  noted_past (g ∷ gs) h told p true x at n =
       let after : ℕ → Notes = λ start. note_end (start + e.bytes) e.points (told start) in
-      one_more p told
-      (elim g.left as (λ m.
-      NotedOutline limits bytes e (elim m [ zero ↦ (gs, OnEnd g.head) | suc k ↦ (record { head = g.head; ids = Rattle.twkb_tree.specs.Rows.other_ids g.ids; left = k } ∷ gs, OnHeader) ]) rs after
-      → ◌≡◌ {A = Result Outline Reason} (elim m [ zero ↦ outline_past_end (is_exact g.head.size (e.bytes - g.head.from)) e.bytes gs | suc k ↦ Ok (record { head = g.head; ids = Rattle.twkb_tree.specs.Rows.other_ids g.ids; left = k } ∷ gs, OnHeader) ]) (Ok p)
-      → Past p after) [
-        | zero ↦ λ a there. noted_past gs g.head after p (is_exact g.head.size (e.bytes - g.head.from)) refl a there
-        | suc k ↦ λ a there. (0, subst (λ q. NotedOutline limits bytes e q rs after) (ok_same (record { head = g.head; ids = Rattle.twkb_tree.specs.Rows.other_ids g.ids; left = k } ∷ gs, OnHeader) p there) a)
-      ]
-      (noted_end (g ∷ gs) h told x n) at)
+      let back = λ (m : ℕ). record g { left = m } ∷ gs in
+      one_more p told (elim g.left as (λ m. outline_past_end true e.bytes (back m) ≡ Ok p
+      → NotedOutline limits bytes e (outline_ended (back m)) rs after → Past p after) [
+        | zero ↦ noted_past gs g.head after p (is_exact g.head.size (e.bytes - g.head.from)) refl
+        | suc k ↦ none_past (outline_ended (back (suc k))) p after
+      ] at (noted_end (g ∷ gs) h told x n))
 
-  none_past : (o p : Outline) (told : ℕ → Notes) → way o ≡ way p → NotedOutline limits bytes e o rs told → Past p told
-  none_past o p told at n = (0, subst (λ q. NotedOutline limits bytes e q rs told) (ok_same o p at) n)
-
-  any_past : (gs : List Group) (s : Step) (p : Outline) (told : ℕ → Notes) → outline_ends e.bytes (gs, s) ≡ Ok p → NotedOutline limits bytes e (gs, s) rs told → Past p told
-  any_past gs (OnEnd h) p told at n = noted_past gs h told p (is_exact h.size (e.bytes - h.from)) refl n at
-  any_past gs OnHeader p told at n = none_past (gs, OnHeader) p told at n
-  any_past gs (OnMetadata k q) p told at n = none_past (gs, OnMetadata k q) p told at n
-  any_past gs (OnOption k h r os) p told at n = none_past (gs, OnOption k h r os) p told at n
-  any_past gs (OnCount m h) p told at n = none_past (gs, OnCount m h) p told at n
-  any_past gs (OnId m h members ids left) p told at n = none_past (gs, OnId m h members ids left) p told at n
-  any_past gs (OnBody h f ids s) p told at n = none_past (gs, OnBody h f ids s) p told at n
-  any_past gs OnFinished p told at n = none_past (gs, OnFinished) p told at n
+  any_past : (gs : List Group) (s : Step) (p : Outline) (told : ℕ → Notes)
+      → outline_ends e.bytes (gs, s) ≡ Ok p → NotedOutline limits bytes e (gs, s) rs told
+      → Past p told
+  any_past gs (OnEnd h) p told at n =
+      noted_past gs h told p (is_exact h.size (e.bytes - h.from)) refl at n
+  any_past gs s p told at n = none_past (gs, s) p told at n
 
   -- past the ends after an item
   pub noted_ends : (o p : Outline) (told : ℕ → Notes) → outline_ends e.bytes o ≡ Ok p → NotedOutline limits bytes e o rs told
@@ -194,17 +179,11 @@ abbrev Whole : (limits : Allowance) (bytes : List ℕ) (items : List Item) (rs :
 Whole limits bytes items rs = (g : Tree) × (rs ≡ rows 0 g) × (b : Blob limits bytes g) × ((start : ℕ) → (noted start nothing no_notes items).spans ≡ spans_of_blob start b)
 
 finished : (limits : Allowance) (bytes : List ℕ) (e : Sums) (fs : List Frame) (ph : Phase) → Rattle.std.specs.Prelude.map group_of fs ≡ [] → step_of ph ≡ OnFinished → (r : Reached limits bytes e (fs, ph)) → Whole limits bytes r.items (rows_so_far (fs, ph))
-finished limits bytes e (f ∷ fs) ph none same r = absurd cc
 finished limits bytes e [] (Finished g) none same r = let told = blob_told limits bytes g r.items r.ran r.spelled in (g, refl, told.0, told.1)
-finished limits bytes e [] AtHeader none same r = absurd cc
-finished limits bytes e [] (AtMetadata k p) none same r = absurd cc
-finished limits bytes e [] (AtOption k h o rs) none same r = absurd cc
-finished limits bytes e [] (AtCount m h) none same r = absurd cc
-finished limits bytes e [] (AtId m h n ids left) none same r = absurd cc
-finished limits bytes e [] (AtBody h f ids (Want d a)) none same r = absurd cc
-finished limits bytes e [] (AtBody h f ids (WantY a)) none same r = absurd cc
-finished limits bytes e [] (AtBody h f ids (Done v)) none same r = absurd cc
-finished limits bytes e [] (AtEnd h g) none same r = absurd cc
+finished limits bytes e fs (AtBody h f ids (Want d a)) none same r = absurd cc
+finished limits bytes e fs (AtBody h f ids (WantY a)) none same r = absurd cc
+finished limits bytes e fs (AtBody h f ids (Done v)) none same r = absurd cc
+finished limits bytes e fs ph none same r = absurd cc
 
 pub outlined_blob : (limits : Allowance) (bytes : List ℕ) (e : Sums) (rs : List Row) (r : Outlined limits bytes e ([], OnFinished) rs) → Whole limits bytes r.reached.items rs
 outlined_blob limits bytes e rs r =
@@ -212,22 +191,41 @@ outlined_blob limits bytes e rs r =
 
 -- ---- what an engine stands for
 
+-- its outline, with its notes
+pub noted_at : {bs : List ℕ} {rs : List Row} {d : Engine} (s : StandsAt bs rs d)
+    → NotedOutline d.limits s.front (sums_of d) (outline_in d) rs (λ start. notes_in start s.outlined)
+noted_at s = record { outlined = s.outlined; notes = λ start. refl }
+
+-- an engine whose fields say so stands there, with these notes
+pub stands_there : {limits : Allowance} {bytes : List ℕ} {sums : Sums} {o : Outline} {rs : List Row}
+    {told : ℕ → Notes} (all : List ℕ) (more : List Row) (e : Engine)
+    → NotedOutline limits bytes sums o rs told → e.limits ≡ limits → sums_of e ≡ sums
+    → outline_in e ≡ o → more ≡ rs → IsPlaced e.next e → all ≡ bytes ++ held_in e
+    → (IsByte e.next → ⊥) ⊎ (held_in e ≡ [])
+    → (t : StandsAt all more e) × (t.front ≡ bytes) × (notes_at t ≡ told e.start)
+stands_there {bytes = bytes} {told = told} all more e n limits sums is rows placed whole spelled =
+    let m = subst (λ (x : Allowance × Sums × Outline × List Row). NotedOutline x.0 bytes x.1 x.2 x.3 told)
+    (λ i. (sym limits i, sym sums i, sym is i, sym rows i)) n in
+    (record { front = bytes; whole = whole; outlined = m.outlined; placed = placed; spelled = spelled }, refl, m.notes e.start)
+
+-- one that holds no byte of a number
+pub stands_whole : {limits : Allowance} {bytes : List ℕ} {sums : Sums} {o : Outline} {rs : List Row}
+    {told : ℕ → Notes} (all : List ℕ) (more : List Row) (e : Engine)
+    → NotedOutline limits bytes sums o rs told → e.limits ≡ limits → sums_of e ≡ sums
+    → outline_in e ≡ o → more ≡ rs → IsPlaced e.next e → all ≡ bytes → held_in e ≡ []
+    → (t : StandsAt all more e) × (notes_at t ≡ told e.start)
+stands_whole {bytes = bytes} all more e n limits sums is rows placed at none =
+    let whole = at ∙ sym (ap (λ l. bytes ++ l) none ∙ append-nil bytes) in
+    let t = stands_there all more e n limits sums is rows placed whole (inr none) in
+    (t.0, t.2)
+
 -- a blob begins
-starts_here : (limits : Allowance) (b n q : ℕ) (p : Point) (gs : List Group) (i : NextItem) (d : Engine) → IsAllowance limits → i ≡ next.TypeByte → b ≡ 0 → n ≡ 1 → q ≡ 0 → p ≡ origin → gs ≡ []
-    → Outlined limits [] (record { bytes = b; position = p; nodes = n; points = q }) (gs, step_at i d) []
-starts_here limits b n q p gs i d allowed ei eb en eq ep eg = rw (ei, eb, en, eq, ep, eg) (outlined_start limits allowed)
-
-placed_here : (i : NextItem) (d : Engine) → i ≡ next.TypeByte → IsPlaced i d
-placed_here i d e = subst (λ j. IsPlaced j d) (sym e) tt
-
 pub stands_begun : (offset : ℕ) (d : Engine) → BeginsAt offset d → held_in d ≡ [] → StandsAt [] [] d
-stands_begun offset d b none = record {
-  front = [];
-  whole = sym none;
-  outlined = starts_here d.limits d.bytes d.nodes d.points d.position (groups_of d.collections) d.next d d.allowed b.next b.bytes b.nodes b.points b.position b.collections;
-  placed = placed_here d.next d b.next;
-  spelled = inr none;
-}
+stands_begun offset d b none = (stands_whole [] [] d
+    (record { outlined = outlined_start d.limits d.allowed; notes = λ start. refl }) refl
+    (λ t. record { bytes = b.bytes t; position = b.position t; nodes = b.nodes t; points = b.points t })
+    (λ t. (b.collections t, step_at (b.next t) d)) refl
+    (subst (λ j. IsPlaced j d) (sym b.next) tt) refl none).0
 
 -- if no byte is held the bytes are complete items
 pub all_whole : (bytes : List ℕ) (rs : List Row) (d : Engine) → held_in d ≡ [] → (s : StandsAt bytes rs d) → bytes ≡ s.front
@@ -252,36 +250,19 @@ pub record SameItem (d e : Engine) : Type 0 where
 
 step_else : (i : NextItem) (d e : Engine) → SameItem d e → step_at i e ≡ step_at i d
 step_else next.TypeByte d e q = refl
-step_else next.MetadataByte d e q = ap (λ (h : place.Head). OnMetadata (kind_of h.kind) h.precision) q.head
-step_else next.ExtendedByte d e q = ap (λ (h : place.Head). OnOption (kind_of h.kind) (head_of h) role.Extended (size_roles h.metadata)) q.head
-step_else next.Size d e q = ap (λ (h : place.Head). OnOption (kind_of h.kind) (head_of h) role.Size (box_roles h.metadata)) q.head
-step_else (next.BoxNumber left) d e q = ap (λ (h : place.Head). OnOption (kind_of h.kind) (head_of h) role.Box (boxes left)) q.head
-step_else next.MemberCount d e q = ap (λ (h : place.Head). OnCount (many_of h.kind) (head_of h)) q.head
-step_else next.Id d e q = λ t. OnId (many_of (q.head t).kind) (head_of (q.head t)) (suc (q.members_left t)) (ids_read (q.ids t)) (q.members_left t - length (ids_read (q.ids t)))
-step_else next.X d e q = λ t. OnBody (head_of (q.head t)) (form_of (q.head t).kind) (if has_members (q.head t).kind then ids_of (q.ids t) else None) (Wanted 0 (lists_of (q.head t).kind (q.points_left t) (q.rings_left t) (q.members_left t)))
-step_else next.Y d e q = λ t. OnBody (head_of (q.head t)) (form_of (q.head t).kind) (if has_members (q.head t).kind then ids_of (q.ids t) else None) (WantedY (lists_of (q.head t).kind (q.points_left t) (q.rings_left t) (q.members_left t)))
-step_else next.PointCount d e q = λ t. OnBody (head_of (q.head t)) (form_of (q.head t).kind) (if has_members (q.head t).kind then ids_of (q.ids t) else None) (Wanted 1 (line_lists_of (q.head t).kind (q.rings_left t) (q.members_left t)))
-step_else next.RingCount d e q = λ t. OnBody (head_of (q.head t)) (form_of (q.head t).kind) (if has_members (q.head t).kind then ids_of (q.ids t) else None) (Wanted 2 (area_lists_of (q.head t).kind (q.members_left t)))
-
-outline_else : (d e : Engine) → SameItem d e → outline_in e ≡ outline_in d
-outline_else d e q = ap (λ cs. (groups_of cs, step_at e.next e)) q.collections ∙ (ap (λ i. (groups_of d.collections, step_at i e)) q.next ∙ ap (λ s. (groups_of d.collections, s)) (step_else d.next d e q))
-
-sums_else : (d e : Engine) → SameItem d e → sums_of e ≡ sums_of d
-sums_else d e q = λ t. record { bytes = q.bytes t; position = q.position t; nodes = q.nodes t; points = q.points t }
+step_else i d e q = simp (q.head, q.ids, q.members_left, q.rings_left, q.points_left)
 
 placed_else : (i : NextItem) (d e : Engine) → SameItem d e → IsPlaced i d → IsPlaced i e
 placed_else next.TypeByte d e q p = tt
 placed_else next.MetadataByte d e q p = tt
-placed_else _ d e q p = subst (λ cs. IsHeadAt (length (groups_of cs)) (id_in (groups_of cs)) e.head) (sym q.collections) (subst (IsHeadAt (length (groups_of d.collections)) (id_in (groups_of d.collections))) (sym q.head) p)
+placed_else i d e q p = subst (λ (x : List OpenCollection × place.Head). IsHeadAt (length (groups_of x.0)) (id_in (groups_of x.0)) x.1)
+    (λ t. (sym q.collections t, sym q.head t)) p
 
 pub stands_else : (bs all : List ℕ) (rs : List Row) (d e : Engine) → SameItem d e → (s : StandsAt bs rs d) → all ≡ s.front ++ held_in e → (IsByte d.next → ⊥) ⊎ (held_in e ≡ []) → (t : StandsAt all rs e) × (t.front ≡ s.front) × (notes_at t ≡ notes_at s)
 stands_else bs all rs d e q s whole spelled =
-    let told : ℕ → Notes = λ start. notes_in start s.outlined in
-    let a : NotedOutline d.limits s.front (sums_of d) (outline_in d) rs told = record { outlined = s.outlined; notes = λ start. refl } in
-    let b = subst (λ x. NotedOutline d.limits s.front (sums_of d) x rs told) (sym (outline_else d e q)) a in
-    let c = subst (λ x. NotedOutline d.limits s.front x (outline_in e) rs told) (sym (sums_else d e q)) b in
-    let n = subst (λ x. NotedOutline x s.front (sums_of e) (outline_in e) rs told) (sym q.limits) c in (
-      record { front = s.front; whole = whole; outlined = n.outlined; placed = subst (λ i. IsPlaced i e) (sym q.next) (placed_else d.next d e q s.placed); spelled = subst (λ i. (IsByte i → ⊥) ⊎ (held_in e ≡ [])) (sym q.next) spelled },
-      refl,
-      ap (λ start. notes_in start n.outlined) q.start ∙ n.notes d.start,
-    )
+    let outline : outline_in e ≡ outline_in d = λ t. (groups_of (q.collections t), (ap (λ i. step_at i e) q.next ∙ step_else d.next d e q) t) in
+    let t = stands_there all rs e (noted_at s) q.limits
+    (λ t. record { bytes = q.bytes t; position = q.position t; nodes = q.nodes t; points = q.points t })
+    outline refl (subst (λ i. IsPlaced i e) (sym q.next) (placed_else d.next d e q s.placed)) whole
+    (subst (λ i. (IsByte i → ⊥) ⊎ (held_in e ≡ [])) (sym q.next) spelled) in
+    (t.0, t.1, t.2 ∙ ap (λ start. notes_in start s.outlined) q.start)

@@ -1,5 +1,5 @@
 -- What an engine stands for.
-use Rattle.std.specs.Prelude.{◌≡◌, ◌⊎◌, ℕ, ◌+◌, ◌<◌, ◌≤◌, List, [], ◌++◌, length, take, Bool, true, false, Result, Ok, Err, ⊤}
+use Rattle.std.specs.Prelude.{◌≡◌, ◌⊎◌, ℕ, ◌+◌, ◌<◌, ◌≤◌, ◌^◌, List, [], ◌++◌, length, take, Bool, true, false, Result, Ok, Err, ⊤}
 use Rattle.twkb_tree.specs.Tree.{Tree}
 use Rattle.twkb_tree.specs.Limits.{Allowance}
 use Rattle.twkb_tree.specs.Rows.{Row, rows}
@@ -15,6 +15,7 @@ use Rattle.twkb_engine.specs.State.{IsPlaced, IsNext, allowance_of, sums_of, out
 use Rattle.twkb_engine.specs.Fits.{IsByte}
 use Rattle.twkb_body.specs.JudgedParts.{IsJudged, PartIn}
 use Rattle.twkb_engine.specs.Stops.{reason_of}
+use Rattle.twkb_engine.specs.declared.next_item.NextItem.{NextItem}
 use Rattle.twkb_engine.specs.declared.engine.Engine.{Engine}
 use Rattle.twkb_engine.specs.declared.stop.Stop.{Stop}
 use Rattle.twkb_engine.specs.declared.stop.Stop.TheVariants.{Memory, Refused}
@@ -52,6 +53,11 @@ pub record StandsAt (bytes : List ℕ) (rs : List Row) (d : Engine) : Type 0 whe
 abbrev pub IsAlive : List Row → Engine → Type 0
 IsAlive rs d = ∥ ((bytes : List ℕ) × StandsAt bytes rs d) ∥₁
 
+-- it stands somewhere, and there is room for this number of bytes
+pub record IsReady (rs : List Row) (d : Engine) (many : ℕ) : Type 0 where
+  pub room : d.start + (count_of d + many) ≤ 2 ^ 63
+  pub alive : IsAlive rs d
+
 -- what was noted of the items that it took
 abbrev pub notes_at : {bytes : List ℕ} {rs : List Row} {d : Engine} → StandsAt bytes rs d → Notes
 notes_at {d = d} s = notes_in d.start s.outlined
@@ -71,6 +77,13 @@ pub record SaysNext (d : Engine) (bytes : List ℕ) (n count : ℕ) : Type 0 whe
   pub within : count ≤ length bytes
   pub fits : IsByte d.next → (n < 256) × (count ≡ 1)
   pub gives : (r : Role) → IsNext r d → Gives r n (take count bytes)
+
+-- this item comes next, with this number, in this number of bytes, for which there is room
+pub record ComesNext (item : NextItem) (rs : List Row) (d : Engine) (n width : ℕ) : Type 0 where
+  pub next : d.next ≡ item
+  pub room : d.start + (d.bytes + width) ≤ 2 ^ 63
+  pub wide : n < 2 ^ 64
+  pub alive : IsAlive rs d
 
 -- wherever the engine stands, a prefix of these bytes ends a part that was judged
 abbrev pub StopsIn : List Row → Engine → List ℕ → Type 0
@@ -131,3 +144,8 @@ IsEnd limits bs offset false = FirstFault limits bs offset Truncated
 -- those of its items before
 abbrev pub FedBy : {S : Type 0} → (S → Notes → Type 0) → Engine → List Row → S → List ℕ → Result (ℕ × Bool) Stop → Engine → List Row → S → Type 0
 FedBy holds d rs old bytes answer e more new = (bs : List ℕ) (s : StandsAt bs rs d) → IsFed holds (holds old (notes_at s)) (allowance_of d) d.start bs bytes answer more e new
+
+-- that is its answer to the bytes, wherever it stands, and it keeps its limits
+pub record IsAnswer {S : Type 0} (holds : S → Notes → Type 0) (d : Engine) (rs : List Row) (old : S) (bytes : List ℕ) (answer : Result (ℕ × Bool) Stop) (e : Engine) (more : List Row) (new : S) : Type 0 where
+  pub limits : e.limits ≡ d.limits
+  pub fed : FedBy holds d rs old bytes answer e more new

@@ -6,7 +6,7 @@ use Rattle.twkb_grammar.specs.Bits.{bit}
 use Rattle.twkb_grammar.specs.Roles as role
 use Rattle.twkb_grammar.specs.Roles.{Role, where_set}
 use Rattle.twkb_grammar.specs.Machine.{Sums}
-use Rattle.twkb_body.specs.Outline.{Outline, Step, OnHeader, OnMetadata, OnOption, OnCount, OnId, OnBody, Wanted, WantedY, outline_role}
+use Rattle.twkb_body.specs.Outline.{Outline, Step, OnHeader, OnMetadata, OnOption, OnCount, OnId, OnBody, Wanted, WantedY, Spot, outline_role}
 use Rattle.twkb_body.specs.Growing.{id_in}
 use Rattle.twkb_body.specs.Head.{head_of, kind_of, form_of, many_of, IsHeadAt}
 use Rattle.twkb_body.specs.Ids.{ids_of, ids_read}
@@ -37,6 +37,10 @@ size_roles meta = where_set (bit meta 1) (role.Size ∷ []) ++ box_roles meta
 abbrev pub ids_in : Engine → Ids
 ids_in d = if has_members d.head.kind then ids_of d.ids else None
 
+-- its body, at this place
+abbrev pub body_at : Engine → Spot → Step
+body_at d s = OnBody (head_of d.head) (form_of d.head.kind) (ids_in d) s
+
 -- the step of the grammar's machine at this item
 abbrev pub step_at : NextItem → Engine → Step
 step_at next.TypeByte d = OnHeader
@@ -46,10 +50,10 @@ step_at next.Size d = OnOption (kind_of d.head.kind) (head_of d.head) role.Size 
 step_at (next.BoxNumber left) d = OnOption (kind_of d.head.kind) (head_of d.head) role.Box (boxes left)
 step_at next.MemberCount d = OnCount (many_of d.head.kind) (head_of d.head)
 step_at next.Id d = OnId (many_of d.head.kind) (head_of d.head) (suc d.members_left) (ids_read d.ids) (d.members_left - length (ids_read d.ids))
-step_at next.X d = OnBody (head_of d.head) (form_of d.head.kind) (ids_in d) (Wanted 0 (lists_of d.head.kind d.points_left d.rings_left d.members_left))
-step_at next.Y d = OnBody (head_of d.head) (form_of d.head.kind) (ids_in d) (WantedY (lists_of d.head.kind d.points_left d.rings_left d.members_left))
-step_at next.PointCount d = OnBody (head_of d.head) (form_of d.head.kind) (ids_in d) (Wanted 1 (line_lists_of d.head.kind d.rings_left d.members_left))
-step_at next.RingCount d = OnBody (head_of d.head) (form_of d.head.kind) (ids_in d) (Wanted 2 (area_lists_of d.head.kind d.members_left))
+step_at next.X d = body_at d (Wanted 0 (lists_of d.head.kind d.points_left d.rings_left d.members_left))
+step_at next.Y d = body_at d (WantedY (lists_of d.head.kind d.points_left d.rings_left d.members_left))
+step_at next.PointCount d = body_at d (Wanted 1 (line_lists_of d.head.kind d.rings_left d.members_left))
+step_at next.RingCount d = body_at d (Wanted 2 (area_lists_of d.head.kind d.members_left))
 
 abbrev pub step_of : Engine → Step
 step_of d = step_at d.next d
@@ -68,11 +72,15 @@ allowance_of d = d.limits
 
 -- ---- what holds of its fields
 
+-- its header is that of the geometry in the open collections
+abbrev pub IsHere : Engine → Type 0
+IsHere d = IsHeadAt (length (groups_of d.collections)) (id_in (groups_of d.collections)) d.head
+
 -- after a header: its geometry is in the open collections
 abbrev pub IsPlaced : NextItem → Engine → Type 0
 IsPlaced next.TypeByte d = ⊤
 IsPlaced next.MetadataByte d = ⊤
-IsPlaced _ d = IsHeadAt (length (groups_of d.collections)) (id_in (groups_of d.collections)) d.head
+IsPlaced _ d = IsHere d
 
 -- an item in this role comes next
 abbrev pub IsNext : Role → Engine → Type 0

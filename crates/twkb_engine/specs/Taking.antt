@@ -14,6 +14,7 @@ use Rattle.twkb_body.specs.JudgedParts.{Passes}
 use Rattle.twkb_body.specs.Head.{head_of, kind_of, form_of}
 use Rattle.twkb_engine.specs.State.{sums_of, outline_in, ids_in}
 use Rattle.twkb_engine.specs.Collections.{groups_of}
+use Rattle.twkb_engine.specs.Fits.{lists_of}
 use Rattle.twkb_engine.specs.Stops.{reason_of}
 use Rattle.twkb_engine.specs.declared.next_item.NextItem.TheVariants as next
 use Rattle.twkb_engine.specs.declared.engine.Engine.{Engine}
@@ -105,15 +106,6 @@ Lands way change d rs (Ok true) e more = (way ≡ Ok ([], OnFinished)) × (more 
 Lands way change d rs (Err Memory) e more = Passes way
 Lands way change d rs (Err (Refused why)) e more = (way ≡ Err (reason_of why)) × (e.bytes ≡ d.bytes)
 
--- An item of this role, number and width leads that way, with this change of the rows, and this
--- engine is the one before the ends that follow the item.
-pub record LeadsTo (r : Role) (n width : ℕ) (d : Engine) (way : Result Outline Reason) (change : Change) (m : Engine) : Type 0 where
-  pub free : IsFree r n d
-  pub way_is : way_of n width d ≡ way
-  pub brings_is : brings r n d ≡ change
-  pub sums_is : sums_of m ≡ sums_with (sums_of d) r n width
-  pub same : SameBlob d m
-
 -- past this step of the geometry that is read
 abbrev pub past : Engine → Step → Result Outline Reason
 past d s = outline_ends d.bytes (groups_of d.collections, s)
@@ -126,9 +118,21 @@ past_end d = past d (OnEnd (head_of d.head))
 abbrev pub past_parts : Engine → List Role → Result Outline Reason
 past_parts d parts = past d (options (kind_of d.head.kind) (head_of d.head) parts)
 
--- past a value of this depth that is done, in these lists
+-- its body, after a value of this depth that is done, in these lists
+abbrev pub shut_at : Engine → (depth : ℕ) → List ℕ → Step
+shut_at d depth lists = shut (head_of d.head) (form_of d.head.kind) (ids_in d) depth lists
+
+-- past such a value
 abbrev pub past_value : Engine → (depth : ℕ) → List ℕ → Result Outline Reason
-past_value d depth lists = past d (shut (head_of d.head) (form_of d.head.kind) (ids_in d) depth lists)
+past_value d depth lists = past d (shut_at d depth lists)
+
+-- the lists round a point that is the last of its list, or in none
+abbrev pub last_lists : Engine → List ℕ
+last_lists d = lists_of d.head.kind 0 d.rings_left d.members_left
+
+-- past such a point
+abbrev pub past_last : Engine → Result Outline Reason
+past_last d = past_value d 0 (last_lists d)
 
 -- its own row
 abbrev pub own_row : Engine → Change

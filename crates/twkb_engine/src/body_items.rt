@@ -1,12 +1,13 @@
 //! The items of a body: coordinates, and counts of points and of rings.
-ghost use Rattle.std.specs.Prelude.{◌≡◌, ◌≢◌, ◌+◌, ◌≤◌, ◌^◌, [], true, false, List, length, Ok, IfOk, OnOk};
+ghost use Rattle.std.specs.Prelude.{◌≡◌, ◌≢◌, ◌+◌, ◌≤◌, ◌^◌, [], true, false, List, Ok, Some, IfOk, OnOk, IfSome, IfNone};
 ghost use Rattle.twkb_tree.specs.Rows.{Row as TableRow};
 ghost use Rattle.twkb_grammar.specs.Roles as role;
+ghost use Rattle.twkb_grammar.specs.Fault.{CoordinateRange, moved};
+ghost use Rattle.twkb_grammar.specs.PlainReader.{objection};
 ghost use Rattle.twkb_grammar.specs.Machine.{listed};
 ghost use Rattle.twkb_flat.specs.Rows.{row_with};
-ghost use Rattle.twkb_body.specs.Growing.{NewRow, Nothing, id_in};
+ghost use Rattle.twkb_body.specs.Growing.{NewRow, Nothing};
 ghost use Rattle.twkb_body.specs.Admitting.{Admits};
-ghost use Rattle.twkb_body.specs.Head.{IsHeadAt};
 ghost use Rattle.twkb_engine.specs.declared.next_item.NextItem.TheVariants as next;
 
 use crate::blob_reason::BlobReason;
@@ -20,12 +21,11 @@ use twkb_num::unzigzag;
 use twkb_points::Pt;
 
 impl Engine {
-    ghost use Rattle.twkb_engine.specs.State.{IsPlaced, outline_in, sums_of};
-    ghost use Rattle.twkb_engine.specs.Collections.{groups_of};
-    ghost use Rattle.twkb_engine.specs.Fits.{lists_of, left_fit, is_bodied, are_shut, IsInside};
-    ghost use Rattle.twkb_engine.specs.Taking.{Takes, Lands, SameBlob, Keeps, past_end, past_value, point_row};
+    ghost use Rattle.twkb_engine.specs.State.{IsPlaced, IsHere, outline_in, sums_of};
+    ghost use Rattle.twkb_engine.specs.Fits.{left_fit, is_bodied, are_shut, IsInside};
+    ghost use Rattle.twkb_engine.specs.Taking.{Takes, Lands, IsFree, SameBlob, Keeps, past_end, past_last, point_row};
     ghost use Rattle.twkb_engine.specs.Notes.{NotesGo, notes_with, notes_past, open_in};
-    ghost use Rattle.twkb_engine.specs.Standing.{IsAlive};
+    ghost use Rattle.twkb_engine.specs.Standing.{ComesNext};
 
     // Takes an x. Refused if it leads out of range.
     #[inline(always)]
@@ -34,7 +34,7 @@ impl Engine {
         requires next { self.old.next ≡ next.X }
         requires room { self.old.start + (self.old.bytes + width) ≤ 2 ^ 63 }
         ensures taken { (rs : List TableRow) → Takes role.X number width self.old rs result self.new rs }
-        ensures begun { OnOk result (open_in self.new ≡ open_in self.old) }
+        ensures begun { IfOk result (λ ends. (ends ≡ false) × (open_in self.new ≡ open_in self.old)) }
         ensures placed { IsPlaced self.old.next self.old → OnOk result (IsPlaced self.new.next self.new) }
         ensures kept { Keeps self.old self.new }
     {
@@ -47,6 +47,21 @@ impl Engine {
         Ok(false)
     }
 
+    // The position after a y of this number, if that is in range.
+    #[inline(always)]
+    #[tactic(auto, using(twkb_body::proofs::Ranges::ranges))]
+    fn moved_y(&self, number: u64) -> Option<Pt>
+        ensures moved { IfSome result (λ to. to ≡ moved self.now.position role.Y number) }
+        ensures free { IfSome result (λ to. IsFree role.Y number self.now) }
+        ensures refused { IfNone result
+            (objection self.now.limits (sums_of self.now) role.Y number ≡ Some CoordinateRange) }
+    {
+        let Some(position) = self.position.moved_y(unzigzag(number)) else {
+            return None;
+        };
+        Some(position)
+    }
+
     // Takes a y. Refused if it leads out of range. The point takes memory.
     #[inline(always)]
     pub(crate) fn y<S: SpanNotes>(
@@ -56,15 +71,13 @@ impl Engine {
         number: u64,
         width: u64,
     ) -> Result<bool, Stop>
-        requires next { self.old.next ≡ next.Y }
-        requires room { self.old.start + (self.old.bytes + width) ≤ 2 ^ 63 }
-        requires alive { IsAlive flat.old self.old }
+        requires { ComesNext next.Y flat.old self.old number width }
         ensures taken { Takes role.Y number width self.old flat.old result self.new flat.new }
         ensures noted { IfOk result (λ ends. NotesGo S.holds (notes_with role.Y number width self.old self.new ends) self.old spans.old spans.new) }
         ensures placed { IsPlaced self.old.next self.old → OnOk result (IsPlaced self.new.next self.new) }
         ensures kept { Keeps self.old self.new }
     {
-        let Some(position) = self.position.moved_y(unzigzag(number)) else {
+        let Some(position) = self.moved_y(number) else {
             return Err(Stop::Refused(BlobReason::CoordinateRange));
         };
         self.bytes += width;
@@ -92,9 +105,9 @@ impl Engine {
         requires bodied { is_bodied self.old.head.kind ≡ true }
         requires inside { IsInside self.old.next }
         requires may { Admits (point_row position self.old) flat.old }
-        ensures shut { Lands (past_value self.old 0 (lists_of self.old.head.kind 0 self.old.rings_left self.old.members_left)) (point_row position self.old) self.old flat.old result self.new flat.new }
+        ensures shut { Lands (past_last self.old) (point_row position self.old) self.old flat.old result self.new flat.new }
         ensures noted { IfOk result (λ ends. NotesGo S.holds (notes_past self.old self.new ends) self.old spans.old spans.new) }
-        ensures placed { IsHeadAt (length (groups_of self.old.collections)) (id_in (groups_of self.old.collections)) self.old.head → OnOk result (IsPlaced self.new.next self.new) }
+        ensures placed { IsHere self.old → OnOk result (IsPlaced self.new.next self.new) }
         ensures kept { Keeps self.old self.new }
     {
         let member = self.ids.first();
@@ -112,9 +125,7 @@ impl Engine {
         count: u64,
         width: u64,
     ) -> Result<bool, Stop>
-        requires next { self.old.next ≡ next.PointCount }
-        requires room { self.old.start + (self.old.bytes + width) ≤ 2 ^ 63 }
-        requires alive { IsAlive flat.old self.old }
+        requires { ComesNext next.PointCount flat.old self.old count width }
         ensures taken { Takes (role.Count (listed 0)) count width self.old flat.old result self.new flat.new }
         ensures noted { IfOk result (λ ends. NotesGo S.holds (notes_with (role.Count (listed 0)) count width self.old self.new ends) self.old spans.old spans.new) }
         ensures placed { IsPlaced self.old.next self.old → OnOk result (IsPlaced self.new.next self.new) }
@@ -144,9 +155,7 @@ impl Engine {
         count: u64,
         width: u64,
     ) -> Result<bool, Stop>
-        requires next { self.old.next ≡ next.RingCount }
-        requires room { self.old.start + (self.old.bytes + width) ≤ 2 ^ 63 }
-        requires alive { IsAlive flat.old self.old }
+        requires { ComesNext next.RingCount flat.old self.old count width }
         ensures taken { Takes (role.Count (listed 1)) count width self.old flat.old result self.new flat.new }
         ensures noted { IfOk result (λ ends. NotesGo S.holds (notes_with (role.Count (listed 1)) count width self.old self.new ends) self.old spans.old spans.new) }
         ensures placed { IsPlaced self.old.next self.old → OnOk result (IsPlaced self.new.next self.new) }
@@ -179,9 +188,9 @@ impl Engine {
         requires bodied { is_bodied self.old.head.kind ≡ true }
         requires inside { IsInside self.old.next }
         requires may { Admits (NewRow (row_with row [])) flat.old }
-        ensures shut { Lands (past_value self.old 0 (lists_of self.old.head.kind 0 self.old.rings_left self.old.members_left)) (NewRow (row_with row [])) self.old flat.old result self.new flat.new }
+        ensures shut { Lands (past_last self.old) (NewRow (row_with row [])) self.old flat.old result self.new flat.new }
         ensures noted { IfOk result (λ ends. NotesGo S.holds (notes_past self.old self.new ends) self.old spans.old spans.new) }
-        ensures placed { IsHeadAt (length (groups_of self.old.collections)) (id_in (groups_of self.old.collections)) self.old.head → OnOk result (IsPlaced self.new.next self.new) }
+        ensures placed { IsHere self.old → OnOk result (IsPlaced self.new.next self.new) }
         ensures kept { Keeps self.old self.new }
     {
         let ends = self.end_value(spans)?;
@@ -197,10 +206,10 @@ impl Engine {
         requires fits { left_fit self.old.head.kind 0 self.old.rings_left self.old.members_left ≡ true }
         requires bodied { is_bodied self.old.head.kind ≡ true }
         requires inside { IsInside self.old.next }
-        ensures ended { (rs : List TableRow) → Lands (past_value self.old 0 (lists_of self.old.head.kind 0 self.old.rings_left self.old.members_left)) Nothing self.old rs result self.new rs }
+        ensures ended { (rs : List TableRow) → Lands (past_last self.old) Nothing self.old rs result self.new rs }
         ensures noted { IfOk result (λ ends. NotesGo S.holds (notes_past self.old self.new ends) self.old spans.old spans.new) }
         ensures head { self.new.head ≡ self.old.head }
-        ensures placed { IsHeadAt (length (groups_of self.old.collections)) (id_in (groups_of self.old.collections)) self.old.head → OnOk result (IsPlaced self.new.next self.new) }
+        ensures placed { IsHere self.old → OnOk result (IsPlaced self.new.next self.new) }
         ensures kept { Keeps self.old self.new }
     {
         if self.ends_with_list() {
@@ -213,7 +222,7 @@ impl Engine {
     // Whether the body ends with the list of points that is open.
     #[inline(always)]
     fn ends_with_list(&self) -> bool
-        ensures ends { result ≡ true → past_value self.now 0 (lists_of self.now.head.kind 0 self.now.rings_left self.now.members_left) ≡ past_end self.now }
+        ensures ends { result ≡ true → past_last self.now ≡ past_end self.now }
         ensures shut { result ≡ true → are_shut 0 self.now.rings_left self.now.members_left ≡ true }
         ensures more { result ≡ false → self.now.rings_left + self.now.members_left ≢ 0 }
     {
@@ -227,13 +236,13 @@ impl Engine {
         requires fits { left_fit self.old.head.kind 0 self.old.rings_left self.old.members_left ≡ true }
         requires bodied { is_bodied self.old.head.kind ≡ true }
         requires left { self.old.rings_left + self.old.members_left ≢ 0 }
-        ensures step { past_value self.old 0 (lists_of self.old.head.kind 0 self.old.rings_left self.old.members_left) ≡ Ok (outline_in self.new) }
+        ensures step { past_last self.old ≡ Ok (outline_in self.new) }
         ensures sums { sums_of self.new ≡ sums_of self.old }
         ensures blob { SameBlob self.old self.new }
         ensures head { self.new.head ≡ self.old.head }
         ensures same { self.new.collections ≡ self.old.collections }
         ensures inside { IsInside self.new.next }
-        ensures placed { IsHeadAt (length (groups_of self.old.collections)) (id_in (groups_of self.old.collections)) self.old.head → IsPlaced self.new.next self.new }
+        ensures placed { IsHere self.old → IsPlaced self.new.next self.new }
         ensures kept { Keeps self.old self.new }
     {
         if self.rings_left > 0 {

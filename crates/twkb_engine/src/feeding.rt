@@ -1,6 +1,7 @@
 //! The ways in: a held number that further bytes complete, an item that is complete at the
 //! start of the bytes, and points of a list many at once.
 ghost use Rattle.std.specs.Prelude.{◌≡◌, ◌+◌, ◌<◌, ◌≤◌, ◌^◌, ◌∷◌, [], List, IfOk, IfSome, OnErr, take, length};
+ghost use Rattle.twkb_engine.specs.Standing.{with_used};
 
 use crate::blob_reason::BlobReason;
 use crate::engine::Engine;
@@ -13,10 +14,22 @@ use twkb_flat::Flat;
 use twkb_num::Step;
 use twkb_tree::Kind;
 
+// What an item's answer says of the bytes, of which it has this number.
+#[inline(always)]
+fn with_bytes(used: usize, answer: Result<bool, Stop>) -> Result<(usize, bool), Stop>
+    ensures is { result ≡ with_used used answer }
+    ensures some { 0 < used → IfOk result (λ taken. 0 < taken.0) }
+{
+    match answer {
+        Ok(ends) => Ok((used, ends)),
+        Err(stop) => Err(stop),
+    }
+}
+
 impl Engine {
     ghost use Rattle.twkb_tree.specs.Rows.{Row};
     ghost use Rattle.twkb_engine.specs.Taking.{Stays};
-    ghost use Rattle.twkb_engine.specs.Standing.{IsAlive, FedBy, with_used, LeadsQuietly, SaysNext, StopsIn, TakesAll, held_in, count_of, place_in};
+    ghost use Rattle.twkb_engine.specs.Standing.{IsAlive, IsReady, IsAnswer, FedBy, LeadsQuietly, SaysNext, StopsIn, TakesAll, held_in, count_of, place_in};
     ghost use Rattle.twkb_engine.specs.declared.next_item.NextItem.TheVariants.{X, Id};
 
     /// Takes a byte, and returns whether the blob ends with it. It takes memory as `feed` does.
@@ -67,20 +80,16 @@ impl Engine {
         rest: &[u8],
     ) -> Result<(usize, bool), Stop>
         requires some { 0 < length rest.now }
-        requires room { self.old.start + (count_of self.old + length rest.now) ≤ 2 ^ 63 }
-        requires alive { IsAlive flat.old self.old }
+        requires ready { IsReady flat.old self.old (length rest.now) }
         ensures some { IfOk result (λ taken. 0 < taken.0) }
-        ensures limits { self.new.limits ≡ self.old.limits }
-        ensures fed { FedBy S.holds self.old flat.old spans.old rest.now result self.new flat.new spans.new }
+        ensures answer { IsAnswer S.holds self.old flat.old spans.old rest.now result self.new flat.new spans.new }
     {
         if self.held.len() == 0 {
             if let Some((number, width)) = self.front_item(rest) {
-                let ends = self.take(flat, spans, number, width as u64)?;
-                return Ok((width, ends));
+                return with_bytes(width, self.take(flat, spans, number, width as u64));
             }
         }
-        let ends = self.take_byte(flat, spans, rest[0])?;
-        Ok((1, ends))
+        with_bytes(1, self.take_byte(flat, spans, rest[0]))
     }
 
     // Takes points of a list, or members of a multipoint, many at once, but not the last; else one
@@ -93,20 +102,16 @@ impl Engine {
         rest: &[u8],
     ) -> Result<(usize, bool), Stop>
         requires next { self.old.next ≡ X }
-        requires room { place_in self.old + length rest.now ≤ 2 ^ 63 }
         requires alone { held_in self.old ≡ [] }
-        requires alive { IsAlive flat.old self.old }
-        ensures limits { self.new.limits ≡ self.old.limits }
-        ensures fed { FedBy S.holds self.old flat.old spans.old rest.now result self.new flat.new spans.new }
+        requires ready { IsReady flat.old self.old (length rest.now) }
+        ensures { IsAnswer S.holds self.old flat.old spans.old rest.now result self.new flat.new spans.new }
     {
         if self.points_left > 0 {
             return Ok((self.take_list(flat, rest)?, false));
         }
-        if self.members_left > 0 {
-            let used = self.take_members(flat, rest)?;
-            if used > 0 {
-                return Ok((used, false));
-            }
+        let used = self.take_others(flat, rest)?;
+        if used > 0 {
+            return Ok((used, false));
         }
         self.take_point(flat, spans, rest)
     }
@@ -122,19 +127,16 @@ impl Engine {
     ) -> Result<(usize, bool), Stop>
         requires next { self.old.next ≡ X }
         requires last { self.old.points_left ≡ 0 }
-        requires room { place_in self.old + length rest.now ≤ 2 ^ 63 }
         requires alone { held_in self.old ≡ [] }
-        requires alive { IsAlive flat.old self.old }
-        ensures limits { self.new.limits ≡ self.old.limits }
-        ensures fed { FedBy S.holds self.old flat.old spans.old rest.now result self.new flat.new spans.new }
+        requires ready { IsReady flat.old self.old (length rest.now) }
+        ensures { IsAnswer S.holds self.old flat.old spans.old rest.now result self.new flat.new spans.new }
     {
         let Some((position, used)) = front_point(self.position, rest) else {
             return Ok((0, false));
         };
         self.bytes += used as u64;
         self.position = position;
-        let ends = self.last_point(flat, spans, position)?;
-        Ok((used, ends))
+        with_bytes(used, self.last_point(flat, spans, position))
     }
 
     // Takes points of the open list, but not its last, and returns how many bytes they had. They
@@ -188,6 +190,25 @@ impl Engine {
         Ok(taken.used)
     }
 
+    // Takes members as `take_members` does, if any are left.
+    #[inline(always)]
+    fn take_others(&mut self, flat: &mut Flat, rest: &[u8]) -> Result<usize, AllocError>
+        requires next { self.old.next ≡ X }
+        requires room { place_in self.old + length rest.now ≤ 2 ^ 63 }
+        requires alone { held_in self.old ≡ [] }
+        ensures within { IfOk result (λ used. used ≤ length rest.now) }
+        ensures led { IfOk result (λ used. LeadsQuietly flat.old self.old (take used rest.now) flat.new self.new) }
+        ensures memory { OnErr result (StopsIn flat.old self.old rest.now) }
+        ensures stays { Stays self.old self.new }
+        ensures next { self.new.next ≡ self.old.next }
+        ensures lists { self.new.points_left ≡ self.old.points_left }
+    {
+        if self.members_left == 0 {
+            return Ok(0);
+        }
+        self.take_members(flat, rest)
+    }
+
     // Takes ids, but not the last, and returns how many bytes they had. They take memory.
     #[inline(never)]
     fn take_ids(&mut self, rest: &[u8]) -> Result<usize, AllocError>
@@ -208,6 +229,29 @@ impl Engine {
         Ok(used)
     }
 
+    // Takes items that are complete at the start of the bytes, many at once, if it holds no byte of
+    // a number; returns how many bytes were taken, or 0, and whether the blob ends with them.
+    #[inline(always)]
+    fn take_many<S: SpanNotes>(
+        &mut self,
+        flat: &mut Flat,
+        spans: &mut S,
+        rest: &[u8],
+    ) -> Result<(usize, bool), Stop>
+        requires { IsReady flat.old self.old (length rest.now) }
+        ensures { IsAnswer S.holds self.old flat.old spans.old rest.now result self.new flat.new spans.new }
+    {
+        if self.held.len() > 0 {
+            return Ok((0, false));
+        }
+        match self.next {
+            NextItem::TypeByte => Ok((self.take_header(spans, rest)?, false)),
+            NextItem::Id => Ok((self.take_ids(rest)?, false)),
+            NextItem::X => self.take_points(flat, spans, rest),
+            _ => Ok((0, false)),
+        }
+    }
+
     // Takes the next bytes of a piece, one at least; returns how many, and whether the blob ends with them.
     #[inline(always)]
     fn take_some<S: SpanNotes>(
@@ -217,22 +261,13 @@ impl Engine {
         rest: &[u8],
     ) -> Result<(usize, bool), Stop>
         requires some { 0 < length rest.now }
-        requires room { self.old.start + (count_of self.old + length rest.now) ≤ 2 ^ 63 }
-        requires alive { IsAlive flat.old self.old }
+        requires ready { IsReady flat.old self.old (length rest.now) }
         ensures some { IfOk result (λ taken. 0 < taken.0) }
-        ensures limits { self.new.limits ≡ self.old.limits }
-        ensures fed { FedBy S.holds self.old flat.old spans.old rest.now result self.new flat.new spans.new }
+        ensures answer { IsAnswer S.holds self.old flat.old spans.old rest.now result self.new flat.new spans.new }
     {
-        if self.held.len() == 0 {
-            let taken = match self.next {
-                NextItem::TypeByte => (self.take_header(spans, rest)?, false),
-                NextItem::Id => (self.take_ids(rest)?, false),
-                NextItem::X => self.take_points(flat, spans, rest)?,
-                _ => (0, false),
-            };
-            if taken.0 > 0 {
-                return Ok(taken);
-            }
+        let taken = self.take_many(flat, spans, rest)?;
+        if taken.0 > 0 {
+            return Ok(taken);
         }
         self.take_item(flat, spans, rest)
     }
@@ -245,11 +280,9 @@ impl Engine {
         spans: &mut S,
         piece: &[u8],
     ) -> Result<(usize, bool), Stop>
-        requires room { self.old.start + (count_of self.old + length piece.now) ≤ 2 ^ 63 }
-        requires alive { IsAlive flat.old self.old }
-        ensures limits { self.new.limits ≡ self.old.limits }
+        requires { IsReady flat.old self.old (length piece.now) }
         ensures all { TakesAll (length piece.now) result }
-        ensures fed { FedBy S.holds self.old flat.old spans.old piece.now result self.new flat.new spans.new }
+        ensures answer { IsAnswer S.holds self.old flat.old spans.old piece.now result self.new flat.new spans.new }
     {
         let mut used = 0;
         while used < piece.len() {
@@ -279,11 +312,9 @@ impl Engine {
         ensures all { TakesAll (length piece.now) result }
         ensures fed { FedBy S.holds self.old flat.old spans.old piece.now result self.new flat.new spans.new }
     {
-        if self.is_between() {
-            let used = self.take_root_point(flat, spans, piece)?;
-            if used > 0 {
-                return Ok((used, true));
-            }
+        let used = self.take_root(flat, spans, piece)?;
+        if used > 0 {
+            return Ok((used, true));
         }
         self.feed_items(flat, spans, piece)
     }

@@ -2,16 +2,14 @@
 ghost use Rattle.std.specs.Prelude.{◌≡◌, ◌+◌, ◌≤◌, ◌<◌, ◌^◌, ◌/◌, ◌%◌, ℕ, List, [], None, true, IfOk, OnOk, OnErr, Ok, length, take};
 ghost use Rattle.twkb_tree.specs.Rows.{Row};
 ghost use Rattle.twkb_grammar.specs.Roles as role;
-ghost use Rattle.twkb_grammar.specs.Roles.{Role};
 ghost use Rattle.twkb_grammar.specs.Fault.{announces_point as announces};
 ghost use Rattle.twkb_grammar.specs.Machine.{kind_number, kind_at};
 ghost use Rattle.twkb_num.specs.Zigzag.{unzigzag_of};
 ghost use Rattle.twkb_points.specs.Point.{origin as origin_of};
 ghost use Rattle.twkb_grammar.specs.Noting.{Notes, note_header, note_metadata};
 ghost use Rattle.twkb_body.specs.Outline.{OnMetadata, begins};
-ghost use Rattle.twkb_body.specs.Growing.{id_in};
 ghost use Rattle.twkb_body.specs.Admitting.{Admits};
-ghost use Rattle.twkb_body.specs.Head.{head_of, kind_of, IsHeadAt};
+ghost use Rattle.twkb_body.specs.Head.{head_of, kind_of};
 ghost use Rattle.twkb_engine.specs.declared.next_item.NextItem.TheVariants as next;
 
 use crate::blob_reason::BlobReason;
@@ -30,12 +28,12 @@ use twkb_tree::Kind;
 const BOX_REST: u8 = 3;
 
 impl Engine {
-    ghost use Rattle.twkb_engine.specs.State.{IsPlaced, outline_in, sums_of, size_roles, box_roles};
+    ghost use Rattle.twkb_engine.specs.State.{IsPlaced, IsHere, outline_in, sums_of, size_roles, box_roles};
     ghost use Rattle.twkb_engine.specs.Collections.{groups_of};
     ghost use Rattle.twkb_engine.specs.Fits.{IsInside, are_shut, is_typed};
-    ghost use Rattle.twkb_engine.specs.Taking.{Takes, Lands, LeadsTo, SameBlob, SameBut, Keeps, Stays, past_parts, header_row};
+    ghost use Rattle.twkb_engine.specs.Taking.{Takes, Lands, SameBlob, SameBut, Keeps, Stays, past_parts, header_row};
     ghost use Rattle.twkb_engine.specs.Notes.{NotesGo, notes_with, notes_past};
-    ghost use Rattle.twkb_engine.specs.Standing.{IsAlive, LeadsOn, StopsIn, held_in};
+    ghost use Rattle.twkb_engine.specs.Standing.{IsAlive, ComesNext, LeadsOn, StopsIn, held_in};
 
     // The geometry that this type byte begins, and its span. A span takes memory.
     #[inline(always)]
@@ -62,7 +60,7 @@ impl Engine {
     #[inline(always)]
     fn set_metadata<S: SpanNotes>(&mut self, spans: &mut S, metadata: Metadata)
         ensures head { head_of self.new.head ≡ record { precision = self.old.head.precision; meta = metadata; size = None; from = self.old.bytes } }
-        ensures placed { IsHeadAt (length (groups_of self.new.collections)) (id_in (groups_of self.new.collections)) self.new.head }
+        ensures placed { IsHere self.new }
         ensures kind { self.new.head.kind ≡ self.old.head.kind }
         ensures position { self.new.position ≡ self.old.position }
         ensures noted { NotesGo S.holds (note_metadata metadata) self.old spans.old spans.new }
@@ -176,9 +174,7 @@ impl Engine {
         number: u64,
         width: u64,
     ) -> Result<bool, Stop>
-        requires next { self.old.next ≡ next.Size }
-        requires room { self.old.start + (self.old.bytes + width) ≤ 2 ^ 63 }
-        requires alive { IsAlive flat.old self.old }
+        requires { ComesNext next.Size flat.old self.old number width }
         ensures taken { Takes role.Size number width self.old flat.old result self.new flat.new }
         ensures noted { IfOk result (λ ends. NotesGo S.holds (notes_with role.Size number width self.old self.new ends) self.old spans.old spans.new) }
         ensures placed { IsPlaced self.old.next self.old → OnOk result (IsPlaced self.new.next self.new) }
@@ -230,9 +226,8 @@ impl Engine {
         requires room { self.old.start + self.old.bytes ≤ 2 ^ 63 }
         requires may { Admits (header_row self.old (size_roles self.old.head.metadata)) flat.old }
         ensures landed { Lands (past_parts self.old (size_roles self.old.head.metadata)) (header_row self.old (size_roles self.old.head.metadata)) self.old flat.old result self.new flat.new }
-        ensures taken { (r : Role) (n width : ℕ) (d : Engine) → LeadsTo r n width d (past_parts self.old (size_roles self.old.head.metadata)) (header_row self.old (size_roles self.old.head.metadata)) self.old → Takes r n width d flat.old result self.new flat.new }
         ensures noted { IfOk result (λ ends. NotesGo S.holds (notes_past self.old self.new ends) self.old spans.old spans.new) }
-        ensures placed { IsHeadAt (length (groups_of self.old.collections)) (id_in (groups_of self.old.collections)) self.old.head → OnOk result (IsPlaced self.new.next self.new) }
+        ensures placed { IsHere self.old → OnOk result (IsPlaced self.new.next self.new) }
         ensures kept { Keeps self.old self.new }
     {
         if metadata.has_size() {
@@ -257,9 +252,8 @@ impl Engine {
         requires room { self.old.start + self.old.bytes ≤ 2 ^ 63 }
         requires may { Admits (header_row self.old (box_roles self.old.head.metadata)) flat.old }
         ensures landed { Lands (past_parts self.old (box_roles self.old.head.metadata)) (header_row self.old (box_roles self.old.head.metadata)) self.old flat.old result self.new flat.new }
-        ensures taken { (r : Role) (n width : ℕ) (d : Engine) → LeadsTo r n width d (past_parts self.old (box_roles self.old.head.metadata)) (header_row self.old (box_roles self.old.head.metadata)) self.old → Takes r n width d flat.old result self.new flat.new }
         ensures noted { IfOk result (λ ends. NotesGo S.holds (notes_past self.old self.new ends) self.old spans.old spans.new) }
-        ensures placed { IsHeadAt (length (groups_of self.old.collections)) (id_in (groups_of self.old.collections)) self.old.head → OnOk result (IsPlaced self.new.next self.new) }
+        ensures placed { IsHere self.old → OnOk result (IsPlaced self.new.next self.new) }
         ensures kept { Keeps self.old self.new }
     {
         if metadata.has_box() {
@@ -278,9 +272,8 @@ impl Engine {
         requires room { self.old.start + self.old.bytes ≤ 2 ^ 63 }
         requires may { Admits (header_row self.old []) flat.old }
         ensures landed { Lands (past_parts self.old []) (header_row self.old []) self.old flat.old result self.new flat.new }
-        ensures taken { (r : Role) (n width : ℕ) (d : Engine) → LeadsTo r n width d (past_parts self.old []) (header_row self.old []) self.old → Takes r n width d flat.old result self.new flat.new }
         ensures noted { IfOk result (λ ends. NotesGo S.holds (notes_past self.old self.new ends) self.old spans.old spans.new) }
-        ensures placed { IsHeadAt (length (groups_of self.old.collections)) (id_in (groups_of self.old.collections)) self.old.head → OnOk result (IsPlaced self.new.next self.new) }
+        ensures placed { IsHere self.old → OnOk result (IsPlaced self.new.next self.new) }
         ensures kept { Keeps self.old self.new }
     {
         if Metadata::from_byte(self.head.metadata).is_empty() {
@@ -292,6 +285,7 @@ impl Engine {
 
     // The body begins, or the count of members comes next.
     #[inline(always)]
+    #[tactic(auto, using(crate::proofs::Parts::headers))]
     fn go_to_body(&mut self)
         requires typed { is_typed self.old.head.kind ≡ true }
         requires shut { are_shut self.old.points_left self.old.rings_left self.old.members_left ≡ true }

@@ -1,8 +1,8 @@
 //! The items before the members of a multi-geometry or a collection: their count and their ids.
-ghost use Rattle.std.specs.Prelude.{◌≡◌, ℕ, ◌+◌, ◌≤◌, ◌<◌, ◌^◌, nat_lt, suc, length, false, None, IfOk, OnOk};
+ghost use Rattle.std.specs.Prelude.{◌≡◌, ◌+◌, ◌<◌, ◌++◌, ◌∷◌, [], nat_lt, suc, length, false, None, IfOk, OnOk};
+ghost use Rattle.twkb_num.specs.Zigzag.{unzigzag_of};
 ghost use Rattle.twkb_grammar.specs.Bits.{bit};
 ghost use Rattle.twkb_grammar.specs.Roles as role;
-ghost use Rattle.twkb_grammar.specs.Roles.{Role};
 ghost use Rattle.twkb_grammar.specs.Fault as fault;
 ghost use Rattle.twkb_grammar.specs.Fault.{points_of};
 ghost use Rattle.twkb_grammar.specs.PlainReader.{unless, objection};
@@ -11,7 +11,7 @@ ghost use Rattle.twkb_body.specs.Outline.{members_open, many_counted};
 ghost use Rattle.twkb_body.specs.Growing.{applied};
 ghost use Rattle.twkb_body.specs.Admitting.{Admits};
 ghost use Rattle.twkb_body.specs.Head.{head_of, many_of};
-ghost use Rattle.twkb_body.specs.Ids.{ids_of};
+ghost use Rattle.twkb_body.specs.Ids.{ids_of, ids_read};
 ghost use Rattle.twkb_engine.specs.Stops.{objection_of};
 ghost use Rattle.twkb_engine.specs.declared.next_item.NextItem.TheVariants as next;
 
@@ -21,19 +21,30 @@ use crate::next_item::NextItem;
 use crate::span_notes::SpanNotes;
 use crate::stop::Stop;
 use std::alloc::AllocError;
-use twkb_body::{own_row, push_row};
+use twkb_body::{MemberIds, own_row, push_row};
 use twkb_flat::Flat;
 use twkb_grammar::Metadata;
 use twkb_num::unzigzag;
 use twkb_tree::Kind;
 
+// Appends the id that this number says. It takes memory.
+#[inline(always)]
+fn push_id(ids: &mut MemberIds, number: u64) -> Result<(), AllocError>
+    ensures pushed { OnOk result
+        (ids_read ids.new ≡ ids_read ids.old ++ unzigzag_of number ∷ []) }
+    ensures has { ids.new.has_ids ≡ ids.old.has_ids }
+{
+    ids.push(unzigzag(number))?;
+    Ok(())
+}
+
 impl Engine {
     ghost use Rattle.twkb_engine.specs.State.{IsPlaced, outline_in, sums_of};
     ghost use Rattle.twkb_engine.specs.Collections.{groups_of};
     ghost use Rattle.twkb_engine.specs.Fits.{depth_cap};
-    ghost use Rattle.twkb_engine.specs.Taking.{Takes, LeadsTo, SameBlob, Keeps, own_row, counted_row, past_end};
+    ghost use Rattle.twkb_engine.specs.Taking.{Takes, Lands, SameBlob, Keeps, own_row, counted_row, past_end};
     ghost use Rattle.twkb_engine.specs.Notes.{NotesGo, notes_with, notes_past, open_in};
-    ghost use Rattle.twkb_engine.specs.Standing.{IsAlive};
+    ghost use Rattle.twkb_engine.specs.Standing.{ComesNext};
 
     // Why this number of further rows and points is not allowed, if it is not.
     #[inline(always)]
@@ -83,9 +94,7 @@ impl Engine {
         count: u64,
         width: u64,
     ) -> Result<bool, Stop>
-        requires next { self.old.next ≡ next.MemberCount }
-        requires room { self.old.start + (self.old.bytes + width) ≤ 2 ^ 63 }
-        requires alive { IsAlive flat.old self.old }
+        requires { ComesNext next.MemberCount flat.old self.old count width }
         ensures taken { Takes (role.Count (first_count (many_of self.old.head.kind) (length (groups_of self.old.collections)))) count width self.old flat.old result self.new flat.new }
         ensures noted { IfOk result (λ ends. NotesGo S.holds (notes_with (role.Count (first_count (many_of self.old.head.kind) (length (groups_of self.old.collections)))) count width self.old self.new ends) self.old spans.old spans.new) }
         ensures placed { IsPlaced self.old.next self.old → OnOk result (IsPlaced self.new.next self.new) }
@@ -110,7 +119,8 @@ impl Engine {
     fn end_counted<S: SpanNotes>(&mut self, flat: &mut Flat, spans: &mut S) -> Result<bool, Stop>
         requires next { self.old.next ≡ next.MemberCount }
         requires row { Admits (own_row self.old) flat.old }
-        ensures taken { (r : Role) (n width : ℕ) (d : Engine) → LeadsTo r n width d (past_end self.old) (own_row self.old) self.old → Takes r n width d flat.old result self.new flat.new }
+        ensures landed { Lands (past_end self.old) (own_row self.old) self.old flat.old result
+            self.new flat.new }
         ensures noted { IfOk result (λ ends. NotesGo S.holds (notes_past self.old self.new ends) self.old spans.old spans.new) }
         ensures placed { OnOk result (IsPlaced self.new.next self.new) }
         ensures kept { Keeps self.old self.new }
@@ -147,16 +157,14 @@ impl Engine {
     // Takes an id. It takes memory.
     #[inline(always)]
     pub(crate) fn id(&mut self, flat: &mut Flat, number: u64, width: u64) -> Result<bool, Stop>
-        requires next { self.old.next ≡ next.Id }
-        requires room { self.old.start + (self.old.bytes + width) ≤ 2 ^ 63 }
-        requires alive { IsAlive flat.old self.old }
+        requires { ComesNext next.Id flat.old self.old number width }
         ensures taken { Takes role.Id number width self.old flat.old result self.new flat.new }
         ensures begun { OnOk result (open_in self.new ≡ open_in self.old) }
         ensures placed { IsPlaced self.old.next self.old → OnOk result (IsPlaced self.new.next self.new) }
         ensures kept { Keeps self.old self.new }
     {
         self.bytes += width;
-        self.ids.push(unzigzag(number))?;
+        push_id(&mut self.ids, number)?;
         self.next = NextItem::Id;
         if self.ids.count() <= self.members_left {
             return Ok(false);

@@ -46,13 +46,33 @@ fn point_span(offset: u64, blob: &[u8]) -> Span
 }
 
 impl Engine {
-    ghost use Rattle.twkb_engine.specs.Standing.{FedBy, StopsIn, held_in};
+    ghost use Rattle.twkb_engine.specs.Standing.{FedBy, StopsIn, held_in, count_of};
+
+    // Takes a blob as `take_root_point` does, if no byte was taken since the start or the last blob.
+    #[inline(always)]
+    pub(crate) fn take_root<S: SpanNotes>(
+        &mut self,
+        flat: &mut Flat,
+        spans: &mut S,
+        piece: &[u8],
+    ) -> Result<usize, AllocError>
+        requires room { self.old.start + (count_of self.old + length piece.now) ≤ 2 ^ 63 }
+        ensures made { IfOk result (λ used. 0 < used → FedBy S.holds self.old flat.old spans.old piece.now (Ok (used, true)) self.new flat.new spans.new) }
+        ensures same { result ≡ Ok 0 → (self.new ≡ self.old) × (flat.new ≡ flat.old) × (spans.new ≡ spans.old) }
+        ensures memory { OnErr result (StopsIn flat.old self.old piece.now) }
+        ensures limits { self.new.limits ≡ self.old.limits }
+    {
+        if !self.is_between() {
+            return Ok(0);
+        }
+        self.take_root_point(flat, spans, piece)
+    }
 
     // Takes a blob that is a single point, if all of it is complete, it has no optional part but a
     // size of one byte, and that is exact; returns how many bytes it has, or 0, and then it changes
     // nothing. The row and a span take memory. A frame of its own, for its callers' registers.
     #[inline(never)]
-    pub(crate) fn take_root_point<S: SpanNotes>(
+    fn take_root_point<S: SpanNotes>(
         &mut self,
         flat: &mut Flat,
         spans: &mut S,

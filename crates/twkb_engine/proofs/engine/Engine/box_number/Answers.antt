@@ -1,35 +1,34 @@
-use Rattle.std.proofs.Common.{◌≡◌, [], refl, ap, arith}
-use Rattle.twkb_num.specs.Varint.{varint_of}
-use Rattle.twkb_num.proofs.VarintLemmas.{IsVarint-varint_of}
+use Rattle.std.proofs.Common.{◌≡◌, ◌∙◌, ℕ, List, [], refl, sym, ap, arith}
+use Rattle.twkb_tree.specs.Rows.{Row}
 use Rattle.twkb_grammar.specs.Roles as role
-use Rattle.twkb_body.specs.Outline.{OnOption}
+use Rattle.twkb_body.specs.Outline.{options}
 use Rattle.twkb_body.specs.Head.{head_of, kind_of}
-use Rattle.twkb_engine.specs.State.{boxes}
+use Rattle.twkb_engine.specs.Standing.{IsAlive}
+use Rattle.twkb_engine.specs.Taking.{header_row}
 use Rattle.twkb_engine.specs.declared.next_item.NextItem.TheVariants as next
-use Rattle.twkb_engine.proofs.Admitted.{alive_placed, option_admitted}
-use Rattle.twkb_engine.proofs.Parts.{option_way, option_brings, sums_same, add_zero}
+use Rattle.twkb_engine.specs.declared.engine.Engine.{Engine}
+use Rattle.twkb_engine.proofs.Admitted.{alive_placed}
+use Rattle.twkb_engine.proofs.Items.{Leads, past_with, given_leads, number_leads, takes}
+use Rattle.twkb_engine.proofs.Parts.{sums_as, add_zero}
 use Rattle.twkb_engine.proofs.engine.Engine.box_number.Goals as goal
+
+-- the last number of a box, whatever it is
+last_leads : {rs : List Row} {d : Engine} → IsAlive rs d → d.next ≡ next.BoxNumber 0 → (n width : ℕ)
+    → Leads rs d role.Box n width (past_with width d (options (kind_of d.head.kind) (head_of d.head)
+    [])) (header_row d [])
+last_leads {rs} {d} alive is n width =
+    let here = alive_placed rs d (next.BoxNumber 0) is (λ at. at) alive in
+    given_leads alive is role.Box n width refl (sym here.depth_is) (sym here.id_is) refl
+    (number_leads alive is role.Box 0 width refl (λ at. at) tt (omega arith) refl).admits
 
 pub begin_body-requires-clause-may : goal.begin_body-requires-clause-may
 begin_body-requires-clause-may g c =
-    let d = c.args.self.now in
-    let rs = c.args.flat.now in
-    let left = c.args.left in
-    let none : left ≡ 0 = omega (arith, c.if-left-gt0.false) in
-    option_admitted rs d (next.BoxNumber left) role.Box [] 0 (varint_of 0) c.requires.next (ap (λ l. OnOption (kind_of d.head.kind) (head_of d.head) role.Box (boxes l)) none)
-    (alive_placed rs d (next.BoxNumber left) c.requires.next (λ p. p) c.requires.alive) refl (IsVarint-varint_of 0 (omega arith)) c.requires.alive
+    let last : c.args.left ≡ 0 = omega (arith, c.if-left-gt0.false) in
+    (last_leads c.requires.alive (c.requires.next ∙ ap next.BoxNumber last) 0 0).admits
 
 pub returns-clause-taken : goal.returns-clause-taken
 returns-clause-taken g c = λ number.
-    let d = c.args.self.now in
-    let left = c.args.left in
-    let none : left ≡ 0 = omega (arith, c.if-left-gt0.false) in
-    let at = ap (λ l. OnOption (kind_of d.head.kind) (head_of d.head) role.Box (boxes l)) none in
-    let placed = alive_placed c.args.flat.now d (next.BoxNumber left) c.requires.next (λ p. p) c.requires.alive in
-    c.begin_body.ensures.taken role.Box number c.args.width d (record {
-      free = refl;
-      way_is = option_way d (next.BoxNumber left) role.Box [] c.requires.next at number c.args.width;
-      brings_is = option_brings d (next.BoxNumber left) role.Box [] c.requires.next at number placed;
-      sums_is = sums_same _ _ _ _ _ _ _ _ refl refl (add_zero _) (add_zero _);
-      same = record { limits = refl; start = refl };
-    })
+    let last : c.args.left ≡ 0 = omega (arith, c.if-left-gt0.false) in
+    takes (last_leads c.requires.alive (c.requires.next ∙ ap next.BoxNumber last) number
+    c.args.width)
+    _ _ _ _ (sums_as refl refl (add_zero _) (add_zero _)) refl refl c.begin_body.ensures.landed

@@ -1,55 +1,77 @@
-use Rattle.std.proofs.Common.{◌≡◌, ◌+◌, ◌-◌, ◌≤◌, ◌∙◌, [], ◌∷◌, length, false, None, refl, sym, ap, subst, rules}
+use Rattle.std.proofs.Common.{◌≡◌, ℕ, ◌+◌, ◌-◌, ◌<◌, ◌≤◌, ◌∙◌, List, length, false, None, refl, sym, ap, subst, arith, rules}
 use Rattle.std.specs.Prelude.{if◌then◌else◌}
+use Rattle.twkb_tree.specs.Rows.{Row}
 use Rattle.twkb_grammar.specs.Bits.{bit}
 use Rattle.twkb_grammar.specs.Fault.{announces_point}
+use Rattle.twkb_grammar.specs.Machine as machine
 use Rattle.twkb_grammar.specs.Machine.{kind_number}
-use Rattle.twkb_grammar.specs.PlainReader.{objection}
 use Rattle.twkb_grammar.specs.Roles as role
-use Rattle.twkb_body.specs.Outline.{step_role}
-use Rattle.twkb_body.specs.Admitting.{Admits}
-use Rattle.twkb_body.specs.Head.{kind_of}
-use Rattle.twkb_engine.specs.State.{step_at, sums_of, size_roles}
+use Rattle.twkb_body.specs.Outline.{options, outline_ends}
+use Rattle.twkb_body.specs.Growing.{id_in, header_change}
+use Rattle.twkb_body.specs.Head.{head_of, kind_of}
 use Rattle.twkb_engine.specs.Collections.{groups_of}
-use Rattle.twkb_engine.specs.Taking.{IsFree, past_parts, header_row}
-use Rattle.twkb_engine.proofs.Admitted.{admitted}
-use Rattle.twkb_engine.proofs.Parts.{takes_landed, metadata_way, metadata_brings, bare, sums_same, add_zero, point_allowed}
+use Rattle.twkb_engine.specs.State.{IsHere, size_roles}
+use Rattle.twkb_engine.specs.Standing.{IsAlive}
+use Rattle.twkb_engine.specs.Taking.{Takes, past_parts, header_row}
+use Rattle.twkb_engine.specs.declared.next_item.NextItem.TheVariants as next
+use Rattle.twkb_engine.specs.declared.engine.Engine.{Engine}
+use Rattle.twkb_engine.proofs.Items.{Leads, leads_as, item_leads, past_with, takes}
+use Rattle.twkb_engine.proofs.Parts.{sums_as, add_zero, point_allowed, asked_sizes}
 use Rattle.twkb_engine.proofs.engine.Engine.metadata_byte.Goals as goal
+
+abbrev kind_in : Engine → ℕ
+kind_in d = kind_number (kind_of d.head.kind)
+
+-- the header after it
+abbrev header_with : Engine → ℕ → machine.Head
+header_with d n = record { precision = d.head.precision; meta = n; size = None; from = d.bytes + 1 }
+
+-- a metadata byte that asks for no extended byte; the header after it is in another engine
+metadata_leads : {rs : List Row} {d : Engine} (m : Engine) (meta points : ℕ) → IsAlive rs d
+    → d.next ≡ next.MetadataByte → meta < 256
+    → points ≡ (if announces_point (kind_in d) meta then 1 else 0)
+    → points ≤ d.limits.points - d.points → bit meta 3 ≡ false → m.collections ≡ d.collections
+    → m.bytes ≡ d.bytes + 1 → m.head.kind ≡ d.head.kind → head_of m.head ≡ header_with d meta
+    → IsHere m → Leads rs d (role.Metadata (kind_in d)) meta 1 (past_parts m
+    (size_roles m.head.metadata)) (header_row m (size_roles m.head.metadata))
+metadata_leads {d = d} m meta points alive is low one fits none collections bytes kind head here =
+    let deep = sym (here.depth_is ∙ ap (λ cs. length (groups_of cs)) collections) in
+    let named = sym (here.id_is ∙ ap (λ cs. id_in (groups_of cs)) collections) in
+    let free = point_allowed (announces_point (kind_in d) meta) d.limits.points d.points points one
+    d.points_kept fits in
+    let bare = header_with d meta in
+    leads_as (item_leads alive is (role.Metadata (kind_in d)) meta 1 refl deep named _ (low, refl)
+    free)
+    (ap (λ parts. past_with 1 d (options (kind_of d.head.kind) bare parts)) (asked_sizes meta none)
+    ∙ sym (λ t. outline_ends (bytes t)
+    (groups_of (collections t), options (kind_of (kind t)) (head t) (size_roles (head t).meta))))
+    (ap (λ parts. header_change m.head.depth m.head.id (kind_of d.head.kind) d.head.precision meta
+    parts) (asked_sizes meta none)
+    ∙ sym (λ t. header_change m.head.depth m.head.id (kind_of (kind t)) (head t).precision
+    (head t).meta (size_roles (head t).meta)))
 
 pub after_extended-requires-clause-may : goal.after_extended-requires-clause-may
 after_extended-requires-clause-may g c =
-    let d = c.args.self.now in
-    let rs = c.args.flat.now in
-    let n = c.args.number in
-    let k = kind_number (kind_of d.head.kind) in
-    let m = c.set_metadata.new.self in
     let s = c.set_metadata.ensures in
-    let meta = c.from_number-metadata.result in
-    let byte : meta ≡ n = c.from_number-metadata.ensures.whole c.requires.byte in
-    let one : c.from-points.result ≡ (if announces_point k meta then 1 else 0) = search rules in
-    let fits : c.from-points.result ≤ d.limits.points - d.points = search rules in
-    let free : IsFree (role.Metadata k) n d =
-    subst (λ x. objection d.limits (sums_of d) (role.Metadata k) x ≡ None) byte (point_allowed (announces_point k meta) d.limits.points d.points c.from-points.result one d.points_kept fits) in
-    let none : bit n 3 ≡ false = subst (λ x. bit x 3 ≡ false) byte (sym c.has_extended.ensures ∙ c.if-has_extended.false) in
-    subst (λ x. Admits x rs) (metadata_brings d m n c.requires.next none s.same.collections s.kind (s.head ∙ ap (bare d) byte) k s.placed)
-    (admitted rs d (role.Metadata k) n (n ∷ []) c.requires.alive (ap (λ i. step_role (length (groups_of d.collections)) d.bytes (step_at i d)) c.requires.next) (c.requires.byte, refl) free)
+    let byte = c.from_number-metadata.ensures.whole c.requires.byte in
+    (metadata_leads c.set_metadata.new.self c.from_number-metadata.result c.from-points.result
+    c.requires.alive c.requires.next (omega (arith, byte, c.requires.byte))
+    (search rules) (search rules) (sym c.has_extended.ensures ∙ c.if-has_extended.false)
+    s.same.collections s.same.bytes s.kind s.head s.placed).admits
 
 pub returns-clause-taken : goal.returns-clause-taken
 returns-clause-taken g c =
     let d = c.args.self.now in
-    let rs = c.args.flat.now in
-    let n = c.args.number in
-    let k = kind_number (kind_of d.head.kind) in
-    let m = c.set_metadata.new.self in
     let s = c.set_metadata.ensures in
     let meta = c.from_number-metadata.result in
-    let byte : meta ≡ n = c.from_number-metadata.ensures.whole c.requires.byte in
-    let one : c.from-points.result ≡ (if announces_point k meta then 1 else 0) = search rules in
-    let fits : c.from-points.result ≤ d.limits.points - d.points = search rules in
-    let free : IsFree (role.Metadata k) n d =
-    subst (λ x. objection d.limits (sums_of d) (role.Metadata k) x ≡ None) byte (point_allowed (announces_point k meta) d.limits.points d.points c.from-points.result one d.points_kept fits) in
-    let none : bit n 3 ≡ false = subst (λ x. bit x 3 ≡ false) byte (sym c.has_extended.ensures ∙ c.if-has_extended.false) in
-    let head = s.head ∙ ap (bare d) byte in
-    let more = ap (λ x. d.points + (if announces_point k x then 1 else 0)) byte in
-    takes_landed (role.Metadata k) n 1 d m c.after_extended.new.self (past_parts m (size_roles m.head.metadata)) (header_row m (size_roles m.head.metadata)) rs c.after_extended.new.flat c.after_extended.result free
-    (metadata_way d m n c.requires.next none s.same.collections s.kind head s.same.bytes) (metadata_brings d m n c.requires.next none s.same.collections s.kind head k s.placed)
-    (sums_same _ _ _ _ _ _ _ _ s.same.bytes s.position (s.same.nodes ∙ add_zero d.nodes) (s.same.points ∙ (ap (λ x. d.points + x) one ∙ more))) (record { limits = s.same.limits; start = s.same.start }) c.after_extended.ensures.landed
+    let byte = c.from_number-metadata.ensures.whole c.requires.byte in
+    let one : c.from-points.result ≡ (if announces_point (kind_in d) meta then 1 else 0) =
+    search rules in
+    subst (λ n. Takes (role.Metadata (kind_in d)) n 1 d c.args.flat.now c.after_extended.result
+    c.after_extended.new.self c.after_extended.new.flat) byte
+    (takes (metadata_leads c.set_metadata.new.self meta c.from-points.result c.requires.alive
+    c.requires.next (omega (arith, byte, c.requires.byte))
+    one (search rules) (sym c.has_extended.ensures ∙ c.if-has_extended.false) s.same.collections
+    s.same.bytes s.kind s.head s.placed)
+    _ _ _ _ (sums_as s.same.bytes s.position (s.same.nodes ∙ add_zero d.nodes) (s.same.points
+    ∙ ap (λ x. d.points + x) one)) s.same.limits s.same.start c.after_extended.ensures.landed)

@@ -1,43 +1,29 @@
-use Rattle.std.proofs.Common.{◌∙◌, sym, ap, arith, refl, []}
-use Rattle.twkb_grammar.specs.Roles as role
-use Rattle.twkb_grammar.specs.Machine.{listed}
-use Rattle.twkb_flat.specs.Rows.{row_with}
-use Rattle.twkb_body.specs.Growing.{Change, applied}
-use Rattle.twkb_engine.specs.Taking.{IsFree}
-use Rattle.twkb_engine.specs.State.{sums_of}
-use Rattle.twkb_engine.proofs.Parts.{takes_landed}
-use Rattle.twkb_engine.proofs.Counts.{ring_sums, rings_empty, rings_begin, rings_bring, rings_admit}
+use Rattle.std.proofs.Common.{sym, arith, refl}
+use Rattle.twkb_engine.proofs.Items.{takes, takes_on}
+use Rattle.twkb_engine.proofs.Counts.{rings_end, rings_begin}
+use Rattle.twkb_engine.proofs.Parts.{sums_as, add_zero}
 use Rattle.twkb_engine.proofs.engine.Engine.ring_count.Goals as goal
 
 pub put_empty-requires-clause-may : goal.put_empty-requires-clause-may
 put_empty-requires-clause-may g c =
-    let d = c.args.self.now in
-    let free : IsFree (role.Count (listed 1)) c.args.count d = sym c.in_default.ensures in
-    rings_admit d c.args.count c.args.width c.requires.next c.args.flat.now c.requires.alive _ c.first.result c.first.ensures c.ring_list_row-row.ensures c.ranges.count.fits free
+    (rings_end _ c.requires c.first.ensures refl (sym c.in_default.ensures)
+    c.ring_list_row-row.ensures c.if-count-eq0.true).admits
 
 pub returns-then-count-eq0-clause-taken : goal.returns-then-count-eq0-clause-taken
 returns-then-count-eq0-clause-taken g c =
-    let d = c.args.self.now in
-    let free : IsFree (role.Count (listed 1)) c.args.count d = sym c.in_default.ensures in
-    takes_landed (role.Count (listed 1)) c.args.count c.args.width d _ c.put_empty.new.self _ _ c.args.flat.now c.put_empty.new.flat c.put_empty.result free
-    (rings_empty d c.args.count c.args.width c.requires.next c.if-count-eq0.true)
-    (rings_bring d c.args.count c.args.width c.requires.next c.args.flat.now c.requires.alive (row_with c.ring_list_row-row.result []) c.first.result c.first.ensures c.ring_list_row-row.ensures)
-    (ring_sums (sums_of d) c.args.count c.args.width) (record { limits = refl; start = refl }) c.put_empty.ensures.shut
+    takes (rings_end _ c.requires c.first.ensures refl (sym c.in_default.ensures)
+    c.ring_list_row-row.ensures
+    c.if-count-eq0.true) _ _ _ _ (sums_as refl refl refl (add_zero _)) refl refl
+    c.put_empty.ensures.shut
 
 pub push_row-requires : goal.push_row-requires
 push_row-requires g c =
-    let d = c.args.self.now in
-    let free : IsFree (role.Count (listed 1)) c.args.count d = sym c.in_default.ensures in
-    rings_admit d c.args.count c.args.width c.requires.next c.args.flat.now c.requires.alive _ c.first.result c.first.ensures c.ring_list_row-row.ensures c.ranges.count.fits free
+    (rings_begin _ c.requires c.first.ensures refl (sym c.in_default.ensures)
+    c.ring_list_row-row.ensures (omega (arith, c.if-count-eq0.false))).admits
 
 pub returns-clause-taken : goal.returns-clause-taken
 returns-clause-taken g c =
-    let d = c.args.self.now in
-    let free : IsFree (role.Count (listed 1)) c.args.count d = sym c.in_default.ensures in (
-      free,
-      rings_begin d c.args.count c.args.width c.requires.next (omega (arith, c.if-count-eq0.false)),
-      ring_sums (sums_of d) c.args.count c.args.width,
-      c.in_ok-push_row.ensures.pushed
-          ∙ ap (λ (h : Change). applied h c.args.flat.now) (sym (rings_bring d c.args.count c.args.width c.requires.next c.args.flat.now c.requires.alive (row_with c.ring_list_row-row.result []) c.first.result c.first.ensures c.ring_list_row-row.ensures)),
-      record { limits = refl; start = refl },
-    )
+    takes_on (rings_begin _ c.requires c.first.ensures refl (sym c.in_default.ensures)
+    c.ring_list_row-row.ensures
+    (omega (arith, c.if-count-eq0.false))) refl (sums_as refl refl refl (add_zero _))
+    c.in_ok-push_row.ensures.pushed (record { limits = refl; start = refl })

@@ -11,5 +11,7 @@ returns-in_err-used-clause-memory c = λ rs.
     on_err c.from_residual.result (ids_stop rs c.args.self.now c.requires.next c.requires.alone c.saturating_sub-most.result (omega (arith, c.saturating_sub-most.ensures, c.count.ensures)) c.args.rest.now c.in_err-used.ensures.memory)
 
 pub returns-clause-led : goal.returns-clause-led
-returns-clause-led c = λ rs. ids_led rs c.args.self.now c.requires.next c.requires.alone c.saturating_sub-most.result (omega (arith, c.saturating_sub-most.ensures, c.count.ensures)) _ c.in_ok-used.used c.args.rest.now (omega (arith, c.if-most-eq0.false)) c.in_ok-used.ensures.within
-    (record { limits = refl; start = refl; bytes = refl; position = refl; nodes = refl; points = refl; collections = refl; head = refl; members_left = refl; next = refl; held = refl }) c.in_ok-used.ensures.taken
+returns-clause-led c = λ rs.
+    ids_led rs c.args.self.now c.requires.next c.requires.alone c.saturating_sub-most.result
+    (omega (arith, c.saturating_sub-most.ensures, c.count.ensures)) _ c.in_ok-used.used c.args.rest.now
+    (omega (arith, c.if-most-eq0.false)) c.in_ok-used.ensures.within refl c.in_ok-used.ensures.taken

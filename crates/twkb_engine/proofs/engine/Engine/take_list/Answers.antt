@@ -1,4 +1,4 @@
-use Rattle.std.proofs.Common.{refl, take}
+use Rattle.std.proofs.Common.{refl}
 use Rattle.std.proofs.lemmas.List.{length-take-le}
 use Rattle.twkb_body.proofs.Judging.{on_err}
 use Rattle.twkb_engine.proofs.Many.{stays_put, list_stops, list_led}
@@ -8,11 +8,12 @@ pub returns-then-not-takes_points-clause-led : goal.returns-then-not-takes_point
 returns-then-not-takes_points-clause-led c = stays_put c.args.flat.now c.args.self.now
 
 pub returns-in_err-taken-clause-memory : goal.returns-in_err-taken-clause-memory
-returns-in_err-taken-clause-memory c = on_err c.from_residual.result (list_stops c.args.flat.now c.args.self.now c.requires.next c.requires.some c.requires.alone c.args.rest.now c.in_err-taken.ensures)
+returns-in_err-taken-clause-memory c =
+    on_err c.from_residual.result (list_stops c.args.flat.now c.args.self.now c.requires.next c.requires.some c.requires.alone c.args.rest.now c.in_err-taken.ensures)
 
 pub returns-clause-led : goal.returns-clause-led
 returns-clause-led c =
+    let t = c.in_ok-taken.taken in
     let run = c.in_ok-taken.ensures in
-    list_led c.args.flat.now c.args.self.now c.requires.next c.requires.some c.requires.alone _ c.in_ok-taken.taken.used c.in_ok-taken.left c.in_ok-taken.taken.position
-    (record { limits = refl; start = refl; bytes = refl; position = refl; nodes = refl; points = refl; collections = refl; head = refl; ids = refl; members_left = refl; rings_left = refl; points_left = refl; next = refl; held = refl })
-    c.take_row.new.flat (take c.in_ok-taken.taken.used c.args.rest.now) (length-take-le c.in_ok-taken.taken.used c.args.rest.now run.within) run.run
+    list_led c.args.flat.now c.args.self.now c.requires.next c.requires.some c.requires.alone c.take_row.new.flat _
+    t.used c.in_ok-taken.left t.position _ refl (length-take-le t.used c.args.rest.now run.within) run.run

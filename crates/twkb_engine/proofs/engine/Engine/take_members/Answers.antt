@@ -1,4 +1,4 @@
-use Rattle.std.proofs.Common.{rules, ◌≡◌, refl, take, arith}
+use Rattle.std.proofs.Common.{rules, ◌≡◌, refl, arith}
 use Rattle.std.proofs.lemmas.List.{length-take-le}
 use Rattle.twkb_tree.specs.declared.kind.Kind.TheVariants as kinds
 use Rattle.twkb_body.proofs.Judging.{on_err}
@@ -17,8 +17,8 @@ returns-in_err-taken-clause-memory c =
 pub returns-clause-led : goal.returns-clause-led
 returns-clause-led c =
     let d = c.args.self.now in
+    let t = c.in_ok-taken.taken in
     let kind : d.head.kind ≡ kinds.MultiPoint = search rules in
     let run = c.in_ok-taken.ensures.taken in
-    members_led c.args.flat.now d c.requires.next kind c.requires.alone c.take_members.new.flat _ c.in_ok-taken.taken.used c.in_ok-taken.left c.in_ok-taken.taken.position (take c.in_ok-taken.taken.used c.args.rest.now)
-    (record { limits = refl; start = refl; bytes = refl; position = refl; nodes = refl; points = refl; collections = refl; head = refl; members_left = refl; next = refl; held = refl })
-    (length-take-le c.in_ok-taken.taken.used c.args.rest.now run.within) (run.run d.head (omega arith))
+    members_led c.args.flat.now d c.requires.next kind c.requires.alone c.take_members.new.flat _ t.used
+    c.in_ok-taken.left t.position _ refl (length-take-le t.used c.args.rest.now run.within) (run.run d.head (omega arith))

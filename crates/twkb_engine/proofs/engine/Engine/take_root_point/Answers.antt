@@ -1,4 +1,4 @@
-use Rattle.std.proofs.Common.{rules, ◌+◌, ◌≡◌, ◌<◌, ◌/◌, ◌∷◌, [], None, get_or, take, sym, ap, subst, arith}
+use Rattle.std.proofs.Common.{rules, ◌+◌, ◌≡◌, ◌/◌, ◌∷◌, [], None, get_or, take, sym, ap, subst, arith}
 use Rattle.twkb_num.specs.Zigzag.{unzigzag_of}
 use Rattle.twkb_tree.specs.Rows.{whole_row}
 use Rattle.twkb_tree.specs.declared.kind.Kind.TheVariants as kind
@@ -13,24 +13,21 @@ pub returns-in_err-put-clause-memory : goal.returns-in_err-put-clause-memory
 returns-in_err-put-clause-memory g c =
     let d = c.args.self.now in
     let p = c.in-Some.point in
-    let low : get_or c.args.piece.now 0 0 < 256 = search rules in
-    let made = point_blob d.limits c.args.piece.now p.used p.size p.to d.allowed (omega (arith, c.points.ensures, c.if-points-eq0.false)) c.in-Some.ensures.point low c.in-Some.ensures.exact in
-    on_err c.from_residual.result (root_stops c.args.flat.now d c.args.piece.now p.used _ c.requires.none c.requires.alone made)
+    on_err c.from_residual.result (root_stops c.args.flat.now d c.args.piece.now p.used _ c.requires.none c.requires.alone
+    (point_blob d.limits c.args.piece.now p.used p.size p.to d.allowed (omega (arith, c.points.ensures, c.if-points-eq0.false)) c.in-Some.ensures.point (search rules) c.in-Some.ensures.exact))
 
 pub returns-in_err-begin_point-clause-memory : goal.returns-in_err-begin_point-clause-memory
 returns-in_err-begin_point-clause-memory g c =
     let d = c.args.self.now in
     let p = c.in-Some.point in
-    let low : get_or c.args.piece.now 0 0 < 256 = search rules in
-    let made = point_blob d.limits c.args.piece.now p.used p.size p.to d.allowed (omega (arith, c.points.ensures, c.if-points-eq0.false)) c.in-Some.ensures.point low c.in-Some.ensures.exact in
-    on_err c.from_residual-in_err-begin_point.result (root_stops c.args.flat.now d c.args.piece.now p.used _ c.requires.none c.requires.alone made)
+    on_err c.from_residual-in_err-begin_point.result (root_stops c.args.flat.now d c.args.piece.now p.used _ c.requires.none c.requires.alone
+    (point_blob d.limits c.args.piece.now p.used p.size p.to d.allowed (omega (arith, c.points.ensures, c.if-points-eq0.false)) c.in-Some.ensures.point (search rules) c.in-Some.ensures.exact))
 
 pub returns-clause-made : goal.returns-clause-made
 returns-clause-made g c = λ some bs s.
     let d = c.args.self.now in
     let p = c.in-Some.point in
-    let low : get_or c.args.piece.now 0 0 < 256 = search rules in
-    let made = point_blob d.limits c.args.piece.now p.used p.size p.to d.allowed (omega (arith, c.points.ensures, c.if-points-eq0.false)) c.in-Some.ensures.point low c.in-Some.ensures.exact in
+    let made = point_blob d.limits c.args.piece.now p.used p.size p.to d.allowed (omega (arith, c.points.ensures, c.if-points-eq0.false)) c.in-Some.ensures.point (search rules) c.in-Some.ensures.exact in
     let row : c.begin_point.new.self ≡ whole_row 0 kind.Point None (unzigzag_of (get_or c.args.piece.now 0 0 / 16)) (p.to ∷ []) ∷ [] = search rules in
     let long : c.point_span-span.result.length ≡ p.used = search rules in
     let span : c.point_span-span.result ≡ point_span d.start (take p.used c.args.piece.now) = c.point_span-span.ensures in
