@@ -1,15 +1,16 @@
 -- The answers of a reader, of what was read into a form.
-use Rattle.std.proofs.Common.{◌≡◌, ℕ, ◌+◌, ◌<◌, inl, inr, ◌⊎◌, List, [], length, length-append, refl, sym, ap, ◌∙◌, subst, Bool, Option, Some, None, Result, Ok, Err, true, false, arith}
+use Rattle.std.proofs.Common.{◌≡◌, ℕ, ◌<◌, inl, inr, List, [], length, length-append, sym, ap, ◌∙◌, refl, subst, Bool, Option, Some, None, Result, Ok, Err, true, false, arith}
+use Rattle.std.proofs.KnownBytes.{Consumes-whole}
 use Rattle.std.proofs.Math.Seq.{take-append_seam}
 use Rattle.std.proofs.lemmas.List.{nil_from_length}
+use Rattle.std.proofs.lemmas.Option.{IfSome_then}
 use Rattle.std.specs.Prelude.{IfSome}
-use Rattle.std.specs.Io.KnownBytes.{Consumes}
+use Rattle.std.specs.Io.KnownBytes.{Consumes, IsAtEnd}
 use Rattle.std.specs.declared.io.traits.Read.{Ghosts}
 use Rattle.twkb_tree.specs.Tree.{Tree}
-use Rattle.twkb_tree.specs.Rows.{Row, rows}
-use Rattle.twkb_tree.specs.Limits.{Allowance, IsValid, largest_limits}
+use Rattle.twkb_tree.specs.Rows.{Row}
+use Rattle.twkb_tree.specs.Limits.{Allowance}
 use Rattle.twkb_grammar.specs.Blob.{Blob}
-use Rattle.twkb_grammar.specs.Fault.{FirstFault, Reason, Truncated}
 use Rattle.twkb_grammar.specs.Noting.{Notes, no_notes}
 use Rattle.twkb_grammar.specs.declared.span.Span.{Span}
 use Rattle.twkb_grammar.proofs.Streams.{blob_long}
@@ -18,90 +19,32 @@ use Rattle.twkb_io.specs.declared.input.Input.{Input}
 use Rattle.twkb_io.specs.declared.input.InFault.{InFault}
 use Rattle.twkb_io.specs.declared.input.InFault.TheVariants.{Read, TooLong, Spent}
 use Rattle.twkb_io.specs.Inputs.{given, rest_of}
-use Rattle.twkb_engine.specs.State.{allowance_of}
-use Rattle.twkb_engine.specs.Standing.{StandsAt, IsEnd, HoldsSpans, count_of, held_in, notes_at, offset_in}
-use Rattle.twkb_engine.specs.Stops.{reason_of}
+use Rattle.twkb_engine.specs.Standing.{StandsAt, count_of, held_in, notes_at}
 use Rattle.twkb_engine.specs.declared.engine.Engine.{Engine}
 use Rattle.twkb_engine.proofs.Feeds.{count_is}
 use Rattle.twkb_engine.proofs.RootPoints.{blob_judged, noted_none}
-use Rattle.twkb_blob.specs.Readers.{AreCutOff, HasNone, IsNext, IsNextFlat, Left, Makes, PartAhead, RefusedKnown, StopsWithin}
-use Rattle.twkb_blob.specs.Located.{HasSpans, IsSpanned, ReadsInto}
-use Rattle.twkb_blob.specs.Feeding.{ReadsBlob}
+use Rattle.twkb_blob.specs.Readers.{AreCutOff, HasNone, IsNextFlat, Left, Makes, PartAhead, StopsWithin}
+use Rattle.twkb_blob.specs.Located.{IsInto, IsSpanned, ReadsInto}
+use Rattle.twkb_blob.specs.Feeding.{Reads, ReadsBlob}
 use Rattle.twkb_blob.specs.declared.fault.BlobFault.{BlobFault}
 use Rattle.twkb_blob.specs.declared.fault.BlobFault.TheVariants as fault
-use Rattle.twkb_blob.proofs.Trees.{TreeLaw, some_row, tree_made}
+use Rattle.twkb_blob.proofs.Trees.{some_row}
 
--- where no byte came, nothing was noted
-pub none_noted : (rs : List Row) (d : Engine) (s : StandsAt [] rs d) → notes_at s ≡ no_notes
+-- if no byte came, nothing was noted
+none_noted : (rs : List Row) (d : Engine) (s : StandsAt [] rs d) → notes_at s ≡ no_notes
 none_noted rs d s =
     let none : 0 ≡ count_of d = count_is [] rs d s in
     noted_none [] rs d s (omega (arith, none)) (nil_from_length (held_in d) (omega (arith, none)))
 
--- where an engine stands there are no bytes, or they end inside a blob
-pub are_cut_off : (limits own : Allowance) (bs : List ℕ) (offset : ℕ) (between : Bool) → own ≡ limits → IsEnd own bs offset between → AreCutOff limits bs
-are_cut_off limits own bs offset true same none = inl none
-are_cut_off limits own bs offset false same cut = inr (offset, subst (λ l. FirstFault l bs offset Truncated) same cut)
-
--- the first fault of what is known, counted from where the input stood
-refused_known : (limits own : Allowance) (known : Option (List ℕ)) (before start offset : ℕ) (reason : Reason) → own ≡ limits → start ≡ before
-    → IfSome known (λ rest. (within : ℕ) × FirstFault own rest within reason × (offset ≡ start + within)) → IfSome known (λ rest. RefusedKnown limits before rest offset reason)
-refused_known limits own None before start offset reason same begun h = tt
-refused_known limits own (Some rest) before start offset reason same begun (within, first, at) =
-    record { within = within; first = subst (λ l. FirstFault l rest within reason) same first; place = at ∙ ap (λ n. n + within) begun }
-
--- ---- a blob that an engine read which had read nothing
-
-module _ {S : Type 0} (holds : S → Notes → Type 0) {R : Type 0} {read : Ghosts R} (limits : Allowance) (d e : Engine) (more : List Row) (told spans : S) (a c : Input R read) (own : allowance_of d ≡ limits) (begun : d.start ≡ given a) (s : StandsAt [] [] d) where
-  -- it left the input
-  read_made : holds told no_notes → ReadsBlob holds d [] told a c (Ok true) e more spans → ReadsInto holds limits a c (Ok true) more spans
-  read_made none h =
-      let got = h [] s in
-      let at : HoldsSpans holds spans (given a) got.1.blob = subst (λ n. HoldsSpans holds spans n got.1.blob) begun (got.2 (subst (holds told) (sym (none_noted [] d s)) none)) in
-      subst (λ l. (g : Tree) × (made : Makes l [] a c g) × HoldsSpans holds spans (given a) made.blob × (more ≡ rows 0 g)) own (got.0, got.1, at, got.3)
-
-  -- the input gave no byte after some
-  halted : (between : Bool) (why : InFault) (bytes : List ℕ) (kept : List Row) → allowance_of e ≡ allowance_of d → ((bs : List ℕ) (rs : List Row) → StandsAt bs rs e → IsEnd (allowance_of e) bs (offset_in e) between)
-      → Left a c bytes → StandsAt bytes kept e → HasNone why a c → StopsWithin limits why a c
-  halted between Read bytes kept same end left t none = record { bytes = bytes; left = left; cut_off = are_cut_off limits (allowance_of e) bytes (offset_in e) between (same ∙ own) (end bytes kept t); none_held = none }
-  halted between TooLong bytes kept same end left t none = record { bytes = bytes; left = left; cut_off = are_cut_off limits (allowance_of e) bytes (offset_in e) between (same ∙ own) (end bytes kept t); full = none }
-  halted between Spent bytes kept same end left t none = none
-
-  stopped : (between : Bool) (why : InFault) → allowance_of e ≡ allowance_of d → ((bs : List ℕ) (rs : List Row) → StandsAt bs rs e → IsEnd (allowance_of e) bs (offset_in e) between)
-      → ((bytes : List ℕ) × (kept : List Row) × Left a c bytes × StandsAt bytes kept e × HasNone why a c) ⊎ ((why ≡ TooLong) × (given a < d.start + count_of d)) → StopsWithin limits why a c
-  stopped between why same end (inl (bytes, kept, left, t, none)) = halted between why bytes kept same end left t none
-  stopped between why same end (inr ahead) = absurd (let past = ahead.1 in let none : 0 ≡ count_of d = count_is [] [] d s in omega (arith, past, none, begun))
-
-  -- each answer is that of a reader
-  pub read_next : (between : Bool) (answer : Result Bool BlobFault) → allowance_of e ≡ allowance_of d → ((bs : List ℕ) (rs : List Row) → StandsAt bs rs e → IsEnd (allowance_of e) bs (offset_in e) between) → holds told no_notes
-      → ReadsBlob holds d [] told a c answer e more spans → ReadsInto holds limits a c answer more spans
-  read_next between (Ok true) same end none h = read_made none h
-  read_next between (Ok false) same end none h = let ended = h [] s in (ended.0, ended.1)
-  read_next between (Err fault.Memory) same end none h = tt
-  read_next between (Err (fault.Device why)) same end none h = stopped between why same end (h [] s)
-  read_next between (Err fault.Spent) same end none h = absurd h
-  read_next between (Err (fault.At offset reason)) same end none h = refused_known limits (allowance_of d) (rest_of a) (given a) d.start offset (reason_of reason) own begun (h [] s)
-
-  -- memory that was missing
-  pub read_ahead : (answer : Result Bool BlobFault) → answer ≡ Err fault.Memory → ReadsBlob holds d [] told a c answer e more spans → PartAhead limits [] a
-  read_ahead answer is h = subst (λ l. PartAhead l [] a) own (subst (λ r. ReadsBlob holds d [] told a c r e more spans) is h [] s)
-
--- ---- what was read into a form
-
--- without a geometry the rows and the spans do not matter
-pub rows_away : {S : Type 0} (holds : S → Notes → Type 0) {R : Type 0} {read : Ghosts R} (limits : Allowance) (a b c : Input R read) (answer same : Result Bool BlobFault) (rs qs : List Row) (v : S) → same ≡ answer → b ≡ c → (answer ≡ Ok true → qs ≡ rs)
-    → ReadsInto holds limits a c answer rs v → ReadsInto holds limits a b same qs v
-rows_away holds {R} {read} limits a b c answer same rs qs v is there kept h = subst (λ i. ReadsInto holds limits a i same qs v) (sym there) (subst (λ r. ReadsInto holds limits a c r qs v) (sym is) (go answer kept h))
-  where
-    go : (answer : Result Bool BlobFault) → (answer ≡ Ok true → qs ≡ rs) → ReadsInto holds limits a c answer rs v → ReadsInto holds limits a c answer qs v
-    go (Ok true) kept h = subst (λ l. ReadsInto holds limits a c (Ok true) l v) (sym (kept refl)) h
-    go (Ok false) kept h = h
-    go (Err why) kept h = h
+at_end : (known : Option (List ℕ)) → IfSome known (λ rest. rest ≡ []) → IsAtEnd known
+at_end None none = tt
+at_end (Some rest) none = none
 
 -- a blob that left is a part of what was known
-blob_known : (limits : Allowance) (a b : Option (List ℕ)) (bs : List ℕ) (g : Tree) → Consumes a b bs → Blob limits bs g → IfSome a (λ rest. PartIn limits [] rest)
-blob_known limits None b bs g loses h = tt
-blob_known limits (Some xs) None bs g loses h = absurd loses
-blob_known limits (Some xs) (Some ys) bs g loses h =
+blob_known : {limits : Allowance} {bs : List ℕ} {g : Tree} (a b : Option (List ℕ)) → Consumes a b bs → Blob limits bs g → IfSome a (λ rest. PartIn limits [] rest)
+blob_known None b loses h = tt
+blob_known (Some xs) None loses h = absurd loses
+blob_known {limits} {bs} {g} (Some xs) (Some ys) loses h =
     subst (PartIn limits []) (sym loses) (record {
       used = length bs;
       some = omega (arith, blob_long limits bs g h);
@@ -110,38 +53,56 @@ blob_known limits (Some xs) (Some ys) bs g loses h =
     })
 
 module _ {R : Type 0} {read : Ghosts R} (limits : Allowance) (a c : Input R read) where
-  -- the rows of a geometry
-  pub flat_next : {S : Type 0} (holds : S → Notes → Type 0) (answer : Result Bool BlobFault) (rs : List Row) (v : S) → ReadsInto holds limits a c answer rs v → IsNextFlat limits a c answer rs
-  flat_next holds (Ok true) rs v (g, made, says, is) = (g, made, is)
-  flat_next holds (Ok false) rs v h = h
-  flat_next holds (Err why) rs v h = h
+  stops : (why : InFault) (bytes : List ℕ) → Left a c bytes → AreCutOff limits bytes → HasNone why a c → StopsWithin limits why a c
+  stops Read bytes left cut none = record { bytes = bytes; left = left; cut_off = cut; none_held = none }
+  stops TooLong bytes left cut none = record { bytes = bytes; left = left; cut_off = cut; full = none }
+  stops Spent bytes left cut none = none
+
+  -- a blob that was read from its first byte on; without a geometry the rows do not matter
+  answered : {S : Type 0} (holds : S → Notes → Type 0) (told : Type 0) (e : Engine) (rs qs : List Row) (v : S) (answer : Result Bool BlobFault) → told → (answer ≡ Ok true → qs ≡ rs)
+      → ReadsBlob holds told limits (given a) [] a c answer e rs v → IsInto holds limits a c answer qs v
+  answered holds told e rs qs v (Ok true) known kept h = (h.0, h.1, h.2 known, kept refl ∙ h.3)
+  answered holds told e rs qs v (Ok false) known kept h =
+      (at_end (rest_of a) (Consumes-whole (rest_of a) (rest_of c) h.0 (λ rest. rest ≡ []) h.1.consumed h.2 h.3), subst (Left a c) h.3 h.1)
+  answered holds told e rs qs v (Err fault.Memory) known kept h = h
+  answered holds told e rs qs v (Err (fault.At offset reason)) known kept h = IfSome_then (rest_of a) h (λ rest f. record { within = f.0; first = f.1; place = f.2 })
+  answered holds told e rs qs v (Err (fault.Device why)) known kept (inl h) = stops why h.0 h.1 h.2 h.3
+  answered holds told e rs qs v (Err (fault.Device why)) known kept (inr h) = absurd (let ahead = h.1 in omega (arith, ahead))
+  answered holds told e rs qs v (Err fault.Spent) known kept h = absurd h
+
+module _ {R : Type 0} {read : Ghosts R} {limits : Allowance} {a c : Input R read} where
+  module _ {S : Type 0} {holds : S → Notes → Type 0} {rs : List Row} {v : S} where
+    pub read_next : {d e : Engine} {none qs : List Row} {told : S} (answer : Result Bool BlobFault) → d.limits ≡ limits → d.start ≡ given a → StandsAt [] none d
+        → holds told no_notes → (answer ≡ Ok true → qs ≡ rs) → Reads holds d none told a c answer e rs v → ReadsInto holds limits a c answer qs v
+    read_next {d} {e} {none} {qs} {told} answer own begins s noted kept run =
+        let known : Type 0 = holds told (notes_at s) in
+        let here = subst (λ n. ReadsBlob holds known d.limits n [] a c answer e rs v) begins (run.blob [] s) in
+        record {
+          is = answered limits a c holds known e rs qs v answer (subst (holds told) (sym (none_noted none d s)) noted) kept
+              (subst (λ l. ReadsBlob holds known l (given a) [] a c answer e rs v) own here);
+        }
+
+    -- its rows
+    pub flat_next : (answer : Result Bool BlobFault) → ReadsInto holds limits a c answer rs v → IsNextFlat limits a c answer rs
+    flat_next (Ok true) h = (h.is.0, h.is.1, h.is.3)
+    flat_next (Ok false) h = h.is
+    flat_next (Err fault.Memory) h = tt
+    flat_next (Err why) h = h.is
+
+    pub same_answer : {answer other : Result Bool BlobFault} → answer ≡ other → ReadsInto holds limits a c answer rs v → ReadsInto holds limits a c other rs v
+    same_answer is h = subst (λ r. ReadsInto holds limits a c r rs v) is h
+
+    pub some_rows : {answer : Result Bool BlobFault} → answer ≡ Ok true → ReadsInto holds limits a c answer rs v → 0 < length rs
+    some_rows found h = let at = same_answer found h in some_row rs at.is.0 at.is.3
 
   -- its rows and its spans
-  pub spanned_next : (answer : Result Bool BlobFault) (rs : List Row) (v : Notes) (spans : List Span) → ReadsInto (λ (o w : Notes). o ≡ w) limits a c answer rs v → (answer ≡ Ok true → spans ≡ v.spans) → IsSpanned limits a c answer rs spans
-  spanned_next (Ok true) rs v spans (g, made, (w, same, says), is) kept = (g, record { made = made; told = kept refl ∙ (ap (λ (o : Notes). o.spans) same ∙ says) }, is)
-  spanned_next (Ok false) rs v spans h kept = h
-  spanned_next (Err why) rs v spans h kept = h
-
-  -- rows with spans are rows
-  pub flat_spanned : (answer : Result Bool BlobFault) (rs : List Row) (spans : List Span) → IsSpanned limits a c answer rs spans → IsNextFlat limits a c answer rs
-  flat_spanned (Ok true) rs spans (g, has, is) = (g, has.made, is)
-  flat_spanned (Ok false) rs spans h = h
-  flat_spanned (Err why) rs spans h = h
-
-  -- where a geometry was read, there are rows
-  pub some_rows : (answer : Result Bool BlobFault) (rs : List Row) → IsNextFlat limits a c answer rs → answer ≡ Ok true → 0 < length rs
-  some_rows (Ok true) rs (g, made, is) e = some_row rs g is
-  some_rows (Ok false) rs next e = absurd cc
-  some_rows (Err why) rs next e = absurd cc
+  pub spanned_next : {rs : List Row} {v : Notes} {spans : List Span} (answer : Result Bool BlobFault) → ReadsInto (λ (o w : Notes). o ≡ w) limits a c answer rs v
+      → (answer ≡ Ok true → spans ≡ v.spans) → IsSpanned limits a c answer rs spans
+  spanned_next (Ok true) h kept = (h.is.0, record { made = h.is.1; told = kept refl ∙ (ap (λ (o : Notes). o.spans) h.is.2.1 ∙ h.is.2.2) }, h.is.3)
+  spanned_next (Ok false) h kept = h.is
+  spanned_next (Err fault.Memory) h kept = tt
+  spanned_next (Err why) h kept = h.is
 
   -- there is no memory for its tree
-  pub made_ahead : (rs : List Row) → IsNextFlat limits a c (Ok true) rs → PartAhead limits [] a
-  made_ahead rs (g, made, is) = blob_known limits (rest_of a) (rest_of c) made.bytes g made.left.consumed made.blob
-
-  -- there is
-  pub tree_next : TreeLaw → (rs : List Row) (h : Tree) → IsNextFlat limits a c (Ok true) rs → rows 0 h ≡ rs → IsValid largest_limits h → IsNext limits a c (Ok (Some h))
-  tree_next law rs h (g, makes, is) made valid = subst (λ t. Makes limits [] a c t) (tree_made law rs g h makes.blob.valid.tree is made valid) makes
-
-  -- and its spans
-  pub tree_spans : TreeLaw → (rs : List Row) (spans : List Span) (h : Tree) → IsSpanned limits a c (Ok true) rs spans → rows 0 h ≡ rs → IsValid largest_limits h → HasSpans limits a c h spans
-  tree_spans law rs spans h (g, has, is) made valid = subst (λ t. HasSpans limits a c t spans) (tree_made law rs g h has.made.blob.valid.tree is made valid) has
+  pub made_ahead : {g : Tree} → Makes limits [] a c g → PartAhead limits [] a
+  made_ahead {g} made = blob_known (rest_of a) (rest_of c) made.left.consumed made.blob

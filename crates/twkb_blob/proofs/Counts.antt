@@ -6,16 +6,16 @@ use Rattle.twkb_num.specs.Varint.{IsOpenVarint}
 use Rattle.twkb_tree.specs.Tree.{Tree}
 use Rattle.twkb_tree.specs.Rows.{Row}
 use Rattle.twkb_tree.specs.Limits.{Allowance}
-use Rattle.twkb_grammar.specs.Roles.{Role, Header, Metadata, Extended, Size, Box, Count, Id, X, Y, End, Item, join}
+use Rattle.twkb_grammar.specs.Roles.{Role, End, Item, join}
 use Rattle.twkb_grammar.specs.Blob.{Stream}
 use Rattle.twkb_grammar.specs.Fault.{Part, FirstFault, StreamFault, Truncated}
-use Rattle.twkb_grammar.specs.Machine.{Frame, Phase, AtHeader, AtMetadata, AtOption, AtCount, AtId, AtBody, AtEnd, Finished, Sums, nothing, sums_after, Stack, started, role_at, Runs}
+use Rattle.twkb_grammar.specs.Machine.{Frame, Phase, AtHeader, Finished, Sums, nothing, sums_after, Stack, started, role_at, Runs}
 use Rattle.twkb_grammar.specs.Reading as reading
-use Rattle.twkb_grammar.specs.Reading.{Reached, open_by, open_after, frame_count}
+use Rattle.twkb_grammar.specs.Reading.{open_by, open_after, frame_count}
 use Rattle.twkb_grammar.proofs.One.{one_blob_lem, peel}
 use Rattle.twkb_grammar.proofs.Parts.{runs_split, runs_same}
 use Rattle.twkb_grammar.proofs.Running.{part_ran, ran_part}
-use Rattle.twkb_grammar.proofs.TwoFronts.{Compared, longer, shorter, same, two_fronts, part_front, none_beyond_fault}
+use Rattle.twkb_grammar.proofs.TwoFronts.{Beyond, Compared, longer, shorter, same, two_fronts, part_front, none_beyond_fault}
 use Rattle.twkb_grammar.proofs.Streams.{first_item, no_stream, one_stream_fault}
 use Rattle.twkb_grammar.proofs.Frames.{reached_frames}
 use Rattle.twkb_grammar.proofs.Standing.{none_longer}
@@ -31,52 +31,32 @@ use Rattle.twkb_engine.proofs.Feeds.{count_is}
 use Rattle.twkb_engine.specs.declared.engine.Engine.{Engine}
 use Rattle.twkb_blob.specs.Sessions.{Stands, HeldOf, FramesOf, AreOpen, begun_by, ended_by, begun_rows, session_limits}
 use Rattle.twkb_blob.specs.declared.session.Session.{Session}
-use Rattle.twkb_blob.proofs.Standing.{so_many, ended, cut_short}
+use Rattle.twkb_blob.proofs.Standing.{fault_at, none_at, so_many}
 
 -- ---- headers less ends
 
 -- at the end of a geometry one is open
 frame_at_end : (e : Sums) (fs : List Frame) (p : Phase) (r : Role) (d : Option ℕ) (came : ℕ) → role_at e (fs, p) ≡ Some r → r ≡ End d came → 0 < frame_count (fs, p)
 frame_at_end e fs AtHeader r d came says is = absurd cc
-frame_at_end e fs (AtMetadata k p) r d came says is = omega arith
-frame_at_end e fs (AtOption k h o rs) r d came says is = omega arith
-frame_at_end e fs (AtCount m h) r d came says is = omega arith
-frame_at_end e fs (AtId m h members ids left) r d came says is = omega arith
-frame_at_end e fs (AtBody h f ids b) r d came says is = omega arith
-frame_at_end e fs (AtEnd h g) r d came says is = omega arith
 frame_at_end e fs (Finished g) r d came says is = absurd cc
+frame_at_end e fs p r d came says is = omega arith
 
 open_at_end : (limits : Allowance) (before : List Item) (i : Item) (d : Option ℕ) (came : ℕ) → Part limits (before ++ i ∷ []) → i.role ≡ End d came → 0 < open_after 0 before
 open_at_end limits before i d came part is =
     let whole = part_ran limits (before ++ i ∷ []) part in
     let front = part_ran limits before (part_front limits before (i ∷ []) part) in
     let s = runs_split before (i ∷ []) nothing started whole.0 whole.1.runs in
-    let mid : s.mid ≡ front.0 = runs_same before nothing started s.mid front.0 s.front front.1.runs in
-    let reached : Reached limits (join before) (sums_after nothing before) front.0 = record { items = before; ran = front.1; sums = refl; spelled = refl } in
-    let frames : frame_count front.0 ≡ open_after 0 before = reached_frames limits (join before) (sums_after nothing before) front.0 reached in
-    subst (λ n. 0 < n) (ap frame_count mid ∙ frames) (frame_at_end (sums_after nothing before) s.mid.0 s.mid.1 i.role d came s.rest.0 is)
+    let frames : frame_count s.mid ≡ open_after 0 before =
+    ap frame_count (runs_same before nothing started s.mid front.0 s.front front.1.runs)
+    ∙ reached_frames limits (join before) (sums_after nothing before) front.0 (record { items = before; ran = front.1; sums = refl; spelled = refl }) in
+    subst (λ n. 0 < n) frames (frame_at_end (sums_after nothing before) s.mid.0 s.mid.1 i.role d came s.rest.0 is)
 
 -- one item more
 open_step : (n a b : ℕ) (r : Role) → ((d : Option ℕ) (came : ℕ) → r ≡ End d came → 0 < n) → n + a ≡ b → open_by n r + (a + ended_by r) ≡ b + begun_by r
-open_step n a b Header some h = omega (arith, h)
 open_step zero a b (End d came) some h = absurd (omega (arith, some d came refl))
+open_step zero a b r some h = omega (arith, h)
 open_step (suc n) a b (End d came) some h = omega (arith, h)
-open_step zero a b (Metadata k) some h = omega (arith, h)
-open_step (suc n) a b (Metadata k) some h = omega (arith, h)
-open_step zero a b Extended some h = omega (arith, h)
-open_step (suc n) a b Extended some h = omega (arith, h)
-open_step zero a b Size some h = omega (arith, h)
-open_step (suc n) a b Size some h = omega (arith, h)
-open_step zero a b Box some h = omega (arith, h)
-open_step (suc n) a b Box some h = omega (arith, h)
-open_step zero a b (Count c) some h = omega (arith, h)
-open_step (suc n) a b (Count c) some h = omega (arith, h)
-open_step zero a b Id some h = omega (arith, h)
-open_step (suc n) a b Id some h = omega (arith, h)
-open_step zero a b X some h = omega (arith, h)
-open_step (suc n) a b X some h = omega (arith, h)
-open_step zero a b Y some h = omega (arith, h)
-open_step (suc n) a b Y some h = omega (arith, h)
+open_step (suc n) a b r some h = omega (arith, h)
 
 open_after-last : (n : ℕ) (is : List Item) (i : Item) → open_after n (is ++ i ∷ []) ≡ open_by (open_after n is) i.role
 open_after-last n [] i = refl
@@ -121,22 +101,17 @@ frames_are : (bs : List ℕ) (rs : List Row) (d : Engine) (s : StandsAt bs rs d)
 frames_are bs rs d s =
     sym (same_count s.outlined.stack.0 s.outlined.stack.1 ∙ ap open_count s.outlined.outline) ∙ reached_frames (allowance_of d) s.front (sums_of d) s.outlined.stack s.outlined.reached
 
--- the items before the place where one is missing are those that a reader has taken
-before_is : (limits : Allowance) (bytes : List ℕ) (e : Sums) (st : Stack) (held : List ℕ) (s : reading.Stands limits bytes [] e st held) (offset : ℕ) → bytes ≡ s.middle ++ held
-    → (f : FirstFault limits bytes offset Truncated) → f.fault.before ≡ s.reached.items
-before_is limits bytes e st held s offset at f =
-    go (two_fronts f.fault.before s.reached.items nothing started ran.0 st f.fault.rest held ran.1.runs s.reached.ran.runs (there ∙ sym (ap (λ l. l ++ held) s.reached.spelled)))
+-- the items before a place where one is missing, of the same bytes as those of a part, are these if they do not go on beyond them
+same_items : (limits : Allowance) (bytes : List ℕ) (offset : ℕ) (f : FirstFault limits bytes offset Truncated) (is : List Item) (x : List ℕ)
+    → Part limits is → join is ++ x ≡ bytes → ¬ Beyond f.fault.before is → f.fault.before ≡ is
+same_items limits bytes offset f is x part at none =
+    let ran = part_ran limits f.fault.before f.alive in
+    let run = part_ran limits is part in
+    go (two_fronts f.fault.before is nothing started ran.0 run.0 f.fault.rest x ran.1.runs run.1.runs (sym f.fault.split ∙ sym at))
   where
-    ran : (st : Stack) × reading.Ran limits f.fault.before st
-    ran = part_ran limits f.fault.before f.alive
-
-    there : join f.fault.before ++ f.fault.rest ≡ s.middle ++ held
-    there = sym f.fault.split ∙ at
-
-    go : Compared f.fault.before s.reached.items → f.fault.before ≡ s.reached.items
-    go (longer n) = absurd (none_longer limits bytes [] e st held s f.fault.before ran.0 f.fault.rest ran.1.runs there n)
-    go (shorter n) =
-        absurd (none_beyond_fault limits bytes offset Truncated f.fault s.reached.items held (ran_part limits s.reached.items st s.reached.ran) (ap (λ l. l ++ held) s.reached.spelled ∙ sym at) n)
+    go : Compared f.fault.before is → f.fault.before ≡ is
+    go (longer n) = absurd (none n)
+    go (shorter n) = absurd (none_beyond_fault limits bytes offset Truncated f.fault is x part at n)
     go (same i) = i
 
 -- where an engine stands, a reader of a stream of one blob does
@@ -162,33 +137,36 @@ stands_of bs rs d o s =
 
 -- ---- what a session answers
 
--- the bytes that it holds
-pub held_told : (bytes : List ℕ) (gs : List Tree) (old : Session) (s : Stands bytes gs old) (between : Bool) → IsEnd (session_limits old) s.rest (offset_in old.engine) between
-    → HeldOf (session_limits old) bytes gs (length (held_in old.engine))
-held_told bytes gs old s true none =
-    inl (ended bytes gs old s none, (let n : length s.rest ≡ 0 = ap length none in omega (arith, n, count_is s.rest (begun_rows old) old.engine s.begun)))
-held_told bytes gs old s false first =
-    inr (old.engine.start + offset_in old.engine, cut_short bytes gs old (offset_in old.engine) s first, omega (arith, so_many bytes gs old s))
+module _ {bytes : List ℕ} {gs : List Tree} {old : Session} (s : Stands bytes gs old) where
+  abbrev own : Allowance
+  own = session_limits old
 
--- the geometries that are begun
-pub frames_told : (bytes : List ℕ) (gs : List Tree) (old : Session) (s : Stands bytes gs old) → IsOpenVarint (held_in old.engine) → (between : Bool)
-    → IsEnd (session_limits old) s.rest (offset_in old.engine) between → FramesOf (session_limits old) bytes gs (open_in old.engine)
-unfolding stands_of
-frames_told bytes gs old s o true none =
-    let b = s.begun in
-    let front : b.front ≡ [] = no_front b.front (held_in old.engine) (sym b.whole ∙ none) in
-    let items : b.outlined.reached.items ≡ [] = no_items b.outlined.reached.items b.outlined.stack b.outlined.reached.ran.runs (b.outlined.reached.spelled ∙ front) in
-    inl (ended bytes gs old s none, frames_are s.rest (begun_rows old) old.engine b ∙ ap (open_after 0) items)
-frames_told bytes gs old s o false first =
-    let limits = session_limits old in
-    let b = s.begun in
-    let stands = stands_of s.rest (begun_rows old) old.engine o b in
-    let cut : StreamFault limits bytes gs (length s.front + offset_in old.engine) Truncated =
-    record { front = s.front; rest = s.rest; within = offset_in old.engine; whole = s.whole; blobs = s.blobs; first = first; place = refl } in
-    let before : first.fault.before ≡ b.outlined.reached.items =
-    before_is limits s.rest (sums_of old.engine) b.outlined.stack (held_in old.engine) stands (offset_in old.engine) b.whole first in
-    let many : open_in old.engine ≡ open_after 0 first.fault.before = frames_are s.rest (begun_rows old) old.engine b ∙ ap (open_after 0) (sym before) in
-    inr (length s.front + offset_in old.engine, cut, subst (λ n. AreOpen first.fault.before n) (sym many) (part_open limits first.fault.before first.alive))
+  abbrev d : Engine
+  d = old.engine
+
+  -- the bytes that it holds
+  pub held_told : (between : Bool) → IsEnd own s.rest (offset_in d) between → HeldOf own bytes gs (length (held_in d))
+  held_told true none = inl (none_at s s.whole none, omega (arith, ap length none, count_is s.rest (begun_rows old) d s.begun))
+  held_told false first = inr (d.start + offset_in d, fault_at s s.whole refl first, omega (arith, so_many s))
+
+  -- the geometries that are begun
+  pub frames_told : IsOpenVarint (held_in d) → (between : Bool) → IsEnd own s.rest (offset_in d) between → FramesOf own bytes gs (open_in d)
+  unfolding stands_of
+  frames_told o true none =
+      let r = s.begun.outlined.reached in
+      let front : s.begun.front ≡ [] = no_front s.begun.front (held_in d) (sym s.begun.whole ∙ none) in
+      inl (none_at s s.whole none, frames_are s.rest (begun_rows old) d s.begun ∙ ap (open_after 0) (no_items r.items s.begun.outlined.stack r.ran.runs (r.spelled ∙ front)))
+  frames_told o false first =
+      let r = s.begun.outlined.reached in
+      let stands = stands_of s.rest (begun_rows old) d o s.begun in
+      let at : join r.items ++ held_in d ≡ s.rest = ap (λ l. l ++ held_in d) r.spelled ∙ sym s.begun.whole in
+      let ran = part_ran own first.fault.before first.alive in
+      let before : first.fault.before ≡ r.items =
+      same_items own s.rest (offset_in d) first r.items (held_in d) (ran_part own r.items s.begun.outlined.stack r.ran) at
+      (none_longer own s.rest [] (sums_of d) s.begun.outlined.stack (held_in d) stands first.fault.before ran.0 first.fault.rest ran.1.runs
+      (sym first.fault.split ∙ s.begun.whole)) in
+      let many : open_after 0 first.fault.before ≡ open_in d = ap (open_after 0) before ∙ sym (frames_are s.rest (begun_rows old) d s.begun) in
+      inr (d.start + offset_in d, fault_at s s.whole refl first, subst (λ n. AreOpen first.fault.before n) many (part_open own first.fault.before first.alive))
 
 -- ---- the bytes tell both
 
@@ -205,22 +183,6 @@ same_blobs limits (g ∷ gs) a b x y s t e =
     let one = one_blob_lem limits s.0 t.0 (s.1 ++ x) (t.1 ++ y) g g s.3 t.3 whole in
     let rest = same_blobs limits gs s.1 t.1 x y s.4 t.4 (peel s.0 t.0 (s.1 ++ x) (t.1 ++ y) one.1 whole) in
     s.2 ∙ (ap (λ l. l ++ s.1) one.1 ∙ (ap (λ l. t.0 ++ l) rest ∙ sym t.2))
-
--- the same items before two places where one is missing
-same_before : (limits : Allowance) (bytes other : List ℕ) (o p : ℕ) → bytes ≡ other → (a : FirstFault limits bytes o Truncated) (b : FirstFault limits other p Truncated) → a.fault.before ≡ b.fault.before
-same_before limits bytes other o p e a b =
-    go (two_fronts a.fault.before b.fault.before nothing started ran.0 run.0 a.fault.rest b.fault.rest ran.1.runs run.1.runs (sym a.fault.split ∙ (e ∙ b.fault.split)))
-  where
-    ran : (st : Stack) × reading.Ran limits a.fault.before st
-    ran = part_ran limits a.fault.before a.alive
-
-    run : (st : Stack) × reading.Ran limits b.fault.before st
-    run = part_ran limits b.fault.before b.alive
-
-    go : Compared a.fault.before b.fault.before → a.fault.before ≡ b.fault.before
-    go (longer n) = absurd (none_beyond_fault limits other p Truncated b.fault a.fault.before a.fault.rest a.alive (sym a.fault.split ∙ e) n)
-    go (shorter n) = absurd (none_beyond_fault limits bytes o Truncated a.fault b.fault.before b.fault.rest b.alive (sym b.fault.split ∙ sym e) n)
-    go (same i) = i
 
 -- one number of bytes
 pub one_held : (limits : Allowance) (bytes : List ℕ) (gs hs : List Tree) (m n : ℕ) → HeldOf limits bytes gs m → HeldOf limits bytes hs n → m ≡ n
@@ -239,6 +201,11 @@ one_frames limits bytes gs hs m n (inr (o, a, many)) (inr (p, b, much)) =
     let one = one_stream_fault limits bytes gs hs o p Truncated Truncated a b in
     let here : a.front ++ a.rest ≡ b.front ++ b.rest = sym a.whole ∙ b.whole in
     let front : a.front ≡ b.front = same_blobs limits hs a.front b.front a.rest b.rest (subst (λ l. Stream limits a.front l) one.0 a.blobs) b.blobs here in
-    let before : a.first.fault.before ≡ b.first.fault.before = same_before limits a.rest b.rest a.within b.within (peel a.front b.front a.rest b.rest front here) a.first b.first in
-    let all : AreOpen b.first.fault.before m = subst (λ l. AreOpen l m) before many in
+    let x = a.first.fault in
+    let y = b.first.fault in
+    let at : join y.before ++ y.rest ≡ a.rest = sym (peel a.front b.front a.rest b.rest front here ∙ y.split) in
+    let before : x.before ≡ y.before =
+    same_items limits a.rest a.within a.first y.before y.rest b.first.alive at
+    (none_beyond_fault limits b.rest b.within Truncated y x.before x.rest a.first.alive (sym x.split ∙ peel a.front b.front a.rest b.rest front here)) in
+    let all : AreOpen y.before m = subst (λ l. AreOpen l m) before many in
     omega (arith, all, much)

@@ -1,88 +1,96 @@
--- An engine that was fed a front of a piece, as its answer to the piece.
-use Rattle.std.proofs.Common.{◌≡◌, ℕ, zero, suc, ◌+◌, ◌-◌, ◌<◌, ◌≤◌, ◌^◌, List, [], ◌∷◌, ◌++◌, length, take, refl, ap, ◌∙◌, subst, Bool, true, false, Result, Ok, Err, arith}
-use Rattle.std.specs.Prelude.{⊤}
+-- An answer to a prefix of a piece is one to the piece.
+use Rattle.std.proofs.Common.{◌≡◌, ℕ, ◌+◌, ◌-◌, ◌<◌, ◌≤◌, ◌^◌, List, ◌++◌, length, length-append, take, drop, take-append-drop, append-nil, refl, sym, ap, ◌∙◌, subst, Bool, true, false, Result, Ok, Err, arith, inl, inr}
 use Rattle.std.proofs.Math.Seq.{take-length}
-use Rattle.std.proofs.lemmas.List.{length-take}
+use Rattle.std.proofs.lemmas.List.{take-append-le}
 use Rattle.twkb_tree.specs.Rows.{Row}
 use Rattle.twkb_tree.specs.Limits.{Allowance}
 use Rattle.twkb_grammar.specs.Blob.{Blob}
-use Rattle.twkb_grammar.specs.Fault.{FirstFault, Reason}
 use Rattle.twkb_grammar.specs.Noting.{Notes}
-use Rattle.twkb_body.specs.JudgedParts.{PartIn, IsJudged}
+use Rattle.twkb_io.specs.declared.input.InFault.TheVariants.{TooLong}
 use Rattle.twkb_engine.specs.State.{allowance_of}
-use Rattle.twkb_engine.specs.Standing.{StandsAt, IsFed, FedBy, TakesAll, HoldsSpans, RefusedIn, notes_at, count_of, offset_in}
-use Rattle.twkb_engine.specs.Stops.{reason_of}
-use Rattle.twkb_engine.specs.declared.blob_reason.BlobReason.TheVariants as reason
+use Rattle.twkb_engine.specs.Standing.{StandsAt, IsEnd, IsFed, FedBy, HoldsSpans, TakesAll, count_of, notes_at, offset_in}
 use Rattle.twkb_engine.specs.declared.stop.Stop.{Stop}
 use Rattle.twkb_engine.specs.declared.stop.Stop.TheVariants.{Memory, Refused}
 use Rattle.twkb_engine.specs.declared.engine.Engine.{Engine}
-use Rattle.twkb_io.specs.declared.input.InFault.TheVariants.{TooLong}
 use Rattle.twkb_blob.specs.Faults.{fault_of}
-use Rattle.twkb_blob.specs.Feeding.{FedPiece, end_at}
-use Rattle.twkb_blob.specs.declared.fault.BlobFault.{BlobFault}
+use Rattle.twkb_blob.specs.Feeding.{Feeds}
+use Rattle.twkb_blob.specs.Readers.{AreCutOff}
 use Rattle.twkb_blob.specs.declared.fault.BlobFault.TheVariants as fault
 
--- the front of a front
-pub taken_front : (used count : ℕ) (xs : List ℕ) → used ≤ length (take count xs) → take used (take count xs) ≡ take used xs
-taken_front zero count xs few = refl
-taken_front (suc n) zero xs few = absurd (omega (arith, few))
-taken_front (suc n) (suc m) [] few = refl
-taken_front (suc n) (suc m) (x ∷ xs) few = ap (λ l. x ∷ l) (taken_front n m xs (omega (arith, few)))
+-- where an engine stands there are no bytes, or they end inside a blob
+pub are_cut_off : (limits : Allowance) (bs : List ℕ) (offset : ℕ) (between : Bool) → IsEnd limits bs offset between → AreCutOff limits bs
+are_cut_off limits bs offset true none = inl none
+are_cut_off limits bs offset false cut = inr (offset, cut)
 
-pub short_cut : (count : ℕ) (xs : List ℕ) → length (take count xs) ≤ length xs
-short_cut count xs = omega (arith, length-take count xs)
+module _ {S : Type 0} (holds : S → Notes → Type 0) (known : Type 0) (limits : Allowance) (start : ℕ)
+    (bs xs ys : List ℕ) (rs : List Row) (e : Engine) (new : S) where
+  longer : (used : ℕ) → used ≤ length xs → used ≤ length (xs ++ ys)
+  longer used few = omega (arith, few, length-append xs ys)
 
-module _ (limits : Allowance) (bs piece : List ℕ) (count : ℕ) where
-  -- a part ends in the piece
-  pub cut_part : PartIn limits bs (take count piece) → PartIn limits bs piece
-  cut_part h = record {
-    used = h.used;
-    some = h.some;
-    within = (let few = h.within in omega (arith, few, short_cut count piece));
-    part = subst (λ l. IsJudged limits (bs ++ l)) (taken_front h.used count piece h.within) h.part;
+  pub grown : (answer : Result (ℕ × Bool) Stop) → IsFed holds known limits start bs xs answer rs e new
+      → IsFed holds known limits start bs (xs ++ ys) answer rs e new
+  grown (Ok (used, false)) f =
+      let same : take used xs ≡ take used (xs ++ ys) = sym (take-append-le used xs ys f.0) in
+      let both = subst (λ l. (s : StandsAt (bs ++ l) rs e) × (known → holds new (notes_at s))) same (f.2, f.3) in
+      (longer used f.0, f.1, both.0, both.1)
+  grown (Ok (used, true)) f =
+      let m = f.0 in
+      let same : take used xs ≡ take used (xs ++ ys) = sym (take-append-le used xs ys m.within) in
+      let both = subst (λ l. (x : Blob limits (bs ++ l) m.geometry) × (known → HoldsSpans holds new start x)) same (m.blob, f.1) in
+      (record { some = m.some; within = longer used m.within; geometry = m.geometry; blob = both.0; made = m.made }, both.1, f.2, f.3)
+  grown (Err Memory) f = record { used = f.used; some = f.some; within = longer f.used f.within; part = rw (take-append-le f.used xs ys f.within) f.part }
+  grown (Err (Refused why)) f = record {
+    used = f.used;
+    some = f.some;
+    within = longer f.used f.within;
+    fault = λ more. rw (take-append-le f.used xs ys f.within) (f.fault more);
   }
 
-  -- an item is refused in it
-  pub cut_refused : (offset : ℕ) (reason : Reason) → RefusedIn limits bs (take count piece) offset reason → RefusedIn limits bs piece offset reason
-  cut_refused offset reason h = record {
-    used = h.used;
-    some = h.some;
-    within = (let few = h.within in omega (arith, few, short_cut count piece));
-    fault = λ more. subst (λ l. FirstFault limits ((bs ++ l) ++ more) offset reason) (taken_front h.used count piece h.within) (h.fault more);
-  }
+piece_fed : {S : Type 0} (holds : S → Notes → Type 0) (d e : Engine) (rs more : List Row) (old new : S) (piece : List ℕ) (count : ℕ) (answer : Result (ℕ × Bool) Stop)
+    → FedBy holds d rs old (take count piece) answer e more new → FedBy holds d rs old piece answer e more new
+piece_fed holds d e rs more old new piece count answer fed = λ bs s.
+    let known : Type 0 = holds old (notes_at s) in
+    subst (λ l. IsFed holds known (allowance_of d) d.start bs l answer more e new) (take-append-drop count piece)
+    (grown holds known (allowance_of d) d.start bs (take count piece) (drop count piece) more e new answer (fed bs s))
 
-  module _ {S : Type 0} (holds : S → Notes → Type 0) (known : Type 0) (start : ℕ) (used : ℕ) (rs : List Row) (d : Engine) (new : S) where
-    -- bytes of it were used
-    pub cut_fed : (ends : Bool) → IsFed holds known limits start bs (take count piece) (Ok (used, ends)) rs d new → IsFed holds known limits start bs piece (Ok (used, ends)) rs d new
-    cut_fed false f =
-        let both = subst (λ l. (s : StandsAt (bs ++ l) rs d) × (known → holds new (notes_at s))) (taken_front used count piece f.0) (f.2, f.3) in
-        (let few = f.0 in omega (arith, few, short_cut count piece), f.1, both.0, both.1)
-    cut_fed true f =
-        let m = f.0 in
-        let both = subst (λ l. (x : Blob limits (bs ++ l) m.geometry) × (known → HoldsSpans holds new start x)) (taken_front used count piece m.within) (m.blob, f.1) in
-        (record { some = m.some; within = (let few = m.within in omega (arith, few, short_cut count piece)); geometry = m.geometry; blob = both.0; made = m.made }, both.1, f.2, f.3)
+module _ {S : Type 0} {holds : S → Notes → Type 0} {d e : Engine} {rs more : List Row} {old new : S} {piece : List ℕ} where
+  -- bytes of it were used
+  pub cut_feeds : (count : ℕ) (fed : ℕ × Bool) → Feeds holds d rs old (take count piece) (Ok fed) e more new → Feeds holds d rs old piece (Ok fed) e more new
+  cut_feeds count fed f = record { limits = f.limits; fed = piece_fed holds d e rs more old new piece count (Ok fed) f.fed }
 
--- ---- what is answered to the piece
-
-module _ {S : Type 0} (holds : S → Notes → Type 0) (d e : Engine) (rs more : List Row) (old new : S) (piece : List ℕ) (count : ℕ) where
   -- the engine stopped
-  pub stopped_piece : (stop : Stop) → ((bs : List ℕ) (s : StandsAt bs rs d) → IsFed holds (holds old (notes_at s)) (allowance_of d) d.start bs (take count piece) (Err stop) more e new) → FedPiece holds d rs old piece (Err (fault_of (d.start + offset_in e) stop)) e more new
-  stopped_piece Memory fed = λ bs s. cut_part (allowance_of d) bs piece count (fed bs s)
-  stopped_piece (Refused r) fed = λ bs s. (offset_in e, cut_refused (allowance_of d) bs piece count (offset_in e) (reason_of r) (fed bs s), refl)
+  pub stopped : {place : ℕ} (count : ℕ) (stop : Stop) → e.limits ≡ d.limits → FedBy holds d rs old (take count piece) (Err stop) e more new
+      → place ≡ d.start + offset_in e → Feeds holds d rs old piece (Err (fault_of place stop)) e more new
+  stopped count Memory limits fed at = record { limits = limits; fed = piece_fed holds d e rs more old new piece count (Err Memory) fed }
+  stopped count (Refused why) limits fed at = record { limits = limits; fed = (piece_fed holds d e rs more old new piece count (Err (Refused why)) fed, at) }
 
-  -- the stream has no room for all of it
-  pub too_far : (used taken : ℕ) (ends : Bool) → ends ≡ false → TakesAll (length (take count piece)) (Ok (used, ends)) → FedBy holds d rs old (take count piece) (Ok (used, ends)) e more new → taken ≡ d.start + count_of d
-      → (count < length piece → taken + count ≡ 2 ^ 62) → count < length piece → FedPiece holds d rs old piece (Err (fault.Device TooLong)) e more new
-  too_far used taken true off all fed at full less = absurd cc
-  too_far used taken false off all fed at full less = (
+  -- the stream has no room for all of the piece
+  pub too_far : (used count : ℕ) (ends : Bool) → ends ≡ false → TakesAll (length (take count piece)) (Ok (used, ends)) → FedBy holds d rs old (take count piece) (Ok (used, ends)) e more new
+      → (d.start + count_of d) + count ≡ 2 ^ 62 → count < length piece → e.limits ≡ d.limits → ((bs : List ℕ) (rs : List Row) → StandsAt bs rs e → AreCutOff (allowance_of e) bs)
+      → Feeds holds d rs old piece (Err (fault.Device TooLong)) e more new
+  too_far used count true off all fed full less limits cut = absurd cc
+  too_far used count false off all fed full less limits cut = record {
+    limits = limits;
+    fed = (
+      refl,
+      omega (arith, full, less),
+      λ bs s. let room : count ≡ 2 ^ 62 - (d.start + count_of d) = omega (arith, full) in
+          let whole : take used (take count piece) ≡ take (2 ^ 62 - (d.start + count_of d)) piece =
+          ap (λ n. take n (take count piece)) all ∙ take-length (take count piece) ∙ ap (λ n. take n piece) room in
+          subst (λ l. AreCutOff l (bs ++ take (2 ^ 62 - (d.start + count_of d)) piece)) limits
+          (cut _ more (subst (λ l. StandsAt (bs ++ l) more e) whole (fed bs s).2)),
+    );
+  }
+
+-- the stream has no room for any byte
+pub no_room : {S : Type 0} {holds : S → Notes → Type 0} {d : Engine} {rs : List Row} {old : S} {piece : List ℕ} → 2 ^ 62 < d.start + count_of d
+    → ((bs : List ℕ) (rs : List Row) → StandsAt bs rs d → AreCutOff (allowance_of d) bs) → Feeds holds d rs old piece (Err (fault.Device TooLong)) d rs old
+no_room {d = d} {rs = rs} {piece = piece} past cut = record {
+  limits = refl;
+  fed = (
     refl,
-    omega (arith, at, full less, less),
-    λ bs s. let room : count ≡ 2 ^ 62 - (d.start + count_of d) = omega (arith, at, full less) in
-        let whole : take used (take count piece) ≡ take (2 ^ 62 - (d.start + count_of d)) piece = ap (λ n. take n (take count piece)) all ∙ (take-length (take count piece) ∙ ap (λ n. take n piece) room) in
-        subst (λ l. StandsAt (bs ++ l) more e) whole (fed bs s).2,
-  )
-
--- an end inside a blob
-pub end_cut : (offset count : ℕ) → 0 < count → ◌≡◌ {A = Result ⊤ BlobFault} (Err (fault.At offset reason.Truncated)) (end_at offset count)
-end_cut offset zero some = absurd (omega (arith, some))
-end_cut offset (suc n) some = refl
+    omega (arith, past),
+    λ bs s. let none : 2 ^ 62 - (d.start + count_of d) ≡ 0 = omega (arith, past) in
+        subst (λ n. AreCutOff (allowance_of d) (bs ++ take n piece)) (sym none) (subst (AreCutOff (allowance_of d)) (sym (append-nil bs)) (cut bs rs s)),
+  );
+}

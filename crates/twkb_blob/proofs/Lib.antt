@@ -7,6 +7,5 @@ pub mod Counts
 pub mod Answering
 pub mod Abreast
 pub mod Calls
-pub mod Onward
 pub mod Pieces
 pub mod Leading

@@ -1,210 +1,201 @@
 -- A session goes on, gives a geometry, refuses or ends.
-use Rattle.std.proofs.Common.{◌≡◌, ℕ, zero, suc, ◌+◌, ◌-◌, ◌≤◌, ◌^◌, inl, inr, List, [], ◌∷◌, ◌++◌, length, take, refl, sym, ap, ◌∙◌, subst, append_assoc, length-append, Bool, true, false, Option, Some, None, IfSome, Ok, Err, arith}
+use Rattle.std.proofs.Common.{◌≡◌, ℕ, ◌+◌, ◌-◌, ◌^◌, inl, inr, List, [], ◌∷◌, ◌++◌, length, length-append, take, refl, sym, ap, ◌∙◌, subst, append_assoc, append-nil, Bool, true, false, Option, Some, None, IfSome, Result, Ok, Err, arith}
+use Rattle.std.proofs.KnownBytes.{Consumes-whole}
 use Rattle.std.proofs.Math.Seq.{take-length}
-use Rattle.std.proofs.lemmas.List.{append-nil, append_cancel_left, length-take-le}
-use Rattle.std.specs.Prelude.{if◌then◌else◌, is_ok}
+use Rattle.std.proofs.lemmas.List.{append_cancel_left, length-take-le}
+use Rattle.std.proofs.lemmas.Option.{IfSome_then}
+use Rattle.std.specs.Prelude.{if◌then◌else◌}
+use Rattle.std.specs.declared.io.traits.Read.{Ghosts}
 use Rattle.twkb_tree.specs.Tree.{Tree}
 use Rattle.twkb_tree.specs.Rows.{Row, rows}
 use Rattle.twkb_tree.specs.Limits.{Allowance, IsValid, largest_limits}
 use Rattle.twkb_grammar.specs.Blob.{Blob, Stream}
-use Rattle.twkb_grammar.specs.Fault.{FirstFault, StreamFault, Truncated}
-use Rattle.twkb_grammar.proofs.Streams.{behind_stream, stream-append}
-use Rattle.twkb_engine.specs.State.{allowance_of}
-use Rattle.twkb_engine.specs.Stops.{reason_of}
-use Rattle.twkb_engine.specs.declared.stop.Stop.{Stop}
-use Rattle.twkb_engine.specs.declared.stop.Stop.TheVariants.{Memory, Refused}
+use Rattle.twkb_grammar.specs.Fault.{FirstFault, Reason, StreamFault}
 use Rattle.twkb_grammar.specs.Noting.{Notes}
-use Rattle.twkb_body.specs.JudgedParts.{PartIn, IsJudged}
-use Rattle.twkb_engine.specs.Standing.{StandsAt, FedBy, IsFed, IsEnd, notes_at, MadeIn, RefusedIn, count_of, offset_in, place_in}
+use Rattle.twkb_grammar.proofs.Streams.{behind_stream, stream-append}
+use Rattle.twkb_body.specs.JudgedParts.{PartIn}
+use Rattle.twkb_io.specs.declared.input.Input.{Input}
+use Rattle.twkb_io.specs.Inputs.{rest_of}
+use Rattle.twkb_engine.specs.Standing.{StandsAt, count_of}
 use Rattle.twkb_engine.proofs.Feeds.{count_is}
 use Rattle.twkb_engine.proofs.RootPoints.{blob_judged}
 use Rattle.twkb_engine.specs.declared.engine.Engine.{Engine}
-use Rattle.twkb_engine.specs.declared.blob_reason.BlobReason.{BlobReason}
-use Rattle.twkb_blob.specs.Faults.{fault_of}
-use Rattle.twkb_blob.specs.Feeding.{FedPiece, end_at}
-use Rattle.twkb_blob.specs.Sessions.{Stands, PartAt, FedSession, FedFlat, AreBegun, IsTooLong, HasEnd, Finished, begun_rows, session_limits, session_rows}
+use Rattle.twkb_blob.specs.Feeding.{EndsAt, Feeds, Reads}
+use Rattle.twkb_blob.specs.Readers.{AreCutOff}
+use Rattle.twkb_blob.specs.Sessions.{Stands, PartAt, FedSession, FedFlat, AreBegun, Finished, begun_rows, session_limits, session_rows}
+use Rattle.twkb_blob.specs.Through.{IsThrough}
 use Rattle.twkb_blob.specs.declared.session.Session.{Session}
 use Rattle.twkb_blob.specs.declared.fault.BlobFault.{BlobFault}
 use Rattle.twkb_blob.specs.declared.fault.BlobFault.TheVariants as fault
 use Rattle.twkb_blob.proofs.Trees.{TreeLaw, last_tree, tree_made, not_none}
 
--- the rows of the geometry that is read, by whether the form still has those of the last one
-open_rows : (s : Session) → s.is_whole ≡ false → begun_rows s ≡ session_rows s
-open_rows s e = ap (λ (b : Bool). if b then [] else session_rows s) e
-
-whole_rows : (s : Session) → s.is_whole ≡ true → begun_rows s ≡ []
-whole_rows s e = ap (λ (b : Bool). if b then [] else session_rows s) e
-
--- where an engine stands whose form has the rows of no other geometry
-pub begun_at : (bytes : List ℕ) (gs : List Tree) (old : Session) (s : Stands bytes gs old) → old.is_whole ≡ false → StandsAt s.rest (session_rows old) old.engine
-begun_at bytes gs old s opened = subst (λ rs. StandsAt s.rest rs old.engine) (open_rows old opened) s.begun
-
--- a stream and one blob more
-pub one_blob_more : (limits : Allowance) (front blob : List ℕ) (gs : List Tree) (g : Tree) → Stream limits front gs → Blob limits blob g → Stream limits (front ++ blob) (gs ++ g ∷ [])
-one_blob_more limits front blob gs g s b = stream-append limits front blob gs (g ∷ []) s (blob, [], sym (append-nil blob), b, refl)
-
--- so many bytes came in all
-pub so_many : (bytes : List ℕ) (gs : List Tree) (old : Session) → Stands bytes gs old → length bytes ≡ old.engine.start + count_of old.engine
-so_many bytes gs old s = ap length s.whole ∙ length-append s.front s.rest ∙ (let n : length s.rest ≡ count_of old.engine = count_is s.rest (begun_rows old) old.engine s.begun in omega (arith, s.start, n))
-
--- the whole piece was used
-pub went_on : (bytes : List ℕ) (gs : List Tree) (piece : List ℕ) (old new : Session) (used : ℕ) (s : Stands bytes gs old) → length bytes + length piece ≤ 2 ^ 62 → session_limits new ≡ session_limits old → new.engine.start ≡ old.engine.start → new.spent ≡ false
-    → new.is_whole ≡ false → used ≡ length piece → StandsAt (s.rest ++ take used piece) (session_rows new) new.engine → FedFlat bytes gs piece (Ok (used, false)) new
-went_on bytes gs piece old new used s few limits start live opened all h =
-    let whole : take used piece ≡ piece = ap (λ n. take n piece) all ∙ take-length piece in (
-      all,
-      record {
-        front = s.front;
-        rest = s.rest ++ piece;
-        whole = ap (λ l. l ++ piece) s.whole ∙ append_assoc s.front s.rest piece;
-        few = omega (arith, few, length-append bytes piece);
-        blobs = subst (λ l. Stream l s.front gs) (sym limits) s.blobs;
-        begun = subst (λ rs. StandsAt (s.rest ++ piece) rs new.engine) (sym (open_rows new opened)) (subst (λ l. StandsAt (s.rest ++ l) (session_rows new) new.engine) whole h);
-        start = start ∙ s.start;
-        live = live;
-      },
-    )
+-- after a stream, a stream of one geometry more has its blob
+pub blob_behind : (limits : Allowance) (bytes more : List ℕ) (gs : List Tree) (g : Tree) → Stream limits bytes gs → Stream limits (bytes ++ more) (gs ++ g ∷ []) → Blob limits more g
+blob_behind limits bytes more gs g first whole =
+    let behind = behind_stream limits bytes more gs (gs ++ g ∷ []) first whole in
+    let (front, rest, is, blob, none) = subst (Stream limits more) (sym (append_cancel_left gs (g ∷ []) behind.0 behind.1)) behind.2 in
+    subst (λ l. Blob limits l g) (sym (is ∙ (ap (λ l. front ++ l) none ∙ append-nil front))) blob
 
 -- a session between two blobs, which has the rows of the last one
-pub between : (bytes : List ℕ) (gs : List Tree) (new : Session) → Stream (session_limits new) bytes gs → new.engine.start ≡ length bytes → length bytes ≤ 2 ^ 62 → new.spent ≡ false → new.is_whole ≡ true → StandsAt [] [] new.engine → Stands bytes gs new
-between bytes gs new stream start few live closed begun = record {
+between : {bytes : List ℕ} {gs : List Tree} (new : Session) → Stream (session_limits new) bytes gs → new.engine.start ≡ length bytes
+    → new.spent ≡ false → new.is_whole ≡ true → StandsAt [] [] new.engine → Stands bytes gs new
+between {bytes} new stream start live closed begun = record {
   front = bytes;
   rest = [];
   whole = sym (append-nil bytes);
-  few = few;
+  few = (let few = new.taken_few live in omega (arith, few, start));
   blobs = stream;
-  begun = subst (λ rs. StandsAt [] rs new.engine) (sym (whole_rows new closed)) begun;
+  begun = subst (λ (b : Bool). StandsAt [] (if b then [] else session_rows new) new.engine) (sym closed) begun;
   start = start;
   live = live;
 }
 
--- a geometry ends in the piece
-pub gave : (bytes : List ℕ) (gs : List Tree) (piece : List ℕ) (old new : Session) (used : ℕ) (s : Stands bytes gs old) → length bytes + used ≤ 2 ^ 62 → session_limits new ≡ session_limits old → new.engine.start ≡ old.engine.start + (length s.rest + used)
-    → new.spent ≡ false → new.is_whole ≡ true → MadeIn (session_limits old) s.rest piece used (session_rows new) → StandsAt [] [] new.engine → FedFlat bytes gs piece (Ok (used, true)) new
-gave bytes gs piece old new used s few limits start live closed made begun =
-    let g = made.geometry in
-    let same : s.front ++ (s.rest ++ take used piece) ≡ bytes ++ take used piece = sym (ap (λ l. l ++ take used piece) s.whole ∙ append_assoc s.front s.rest (take used piece)) in
-    let old_stream = one_blob_more (session_limits old) s.front (s.rest ++ take used piece) gs g s.blobs made.blob in
-    let stream : Stream (session_limits new) (bytes ++ take used piece) (gs ++ g ∷ []) = subst (λ l. Stream l (bytes ++ take used piece) (gs ++ g ∷ [])) (sym limits) (subst (λ l. Stream (session_limits old) l (gs ++ g ∷ [])) same old_stream) in
-    let many : length bytes ≡ length s.front + length s.rest = ap (λ (l : List ℕ). length l) s.whole ∙ length-append s.front s.rest in
-    let long : length (bytes ++ take used piece) ≡ length bytes + used = length-append bytes (take used piece) ∙ ap (λ n. length bytes + n) (length-take-le used piece made.within) in (
-      g,
-      (
-        made.some,
-        made.within,
-        stream,
-        between (bytes ++ take used piece) (gs ++ g ∷ []) new stream (omega (arith, long, start, many, s.start)) (omega (arith, long, few)) live closed begun,
-      ),
-      made.made,
-    )
+module _ {bytes : List ℕ} {gs : List Tree} {old : Session} (s : Stands bytes gs old) where
+  abbrev own : Allowance
+  own = session_limits old
 
--- bytes that an engine stands for are begun
-begun_end : (limits : Allowance) (bytes : List ℕ) (gs : List Tree) (front rest : List ℕ) (offset : ℕ) (b : Bool) → bytes ≡ front ++ rest → Stream limits front gs → IsEnd limits rest offset b → AreBegun limits bytes gs
-begun_end limits bytes gs front rest offset true whole blobs none = inl (subst (λ l. Stream limits l gs) (sym (whole ∙ (ap (λ l. front ++ l) none ∙ append-nil front))) blobs)
-begun_end limits bytes gs front rest offset false whole blobs first = inr (length front + offset, record { front = front; rest = rest; within = offset; whole = whole; blobs = blobs; first = first; place = refl })
+  -- so many bytes came in all
+  pub so_many : length bytes ≡ old.engine.start + count_of old.engine
+  so_many = omega (arith, ap length s.whole, length-append s.front s.rest, s.start, count_is s.rest (begun_rows old) old.engine s.begun)
 
--- bytes after which an engine stands are begun
-pub begun_after : (bytes more : List ℕ) (gs : List Tree) (kept : List Row) (old : Session) (e : Engine) (s : Stands bytes gs old) → allowance_of e ≡ session_limits old → HasEnd e → StandsAt (s.rest ++ more) kept e
-    → AreBegun (session_limits old) (bytes ++ more) gs
-begun_after bytes more gs kept old e s limits ends h =
-    let end = ends (s.rest ++ more) kept h in
-    begun_end (session_limits old) (bytes ++ more) gs s.front (s.rest ++ more) (offset_in e) end.0 (ap (λ l. l ++ more) s.whole ∙ append_assoc s.front s.rest more) s.blobs
-    (subst (λ l. IsEnd l (s.rest ++ more) (offset_in e) end.0) limits end.1)
+  -- where an engine stands whose form has the rows of no other geometry
+  begun_at : old.is_whole ≡ false → StandsAt s.rest (session_rows old) old.engine
+  begun_at opened = subst (λ (b : Bool). StandsAt s.rest (if b then [] else session_rows old) old.engine) opened s.begun
 
--- an item is refused in the piece
-pub refuses : (bytes : List ℕ) (gs : List Tree) (piece : List ℕ) (old new : Session) (within : ℕ) (r : BlobReason) (s : Stands bytes gs old) → session_limits new ≡ session_limits old → RefusedIn (session_limits old) s.rest piece within (reason_of r)
-    → FedSession bytes gs piece (Err (fault.At (old.engine.start + within) r)) new
-refuses bytes gs piece old new within r s limits h = record {
-  used = h.used;
-  some = h.some;
-  within = h.within;
-  fault = λ more. subst (λ l. StreamFault l ((bytes ++ take h.used piece) ++ more) gs (old.engine.start + within) (reason_of r)) (sym limits) (record {
-    front = s.front;
-    rest = (s.rest ++ take h.used piece) ++ more;
-    within = within;
-    whole = ap (λ l. (l ++ take h.used piece) ++ more) s.whole ∙ ap (λ l. l ++ more) (append_assoc s.front s.rest (take h.used piece)) ∙ append_assoc s.front (s.rest ++ take h.used piece) more;
-    blobs = s.blobs;
-    first = h.fault more;
-    place = ap (λ n. n + within) s.start;
-  });
-}
+  -- further bytes
+  further : (more : List ℕ) → bytes ++ more ≡ s.front ++ (s.rest ++ more)
+  further more = ap (λ l. l ++ more) s.whole ∙ append_assoc s.front s.rest more
 
--- there is no memory for an item of the piece
-pub lacks : (bytes : List ℕ) (gs : List Tree) (piece : List ℕ) (old new : Session) (s : Stands bytes gs old) → session_limits new ≡ session_limits old → PartIn (session_limits old) s.rest piece → FedSession bytes gs piece (Err fault.Memory) new
-lacks bytes gs piece old new s limits h = subst (λ l. PartAt l bytes gs piece) (sym limits) (record { front = s.front; rest = s.rest; whole = s.whole; blobs = s.blobs; part = h })
+  -- ---- after the whole blobs come bytes with a fault, or of a blob, or none
 
--- the engine stopped in the piece
-pub stops : {S : Type 0} (holds : S → Notes → Type 0) (known : Type 0) (start : ℕ) (bytes : List ℕ) (gs : List Tree) (piece : List ℕ) (old new : Session) (stop : Stop) (rs : List Row) (v : S) (s : Stands bytes gs old) → session_limits new ≡ session_limits old
-    → IsFed holds known (session_limits old) start s.rest piece (Err stop) rs new.engine v → FedSession bytes gs piece (Err (fault_of (old.engine.start + offset_in new.engine) stop)) new
-stops holds known start bytes gs piece old new Memory rs v s limits h = lacks bytes gs piece old new s limits h
-stops holds known start bytes gs piece old new (Refused r) rs v s limits h = refuses bytes gs piece old new (offset_in new.engine) r s limits h
+  abbrev pub fault_at : {rest all : List ℕ} {within offset : ℕ} {reason : Reason} → all ≡ s.front ++ rest → offset ≡ old.engine.start + within
+      → FirstFault own rest within reason → StreamFault own all gs offset reason
+  fault_at {rest} {all} {within} whole place first =
+      record { front = s.front; rest = rest; within = within; whole = whole; blobs = s.blobs; first = first; place = place ∙ ap (λ n. n + within) s.start }
 
--- a piece that was not cut
-pub stopped_at : {S : Type 0} (holds : S → Notes → Type 0) (offset : ℕ) (bytes : List ℕ) (gs : List Tree) (piece : List ℕ) (old new : Session) (stop : Stop) (more : List Row) (w v : S) (s : Stands bytes gs old) → old.is_whole ≡ false
-    → offset ≡ old.engine.start + offset_in new.engine → session_limits new ≡ session_limits old → FedBy holds old.engine (session_rows old) w piece (Err stop) new.engine more v → FedSession bytes gs piece (Err (fault_of offset stop)) new
-stopped_at holds offset bytes gs piece old new stop more w v s opened at limits run =
-    let k = begun_at bytes gs old s opened in
-    subst (λ n. FedSession bytes gs piece (Err (fault_of n stop)) new) (sym at) (stops holds (holds w (notes_at k)) old.engine.start bytes gs piece old new stop more v s limits (run s.rest k))
+  blob_at : {rest all : List ℕ} {g : Tree} → all ≡ s.front ++ rest → Blob own rest g → Stream own all (gs ++ g ∷ [])
+  blob_at {rest} {all} {g} whole blob =
+      subst (λ l. Stream own l (gs ++ g ∷ [])) (sym whole) (stream-append own s.front rest gs (g ∷ []) s.blobs (rest, [], sym (append-nil rest), blob, refl))
 
--- a piece was refused
-pub piece_stopped : {S : Type 0} (holds : S → Notes → Type 0) (bytes : List ℕ) (gs : List Tree) (piece : List ℕ) (old new : Session) (why : BlobFault) (more : List Row) (w v : S) (s : Stands bytes gs old) → old.is_whole ≡ false → session_limits new ≡ session_limits old
-    → HasEnd new.engine → FedPiece holds old.engine (session_rows old) w piece (Err why) new.engine more v → FedSession bytes gs piece (Err why) new
-piece_stopped holds bytes gs piece old new fault.Memory more w v s opened limits ends h = lacks bytes gs piece old new s limits (h s.rest (begun_at bytes gs old s opened))
-piece_stopped holds bytes gs piece old new (fault.At offset reason) more w v s opened limits ends h =
-    let r = h s.rest (begun_at bytes gs old s opened) in
-    subst (λ n. FedSession bytes gs piece (Err (fault.At n reason)) new) (sym r.2) (refuses bytes gs piece old new r.0 reason s limits r.1)
-piece_stopped holds bytes gs piece old new (fault.Device why) more w v s opened limits ends h =
-    let many = so_many bytes gs old s in
-    let taken : ℕ = old.engine.start + count_of old.engine in
-    let begun = begun_after bytes (take (2 ^ 62 - taken) piece) gs more old new.engine s limits ends (h.2 s.rest (begun_at bytes gs old s opened)) in
-    (h.0, subst (λ l. IsTooLong l bytes gs piece) (sym limits) (record { past = omega (arith, many, h.1); begun = subst (λ n. AreBegun (session_limits old) (bytes ++ take (2 ^ 62 - n) piece) gs) (sym many) begun }))
-piece_stopped holds bytes gs piece old new fault.Spent more w v s opened limits ends h = absurd h
+  pub none_at : {rest all : List ℕ} → all ≡ s.front ++ rest → rest ≡ [] → Stream own all gs
+  none_at whole none = subst (λ l. Stream own l gs) (sym (whole ∙ (ap (λ l. s.front ++ l) none ∙ append-nil s.front))) s.blobs
+
+  cut_at : {rest all : List ℕ} → all ≡ s.front ++ rest → AreCutOff own rest → AreBegun own all gs
+  cut_at whole (inl none) = inl (none_at whole none)
+  cut_at whole (inr (offset, cut)) = inr (old.engine.start + offset, fault_at whole refl cut)
+
+  part_at : {piece : List ℕ} → PartIn own s.rest piece → PartAt own bytes gs piece
+  part_at part = record { front = s.front; rest = s.rest; whole = s.whole; blobs = s.blobs; part = part }
+
+  -- what the end of a stream is answered
+  pub finished : {A : Type 0} (answer : Result A BlobFault) → EndsAt own old.engine.start s.rest answer → Finished own bytes gs answer
+  finished (Ok done) none = none_at s.whole none
+  finished (Err (fault.At offset reason)) h = fault_at s.whole h.2 h.1
+  finished (Err why) h = absurd h
+
+  -- ---- a piece was fed
+
+  module _ {S : Type 0} {holds : S → Notes → Type 0} {w v : S} {piece : List ℕ} (new : Session) (opened : old.is_whole ≡ false) (limits : session_limits new ≡ own) where
+    pub fed_ok : {used : ℕ} (ends : Bool) → Feeds holds old.engine (session_rows old) w piece (Ok (used, ends)) new.engine (session_rows new) v
+        → new.spent ≡ false → new.is_whole ≡ ends → (ends ≡ false → used ≡ length piece) → FedFlat bytes gs piece (Ok (used, ends)) new
+    fed_ok {used} false f live is all =
+        let h = f.fed s.rest (begun_at opened) in
+        let stood : StandsAt (s.rest ++ piece) (session_rows new) new.engine =
+        subst (λ l. StandsAt (s.rest ++ l) (session_rows new) new.engine) (ap (λ n. take n piece) (all refl) ∙ take-length piece) h.2 in (
+          all refl,
+          record {
+            front = s.front;
+            rest = s.rest ++ piece;
+            whole = further piece;
+            few = (let few = new.taken_few live in omega (
+              arith,
+              few,
+              h.1,
+              so_many,
+              length-append bytes piece,
+              length-append s.rest piece,
+              count_is s.rest (session_rows old) old.engine (begun_at opened),
+              count_is (s.rest ++ piece) (session_rows new) new.engine stood,
+            ));
+            blobs = subst (λ l. Stream l s.front gs) (sym limits) s.blobs;
+            begun = subst (λ (b : Bool). StandsAt (s.rest ++ piece) (if b then [] else session_rows new) new.engine) (sym is) stood;
+            start = h.1 ∙ s.start;
+            live = live;
+          },
+        )
+    fed_ok {used} true f live is all =
+        let h = f.fed s.rest (begun_at opened) in
+        let m = h.0 in
+        let piece_used : List ℕ = take used piece in
+        let stream : Stream (session_limits new) (bytes ++ piece_used) (gs ++ m.geometry ∷ []) =
+        subst (λ l. Stream l (bytes ++ piece_used) (gs ++ m.geometry ∷ [])) (sym limits) (blob_at (further piece_used) m.blob) in
+        let start : new.engine.start ≡ length (bytes ++ piece_used) =
+        omega (arith, h.3, so_many, count_is s.rest (session_rows old) old.engine (begun_at opened), length-append bytes piece_used, length-take-le used piece m.within) in
+        (m.geometry, (m.some, m.within, stream, between new stream start live is h.2), m.made)
+
+    pub fed_err : (why : BlobFault) {e : Engine} {more : List Row} → Feeds holds old.engine (session_rows old) w piece (Err why) e more v → FedSession bytes gs piece (Err why) new
+    fed_err fault.Memory f = rw limits (part_at (f.fed s.rest (begun_at opened)))
+    fed_err (fault.At offset reason) f =
+        let h = f.fed.0 s.rest (begun_at opened) in
+        rw limits (record {
+          used = h.used;
+          some = h.some;
+          within = h.within;
+          fault = λ more. fault_at (ap (λ l. (l ++ take h.used piece) ++ more) s.whole ∙ simp append_assoc) f.fed.1 (h.fault more);
+        })
+    fed_err (fault.Device why) f =
+        let h = f.fed in
+        let taken : ℕ = old.engine.start + count_of old.engine in
+        let begun = cut_at (further (take (2 ^ 62 - taken) piece)) (h.2 s.rest (begun_at opened)) in
+        (h.0, rw limits (record { past = (let past = h.1 in omega (arith, past, so_many)); begun = subst (λ n. AreBegun own (bytes ++ take (2 ^ 62 - n) piece) gs) (sym so_many) begun }))
+    fed_err fault.Spent f = absurd f.fed
+
+  -- ---- a blob of an input was read
+
+  module _ {S : Type 0} {holds : S → Notes → Type 0} {R : Type 0} {read : Ghosts R} {a c : Input R read} {w v : S} (new : Session) (opened : old.is_whole ≡ false) where
+    pub read_ok : {limits : Allowance} → own ≡ limits → session_limits new ≡ own → new.is_whole ≡ true → new.spent ≡ false → Reads holds old.engine (session_rows old) w a c (Ok true) new.engine (session_rows new) v
+        → IsThrough limits bytes gs a c (Ok true) new
+    read_ok here same closed live run =
+        let h = run.blob s.rest (begun_at opened) in
+        let m = h.1 in
+        let stream : Stream own (bytes ++ m.bytes) (gs ++ h.0 ∷ []) = blob_at (further m.bytes) m.blob in
+        let start : new.engine.start ≡ length (bytes ++ m.bytes) = omega (arith, h.5, s.start, length-append s.front (s.rest ++ m.bytes), ap (λ (l : List ℕ). length l) (further m.bytes)) in
+        record {
+          geometry = h.0;
+          more = m.bytes;
+          left = m.left;
+          blobs = subst (λ l. Stream l (bytes ++ m.bytes) (gs ++ h.0 ∷ [])) here stream;
+          stands = between new (subst (λ l. Stream l (bytes ++ m.bytes) (gs ++ h.0 ∷ [])) (sym same) stream) start live closed h.4;
+          made = h.3;
+          unspent = m.unspent;
+        }
+
+    pub read_none : (answer : Result Bool BlobFault) {e : Engine} {more : List Row} → ¬ (answer ≡ Ok true) → Reads holds old.engine (session_rows old) w a c answer e more v
+        → IsThrough own bytes gs a c answer new
+    read_none (Ok true) none run = absurd (none refl)
+    read_none (Ok false) none run =
+        let h = run.blob s.rest (begun_at opened) in
+        record { more = h.0; left = h.1; all = Consumes-whole (rest_of a) (rest_of c) h.0 (λ rest. rest ≡ h.0) h.1.consumed h.2 refl; blobs = none_at (further h.0) h.3 }
+    read_none (Err fault.Memory) none run = IfSome_then (rest_of a) (run.blob s.rest (begun_at opened)) (λ rest part. part_at part)
+    read_none (Err (fault.At offset reason)) none run = IfSome_then (rest_of a) (run.blob s.rest (begun_at opened)) (λ rest f. fault_at (further rest) f.2 f.1)
+    read_none (Err (fault.Device why)) none run = elim (run.blob s.rest (begun_at opened)) [
+      | inl h ↦ inl (record { more = h.0; left = h.1; begun = cut_at (further h.0) h.2; none = h.3 })
+      | inr h ↦ inr (h.0, (let ahead = h.1 in omega (arith, ahead, s.start, ap length s.whole, length-append s.front s.rest)))
+    ]
+    read_none (Err fault.Spent) none run = absurd (run.blob s.rest (begun_at opened))
+
+  -- ---- a geometry's tree
+
+  -- there is no memory for it
+  pub no_tree : (piece : List ℕ) (new : Session) (used : ℕ) → session_limits new ≡ own → FedFlat bytes gs piece (Ok (used, true)) new → PartAt (session_limits new) bytes gs piece
+  no_tree piece new used limits (g, fed, is) =
+      let stream : Stream own (s.front ++ (s.rest ++ take used piece)) (gs ++ g ∷ []) = rw (← limits, ← further (take used piece)) fed.2 in
+      let blob = blob_behind own s.front (s.rest ++ take used piece) gs g s.blobs stream in
+      rw limits (part_at (record { used = used; some = fed.0; within = fed.1; part = blob_judged own (s.rest ++ take used piece) g blob }))
 
 -- the tree that is made of the rows is the geometry
-pub gave_tree : TreeLaw → (bytes : List ℕ) (gs : List Tree) (piece : List ℕ) (new : Session) (used : ℕ) (h : Tree) → FedFlat bytes gs piece (Ok (used, true)) new → rows 0 h ≡ session_rows new → IsValid largest_limits h
-    → FedSession bytes gs piece (Ok (used, Some h)) new
-gave_tree law bytes gs piece new used h (g, fed, is) made valid =
-    subst (λ t. FedSession bytes gs piece (Ok (used, Some t)) new) (tree_made law (session_rows new) g h (last_tree (session_limits new) (bytes ++ take used piece) gs g fed.2) is made valid) fed
-
--- and so there is one
-pub gave_found : TreeLaw → (bytes : List ℕ) (gs : List Tree) (piece : List ℕ) (new : Session) (used : ℕ) (found : Option Tree) → FedFlat bytes gs piece (Ok (used, true)) new → (found ≡ None → session_rows new ≡ []) → IfSome found (λ h. rows 0 h ≡ session_rows new)
-    → IfSome found (λ h. IsValid largest_limits h) → FedSession bytes gs piece (Ok (used, found)) new
+pub gave_found : TreeLaw → (bytes : List ℕ) (gs : List Tree) (piece : List ℕ) (new : Session) (used : ℕ) (found : Option Tree) → FedFlat bytes gs piece (Ok (used, true)) new
+    → (found ≡ None → session_rows new ≡ []) → IfSome found (λ h. rows 0 h ≡ session_rows new) → IfSome found (λ h. IsValid largest_limits h) → FedSession bytes gs piece (Ok (used, found)) new
 gave_found law bytes gs piece new used None (g, fed, is) none made valid = absurd (not_none (session_rows new) g is (none refl))
-gave_found law bytes gs piece new used (Some h) fed none made valid = gave_tree law bytes gs piece new used h fed made valid
-
--- there is no memory for that tree
-pub no_tree : (bytes : List ℕ) (gs : List Tree) (piece : List ℕ) (old new : Session) (used : ℕ) → Stands bytes gs old → session_limits new ≡ session_limits old → FedFlat bytes gs piece (Ok (used, true)) new → PartAt (session_limits new) bytes gs piece
-no_tree bytes gs piece old new used s limits (g, fed, is) =
-    let blobs : Stream (session_limits new) s.front gs = subst (λ l. Stream l s.front gs) (sym limits) s.blobs in
-    let same : bytes ++ take used piece ≡ s.front ++ (s.rest ++ take used piece) = ap (λ l. l ++ take used piece) s.whole ∙ append_assoc s.front s.rest (take used piece) in
-    let behind = behind_stream (session_limits new) s.front (s.rest ++ take used piece) gs (gs ++ g ∷ []) blobs (subst (λ l. Stream (session_limits new) l (gs ++ g ∷ [])) same fed.2) in
-    let (front, rest, whole, blob, none) = subst (Stream (session_limits new) (s.rest ++ take used piece)) (sym (append_cancel_left gs (g ∷ []) behind.0 behind.1)) behind.2 in
-    let one : front ≡ s.rest ++ take used piece = sym (whole ∙ (ap (λ l. front ++ l) none ∙ append-nil front)) in
-    record {
-      front = s.front;
-      rest = s.rest;
-      whole = s.whole;
-      blobs = blobs;
-      part = record { used = used; some = fed.0; within = fed.1; part = subst (IsJudged (session_limits new)) one (blob_judged (session_limits new) front g blob) };
-    }
-
--- the stream ends between two blobs
-pub ended : (bytes : List ℕ) (gs : List Tree) (old : Session) (s : Stands bytes gs old) → s.rest ≡ [] → Stream (session_limits old) bytes gs
-ended bytes gs old s none = subst (λ l. Stream (session_limits old) l gs) (sym (s.whole ∙ (ap (λ l. s.front ++ l) none ∙ append-nil s.front))) s.blobs
-
--- the stream ends inside a blob
-pub cut_short : (bytes : List ℕ) (gs : List Tree) (old : Session) (within : ℕ) (s : Stands bytes gs old) → FirstFault (session_limits old) s.rest within Truncated → StreamFault (session_limits old) bytes gs (old.engine.start + within) Truncated
-cut_short bytes gs old within s first = record { front = s.front; rest = s.rest; within = within; whole = s.whole; blobs = s.blobs; first = first; place = ap (λ n. n + within) s.start }
-
--- what the end of a stream is answered
-pub finished_with : (bytes : List ℕ) (gs : List Tree) (old : Session) (s : Stands bytes gs old) (count : ℕ) → IsEnd (session_limits old) s.rest (offset_in old.engine) (is_ok (end_at (place_in old.engine) count)) → Finished (session_limits old) bytes gs (end_at (place_in old.engine) count)
-finished_with bytes gs old s zero none = ended bytes gs old s none
-finished_with bytes gs old s (suc n) first = cut_short bytes gs old (offset_in old.engine) s first
-
--- bytes of the piece were used, or those up to the end of a geometry
-pub fed_session : {S : Type 0} (holds : S → Notes → Type 0) (known : Type 0) (bytes : List ℕ) (gs : List Tree) (piece : List ℕ) (old new : Session) (used : ℕ) (ends : Bool) (v : S) (s : Stands bytes gs old) → (old.engine.start + count_of old.engine) + used ≤ 2 ^ 62
-    → (ends ≡ false → used ≡ length piece) → session_limits new ≡ session_limits old → new.spent ≡ false → new.is_whole ≡ ends → IsFed holds known (session_limits old) old.engine.start s.rest piece (Ok (used, ends)) (session_rows new) new.engine v
-    → FedFlat bytes gs piece (Ok (used, ends)) new
-fed_session holds known bytes gs piece old new used false v s few all limits live is f =
-    went_on bytes gs piece old new used s (omega (arith, few, all refl, so_many bytes gs old s)) limits f.1 live is (all refl) f.2
-fed_session holds known bytes gs piece old new used true v s few all limits live is f = gave bytes gs piece old new used s (omega (arith, few, so_many bytes gs old s)) limits f.3 live is f.0 f.2
+gave_found law bytes gs piece new used (Some h) (g, fed, is) none made valid =
+    subst (λ t. FedSession bytes gs piece (Ok (used, Some t)) new) (tree_made law (session_rows new) g h (last_tree (session_limits new) (bytes ++ take used piece) gs g fed.2) is made valid) fed

@@ -4,5 +4,4 @@ pub mod Sessions
 pub mod Readers
 pub mod Located
 pub mod Through
-pub mod Spanned
 pub mod Feeding

@@ -10,8 +10,9 @@ use Rattle.twkb_grammar.specs.declared.span.Span.{Span}
 use Rattle.twkb_io.specs.declared.input.Input.{Input}
 use Rattle.twkb_io.specs.Inputs.{given}
 use Rattle.twkb_engine.specs.Standing.{HoldsSpans}
-use Rattle.twkb_blob.specs.Readers.{Makes, IsNext}
+use Rattle.twkb_blob.specs.Readers.{Makes, IsNext, PartAhead}
 use Rattle.twkb_blob.specs.declared.fault.BlobFault.{BlobFault}
+use Rattle.twkb_blob.specs.declared.fault.BlobFault.TheVariants as fault
 use Rattle.twkb_blob.specs.declared.spans.Located.{Located}
 
 -- the blob of this geometry left the input, and these are its spans at the place where it stood
@@ -37,8 +38,13 @@ IsSpanned limits old new (Ok false) rs spans = IsNext limits old new (Ok None)
 IsSpanned limits old new (Err why) rs spans = IsNext limits old new (Err why)
 
 -- The answer to a call that reads a blob of an input into a form, and its spans: a geometry whose blob left the input,
--- with its rows and its spans; or an answer without a geometry.
-abbrev pub ReadsInto : {S : Type 0} → (S → Notes → Type 0) → {R : Type 0} {read : Ghosts R} → Allowance → Input R read → Input R read → Result Bool BlobFault → List Row → S → Type 0
-ReadsInto holds limits old new (Ok true) rs spans = (g : Tree) × (made : Makes limits [] old new g) × HoldsSpans holds spans (given old) made.blob × (rs ≡ rows 0 g)
-ReadsInto holds limits old new (Ok false) rs spans = IsNext limits old new (Ok None)
-ReadsInto holds limits old new (Err why) rs spans = IsNext limits old new (Err why)
+-- with its rows and its spans; or no memory for a part of a blob that is there; or another answer without a geometry.
+abbrev pub IsInto : {S : Type 0} → (S → Notes → Type 0) → {R : Type 0} {read : Ghosts R} → Allowance → Input R read → Input R read → Result Bool BlobFault → List Row → S → Type 0
+IsInto holds limits old new (Ok true) rs spans = (g : Tree) × (made : Makes limits [] old new g) × HoldsSpans holds spans (given old) made.blob × (rs ≡ rows 0 g)
+IsInto holds limits old new (Ok false) rs spans = IsNext limits old new (Ok None)
+IsInto holds limits old new (Err fault.Memory) rs spans = PartAhead limits [] old
+IsInto holds limits old new (Err why) rs spans = IsNext limits old new (Err why)
+
+-- That is its answer.
+pub record ReadsInto {S : Type 0} (holds : S → Notes → Type 0) {R : Type 0} {read : Ghosts R} (limits : Allowance) (old new : Input R read) (answer : Result Bool BlobFault) (rs : List Row) (spans : S) : Type 0 where
+  pub is : IsInto holds limits old new answer rs spans

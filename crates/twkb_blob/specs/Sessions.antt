@@ -8,8 +8,7 @@ use Rattle.twkb_grammar.specs.Blob.{Stream}
 use Rattle.twkb_grammar.specs.Fault.{StreamFault, Truncated}
 use Rattle.twkb_engine.specs.State.{allowance_of}
 use Rattle.twkb_engine.specs.Notes.{open_in}
-use Rattle.twkb_engine.specs.Standing.{StandsAt, IsEnd, held_in, offset_in}
-use Rattle.twkb_engine.specs.declared.engine.Engine.{Engine}
+use Rattle.twkb_engine.specs.Standing.{StandsAt, held_in}
 use Rattle.twkb_engine.specs.Stops.{reason_of}
 use Rattle.twkb_body.specs.JudgedParts.{PartIn}
 use Rattle.twkb_io.specs.declared.input.InFault.TheVariants.{TooLong}
@@ -81,10 +80,6 @@ AreOpen is n = n + sum_by (λ i. ended_by i.role) is ≡ sum_by (λ i. begun_by 
 -- of its items before the place where the next is missing.
 abbrev pub FramesOf : Allowance → List ℕ → List Tree → ℕ → Type 0
 FramesOf limits bytes gs n = (Stream limits bytes gs × (n ≡ 0)) ⊎ ((offset : ℕ) × (cut : StreamFault limits bytes gs offset Truncated) × AreOpen cut.first.fault.before n)
-
--- wherever the engine stands, the bytes so far end between two blobs, or inside one
-abbrev pub HasEnd : Engine → Type 0
-HasEnd e = (bs : List ℕ) (rs : List Row) → StandsAt bs rs e → (between : Bool) × IsEnd (allowance_of e) bs (offset_in e) between
 
 -- the piece goes past 2^62 bytes, and up to there no geometry ends in it and no item is refused
 pub record IsTooLong (limits : Allowance) (bytes : List ℕ) (gs : List Tree) (piece : List ℕ) : Type 0 where

@@ -11,13 +11,11 @@ use Rattle.twkb_io.specs.declared.input.InFault.{InFault}
 use Rattle.twkb_io.specs.declared.input.InFault.TheVariants as stopped
 use Rattle.twkb_io.specs.Inputs.{given, rest_of, is_spent as input_spent}
 use Rattle.twkb_engine.specs.Stops.{reason_of}
-use Rattle.twkb_blob.specs.Readers.{Left, HasNone, is_spent, has_ended, reader_input}
-use Rattle.twkb_blob.specs.Spanned.{NotesEnd}
-use Rattle.twkb_blob.specs.Sessions.{AreBegun, PartAt, Stands, is_spent as is_finished, session_limits, session_rows}
+use Rattle.twkb_blob.specs.Readers.{Left, HasNone, is_spent, has_ended}
+use Rattle.twkb_blob.specs.Sessions.{AreBegun, PartAt, Stands, session_limits, session_rows}
 use Rattle.twkb_blob.specs.declared.fault.BlobFault.{BlobFault}
 use Rattle.twkb_blob.specs.declared.fault.BlobFault.TheVariants as fault
 use Rattle.twkb_blob.specs.declared.reader.Reader.{Reader}
-use Rattle.twkb_grammar.specs.Noting.{Notes}
 use Rattle.twkb_blob.specs.declared.session.Session.{Session}
 
 -- A session of these limits stands between two blobs, after as many bytes as the input gave out.
@@ -72,12 +70,3 @@ IsThrough limits bytes gs old new (Err fault.Memory) s = IfSome (rest_of old) (�
 IsThrough limits bytes gs old new (Err (fault.Device why)) s = Halts limits bytes gs why old new
 IsThrough limits bytes gs old new (Err fault.Spent) s = ⊥
 IsThrough limits bytes gs old new (Err (fault.At offset reason)) s = IfSome (rest_of old) (λ rest. StreamFault limits (bytes ++ rest) gs offset (reason_of reason))
-
--- The answer to a call that reads a blob of an input through a session, and its spans; without a geometry the session
--- has no rows and is finished.
-pub record ReadsThrough {S : Type 0} (holds : S → Notes → Type 0) {R : Type 0} {read : Ghosts R} (old new : Reader R read) (s t : Session) (answer : Result Bool BlobFault) (w v : S) : Type 0 where
-  pub through : (bytes : List ℕ) (gs : List Tree) → Stands bytes gs s → IfGoingOn old (IsThrough (session_limits s) bytes gs (reader_input old) (reader_input new) answer t)
-  pub noted : answer ≡ Ok true → NotesEnd holds (reader_input old) (reader_input new) s t w v
-  pub limits : session_limits t ≡ session_limits s
-  pub cleared : (answer ≡ Ok true) ⊎ (session_rows t ≡ [])
-  pub finished : (answer ≡ Ok true) ⊎ (is_finished t ≡ true)

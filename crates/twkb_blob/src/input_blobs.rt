@@ -1,12 +1,12 @@
 //! A blob that is read from the held bytes of an input, or from a piece of a stream.
-ghost use Rattle.std.specs.Prelude.{◌≡◌, ◌+◌, ◌<◌, ◌≤◌, ◌^◌, ℕ, List, false, is_ok, length, IfOk, IfErr, OnErr};
+ghost use Rattle.std.specs.Prelude.{◌≡◌, ◌+◌, ◌<◌, ◌≤◌, ◌^◌, ◌∷◌, ℕ, List, [], false, true, Ok, Err, length, if◌then◌else◌, IfOk, IfErr, OnErr, OnOk};
 ghost use Rattle.twkb_tree.specs.Rows.{Row};
 ghost use Rattle.twkb_io.specs.Taps.{count_failure};
-ghost use Rattle.twkb_io.specs.Inputs.{input_failures, input_tap};
+ghost use Rattle.twkb_io.specs.Inputs.{given, held_of, input_failures, input_tap, is_spent};
 ghost use Rattle.twkb_engine.specs.State.{allowance_of};
-ghost use Rattle.twkb_engine.specs.Standing.{StandsAt, IsAlive, IsEnd, count_of, offset_in, place_in};
-ghost use Rattle.twkb_blob.specs.Readers.{failed_by_read};
-ghost use Rattle.twkb_blob.specs.Feeding.{FedPiece, ReadsBlob, ends_at};
+ghost use Rattle.twkb_engine.specs.Standing.{StandsAt, IsAlive, count_of, place_in};
+ghost use Rattle.twkb_blob.specs.Readers.{Left, failed_by_read};
+ghost use Rattle.twkb_blob.specs.Feeding.{EndsAt, Feeds, Fills, Reads, Turns, with_one};
 
 use crate::fault::{BlobFault, fault_at};
 use std::io::Read;
@@ -40,19 +40,26 @@ pub(crate) fn feed_piece<S: SpanNotes>(
 ) -> Result<(usize, bool), BlobFault>
     requires counted { place_in engine.old ≤ 2 ^ 62 }
     requires alive { IsAlive flat.old engine.old }
-    ensures limits { engine.new.limits ≡ engine.old.limits }
     ensures within { IfOk result (λ fed. fed.0 ≤ length piece.now) }
     ensures all { IfOk result (λ fed. fed.1 ≡ false → fed.0 ≡ length piece.now) }
-    ensures room { IfOk result (λ fed. (engine.old.start + count_of engine.old) + fed.0 ≤ 2 ^ 62) }
+    ensures few { IfOk result (λ fed. engine.new.start + count_of engine.new ≤ 2 ^ 62) }
+    ensures alive { IfOk result (λ fed. IsAlive (if fed.1 then [] else flat.new) engine.new) }
     ensures unread { failed_by_read result ≡ false }
-    ensures fed { FedPiece S.holds engine.old flat.old spans.old piece.now result engine.new flat.new spans.new }
+    ensures fed { Feeds S.holds engine.old flat.old spans.old piece.now result engine.new flat.new spans.new }
 {
     let start = engine.start();
     let taken = engine.offset() + engine.held() as u64;
-    let count = room_in(taken, piece)?;
+    // learnt: where the engine stands, the bytes end inside a blob, or there are none
+    let _learnt = engine.is_between();
+    let count = match room_in(taken, piece) {
+        Ok(count) => count,
+        Err(fault) => return Err(fault),
+    };
     match engine.feed(flat, spans, &piece[..count]) {
         Ok((used, ends)) => {
             if !ends && count < piece.len() {
+                // learnt: the same of where it stands now
+                let _now = engine.is_between();
                 return Err(BlobFault::Device(InFault::TooLong));
             }
             Ok((used, ends))
@@ -61,11 +68,34 @@ pub(crate) fn feed_piece<S: SpanNotes>(
     }
 }
 
+// Feeds an engine a byte of a stream that has room for it; returns whether a blob ends with it.
+#[inline(always)]
+pub(crate) fn feed_one<S: SpanNotes>(
+    engine: &mut Engine,
+    flat: &mut Flat,
+    spans: &mut S,
+    byte: u8,
+) -> Result<bool, BlobFault>
+    requires room { engine.old.start + count_of engine.old < 2 ^ 62 }
+    requires alive { IsAlive flat.old engine.old }
+    ensures few { OnOk result (engine.new.start + count_of engine.new ≤ 2 ^ 62) }
+    ensures alive { IfOk result (λ ends. IsAlive (if ends then [] else flat.new) engine.new) }
+    ensures unread { failed_by_read result ≡ false }
+    ensures fed { Feeds S.holds engine.old flat.old spans.old (byte ∷ []) (with_one result) engine.new flat.new spans.new }
+{
+    let began = engine.start();
+    match engine.take_byte(flat, spans, byte) {
+        Ok(ends) => Ok(ends),
+        Err(stop) => Err(fault_at(began + engine.bytes(), stop)),
+    }
+}
+
 // Judges the end of a stream: `Ok` if no blob is begun, else `Truncated` where the next item is
 // missing.
 pub(crate) fn at_end(engine: &Engine) -> Result<(), BlobFault>
-    ensures answer { result ≡ ends_at engine.now }
-    ensures end { (bs : List ℕ) (rs : List Row) → StandsAt bs rs engine.now → IsEnd (allowance_of engine.now) bs (offset_in engine.now) (is_ok result) }
+    ensures end { (bs : List ℕ) (rs : List Row) → StandsAt bs rs engine.now → EndsAt (allowance_of engine.now) engine.now.start bs result }
+    ensures unread { failed_by_read result ≡ false }
+    ensures unspent { result ≡ Err BlobFault.Spent → ⊥ }
 {
     if engine.is_between() {
         return Ok(());
@@ -74,6 +104,58 @@ pub(crate) fn at_end(engine: &Engine) -> Result<(), BlobFault>
         offset: engine.offset(),
         reason: BlobReason::Truncated,
     })
+}
+
+// Has an input hold bytes, by a read if it holds none: false at its end, if the engine is inside
+// no blob there.
+#[inline(always)]
+fn fill_held<R: Read>(input: &mut Input<'_, R>, engine: &Engine) -> Result<bool, BlobFault>
+    ensures same_tap { (input_tap input.new).ghost_name ≡ (input_tap input.old).ghost_name }
+    ensures failures { input_failures input.new ≡ count_failure (failed_by_read result) (input_failures input.old) }
+    ensures left { Left input.old input.new [] }
+    ensures some { result ≡ Ok true → 0 < length (held_of input.new) }
+    ensures live { OnOk result (is_spent input.new ≡ false) }
+    ensures filled { (bs : List ℕ) (rs : List Row) → StandsAt bs rs engine.now → Fills (allowance_of engine.now) engine.now.start bs input.old input.new result }
+{
+    // learnt: where the engine stands, the bytes end inside a blob, or there are none
+    let _learnt = engine.is_between();
+    if let Err(fault) = input.fill() {
+        return Err(BlobFault::Device(fault));
+    }
+    if !input.held().is_empty() {
+        return Ok(true);
+    }
+    match at_end(engine) {
+        Ok(()) => Ok(false),
+        Err(fault) => Err(fault),
+    }
+}
+
+// Feeds an engine the held bytes of an input, up to the end of a blob; returns whether one ended.
+#[inline(always)]
+fn feed_held<R: Read, S: SpanNotes>(
+    input: &mut Input<'_, R>,
+    engine: &mut Engine,
+    flat: &mut Flat,
+    spans: &mut S,
+) -> Result<bool, BlobFault>
+    requires counted { place_in engine.old ≤ 2 ^ 62 }
+    requires alive { IsAlive flat.old engine.old }
+    requires live { is_spent input.old ≡ false }
+    requires some { 0 < length (held_of input.old) }
+    ensures few { OnOk result (engine.new.start + count_of engine.new ≤ 2 ^ 62) }
+    ensures alive { IfOk result (λ ends. IsAlive (if ends then [] else flat.new) engine.new) }
+    ensures given { result ≡ Ok false → given input.old < given input.new }
+    ensures fed { Turns S.holds engine.old flat.old spans.old input.old input.new result engine.new flat.new spans.new }
+{
+    let piece = input.held();
+    match feed_piece(engine, flat, spans, piece) {
+        Ok((used, ends)) => {
+            input.advance(used);
+            Ok(ends)
+        }
+        Err(fault) => Err(fault),
+    }
 }
 
 // Reads a blob from an input into a form, and its spans; returns whether there was one.
@@ -86,24 +168,20 @@ pub(crate) fn read_blob<R: Read, S: SpanNotes>(
 ) -> Result<bool, BlobFault>
     requires counted { place_in engine.old ≤ 2 ^ 62 }
     requires alive { IsAlive flat.old engine.old }
-    ensures same_tap { (input_tap input.new).ghost_name ≡ (input_tap input.old).ghost_name }
-    ensures limits { engine.new.limits ≡ engine.old.limits }
-    ensures failures { input_failures input.new ≡ count_failure (failed_by_read result) (input_failures input.old) }
-    ensures read { ReadsBlob S.holds engine.old flat.old spans.old input.old input.new result engine.new flat.new spans.new }
+    ensures few { result ≡ Ok true → engine.new.start + count_of engine.new ≤ 2 ^ 62 }
+    ensures alive { result ≡ Ok true → IsAlive [] engine.new }
+    ensures read { Reads S.holds engine.old flat.old spans.old input.old input.new result engine.new flat.new spans.new }
 {
     loop {
-        if let Err(fault) = input.fill() {
-            return Err(BlobFault::Device(fault));
+        match fill_held(input, engine) {
+            Ok(true) => {}
+            Ok(false) => return Ok(false),
+            Err(fault) => return Err(fault),
         }
-        let piece = input.held();
-        if piece.is_empty() {
-            at_end(engine)?;
-            return Ok(false);
-        }
-        let (used, ends) = feed_piece(engine, flat, spans, piece)?;
-        input.advance(used);
-        if ends {
-            return Ok(true);
+        match feed_held(input, engine, flat, spans) {
+            Ok(false) => {}
+            Ok(true) => return Ok(true),
+            Err(fault) => return Err(fault),
         }
     }
 }

@@ -24,6 +24,24 @@ pub(crate) enum State {
     Spent,
 }
 
+impl State {
+    ghost use Rattle.twkb_blob.specs.Readers.{ended_at, spent_at};
+
+    // The state after this answer of a call that read.
+    #[inline(always)]
+    fn after(found: Result<bool, BlobFault>) -> State
+        ensures spent { spent_at result ≡ is_err found }
+        ensures ended { found ≡ Ok false → ended_at result ≡ true }
+        ensures going_on { ¬ (found ≡ Ok false) → ended_at result ≡ false }
+    {
+        match found {
+            Ok(true) => State::Ready,
+            Ok(false) => State::Ended,
+            Err(_) => State::Spent,
+        }
+    }
+}
+
 /// The blobs of an input, one after another, each read as its bytes come.
 #[derive(Drop)]
 pub struct Reader<'a, R: Read> {
@@ -36,7 +54,7 @@ impl<'a, R: Read> Reader<'a, R> {
     ghost use Rattle.twkb_blob.specs.Readers.{reader_input, reader_limits, is_spent, has_ended, ready_at, IsNext, IsNextFlat, PartAhead, ReadsNext};
     ghost use Rattle.twkb_blob.specs.Located.{IsLocated, IsSpanned, ReadsInto};
     ghost use Rattle.twkb_blob.specs.Sessions.{Stands, is_spent as is_finished, session_limits, session_rows};
-    ghost use Rattle.twkb_blob.specs.Through.{IfGoingOn, IsAbreast, IsThrough, ReadsThrough};
+    ghost use Rattle.twkb_blob.specs.Through.{IfGoingOn, IsAbreast, IsThrough};
 
     /// A reader of what the input still has. Takes no memory.
     pub fn new(input: Input<'a, R>, limits: Limits) -> Reader<'a, R>
@@ -129,7 +147,8 @@ impl<'a, R: Read> Reader<'a, R> {
         flat.clear();
         spans.notes.restart();
         let found = self.read_into(alloc, flat, &mut spans.notes);
-        keep_spans(found, spans)
+        keep_spans(found, spans);
+        found
     }
 
     /// Reads the next geometry through a session, as `next_through` does, and puts the spans of its
@@ -156,7 +175,8 @@ impl<'a, R: Read> Reader<'a, R> {
     {
         spans.notes.restart();
         let found = self.read_through(session, &mut spans.notes);
-        keep_spans(found, spans)
+        keep_spans(found, spans);
+        found
     }
 
     /// The next geometry, as `next` gives it, with the spans of its headers, whose offsets count
@@ -188,23 +208,6 @@ impl<'a, R: Read> Reader<'a, R> {
         }
     }
 
-    // Notes what a call that read answers.
-    #[inline(always)]
-    fn answered(&mut self, found: Result<bool, BlobFault>) -> Result<bool, BlobFault>
-        ensures same { result ≡ found }
-        ensures spent { is_spent self.new ≡ is_err found }
-        ensures ended { found ≡ Ok false → has_ended self.new ≡ true }
-        ensures going_on { ¬ (found ≡ Ok false) → has_ended self.new ≡ false }
-        ensures kept { (self.new.input ≡ self.old.input) × (self.new.limits ≡ self.old.limits) }
-    {
-        self.state = match found {
-            Ok(true) => State::Ready,
-            Ok(false) => State::Ended,
-            Err(_) => State::Spent,
-        };
-        found
-    }
-
     // Reads the next blob into a form without rows, and its spans. After a false and after an `Err`
     // the form has no rows.
     #[inline(always)]
@@ -218,8 +221,10 @@ impl<'a, R: Read> Reader<'a, R> {
         requires no_notes { S.holds spans.old no_notes }
         ensures shared { ReadsNext false self.old self.new result }
         ensures read { IfGoingOn self.old (ReadsInto S.holds (reader_limits self.old) (reader_input self.old) (reader_input self.new) result flat.new spans.new) }
+        ensures next { IfGoingOn self.old (IsNextFlat (reader_limits self.old) (reader_input self.old) (reader_input self.new) result flat.new) }
         ensures memory { result ≡ Err BlobFault.Memory → PartAhead (reader_limits self.old) [] (reader_input self.old) }
         ensures cleared { (result ≡ Ok true) ⊎ (flat.new ≡ []) }
+        ensures some { result ≡ Ok true → 0 < length flat.new }
         ensures spent { result ≡ Err BlobFault.Spent → is_spent self.old ≡ true }
     {
         if !self.is_ready()? {
@@ -227,9 +232,9 @@ impl<'a, R: Read> Reader<'a, R> {
         }
         let mut engine = Engine::new(alloc, self.limits, self.input.offset());
         let found = read_blob(&mut self.input, &mut engine, flat, spans);
-        // learnt: where the engine stands, the bytes end inside a blob, or there are none
-        let _learnt = engine.is_between();
-        self.answered(keep_rows(found, flat))
+        self.state = State::after(found);
+        keep_rows(found, flat);
+        found
     }
 
     // Reads the next blob through a session, and its spans.
@@ -239,9 +244,18 @@ impl<'a, R: Read> Reader<'a, R> {
         session: &mut Session,
         spans: &mut S,
     ) -> Result<bool, BlobFault>
+        requires no_notes { S.holds spans.old no_notes }
         ensures shared { ReadsNext false self.old self.new result }
+        ensures read { IsAbreast (reader_limits self.old) (reader_input self.old) session.old → IfGoingOn self.old (ReadsInto S.holds (reader_limits self.old) (reader_input self.old) (reader_input self.new) result (session_rows session.new) spans.new) }
+        ensures next { IsAbreast (reader_limits self.old) (reader_input self.old) session.old → IfGoingOn self.old (IsNextFlat (reader_limits self.old) (reader_input self.old) (reader_input self.new) result (session_rows session.new)) }
+        ensures memory { IsAbreast (reader_limits self.old) (reader_input self.old) session.old → result ≡ Err BlobFault.Memory → PartAhead (reader_limits self.old) [] (reader_input self.old) }
+        ensures cleared { (result ≡ Ok true) ⊎ (session_rows session.new ≡ []) }
+        ensures some { IsAbreast (reader_limits self.old) (reader_input self.old) session.old → result ≡ Ok true → 0 < length (session_rows session.new) }
+        ensures through { (bytes : List ℕ) (gs : List Tree) → Stands bytes gs session.old → IfGoingOn self.old (IsThrough (session_limits session.old) bytes gs (reader_input self.old) (reader_input self.new) result session.new) }
+        ensures abreast { IsAbreast (reader_limits self.old) (reader_input self.old) session.old → result ≡ Ok true → IsAbreast (reader_limits self.old) (reader_input self.new) session.new }
+        ensures session_limits { session_limits session.new ≡ session_limits session.old }
+        ensures finished { (result ≡ Ok true) ⊎ (is_finished session.new ≡ true) }
         ensures spent_session { IfGoingOn self.old (is_finished session.old ≡ true → result ≡ Err BlobFault.Spent) }
-        ensures read { ReadsThrough S.holds self.old self.new session.old session.new result spans.old spans.new }
     {
         match self.is_ready() {
             Ok(true) => {}
@@ -251,7 +265,8 @@ impl<'a, R: Read> Reader<'a, R> {
             }
         }
         let found = session.read_from(&mut self.input, spans);
-        self.answered(found)
+        self.state = State::after(found);
+        found
     }
 
     // The tree of the rows of a blob that was read. Without memory for it the reader is spent.
@@ -274,29 +289,25 @@ impl<'a, R: Read> Reader<'a, R> {
     }
 }
 
-// Leaves rows in a form only if a geometry was read; returns the answer.
+// Leaves rows in a form only if a geometry was read.
 #[inline(always)]
-fn keep_rows(found: Result<bool, BlobFault>, flat: &mut Flat) -> Result<bool, BlobFault>
-    ensures same { result ≡ found }
+fn keep_rows(found: Result<bool, BlobFault>, flat: &mut Flat)
     ensures made { found ≡ Ok true → flat.new ≡ flat.old }
     ensures cleared { (found ≡ Ok true) ⊎ (flat.new ≡ []) }
 {
     if let Ok(true) = found {
-        return found;
+        return;
     }
     flat.clear();
-    found
 }
 
-// Leaves spans in a list only if a geometry was read; returns the answer.
-fn keep_spans(found: Result<bool, BlobFault>, spans: &mut Spans) -> Result<bool, BlobFault>
-    ensures same { result ≡ found }
+// Leaves spans in a list only if a geometry was read.
+fn keep_spans(found: Result<bool, BlobFault>, spans: &mut Spans)
     ensures made { found ≡ Ok true → spans.new ≡ spans.old }
     ensures cleared { (found ≡ Ok true) ⊎ (spans.new ≡ []) }
 {
     if let Ok(true) = found {
-        return found;
+        return;
     }
     spans.clear();
-    found
 }

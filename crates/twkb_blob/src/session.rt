@@ -2,14 +2,15 @@
 ghost use Rattle.std.specs.Prelude.{◌≡◌, ◌<◌, ◌≤◌, ◌^◌, ◌↔◌, ◌+◌, ◌⊎◌, ◌∷◌, [], if◌then◌else◌, List, ℕ, true, false, Ok, Err, None, is_err, length, IfOk, IfErr, IfSome};
 ghost use Rattle.twkb_tree.specs.Tree.{Tree};
 ghost use Rattle.twkb_tree.specs.Rows.{rows};
-ghost use Rattle.twkb_tree.specs.Limits.{IsValid, largest_limits};
+ghost use Rattle.twkb_tree.specs.Limits.{Allowance, IsValid, largest_limits};
 ghost use Rattle.twkb_io.specs.Taps.{count_failure};
 ghost use Rattle.twkb_io.specs.Inputs.{input_failures, input_tap};
+ghost use Rattle.twkb_grammar.specs.Noting.{no_notes};
 ghost use Rattle.twkb_engine.specs.Standing.{IsAlive, count_of};
 ghost use Rattle.twkb_blob.specs.Readers.{failed_by_read};
 
-use crate::fault::{BlobFault, fault_at};
-use crate::input_blobs::{at_end, feed_piece, read_blob};
+use crate::fault::BlobFault;
+use crate::input_blobs::{at_end, feed_one, feed_piece, read_blob};
 use std::alloc::{AllocError, Global};
 use std::io::Read;
 use twkb_engine::{Engine, NoSpans, SpanNotes};
@@ -49,9 +50,9 @@ fn refused(fault: BlobFault) -> Result<(usize, Option<Geometry>), BlobFault>
 }
 
 impl Session {
-    ghost use Rattle.twkb_blob.specs.Sessions.{Stands, FedFlat, FedSession, Finished, HeldOf, FramesOf, begun_rows, HasEnd, with_end, is_spent, session_limits, session_held, session_open, session_rows};
-    ghost use Rattle.twkb_blob.specs.Through.{IsThrough};
-    ghost use Rattle.twkb_blob.specs.Spanned.{NotesEnd};
+    ghost use Rattle.twkb_blob.specs.Sessions.{Stands, FedFlat, FedSession, Finished, HeldOf, FramesOf, begun_rows, with_end, is_spent, session_limits, session_held, session_open, session_rows};
+    ghost use Rattle.twkb_blob.specs.Located.{ReadsInto};
+    ghost use Rattle.twkb_blob.specs.Through.{IsAbreast, IsThrough};
 
     /// A session before the first byte. Takes no memory.
     pub fn new(alloc: Global, limits: Limits) -> Session
@@ -128,10 +129,7 @@ impl Session {
         ensures spent { self.new.spent ≡ true }
         ensures engine { self.new.engine ≡ self.old.engine }
         ensures rows { session_rows self.new ≡ [] }
-        ensures end { HasEnd self.new.engine }
     {
-        // learnt: the engine stands after bytes that it took
-        let _learnt = self.engine.is_between();
         self.rows.flat.clear();
         self.spent = true;
     }
@@ -197,11 +195,7 @@ impl Session {
                 self.spent = false;
                 Ok(used)
             }
-            Err(fault) => {
-                // learnt: the engine stands after bytes that it took
-                let _learnt = self.engine.is_between();
-                Err(fault)
-            }
+            Err(fault) => Err(fault),
         }
     }
 
@@ -218,18 +212,14 @@ impl Session {
         ensures stays { is_spent self.new ≡ is_err result }
         ensures limits { session_limits self.new ≡ session_limits self.old }
     {
-        let start = self.engine.start();
-        match self
-            .engine
-            .take_byte(&mut self.rows.flat, &mut NoSpans, byte)
-        {
+        match feed_one(&mut self.engine, &mut self.rows.flat, &mut NoSpans, byte) {
             Ok(ends) => {
                 self.is_whole = ends;
                 Ok(1)
             }
-            Err(stop) => {
+            Err(fault) => {
                 self.spent = true;
-                Err(fault_at(start + self.engine.bytes(), stop))
+                Err(fault)
             }
         }
     }
@@ -242,6 +232,7 @@ impl Session {
         input: &mut Input<'_, R>,
         spans: &mut S,
     ) -> Result<bool, BlobFault>
+        requires no_notes { S.holds spans.old no_notes }
         ensures same_tap { (input_tap input.new).ghost_name ≡ (input_tap input.old).ghost_name }
         ensures limits { session_limits self.new ≡ session_limits self.old }
         ensures failures { input_failures input.new ≡ count_failure (failed_by_read result) (input_failures input.old) }
@@ -249,7 +240,7 @@ impl Session {
         ensures cleared { (result ≡ Ok true) ⊎ (session_rows self.new ≡ []) }
         ensures finished { (result ≡ Ok true) ⊎ (is_spent self.new ≡ true) }
         ensures spent { is_spent self.old ≡ true → result ≡ Err BlobFault.Spent }
-        ensures noted { result ≡ Ok true → NotesEnd S.holds input.old input.new self.old self.new spans.old spans.new }
+        ensures read { (limits : Allowance) → IsAbreast limits input.old self.old → ReadsInto S.holds limits input.old input.new result (session_rows self.new) spans.new }
     {
         if self.spent {
             self.give_up();

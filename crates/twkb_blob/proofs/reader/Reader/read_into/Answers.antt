@@ -1,15 +1,39 @@
 use Rattle.std.proofs.Common.{◌∙◌, subst}
-use Rattle.twkb_blob.specs.Readers.{reader_input, reader_limits}
-use Rattle.twkb_blob.specs.Feeding.{ReadsBlob}
-use Rattle.twkb_blob.proofs.Answering.{read_next, rows_away}
+use Rattle.twkb_blob.specs.Feeding.{Reads}
+use Rattle.twkb_blob.proofs.Answering.{flat_next, read_next, same_answer, some_rows}
 use Rattle.twkb_blob.proofs.reader.Reader.read_into.Goals as goal
 
 pub returns-clause-read : goal.returns-clause-read
 returns-clause-read g c = λ live going.
-    let old = c.args.self.now in
     let read = c.read_blob-found in
-    let told = subst (λ l. ReadsBlob g.S.SpanNotes.holds c.new-engine.result l c.args.spans.now (reader_input old) read.new.input read.result read.new.engine read.new.flat read.new.spans) c.requires.empty read.ensures.read in
-    let next = read_next g.S.SpanNotes.holds (reader_limits old) c.new-engine.result read.new.engine read.new.flat c.args.spans.now read.new.spans (reader_input old) read.new.input c.new-engine.ensures.limits
-    (c.new-engine.ensures.begins.start ∙ c.offset.ensures.offset) c.new-engine.ensures.stands c.is_between-learnt.result read.result read.ensures.limits c.is_between-learnt.ensures.ended c.requires.no_notes told in
-    rows_away g.S.SpanNotes.holds (reader_limits old) (reader_input old) (reader_input c.answered.new.self) read.new.input read.result c.answered.result read.new.flat c.keep_rows.new.flat read.new.spans (c.answered.ensures.same ∙ c.keep_rows.ensures.same)
-    c.answered.ensures.kept.0 c.keep_rows.ensures.made next
+    let d = c.new-engine in
+    let run = subst (λ l. Reads g.S.SpanNotes.holds d.result l c.args.spans.now c.args.self.now.input read.new.input read.result read.new.engine read.new.flat read.new.spans)
+    c.requires.empty read.ensures.read in
+    read_next read.result d.ensures.limits (d.ensures.begins.start ∙ c.offset.ensures.offset) d.ensures.stands c.requires.no_notes c.keep_rows.ensures.made run
+
+pub returns-clause-next : goal.returns-clause-next
+returns-clause-next g c = λ live going. flat_next c.read_blob-found.result (returns-clause-read g c live going)
+
+pub returns-clause-memory : goal.returns-clause-memory
+returns-clause-memory g c = λ missing.
+    let read = c.read_blob-found in
+    let d = c.new-engine in
+    let run = subst (λ l. Reads g.S.SpanNotes.holds d.result l c.args.spans.now c.args.self.now.input read.new.input read.result read.new.engine read.new.flat read.new.spans)
+    c.requires.empty read.ensures.read in
+    (same_answer missing (read_next read.result d.ensures.limits (d.ensures.begins.start ∙ c.offset.ensures.offset) d.ensures.stands c.requires.no_notes c.keep_rows.ensures.made run)).is
+
+pub returns-clause-spent : goal.returns-clause-spent
+returns-clause-spent g c = λ spent.
+    let read = c.read_blob-found in
+    let d = c.new-engine in
+    let run = subst (λ l. Reads g.S.SpanNotes.holds d.result l c.args.spans.now c.args.self.now.input read.new.input read.result read.new.engine read.new.flat read.new.spans)
+    c.requires.empty read.ensures.read in
+    absurd (same_answer spent (read_next read.result d.ensures.limits (d.ensures.begins.start ∙ c.offset.ensures.offset) d.ensures.stands c.requires.no_notes c.keep_rows.ensures.made run)).is
+
+pub returns-clause-some : goal.returns-clause-some
+returns-clause-some g c = λ found.
+    let read = c.read_blob-found in
+    let d = c.new-engine in
+    let run = subst (λ l. Reads g.S.SpanNotes.holds d.result l c.args.spans.now c.args.self.now.input read.new.input read.result read.new.engine read.new.flat read.new.spans)
+    c.requires.empty read.ensures.read in
+    some_rows found (read_next read.result d.ensures.limits (d.ensures.begins.start ∙ c.offset.ensures.offset) d.ensures.stands c.requires.no_notes c.keep_rows.ensures.made run)

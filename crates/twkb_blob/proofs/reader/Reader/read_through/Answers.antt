@@ -1,23 +1,21 @@
-use Rattle.std.proofs.Common.{sym, subst, ◌∙◌, ◌≡◌, ◌⊎◌, Ok, true, []}
-use Rattle.twkb_blob.specs.Readers.{reader_input}
-use Rattle.twkb_blob.specs.Sessions.{is_spent, session_limits, session_rows}
-use Rattle.twkb_blob.specs.Spanned.{NotesEnd}
-use Rattle.twkb_blob.specs.Through.{IsThrough}
+use Rattle.twkb_blob.specs.Readers.{reader_limits}
+use Rattle.twkb_blob.proofs.Abreast.{still_abreast}
+use Rattle.twkb_blob.proofs.Answering.{flat_next, same_answer, some_rows}
 use Rattle.twkb_blob.proofs.reader.Reader.read_through.Goals as goal
 
 pub returns-clause-read : goal.returns-clause-read
-returns-clause-read g c =
-    let old = c.args.self.now in
-    let s = c.args.session.now in
+returns-clause-read g c = λ k live going. c.read_from-found.ensures.read (reader_limits c.args.self.now) k
+
+pub returns-clause-next : goal.returns-clause-next
+returns-clause-next g c = λ k live going. flat_next c.read_from-found.result (c.read_from-found.ensures.read (reader_limits c.args.self.now) k)
+
+pub returns-clause-memory : goal.returns-clause-memory
+returns-clause-memory g c = λ k missing. (same_answer missing (c.read_from-found.ensures.read (reader_limits c.args.self.now) k)).is
+
+pub returns-clause-some : goal.returns-clause-some
+returns-clause-some g c = λ k found. some_rows found (c.read_from-found.ensures.read (reader_limits c.args.self.now) k)
+
+pub returns-clause-abreast : goal.returns-clause-abreast
+returns-clause-abreast g c = λ k is.
     let read = c.read_from-found in
-    let t = read.new.self in
-    let is = c.answered.ensures.same in
-    let there = c.answered.ensures.kept.0 in
-    record {
-      through = λ bytes gs stands live going. subst (λ i. IsThrough (session_limits s) bytes gs (reader_input old) i c.answered.result t) (sym there)
-          (subst (λ r. IsThrough (session_limits s) bytes gs (reader_input old) read.new.input r t) (sym is) (read.ensures.through bytes gs stands));
-      noted = λ e. subst (λ i. NotesEnd g.S.SpanNotes.holds (reader_input old) i s t c.args.spans.now read.new.spans) (sym there) (read.ensures.noted (sym is ∙ e));
-      limits = read.ensures.limits;
-      cleared = subst (λ r. (r ≡ Ok true) ⊎ (session_rows t ≡ [])) (sym is) read.ensures.cleared;
-      finished = subst (λ r. (r ≡ Ok true) ⊎ (is_spent t ≡ true)) (sym is) read.ensures.finished;
-    }
+    still_abreast k read.new.input read.new.self read.result is read.ensures.limits (read.ensures.through k.bytes k.gs k.stands)
