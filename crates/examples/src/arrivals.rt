@@ -22,7 +22,8 @@ pub struct Arrived {
 /// Between two reads it keeps the rows of the open geometry, and no bytes but those of an open
 /// number. Takes memory for these rows.
 pub fn count_arrivals<R: Read>(alloc: Global, socket: &mut R) -> Result<Arrived, BlobFault>
-    ensures { IfOk result (λ arrived. HasGeometries standard_limits (R.remaining socket.old) arrived.geometries arrived.bytes) }
+    ensures { IfOk result (λ arrived. HasGeometries standard_limits (R.remaining socket.old)
+        arrived.geometries arrived.bytes) }
 {
     let mut session = Session::new(alloc, Limits::standard());
     count_by(&mut session, socket)
@@ -32,7 +33,8 @@ pub fn count_arrivals<R: Read>(alloc: Global, socket: &mut R) -> Result<Arrived,
 fn count_by<R: Read>(session: &mut Session, socket: &mut R) -> Result<Arrived, BlobFault>
     requires stands { Stands [] [] session.old }
     requires limits { session_limits session.old ≡ standard_limits }
-    ensures { IfOk result (λ arrived. HasGeometries standard_limits (R.remaining socket.old) arrived.geometries arrived.bytes) }
+    ensures { IfOk result (λ arrived. HasGeometries standard_limits (R.remaining socket.old)
+        arrived.geometries arrived.bytes) }
 {
     let mut piece = [0; 512];
     let mut arrived = Arrived {
@@ -56,7 +58,8 @@ fn count_by<R: Read>(session: &mut Session, socket: &mut R) -> Result<Arrived, B
 // rest of the piece is fed again.
 fn take_piece(session: &mut Session, piece: &[u8]) -> Result<u64, BlobFault>
     requires stands { (bytes : List ℕ) × (gs : List Tree) × Stands bytes gs session.old }
-    ensures took { (bytes : List ℕ) (gs : List Tree) → Stands bytes gs session.old → IfOk result (λ count. TookPiece bytes gs piece.now count session.new) }
+    ensures took { (bytes : List ℕ) (gs : List Tree) → Stands bytes gs session.old
+        → IfOk result (λ count. TookPiece bytes gs piece.now count session.new) }
     ensures few { IfOk result (λ count. count ≤ length piece.now) }
     ensures limits { session_limits session.new ≡ session_limits session.old }
 {

@@ -14,7 +14,8 @@ use twkb_table::{header_text, put_rows};
 /// Writes the table of one geometry, the stops. Takes memory for its text, for that of its rows
 /// and for the longest polyline.
 pub fn stops_table(alloc: Global, points: Vec<Pt>, numbers: Vec<i64>) -> Result<Vec<u8>, StopsFault>
-    ensures { IfOk result (λ text. text.items ≡ csvtext (table (simple (pos 5) (multi_point (Some numbers.items) points.items) ∷ []))) }
+    ensures { IfOk result (λ text. text.items ≡ csvtext
+        (table (simple (pos 5) (multi_point (Some numbers.items) points.items) ∷ []))) }
 {
     let stops = make_stops(points, numbers)?;
     table_of(alloc, &stops)

@@ -11,7 +11,8 @@ const NEAR: &[u8] = b"AAAAAAAAAAAAAAAAAA";
 
 // Numbers of one to four characters, which fill a piece of the text and more.
 const MIXED: &[u8] =
-    b"A_C__C___CA_C__C___CA_C__C___CA_C__C___CA_C__C___CA_C__C___CA_C__C___CA_C__C___CA_C__C___CA_C__C___CA_C__C___CA_C__C___CA_C__C___CA_C__C___C";
+    b"A_C__C___CA_C__C___CA_C__C___CA_C__C___CA_C__C___CA_C__C___CA_C__C___CA_C__C___CA_C__C___CA\
+    _C__C___CA_C__C___CA_C__C___CA_C__C___CA_C__C___C";
 
 // Whether the text is that of these points, or memory is refused; also if it is appended to a
 // borrowed vector, which stays empty after a refusal.

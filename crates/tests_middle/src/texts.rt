@@ -30,7 +30,8 @@ fn are_told_too(alloc: Global) -> bool {
     match format!(in alloc; "{poly}, {precision}, {ids}, {memory}, {sink}") {
         Ok(told) => {
             told.as_str()
-                == "out of memory, precision not from -8 to 7, not one id for each member, out of memory, the sink refused the bytes"
+                == "out of memory, precision not from -8 to 7, not one id for each member, out of \
+                    memory, the sink refused the bytes"
         }
         Err(_) => false,
     }

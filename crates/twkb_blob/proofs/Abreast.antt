@@ -1,5 +1,6 @@
 -- A session that keeps pace with an input.
-use Rattle.std.proofs.Common.{◌≡◌, List, [], ◌∷◌, ◌++◌, length, length-append, sym, ap, ◌∙◌, subst, append-nil, Bool, Result, Ok, true, arith}
+use Rattle.std.proofs.Common.{◌≡◌, List, [], ◌∷◌, ◌++◌, length, length-append, sym, ap, ◌∙◌, subst, append-nil, Bool}
+use Rattle.std.proofs.Common.{Result, Ok, true, arith}
 use Rattle.std.specs.declared.io.traits.Read.{Ghosts}
 use Rattle.twkb_tree.specs.Limits.{Allowance}
 use Rattle.twkb_tree.specs.Rows.{Row}
@@ -19,32 +20,47 @@ use Rattle.twkb_blob.specs.declared.session.Session.{Session}
 use Rattle.twkb_blob.proofs.Answering.{read_next}
 use Rattle.twkb_blob.proofs.Counts.{same_blobs}
 
-module _ {R : Type 0} {read : Ghosts R} {limits : Allowance} {a : Input R read} {s : Session} (k : IsAbreast limits a s) where
+module _ {R : Type 0} {read : Ghosts R} {limits : Allowance} {a : Input R read} {s : Session}
+    (k : IsAbreast limits a s) where
   -- no byte of the next blob was read
   none_begun : [] ≡ k.stands.rest
   none_begun =
-      let own : Stream limits k.stands.front k.gs = subst (λ l. Stream l k.stands.front k.gs) k.same_limits k.stands.blobs in
+      let own : Stream limits k.stands.front k.gs = subst (λ l. Stream l k.stands.front k.gs)
+      k.same_limits k.stands.blobs in
       let whole : k.bytes ++ [] ≡ k.stands.front ++ k.stands.rest = append-nil k.bytes ∙ k.stands.whole in
-      peel k.bytes k.stands.front [] k.stands.rest (same_blobs limits k.gs k.bytes k.stands.front [] k.stands.rest k.blobs own whole) whole
+      peel k.bytes k.stands.front [] k.stands.rest (same_blobs limits k.gs k.bytes k.stands.front []
+      k.stands.rest k.blobs own whole) whole
 
   -- it begins where the input is
   begins : s.engine.start ≡ given a
-  begins = omega (arith, k.stands.start, k.as_many, ap length k.stands.whole, ap length none_begun, length-append k.stands.front k.stands.rest)
+  begins = omega (
+    arith,
+    k.stands.start,
+    k.as_many,
+    ap length k.stands.whole,
+    ap length none_begun,
+    length-append k.stands.front k.stands.rest,
+  )
 
   -- a blob that is read through it, after its last rows were cleared, is read from its first byte on
-  pub read_abreast : {S : Type 0} {holds : S → Notes → Type 0} {c : Input R read} (b : Session) {e : Engine} {more qs : List Row} {w v : S} (answer : Result Bool BlobFault)
+  pub read_abreast : {S : Type 0} {holds : S → Notes → Type 0} {c : Input R read} (b : Session)
+      {e : Engine} {more qs : List Row} {w v : S} (answer : Result Bool BlobFault)
       → b.engine ≡ s.engine → session_rows b ≡ begun_rows s → holds w no_notes → (answer ≡ Ok true → qs ≡ more)
       → Reads holds b.engine (session_rows b) w a c answer e more v → ReadsInto holds limits a c answer qs v
   read_abreast b answer same rows noted kept run =
       let stood : StandsAt [] (session_rows b) b.engine =
       subst (λ d. StandsAt [] (session_rows b) d) (sym same) (subst (λ l. StandsAt [] l s.engine) (sym rows)
       (subst (λ l. StandsAt l (begun_rows s) s.engine) (sym none_begun) k.stands.begun)) in
-      read_next answer (ap (λ (d : Engine). d.limits) same ∙ k.same_limits) (ap (λ (d : Engine). d.start) same ∙ begins) stood noted kept run
+      read_next answer (ap (λ (d : Engine). d.limits) same ∙ k.same_limits)
+      (ap (λ (d : Engine). d.start) same ∙ begins) stood noted kept run
 
   -- and the session keeps pace
-  pub still_abreast : (c : Input R read) (t : Session) (answer : Result Bool BlobFault) → answer ≡ Ok true → session_limits t ≡ session_limits s → IsThrough (session_limits s) k.bytes k.gs a c answer t → IsAbreast limits c t
+  pub still_abreast : (c : Input R read) (t : Session) (answer : Result Bool BlobFault)
+      → answer ≡ Ok true → session_limits t ≡ session_limits s
+      → IsThrough (session_limits s) k.bytes k.gs a c answer t → IsAbreast limits c t
   still_abreast c t answer is same h =
-      let there : GoesOn (session_limits s) k.bytes k.gs a c t = subst (λ r. IsThrough (session_limits s) k.bytes k.gs a c r t) is h in
+      let there : GoesOn (session_limits s) k.bytes k.gs a c t =
+      subst (λ r. IsThrough (session_limits s) k.bytes k.gs a c r t) is h in
       record {
         bytes = k.bytes ++ there.more;
         gs = k.gs ++ there.geometry ∷ [];

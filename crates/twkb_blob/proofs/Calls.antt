@@ -11,6 +11,8 @@ is_false true not = absurd (not refl)
 is_false false not = refl
 
 -- a geometry comes from a reader that answered neither an error nor the end
-pub came : {R : Type 0} {read : Ghosts R} {old new : Reader R read} {answer : Result Bool BlobFault} {A : Type 0} → ReadsNext false old new answer → answer ≡ Ok true → IfGoingOn old A → A
+pub came : {R : Type 0} {read : Ghosts R} {old new : Reader R read} {answer : Result Bool BlobFault}
+    {A : Type 0} → ReadsNext false old new answer → answer ≡ Ok true → IfGoingOn old A → A
 came {old = old} h is fact =
-    fact (is_false (is_spent old) (λ e. absurd (let other = h.spent e in cc (other, is)))) (is_false (has_ended old) (λ e. absurd (let other = (h.for_good e).0 in cc (other, is))))
+    fact (is_false (is_spent old) (λ e. absurd (let other = h.spent e in cc (other, is))))
+    (is_false (has_ended old) (λ e. absurd (let other = (h.for_good e).0 in cc (other, is))))

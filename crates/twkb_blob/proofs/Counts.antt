@@ -1,5 +1,6 @@
 -- The bytes say how many of them are held and how many geometries are begun.
-use Rattle.std.proofs.Common.{◌≡◌, ℕ, zero, suc, ◌+◌, ◌<◌, inl, inr, List, [], ◌∷◌, ◌++◌, length, refl, sym, ap, ◌∙◌, subst, append_assoc, append-nil, Option, Bool, true, false, Some, arith}
+use Rattle.std.proofs.Common.{◌≡◌, ℕ, zero, suc, ◌+◌, ◌<◌, inl, inr, List, [], ◌∷◌, ◌++◌, length, refl, sym, ap, ◌∙◌}
+use Rattle.std.proofs.Common.{subst, append_assoc, append-nil, Option, Bool, true, false, Some, arith}
 use Rattle.std.specs.Prelude.{sum_by}
 use Rattle.std.proofs.lemmas.List.Sums.{sum_by-append, sum_by-cons}
 use Rattle.twkb_num.specs.Varint.{IsOpenVarint}
@@ -9,13 +10,15 @@ use Rattle.twkb_tree.specs.Limits.{Allowance}
 use Rattle.twkb_grammar.specs.Roles.{Role, End, Item, join}
 use Rattle.twkb_grammar.specs.Blob.{Stream}
 use Rattle.twkb_grammar.specs.Fault.{Part, FirstFault, StreamFault, Truncated}
-use Rattle.twkb_grammar.specs.Machine.{Frame, Phase, AtHeader, Finished, Sums, nothing, sums_after, Stack, started, role_at, Runs}
+use Rattle.twkb_grammar.specs.Machine.{Frame, Phase, AtHeader, Finished, Sums, nothing, sums_after, Stack, started}
+use Rattle.twkb_grammar.specs.Machine.{role_at, Runs}
 use Rattle.twkb_grammar.specs.Reading as reading
 use Rattle.twkb_grammar.specs.Reading.{open_by, open_after, frame_count}
 use Rattle.twkb_grammar.proofs.One.{one_blob_lem, peel}
 use Rattle.twkb_grammar.proofs.Parts.{runs_split, runs_same}
 use Rattle.twkb_grammar.proofs.Running.{part_ran, ran_part}
-use Rattle.twkb_grammar.proofs.TwoFronts.{Beyond, Compared, longer, shorter, same, two_fronts, part_front, none_beyond_fault}
+use Rattle.twkb_grammar.proofs.TwoFronts.{Beyond, Compared, longer, shorter, same, two_fronts, part_front}
+use Rattle.twkb_grammar.proofs.TwoFronts.{none_beyond_fault}
 use Rattle.twkb_grammar.proofs.Streams.{first_item, no_stream, one_stream_fault}
 use Rattle.twkb_grammar.proofs.Frames.{reached_frames}
 use Rattle.twkb_grammar.proofs.Standing.{none_longer}
@@ -36,23 +39,27 @@ use Rattle.twkb_blob.proofs.Standing.{fault_at, none_at, so_many}
 -- ---- headers less ends
 
 -- at the end of a geometry one is open
-frame_at_end : (e : Sums) (fs : List Frame) (p : Phase) (r : Role) (d : Option ℕ) (came : ℕ) → role_at e (fs, p) ≡ Some r → r ≡ End d came → 0 < frame_count (fs, p)
+frame_at_end : (e : Sums) (fs : List Frame) (p : Phase) (r : Role) (d : Option ℕ) (came : ℕ)
+    → role_at e (fs, p) ≡ Some r → r ≡ End d came → 0 < frame_count (fs, p)
 frame_at_end e fs AtHeader r d came says is = absurd cc
 frame_at_end e fs (Finished g) r d came says is = absurd cc
 frame_at_end e fs p r d came says is = omega arith
 
-open_at_end : (limits : Allowance) (before : List Item) (i : Item) (d : Option ℕ) (came : ℕ) → Part limits (before ++ i ∷ []) → i.role ≡ End d came → 0 < open_after 0 before
+open_at_end : (limits : Allowance) (before : List Item) (i : Item) (d : Option ℕ) (came : ℕ)
+    → Part limits (before ++ i ∷ []) → i.role ≡ End d came → 0 < open_after 0 before
 open_at_end limits before i d came part is =
     let whole = part_ran limits (before ++ i ∷ []) part in
     let front = part_ran limits before (part_front limits before (i ∷ []) part) in
     let s = runs_split before (i ∷ []) nothing started whole.0 whole.1.runs in
     let frames : frame_count s.mid ≡ open_after 0 before =
     ap frame_count (runs_same before nothing started s.mid front.0 s.front front.1.runs)
-    ∙ reached_frames limits (join before) (sums_after nothing before) front.0 (record { items = before; ran = front.1; sums = refl; spelled = refl }) in
+    ∙ reached_frames limits (join before) (sums_after nothing before) front.0
+    (record { items = before; ran = front.1; sums = refl; spelled = refl }) in
     subst (λ n. 0 < n) frames (frame_at_end (sums_after nothing before) s.mid.0 s.mid.1 i.role d came s.rest.0 is)
 
 -- one item more
-open_step : (n a b : ℕ) (r : Role) → ((d : Option ℕ) (came : ℕ) → r ≡ End d came → 0 < n) → n + a ≡ b → open_by n r + (a + ended_by r) ≡ b + begun_by r
+open_step : (n a b : ℕ) (r : Role) → ((d : Option ℕ) (came : ℕ) → r ≡ End d came → 0 < n)
+    → n + a ≡ b → open_by n r + (a + ended_by r) ≡ b + begun_by r
 open_step zero a b (End d came) some h = absurd (omega (arith, some d came refl))
 open_step zero a b r some h = omega (arith, h)
 open_step (suc n) a b (End d came) some h = omega (arith, h)
@@ -62,12 +69,14 @@ open_after-last : (n : ℕ) (is : List Item) (i : Item) → open_after n (is ++ 
 open_after-last n [] i = refl
 open_after-last n (j ∷ is) i = open_after-last (open_by n j.role) is i
 
-open_behind : (limits : Allowance) (before is : List Item) → Part limits (before ++ is) → AreOpen before (open_after 0 before) → AreOpen (before ++ is) (open_after 0 (before ++ is))
+open_behind : (limits : Allowance) (before is : List Item) → Part limits (before ++ is)
+    → AreOpen before (open_after 0 before) → AreOpen (before ++ is) (open_after 0 (before ++ is))
 open_behind limits before [] part h = subst (λ l. AreOpen l (open_after 0 l)) (sym (append-nil before)) h
 open_behind limits before (i ∷ is) part h =
     let at : (before ++ i ∷ []) ++ is ≡ before ++ i ∷ is = append_assoc before (i ∷ []) is in
     let whole : Part limits ((before ++ i ∷ []) ++ is) = subst (λ l. Part limits l) (sym at) part in
-    let step = open_step (open_after 0 before) (sum_by (λ i. ended_by i.role) before) (sum_by (λ i. begun_by i.role) before) i.role
+    let step = open_step (open_after 0 before) (sum_by (λ i. ended_by i.role) before)
+    (sum_by (λ i. begun_by i.role) before) i.role
     (λ d came e. open_at_end limits before i d came (part_front limits (before ++ i ∷ []) is whole) e) h in
     let more : AreOpen (before ++ i ∷ []) (open_after 0 (before ++ i ∷ [])) =
     omega (
@@ -97,17 +106,22 @@ no_front [] b e = refl
 no_front (x ∷ a) b e = absurd cc
 
 -- the geometries that are begun are those of the items that were taken
-frames_are : (bs : List ℕ) (rs : List Row) (d : Engine) (s : StandsAt bs rs d) → open_in d ≡ open_after 0 s.outlined.reached.items
+frames_are : (bs : List ℕ) (rs : List Row) (d : Engine) (s : StandsAt bs rs d)
+    → open_in d ≡ open_after 0 s.outlined.reached.items
 frames_are bs rs d s =
-    sym (same_count s.outlined.stack.0 s.outlined.stack.1 ∙ ap open_count s.outlined.outline) ∙ reached_frames (allowance_of d) s.front (sums_of d) s.outlined.stack s.outlined.reached
+    sym (same_count s.outlined.stack.0 s.outlined.stack.1 ∙ ap open_count s.outlined.outline)
+    ∙ reached_frames (allowance_of d) s.front (sums_of d) s.outlined.stack s.outlined.reached
 
--- the items before a place where one is missing, of the same bytes as those of a part, are these if they do not go on beyond them
-same_items : (limits : Allowance) (bytes : List ℕ) (offset : ℕ) (f : FirstFault limits bytes offset Truncated) (is : List Item) (x : List ℕ)
+-- the items before a missing one, of the same bytes as the items of a part, are the items of that
+-- part if they do not go on beyond it
+same_items : (limits : Allowance) (bytes : List ℕ) (offset : ℕ)
+    (f : FirstFault limits bytes offset Truncated) (is : List Item) (x : List ℕ)
     → Part limits is → join is ++ x ≡ bytes → ¬ Beyond f.fault.before is → f.fault.before ≡ is
 same_items limits bytes offset f is x part at none =
     let ran = part_ran limits f.fault.before f.alive in
     let run = part_ran limits is part in
-    go (two_fronts f.fault.before is nothing started ran.0 run.0 f.fault.rest x ran.1.runs run.1.runs (sym f.fault.split ∙ sym at))
+    go (two_fronts f.fault.before is nothing started ran.0 run.0 f.fault.rest x ran.1.runs
+    run.1.runs (sym f.fault.split ∙ sym at))
   where
     go : Compared f.fault.before is → f.fault.before ≡ is
     go (longer n) = absurd (none n)
@@ -115,7 +129,9 @@ same_items limits bytes offset f is x part at none =
     go (same i) = i
 
 -- where an engine stands, a reader of a stream of one blob does
-stands_of : (bs : List ℕ) (rs : List Row) (d : Engine) → IsOpenVarint (held_in d) → (s : StandsAt bs rs d) → reading.Stands (allowance_of d) bs [] (sums_of d) s.outlined.stack (held_in d)
+stands_of : (bs : List ℕ) (rs : List Row) (d : Engine) → IsOpenVarint (held_in d)
+    → (s : StandsAt bs rs d) → reading.Stands (allowance_of d) bs [] (sums_of d) s.outlined.stack
+    (held_in d)
 stands_of bs rs d o s =
     let r = next_role d in
     record {
@@ -146,46 +162,68 @@ module _ {bytes : List ℕ} {gs : List Tree} {old : Session} (s : Stands bytes g
 
   -- the bytes that it holds
   pub held_told : (between : Bool) → IsEnd own s.rest (offset_in d) between → HeldOf own bytes gs (length (held_in d))
-  held_told true none = inl (none_at s s.whole none, omega (arith, ap length none, count_is s.rest (begun_rows old) d s.begun))
+  held_told true none = inl (
+    none_at s s.whole none,
+    omega (arith, ap length none, count_is s.rest (begun_rows old) d s.begun),
+  )
   held_told false first = inr (d.start + offset_in d, fault_at s s.whole refl first, omega (arith, so_many s))
 
   -- the geometries that are begun
-  pub frames_told : IsOpenVarint (held_in d) → (between : Bool) → IsEnd own s.rest (offset_in d) between → FramesOf own bytes gs (open_in d)
+  pub frames_told : IsOpenVarint (held_in d) → (between : Bool)
+      → IsEnd own s.rest (offset_in d) between → FramesOf own bytes gs (open_in d)
   unfolding stands_of
   frames_told o true none =
       let r = s.begun.outlined.reached in
       let front : s.begun.front ≡ [] = no_front s.begun.front (held_in d) (sym s.begun.whole ∙ none) in
-      inl (none_at s s.whole none, frames_are s.rest (begun_rows old) d s.begun ∙ ap (open_after 0) (no_items r.items s.begun.outlined.stack r.ran.runs (r.spelled ∙ front)))
+      inl (
+        none_at s s.whole none,
+        frames_are s.rest (begun_rows old) d s.begun
+            ∙ ap (open_after 0) (no_items r.items s.begun.outlined.stack r.ran.runs
+            (r.spelled ∙ front)),
+      )
   frames_told o false first =
       let r = s.begun.outlined.reached in
       let stands = stands_of s.rest (begun_rows old) d o s.begun in
       let at : join r.items ++ held_in d ≡ s.rest = ap (λ l. l ++ held_in d) r.spelled ∙ sym s.begun.whole in
       let ran = part_ran own first.fault.before first.alive in
       let before : first.fault.before ≡ r.items =
-      same_items own s.rest (offset_in d) first r.items (held_in d) (ran_part own r.items s.begun.outlined.stack r.ran) at
-      (none_longer own s.rest [] (sums_of d) s.begun.outlined.stack (held_in d) stands first.fault.before ran.0 first.fault.rest ran.1.runs
+      same_items own s.rest (offset_in d) first r.items (held_in d)
+      (ran_part own r.items s.begun.outlined.stack r.ran) at
+      (none_longer own s.rest [] (sums_of d) s.begun.outlined.stack (held_in d) stands
+      first.fault.before ran.0 first.fault.rest ran.1.runs
       (sym first.fault.split ∙ s.begun.whole)) in
-      let many : open_after 0 first.fault.before ≡ open_in d = ap (open_after 0) before ∙ sym (frames_are s.rest (begun_rows old) d s.begun) in
-      inr (d.start + offset_in d, fault_at s s.whole refl first, subst (λ n. AreOpen first.fault.before n) many (part_open own first.fault.before first.alive))
+      let many : open_after 0 first.fault.before ≡ open_in d = ap (open_after 0) before
+      ∙ sym (frames_are s.rest (begun_rows old) d s.begun) in
+      inr (
+        d.start + offset_in d,
+        fault_at s s.whole refl first,
+        subst (λ n. AreOpen first.fault.before n) many
+            (part_open own first.fault.before first.alive),
+      )
 
 -- ---- the bytes tell both
 
 -- no bytes are whole blobs and cut inside one
-whole_or_cut : (limits : Allowance) (bytes : List ℕ) (gs hs : List Tree) (offset : ℕ) → Stream limits bytes gs → StreamFault limits bytes hs offset Truncated → ⊥
+whole_or_cut : (limits : Allowance) (bytes : List ℕ) (gs hs : List Tree) (offset : ℕ)
+    → Stream limits bytes gs → StreamFault limits bytes hs offset Truncated → ⊥
 whole_or_cut limits bytes gs hs offset s f =
-    no_stream limits f.front f.rest hs gs f.within Truncated f.blobs f.first.fault (subst (λ l. Stream limits l gs) f.whole s)
+    no_stream limits f.front f.rest hs gs f.within Truncated f.blobs f.first.fault
+    (subst (λ l. Stream limits l gs) f.whole s)
 
 -- the same blobs in front of the same bytes
-pub same_blobs : (limits : Allowance) (gs : List Tree) (a b x y : List ℕ) → Stream limits a gs → Stream limits b gs → a ++ x ≡ b ++ y → a ≡ b
+pub same_blobs : (limits : Allowance) (gs : List Tree) (a b x y : List ℕ) → Stream limits a gs
+    → Stream limits b gs → a ++ x ≡ b ++ y → a ≡ b
 same_blobs limits [] a b x y s t e = s ∙ sym t
 same_blobs limits (g ∷ gs) a b x y s t e =
-    let whole : s.0 ++ (s.1 ++ x) ≡ t.0 ++ (t.1 ++ y) = sym (append_assoc s.0 s.1 x) ∙ (ap (λ l. l ++ x) (sym s.2) ∙ (e ∙ (ap (λ l. l ++ y) t.2 ∙ append_assoc t.0 t.1 y))) in
+    let whole : s.0 ++ (s.1 ++ x) ≡ t.0 ++ (t.1 ++ y) = sym (append_assoc s.0 s.1 x)
+    ∙ (ap (λ l. l ++ x) (sym s.2) ∙ (e ∙ (ap (λ l. l ++ y) t.2 ∙ append_assoc t.0 t.1 y))) in
     let one = one_blob_lem limits s.0 t.0 (s.1 ++ x) (t.1 ++ y) g g s.3 t.3 whole in
     let rest = same_blobs limits gs s.1 t.1 x y s.4 t.4 (peel s.0 t.0 (s.1 ++ x) (t.1 ++ y) one.1 whole) in
     s.2 ∙ (ap (λ l. l ++ s.1) one.1 ∙ (ap (λ l. t.0 ++ l) rest ∙ sym t.2))
 
 -- one number of bytes
-pub one_held : (limits : Allowance) (bytes : List ℕ) (gs hs : List Tree) (m n : ℕ) → HeldOf limits bytes gs m → HeldOf limits bytes hs n → m ≡ n
+pub one_held : (limits : Allowance) (bytes : List ℕ) (gs hs : List Tree) (m n : ℕ)
+    → HeldOf limits bytes gs m → HeldOf limits bytes hs n → m ≡ n
 one_held limits bytes gs hs m n (inl a) (inl b) = a.1 ∙ sym b.1
 one_held limits bytes gs hs m n (inl a) (inr b) = absurd (whole_or_cut limits bytes gs hs b.0 a.0 b.1)
 one_held limits bytes gs hs m n (inr a) (inl b) = absurd (whole_or_cut limits bytes hs gs a.0 b.0 a.1)
@@ -193,19 +231,22 @@ one_held limits bytes gs hs m n (inr a) (inr b) =
     let one = one_stream_fault limits bytes gs hs a.0 b.0 Truncated Truncated a.1 b.1 in omega (arith, one.1, a.2, b.2)
 
 -- one number of geometries
-pub one_frames : (limits : Allowance) (bytes : List ℕ) (gs hs : List Tree) (m n : ℕ) → FramesOf limits bytes gs m → FramesOf limits bytes hs n → m ≡ n
+pub one_frames : (limits : Allowance) (bytes : List ℕ) (gs hs : List Tree) (m n : ℕ)
+    → FramesOf limits bytes gs m → FramesOf limits bytes hs n → m ≡ n
 one_frames limits bytes gs hs m n (inl a) (inl b) = a.1 ∙ sym b.1
 one_frames limits bytes gs hs m n (inl a) (inr b) = absurd (whole_or_cut limits bytes gs hs b.0 a.0 b.1)
 one_frames limits bytes gs hs m n (inr a) (inl b) = absurd (whole_or_cut limits bytes hs gs a.0 b.0 a.1)
 one_frames limits bytes gs hs m n (inr (o, a, many)) (inr (p, b, much)) =
     let one = one_stream_fault limits bytes gs hs o p Truncated Truncated a b in
     let here : a.front ++ a.rest ≡ b.front ++ b.rest = sym a.whole ∙ b.whole in
-    let front : a.front ≡ b.front = same_blobs limits hs a.front b.front a.rest b.rest (subst (λ l. Stream limits a.front l) one.0 a.blobs) b.blobs here in
+    let front : a.front ≡ b.front = same_blobs limits hs a.front b.front a.rest b.rest
+    (subst (λ l. Stream limits a.front l) one.0 a.blobs) b.blobs here in
     let x = a.first.fault in
     let y = b.first.fault in
     let at : join y.before ++ y.rest ≡ a.rest = sym (peel a.front b.front a.rest b.rest front here ∙ y.split) in
     let before : x.before ≡ y.before =
     same_items limits a.rest a.within a.first y.before y.rest b.first.alive at
-    (none_beyond_fault limits b.rest b.within Truncated y x.before x.rest a.first.alive (sym x.split ∙ peel a.front b.front a.rest b.rest front here)) in
+    (none_beyond_fault limits b.rest b.within Truncated y x.before x.rest a.first.alive
+    (sym x.split ∙ peel a.front b.front a.rest b.rest front here)) in
     let all : AreOpen y.before m = subst (λ l. AreOpen l m) before many in
     omega (arith, all, much)

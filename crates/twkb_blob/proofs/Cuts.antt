@@ -1,5 +1,7 @@
 -- An answer to a prefix of a piece is one to the piece.
-use Rattle.std.proofs.Common.{◌≡◌, ℕ, ◌+◌, ◌-◌, ◌<◌, ◌≤◌, ◌^◌, List, ◌++◌, length, length-append, take, drop, take-append-drop, append-nil, refl, sym, ap, ◌∙◌, subst, Bool, true, false, Result, Ok, Err, arith, inl, inr}
+use Rattle.std.proofs.Common.{◌≡◌, ℕ, ◌+◌, ◌-◌, ◌<◌, ◌≤◌, ◌^◌, List, ◌++◌, length, length-append, take, drop}
+use Rattle.std.proofs.Common.{take-append-drop, append-nil, refl, sym, ap, ◌∙◌, subst, Bool, true, false, Result, Ok}
+use Rattle.std.proofs.Common.{Err, arith, inl, inr}
 use Rattle.std.proofs.Math.Seq.{take-length}
 use Rattle.std.proofs.lemmas.List.{take-append-le}
 use Rattle.twkb_tree.specs.Rows.{Row}
@@ -8,7 +10,8 @@ use Rattle.twkb_grammar.specs.Blob.{Blob}
 use Rattle.twkb_grammar.specs.Noting.{Notes}
 use Rattle.twkb_io.specs.declared.input.InFault.TheVariants.{TooLong}
 use Rattle.twkb_engine.specs.State.{allowance_of}
-use Rattle.twkb_engine.specs.Standing.{StandsAt, IsEnd, IsFed, FedBy, HoldsSpans, TakesAll, count_of, notes_at, offset_in}
+use Rattle.twkb_engine.specs.Standing.{StandsAt, IsEnd, IsFed, FedBy, HoldsSpans, TakesAll, count_of, notes_at}
+use Rattle.twkb_engine.specs.Standing.{offset_in}
 use Rattle.twkb_engine.specs.declared.stop.Stop.{Stop}
 use Rattle.twkb_engine.specs.declared.stop.Stop.TheVariants.{Memory, Refused}
 use Rattle.twkb_engine.specs.declared.engine.Engine.{Engine}
@@ -18,7 +21,8 @@ use Rattle.twkb_blob.specs.Readers.{AreCutOff}
 use Rattle.twkb_blob.specs.declared.fault.BlobFault.TheVariants as fault
 
 -- where an engine stands there are no bytes, or they end inside a blob
-pub are_cut_off : (limits : Allowance) (bs : List ℕ) (offset : ℕ) (between : Bool) → IsEnd limits bs offset between → AreCutOff limits bs
+pub are_cut_off : (limits : Allowance) (bs : List ℕ) (offset : ℕ) (between : Bool)
+    → IsEnd limits bs offset between → AreCutOff limits bs
 are_cut_off limits bs offset true none = inl none
 are_cut_off limits bs offset false cut = inr (offset, cut)
 
@@ -36,9 +40,25 @@ module _ {S : Type 0} (holds : S → Notes → Type 0) (known : Type 0) (limits 
   grown (Ok (used, true)) f =
       let m = f.0 in
       let same : take used xs ≡ take used (xs ++ ys) = sym (take-append-le used xs ys m.within) in
-      let both = subst (λ l. (x : Blob limits (bs ++ l) m.geometry) × (known → HoldsSpans holds new start x)) same (m.blob, f.1) in
-      (record { some = m.some; within = longer used m.within; geometry = m.geometry; blob = both.0; made = m.made }, both.1, f.2, f.3)
-  grown (Err Memory) f = record { used = f.used; some = f.some; within = longer f.used f.within; part = rw (take-append-le f.used xs ys f.within) f.part }
+      let both = subst (λ l. (x : Blob limits (bs ++ l) m.geometry)
+      × (known → HoldsSpans holds new start x)) same (m.blob, f.1) in (
+        record {
+          some = m.some;
+          within = longer used m.within;
+          geometry = m.geometry;
+          blob = both.0;
+          made = m.made;
+        },
+        both.1,
+        f.2,
+        f.3,
+      )
+  grown (Err Memory) f = record {
+    used = f.used;
+    some = f.some;
+    within = longer f.used f.within;
+    part = rw (take-append-le f.used xs ys f.within) f.part;
+  }
   grown (Err (Refused why)) f = record {
     used = f.used;
     some = f.some;
@@ -46,27 +66,43 @@ module _ {S : Type 0} (holds : S → Notes → Type 0) (known : Type 0) (limits 
     fault = λ more. rw (take-append-le f.used xs ys f.within) (f.fault more);
   }
 
-piece_fed : {S : Type 0} (holds : S → Notes → Type 0) (d e : Engine) (rs more : List Row) (old new : S) (piece : List ℕ) (count : ℕ) (answer : Result (ℕ × Bool) Stop)
+piece_fed : {S : Type 0} (holds : S → Notes → Type 0) (d e : Engine) (rs more : List Row)
+    (old new : S) (piece : List ℕ) (count : ℕ) (answer : Result (ℕ × Bool) Stop)
     → FedBy holds d rs old (take count piece) answer e more new → FedBy holds d rs old piece answer e more new
 piece_fed holds d e rs more old new piece count answer fed = λ bs s.
     let known : Type 0 = holds old (notes_at s) in
     subst (λ l. IsFed holds known (allowance_of d) d.start bs l answer more e new) (take-append-drop count piece)
     (grown holds known (allowance_of d) d.start bs (take count piece) (drop count piece) more e new answer (fed bs s))
 
-module _ {S : Type 0} {holds : S → Notes → Type 0} {d e : Engine} {rs more : List Row} {old new : S} {piece : List ℕ} where
+module _ {S : Type 0} {holds : S → Notes → Type 0} {d e : Engine} {rs more : List Row} {old new : S}
+    {piece : List ℕ} where
   -- bytes of it were used
-  pub cut_feeds : (count : ℕ) (fed : ℕ × Bool) → Feeds holds d rs old (take count piece) (Ok fed) e more new → Feeds holds d rs old piece (Ok fed) e more new
-  cut_feeds count fed f = record { limits = f.limits; fed = piece_fed holds d e rs more old new piece count (Ok fed) f.fed }
+  pub cut_feeds : (count : ℕ) (fed : ℕ × Bool) → Feeds holds d rs old (take count piece) (Ok fed) e
+      more new → Feeds holds d rs old piece (Ok fed) e more new
+  cut_feeds count fed f = record {
+    limits = f.limits;
+    fed = piece_fed holds d e rs more old new piece count (Ok fed) f.fed;
+  }
 
   -- the engine stopped
-  pub stopped : {place : ℕ} (count : ℕ) (stop : Stop) → e.limits ≡ d.limits → FedBy holds d rs old (take count piece) (Err stop) e more new
+  pub stopped : {place : ℕ} (count : ℕ) (stop : Stop) → e.limits ≡ d.limits
+      → FedBy holds d rs old (take count piece) (Err stop) e more new
       → place ≡ d.start + offset_in e → Feeds holds d rs old piece (Err (fault_of place stop)) e more new
-  stopped count Memory limits fed at = record { limits = limits; fed = piece_fed holds d e rs more old new piece count (Err Memory) fed }
-  stopped count (Refused why) limits fed at = record { limits = limits; fed = (piece_fed holds d e rs more old new piece count (Err (Refused why)) fed, at) }
+  stopped count Memory limits fed at = record {
+    limits = limits;
+    fed = piece_fed holds d e rs more old new piece count (Err Memory) fed;
+  }
+  stopped count (Refused why) limits fed at = record {
+    limits = limits;
+    fed = (piece_fed holds d e rs more old new piece count (Err (Refused why)) fed, at);
+  }
 
   -- the stream has no room for all of the piece
-  pub too_far : (used count : ℕ) (ends : Bool) → ends ≡ false → TakesAll (length (take count piece)) (Ok (used, ends)) → FedBy holds d rs old (take count piece) (Ok (used, ends)) e more new
-      → (d.start + count_of d) + count ≡ 2 ^ 62 → count < length piece → e.limits ≡ d.limits → ((bs : List ℕ) (rs : List Row) → StandsAt bs rs e → AreCutOff (allowance_of e) bs)
+  pub too_far : (used count : ℕ) (ends : Bool) → ends ≡ false
+      → TakesAll (length (take count piece)) (Ok (used, ends))
+      → FedBy holds d rs old (take count piece) (Ok (used, ends)) e more new
+      → (d.start + count_of d) + count ≡ 2 ^ 62 → count < length piece → e.limits ≡ d.limits
+      → ((bs : List ℕ) (rs : List Row) → StandsAt bs rs e → AreCutOff (allowance_of e) bs)
       → Feeds holds d rs old piece (Err (fault.Device TooLong)) e more new
   too_far used count true off all fed full less limits cut = absurd cc
   too_far used count false off all fed full less limits cut = record {
@@ -83,14 +119,17 @@ module _ {S : Type 0} {holds : S → Notes → Type 0} {d e : Engine} {rs more :
   }
 
 -- the stream has no room for any byte
-pub no_room : {S : Type 0} {holds : S → Notes → Type 0} {d : Engine} {rs : List Row} {old : S} {piece : List ℕ} → 2 ^ 62 < d.start + count_of d
-    → ((bs : List ℕ) (rs : List Row) → StandsAt bs rs d → AreCutOff (allowance_of d) bs) → Feeds holds d rs old piece (Err (fault.Device TooLong)) d rs old
+pub no_room : {S : Type 0} {holds : S → Notes → Type 0} {d : Engine} {rs : List Row} {old : S}
+    {piece : List ℕ} → 2 ^ 62 < d.start + count_of d
+    → ((bs : List ℕ) (rs : List Row) → StandsAt bs rs d → AreCutOff (allowance_of d) bs)
+    → Feeds holds d rs old piece (Err (fault.Device TooLong)) d rs old
 no_room {d = d} {rs = rs} {piece = piece} past cut = record {
   limits = refl;
   fed = (
     refl,
     omega (arith, past),
     λ bs s. let none : 2 ^ 62 - (d.start + count_of d) ≡ 0 = omega (arith, past) in
-        subst (λ n. AreCutOff (allowance_of d) (bs ++ take n piece)) (sym none) (subst (AreCutOff (allowance_of d)) (sym (append-nil bs)) (cut bs rs s)),
+        subst (λ n. AreCutOff (allowance_of d) (bs ++ take n piece)) (sym none)
+        (subst (AreCutOff (allowance_of d)) (sym (append-nil bs)) (cut bs rs s)),
   );
 }

@@ -1,5 +1,7 @@
 -- Bytes that leave an input one piece after another, and what is known of those that are left.
-use Rattle.std.proofs.Common.{◌≡◌, ◌≢◌, ℕ, ◌+◌, ◌<◌, ◌≤◌, ◌^◌, List, [], ◌∷◌, ◌++◌, length, length-append, take, refl, sym, ap, ◌∙◌, subst, append_assoc, true, Bool, nat_eq, Option, Some, None, Result, Err, arith}
+use Rattle.std.proofs.Common.{◌≡◌, ◌≢◌, ℕ, ◌+◌, ◌<◌, ◌≤◌, ◌^◌, List, [], ◌∷◌, ◌++◌, length, length-append, take, refl}
+use Rattle.std.proofs.Common.{sym, ap, ◌∙◌, subst, append_assoc, true, Bool, nat_eq, Option, Some, None, Result, Err}
+use Rattle.std.proofs.Common.{arith}
 use Rattle.std.proofs.KnownBytes.{Consumes-kept, Consumes-nil, Consumes-trans}
 use Rattle.std.proofs.Math.Seq.{take-append-add}
 use Rattle.std.proofs.lemmas.Grind.{common_steps}
@@ -17,19 +19,22 @@ use Rattle.twkb_io.specs.Inputs.{given, held_of, rest_of, is_spent}
 use Rattle.twkb_blob.specs.Readers.{HasNone, Left, told_by}
 
 -- what follows for all known bytes from what holds of those that are left
-pub known_after : {P : List ℕ → Type 0} (Q : List ℕ → Type 0) (a b : Option (List ℕ)) (bytes : List ℕ) → Consumes a b bytes → IfSome b P
+pub known_after : {P : List ℕ → Type 0} (Q : List ℕ → Type 0) (a b : Option (List ℕ))
+    (bytes : List ℕ) → Consumes a b bytes → IfSome b P
     → ((rest : List ℕ) → P rest → Q (bytes ++ rest)) → IfSome a Q
 known_after Q None b bytes loses h so = tt
 known_after Q (Some xs) None bytes loses h so = absurd loses
 known_after Q (Some xs) (Some ys) bytes loses h so = subst Q (sym loses) (so ys h)
 
 -- a part that ends in further bytes
-pub part_after : {limits : Allowance} (bs xs : List ℕ) {ys : List ℕ} → PartIn limits (bs ++ xs) ys → PartIn limits bs (xs ++ ys)
+pub part_after : {limits : Allowance} (bs xs : List ℕ) {ys : List ℕ} → PartIn limits (bs ++ xs) ys
+    → PartIn limits bs (xs ++ ys)
 part_after {limits} bs xs {ys} h = record {
   used = length xs + h.used;
   some = (let some = h.some in omega (arith, some));
   within = (let few = h.within in omega (arith, few, length-append xs ys));
-  part = subst (IsJudged limits) (append_assoc bs xs (take h.used ys) ∙ ap (λ l. bs ++ l) (sym (take-append-add xs ys h.used))) h.part;
+  part = subst (IsJudged limits) (append_assoc bs xs (take h.used ys)
+      ∙ ap (λ l. bs ++ l) (sym (take-append-add xs ys h.used))) h.part;
 }
 
 -- a piece without bytes
@@ -55,7 +60,8 @@ module _ {R : Type 0} {read : Ghosts R} {a b : Input R read} where
   }
 
   -- held bytes leave
-  pub held_left : {piece : List ℕ} {used : ℕ} → piece ≡ held_of a → used ≤ length piece → Consumes (rest_of a) (rest_of b) (take used (held_of a))
+  pub held_left : {piece : List ℕ} {used : ℕ} → piece ≡ held_of a → used ≤ length piece
+      → Consumes (rest_of a) (rest_of b) (take used (held_of a))
       → given b ≡ given a + used → Left a b (take used piece)
   held_left {piece} {used} is within loses counted = record {
     consumed = subst (λ l. Consumes (rest_of a) (rest_of b) (take used l)) (sym is) loses;
@@ -63,7 +69,8 @@ module _ {R : Type 0} {read : Ghosts R} {a b : Input R read} where
   }
 
   -- why an input gave none, after bytes that left
-  pub none_from : {bytes : List ℕ} (c : Input R read) (why : InFault) → Left a b bytes → is_spent b ≢ true → HasNone why b c → HasNone why a c
+  pub none_from : {bytes : List ℕ} (c : Input R read) (why : InFault) → Left a b bytes
+      → is_spent b ≢ true → HasNone why b c → HasNone why a c
   none_from c Read left live none = none
   none_from {bytes} c TooLong left live none = (
     none.0,
@@ -73,11 +80,14 @@ module _ {R : Type 0} {read : Ghosts R} {a b : Input R read} where
   none_from c Spent left live none = absurd (live none)
 
 -- why a fill gave none
-pub fill_none : {A R : Type 0} {read : Ghosts R} {r : Result A InFault} (a b : Input R read) (why : InFault) → r ≡ Err why → given b ≡ given a
-    → (r ≡ Err TooLong → (given a ≡ 2 ^ 62) × IfSome (rest_of a) (λ rest. rest ≢ [])) → (r ≡ Err Read → rest_of b ≡ told_by b)
+pub fill_none : {A R : Type 0} {read : Ghosts R} {r : Result A InFault} (a b : Input R read)
+    (why : InFault) → r ≡ Err why → given b ≡ given a
+    → (r ≡ Err TooLong → (given a ≡ 2 ^ 62) × IfSome (rest_of a) (λ rest. rest ≢ []))
+    → (r ≡ Err Read → rest_of b ≡ told_by b)
     → (r ≡ Err Spent → is_spent a ≡ true) → HasNone why a b
 fill_none a b Read is same long none spent = none is
-fill_none a b TooLong is same long none spent = let h = long is in (same ∙ h.0, IfSome_then (rest_of a) h.1 (λ rest some. more rest h.0 some))
+fill_none a b TooLong is same long none spent = let h = long is in
+    (same ∙ h.0, IfSome_then (rest_of a) h.1 (λ rest some. more rest h.0 some))
   where
     more : (rest : List ℕ) → given a ≡ 2 ^ 62 → rest ≢ [] → 2 ^ 62 < given a + length rest
     more [] full some = absurd (some refl)

@@ -1,5 +1,7 @@
 -- A session goes on, gives a geometry, refuses or ends.
-use Rattle.std.proofs.Common.{◌≡◌, ℕ, ◌+◌, ◌-◌, ◌^◌, inl, inr, List, [], ◌∷◌, ◌++◌, length, length-append, take, refl, sym, ap, ◌∙◌, subst, append_assoc, append-nil, Bool, true, false, Option, Some, None, IfSome, Result, Ok, Err, arith}
+use Rattle.std.proofs.Common.{◌≡◌, ℕ, ◌+◌, ◌-◌, ◌^◌, inl, inr, List, [], ◌∷◌, ◌++◌, length, length-append, take, refl}
+use Rattle.std.proofs.Common.{sym, ap, ◌∙◌, subst, append_assoc, append-nil, Bool, true, false, Option, Some, None}
+use Rattle.std.proofs.Common.{IfSome, Result, Ok, Err, arith}
 use Rattle.std.proofs.KnownBytes.{Consumes-whole}
 use Rattle.std.proofs.Math.Seq.{take-length}
 use Rattle.std.proofs.lemmas.List.{append_cancel_left, length-take-le}
@@ -22,7 +24,8 @@ use Rattle.twkb_engine.proofs.RootPoints.{blob_judged}
 use Rattle.twkb_engine.specs.declared.engine.Engine.{Engine}
 use Rattle.twkb_blob.specs.Feeding.{EndsAt, Feeds, Reads}
 use Rattle.twkb_blob.specs.Readers.{AreCutOff}
-use Rattle.twkb_blob.specs.Sessions.{Stands, PartAt, FedSession, FedFlat, AreBegun, Finished, begun_rows, session_limits, session_rows}
+use Rattle.twkb_blob.specs.Sessions.{Stands, PartAt, FedSession, FedFlat, AreBegun, Finished, begun_rows}
+use Rattle.twkb_blob.specs.Sessions.{session_limits, session_rows}
 use Rattle.twkb_blob.specs.Through.{IsThrough}
 use Rattle.twkb_blob.specs.declared.session.Session.{Session}
 use Rattle.twkb_blob.specs.declared.fault.BlobFault.{BlobFault}
@@ -30,14 +33,17 @@ use Rattle.twkb_blob.specs.declared.fault.BlobFault.TheVariants as fault
 use Rattle.twkb_blob.proofs.Trees.{TreeLaw, last_tree, tree_made, not_none}
 
 -- after a stream, a stream of one geometry more has its blob
-pub blob_behind : (limits : Allowance) (bytes more : List ℕ) (gs : List Tree) (g : Tree) → Stream limits bytes gs → Stream limits (bytes ++ more) (gs ++ g ∷ []) → Blob limits more g
+pub blob_behind : (limits : Allowance) (bytes more : List ℕ) (gs : List Tree) (g : Tree)
+    → Stream limits bytes gs → Stream limits (bytes ++ more) (gs ++ g ∷ []) → Blob limits more g
 blob_behind limits bytes more gs g first whole =
     let behind = behind_stream limits bytes more gs (gs ++ g ∷ []) first whole in
-    let (front, rest, is, blob, none) = subst (Stream limits more) (sym (append_cancel_left gs (g ∷ []) behind.0 behind.1)) behind.2 in
+    let (front, rest, is, blob, none) = subst (Stream limits more)
+    (sym (append_cancel_left gs (g ∷ []) behind.0 behind.1)) behind.2 in
     subst (λ l. Blob limits l g) (sym (is ∙ (ap (λ l. front ++ l) none ∙ append-nil front))) blob
 
 -- a session between two blobs, which has the rows of the last one
-between : {bytes : List ℕ} {gs : List Tree} (new : Session) → Stream (session_limits new) bytes gs → new.engine.start ≡ length bytes
+between : {bytes : List ℕ} {gs : List Tree} (new : Session) → Stream (session_limits new) bytes gs
+    → new.engine.start ≡ length bytes
     → new.spent ≡ false → new.is_whole ≡ true → StandsAt [] [] new.engine → Stands bytes gs new
 between {bytes} new stream start live closed begun = record {
   front = bytes;
@@ -56,7 +62,13 @@ module _ {bytes : List ℕ} {gs : List Tree} {old : Session} (s : Stands bytes g
 
   -- so many bytes came in all
   pub so_many : length bytes ≡ old.engine.start + count_of old.engine
-  so_many = omega (arith, ap length s.whole, length-append s.front s.rest, s.start, count_is s.rest (begun_rows old) old.engine s.begun)
+  so_many = omega (
+    arith,
+    ap length s.whole,
+    length-append s.front s.rest,
+    s.start,
+    count_is s.rest (begun_rows old) old.engine s.begun,
+  )
 
   -- where an engine stands whose form has the rows of no other geometry
   begun_at : old.is_whole ≡ false → StandsAt s.rest (session_rows old) old.engine
@@ -68,17 +80,29 @@ module _ {bytes : List ℕ} {gs : List Tree} {old : Session} (s : Stands bytes g
 
   -- ---- after the whole blobs come bytes with a fault, or of a blob, or none
 
-  abbrev pub fault_at : {rest all : List ℕ} {within offset : ℕ} {reason : Reason} → all ≡ s.front ++ rest → offset ≡ old.engine.start + within
+  abbrev pub fault_at : {rest all : List ℕ} {within offset : ℕ} {reason : Reason}
+      → all ≡ s.front ++ rest → offset ≡ old.engine.start + within
       → FirstFault own rest within reason → StreamFault own all gs offset reason
   fault_at {rest} {all} {within} whole place first =
-      record { front = s.front; rest = rest; within = within; whole = whole; blobs = s.blobs; first = first; place = place ∙ ap (λ n. n + within) s.start }
+      record {
+        front = s.front;
+        rest = rest;
+        within = within;
+        whole = whole;
+        blobs = s.blobs;
+        first = first;
+        place = place ∙ ap (λ n. n + within) s.start;
+      }
 
   blob_at : {rest all : List ℕ} {g : Tree} → all ≡ s.front ++ rest → Blob own rest g → Stream own all (gs ++ g ∷ [])
   blob_at {rest} {all} {g} whole blob =
-      subst (λ l. Stream own l (gs ++ g ∷ [])) (sym whole) (stream-append own s.front rest gs (g ∷ []) s.blobs (rest, [], sym (append-nil rest), blob, refl))
+      subst (λ l. Stream own l (gs ++ g ∷ [])) (sym whole)
+      (stream-append own s.front rest gs (g ∷ []) s.blobs
+      (rest, [], sym (append-nil rest), blob, refl))
 
   pub none_at : {rest all : List ℕ} → all ≡ s.front ++ rest → rest ≡ [] → Stream own all gs
-  none_at whole none = subst (λ l. Stream own l gs) (sym (whole ∙ (ap (λ l. s.front ++ l) none ∙ append-nil s.front))) s.blobs
+  none_at whole none = subst (λ l. Stream own l gs)
+      (sym (whole ∙ (ap (λ l. s.front ++ l) none ∙ append-nil s.front))) s.blobs
 
   cut_at : {rest all : List ℕ} → all ≡ s.front ++ rest → AreCutOff own rest → AreBegun own all gs
   cut_at whole (inl none) = inl (none_at whole none)
@@ -88,20 +112,25 @@ module _ {bytes : List ℕ} {gs : List Tree} {old : Session} (s : Stands bytes g
   part_at part = record { front = s.front; rest = s.rest; whole = s.whole; blobs = s.blobs; part = part }
 
   -- what the end of a stream is answered
-  pub finished : {A : Type 0} (answer : Result A BlobFault) → EndsAt own old.engine.start s.rest answer → Finished own bytes gs answer
+  pub finished : {A : Type 0} (answer : Result A BlobFault)
+      → EndsAt own old.engine.start s.rest answer → Finished own bytes gs answer
   finished (Ok done) none = none_at s.whole none
   finished (Err (fault.At offset reason)) h = fault_at s.whole h.2 h.1
   finished (Err why) h = absurd h
 
   -- ---- a piece was fed
 
-  module _ {S : Type 0} {holds : S → Notes → Type 0} {w v : S} {piece : List ℕ} (new : Session) (opened : old.is_whole ≡ false) (limits : session_limits new ≡ own) where
-    pub fed_ok : {used : ℕ} (ends : Bool) → Feeds holds old.engine (session_rows old) w piece (Ok (used, ends)) new.engine (session_rows new) v
-        → new.spent ≡ false → new.is_whole ≡ ends → (ends ≡ false → used ≡ length piece) → FedFlat bytes gs piece (Ok (used, ends)) new
+  module _ {S : Type 0} {holds : S → Notes → Type 0} {w v : S} {piece : List ℕ} (new : Session)
+      (opened : old.is_whole ≡ false) (limits : session_limits new ≡ own) where
+    pub fed_ok : {used : ℕ} (ends : Bool) → Feeds holds old.engine (session_rows old) w piece
+        (Ok (used, ends)) new.engine (session_rows new) v
+        → new.spent ≡ false → new.is_whole ≡ ends → (ends ≡ false → used ≡ length piece)
+        → FedFlat bytes gs piece (Ok (used, ends)) new
     fed_ok {used} false f live is all =
         let h = f.fed s.rest (begun_at opened) in
         let stood : StandsAt (s.rest ++ piece) (session_rows new) new.engine =
-        subst (λ l. StandsAt (s.rest ++ l) (session_rows new) new.engine) (ap (λ n. take n piece) (all refl) ∙ take-length piece) h.2 in (
+        subst (λ l. StandsAt (s.rest ++ l) (session_rows new) new.engine)
+        (ap (λ n. take n piece) (all refl) ∙ take-length piece) h.2 in (
           all refl,
           record {
             front = s.front;
@@ -118,7 +147,8 @@ module _ {bytes : List ℕ} {gs : List Tree} {old : Session} (s : Stands bytes g
               count_is (s.rest ++ piece) (session_rows new) new.engine stood,
             ));
             blobs = subst (λ l. Stream l s.front gs) (sym limits) s.blobs;
-            begun = subst (λ (b : Bool). StandsAt (s.rest ++ piece) (if b then [] else session_rows new) new.engine) (sym is) stood;
+            begun = subst (λ (b : Bool). StandsAt (s.rest ++ piece)
+                (if b then [] else session_rows new) new.engine) (sym is) stood;
             start = h.1 ∙ s.start;
             live = live;
           },
@@ -128,12 +158,22 @@ module _ {bytes : List ℕ} {gs : List Tree} {old : Session} (s : Stands bytes g
         let m = h.0 in
         let piece_used : List ℕ = take used piece in
         let stream : Stream (session_limits new) (bytes ++ piece_used) (gs ++ m.geometry ∷ []) =
-        subst (λ l. Stream l (bytes ++ piece_used) (gs ++ m.geometry ∷ [])) (sym limits) (blob_at (further piece_used) m.blob) in
+        subst (λ l. Stream l (bytes ++ piece_used) (gs ++ m.geometry ∷ [])) (sym limits)
+        (blob_at (further piece_used) m.blob) in
         let start : new.engine.start ≡ length (bytes ++ piece_used) =
-        omega (arith, h.3, so_many, count_is s.rest (session_rows old) old.engine (begun_at opened), length-append bytes piece_used, length-take-le used piece m.within) in
+        omega (
+          arith,
+          h.3,
+          so_many,
+          count_is s.rest (session_rows old) old.engine (begun_at opened),
+          length-append bytes piece_used,
+          length-take-le used piece m.within,
+        ) in
         (m.geometry, (m.some, m.within, stream, between new stream start live is h.2), m.made)
 
-    pub fed_err : (why : BlobFault) {e : Engine} {more : List Row} → Feeds holds old.engine (session_rows old) w piece (Err why) e more v → FedSession bytes gs piece (Err why) new
+    pub fed_err : (why : BlobFault) {e : Engine} {more : List Row}
+        → Feeds holds old.engine (session_rows old) w piece (Err why) e more v
+        → FedSession bytes gs piece (Err why) new
     fed_err fault.Memory f = rw limits (part_at (f.fed s.rest (begun_at opened)))
     fed_err (fault.At offset reason) f =
         let h = f.fed.0 s.rest (begun_at opened) in
@@ -141,61 +181,104 @@ module _ {bytes : List ℕ} {gs : List Tree} {old : Session} (s : Stands bytes g
           used = h.used;
           some = h.some;
           within = h.within;
-          fault = λ more. fault_at (ap (λ l. (l ++ take h.used piece) ++ more) s.whole ∙ simp append_assoc) f.fed.1 (h.fault more);
+          fault = λ more. fault_at (ap (λ l. (l ++ take h.used piece) ++ more) s.whole
+              ∙ simp append_assoc) f.fed.1 (h.fault more);
         })
     fed_err (fault.Device why) f =
         let h = f.fed in
         let taken : ℕ = old.engine.start + count_of old.engine in
-        let begun = cut_at (further (take (2 ^ 62 - taken) piece)) (h.2 s.rest (begun_at opened)) in
-        (h.0, rw limits (record { past = (let past = h.1 in omega (arith, past, so_many)); begun = subst (λ n. AreBegun own (bytes ++ take (2 ^ 62 - n) piece) gs) (sym so_many) begun }))
+        let begun = cut_at (further (take (2 ^ 62 - taken) piece)) (h.2 s.rest (begun_at opened)) in (
+          h.0,
+          rw limits (record {
+            past = (let past = h.1 in omega (arith, past, so_many));
+            begun = subst (λ n. AreBegun own (bytes ++ take (2 ^ 62 - n) piece) gs)
+                (sym so_many) begun;
+          }),
+        )
     fed_err fault.Spent f = absurd f.fed
 
   -- ---- a blob of an input was read
 
-  module _ {S : Type 0} {holds : S → Notes → Type 0} {R : Type 0} {read : Ghosts R} {a c : Input R read} {w v : S} (new : Session) (opened : old.is_whole ≡ false) where
-    pub read_ok : {limits : Allowance} → own ≡ limits → session_limits new ≡ own → new.is_whole ≡ true → new.spent ≡ false → Reads holds old.engine (session_rows old) w a c (Ok true) new.engine (session_rows new) v
+  module _ {S : Type 0} {holds : S → Notes → Type 0} {R : Type 0} {read : Ghosts R}
+      {a c : Input R read} {w v : S} (new : Session) (opened : old.is_whole ≡ false) where
+    pub read_ok : {limits : Allowance} → own ≡ limits → session_limits new ≡ own
+        → new.is_whole ≡ true → new.spent ≡ false → Reads holds old.engine (session_rows old) w a c
+        (Ok true) new.engine (session_rows new) v
         → IsThrough limits bytes gs a c (Ok true) new
     read_ok here same closed live run =
         let h = run.blob s.rest (begun_at opened) in
         let m = h.1 in
         let stream : Stream own (bytes ++ m.bytes) (gs ++ h.0 ∷ []) = blob_at (further m.bytes) m.blob in
-        let start : new.engine.start ≡ length (bytes ++ m.bytes) = omega (arith, h.5, s.start, length-append s.front (s.rest ++ m.bytes), ap (λ (l : List ℕ). length l) (further m.bytes)) in
+        let start : new.engine.start ≡ length (bytes ++ m.bytes) = omega (
+          arith,
+          h.5,
+          s.start,
+          length-append s.front (s.rest ++ m.bytes),
+          ap (λ (l : List ℕ). length l) (further m.bytes),
+        ) in
         record {
           geometry = h.0;
           more = m.bytes;
           left = m.left;
           blobs = subst (λ l. Stream l (bytes ++ m.bytes) (gs ++ h.0 ∷ [])) here stream;
-          stands = between new (subst (λ l. Stream l (bytes ++ m.bytes) (gs ++ h.0 ∷ [])) (sym same) stream) start live closed h.4;
+          stands = between new (subst (λ l. Stream l (bytes ++ m.bytes) (gs ++ h.0 ∷ [])) (sym same)
+              stream) start live closed h.4;
           made = h.3;
           unspent = m.unspent;
         }
 
-    pub read_none : (answer : Result Bool BlobFault) {e : Engine} {more : List Row} → ¬ (answer ≡ Ok true) → Reads holds old.engine (session_rows old) w a c answer e more v
+    pub read_none : (answer : Result Bool BlobFault) {e : Engine} {more : List Row}
+        → ¬ (answer ≡ Ok true) → Reads holds old.engine (session_rows old) w a c answer e more v
         → IsThrough own bytes gs a c answer new
     read_none (Ok true) none run = absurd (none refl)
     read_none (Ok false) none run =
         let h = run.blob s.rest (begun_at opened) in
-        record { more = h.0; left = h.1; all = Consumes-whole (rest_of a) (rest_of c) h.0 (λ rest. rest ≡ h.0) h.1.consumed h.2 refl; blobs = none_at (further h.0) h.3 }
-    read_none (Err fault.Memory) none run = IfSome_then (rest_of a) (run.blob s.rest (begun_at opened)) (λ rest part. part_at part)
-    read_none (Err (fault.At offset reason)) none run = IfSome_then (rest_of a) (run.blob s.rest (begun_at opened)) (λ rest f. fault_at (further rest) f.2 f.1)
+        record {
+          more = h.0;
+          left = h.1;
+          all = Consumes-whole (rest_of a) (rest_of c) h.0
+              (λ rest. rest ≡ h.0) h.1.consumed h.2 refl;
+          blobs = none_at (further h.0) h.3;
+        }
+    read_none (Err fault.Memory) none run = IfSome_then (rest_of a)
+        (run.blob s.rest (begun_at opened)) (λ rest part. part_at part)
+    read_none (Err (fault.At offset reason)) none run = IfSome_then (rest_of a)
+        (run.blob s.rest (begun_at opened)) (λ rest f. fault_at (further rest) f.2 f.1)
     read_none (Err (fault.Device why)) none run = elim (run.blob s.rest (begun_at opened)) [
       | inl h ↦ inl (record { more = h.0; left = h.1; begun = cut_at (further h.0) h.2; none = h.3 })
-      | inr h ↦ inr (h.0, (let ahead = h.1 in omega (arith, ahead, s.start, ap length s.whole, length-append s.front s.rest)))
+      | inr h ↦ inr (
+        h.0,
+        (let ahead = h.1 in omega
+            (arith, ahead, s.start, ap length s.whole, length-append s.front s.rest)),
+      )
     ]
     read_none (Err fault.Spent) none run = absurd (run.blob s.rest (begun_at opened))
 
   -- ---- a geometry's tree
 
   -- there is no memory for it
-  pub no_tree : (piece : List ℕ) (new : Session) (used : ℕ) → session_limits new ≡ own → FedFlat bytes gs piece (Ok (used, true)) new → PartAt (session_limits new) bytes gs piece
+  pub no_tree : (piece : List ℕ) (new : Session) (used : ℕ) → session_limits new ≡ own
+      → FedFlat bytes gs piece (Ok (used, true)) new → PartAt (session_limits new) bytes gs piece
   no_tree piece new used limits (g, fed, is) =
-      let stream : Stream own (s.front ++ (s.rest ++ take used piece)) (gs ++ g ∷ []) = rw (← limits, ← further (take used piece)) fed.2 in
+      let stream : Stream own (s.front ++ (s.rest ++ take used piece)) (gs ++ g ∷ []) =
+      rw (← limits, ← further (take used piece)) fed.2 in
       let blob = blob_behind own s.front (s.rest ++ take used piece) gs g s.blobs stream in
-      rw limits (part_at (record { used = used; some = fed.0; within = fed.1; part = blob_judged own (s.rest ++ take used piece) g blob }))
+      rw limits (part_at (record {
+        used = used;
+        some = fed.0;
+        within = fed.1;
+        part = blob_judged own (s.rest ++ take used piece) g blob;
+      }))
 
 -- the tree that is made of the rows is the geometry
-pub gave_found : TreeLaw → (bytes : List ℕ) (gs : List Tree) (piece : List ℕ) (new : Session) (used : ℕ) (found : Option Tree) → FedFlat bytes gs piece (Ok (used, true)) new
-    → (found ≡ None → session_rows new ≡ []) → IfSome found (λ h. rows 0 h ≡ session_rows new) → IfSome found (λ h. IsValid largest_limits h) → FedSession bytes gs piece (Ok (used, found)) new
-gave_found law bytes gs piece new used None (g, fed, is) none made valid = absurd (not_none (session_rows new) g is (none refl))
+pub gave_found : TreeLaw → (bytes : List ℕ) (gs : List Tree) (piece : List ℕ) (new : Session)
+    (used : ℕ) (found : Option Tree) → FedFlat bytes gs piece (Ok (used, true)) new
+    → (found ≡ None → session_rows new ≡ []) → IfSome found (λ h. rows 0 h ≡ session_rows new)
+    → IfSome found (λ h. IsValid largest_limits h)
+    → FedSession bytes gs piece (Ok (used, found)) new
+gave_found law bytes gs piece new used None (g, fed, is) none made valid = absurd
+    (not_none (session_rows new) g is (none refl))
 gave_found law bytes gs piece new used (Some h) (g, fed, is) none made valid =
-    subst (λ t. FedSession bytes gs piece (Ok (used, Some t)) new) (tree_made law (session_rows new) g h (last_tree (session_limits new) (bytes ++ take used piece) gs g fed.2) is made valid) fed
+    subst (λ t. FedSession bytes gs piece (Ok (used, Some t)) new)
+    (tree_made law (session_rows new) g h (last_tree (session_limits new)
+    (bytes ++ take used piece) gs g fed.2) is made valid) fed

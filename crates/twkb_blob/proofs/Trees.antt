@@ -22,10 +22,12 @@ pub not_none : (rs : List Row) (g : Tree) → rs ≡ rows 0 g → rs ≡ [] → 
 not_none rs g is none = absurd (omega (arith, ap length none, some_row rs g is))
 
 -- the tree that is made of the rows is the geometry
-pub tree_made : TreeLaw → (rs : List Row) (g h : Tree) → IsTree g → rs ≡ rows 0 g → rows 0 h ≡ rs → IsValid largest_limits h → g ≡ h
+pub tree_made : TreeLaw → (rs : List Row) (g h : Tree) → IsTree g → rs ≡ rows 0 g → rows 0 h ≡ rs
+    → IsValid largest_limits h → g ≡ h
 tree_made law rs g h tree is made valid = law g h tree valid.tree (sym (made ∙ is))
 
 -- the last geometry of a stream is one
-pub last_tree : (limits : Allowance) (bytes : List ℕ) (gs : List Tree) (g : Tree) → Stream limits bytes (gs ++ g ∷ []) → IsTree g
+pub last_tree : (limits : Allowance) (bytes : List ℕ) (gs : List Tree) (g : Tree)
+    → Stream limits bytes (gs ++ g ∷ []) → IsTree g
 last_tree limits bytes [] g (front, rest, whole, blob, more) = blob.valid.tree
 last_tree limits bytes (f ∷ fs) g (front, rest, whole, blob, more) = last_tree limits rest fs g more

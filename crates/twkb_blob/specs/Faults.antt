@@ -14,7 +14,8 @@ fault_of offset Memory = fault.Memory
 fault_of offset (Refused reason) = fault.At offset reason
 
 -- a byte of the piece is the last of an item that is refused, or of a geometry whose size is wrong, whatever follows it
-pub record RefusedAt (limits : Allowance) (bytes : List ℕ) (gs : List Tree) (piece : List ℕ) (offset : ℕ) (reason : Reason) : Type 0 where
+pub record RefusedAt (limits : Allowance) (bytes : List ℕ) (gs : List Tree) (piece : List ℕ)
+    (offset : ℕ) (reason : Reason) : Type 0 where
   pub used : ℕ
   pub some : 0 < used
   pub within : used ≤ length piece

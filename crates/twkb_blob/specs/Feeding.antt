@@ -1,5 +1,6 @@
 -- What an engine answers that is fed a piece, or the held bytes of an input.
-use Rattle.std.specs.Prelude.{◌≡◌, ◌+◌, ◌-◌, ◌<◌, ◌^◌, ◌⊎◌, take, ℕ, List, [], ◌++◌, length, Bool, true, false, Result, Ok, Err, IfSome, ⊤}
+use Rattle.std.specs.Prelude.{◌≡◌, ◌+◌, ◌-◌, ◌<◌, ◌^◌, ◌⊎◌, take, ℕ, List, [], ◌++◌, length, Bool, true, false}
+use Rattle.std.specs.Prelude.{Result, Ok, Err, IfSome, ⊤}
 use Rattle.std.specs.Io.KnownBytes.{IsAtEnd}
 use Rattle.std.specs.declared.io.traits.Read.{Ghosts}
 use Rattle.twkb_tree.specs.Tree.{Tree}
@@ -22,18 +23,22 @@ use Rattle.twkb_blob.specs.declared.fault.BlobFault.TheVariants as fault
 
 -- What it answers to a piece: the same as to any bytes, with the offset at which it stopped; or the
 -- stream has no room for all of it, and no blob ends in what it has room for.
-abbrev pub FedPiece : {S : Type 0} → (S → Notes → Type 0) → Engine → List Row → S → List ℕ → Result (ℕ × Bool) BlobFault → Engine → List Row → S → Type 0
+abbrev pub FedPiece : {S : Type 0} → (S → Notes → Type 0) → Engine → List Row → S → List ℕ
+    → Result (ℕ × Bool) BlobFault → Engine → List Row → S → Type 0
 FedPiece holds d rs old piece (Ok fed) e more new = FedBy holds d rs old piece (Ok fed) e more new
 FedPiece holds d rs old piece (Err fault.Memory) e more new = FedBy holds d rs old piece (Err stop.Memory) e more new
 FedPiece holds d rs old piece (Err (fault.At offset reason)) e more new =
     FedBy holds d rs old piece (Err (stop.Refused reason)) e more new × (offset ≡ d.start + offset_in e)
 FedPiece holds d rs old piece (Err (fault.Device why)) e more new =
     (why ≡ TooLong) × (2 ^ 62 < (d.start + count_of d) + length piece)
-    × ((bs : List ℕ) → StandsAt bs rs d → AreCutOff (allowance_of d) (bs ++ take (2 ^ 62 - (d.start + count_of d)) piece))
+    × ((bs : List ℕ) → StandsAt bs rs d → AreCutOff (allowance_of d)
+    (bs ++ take (2 ^ 62 - (d.start + count_of d)) piece))
 FedPiece holds d rs old piece (Err fault.Spent) e more new = ⊥
 
 -- That is its answer, and its limits stay.
-pub record Feeds {S : Type 0} (holds : S → Notes → Type 0) (d : Engine) (rs : List Row) (old : S) (piece : List ℕ) (answer : Result (ℕ × Bool) BlobFault) (e : Engine) (more : List Row) (new : S) : Type 0 where
+pub record Feeds {S : Type 0} (holds : S → Notes → Type 0) (d : Engine) (rs : List Row) (old : S)
+    (piece : List ℕ) (answer : Result (ℕ × Bool) BlobFault) (e : Engine) (more : List Row)
+    (new : S) : Type 0 where
   pub limits : e.limits ≡ d.limits
   pub fed : FedPiece holds d rs old piece answer e more new
 
@@ -44,7 +49,8 @@ with_one (Err why) = Err why
 
 -- Why the end of a stream is refused, after these bytes, which began at this offset.
 abbrev pub IsCutAt : Allowance → (start : ℕ) → List ℕ → BlobFault → Type 0
-IsCutAt limits start bs (fault.At offset reason) = (within : ℕ) × FirstFault limits bs within (reason_of reason) × (offset ≡ start + within)
+IsCutAt limits start bs (fault.At offset reason) = (within : ℕ)
+    × FirstFault limits bs within (reason_of reason) × (offset ≡ start + within)
 IsCutAt limits start bs _ = ⊥
 
 -- What the end of a stream is answered: there are no bytes, or they end inside a blob.
@@ -55,52 +61,73 @@ EndsAt limits start bs (Err why) = IsCutAt limits start bs why
 -- Why no blob of an input was read, after these bytes of it, which began at this offset: there was
 -- no memory, or the known bytes have a first fault; or the input gave no byte after some; or the
 -- stream has no room for what it holds, since more than the input gave out was taken.
-abbrev pub Halts : Allowance → (start : ℕ) → List ℕ → {R : Type 0} {read : Ghosts R} → Input R read → Input R read → BlobFault → Type 0
+abbrev pub Halts : Allowance → (start : ℕ) → List ℕ → {R : Type 0} {read : Ghosts R} → Input R read
+    → Input R read → BlobFault → Type 0
 Halts limits start bs old new fault.Memory = PartAhead limits bs old
 Halts limits start bs old new (fault.At offset reason) =
-    IfSome (rest_of old) (λ rest. (within : ℕ) × FirstFault limits (bs ++ rest) within (reason_of reason) × (offset ≡ start + within))
+    IfSome (rest_of old) (λ rest. (within : ℕ) × FirstFault limits (bs ++ rest) within
+    (reason_of reason) × (offset ≡ start + within))
 Halts limits start bs old new (fault.Device why) =
-    ((bytes : List ℕ) × Left old new bytes × AreCutOff limits (bs ++ bytes) × HasNone why old new) ⊎ ((why ≡ TooLong) × (given old < start + length bs))
+    ((bytes : List ℕ) × Left old new bytes × AreCutOff limits (bs ++ bytes) × HasNone why old new)
+    ⊎ ((why ≡ TooLong) × (given old < start + length bs))
 Halts limits start bs old new fault.Spent = ⊥
 
 -- What it answers that fills an input: it holds bytes; or it is at its end, and there are no bytes.
-abbrev pub Fills : Allowance → (start : ℕ) → List ℕ → {R : Type 0} {read : Ghosts R} → Input R read → Input R read → Result Bool BlobFault → Type 0
+abbrev pub Fills : Allowance → (start : ℕ) → List ℕ → {R : Type 0} {read : Ghosts R} → Input R read
+    → Input R read → Result Bool BlobFault → Type 0
 Fills limits start bs old new (Ok true) = ⊤
 Fills limits start bs old new (Ok false) = IsAtEnd (rest_of new) × (bs ≡ [])
 Fills limits start bs old new (Err why) = Halts limits start bs old new why
 
 -- What it answers that reads a blob of an input, after these bytes of it: some that left end the
 -- blob, whose rows and spans it has; or the input ended, and there are no bytes; or it halts.
-abbrev pub ReadsBlob : {S : Type 0} → (S → Notes → Type 0) → (told : Type 0) → Allowance → (start : ℕ) → List ℕ → {R : Type 0} {read : Ghosts R} → Input R read → Input R read → Result Bool BlobFault → Engine → List Row → S → Type 0
+abbrev pub ReadsBlob : {S : Type 0} → (S → Notes → Type 0) → (told : Type 0) → Allowance
+    → (start : ℕ) → List ℕ → {R : Type 0} {read : Ghosts R} → Input R read → Input R read
+    → Result Bool BlobFault → Engine → List Row → S → Type 0
 ReadsBlob holds told limits start bs old new (Ok true) e more spans =
-    (g : Tree) × (made : Makes limits bs old new g) × (told → HoldsSpans holds spans start made.blob) × (more ≡ rows 0 g)
+    (g : Tree) × (made : Makes limits bs old new g)
+    × (told → HoldsSpans holds spans start made.blob) × (more ≡ rows 0 g)
     × StandsAt [] [] e × (e.start ≡ start + length (bs ++ made.bytes))
-ReadsBlob holds told limits start bs old new (Ok false) e more spans = (bytes : List ℕ) × Left old new bytes × IsAtEnd (rest_of new) × (bs ++ bytes ≡ [])
+ReadsBlob holds told limits start bs old new (Ok false) e more spans = (bytes : List ℕ)
+    × Left old new bytes × IsAtEnd (rest_of new) × (bs ++ bytes ≡ [])
 ReadsBlob holds told limits start bs old new (Err why) e more spans = Halts limits start bs old new why
 
 -- What a call says that reads a blob of an input, wherever its engine stands.
-pub record Reads {S : Type 0} (holds : S → Notes → Type 0) {R : Type 0} {read : Ghosts R} (d : Engine) (rs : List Row) (told : S) (old new : Input R read) (answer : Result Bool BlobFault) (e : Engine) (more : List Row) (spans : S) : Type 0 where
+pub record Reads {S : Type 0} (holds : S → Notes → Type 0) {R : Type 0} {read : Ghosts R}
+    (d : Engine) (rs : List Row) (told : S) (old new : Input R read)
+    (answer : Result Bool BlobFault) (e : Engine) (more : List Row) (spans : S) : Type 0 where
   pub same_tap : (input_tap new).ghost_name ≡ (input_tap old).ghost_name
   pub failures : input_failures new ≡ count_failure (failed_by_read answer) (input_failures old)
   pub limits : e.limits ≡ d.limits
-  pub blob : (bs : List ℕ) (s : StandsAt bs rs d) → ReadsBlob holds (holds told (notes_at s)) (allowance_of d) d.start bs old new answer e more spans
+  pub blob : (bs : List ℕ) (s : StandsAt bs rs d)
+      → ReadsBlob holds (holds told (notes_at s)) (allowance_of d) d.start bs old new answer
+      e more spans
 
 -- Bytes left an input, and led an engine on within its blob.
-pub record Goes {S : Type 0} (holds : S → Notes → Type 0) {R : Type 0} {read : Ghosts R} (d : Engine) (rs : List Row) (told : S) (old new : Input R read) (e : Engine) (more : List Row) (spans : S) : Type 0 where
+pub record Goes {S : Type 0} (holds : S → Notes → Type 0) {R : Type 0} {read : Ghosts R}
+    (d : Engine) (rs : List Row) (told : S) (old new : Input R read) (e : Engine) (more : List Row)
+    (spans : S) : Type 0 where
   pub bytes : List ℕ
   pub left : Left old new bytes
-  pub leads : (bs : List ℕ) (s : StandsAt bs rs d) → (t : StandsAt (bs ++ bytes) more e) × (holds told (notes_at s) → holds spans (notes_at t)) × (e.start ≡ d.start)
+  pub leads : (bs : List ℕ) (s : StandsAt bs rs d) → (t : StandsAt (bs ++ bytes) more e)
+      × (holds told (notes_at s) → holds spans (notes_at t)) × (e.start ≡ d.start)
   pub limits : e.limits ≡ d.limits
   pub same_tap : (input_tap new).ghost_name ≡ (input_tap old).ghost_name
   pub failures : input_failures new ≡ input_failures old
   pub live : is_spent new ≡ false
 
 -- What it answers that feeds an engine what an input holds: no blob ended, or a blob was read, or none can be.
-abbrev pub Turns : {S : Type 0} → (S → Notes → Type 0) → {R : Type 0} {read : Ghosts R} → Engine → List Row → S → Input R read → Input R read → Result Bool BlobFault → Engine → List Row → S → Type 0
+abbrev pub Turns : {S : Type 0} → (S → Notes → Type 0) → {R : Type 0} {read : Ghosts R} → Engine
+    → List Row → S → Input R read → Input R read → Result Bool BlobFault → Engine → List Row
+    → S → Type 0
 Turns holds d rs told old new (Ok false) e more spans = Goes holds d rs told old new e more spans
 Turns holds d rs told old new (Ok true) e more spans = Reads holds d rs told old new (Ok true) e more spans
 Turns holds d rs told old new (Err why) e more spans = Reads holds d rs told old new (Err why) e more spans
 
 -- What a call says of a blob that it reads from here on, it says from there on.
-pub record Onto {S : Type 0} (holds : S → Notes → Type 0) {R : Type 0} {read : Ghosts R} (d : Engine) (rs : List Row) (told : S) (a : Input R read) (e : Engine) (mid : List Row) (now : S) (b : Input R read) : Type 0 where
-  pub back : (c : Input R read) (answer : Result Bool BlobFault) (x : Engine) (more : List Row) (v : S) → Reads holds e mid now b c answer x more v → Reads holds d rs told a c answer x more v
+pub record Onto {S : Type 0} (holds : S → Notes → Type 0) {R : Type 0} {read : Ghosts R}
+    (d : Engine) (rs : List Row) (told : S) (a : Input R read) (e : Engine) (mid : List Row)
+    (now : S) (b : Input R read) : Type 0 where
+  pub back : (c : Input R read) (answer : Result Bool BlobFault) (x : Engine) (more : List Row)
+      (v : S) → Reads holds e mid now b c answer x more v
+      → Reads holds d rs told a c answer x more v

@@ -1,5 +1,6 @@
 -- What a reader of an input answers.
-use Rattle.std.specs.Prelude.{ℕ, ◌≡◌, ◌+◌, ◌<◌, ◌^◌, ◌⊎◌, List, [], ◌++◌, length, Bool, true, false, Option, Some, None, IfSome, Result, Ok, Err, is_err, ⊤}
+use Rattle.std.specs.Prelude.{ℕ, ◌≡◌, ◌+◌, ◌<◌, ◌^◌, ◌⊎◌, List, [], ◌++◌, length, Bool, true, false, Option, Some}
+use Rattle.std.specs.Prelude.{None, IfSome, Result, Ok, Err, is_err, ⊤}
 use Rattle.std.specs.Io.KnownBytes.{Consumes, IsAtEnd}
 use Rattle.std.specs.declared.io.traits.Read.{Ghosts}
 use Rattle.twkb_tree.specs.Tree.{Tree}
@@ -100,7 +101,8 @@ StopsWithin limits stopped.TooLong old new = FailsLength limits old new
 StopsWithin limits stopped.Spent old new = Stops stopped.Spent old new
 
 -- These bytes and some that left are a blob of this geometry, and the input refuses no call.
-pub record Makes {R : Type 0} {read : Ghosts R} (limits : Allowance) (bs : List ℕ) (old new : Input R read) (g : Tree) : Type 0 where
+pub record Makes {R : Type 0} {read : Ghosts R} (limits : Allowance) (bs : List ℕ)
+    (old new : Input R read) (g : Tree) : Type 0 where
   pub bytes : List ℕ
   pub left : Left old new bytes
   pub blob : Blob limits (bs ++ bytes) g
@@ -118,17 +120,20 @@ pub record RefusedKnown (limits : Allowance) (before : ℕ) (rest : List ℕ) (o
 
 -- A geometry whose blob left the input; none at the input's end; the first fault of what the input
 -- has left; or that the input gave no byte.
-abbrev pub IsNext : {R : Type 0} {read : Ghosts R} → Allowance → Input R read → Input R read → Result (Option Tree) BlobFault → Type 0
+abbrev pub IsNext : {R : Type 0} {read : Ghosts R} → Allowance → Input R read → Input R read
+    → Result (Option Tree) BlobFault → Type 0
 IsNext limits old new (Ok (Some g)) = Makes limits [] old new g
 IsNext limits old new (Ok None) = IsAtEnd (rest_of old) × Left old new []
 IsNext limits old new (Err fault.Memory) = ⊤
 IsNext limits old new (Err (fault.Device why)) = StopsWithin limits why old new
 IsNext limits old new (Err fault.Spent) = ⊥
-IsNext limits old new (Err (fault.At offset reason)) = IfSome (rest_of old) (λ rest. RefusedKnown limits (given old) rest offset (reason_of reason))
+IsNext limits old new (Err (fault.At offset reason)) = IfSome (rest_of old)
+    (λ rest. RefusedKnown limits (given old) rest offset (reason_of reason))
 
 -- The answer of a reader into a flat form: the rows of a geometry whose blob left the input; or an
 -- answer without a geometry.
-abbrev pub IsNextFlat : {R : Type 0} {read : Ghosts R} → Allowance → Input R read → Input R read → Result Bool BlobFault → List Row → Type 0
+abbrev pub IsNextFlat : {R : Type 0} {read : Ghosts R} → Allowance → Input R read → Input R read
+    → Result Bool BlobFault → List Row → Type 0
 IsNextFlat limits old new (Ok true) rs = (g : Tree) × Makes limits [] old new g × (rs ≡ rows 0 g)
 IsNextFlat limits old new (Ok false) rs = IsNext limits old new (Ok None)
 IsNextFlat limits old new (Err why) rs = IsNext limits old new (Err why)
@@ -147,10 +152,12 @@ ready_at state.Spent = Err fault.Spent
 -- What every call of a reader says: its limits and the name of its tap stay; a failed read is
 -- counted; after an error it answers `Spent`, after the end it answers the end, and then it stays
 -- as it is.
-pub record ReadsNext {A : Type 0} (none : A) {R : Type 0} {read : Ghosts R} (old new : Reader R read) (answer : Result A BlobFault) : Type 0 where
+pub record ReadsNext {A : Type 0} (none : A) {R : Type 0} {read : Ghosts R}
+    (old new : Reader R read) (answer : Result A BlobFault) : Type 0 where
   pub same_tap : (input_tap (reader_input new)).ghost_name ≡ (input_tap (reader_input old)).ghost_name
   pub limits : reader_limits new ≡ reader_limits old
-  pub failures : input_failures (reader_input new) ≡ count_failure (failed_by_read answer) (input_failures (reader_input old))
+  pub failures : input_failures (reader_input new) ≡ count_failure (failed_by_read answer)
+      (input_failures (reader_input old))
   pub spent : is_spent old ≡ true → answer ≡ Err fault.Spent
   pub stays : is_spent new ≡ is_err answer
   pub unchanged : is_spent old ≡ true → new ≡ old

@@ -1,5 +1,6 @@
 -- What a session stands for.
-use Rattle.std.specs.Prelude.{ℕ, ◌≡◌, ◌+◌, ◌-◌, ◌<◌, ◌≤◌, ◌^◌, ◌⊎◌, if◌then◌else◌, List, [], ◌∷◌, ◌++◌, length, take, sum_by, Bool, true, false, Option, Some, None, Result, Ok, Err}
+use Rattle.std.specs.Prelude.{ℕ, ◌≡◌, ◌+◌, ◌-◌, ◌<◌, ◌≤◌, ◌^◌, ◌⊎◌, if◌then◌else◌, List, [], ◌∷◌, ◌++◌, length, take}
+use Rattle.std.specs.Prelude.{sum_by, Bool, true, false, Option, Some, None, Result, Ok, Err}
 use Rattle.twkb_tree.specs.Tree.{Tree}
 use Rattle.twkb_tree.specs.Rows.{Row, rows}
 use Rattle.twkb_tree.specs.Limits.{Allowance}
@@ -60,7 +61,8 @@ AreBegun limits bytes gs = Stream limits bytes gs ⊎ ((offset : ℕ) × StreamF
 -- So many bytes are after the last complete item: none after complete blobs, and inside a blob
 -- those from the place on where the next item is missing.
 abbrev pub HeldOf : Allowance → List ℕ → List Tree → ℕ → Type 0
-HeldOf limits bytes gs n = (Stream limits bytes gs × (n ≡ 0)) ⊎ ((offset : ℕ) × StreamFault limits bytes gs offset Truncated × (offset + n ≡ length bytes))
+HeldOf limits bytes gs n = (Stream limits bytes gs × (n ≡ 0))
+    ⊎ ((offset : ℕ) × StreamFault limits bytes gs offset Truncated × (offset + n ≡ length bytes))
 
 -- how many geometries an item in this role begins
 abbrev pub begun_by : Role → ℕ
@@ -79,7 +81,9 @@ AreOpen is n = n + sum_by (λ i. ended_by i.role) is ≡ sum_by (λ i. begun_by 
 -- So many geometries are begun and not finished: none after complete blobs, and inside a blob those
 -- of its items before the place where the next is missing.
 abbrev pub FramesOf : Allowance → List ℕ → List Tree → ℕ → Type 0
-FramesOf limits bytes gs n = (Stream limits bytes gs × (n ≡ 0)) ⊎ ((offset : ℕ) × (cut : StreamFault limits bytes gs offset Truncated) × AreOpen cut.first.fault.before n)
+FramesOf limits bytes gs n = (Stream limits bytes gs × (n ≡ 0))
+    ⊎ ((offset : ℕ) × (cut : StreamFault limits bytes gs offset Truncated)
+    × AreOpen cut.first.fault.before n)
 
 -- the piece goes past 2^62 bytes, and up to there no geometry ends in it and no item is refused
 pub record IsTooLong (limits : Allowance) (bytes : List ℕ) (gs : List Tree) (piece : List ℕ) : Type 0 where
@@ -101,16 +105,19 @@ pub record PartAt (limits : Allowance) (bytes : List ℕ) (gs : List Tree) (piec
 abbrev pub FedSession : List ℕ → List Tree → List ℕ → Result (ℕ × Option Tree) BlobFault → Session → Type 0
 FedSession bytes gs piece (Ok (used, None)) s = (used ≡ length piece) × Stands (bytes ++ piece) gs s
 FedSession bytes gs piece (Ok (used, Some g)) s =
-    (0 < used) × (used ≤ length piece) × Stream (session_limits s) (bytes ++ take used piece) (gs ++ g ∷ []) × Stands (bytes ++ take used piece) (gs ++ g ∷ []) s
+    (0 < used) × (used ≤ length piece) × Stream (session_limits s) (bytes ++ take used piece)
+    (gs ++ g ∷ []) × Stands (bytes ++ take used piece) (gs ++ g ∷ []) s
 FedSession bytes gs piece (Err fault.Memory) s = PartAt (session_limits s) bytes gs piece
 FedSession bytes gs piece (Err (fault.Device why)) s = (why ≡ TooLong) × IsTooLong (session_limits s) bytes gs piece
 FedSession bytes gs piece (Err fault.Spent) s = ⊥
-FedSession bytes gs piece (Err (fault.At offset reason)) s = RefusedAt (session_limits s) bytes gs piece offset (reason_of reason)
+FedSession bytes gs piece (Err (fault.At offset reason)) s = RefusedAt (session_limits s) bytes gs
+    piece offset (reason_of reason)
 
 -- What a feed answers, with the rows of the geometry in the form.
 abbrev pub FedFlat : List ℕ → List Tree → List ℕ → Result (ℕ × Bool) BlobFault → Session → Type 0
 FedFlat bytes gs piece (Ok (used, false)) s = FedSession bytes gs piece (Ok (used, None)) s
-FedFlat bytes gs piece (Ok (used, true)) s = (g : Tree) × FedSession bytes gs piece (Ok (used, Some g)) s × (session_rows s ≡ rows 0 g)
+FedFlat bytes gs piece (Ok (used, true)) s = (g : Tree)
+    × FedSession bytes gs piece (Ok (used, Some g)) s × (session_rows s ≡ rows 0 g)
 FedFlat bytes gs piece (Err why) s = FedSession bytes gs piece (Err why) s
 
 -- how many bytes a call took, with whether a geometry ended

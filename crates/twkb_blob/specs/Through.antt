@@ -19,7 +19,8 @@ use Rattle.twkb_blob.specs.declared.reader.Reader.{Reader}
 use Rattle.twkb_blob.specs.declared.session.Session.{Session}
 
 -- A session of these limits stands between two blobs, after as many bytes as the input gave out.
-pub record IsAbreast {R : Type 0} {read : Ghosts R} (limits : Allowance) (input : Input R read) (s : Session) : Type 0 where
+pub record IsAbreast {R : Type 0} {read : Ghosts R} (limits : Allowance) (input : Input R read)
+    (s : Session) : Type 0 where
   pub bytes : List ℕ
   pub gs : List Tree
   pub stands : Stands bytes gs s
@@ -33,7 +34,8 @@ IfGoingOn r fact = is_spent r ≡ false → has_ended r ≡ false → fact
 
 -- Bytes left the input, and with them the bytes before are a stream of one geometry more, for which
 -- the session stands, and whose rows it has.
-pub record GoesOn {R : Type 0} {read : Ghosts R} (limits : Allowance) (bytes : List ℕ) (gs : List Tree) (old new : Input R read) (s : Session) : Type 0 where
+pub record GoesOn {R : Type 0} {read : Ghosts R} (limits : Allowance) (bytes : List ℕ)
+    (gs : List Tree) (old new : Input R read) (s : Session) : Type 0 where
   pub geometry : Tree
   pub more : List ℕ
   pub left : Left old new more
@@ -43,30 +45,36 @@ pub record GoesOn {R : Type 0} {read : Ghosts R} (limits : Allowance) (bytes : L
   pub unspent : input_spent new ≡ false
 
 -- All bytes left the input, and with the bytes before they are a stream.
-pub record EndsAll {R : Type 0} {read : Ghosts R} (limits : Allowance) (bytes : List ℕ) (gs : List Tree) (old new : Input R read) : Type 0 where
+pub record EndsAll {R : Type 0} {read : Ghosts R} (limits : Allowance) (bytes : List ℕ)
+    (gs : List Tree) (old new : Input R read) : Type 0 where
   pub more : List ℕ
   pub left : Left old new more
   pub all : IfSome (rest_of old) (λ rest. rest ≡ more)
   pub blobs : Stream limits (bytes ++ more) gs
 
 -- The input gave no byte after some bytes; with those before, these are whole blobs, or cut inside a further one.
-pub record HaltsWithin {R : Type 0} {read : Ghosts R} (limits : Allowance) (bytes : List ℕ) (gs : List Tree) (why : InFault) (old new : Input R read) : Type 0 where
+pub record HaltsWithin {R : Type 0} {read : Ghosts R} (limits : Allowance) (bytes : List ℕ)
+    (gs : List Tree) (why : InFault) (old new : Input R read) : Type 0 where
   pub more : List ℕ
   pub left : Left old new more
   pub begun : AreBegun limits (bytes ++ more) gs
   pub none : HasNone why old new
 
 -- that, or the session takes no further byte, since it took more than the input gave out
-abbrev pub Halts : {R : Type 0} {read : Ghosts R} → Allowance → List ℕ → List Tree → InFault → Input R read → Input R read → Type 0
-Halts limits bytes gs why old new = HaltsWithin limits bytes gs why old new ⊎ ((why ≡ stopped.TooLong) × (given old < length bytes))
+abbrev pub Halts : {R : Type 0} {read : Ghosts R} → Allowance → List ℕ → List Tree → InFault
+    → Input R read → Input R read → Type 0
+Halts limits bytes gs why old new = HaltsWithin limits bytes gs why old new
+    ⊎ ((why ≡ stopped.TooLong) × (given old < length bytes))
 
 -- A session that stood for these bytes and geometries read a further geometry; or all bytes are a
 -- stream; or there was no memory for a part that ends in what is known of the rest; or the input
 -- gave no byte; or with the rest the bytes have a first fault.
-abbrev pub IsThrough : {R : Type 0} {read : Ghosts R} → Allowance → List ℕ → List Tree → Input R read → Input R read → Result Bool BlobFault → Session → Type 0
+abbrev pub IsThrough : {R : Type 0} {read : Ghosts R} → Allowance → List ℕ → List Tree
+    → Input R read → Input R read → Result Bool BlobFault → Session → Type 0
 IsThrough limits bytes gs old new (Ok true) s = GoesOn limits bytes gs old new s
 IsThrough limits bytes gs old new (Ok false) s = EndsAll limits bytes gs old new
 IsThrough limits bytes gs old new (Err fault.Memory) s = IfSome (rest_of old) (λ rest. PartAt limits bytes gs rest)
 IsThrough limits bytes gs old new (Err (fault.Device why)) s = Halts limits bytes gs why old new
 IsThrough limits bytes gs old new (Err fault.Spent) s = ⊥
-IsThrough limits bytes gs old new (Err (fault.At offset reason)) s = IfSome (rest_of old) (λ rest. StreamFault limits (bytes ++ rest) gs offset (reason_of reason))
+IsThrough limits bytes gs old new (Err (fault.At offset reason)) s = IfSome (rest_of old)
+    (λ rest. StreamFault limits (bytes ++ rest) gs offset (reason_of reason))

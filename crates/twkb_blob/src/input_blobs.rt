@@ -1,5 +1,6 @@
 //! A blob that is read from the held bytes of an input, or from a piece of a stream.
-ghost use Rattle.std.specs.Prelude.{◌≡◌, ◌+◌, ◌<◌, ◌≤◌, ◌^◌, ◌∷◌, ℕ, List, [], false, true, Ok, Err, length, if◌then◌else◌, IfOk, IfErr, OnErr, OnOk};
+ghost use Rattle.std.specs.Prelude.{◌≡◌, ◌+◌, ◌<◌, ◌≤◌, ◌^◌, ◌∷◌, ℕ, List, [], false, true, Ok, Err, length};
+ghost use Rattle.std.specs.Prelude.{if◌then◌else◌, IfOk, IfErr, OnErr, OnOk};
 ghost use Rattle.twkb_tree.specs.Rows.{Row};
 ghost use Rattle.twkb_io.specs.Taps.{count_failure};
 ghost use Rattle.twkb_io.specs.Inputs.{given, held_of, input_failures, input_tap, is_spent};
@@ -81,7 +82,8 @@ pub(crate) fn feed_one<S: SpanNotes>(
     ensures few { OnOk result (engine.new.start + count_of engine.new ≤ 2 ^ 62) }
     ensures alive { IfOk result (λ ends. IsAlive (if ends then [] else flat.new) engine.new) }
     ensures unread { failed_by_read result ≡ false }
-    ensures fed { Feeds S.holds engine.old flat.old spans.old (byte ∷ []) (with_one result) engine.new flat.new spans.new }
+    ensures fed { Feeds S.holds engine.old flat.old spans.old (byte ∷ []) (with_one result)
+        engine.new flat.new spans.new }
 {
     let began = engine.start();
     match engine.take_byte(flat, spans, byte) {
@@ -93,7 +95,8 @@ pub(crate) fn feed_one<S: SpanNotes>(
 // Judges the end of a stream: `Ok` if no blob is begun, else `Truncated` where the next item is
 // missing.
 pub(crate) fn at_end(engine: &Engine) -> Result<(), BlobFault>
-    ensures end { (bs : List ℕ) (rs : List Row) → StandsAt bs rs engine.now → EndsAt (allowance_of engine.now) engine.now.start bs result }
+    ensures end { (bs : List ℕ) (rs : List Row) → StandsAt bs rs engine.now
+        → EndsAt (allowance_of engine.now) engine.now.start bs result }
     ensures unread { failed_by_read result ≡ false }
     ensures unspent { result ≡ Err BlobFault.Spent → ⊥ }
 {
@@ -115,7 +118,8 @@ fn fill_held<R: Read>(input: &mut Input<'_, R>, engine: &Engine) -> Result<bool,
     ensures left { Left input.old input.new [] }
     ensures some { result ≡ Ok true → 0 < length (held_of input.new) }
     ensures live { OnOk result (is_spent input.new ≡ false) }
-    ensures filled { (bs : List ℕ) (rs : List Row) → StandsAt bs rs engine.now → Fills (allowance_of engine.now) engine.now.start bs input.old input.new result }
+    ensures filled { (bs : List ℕ) (rs : List Row) → StandsAt bs rs engine.now
+        → Fills (allowance_of engine.now) engine.now.start bs input.old input.new result }
 {
     // learnt: where the engine stands, the bytes end inside a blob, or there are none
     let _learnt = engine.is_between();
@@ -170,7 +174,8 @@ pub(crate) fn read_blob<R: Read, S: SpanNotes>(
     requires alive { IsAlive flat.old engine.old }
     ensures few { result ≡ Ok true → engine.new.start + count_of engine.new ≤ 2 ^ 62 }
     ensures alive { result ≡ Ok true → IsAlive [] engine.new }
-    ensures read { Reads S.holds engine.old flat.old spans.old input.old input.new result engine.new flat.new spans.new }
+    ensures read { Reads S.holds engine.old flat.old spans.old input.old input.new result engine.new
+        flat.new spans.new }
 {
     loop {
         match fill_held(input, engine) {

@@ -9,6 +9,8 @@ pub use twkb_grammar::laws::{one_blob, written_is_blob};
 
 /// The bytes tell how many of them a session holds, and how many geometries are begun.
 pub fn one_count()
-    ensures held { (limits : Allowance) (bytes : List ℕ) (gs hs : List Tree) (m n : ℕ) → HeldOf limits bytes gs m → HeldOf limits bytes hs n → m ≡ n }
-    ensures frames { (limits : Allowance) (bytes : List ℕ) (gs hs : List Tree) (m n : ℕ) → FramesOf limits bytes gs m → FramesOf limits bytes hs n → m ≡ n }
+    ensures held { (limits : Allowance) (bytes : List ℕ) (gs hs : List Tree) (m n : ℕ)
+        → HeldOf limits bytes gs m → HeldOf limits bytes hs n → m ≡ n }
+    ensures frames { (limits : Allowance) (bytes : List ℕ) (gs hs : List Tree) (m n : ℕ)
+        → FramesOf limits bytes gs m → FramesOf limits bytes hs n → m ≡ n }
 {}

@@ -2,6 +2,7 @@
 #![tactic(auto)]
 
 mod fault;
+mod feed_result;
 mod input_blobs;
 pub mod laws;
 mod open_spans;

@@ -1,5 +1,6 @@
 //! The blobs of an input, one after another.
-ghost use Rattle.std.specs.Prelude.{◌≡◌, ◌<◌, ◌↔◌, ◌⊎◌, ℕ, List, [], length, true, false, Ok, Err, None, IfOk, IfErr, OnOk, OnErr, is_err};
+ghost use Rattle.std.specs.Prelude.{◌≡◌, ◌<◌, ◌↔◌, ◌⊎◌, ℕ, List, [], length, true, false, Ok, Err, None, IfOk, IfErr};
+ghost use Rattle.std.specs.Prelude.{OnOk, OnErr, is_err};
 ghost use Rattle.twkb_tree.specs.Tree.{Tree};
 ghost use Rattle.twkb_tree.specs.Rows.{rows};
 ghost use Rattle.twkb_tree.specs.Limits.{IsValid, largest_limits};
@@ -51,7 +52,8 @@ pub struct Reader<'a, R: Read> {
 }
 
 impl<'a, R: Read> Reader<'a, R> {
-    ghost use Rattle.twkb_blob.specs.Readers.{reader_input, reader_limits, is_spent, has_ended, ready_at, IsNext, IsNextFlat, PartAhead, ReadsNext};
+    ghost use Rattle.twkb_blob.specs.Readers.{reader_input, reader_limits, is_spent, has_ended, ready_at, IsNext};
+    ghost use Rattle.twkb_blob.specs.Readers.{IsNextFlat, PartAhead, ReadsNext};
     ghost use Rattle.twkb_blob.specs.Located.{IsLocated, IsSpanned, ReadsInto};
     ghost use Rattle.twkb_blob.specs.Sessions.{Stands, is_spent as is_finished, session_limits, session_rows};
     ghost use Rattle.twkb_blob.specs.Through.{IfGoingOn, IsAbreast, IsThrough};
@@ -76,7 +78,9 @@ impl<'a, R: Read> Reader<'a, R> {
     /// that it reads.
     pub fn next(&mut self, alloc: Global) -> Result<Option<Geometry>, BlobFault>
         ensures shared { ReadsNext None self.old self.new result }
-        ensures next { is_spent self.old ≡ false → has_ended self.old ≡ false → IsNext (reader_limits self.old) (reader_input self.old) (reader_input self.new) result }
+        ensures next { is_spent self.old ≡ false → has_ended self.old ≡ false
+            → IsNext (reader_limits self.old) (reader_input self.old)
+            (reader_input self.new) result }
         ensures memory { result ≡ Err BlobFault.Memory → PartAhead (reader_limits self.old) [] (reader_input self.old) }
         ensures spent { (result ≡ Err BlobFault.Spent) ↔ (is_spent self.old ≡ true) }
     {
@@ -95,7 +99,9 @@ impl<'a, R: Read> Reader<'a, R> {
     /// it.
     pub fn next_flat(&mut self, alloc: Global, flat: &mut Flat) -> Result<bool, BlobFault>
         ensures shared { ReadsNext false self.old self.new result }
-        ensures next { is_spent self.old ≡ false → has_ended self.old ≡ false → IsNextFlat (reader_limits self.old) (reader_input self.old) (reader_input self.new) result flat.new }
+        ensures next { is_spent self.old ≡ false → has_ended self.old ≡ false
+            → IsNextFlat (reader_limits self.old) (reader_input self.old) (reader_input self.new)
+            result flat.new }
         ensures memory { result ≡ Err BlobFault.Memory → PartAhead (reader_limits self.old) [] (reader_input self.old) }
         ensures cleared { (result ≡ Ok true) ⊎ (flat.new ≡ []) }
         ensures some { result ≡ Ok true → 0 < length flat.new }
@@ -113,13 +119,22 @@ impl<'a, R: Read> Reader<'a, R> {
     /// no further byte. Takes memory as `Session::feed_flat` does.
     pub fn next_through(&mut self, session: &mut Session) -> Result<bool, BlobFault>
         ensures shared { ReadsNext false self.old self.new result }
-        ensures next { IsAbreast (reader_limits self.old) (reader_input self.old) session.old → IfGoingOn self.old (IsNextFlat (reader_limits self.old) (reader_input self.old) (reader_input self.new) result (session_rows session.new)) }
-        ensures memory { IsAbreast (reader_limits self.old) (reader_input self.old) session.old → result ≡ Err BlobFault.Memory → PartAhead (reader_limits self.old) [] (reader_input self.old) }
+        ensures next { IsAbreast (reader_limits self.old) (reader_input self.old) session.old
+            → IfGoingOn self.old (IsNextFlat (reader_limits self.old) (reader_input self.old)
+            (reader_input self.new) result (session_rows session.new)) }
+        ensures memory { IsAbreast (reader_limits self.old) (reader_input self.old) session.old
+            → result ≡ Err BlobFault.Memory → PartAhead (reader_limits self.old) []
+            (reader_input self.old) }
         ensures cleared { (result ≡ Ok true) ⊎ (session_rows session.new ≡ []) }
-        ensures some { IsAbreast (reader_limits self.old) (reader_input self.old) session.old → result ≡ Ok true → 0 < length (session_rows session.new) }
+        ensures some { IsAbreast (reader_limits self.old) (reader_input self.old) session.old
+            → result ≡ Ok true → 0 < length (session_rows session.new) }
 
-        ensures through { (bytes : List ℕ) (gs : List Tree) → Stands bytes gs session.old → IfGoingOn self.old (IsThrough (session_limits session.old) bytes gs (reader_input self.old) (reader_input self.new) result session.new) }
-        ensures abreast { IsAbreast (reader_limits self.old) (reader_input self.old) session.old → result ≡ Ok true → IsAbreast (reader_limits self.old) (reader_input self.new) session.new }
+        ensures through { (bytes : List ℕ) (gs : List Tree) → Stands bytes gs session.old
+            → IfGoingOn self.old (IsThrough (session_limits session.old) bytes gs
+            (reader_input self.old) (reader_input self.new) result session.new) }
+        ensures abreast { IsAbreast (reader_limits self.old) (reader_input self.old) session.old
+            → result ≡ Ok true → IsAbreast (reader_limits self.old) (reader_input self.new)
+            session.new }
         ensures session_limits { session_limits session.new ≡ session_limits session.old }
         ensures finished { (result ≡ Ok true) ⊎ (is_finished session.new ≡ true) }
         ensures spent_session { IfGoingOn self.old (is_finished session.old ≡ true → result ≡ Err BlobFault.Spent) }
@@ -138,7 +153,9 @@ impl<'a, R: Read> Reader<'a, R> {
         spans: &mut Spans,
     ) -> Result<bool, BlobFault>
         ensures shared { ReadsNext false self.old self.new result }
-        ensures next { is_spent self.old ≡ false → has_ended self.old ≡ false → IsSpanned (reader_limits self.old) (reader_input self.old) (reader_input self.new) result flat.new spans.new }
+        ensures next { is_spent self.old ≡ false → has_ended self.old ≡ false
+            → IsSpanned (reader_limits self.old) (reader_input self.old) (reader_input self.new)
+            result flat.new spans.new }
         ensures memory { result ≡ Err BlobFault.Memory → PartAhead (reader_limits self.old) [] (reader_input self.old) }
         ensures cleared { (result ≡ Ok true) ⊎ ((flat.new ≡ []) × (spans.new ≡ [])) }
         ensures some { result ≡ Ok true → 0 < length flat.new }
@@ -162,13 +179,22 @@ impl<'a, R: Read> Reader<'a, R> {
         spans: &mut Spans,
     ) -> Result<bool, BlobFault>
         ensures shared { ReadsNext false self.old self.new result }
-        ensures next { IsAbreast (reader_limits self.old) (reader_input self.old) session.old → IfGoingOn self.old (IsSpanned (reader_limits self.old) (reader_input self.old) (reader_input self.new) result (session_rows session.new) spans.new) }
-        ensures memory { IsAbreast (reader_limits self.old) (reader_input self.old) session.old → result ≡ Err BlobFault.Memory → PartAhead (reader_limits self.old) [] (reader_input self.old) }
+        ensures next { IsAbreast (reader_limits self.old) (reader_input self.old) session.old
+            → IfGoingOn self.old (IsSpanned (reader_limits self.old) (reader_input self.old)
+            (reader_input self.new) result (session_rows session.new) spans.new) }
+        ensures memory { IsAbreast (reader_limits self.old) (reader_input self.old) session.old
+            → result ≡ Err BlobFault.Memory → PartAhead (reader_limits self.old) []
+            (reader_input self.old) }
         ensures cleared { (result ≡ Ok true) ⊎ ((session_rows session.new ≡ []) × (spans.new ≡ [])) }
-        ensures some { IsAbreast (reader_limits self.old) (reader_input self.old) session.old → result ≡ Ok true → 0 < length (session_rows session.new) }
+        ensures some { IsAbreast (reader_limits self.old) (reader_input self.old) session.old
+            → result ≡ Ok true → 0 < length (session_rows session.new) }
 
-        ensures through { (bytes : List ℕ) (gs : List Tree) → Stands bytes gs session.old → IfGoingOn self.old (IsThrough (session_limits session.old) bytes gs (reader_input self.old) (reader_input self.new) result session.new) }
-        ensures abreast { IsAbreast (reader_limits self.old) (reader_input self.old) session.old → result ≡ Ok true → IsAbreast (reader_limits self.old) (reader_input self.new) session.new }
+        ensures through { (bytes : List ℕ) (gs : List Tree) → Stands bytes gs session.old
+            → IfGoingOn self.old (IsThrough (session_limits session.old) bytes gs
+            (reader_input self.old) (reader_input self.new) result session.new) }
+        ensures abreast { IsAbreast (reader_limits self.old) (reader_input self.old) session.old
+            → result ≡ Ok true → IsAbreast (reader_limits self.old) (reader_input self.new)
+            session.new }
         ensures session_limits { session_limits session.new ≡ session_limits session.old }
         ensures finished { (result ≡ Ok true) ⊎ (is_finished session.new ≡ true) }
         ensures spent_session { IfGoingOn self.old (is_finished session.old ≡ true → result ≡ Err BlobFault.Spent) }
@@ -183,7 +209,9 @@ impl<'a, R: Read> Reader<'a, R> {
     /// from where the input began. It takes memory for a span a header besides.
     pub fn next_located(&mut self, alloc: Global) -> Result<Option<Located>, BlobFault>
         ensures shared { ReadsNext None self.old self.new result }
-        ensures next { is_spent self.old ≡ false → has_ended self.old ≡ false → IsLocated (reader_limits self.old) (reader_input self.old) (reader_input self.new) result }
+        ensures next { is_spent self.old ≡ false → has_ended self.old ≡ false
+            → IsLocated (reader_limits self.old) (reader_input self.old)
+            (reader_input self.new) result }
         ensures memory { result ≡ Err BlobFault.Memory → PartAhead (reader_limits self.old) [] (reader_input self.old) }
         ensures spent { (result ≡ Err BlobFault.Spent) ↔ (is_spent self.old ≡ true) }
     {
@@ -220,8 +248,10 @@ impl<'a, R: Read> Reader<'a, R> {
         requires empty { flat.old ≡ [] }
         requires no_notes { S.holds spans.old no_notes }
         ensures shared { ReadsNext false self.old self.new result }
-        ensures read { IfGoingOn self.old (ReadsInto S.holds (reader_limits self.old) (reader_input self.old) (reader_input self.new) result flat.new spans.new) }
-        ensures next { IfGoingOn self.old (IsNextFlat (reader_limits self.old) (reader_input self.old) (reader_input self.new) result flat.new) }
+        ensures read { IfGoingOn self.old (ReadsInto S.holds (reader_limits self.old)
+            (reader_input self.old) (reader_input self.new) result flat.new spans.new) }
+        ensures next { IfGoingOn self.old (IsNextFlat (reader_limits self.old)
+            (reader_input self.old) (reader_input self.new) result flat.new) }
         ensures memory { result ≡ Err BlobFault.Memory → PartAhead (reader_limits self.old) [] (reader_input self.old) }
         ensures cleared { (result ≡ Ok true) ⊎ (flat.new ≡ []) }
         ensures some { result ≡ Ok true → 0 < length flat.new }
@@ -246,13 +276,24 @@ impl<'a, R: Read> Reader<'a, R> {
     ) -> Result<bool, BlobFault>
         requires no_notes { S.holds spans.old no_notes }
         ensures shared { ReadsNext false self.old self.new result }
-        ensures read { IsAbreast (reader_limits self.old) (reader_input self.old) session.old → IfGoingOn self.old (ReadsInto S.holds (reader_limits self.old) (reader_input self.old) (reader_input self.new) result (session_rows session.new) spans.new) }
-        ensures next { IsAbreast (reader_limits self.old) (reader_input self.old) session.old → IfGoingOn self.old (IsNextFlat (reader_limits self.old) (reader_input self.old) (reader_input self.new) result (session_rows session.new)) }
-        ensures memory { IsAbreast (reader_limits self.old) (reader_input self.old) session.old → result ≡ Err BlobFault.Memory → PartAhead (reader_limits self.old) [] (reader_input self.old) }
+        ensures read { IsAbreast (reader_limits self.old) (reader_input self.old) session.old
+            → IfGoingOn self.old (ReadsInto S.holds (reader_limits self.old) (reader_input self.old)
+            (reader_input self.new) result (session_rows session.new) spans.new) }
+        ensures next { IsAbreast (reader_limits self.old) (reader_input self.old) session.old
+            → IfGoingOn self.old (IsNextFlat (reader_limits self.old) (reader_input self.old)
+            (reader_input self.new) result (session_rows session.new)) }
+        ensures memory { IsAbreast (reader_limits self.old) (reader_input self.old) session.old
+            → result ≡ Err BlobFault.Memory → PartAhead (reader_limits self.old) []
+            (reader_input self.old) }
         ensures cleared { (result ≡ Ok true) ⊎ (session_rows session.new ≡ []) }
-        ensures some { IsAbreast (reader_limits self.old) (reader_input self.old) session.old → result ≡ Ok true → 0 < length (session_rows session.new) }
-        ensures through { (bytes : List ℕ) (gs : List Tree) → Stands bytes gs session.old → IfGoingOn self.old (IsThrough (session_limits session.old) bytes gs (reader_input self.old) (reader_input self.new) result session.new) }
-        ensures abreast { IsAbreast (reader_limits self.old) (reader_input self.old) session.old → result ≡ Ok true → IsAbreast (reader_limits self.old) (reader_input self.new) session.new }
+        ensures some { IsAbreast (reader_limits self.old) (reader_input self.old) session.old
+            → result ≡ Ok true → 0 < length (session_rows session.new) }
+        ensures through { (bytes : List ℕ) (gs : List Tree) → Stands bytes gs session.old
+            → IfGoingOn self.old (IsThrough (session_limits session.old) bytes gs
+            (reader_input self.old) (reader_input self.new) result session.new) }
+        ensures abreast { IsAbreast (reader_limits self.old) (reader_input self.old) session.old
+            → result ≡ Ok true → IsAbreast (reader_limits self.old) (reader_input self.new)
+            session.new }
         ensures session_limits { session_limits session.new ≡ session_limits session.old }
         ensures finished { (result ≡ Ok true) ⊎ (is_finished session.new ≡ true) }
         ensures spent_session { IfGoingOn self.old (is_finished session.old ≡ true → result ≡ Err BlobFault.Spent) }
@@ -299,15 +340,4 @@ fn keep_rows(found: Result<bool, BlobFault>, flat: &mut Flat)
         return;
     }
     flat.clear();
-}
-
-// Leaves spans in a list only if a geometry was read.
-fn keep_spans(found: Result<bool, BlobFault>, spans: &mut Spans)
-    ensures made { found ≡ Ok true → spans.new ≡ spans.old }
-    ensures cleared { (found ≡ Ok true) ⊎ (spans.new ≡ []) }
-{
-    if let Ok(true) = found {
-        return;
-    }
-    spans.clear();
 }

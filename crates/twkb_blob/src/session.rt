@@ -1,5 +1,6 @@
 //! A stream of blobs that comes in pieces.
-ghost use Rattle.std.specs.Prelude.{◌≡◌, ◌<◌, ◌≤◌, ◌^◌, ◌↔◌, ◌+◌, ◌⊎◌, ◌∷◌, [], if◌then◌else◌, List, ℕ, true, false, Ok, Err, None, is_err, length, IfOk, IfErr, IfSome};
+ghost use Rattle.std.specs.Prelude.{◌≡◌, ◌<◌, ◌≤◌, ◌^◌, ◌↔◌, ◌+◌, ◌⊎◌, ◌∷◌, [], if◌then◌else◌, List, ℕ, true, false};
+ghost use Rattle.std.specs.Prelude.{Ok, Err, None, is_err, length, IfOk, IfErr, IfSome};
 ghost use Rattle.twkb_tree.specs.Tree.{Tree};
 ghost use Rattle.twkb_tree.specs.Rows.{rows};
 ghost use Rattle.twkb_tree.specs.Limits.{Allowance, IsValid, largest_limits};
@@ -10,6 +11,7 @@ ghost use Rattle.twkb_engine.specs.Standing.{IsAlive, count_of};
 ghost use Rattle.twkb_blob.specs.Readers.{failed_by_read};
 
 use crate::fault::BlobFault;
+use crate::feed_result::{none_after, refused};
 use crate::input_blobs::{at_end, feed_one, feed_piece, read_blob};
 use std::alloc::{AllocError, Global};
 use std::io::Read;
@@ -32,25 +34,10 @@ pub struct Session {
     ghost alive: { spent ≡ false → IsAlive (if is_whole then [] else rows.flat) engine },
 }
 
-// The result of a feed with which no geometry ends. A separate function, so that the result is
-// built in place and not copied.
-#[inline(always)]
-fn none_after(used: usize) -> Result<(usize, Option<Geometry>), BlobFault>
-    ensures { result ≡ Ok (used, None) }
-{
-    Ok((used, None))
-}
-
-// The result of a feed that is refused. A separate function, as `none_after`.
-#[inline(always)]
-fn refused(fault: BlobFault) -> Result<(usize, Option<Geometry>), BlobFault>
-    ensures { result ≡ Err fault }
-{
-    Err(fault)
-}
-
 impl Session {
-    ghost use Rattle.twkb_blob.specs.Sessions.{Stands, FedFlat, FedSession, Finished, HeldOf, FramesOf, begun_rows, with_end, is_spent, session_limits, session_held, session_open, session_rows};
+    ghost use Rattle.twkb_blob.specs.Sessions.{Stands, FedFlat, FedSession, Finished, HeldOf, FramesOf, begun_rows};
+    ghost use Rattle.twkb_blob.specs.Sessions.{with_end, is_spent, session_limits, session_held, session_open};
+    ghost use Rattle.twkb_blob.specs.Sessions.{session_rows};
     ghost use Rattle.twkb_blob.specs.Located.{ReadsInto};
     ghost use Rattle.twkb_blob.specs.Through.{IsAbreast, IsThrough};
 
@@ -78,7 +65,8 @@ impl Session {
     /// `Spent`. It takes memory for what it keeps and for the geometry, and none for a count that
     /// it reads.
     pub fn feed(&mut self, piece: &[u8]) -> Result<(usize, Option<Geometry>), BlobFault>
-        ensures fed { (bytes : List ℕ) (gs : List Tree) → Stands bytes gs self.old → FedSession bytes gs piece.now result self.new }
+        ensures fed { (bytes : List ℕ) (gs : List Tree) → Stands bytes gs self.old
+            → FedSession bytes gs piece.now result self.new }
         ensures spent { (result ≡ Err BlobFault.Spent) ↔ (is_spent self.old ≡ true) }
         ensures stays { is_spent self.new ≡ is_err result }
         ensures limits { session_limits self.new ≡ session_limits self.old }
@@ -96,7 +84,10 @@ impl Session {
     #[inline(always)]
     fn give_tree(&mut self, used: usize) -> Result<(usize, Option<Geometry>), BlobFault>
         requires live { self.old.spent ≡ false }
-        ensures fed { (bytes piece : List ℕ) (gs : List Tree) (was : Session) → Stands bytes gs was → session_limits self.old ≡ session_limits was → FedFlat bytes gs piece (Ok (used, true)) self.old → FedSession bytes gs piece result self.new }
+        ensures fed { (bytes piece : List ℕ) (gs : List Tree) (was : Session) → Stands bytes gs was
+            → session_limits self.old ≡ session_limits was
+            → FedFlat bytes gs piece (Ok (used, true)) self.old
+            → FedSession bytes gs piece result self.new }
         ensures memory { IfErr result (λ fault. fault ≡ BlobFault.Memory) }
         ensures stays { is_spent self.new ≡ is_err result }
         ensures limits { session_limits self.new ≡ session_limits self.old }
@@ -139,7 +130,8 @@ impl Session {
     /// takes memory for what it keeps, and none once that has room.
     #[inline(always)]
     pub fn feed_flat(&mut self, piece: &[u8]) -> Result<(usize, bool), BlobFault>
-        ensures fed { (bytes : List ℕ) (gs : List Tree) → Stands bytes gs self.old → FedFlat bytes gs piece.now result self.new }
+        ensures fed { (bytes : List ℕ) (gs : List Tree) → Stands bytes gs self.old
+            → FedFlat bytes gs piece.now result self.new }
         ensures within { IfOk result (λ fed. fed.0 ≤ length piece.now) }
         ensures unread { failed_by_read result ≡ false }
         ensures spent { (result ≡ Err BlobFault.Spent) ↔ (is_spent self.old ≡ true) }
@@ -156,7 +148,8 @@ impl Session {
     // geometry ended is read off the session.
     #[inline(never)]
     fn feed_apart(&mut self, piece: &[u8]) -> Result<usize, BlobFault>
-        ensures fed { (bytes : List ℕ) (gs : List Tree) → Stands bytes gs self.old → FedFlat bytes gs piece.now (with_end self.new.is_whole result) self.new }
+        ensures fed { (bytes : List ℕ) (gs : List Tree) → Stands bytes gs self.old
+            → FedFlat bytes gs piece.now (with_end self.new.is_whole result) self.new }
         ensures within { IfOk result (λ used. used ≤ length piece.now) }
         ensures unread { failed_by_read result ≡ false }
         ensures spent { (result ≡ Err BlobFault.Spent) ↔ (is_spent self.old ≡ true) }
@@ -180,7 +173,8 @@ impl Session {
     fn feed_many(&mut self, piece: &[u8]) -> Result<usize, BlobFault>
         requires live { self.old.spent ≡ false }
         requires begun { self.old.is_whole ≡ false }
-        ensures fed { (bytes : List ℕ) (gs : List Tree) → Stands bytes gs self.old → FedFlat bytes gs piece.now (with_end self.new.is_whole result) self.new }
+        ensures fed { (bytes : List ℕ) (gs : List Tree) → Stands bytes gs self.old
+            → FedFlat bytes gs piece.now (with_end self.new.is_whole result) self.new }
         ensures within { IfOk result (λ used. used ≤ length piece.now) }
         ensures unread { failed_by_read result ≡ false }
         ensures unspent { (result ≡ Err BlobFault.Spent) → ⊥ }
@@ -205,7 +199,8 @@ impl Session {
         requires live { self.old.spent ≡ false }
         requires begun { self.old.is_whole ≡ false }
         requires room { count_of self.old.engine + self.old.engine.start < 2 ^ 62 }
-        ensures fed { (bytes : List ℕ) (gs : List Tree) → Stands bytes gs self.old → FedFlat bytes gs (byte ∷ []) (with_end self.new.is_whole result) self.new }
+        ensures fed { (bytes : List ℕ) (gs : List Tree) → Stands bytes gs self.old
+            → FedFlat bytes gs (byte ∷ []) (with_end self.new.is_whole result) self.new }
         ensures one { IfOk result (λ used. used ≡ 1) }
         ensures unread { failed_by_read result ≡ false }
         ensures unspent { (result ≡ Err BlobFault.Spent) → ⊥ }
@@ -236,11 +231,14 @@ impl Session {
         ensures same_tap { (input_tap input.new).ghost_name ≡ (input_tap input.old).ghost_name }
         ensures limits { session_limits self.new ≡ session_limits self.old }
         ensures failures { input_failures input.new ≡ count_failure (failed_by_read result) (input_failures input.old) }
-        ensures through { (bytes : List ℕ) (gs : List Tree) → Stands bytes gs self.old → IsThrough (session_limits self.old) bytes gs input.old input.new result self.new }
+        ensures through { (bytes : List ℕ) (gs : List Tree) → Stands bytes gs self.old
+            → IsThrough (session_limits self.old) bytes gs input.old input.new result self.new }
         ensures cleared { (result ≡ Ok true) ⊎ (session_rows self.new ≡ []) }
         ensures finished { (result ≡ Ok true) ⊎ (is_spent self.new ≡ true) }
         ensures spent { is_spent self.old ≡ true → result ≡ Err BlobFault.Spent }
-        ensures read { (limits : Allowance) → IsAbreast limits input.old self.old → ReadsInto S.holds limits input.old input.new result (session_rows self.new) spans.new }
+        ensures read { (limits : Allowance) → IsAbreast limits input.old self.old
+            → ReadsInto S.holds limits input.old input.new result (session_rows self.new)
+            spans.new }
     {
         if self.spent {
             self.give_up();
@@ -301,7 +299,8 @@ impl Session {
     pub fn finish(&mut self) -> Result<(), BlobFault>
         ensures unread { failed_by_read result ≡ false }
         ensures limits { session_limits self.new ≡ session_limits self.old }
-        ensures finished { (bytes : List ℕ) (gs : List Tree) → Stands bytes gs self.old → Finished (session_limits self.old) bytes gs result }
+        ensures finished { (bytes : List ℕ) (gs : List Tree) → Stands bytes gs self.old
+            → Finished (session_limits self.old) bytes gs result }
         ensures spent { (result ≡ Err BlobFault.Spent) ↔ (is_spent self.old ≡ true) }
         ensures stays { is_spent self.new ≡ true }
     {
@@ -314,7 +313,8 @@ impl Session {
 
     /// The number of bytes held of a number whose last byte has not come, 0 to 9. Takes no memory.
     pub fn held(&self) -> usize
-        ensures held { (bytes : List ℕ) (gs : List Tree) → Stands bytes gs self.now → HeldOf (session_limits self.now) bytes gs result }
+        ensures held { (bytes : List ℕ) (gs : List Tree) → Stands bytes gs self.now
+            → HeldOf (session_limits self.now) bytes gs result }
         ensures state { result ≡ session_held self.now }
         ensures few { result ≤ 9 }
     {
@@ -325,9 +325,11 @@ impl Session {
 
     /// The number of geometries whose header was begun and whose end did not come. Takes no memory.
     pub fn frames(&self) -> usize
-        ensures open { (bytes : List ℕ) (gs : List Tree) → Stands bytes gs self.now → FramesOf (session_limits self.now) bytes gs result }
+        ensures open { (bytes : List ℕ) (gs : List Tree) → Stands bytes gs self.now
+            → FramesOf (session_limits self.now) bytes gs result }
         ensures state { result ≡ session_open self.now }
-        ensures few { (bytes : List ℕ) (gs : List Tree) → Stands bytes gs self.now → result ≤ (session_limits self.now).nest + 1 }
+        ensures few { (bytes : List ℕ) (gs : List Tree) → Stands bytes gs self.now
+            → result ≤ (session_limits self.now).nest + 1 }
     {
         // learnt: what it holds begins a number
         let _learnt = self.engine.held();

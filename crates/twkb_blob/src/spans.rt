@@ -72,3 +72,14 @@ pub struct Located {
     /// Where it and its members are, and what their headers say.
     pub spans: Spans,
 }
+
+// Leaves spans in a list only if a geometry was read.
+pub(crate) fn keep_spans(found: Result<bool, BlobFault>, spans: &mut Spans)
+    ensures made { found ≡ Ok true → spans.new ≡ spans.old }
+    ensures cleared { (found ≡ Ok true) ⊎ (spans.new ≡ []) }
+{
+    if let Ok(true) = found {
+        return;
+    }
+    spans.clear();
+}

@@ -10,7 +10,10 @@ use Rattle.twkb_body.specs.Outline.{Outline, outline_role}
 use Rattle.twkb_body.specs.Reading.{Outlined}
 use Rattle.twkb_body.proofs.Outlined.{same_role}
 
-pub outlined_exact : (limits : Allowance) (bytes more : List ℕ) (e : Sums) (o : Outline) (rs : List Row) → Outlined limits bytes e o rs → ((role : Role) → outline_role e o ≡ Some role → NoEnd role)
+pub outlined_exact : (limits : Allowance) (bytes more : List ℕ) (e : Sums) (o : Outline)
+    (rs : List Row) → Outlined limits bytes e o rs
+    → ((role : Role) → outline_role e o ≡ Some role → NoEnd role)
     → FirstFault limits (bytes ++ more) (length bytes) SizeMismatch → ⊥
 outlined_exact limits bytes more e o rs r apart =
-    no_size_wrong limits bytes more e r.stack r.reached (λ role says. apart role (sym (same_role e r.stack ∙ ap (outline_role e) r.outline) ∙ says))
+    no_size_wrong limits bytes more e r.stack r.reached
+    (λ role says. apart role (sym (same_role e r.stack ∙ ap (outline_role e) r.outline) ∙ says))

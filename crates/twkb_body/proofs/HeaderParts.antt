@@ -1,5 +1,6 @@
 -- A reader after the optional parts of a header that are numbers.
-use Rattle.std.proofs.Common.{◌≡◌, ℕ, suc, ◌+◌, ◌<◌, List, [], ◌∷◌, ◌++◌, length, refl, sym, ◌∙◌, ap, subst, append_assoc, append-nil, length-append, false, ℤ, Option, None, arith}
+use Rattle.std.proofs.Common.{◌≡◌, ℕ, suc, ◌+◌, ◌<◌, List, [], ◌∷◌, ◌++◌, length, refl, sym, ◌∙◌, ap, subst}
+use Rattle.std.proofs.Common.{append_assoc, append-nil, length-append, false, ℤ, Option, None, arith}
 use Rattle.std.specs.Prelude.{if◌then◌else◌}
 use Rattle.twkb_num.specs.Varint.{IsVarint}
 use Rattle.twkb_tree.specs.Limits.{Allowance}
@@ -22,23 +23,30 @@ use Rattle.twkb_body.proofs.NotedJoins.{sums_same, noted_still, noted_join}
 -- ---- optional parts
 
 -- one part is a list of parts
-pub one_part : (h : Head) (at n : ℕ) (r : Role) (bytes : List ℕ) → IsNumberPart r → IsVarint bytes n → AreNumberParts h at (r ∷ []) bytes (with_option h r n (at + length bytes))
+pub one_part : (h : Head) (at n : ℕ) (r : Role) (bytes : List ℕ) → IsNumberPart r → IsVarint bytes n
+    → AreNumberParts h at (r ∷ []) bytes (with_option h r n (at + length bytes))
 one_part h at n r bytes is v = (n, bytes, [], is, v, sym (append-nil bytes), (refl, refl))
 
 -- some parts and the parts after them are parts
-pub parts_join : (h mid to : Head) (at : ℕ) (rs qs : List Role) (xs ys : List ℕ) → AreNumberParts h at rs xs mid → AreNumberParts mid (at + length xs) qs ys to → AreNumberParts h at (rs ++ qs) (xs ++ ys) to
+pub parts_join : (h mid to : Head) (at : ℕ) (rs qs : List Role) (xs ys : List ℕ)
+    → AreNumberParts h at rs xs mid → AreNumberParts mid (at + length xs) qs ys to
+    → AreNumberParts h at (rs ++ qs) (xs ++ ys) to
 parts_join h mid to at [] qs xs ys (none, same) next =
     let still : at + length xs ≡ at = omega (arith, ap length none) in
-    subst (λ l. AreNumberParts h at qs (l ++ ys) to) (sym none) (subst (λ g. AreNumberParts g at qs ys to) same (subst (λ a. AreNumberParts mid a qs ys to) still next))
+    subst (λ l. AreNumberParts h at qs (l ++ ys) to) (sym none)
+    (subst (λ g. AreNumberParts g at qs ys to) same
+    (subst (λ a. AreNumberParts mid a qs ys to) still next))
 parts_join h mid to at (r ∷ rs) qs xs ys (n, part, rest, is, v, whole, more) next =
-    let behind : at + length xs ≡ (at + length part) + length rest = omega (arith, ap length whole, length-append part rest) in (
+    let behind : at + length xs ≡ (at + length part) + length rest = omega
+    (arith, ap length whole, length-append part rest) in (
       n,
       part,
       rest ++ ys,
       is,
       v,
       ap (λ l. l ++ ys) whole ∙ append_assoc part rest ys,
-      parts_join (with_option h r n (at + length part)) mid to (at + length part) rs qs rest ys more (subst (λ a. AreNumberParts mid a qs ys to) behind next),
+      parts_join (with_option h r n (at + length part)) mid to (at + length part) rs qs rest ys more
+          (subst (λ a. AreNumberParts mid a qs ys to) behind next),
     )
 
 -- ---- the reader
@@ -55,19 +63,43 @@ record IsCalmPart (limits : Allowance) (e : Sums) (r : Role) (n : ℕ) : Type 0 
   pub gives : (bytes : List ℕ) → IsVarint bytes n → Gives r n bytes
 
 calm : (limits : Allowance) (e : Sums) (r : Role) (n : ℕ) → IsNumberPart r → IsCalmPart limits e r n
-calm limits e Size n is = record { number = tt; free = refl; still = refl; nodes = refl; points = refl; silent = λ start w. refl; meta = λ h at. refl; gives = λ bytes v. v }
-calm limits e Box n is = record { number = tt; free = refl; still = refl; nodes = refl; points = refl; silent = λ start w. refl; meta = λ h at. refl; gives = λ bytes v. v }
+calm limits e Size n is = record {
+  number = tt;
+  free = refl;
+  still = refl;
+  nodes = refl;
+  points = refl;
+  silent = λ start w. refl;
+  meta = λ h at. refl;
+  gives = λ bytes v. v;
+}
+calm limits e Box n is = record {
+  number = tt;
+  free = refl;
+  still = refl;
+  nodes = refl;
+  points = refl;
+  silent = λ start w. refl;
+  meta = λ h at. refl;
+  gives = λ bytes v. v;
+}
 calm limits e _ n is = absurd is
 
 -- a header that goes on to a body changes no row
-no_row : (d : ℕ) (id : Option ℤ) (k : Kind) (precision : ℤ) (meta : ℕ) (rs : List Role) (rows : List Row) → bit meta 4 ≡ false → applied (header_change d id k precision meta rs) rows ≡ rows
+no_row : (d : ℕ) (id : Option ℤ) (k : Kind) (precision : ℤ) (meta : ℕ) (rs : List Role)
+    (rows : List Row) → bit meta 4 ≡ false → applied (header_change d id k precision meta rs)
+    rows ≡ rows
 no_row d id k precision meta (r ∷ rs) rows full = refl
-no_row d id k precision meta [] rows full = ap (λ b. applied (if b then NewRow (own_of d id k precision) else Nothing) rows) full
+no_row d id k precision meta [] rows full = ap (λ b.
+    applied (if b then NewRow (own_of d id k precision) else Nothing) rows) full
 
 module _ (limits : Allowance) (gs : List Group) (k : Kind) (rows : List Row) (told : ℕ → Notes) where
   -- the state after one part
-  part_read : (front : List ℕ) (e : Sums) (h : Head) (r : Role) (rs : List Role) (n : ℕ) (part : List ℕ) → bit h.meta 4 ≡ false → IsNumberPart r → IsVarint part n → NotedOutline limits front e (gs, OnOption k h r rs) rows told
-      → NotedOutline limits (front ++ part) (sums_past e part e.position) (gs, options k (with_option h r n (e.bytes + length part)) rs) rows told
+  part_read : (front : List ℕ) (e : Sums) (h : Head) (r : Role) (rs : List Role) (n : ℕ)
+      (part : List ℕ) → bit h.meta 4 ≡ false → IsNumberPart r → IsVarint part n
+      → NotedOutline limits front e (gs, OnOption k h r rs) rows told
+      → NotedOutline limits (front ++ part) (sums_past e part e.position)
+      (gs, options k (with_option h r n (e.bytes + length part)) rs) rows told
   part_read front e h r rs n part full is v there =
       let c = calm limits e r n is in
       let i : Item = record { role = r; number = n; bytes = part } in
@@ -83,26 +115,42 @@ module _ (limits : Allowance) (gs : List Group) (k : Kind) (rows : List Row) (to
       record { outlined = d.outlined; notes = λ start. d.notes start ∙ c.silent start (told start) }
 
   -- the state after some parts
-  pub parts_read : (front : List ℕ) (e : Sums) (h to : Head) (rs : List Role) (bytes : List ℕ) → bit h.meta 4 ≡ false → AreNumberParts h e.bytes rs bytes to → NotedOutline limits front e (gs, options k h rs) rows told
+  pub parts_read : (front : List ℕ) (e : Sums) (h to : Head) (rs : List Role) (bytes : List ℕ)
+      → bit h.meta 4 ≡ false → AreNumberParts h e.bytes rs bytes to
+      → NotedOutline limits front e (gs, options k h rs) rows told
       → NotedOutline limits (front ++ bytes) (sums_past e bytes e.position) (gs, options k to []) rows told
   parts_read front e h to [] bytes full (none, same) there =
       rw (none, same)
       (noted_still limits front e (gs, options k h []) rows told e.position refl there)
   parts_read front e h to (r ∷ rs) bytes full (n, part, rest, is, v, whole, more) there =
       let with = with_option h r n (e.bytes + length part) in
-      let meta : bit with.meta 4 ≡ false = ap (λ m. bit m 4) ((calm limits e r n is).meta h (e.bytes + length part)) ∙ full in
-      let next = parts_read (front ++ part) (sums_past e part e.position) with to rs rest meta more (part_read front e h r rs n part full is v there) in
+      let meta : bit with.meta 4 ≡ false = ap (λ m. bit m 4)
+      ((calm limits e r n is).meta h (e.bytes + length part)) ∙ full in
+      let next = parts_read (front ++ part) (sums_past e part e.position) with to rs rest meta more
+      (part_read front e h r rs n part full is v there) in
       rw whole
       (noted_join limits front e (gs, options k to []) rows told part rest e.position e.position next)
 
 -- the sums after a metadata byte and the parts that it asks for
 abbrev pub sums_behind_header : Sums → Kind → (meta : ℕ) → (parts : List ℕ) → Sums
-sums_behind_header e k meta parts = record { bytes = e.bytes + suc (length parts); position = e.position; nodes = e.nodes; points = e.points + points_by (Metadata (kind_number k)) meta }
+sums_behind_header e k meta parts = record {
+  bytes = e.bytes + suc (length parts);
+  position = e.position;
+  nodes = e.nodes;
+  points = e.points + points_by
+      (Metadata (kind_number k)) meta;
+}
 
 -- a metadata byte, the parts that it asks for, and then a body: only the metadata byte adds notes
-pub header_read : (limits : Allowance) (front : List ℕ) (e : Sums) (gs : List Group) (k : Kind) (precision : ℤ) (rows : List Row) (told : ℕ → Notes) (meta : ℕ) (parts : List ℕ) (size : Option ℕ) (from : ℕ) → meta < 256 → bit meta 4 ≡ false
-    → objection limits e (Metadata (kind_number k)) meta ≡ None → (let to : Head = record { precision = precision; meta = meta; size = size; from = from } in AreNumberParts (bare_head precision meta (e.bytes + 1)) (e.bytes + 1) (asked meta) parts to
-    → NotedOutline limits front e (gs, OnMetadata k precision) rows told → NotedOutline limits (front ++ meta ∷ parts) (sums_behind_header e k meta parts) (gs, begins k to) rows (λ start. note_metadata meta (told start)))
+pub header_read : (limits : Allowance) (front : List ℕ) (e : Sums) (gs : List Group) (k : Kind)
+    (precision : ℤ) (rows : List Row) (told : ℕ → Notes) (meta : ℕ) (parts : List ℕ)
+    (size : Option ℕ) (from : ℕ) → meta < 256 → bit meta 4 ≡ false
+    → objection limits e (Metadata (kind_number k)) meta ≡ None
+    → (let to : Head = record { precision = precision; meta = meta; size = size; from = from } in
+    AreNumberParts (bare_head precision meta (e.bytes + 1)) (e.bytes + 1) (asked meta) parts to
+    → NotedOutline limits front e (gs, OnMetadata k precision) rows told
+    → NotedOutline limits (front ++ meta ∷ parts) (sums_behind_header e k meta parts)
+    (gs, begins k to) rows (λ start. note_metadata meta (told start)))
 header_read limits front e gs k precision rows told meta parts size from low full free are there =
     let i : Item = item (Metadata (kind_number k)) meta in
     let to : Head = record { precision = precision; meta = meta; size = size; from = from } in

@@ -30,7 +30,9 @@ pair_of from to bytes xs ys x y whole x_spelled y_spelled steps =
     }
 
 -- two numbers, one after the other, are the steps to a point
-pub pair_in_front : (from to : Point) (bytes : List ℕ) (x y w h : ℕ) → NumberInFront bytes x w → NumberInFront (take (length bytes - w) (drop w bytes)) y h → StepsTo from x y to → PointInFront from bytes to (w + h)
+pub pair_in_front : (from to : Point) (bytes : List ℕ) (x y w h : ℕ) → NumberInFront bytes x w
+    → NumberInFront (take (length bytes - w) (drop w bytes)) y h → StepsTo from x y to
+    → PointInFront from bytes to (w + h)
 pair_in_front from to bytes x y w h a cut steps =
     let b : NumberInFront (drop w bytes) y h = subst (λ l. NumberInFront l y h) (take_rest bytes w) cut in
     record {
@@ -41,8 +43,12 @@ pair_in_front from to bytes x y w h a cut steps =
     }
 
 -- two numbers are the steps to a point, a step at a time
-pub two_numbers : (from beside to : Point) (bytes : List ℕ) (x y w h : ℕ) (dx dy : ℤ) → NumberInFront bytes x w → NumberInFront (take (length bytes - w) (drop w bytes)) y h → zigzag_of dx ≡ x → zigzag_of dy ≡ y
-    → in_range (from.x +ℤ dx) ≡ true → beside ≡ point_at (from.x +ℤ dx) from.y → in_range (beside.y +ℤ dy) ≡ true → to ≡ point_at beside.x (beside.y +ℤ dy) → PointInFront from bytes to (w + h)
+pub two_numbers : (from beside to : Point) (bytes : List ℕ) (x y w h : ℕ) (dx dy : ℤ)
+    → NumberInFront bytes x w → NumberInFront (take (length bytes - w) (drop w bytes)) y h
+    → zigzag_of dx ≡ x → zigzag_of dy ≡ y
+    → in_range (from.x +ℤ dx) ≡ true → beside ≡ point_at (from.x +ℤ dx) from.y
+    → in_range (beside.y +ℤ dy) ≡ true → to ≡ point_at beside.x (beside.y +ℤ dy)
+    → PointInFront from bytes to (w + h)
 two_numbers from beside to bytes x y w h dx dy a cut ex ey rx eb ry et =
     let ux : dx ≡ unzigzag_of x = sym (unzigzag_back dx x ex) in
     let uy : dy ≡ unzigzag_of y = sym (unzigzag_back dy y ey) in
@@ -50,5 +56,7 @@ two_numbers from beside to bytes x y w h dx dy a cut ex ey rx eb ry et =
     record {
       x_kept = subst (λ d. in_range (from.x +ℤ d) ≡ true) ux rx;
       y_kept = subst (λ d. in_range (from.y +ℤ d) ≡ true) uy (subst (λ p. in_range (p.y +ℤ dy) ≡ true) eb ry);
-      leads = et ∙ (ap (λ p. point_at p.x (p.y +ℤ dy)) eb ∙ (ap (λ d. point_at (from.x +ℤ d) (from.y +ℤ dy)) ux ∙ ap (λ d. point_at (from.x +ℤ unzigzag_of x) (from.y +ℤ d)) uy));
+      leads = et ∙ (ap (λ p. point_at p.x (p.y +ℤ dy)) eb
+          ∙ (ap (λ d. point_at (from.x +ℤ d) (from.y +ℤ dy)) ux
+          ∙ ap (λ d. point_at (from.x +ℤ unzigzag_of x) (from.y +ℤ d)) uy));
     }

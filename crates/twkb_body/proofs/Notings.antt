@@ -3,13 +3,15 @@ use Rattle.std.proofs.Common.{◌≡◌, ℕ, suc, [], ◌∷◌, refl, sym, ap}
 use Rattle.std.proofs.lemmas.List.{length-map}
 use Rattle.std.specs.Prelude.{List}
 use Rattle.twkb_grammar.specs.Noting.{Notes, note_byte, IsCalm}
-use Rattle.twkb_grammar.specs.Machine.{Frame, Phase, AtHeader, AtMetadata, AtOption, AtCount, AtId, AtBody, AtEnd, Finished, Want, WantY, Done}
+use Rattle.twkb_grammar.specs.Machine.{Frame, Phase, AtHeader, AtMetadata, AtOption, AtCount, AtId, AtBody, AtEnd}
+use Rattle.twkb_grammar.specs.Machine.{Finished, Want, WantY, Done}
 use Rattle.twkb_grammar.specs.Reading.{frame_count}
 use Rattle.twkb_body.specs.Outline.{Step, group_of, step_of, outline_of}
 use Rattle.twkb_body.specs.Reading.{open_count}
 use Rattle.twkb_body.specs.Noting.{note_step, note_first, IsCalmStep}
 
-pub same_note : (ph : Phase) (offset points byte : ℕ) (w : Notes) → note_byte ph offset points byte w ≡ note_step (step_of ph) offset points byte w
+pub same_note : (ph : Phase) (offset points byte : ℕ) (w : Notes)
+    → note_byte ph offset points byte w ≡ note_step (step_of ph) offset points byte w
 same_note AtHeader offset points byte w = refl
 same_note (AtMetadata k p) offset points byte w = refl
 same_note (AtOption k h r rs) offset points byte w = refl
@@ -47,6 +49,7 @@ same_count fs (AtEnd h g) = ap suc (sym (length-map fs group_of))
 
 module _ (t : Step) (offset points : ℕ) where
   -- nothing is noted if no byte adds a note
-  pub silent : (bytes : List ℕ) (w : Notes) → ((byte : ℕ) → note_step t offset points byte w ≡ w) → note_first t offset points bytes w ≡ w
+  pub silent : (bytes : List ℕ) (w : Notes) → ((byte : ℕ) → note_step t offset points byte w ≡ w)
+      → note_first t offset points bytes w ≡ w
   silent [] w h = refl
   silent (byte ∷ bytes) w h = h byte

@@ -1,6 +1,7 @@
 -- Points of a list that are complete at the start of bytes lead its body on; and the bytes up to
 -- one for which there is no memory are a part.
-use Rattle.std.proofs.Common.{◌≡◌, ℕ, suc, ◌+◌, ◌-◌, ◌<◌, ◌≤◌, ◌^◌, List, [], ◌∷◌, length, take, drop, refl, sym, ap, subst, arith}
+use Rattle.std.proofs.Common.{◌≡◌, ℕ, suc, ◌+◌, ◌-◌, ◌<◌, ◌≤◌, ◌^◌, List, [], ◌∷◌, length, take, drop, refl, sym, ap}
+use Rattle.std.proofs.Common.{subst, arith}
 use Rattle.std.proofs.lemmas.List.{take_rest}
 use Rattle.twkb_points.specs.Point.{Point}
 use Rattle.twkb_tree.specs.Rows.{Row, row_points}

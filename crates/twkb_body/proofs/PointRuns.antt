@@ -1,13 +1,15 @@
 -- Points that are complete at the start of bytes lead a body on; and the bytes up to one for which
 -- there is no memory are a part.
-use Rattle.std.proofs.Common.{Result, Ok, Err, ◌≡◌, ℕ, zero, suc, ◌+◌, ◌-◌, ◌<◌, ◌≤◌, List, [], ◌∷◌, ◌++◌, length, take, drop, refl, sym, ap, ◌∙◌, subst, arith}
+use Rattle.std.proofs.Common.{Result, Ok, Err, ◌≡◌, ℕ, zero, suc, ◌+◌, ◌-◌, ◌<◌, ◌≤◌, List, [], ◌∷◌, ◌++◌, length}
+use Rattle.std.proofs.Common.{take, drop, refl, sym, ap, ◌∙◌, subst, arith}
 use Rattle.std.specs.Prelude.{Option, ℤ, IsErr}
 use Rattle.twkb_points.specs.Point.{Point}
 use Rattle.twkb_tree.specs.declared.kind.Kind.TheVariants as kinds
 use Rattle.twkb_tree.specs.Tree.{Ids}
 use Rattle.twkb_tree.specs.Rows.{Row, plain_row, first_id, other_ids}
 use Rattle.twkb_tree.specs.RowGrowth.{point_added}
-use Rattle.twkb_grammar.specs.Machine.{Form, PointForm, LineForm, PolygonForm, MultiPointForm, MultiLineForm, MultiPolygonForm}
+use Rattle.twkb_grammar.specs.Machine.{Form, PointForm, LineForm, PolygonForm, MultiPointForm, MultiLineForm}
+use Rattle.twkb_grammar.specs.Machine.{MultiPolygonForm}
 use Rattle.twkb_body.specs.Outline.{Group, Step, OnBody, Wanted, shut, next_ids}
 use Rattle.twkb_body.specs.Growing.{applied, NewPoint, point_change, id_in}
 use Rattle.twkb_body.specs.Reading.{Pair, sums_past}
@@ -37,42 +39,70 @@ module _ (h : Head) where
   step_none s rs from = λ limits e front gs told at i. noted_still limits front e (gs, s) rs told from at i.outlined
 
   -- some bytes, and then others
-  pub step_more : (s t u : Step) (rs mid more : List Row) (from at to : Point) (bytes : List ℕ) (used count : ℕ) → StepRuns h s rs from (take used bytes) t mid at → StepRuns h t mid at (take count (take (length bytes - used) (drop used bytes))) u more to
+  pub step_more : (s t u : Step) (rs mid more : List Row) (from at to : Point) (bytes : List ℕ)
+      (used count : ℕ) → StepRuns h s rs from (take used bytes) t mid at
+      → StepRuns h t mid at (take count (take (length bytes - used) (drop used bytes))) u more to
       → StepRuns h s rs from (take (used + count) bytes) u more to
   step_more s t u rs mid more from at to bytes used count first second =
       let xs = take used bytes in
       let ys = take count (take (length bytes - used) (drop used bytes)) in
-      subst (λ l. StepRuns h s rs from l u more to) (sym (used_join bytes used count)) (λ limits e front gs told there i.
-      noted_join limits front e (gs, u) more told xs ys at to (second limits (sums_past e xs at) (front ++ xs) gs told refl (record { outlined = first limits e front gs told there i; placed = i.placed })))
+      subst (λ l. StepRuns h s rs from l u more to) (sym (used_join bytes used count))
+      (λ limits e front gs told there i.
+      noted_join limits front e (gs, u) more told xs ys at to
+      (second limits (sums_past e xs at) (front ++ xs) gs told refl
+      (record { outlined = first limits e front gs told there i; placed = i.placed })))
 
   -- there is no memory for what bytes lead to that were judged
-  pub step_judged : (s t : Step) (rs more : List Row) (from to : Point) (bytes : List ℕ) (count : ℕ) → 0 < count → count ≤ length bytes → IsPastEnds t → StepRuns h s rs from (take count bytes) t more to → StepStops h s rs from bytes
+  pub step_judged : (s t : Step) (rs more : List Row) (from to : Point) (bytes : List ℕ) (count : ℕ)
+      → 0 < count → count ≤ length bytes → IsPastEnds t
+      → StepRuns h s rs from (take count bytes) t more to → StepStops h s rs from bytes
   step_judged s t rs more from to bytes count some within past run = λ limits e front gs told there i.
-      record { used = count; some = some; within = within; part = outlined_judged limits (front ++ take count bytes) _ _ more (run limits e front gs told there i).outlined past }
+      record {
+        used = count;
+        some = some;
+        within = within;
+        part = outlined_judged limits (front ++ take count bytes) _ _ more
+            (run limits e front gs told there i).outlined past;
+      }
 
   -- some bytes, and then there is no memory
-  pub step_stops : (s t : Step) (rs mid : List Row) (from at : Point) (bytes : List ℕ) (used : ℕ) → used ≤ length bytes → StepRuns h s rs from (take used bytes) t mid at → StepStops h t mid at (take (length bytes - used) (drop used bytes)) → StepStops h s rs from bytes
+  pub step_stops : (s t : Step) (rs mid : List Row) (from at : Point) (bytes : List ℕ) (used : ℕ)
+      → used ≤ length bytes → StepRuns h s rs from (take used bytes) t mid at
+      → StepStops h t mid at (take (length bytes - used) (drop used bytes))
+      → StepStops h s rs from bytes
   step_stops s t rs mid from at bytes used within first stops = λ limits e front gs told there i.
-      part_further limits front bytes used within (stops limits (sums_past e (take used bytes) at) (front ++ take used bytes) gs told refl (record { outlined = first limits e front gs told there i; placed = i.placed }))
+      part_further limits front bytes used within (stops limits (sums_past e (take used bytes) at)
+      (front ++ take used bytes) gs told refl
+      (record { outlined = first limits e front gs told there i; placed = i.placed }))
 
 -- ---- a point
 
 -- what a point changes, by the place of its header
-pub same_change : (to : Point) (gs : List Group) (h : Head) (f : Form) (member : Option ℤ) → IsHeadAt (length gs) (id_in gs) h → point_change to (length gs) (id_in gs) h.precision f member ≡ point_change to h.depth h.id h.precision f member
-same_change to gs h f member at = ap (λ d. point_change to d (id_in gs) h.precision f member) (sym at.depth_is) ∙ ap (λ i. point_change to h.depth i h.precision f member) (sym at.id_is)
+pub same_change : (to : Point) (gs : List Group) (h : Head) (f : Form) (member : Option ℤ)
+    → IsHeadAt (length gs) (id_in gs) h → point_change to (length gs) (id_in gs) h.precision f
+    member ≡ point_change to h.depth h.id h.precision f member
+same_change to gs h f member at = ap (λ d. point_change to d (id_in gs) h.precision f member)
+    (sym at.depth_is) ∙ ap (λ i. point_change to h.depth i h.precision f member) (sym at.id_is)
 
 -- what a point leads to
-point_runs : (h : Head) (f : Form) (ids : Ids) (rs : List Row) (from to : Point) (bytes lefts : List ℕ) (used : ℕ) → PointInFront from bytes to used
-    → StepRuns h (OnBody (head_of h) f ids (Wanted 0 lefts)) rs from (take used bytes) (shut (head_of h) f ids 0 lefts) (applied (point_change to h.depth h.id h.precision f (first_id ids)) rs) to
+point_runs : (h : Head) (f : Form) (ids : Ids) (rs : List Row) (from to : Point)
+    (bytes lefts : List ℕ) (used : ℕ) → PointInFront from bytes to used
+    → StepRuns h (OnBody (head_of h) f ids (Wanted 0 lefts)) rs from (take used bytes)
+    (shut (head_of h) f ids 0 lefts)
+    (applied (point_change to h.depth h.id h.precision f (first_id ids)) rs) to
 point_runs h f ids rs from to bytes lefts used cut = λ limits e front gs told at i.
     let xs = take used bytes in
-    let next = noted_point limits front e gs (head_of h) f ids lefts rs told xs to i.outlined (subst (λ q. Pair q xs to) (sym at) cut.pair) in
-    subst (λ k. NotedOutline limits (front ++ xs) (sums_past e xs to) (gs, shut (head_of h) f ids 0 lefts) (applied k rs) told) (same_change to gs h f (first_id ids) i.placed) next
+    let next = noted_point limits front e gs (head_of h) f ids lefts rs told xs to i.outlined
+    (subst (λ q. Pair q xs to) (sym at) cut.pair) in
+    subst (λ k. NotedOutline limits (front ++ xs) (sums_past e xs to)
+    (gs, shut (head_of h) f ids 0 lefts) (applied k rs) told)
+    (same_change to gs h f (first_id ids) i.placed) next
 
 -- ---- a point of a list
 
 -- a point comes to the last row
-comes : (f : Form) (to : Point) (d : ℕ) (id : Option ℤ) (precision : ℤ) (member : Option ℤ) → HasLists f → point_change to d id precision f member ≡ NewPoint to
+comes : (f : Form) (to : Point) (d : ℕ) (id : Option ℤ) (precision : ℤ) (member : Option ℤ)
+    → HasLists f → point_change to d id precision f member ≡ NewPoint to
 comes PointForm to d id precision member h = absurd h
 comes LineForm to d id precision member h = refl
 comes PolygonForm to d id precision member h = refl

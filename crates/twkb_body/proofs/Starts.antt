@@ -7,6 +7,7 @@ use Rattle.twkb_body.specs.Outline.{Group, OnHeader}
 use Rattle.twkb_body.specs.Reading.{Outlined}
 use Rattle.twkb_body.proofs.Outlined.{outlined_start}
 
-pub starts_at : (limits : Allowance) (position : Point) (gs : List Group) (rs : List Row) → IsAllowance limits → position ≡ origin → gs ≡ [] → rs ≡ []
+pub starts_at : (limits : Allowance) (position : Point) (gs : List Group) (rs : List Row)
+    → IsAllowance limits → position ≡ origin → gs ≡ [] → rs ≡ []
     → Outlined limits [] (record { bytes = 0; position = position; nodes = 1; points = 0 }) (gs, OnHeader) rs
 starts_at limits position gs rs sound ep eg er = rw (ep, eg, er) (outlined_start limits sound)

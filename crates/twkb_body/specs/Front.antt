@@ -29,7 +29,8 @@ pub record TwoInFront (from : Point) (bytes : List ℕ) (first second : Point) (
 -- the first `count` bytes are these points, each by its steps from the one before it
 abbrev pub PointsInFront : Point → List ℕ → List Point → ℕ → Type 0
 PointsInFront from bytes [] count = count ≡ 0
-PointsInFront from bytes (p ∷ ps) count = (first : ℕ) × (rest : ℕ) × (count ≡ first + rest) × PointInFront from bytes p first × PointsInFront p (drop first bytes) ps rest
+PointsInFront from bytes (p ∷ ps) count = (first : ℕ) × (rest : ℕ) × (count ≡ first + rest)
+    × PointInFront from bytes p first × PointsInFront p (drop first bytes) ps rest
 
 -- the last of these points, or if there are none the point before them
 abbrev pub last_of : Point → List Point → Point

@@ -8,8 +8,13 @@ use Rattle.twkb_tree.specs.Rows.{Row, plain_row, whole_row, first_id, rows_with,
 use Rattle.twkb_tree.specs.RowGrowth.{point_added, EndsInLine}
 use Rattle.twkb_grammar.specs.Bits.{bit}
 use Rattle.twkb_grammar.specs.Roles.{Role}
-use Rattle.twkb_grammar.specs.Machine.{Nested, Around, top, within, Body, Want, WantY, Done, Form, PointForm, LineForm, PolygonForm, MultiPointForm, MultiLineForm, MultiPolygonForm, Kind, SimpleKind, CollectionKind, depth_of, shape_of, Head, Frame, Many, ManyPoints, ManyLines, ManyPolygons, ManyGeometries, Phase, AtBody, AtEnd, Finished, Stack, asked}
-use Rattle.twkb_body.specs.Outline.{ids_after, Group, Spot, Wanted, WantedY, Full, Step, OnMetadata, OnOption, OnCount, OnId, OnBody, Outline}
+use Rattle.twkb_grammar.specs.Machine.{Nested, Around, top, within, Body, Want, WantY, Done, Form, PointForm}
+use Rattle.twkb_grammar.specs.Machine.{LineForm, PolygonForm, MultiPointForm, MultiLineForm, MultiPolygonForm, Kind}
+use Rattle.twkb_grammar.specs.Machine.{SimpleKind, CollectionKind, depth_of, shape_of, Head, Frame, Many, ManyPoints}
+use Rattle.twkb_grammar.specs.Machine.{ManyLines, ManyPolygons, ManyGeometries, Phase, AtBody, AtEnd, Finished, Stack}
+use Rattle.twkb_grammar.specs.Machine.{asked}
+use Rattle.twkb_body.specs.Outline.{ids_after, Group, Spot, Wanted, WantedY, Full, Step, OnMetadata, OnOption}
+use Rattle.twkb_body.specs.Outline.{OnCount, OnId, OnBody, Outline}
 
 -- ---- the rows of a stack
 
@@ -22,7 +27,8 @@ id_within (f ∷ fs) = first_id (ids_after f.ids f.done)
 -- complete members.
 abbrev pub frame_rows : List Frame → List Row
 frame_rows [] = []
-frame_rows (f ∷ fs) = frame_rows fs ++ (whole_row (length fs) kinds.Collection (id_within fs) f.head.precision [] ∷ member_rows (suc (length fs)) f.ids f.done)
+frame_rows (f ∷ fs) = frame_rows fs ++ (whole_row (length fs) kinds.Collection (id_within fs)
+    f.head.precision [] ∷ member_rows (suc (length fs)) f.ids f.done)
 
 -- A value, and the lists around it, each ended after the value.
 abbrev pub cut_behind : {whole d : ℕ} → Around whole d → Nested d → Nested whole

@@ -3,7 +3,9 @@ use Rattle.std.specs.Prelude.{◌≡◌, ℕ, ℤ, Option, ⊤}
 use Rattle.twkb_tree.specs.declared.kind.Kind as row
 use Rattle.twkb_tree.specs.declared.kind.Kind.TheVariants as kinds
 use Rattle.twkb_grammar.specs.Machine as machine
-use Rattle.twkb_grammar.specs.Machine.{SimpleKind, CollectionKind, PointForm, LineForm, PolygonForm, MultiPointForm, MultiLineForm, MultiPolygonForm, Many, ManyPoints, ManyLines, ManyPolygons, ManyGeometries}
+use Rattle.twkb_grammar.specs.Machine.{SimpleKind, CollectionKind, PointForm, LineForm, PolygonForm, MultiPointForm}
+use Rattle.twkb_grammar.specs.Machine.{MultiLineForm, MultiPolygonForm, Many, ManyPoints, ManyLines, ManyPolygons}
+use Rattle.twkb_grammar.specs.Machine.{ManyGeometries}
 use Rattle.twkb_body.specs.declared.head.Head.{Head}
 
 -- the type whose row is of this kind; no type has rings

@@ -19,4 +19,5 @@ bare_head precision meta from = record { precision = precision; meta = meta; siz
 abbrev pub AreNumberParts : Head → ℕ → List Role → List ℕ → Head → Type 0
 AreNumberParts h at [] bytes to = (bytes ≡ []) × (to ≡ h)
 AreNumberParts h at (r ∷ rs) bytes to =
-    (n : ℕ) × (part rest : List ℕ) × IsNumberPart r × IsVarint part n × (bytes ≡ part ++ rest) × AreNumberParts (with_option h r n (at + length part)) (at + length part) rs rest to
+    (n : ℕ) × (part rest : List ℕ) × IsNumberPart r × IsVarint part n × (bytes ≡ part ++ rest)
+    × AreNumberParts (with_option h r n (at + length part)) (at + length part) rs rest to

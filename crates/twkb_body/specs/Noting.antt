@@ -25,10 +25,12 @@ IsCalmStep (OnOption k h r rs) = IsQuiet r
 IsCalmStep _ = ⊤
 
 -- The notes of the items so far, if the blob begins at offset `start`.
-abbrev pub notes_in : {limits : Allowance} {bytes : List ℕ} {e : Sums} {o : Outline} {rs : List Row} → (start : ℕ) → Outlined limits bytes e o rs → Notes
+abbrev pub notes_in : {limits : Allowance} {bytes : List ℕ} {e : Sums} {o : Outline} {rs : List Row}
+    → (start : ℕ) → Outlined limits bytes e o rs → Notes
 notes_in start r = noted start nothing no_notes r.reached.items
 
 -- A reader is in this state, with these notes, which depend on where the blob begins.
-pub record NotedOutline (limits : Allowance) (bytes : List ℕ) (e : Sums) (o : Outline) (rs : List Row) (told : ℕ → Notes) : Type 0 where
+pub record NotedOutline (limits : Allowance) (bytes : List ℕ) (e : Sums) (o : Outline)
+    (rs : List Row) (told : ℕ → Notes) : Type 0 where
   pub outlined : Outlined limits bytes e o rs
   pub notes : (start : ℕ) → notes_in start outlined ≡ told start

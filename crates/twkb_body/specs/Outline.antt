@@ -1,5 +1,6 @@
 -- The outline of a stack: the open geometries without the values that were read.
-use Rattle.std.specs.Prelude.{ℕ, zero, suc, ◌-◌, ◌/◌, ◌%◌, if◌then◌else◌, List, [], ◌∷◌, ◌++◌, length, map, ℤ, Option, Some, None, Bool, true, false, Result, Ok, Err}
+use Rattle.std.specs.Prelude.{ℕ, zero, suc, ◌-◌, ◌/◌, ◌%◌, if◌then◌else◌, List, [], ◌∷◌, ◌++◌, length, map, ℤ, Option}
+use Rattle.std.specs.Prelude.{Some, None, Bool, true, false, Result, Ok, Err}
 use Rattle.twkb_num.specs.Zigzag.{unzigzag_of}
 use Rattle.twkb_tree.specs.Tree.{Ids, Trees, end, ◌▷◌}
 use Rattle.twkb_tree.specs.Rows.{other_ids}
@@ -7,7 +8,12 @@ use Rattle.twkb_grammar.specs.Bits.{bit}
 use Rattle.twkb_grammar.specs.Roles.{Role, Header, Metadata, Count, Id, X, Y, End}
 use Rattle.twkb_grammar.specs.Fault.{Reason, SizeMismatch}
 use Rattle.twkb_grammar.specs.PlainReader.{is_exact}
-use Rattle.twkb_grammar.specs.Machine.{Around, top, within, Body, Want, WantY, Done, Form, PointForm, LineForm, PolygonForm, MultiPointForm, MultiLineForm, MultiPolygonForm, Kind, SimpleKind, CollectionKind, kind_number, kind_at, Head, Frame, Many, ManyPoints, ManyLines, ManyPolygons, ManyGeometries, first_count, listed, Phase, AtHeader, AtMetadata, AtOption, AtCount, AtId, AtBody, AtEnd, Finished, Sums, Stack, asked, with_option}
+use Rattle.twkb_grammar.specs.Machine.{Around, top, within, Body, Want, WantY, Done, Form, PointForm, LineForm}
+use Rattle.twkb_grammar.specs.Machine.{PolygonForm, MultiPointForm, MultiLineForm, MultiPolygonForm, Kind, SimpleKind}
+use Rattle.twkb_grammar.specs.Machine.{CollectionKind, kind_number, kind_at, Head, Frame, Many, ManyPoints, ManyLines}
+use Rattle.twkb_grammar.specs.Machine.{ManyPolygons, ManyGeometries, first_count, listed, Phase, AtHeader, AtMetadata}
+use Rattle.twkb_grammar.specs.Machine.{AtOption, AtCount, AtId, AtBody, AtEnd, Finished, Sums, Stack, asked}
+use Rattle.twkb_grammar.specs.Machine.{with_option}
 
 -- The ids of the members after some values.
 abbrev pub ids_behind : {A : Type 0} → Ids → List A → Ids
@@ -176,10 +182,15 @@ outline_ended (g ∷ gs) = elim g.left [
 -- The outline after an item with this number, which ends after `bytes` bytes.
 abbrev pub outline_advanced : (bytes n : ℕ) → Outline → Outline
 outline_advanced bytes n (gs, OnHeader) = (gs, OnMetadata (kind_at (n % 16)) (unzigzag_of (n / 16)))
-outline_advanced bytes n (gs, OnMetadata k precision) = (gs, options k (record { precision = precision; meta = n; size = None; from = bytes }) (asked n))
+outline_advanced bytes n (gs, OnMetadata k precision) = (
+  gs,
+  options k (record { precision = precision; meta = n; size = None; from = bytes })
+      (asked n),
+)
 outline_advanced bytes n (gs, OnOption k h r rs) = (gs, options k (with_option h r n bytes) rs)
 outline_advanced bytes n (gs, OnCount m h) = many_counted m h gs n
-outline_advanced bytes n (gs, OnId m h members ids zero) = members_open m h gs (Some (ids ++ unzigzag_of n ∷ [])) members
+outline_advanced bytes n (gs, OnId m h members ids zero) = members_open m h gs
+    (Some (ids ++ unzigzag_of n ∷ [])) members
 outline_advanced bytes n (gs, OnId m h members ids (suc left)) = (gs, OnId m h members (ids ++ unzigzag_of n ∷ []) left)
 outline_advanced bytes n (gs, OnBody h f ids s) = (gs, spot_after h f ids n s)
 outline_advanced bytes n (gs, OnEnd h) = outline_ended gs

@@ -27,11 +27,14 @@ pub record BoxInFront (meta : ℕ) (bytes : List ℕ) (used : ℕ) : Type 0 wher
 -- the first `used` bytes are the size, if the metadata byte asks for one
 pub record SizeInFront (meta : ℕ) (bytes : List ℕ) (size : Option ℕ) (from : ℕ) : Type 0 where
   pub within : from ≤ length bytes
-  pub parts : (precision : ℤ) (at : ℕ) → AreNumberParts (bare_head precision meta at) at (where_set (bit meta 1) (Size ∷ [])) (take from bytes) (sized_head precision meta size (at + from))
+  pub parts : (precision : ℤ) (at : ℕ) → AreNumberParts (bare_head precision meta at) at
+      (where_set (bit meta 1) (Size ∷ [])) (take from bytes)
+      (sized_head precision meta size (at + from))
 
 -- the first `used` bytes are all optional parts that the metadata byte asks for, with this size,
 -- which counts the bytes after `from`
 pub record PartsInFront (meta : ℕ) (bytes : List ℕ) (size : Option ℕ) (from used : ℕ) : Type 0 where
   pub within : used ≤ length bytes
   pub ordered : from ≤ used
-  pub parts : (precision : ℤ) (at : ℕ) → AreNumberParts (bare_head precision meta at) at (asked meta) (take used bytes) (sized_head precision meta size (at + from))
+  pub parts : (precision : ℤ) (at : ℕ) → AreNumberParts (bare_head precision meta at) at
+      (asked meta) (take used bytes) (sized_head precision meta size (at + from))

@@ -11,7 +11,8 @@ use Rattle.twkb_grammar.specs.Fault.{Reason, FirstFault, moved}
 use Rattle.twkb_grammar.specs.Machine.{Form, Head, depth_of, Sums, added, Stack}
 use Rattle.twkb_grammar.specs.PlainReader.{in_range, objection}
 use Rattle.twkb_grammar.specs.Reading.{Reached, IsGiven}
-use Rattle.twkb_body.specs.Outline.{Group, Spot, Wanted, WantedY, Full, Step, OnHeader, OnBody, OnFinished, Outline, outline_of, outline_role, outline_advanced, shut}
+use Rattle.twkb_body.specs.Outline.{Group, Spot, Wanted, WantedY, Full, Step, OnHeader, OnBody, OnFinished, Outline}
+use Rattle.twkb_body.specs.Outline.{outline_of, outline_role, outline_advanced, shut}
 use Rattle.twkb_body.specs.Growing.{rows_so_far, Change, change_of, applied, point_change, id_in}
 
 -- The bytes are complete items that the machine ran through within the limits; these are the sums
@@ -32,7 +33,8 @@ change_after e i o = change_of (moved e.position i.role i.number) i.number o
 
 -- The state of a reader after one more item.
 abbrev pub OutlinedBehind : Allowance → List ℕ → Sums → Outline → List Row → Item → Type 0
-OutlinedBehind limits bytes e o rs i = Outlined limits (bytes ++ i.bytes) (added e i) (outline_after e i o) (applied (change_after e i o) rs)
+OutlinedBehind limits bytes e o rs i = Outlined limits (bytes ++ i.bytes) (added e i)
+    (outline_after e i o) (applied (change_after e i o) rs)
 
 -- An item with this role is expected next.
 abbrev pub Wants : Sums → Outline → Role → Type 0
@@ -41,7 +43,8 @@ Wants e o role = outline_role e o ≡ Some role
 -- If this item is expected next, its bytes give its number, and this is the objection to it or
 -- there is none, then `Holds` is true.
 abbrev pub WithItem : Allowance → Sums → Outline → Item → Option Reason → Type 0 → Type 0
-WithItem limits e o i against Holds = Wants e o i.role → IsGiven i → objection limits e i.role i.number ≡ against → Holds
+WithItem limits e o i against Holds = Wants e o i.role → IsGiven i
+    → objection limits e i.role i.number ≡ against → Holds
 
 -- The state of a reader after the ends, with its rows; or the first fault, whatever bytes follow.
 abbrev pub OutlineLanded : Allowance → List ℕ → Sums → List Row → Result Outline Reason → Type 0
@@ -89,7 +92,9 @@ point_after to gs h f ids = point_change to (length gs) (id_in gs) h.precision f
 -- If `Known` is true of a place where a point is expected, and its two numbers come next, then
 -- `Holds` is true of the place after them: of the bytes, the sums, the outline, the point's
 -- change and the rows.
-abbrev pub AtPoint : (List ℕ → Sums → Outline → List Row → Type 0) → (List ℕ → Sums → Outline → Change → List Row → Type 0) → Type 0
-AtPoint Known Holds = (front : List ℕ) (e : Sums) (gs : List Group) (h : Head) (f : Form) (ids : Ids) (lefts : List ℕ) (rs : List Row) (bytes : List ℕ) (to : Point)
+abbrev pub AtPoint : (List ℕ → Sums → Outline → List Row → Type 0)
+    → (List ℕ → Sums → Outline → Change → List Row → Type 0) → Type 0
+AtPoint Known Holds = (front : List ℕ) (e : Sums) (gs : List Group) (h : Head) (f : Form)
+    (ids : Ids) (lefts : List ℕ) (rs : List Row) (bytes : List ℕ) (to : Point)
     → Known front e (gs, OnBody h f ids (Wanted 0 lefts)) rs → Pair e.position bytes to
     → Holds (front ++ bytes) (sums_past e bytes to) (gs, shut h f ids 0 lefts) (point_after to gs h f ids) rs

@@ -1,5 +1,6 @@
 -- Points, members and ids that are read on at the start of bytes, or for which there is no memory.
-use Rattle.std.specs.Prelude.{◌≡◌, ◌+◌, ◌<◌, ◌≤◌, ◌^◌, ⊤, ℕ, suc, ℤ, List, [], ◌∷◌, ◌++◌, length, take, Option, Some, None, Result, Ok, Err}
+use Rattle.std.specs.Prelude.{◌≡◌, ◌+◌, ◌<◌, ◌≤◌, ◌^◌, ⊤, ℕ, suc, ℤ, List, [], ◌∷◌, ◌++◌, length, take, Option, Some}
+use Rattle.std.specs.Prelude.{None, Result, Ok, Err}
 use Rattle.twkb_points.specs.Point.{Point}
 use Rattle.twkb_tree.specs.Tree.{Ids}
 use Rattle.twkb_tree.specs.Limits.{Allowance}
@@ -24,7 +25,8 @@ HasLists f = ⊤
 
 -- after these bytes and inside these collections this step comes next, in a geometry of this
 -- header, and these are the notes of spans
-pub record WantedIn (limits : Allowance) (front : List ℕ) (e : Sums) (gs : List Group) (told : ℕ → Notes) (h : Head) (s : Step) (rs : List Row) : Type 0 where
+pub record WantedIn (limits : Allowance) (front : List ℕ) (e : Sums) (gs : List Group)
+    (told : ℕ → Notes) (h : Head) (s : Step) (rs : List Row) : Type 0 where
   pub outlined : NotedOutline limits front e (gs, s) rs told
   pub placed : IsHeadAt (length gs) (id_in gs) h
 
@@ -32,11 +34,15 @@ pub record WantedIn (limits : Allowance) (front : List ℕ) (e : Sums) (gs : Lis
 -- they announce and note nothing
 abbrev pub StepRuns : Head → Step → List Row → Point → List ℕ → Step → List Row → Point → Type 0
 StepRuns h s rs from bytes next more to =
-    (limits : Allowance) (e : Sums) (front : List ℕ) (gs : List Group) (told : ℕ → Notes) → e.position ≡ from → WantedIn limits front e gs told h s rs → NotedOutline limits (front ++ bytes) (sums_past e bytes to) (gs, next) more told
+    (limits : Allowance) (e : Sums) (front : List ℕ) (gs : List Group) (told : ℕ → Notes)
+    → e.position ≡ from → WantedIn limits front e gs told h s rs
+    → NotedOutline limits (front ++ bytes) (sums_past e bytes to) (gs, next) more told
 
 -- wherever the step comes next, a prefix of the bytes ends a part that was judged
 abbrev pub StepStops : Head → Step → List Row → Point → List ℕ → Type 0
-StepStops h s rs from bytes = (limits : Allowance) (e : Sums) (front : List ℕ) (gs : List Group) (told : ℕ → Notes) → e.position ≡ from → WantedIn limits front e gs told h s rs → PartIn limits front bytes
+StepStops h s rs from bytes = (limits : Allowance) (e : Sums) (front : List ℕ) (gs : List Group)
+    (told : ℕ → Notes) → e.position ≡ from → WantedIn limits front e gs told h s rs
+    → PartIn limits front bytes
 
 -- a point comes next in a list of this form and with these ids, with this number after it, inside other lists
 abbrev pub in_list : Head → Form → Ids → (left : ℕ) → (outer : List ℕ) → Step
@@ -45,15 +51,18 @@ in_list h f ids left outer = OnBody (head_of h) f ids (Wanted 0 (left ∷ outer)
 -- wherever a point of a list comes to the last row, with `most` after it, the bytes lead on to a
 -- point with `left` after it
 abbrev pub ListRuns : List Row → Point → ℕ → List ℕ → ℕ → List Row → Point → Type 0
-ListRuns rs from most bytes left more to = (h : Head) (f : Form) (ids : Ids) (outer : List ℕ) → HasLists f → next_ids outer ids ≡ ids
+ListRuns rs from most bytes left more to = (h : Head) (f : Form) (ids : Ids) (outer : List ℕ)
+    → HasLists f → next_ids outer ids ≡ ids
     → StepRuns h (in_list h f ids most outer) rs from bytes (in_list h f ids left outer) more to
 
 -- wherever a point of a list comes to the last row, a prefix of the bytes ends a part that was judged
 abbrev pub ListStops : List Row → Point → ℕ → List ℕ → Type 0
-ListStops rs from most bytes = (h : Head) (f : Form) (ids : Ids) (outer : List ℕ) → HasLists f → next_ids outer ids ≡ ids → StepStops h (in_list h f ids most outer) rs from bytes
+ListStops rs from most bytes = (h : Head) (f : Form) (ids : Ids) (outer : List ℕ) → HasLists f
+    → next_ids outer ids ≡ ids → StepStops h (in_list h f ids most outer) rs from bytes
 
 -- these points of a list were taken, at most `most`, and the others are left
-pub record ListLeads (rs : List Row) (from : Point) (bytes : List ℕ) (most : ℕ) (t : Taken) (left : ℕ) (more : List Row) : Type 0 where
+pub record ListLeads (rs : List Row) (from : Point) (bytes : List ℕ) (most : ℕ) (t : Taken)
+    (left : ℕ) (more : List Row) : Type 0 where
   pub within : t.used ≤ length bytes
   pub few : left ≤ most
   pub run : ListRuns rs from most (take t.used bytes) left more t.position
@@ -86,24 +95,34 @@ TakesFew rs from bytes most (Err e) more = ListStops rs from most bytes
 
 -- the members of a multipoint at this depth that were taken, from these ids on, at most `most`; the
 -- others are left, with those ids
-pub record MembersLead (rs : List Row) (ids : Ids) (depth : ℕ) (from : Point) (bytes : List ℕ) (most : ℕ) (t : Taken) (left : ℕ) (others : Ids) (more : List Row) : Type 0 where
+pub record MembersLead (rs : List Row) (ids : Ids) (depth : ℕ) (from : Point) (bytes : List ℕ)
+    (most : ℕ) (t : Taken) (left : ℕ) (others : Ids) (more : List Row) : Type 0 where
   pub within : t.used ≤ length bytes
   pub few : left ≤ most
-  pub run : (h : Head) → suc h.depth ≡ depth → StepRuns h (OnBody (head_of h) MultiPointForm ids (Wanted 0 (most ∷ []))) rs from (take t.used bytes) (OnBody (head_of h) MultiPointForm others (Wanted 0 (left ∷ []))) more t.position
+  pub run : (h : Head) → suc h.depth ≡ depth → StepRuns h
+      (OnBody (head_of h) MultiPointForm ids (Wanted 0 (most ∷ []))) rs from (take t.used bytes)
+      (OnBody (head_of h) MultiPointForm others (Wanted 0 (left ∷ []))) more t.position
 
 -- what a call answers that takes them
-abbrev pub TakesMembers : {E : Type 0} → List Row → Ids → (depth : ℕ) → Point → List ℕ → (most : ℕ) → Result (Taken × ℕ) E → Ids → List Row → Type 0
-TakesMembers rs ids depth from bytes most (Ok r) others more = MembersLead rs ids depth from bytes most r.0 r.1 others more
-TakesMembers rs ids depth from bytes most (Err e) others more = (h : Head) → suc h.depth ≡ depth → StepStops h (OnBody (head_of h) MultiPointForm ids (Wanted 0 (most ∷ []))) rs from bytes
+abbrev pub TakesMembers : {E : Type 0} → List Row → Ids → (depth : ℕ) → Point → List ℕ → (most : ℕ)
+    → Result (Taken × ℕ) E → Ids → List Row → Type 0
+TakesMembers rs ids depth from bytes most (Ok r) others more = MembersLead rs ids depth from bytes
+    most r.0 r.1 others more
+TakesMembers rs ids depth from bytes most (Err e) others more = (h : Head) → suc h.depth ≡ depth
+    → StepStops h (OnBody (head_of h) MultiPointForm ids (Wanted 0 (most ∷ []))) rs from bytes
 
 -- wherever ids are read, with `left` after the next one, the bytes are further ones, with `further` left after them
 abbrev pub IdsRun : List ℤ → ℕ → List ℕ → List ℤ → ℕ → Type 0
-IdsRun ids left bytes more further = (h : Head) (m : Many) (members : ℕ) (rs : List Row) (at : Point) → StepRuns h (OnId m (head_of h) members ids left) rs at bytes (OnId m (head_of h) members more further) rs at
+IdsRun ids left bytes more further = (h : Head) (m : Many) (members : ℕ) (rs : List Row)
+    (at : Point) → StepRuns h (OnId m (head_of h) members ids left) rs at bytes
+    (OnId m (head_of h) members more further) rs at
 
 -- this number of bytes is further ids, at most `most`
 abbrev pub IdsTaken : List ℤ → (most : ℕ) → List ℕ → (used : ℕ) → List ℤ → Type 0
-IdsTaken ids most bytes used more = (left : ℕ) × (length more + left ≡ length ids + most) × IdsRun ids most (take used bytes) more left
+IdsTaken ids most bytes used more = (left : ℕ) × (length more + left ≡ length ids + most)
+    × IdsRun ids most (take used bytes) more left
 
 -- wherever ids are read, a prefix of the bytes ends a part that was judged
 abbrev pub IdsStop : List ℤ → ℕ → List ℕ → Type 0
-IdsStop ids left bytes = (h : Head) (m : Many) (members : ℕ) (rs : List Row) (at : Point) → StepStops h (OnId m (head_of h) members ids left) rs at bytes
+IdsStop ids left bytes = (h : Head) (m : Many) (members : ℕ) (rs : List Row) (at : Point)
+    → StepStops h (OnId m (head_of h) members ids left) rs at bytes

@@ -1,5 +1,6 @@
 -- A point that is complete at the start of bytes with its header.
-use Rattle.std.specs.Prelude.{◌≡◌, ℕ, ◌%◌, ◌<◌, ◌≤◌, List, [], ◌∷◌, ◌++◌, length, take, get_or, Option, Some, None, IfSome}
+use Rattle.std.specs.Prelude.{◌≡◌, ℕ, ◌%◌, ◌<◌, ◌≤◌, List, [], ◌∷◌, ◌++◌, length, take, get_or, Option, Some, None}
+use Rattle.std.specs.Prelude.{IfSome}
 use Rattle.twkb_points.specs.Point.{Point, origin}
 use Rattle.twkb_body.specs.Reading.{Pair}
 

@@ -13,9 +13,11 @@ ghost use Rattle.twkb_grammar.specs.Machine.{Sums, nothing, Stack, Finished, rol
 ghost use Rattle.twkb_grammar.specs.Reading.{Reached, FaultAt, AtNumber, ends, frame_count};
 ghost use Rattle.twkb_grammar.specs.Noting.{Notes, note_byte, IsCalm};
 ghost use Rattle.twkb_body.specs.Noting.{note_step, IsCalmStep, NotedOutline};
-ghost use Rattle.twkb_body.specs.Outline.{Outline, OnHeader, step_of, OnFinished, outline_of, outline_role, outline_advanced, outline_in, outline_ends};
+ghost use Rattle.twkb_body.specs.Outline.{Outline, OnHeader, step_of, OnFinished, outline_of, outline_role};
+ghost use Rattle.twkb_body.specs.Outline.{outline_advanced, outline_in, outline_ends};
 ghost use Rattle.twkb_body.specs.Growing.{rows_so_far, change_of, applied, Takes};
-ghost use Rattle.twkb_body.specs.Reading.{Outlined, OutlinedBehind, Wants, WithItem, OutlineLanded, StepFits, open_count, AtPoint, change_after};
+ghost use Rattle.twkb_body.specs.Reading.{Outlined, OutlinedBehind, Wants, WithItem, OutlineLanded, StepFits};
+ghost use Rattle.twkb_body.specs.Reading.{open_count, AtPoint, change_after};
 ghost use Rattle.twkb_body.specs.Admitting.{Admits};
 
 /// The role of the next item is determined by the outline and the sums of the items so far.
@@ -26,7 +28,8 @@ pub fn role()
 /// The outline after an item is determined by the outline before it, the number of bytes so far
 /// and the item's number.
 pub fn steps()
-    ensures item { (p : Point) (bytes n : ℕ) (st : Stack) → outline_of (advanced p bytes n st.0 st.1) ≡ outline_advanced bytes n (outline_of st) }
+    ensures item { (p : Point) (bytes n : ℕ) (st : Stack)
+        → outline_of (advanced p bytes n st.0 st.1) ≡ outline_advanced bytes n (outline_of st) }
     ensures ends { (bytes : ℕ) (st : Stack) → outline_in (ends bytes st.0 st.1) ≡ outline_ends bytes (outline_of st) }
 {}
 
@@ -34,7 +37,9 @@ pub fn steps()
 /// ends of geometries change no row, and at the end of the blob the rows are those of the
 /// geometry.
 pub fn grows()
-    ensures item { (p : Point) (bytes n : ℕ) (st : Stack) → rows_so_far (advanced p bytes n st.0 st.1) ≡ applied (change_of p n (outline_of st)) (rows_so_far st) }
+    ensures item { (p : Point) (bytes n : ℕ) (st : Stack)
+        → rows_so_far (advanced p bytes n st.0 st.1) ≡ applied (change_of p n (outline_of st))
+        (rows_so_far st) }
     ensures ends { (bytes : ℕ) (st last : Stack) → ends bytes st.0 st.1 ≡ Ok last → rows_so_far last ≡ rows_so_far st }
     ensures whole { (g : Tree) → rows_so_far ([], Finished g) ≡ rows 0 g }
 {}
@@ -42,7 +47,8 @@ pub fn grows()
 /// Within the limits, the rows so far are always those of a valid geometry, or there are none.
 /// A point that is added to an existing row goes into that of a line or ring.
 pub fn valid()
-    ensures rows { (limits : Allowance) (bytes : List ℕ) (e : Sums) (st : Stack) → Reached limits bytes e st → AreValidRowsOfOne limits (rows_so_far st) }
+    ensures rows { (limits : Allowance) (bytes : List ℕ) (e : Sums) (st : Stack)
+        → Reached limits bytes e st → AreValidRowsOfOne limits (rows_so_far st) }
     ensures takes { (p : Point) (n : ℕ) (st : Stack) → Takes (change_of p n (outline_of st)) (rows_so_far st) }
 {}
 
@@ -52,25 +58,43 @@ pub fn valid()
 /// that is added to an existing row goes into that of a line or ring.
 pub fn reading()
     ensures starts { (limits : Allowance) → IsAllowance limits → Outlined limits [] nothing ([], OnHeader) [] }
-    ensures item { (limits : Allowance) (bytes : List ℕ) (e : Sums) (o : Outline) (rs : List Row) (i : Item) → Outlined limits bytes e o rs
+    ensures item { (limits : Allowance) (bytes : List ℕ) (e : Sums) (o : Outline) (rs : List Row)
+        (i : Item) → Outlined limits bytes e o rs
         → WithItem limits e o i None (OutlinedBehind limits bytes e o rs i) }
-    ensures refused { (limits : Allowance) (bytes : List ℕ) (e : Sums) (o : Outline) (rs : List Row) (i : Item) (reason : Reason) → Outlined limits bytes e o rs
+    ensures refused { (limits : Allowance) (bytes : List ℕ) (e : Sums) (o : Outline) (rs : List Row)
+        (i : Item) (reason : Reason) → Outlined limits bytes e o rs
         → WithItem limits e o i (Some reason) (FaultAt limits bytes e i reason) }
-    ensures ends { (limits : Allowance) (bytes : List ℕ) (e : Sums) (o : Outline) (rs : List Row) → Outlined limits bytes e o rs → OutlineLanded limits bytes e rs (outline_ends e.bytes o) }
-    ensures blob { (limits : Allowance) (bytes : List ℕ) (e : Sums) (rs : List Row) → Outlined limits bytes e ([], OnFinished) rs → (g : Tree) × Blob limits bytes g × (rows 0 g ≡ rs) }
-    ensures valid { (limits : Allowance) (bytes : List ℕ) (e : Sums) (o : Outline) (rs : List Row) → Outlined limits bytes e o rs → AreValidRowsOfOne limits rs }
-    ensures largest { (limits : Allowance) → IsAllowance limits → (bytes : List ℕ) (e : Sums) (o : Outline) (rs : List Row) → Outlined limits bytes e o rs → AreValidRowsOfOne largest_limits rs }
-    ensures row { (limits : Allowance) → IsAllowance limits → (bytes : List ℕ) (e : Sums) (o : Outline) (rs : List Row) (row : Row) → Outlined limits bytes e o (rs ++ row ∷ []) → Continues largest_limits rs row }
-    ensures takes { (limits : Allowance) (bytes : List ℕ) (e : Sums) (o : Outline) (rs : List Row) (p : Point) (n : ℕ) → Outlined limits bytes e o rs → Takes (change_of p n o) rs }
-    ensures fits { (limits : Allowance) (bytes : List ℕ) (e : Sums) (o : Outline) (rs : List Row) → Outlined limits bytes e o rs → StepFits o.1 }
-    ensures offset { (limits : Allowance) (bytes : List ℕ) (e : Sums) (o : Outline) (rs : List Row) → Outlined limits bytes e o rs → length bytes ≡ e.bytes }
-    ensures depth { (limits : Allowance) (bytes : List ℕ) (e : Sums) (o : Outline) (rs : List Row) → Outlined limits bytes e o rs → length o.0 ≤ limits.nest }
-    ensures part { (limits : Allowance) (bytes : List ℕ) (e : Sums) (o : Outline) (rs : List Row) → Outlined limits bytes e o rs → IsPart limits bytes }
+    ensures ends { (limits : Allowance) (bytes : List ℕ) (e : Sums) (o : Outline) (rs : List Row)
+        → Outlined limits bytes e o rs → OutlineLanded limits bytes e rs (outline_ends e.bytes o) }
+    ensures blob { (limits : Allowance) (bytes : List ℕ) (e : Sums) (rs : List Row)
+        → Outlined limits bytes e ([], OnFinished) rs → (g : Tree) × Blob limits bytes g
+        × (rows 0 g ≡ rs) }
+    ensures valid { (limits : Allowance) (bytes : List ℕ) (e : Sums) (o : Outline) (rs : List Row)
+        → Outlined limits bytes e o rs → AreValidRowsOfOne limits rs }
+    ensures largest { (limits : Allowance) → IsAllowance limits
+        → (bytes : List ℕ) (e : Sums) (o : Outline) (rs : List Row) → Outlined limits bytes e o rs
+        → AreValidRowsOfOne largest_limits rs }
+    ensures row { (limits : Allowance) → IsAllowance limits
+        → (bytes : List ℕ) (e : Sums) (o : Outline) (rs : List Row) (row : Row)
+        → Outlined limits bytes e o (rs ++ row ∷ []) → Continues largest_limits rs row }
+    ensures takes { (limits : Allowance) (bytes : List ℕ) (e : Sums) (o : Outline) (rs : List Row)
+        (p : Point) (n : ℕ) → Outlined limits bytes e o rs → Takes (change_of p n o) rs }
+    ensures fits { (limits : Allowance) (bytes : List ℕ) (e : Sums) (o : Outline) (rs : List Row)
+        → Outlined limits bytes e o rs → StepFits o.1 }
+    ensures offset { (limits : Allowance) (bytes : List ℕ) (e : Sums) (o : Outline) (rs : List Row)
+        → Outlined limits bytes e o rs → length bytes ≡ e.bytes }
+    ensures depth { (limits : Allowance) (bytes : List ℕ) (e : Sums) (o : Outline) (rs : List Row)
+        → Outlined limits bytes e o rs → length o.0 ≤ limits.nest }
+    ensures part { (limits : Allowance) (bytes : List ℕ) (e : Sums) (o : Outline) (rs : List Row)
+        → Outlined limits bytes e o rs → IsPart limits bytes }
     ensures cut { (limits : Allowance) (bytes : List ℕ) (e : Sums) (o : Outline) (rs : List Row)
-        → AtNumber (Outlined limits bytes e o rs) (outline_role e o) (λ rest. IsCut rest → FirstFault limits (bytes ++ rest) e.bytes Truncated) }
+        → AtNumber (Outlined limits bytes e o rs) (outline_role e o) (λ rest. IsCut rest
+        → FirstFault limits (bytes ++ rest) e.bytes Truncated) }
     ensures long { (limits : Allowance) (bytes : List ℕ) (e : Sums) (o : Outline) (rs : List Row)
-        → AtNumber (Outlined limits bytes e o rs) (outline_role e o) (λ rest. IsTooLong rest → FirstFault limits (bytes ++ rest) e.bytes BadVarint) }
-    ensures missing { (limits : Allowance) (bytes : List ℕ) (e : Sums) (o : Outline) (rs : List Row) (role : Role) → Outlined limits bytes e o rs → Wants e o role
+        → AtNumber (Outlined limits bytes e o rs) (outline_role e o) (λ rest. IsTooLong rest
+        → FirstFault limits (bytes ++ rest) e.bytes BadVarint) }
+    ensures missing { (limits : Allowance) (bytes : List ℕ) (e : Sums) (o : Outline) (rs : List Row)
+        (role : Role) → Outlined limits bytes e o rs → Wants e o role
         → bytes ≢ [] → HasBytes role → FirstFault limits bytes e.bytes Truncated }
 {}
 
@@ -78,24 +102,30 @@ pub fn reading()
 /// whether or not the sizes that end with it are exact (`item`). They can also take the change of
 /// a point's two numbers at once (`point`).
 pub fn admitting()
-    ensures item { (limits : Allowance) → IsAllowance limits → (bytes : List ℕ) (e : Sums) (o : Outline) (rs : List Row) (i : Item) → Outlined limits bytes e o rs
+    ensures item { (limits : Allowance) → IsAllowance limits
+        → (bytes : List ℕ) (e : Sums) (o : Outline) (rs : List Row) (i : Item)
+        → Outlined limits bytes e o rs
         → WithItem limits e o i None (Admits (change_after e i o) rs) }
-    ensures point { (limits : Allowance) → IsAllowance limits → AtPoint (Outlined limits) (λ bytes e o change rs. Admits change rs) }
+    ensures point { (limits : Allowance) → IsAllowance limits
+        → AtPoint (Outlined limits) (λ bytes e o change rs. Admits change rs) }
 {}
 
 /// The two numbers of a point may be taken at once wherever a point is expected: inside a list,
 /// at the end of lists, and at the end of a geometry.
 pub fn points()
-    ensures taken { (limits : Allowance) → AtPoint (Outlined limits) (λ bytes e o change rs. Outlined limits bytes e o (applied change rs)) }
+    ensures taken { (limits : Allowance) → AtPoint (Outlined limits)
+        (λ bytes e o change rs. Outlined limits bytes e o (applied change rs)) }
     ensures takes { (limits : Allowance) → AtPoint (Outlined limits) (λ bytes e o change rs. Takes change rs) }
     ensures noted { (limits : Allowance) (told : ℕ → Notes)
-        → AtPoint (λ bytes e o rs. NotedOutline limits bytes e o rs told) (λ bytes e o change rs. NotedOutline limits bytes e o (applied change rs) told) }
+        → AtPoint (λ bytes e o rs. NotedOutline limits bytes e o rs told)
+        (λ bytes e o change rs. NotedOutline limits bytes e o (applied change rs) told) }
 {}
 
 /// The notes that a reader makes of spans, and the number of open geometries, are determined by
 /// the outline.
 pub fn noting()
-    ensures note { (st : Stack) (offset points byte : ℕ) (w : Notes) → note_byte st.1 offset points byte w ≡ note_step (step_of st.1) offset points byte w }
+    ensures note { (st : Stack) (offset points byte : ℕ) (w : Notes)
+        → note_byte st.1 offset points byte w ≡ note_step (step_of st.1) offset points byte w }
     ensures calm { (st : Stack) → IsCalmStep (step_of st.1) → IsCalm st.1 }
     ensures count { (st : Stack) → frame_count st ≡ open_count (outline_of st) }
 {}

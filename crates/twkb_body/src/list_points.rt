@@ -30,10 +30,10 @@ const POINTS: u64 = 8;
 
 const NUMBERS: u32 = 16;
 
-// How many bytes after a look for blocks they are looked for again.
+// How many bytes after a look that found blocks they are looked for again.
 const APART: usize = 32;
 
-// The same after a look in vain: a line of far points has no blocks.
+// How many bytes after a look in vain they are looked for again: far points have no blocks.
 const FAR_APART: usize = 256;
 
 /// Takes points of a list to the last row as far as they are complete, at most `most`; and how many
@@ -57,18 +57,18 @@ pub fn take_row(
     let mut next_look = 0;
     while left > 0 {
         if is_near && used >= next_look && left >= POINTS && bytes.len() - used >= BLOCK {
-            let (taken, behind) = take_eights(flat, position, &bytes[used..], left)?;
+            let (taken, after) = take_eights(flat, position, &bytes[used..], left)?;
             used += taken.used;
             position = taken.position;
-            left = behind;
+            left = after;
             next_look = used + if taken.used == 0 { FAR_APART } else { APART };
             continue;
         }
         match take_few(flat, position, &bytes[used..], left, &mut is_near)? {
-            Some((taken, behind)) => {
+            Some((taken, after)) => {
                 used += taken.used;
                 position = taken.position;
-                left = behind;
+                left = after;
             }
             None => return Ok((Taken { used, position }, left)),
         }

@@ -1,5 +1,6 @@
 //! The ids of the members of a geometry.
-ghost use Rattle.std.specs.Prelude.{◌≡◌, ◌≤◌, ◌++◌, ◌∷◌, [], if◌then◌else◌, is_some, true, Some, None, IfOk, OnOk, OnErr, length};
+ghost use Rattle.std.specs.Prelude.{◌≡◌, ◌≤◌, ◌++◌, ◌∷◌, [], if◌then◌else◌, is_some, true, Some, None, IfOk, OnOk};
+ghost use Rattle.std.specs.Prelude.{OnErr, length};
 ghost use Rattle.twkb_tree.specs.Rows.{first_id, other_ids};
 ghost use Rattle.twkb_body.specs.Running.{IdsTaken, IdsStop};
 

@@ -136,12 +136,12 @@ pub fn front_eight(from: Pt, bytes: &[u8], ends: u64) -> Option<Eight>
     let four = two + more;
     let (e, f, more) = front_two_by(d, &bytes[four..], ends >> (four as u32))?;
     let six = four + more;
-    let behind = ends >> (six as u32);
-    let (g, h, more) = front_two_by(f, &bytes[six..], behind)?;
+    let others = ends >> (six as u32);
+    let (g, h, more) = front_two_by(f, &bytes[six..], others)?;
     Some(Eight {
         points: [a, b, c, d, e, f, g, h],
         last: h,
         used: six + more,
-        ends: behind >> (more as u32),
+        ends: others >> (more as u32),
     })
 }

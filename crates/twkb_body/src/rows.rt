@@ -44,8 +44,11 @@ pub fn put_point(
     member: Option<i64>,
     point: Pt,
 ) -> Result<(), AllocError>
-    requires { Admits (point_change point head.now.depth head.now.id head.now.precision (form_of head.now.kind) member) flat.old }
-    ensures put { OnOk result (flat.new ≡ applied (point_change point head.now.depth head.now.id head.now.precision (form_of head.now.kind) member) flat.old) }
+    requires { Admits (point_change point head.now.depth head.now.id head.now.precision
+        (form_of head.now.kind) member) flat.old }
+    ensures put { OnOk result (flat.new ≡ applied
+        (point_change point head.now.depth head.now.id head.now.precision (form_of head.now.kind)
+        member) flat.old) }
     ensures same { OnErr result (flat.new ≡ flat.old) }
 {
     match head.kind {
@@ -101,7 +104,8 @@ fn part_row(depth: u32, kind: Kind, id: Option<i64>) -> Row
 #[inline]
 pub fn line_row(head: &Head, member: Option<i64>) -> Row
     requires { IsBodied head.now.kind }
-    ensures { row_with result [] ≡ list_row head.now.depth head.now.id head.now.precision (form_of head.now.kind) member 0 }
+    ensures { row_with result [] ≡ list_row head.now.depth head.now.id head.now.precision
+        (form_of head.now.kind) member 0 }
 {
     match head.kind {
         Kind::Polygon => part_row(head.depth + 1, Kind::Ring, None),
@@ -115,7 +119,8 @@ pub fn line_row(head: &Head, member: Option<i64>) -> Row
 #[inline]
 pub fn ring_list_row(head: &Head, member: Option<i64>) -> Row
     requires { IsBodied head.now.kind }
-    ensures { row_with result [] ≡ list_row head.now.depth head.now.id head.now.precision (form_of head.now.kind) member 1 }
+    ensures { row_with result [] ≡ list_row head.now.depth head.now.id head.now.precision
+        (form_of head.now.kind) member 1 }
 {
     match head.kind {
         Kind::MultiPolygon => part_row(head.depth + 1, Kind::Polygon, member),

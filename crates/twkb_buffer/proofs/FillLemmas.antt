@@ -1,6 +1,7 @@
 -- The bytes that a writer into a slice leaves there.
 use Rattle.std.specs.Io.KnownBytes.{Appends}
-use Rattle.std.proofs.Common.{◌≡◌, ◌∙◌, ℕ, ◌≤◌, List, ◌∷◌, ◌++◌, length, take, Result, Ok, Err, ap, sym, subst, length-take-le}
+use Rattle.std.proofs.Common.{◌≡◌, ◌∙◌, ℕ, ◌≤◌, List, ◌∷◌, ◌++◌, length, take, Result, Ok, Err, ap, sym, subst}
+use Rattle.std.proofs.Common.{length-take-le}
 use Rattle.twkb_convert.specs.declared.report.ConvertFault.{ConvertFault}
 use Rattle.twkb_convert.specs.declared.report.Report.{Report}
 use Rattle.twkb_table.proofs.FieldLemmas.{head_same, tail_same}
@@ -19,12 +20,14 @@ abbrev held_list : Filler → List ℕ
 held_list f = (buffer_of f).ghost_name ∷ take (filled_of f) (buffer_of f).now
 
 -- the bytes written to a fresh writer
-filled : (old new : Filler) (bytes : List ℕ) → filled_of old ≡ 0 → Appends (held old) (held new) bytes → Filled old new bytes
+filled : (old new : Filler) (bytes : List ℕ) → filled_of old ≡ 0
+    → Appends (held old) (held new) bytes → Filled old new bytes
 filled old new bytes none appends =
     let name : ℕ = (buffer_of old).ghost_name in
     let all : held_list new ≡ name ∷ bytes = appends ∙ ap (λ n. (name ∷ take n (buffer_of old).now) ++ bytes) none in
     let front : take (filled_of new) (buffer_of new).now ≡ bytes = tail_same _ name _ bytes all in
-    let count : filled_of new ≡ length bytes = sym (length-take-le (filled_of new) (buffer_of new).now new.within) ∙ ap length front in
+    let count : filled_of new ≡ length bytes = sym (length-take-le (filled_of new)
+    (buffer_of new).now new.within) ∙ ap length front in
     record {
       same_borrow = head_same _ name _ bytes all;
       within = subst (λ n. n ≤ length (buffer_of new).now) count new.within;
@@ -32,23 +35,34 @@ filled old new bytes none appends =
     }
 
 -- the bytes written by a writer that was moved under a tap and back
-pub moved_back : (borrowed started ended given : Filler) (bytes : List ℕ) → started ≡ borrowed → given ≡ ended → filled_of borrowed ≡ 0 → Appends (held started) (held ended) bytes → Filled borrowed given bytes
+pub moved_back : (borrowed started ended given : Filler) (bytes : List ℕ) → started ≡ borrowed
+    → given ≡ ended → filled_of borrowed ≡ 0 → Appends (held started) (held ended) bytes
+    → Filled borrowed given bytes
 moved_back borrowed started ended given bytes first last none appends =
-    let added : Appends (held borrowed) (held ended) bytes = subst (λ (f : Filler). Appends (held f) (held ended) bytes) first appends in
+    let added : Appends (held borrowed) (held ended) bytes =
+    subst (λ (f : Filler). Appends (held f) (held ended) bytes) first appends in
     filled borrowed given bytes none (subst (λ (f : Filler). Appends (held borrowed) (held f) bytes) (sym last) added)
 
 -- the start of a slice is the bytes written
-pub fills : (Ended : Ends) (Halted : Stops) (answer : Result Report ConvertFault) (bytes slice : List ℕ) → Answers Ended Halted bytes answer
+pub fills : (Ended : Ends) (Halted : Stops) (answer : Result Report ConvertFault)
+    (bytes slice : List ℕ) → Answers Ended Halted bytes answer
     → length bytes ≤ length slice → take (length bytes) slice ≡ bytes → Fills Ended Halted slice answer
 fills Ended Halted (Ok report) bytes slice agrees within front =
     let same : take report.bytes slice ≡ bytes = ap (λ n. take n slice) agrees.1 ∙ front in
     record {
       fits = subst (λ n. n ≤ length slice) (sym agrees.1) within;
-      agrees = (subst (λ written. Ended written report.geometries) (sym same) agrees.0, agrees.1 ∙ ap length (sym same));
+      agrees = (
+        subst (λ written. Ended written report.geometries) (sym same) agrees.0,
+        agrees.1
+            ∙ ap length (sym same),
+      );
     }
 fills Ended Halted (Err fault) bytes slice agrees within front =
     let same : take fault.sent slice ≡ bytes = ap (λ n. take n slice) agrees.1 ∙ front in
     record {
       fits = subst (λ n. n ≤ length slice) (sym agrees.1) within;
-      agrees = (subst (λ written. Halted written fault.done fault.cause) (sym same) agrees.0, agrees.1 ∙ ap length (sym same));
+      agrees = (
+        subst (λ written. Halted written fault.done fault.cause) (sym same) agrees.0,
+        agrees.1 ∙ ap length (sym same),
+      );
     }

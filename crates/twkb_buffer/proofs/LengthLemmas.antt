@@ -1,6 +1,7 @@
 -- The length of the whole output, as an answer counts it.
 use Rattle.std.specs.Prelude.{IfSome}
-use Rattle.std.proofs.Common.{◌≡◌, ◌∙◌, ℕ, List, [], ◌++◌, length, Option, Some, None, Result, Ok, Err, ap, sym, subst, inl, inr}
+use Rattle.std.proofs.Common.{◌≡◌, ◌∙◌, ℕ, List, [], ◌++◌, length, Option, Some, None, Result, Ok, Err, ap, sym}
+use Rattle.std.proofs.Common.{subst, inl, inr}
 use Rattle.std.proofs.lemmas.List.{append-nil}
 use Rattle.twkb_tree.specs.Limits.{Allowance}
 use Rattle.twkb_grammar.specs.Written.{canonical_stream}
@@ -22,16 +23,32 @@ use Rattle.twkb_buffer.specs.Slices.{PackedFront, PackedSlice, ShownFront, Shown
 use Rattle.twkb_convert.specs.declared.conversion.Conversion.{Conversion}
 use Rattle.twkb_convert.specs.declared.conversion.Conversion.TheVariants as conversion
 
-packed_length : (style : Style) (l : Allowance) (table written : List ℕ) (done n : ℕ) → PackedSlice style l table written done → n ≡ length written → PacksTo style l table n
-packed_length style l table written done n p e = λ records all.
-    (written, inl (p.whole.geometries, subst (λ rs. Named l rs p.whole.geometries) (one_records table p.whole.records records p.whole.all all) p.whole.named, p.written_is), e)
+packed_length : (style : Style) (l : Allowance) (table written : List ℕ) (done n : ℕ)
+    → PackedSlice style l table written done → n ≡ length written → PacksTo style l table n
+packed_length style l table written done n p e = λ records all. (
+  written,
+  inl (
+    p.whole.geometries,
+    subst (λ rs. Named l rs p.whole.geometries)
+        (one_records table p.whole.records records p.whole.all all) p.whole.named,
+    p.written_is,
+  ),
+  e,
+)
 
-refused_table_length : (style : Style) (l : Allowance) (table written : List ℕ) (done n : ℕ) (why : Cause) → PackedFront style l table written done why → IsRefusal why → n ≡ length written
+refused_table_length : (style : Style) (l : Allowance) (table written : List ℕ) (done n : ℕ)
+    (why : Cause) → PackedFront style l table written done why → IsRefusal why → n ≡ length written
     → PacksTo style l table n
 refused_table_length style l table written done n (cause.Row number reason) f refused e = λ records all.
     let p = f.part in
-    let whole : written ≡ canonical_stream style p.whole = p.bytes ∙ (ap (λ front. canonical_stream style p.whole ++ front) f.explains.1 ∙ append-nil (canonical_stream style p.whole)) in
-    (written, subst (PackTo style l records) (sym whole) (refused_output style l table records number reason p.whole (all, f.explains.2)), e)
+    let whole : written ≡ canonical_stream style p.whole = p.bytes
+    ∙ (ap (λ front. canonical_stream style p.whole ++ front) f.explains.1
+    ∙ append-nil (canonical_stream style p.whole)) in (
+      written,
+      subst (PackTo style l records) (sym whole)
+          (refused_output style l table records number reason p.whole (all, f.explains.2)),
+      e,
+    )
 refused_table_length style l table written done n (cause.Blob offset reason) f refused e = absurd f.explains
 refused_table_length style l table written done n cause.ReadDevice f refused e = absurd refused
 refused_table_length style l table written done n cause.WriteDevice f refused e = absurd refused
@@ -40,18 +57,25 @@ refused_table_length style l table written done n cause.TooLong f refused e = ab
 refused_table_length style l table written done n cause.TooManyRecords f refused e = absurd refused
 
 -- no output is left, so all output of the complete geometries was written
-all_written : {A : Type 0} (text_of : List A → List ℕ) (whole later : List A) (written left : List ℕ) → text_of (whole ++ later) ≡ written ++ left → later ≡ [] → left ≡ []
+all_written : {A : Type 0} (text_of : List A → List ℕ) (whole later : List A)
+    (written left : List ℕ) → text_of (whole ++ later) ≡ written ++ left → later ≡ [] → left ≡ []
     → written ≡ text_of whole
 all_written text_of whole later written left cut no_later none =
-    sym (append-nil written) ∙ (ap (λ (bytes : List ℕ). written ++ bytes) (sym none) ∙ (sym cut ∙ (ap (λ more. text_of (whole ++ more)) no_later ∙ ap text_of (append-nil whole))))
+    sym (append-nil written) ∙ (ap (λ (bytes : List ℕ). written ++ bytes) (sym none)
+    ∙ (sym cut ∙ (ap (λ more. text_of (whole ++ more)) no_later
+    ∙ ap text_of (append-nil whole))))
 
-unpacked_length : (l : Allowance) (stream written : List ℕ) (done n : ℕ) → UnpackedSlice l stream written done → n ≡ length written → UnpacksTo l stream n
+unpacked_length : (l : Allowance) (stream written : List ℕ) (done n : ℕ)
+    → UnpackedSlice l stream written done → n ≡ length written → UnpacksTo l stream n
 unpacked_length l stream written done n p e = (written, inl (p.found, p.stream_is, p.written_is), e)
 
-refused_stream_length : (l : Allowance) (stream written : List ℕ) (done n : ℕ) (why : Cause) → UnpackedFront l stream written done why → IsRefusal why → n ≡ length written → UnpacksTo l stream n
+refused_stream_length : (l : Allowance) (stream written : List ℕ) (done n : ℕ) (why : Cause)
+    → UnpackedFront l stream written done why → IsRefusal why → n ≡ length written
+    → UnpacksTo l stream n
 refused_stream_length l stream written done n (cause.Blob offset reason) f refused e =
     let p = f.part in
-    let text : written ≡ table_text p.whole = all_written table_text p.whole p.later written p.left p.cut f.explains.0 f.explains.1 in
+    let text : written ≡ table_text p.whole = all_written table_text p.whole p.later written p.left
+    p.cut f.explains.0 f.explains.1 in
     (written, inr (offset, reason_of reason, p.whole, f.explains.2, text), e)
 refused_stream_length l stream written done n (cause.Row number reason) f refused e = absurd f.explains
 refused_stream_length l stream written done n cause.ReadDevice f refused e = absurd refused
@@ -60,13 +84,16 @@ refused_stream_length l stream written done n cause.Memory f refused e = absurd 
 refused_stream_length l stream written done n cause.TooLong f refused e = absurd refused
 refused_stream_length l stream written done n cause.TooManyRecords f refused e = absurd refused
 
-shown_length : (l : Allowance) (stream written : List ℕ) (done n : ℕ) → ShownSlice l stream written done → n ≡ length written → ShowsTo l stream n
+shown_length : (l : Allowance) (stream written : List ℕ) (done n : ℕ)
+    → ShownSlice l stream written done → n ≡ length written → ShowsTo l stream n
 shown_length l stream written done n p e = (written, inl (p.found, p.stream_is, p.written_is), e)
 
-refused_lines_length : (l : Allowance) (stream written : List ℕ) (done n : ℕ) (why : Cause) → ShownFront l stream written done why → IsRefusal why → n ≡ length written → ShowsTo l stream n
+refused_lines_length : (l : Allowance) (stream written : List ℕ) (done n : ℕ) (why : Cause)
+    → ShownFront l stream written done why → IsRefusal why → n ≡ length written → ShowsTo l stream n
 refused_lines_length l stream written done n (cause.Blob offset reason) f refused e =
     let p = f.part in
-    let text : written ≡ lines_text p.whole = all_written lines_text p.whole p.later written p.left p.cut f.explains.0 f.explains.1 in
+    let text : written ≡ lines_text p.whole = all_written lines_text p.whole p.later written p.left
+    p.cut f.explains.0 f.explains.1 in
     let none : p.whole ++ p.later ≡ p.whole = ap (λ later. p.whole ++ later) f.explains.0 ∙ append-nil p.whole in
     let begin : LocatedStream l 0 p.bytes p.whole = subst (λ blobs. LocatedStream l 0 p.bytes blobs) none p.blobs in
     (written, inr (offset, reason_of reason, p.whole, f.explains.2, (p.bytes, p.begins.0, p.begins.1, begin), text), e)
@@ -87,20 +114,27 @@ is_refused cause.Memory sent n e = absurd cc
 is_refused cause.TooLong sent n e = absurd cc
 is_refused cause.TooManyRecords sent n e = absurd cc
 
-refused_length_is : (what : Conversion) (l : Allowance) (input written : List ℕ) (done n : ℕ) (why : Cause) → Stopped what l input written done why → IsRefusal why → n ≡ length written
+refused_length_is : (what : Conversion) (l : Allowance) (input written : List ℕ) (done n : ℕ)
+    (why : Cause) → Stopped what l input written done why → IsRefusal why → n ≡ length written
     → HasLength what l input n
-refused_length_is (conversion.Pack style) l input written done n why f refused e = refused_table_length style l input written done n why f refused e
-refused_length_is conversion.Unpack l input written done n why f refused e = refused_stream_length l input written done n why f refused e
-refused_length_is conversion.Show l input written done n why f refused e = refused_lines_length l input written done n why f refused e
+refused_length_is (conversion.Pack style) l input written done n why f refused e =
+    refused_table_length style l input written done n why f refused e
+refused_length_is conversion.Unpack l input written done n why f refused e = refused_stream_length l
+    input written done n why f refused e
+refused_length_is conversion.Show l input written done n why f refused e = refused_lines_length l
+    input written done n why f refused e
 
-finished_length_is : (what : Conversion) (l : Allowance) (input written : List ℕ) (done n : ℕ) → Finished what l input written done → n ≡ length written → HasLength what l input n
+finished_length_is : (what : Conversion) (l : Allowance) (input written : List ℕ) (done n : ℕ)
+    → Finished what l input written done → n ≡ length written → HasLength what l input n
 finished_length_is (conversion.Pack style) l input written done n p e = packed_length style l input written done n p e
 finished_length_is conversion.Unpack l input written done n p e = unpacked_length l input written done n p e
 finished_length_is conversion.Show l input written done n p e = shown_length l input written done n p e
 
 -- the length that an answer counts as the whole output is that length
-pub whole_length : (what : Conversion) (l : Allowance) (input written : List ℕ) (answer : Result Report ConvertFault) (n : ℕ)
-    → Answers (Finished what l input) (Stopped what l input) written answer → whole_length_of answer ≡ Some n → HasLength what l input n
+pub whole_length : (what : Conversion) (l : Allowance) (input written : List ℕ)
+    (answer : Result Report ConvertFault) (n : ℕ)
+    → Answers (Finished what l input) (Stopped what l input) written answer
+    → whole_length_of answer ≡ Some n → HasLength what l input n
 whole_length what l input written (Ok report) n agrees told =
     let same : n ≡ report.bytes = cc in
     finished_length_is what l input written report.geometries n agrees.0 (same ∙ agrees.1)
@@ -108,7 +142,9 @@ whole_length what l input written (Err fault) n agrees told =
     let refused = is_refused fault.cause fault.sent n told in
     refused_length_is what l input written fault.done n fault.cause agrees.0 refused.0 (refused.1 ∙ agrees.1)
 
-pub length_known : (what : Conversion) (l : Allowance) (input : List ℕ) (answer : Result Report ConvertFault) (found : Option ℕ) → Counts (Finished what l input) (Stopped what l input) answer
+pub length_known : (what : Conversion) (l : Allowance) (input : List ℕ)
+    (answer : Result Report ConvertFault) (found : Option ℕ)
+    → Counts (Finished what l input) (Stopped what l input) answer
     → found ≡ whole_length_of answer → IfSome found (HasLength what l input)
 length_known what l input answer None counts told = tt
 length_known what l input answer (Some n) counts told = whole_length what l input counts.0 answer n counts.1 (sym told)

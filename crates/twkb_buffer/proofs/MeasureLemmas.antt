@@ -5,7 +5,8 @@ use Rattle.twkb_convert.specs.declared.report.Cause.{Cause}
 use Rattle.twkb_convert.specs.declared.report.Cause.TheVariants as cause
 use Rattle.twkb_convert.specs.declared.report.ConvertFault.{ConvertFault}
 use Rattle.twkb_convert.specs.declared.report.Report.{Report}
-use Rattle.twkb_buffer.specs.Calls.{Counts, Ends, IsRefusal, Measures, MeasuresBy, Stops, count_of, refused_length, whole_length_of}
+use Rattle.twkb_buffer.specs.Calls.{Counts, Ends, IsRefusal, Measures, MeasuresBy, Stops, count_of, refused_length}
+use Rattle.twkb_buffer.specs.Calls.{whole_length_of}
 use Rattle.twkb_buffer.specs.Numbers.{status_of}
 use Rattle.twkb_buffer.specs.declared.report.BufferReport.{BufferReport}
 
@@ -35,7 +36,9 @@ refused_count cause.TooLong sent refused = absurd refused
 refused_count cause.TooManyRecords sent refused = absurd refused
 
 -- the length that was counted is measured
-pub measured : (Ended : Ends) (Halted : Stops) (HasLength : ℕ → Type 0) (answer : Result Report ConvertFault) (report : BufferReport) → Counts Ended Halted answer → MeasuresBy answer report
+pub measured : (Ended : Ends) (Halted : Stops) (HasLength : ℕ → Type 0)
+    (answer : Result Report ConvertFault) (report : BufferReport) → Counts Ended Halted answer
+    → MeasuresBy answer report
     → ((n : ℕ) → whole_length_of answer ≡ Some n → HasLength n) → Measures Ended Halted HasLength report
 measured Ended Halted HasLength (Ok answer) report counts by known = record {
   none = by.0;

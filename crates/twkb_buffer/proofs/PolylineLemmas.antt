@@ -20,12 +20,15 @@ AreInRange-append [] qs a b = b
 AreInRange-append (p ∷ ps) qs a b = (a.0, AreInRange-append ps qs a.1 b)
 
 -- the coordinates of one more point
-coordinates_more : (ps : List Point) (p : Point) (after : List BufferPoint) → coordinates_of ps ++ coordinates_at p ∷ after ≡ coordinates_of (ps ++ p ∷ []) ++ after
+coordinates_more : (ps : List Point) (p : Point) (after : List BufferPoint)
+    → coordinates_of ps ++ coordinates_at p ∷ after ≡ coordinates_of (ps ++ p ∷ []) ++ after
 coordinates_more ps p after =
-    sym (append_assoc (coordinates_of ps) (coordinates_at p ∷ []) after) ∙ ap (λ (r : List BufferPoint). r ++ after) (sym (coordinates_of-append ps (p ∷ [])))
+    sym (append_assoc (coordinates_of ps) (coordinates_at p ∷ []) after)
+    ∙ ap (λ (r : List BufferPoint). r ++ after) (sym (coordinates_of-append ps (p ∷ [])))
 
 -- one more point was read
-pub taken_more : (given left after : List BufferPoint) (ps qs : List Point) (p : Point) (c : BufferPoint) → HasTaken given left ps → left ≡ c ∷ after
+pub taken_more : (given left after : List BufferPoint) (ps qs : List Point) (p : Point)
+    (c : BufferPoint) → HasTaken given left ps → left ≡ c ∷ after
     → coordinates_at p ≡ c → IsInRange p → qs ≡ ps ++ p ∷ [] → HasTaken given after qs
 taken_more given left after ps qs p c taken next value fits more = record {
   split =
@@ -37,7 +40,8 @@ taken_more given left after ps qs p c taken next value fits more = record {
 }
 
 -- the next coordinates are out of range
-pub taken_outside : (given left after : List BufferPoint) (ps : List Point) (c : BufferPoint) (place : ℕ) → HasTaken given left ps → left ≡ c ∷ after
+pub taken_outside : (given left after : List BufferPoint) (ps : List Point) (c : BufferPoint)
+    (place : ℕ) → HasTaken given left ps → left ≡ c ∷ after
     → (IsInRange (point_at c.x c.y) → ⊥) → place ≡ length ps → FirstOutside given place
 taken_outside given left after ps c place taken next outside count = record {
   before = ps;
@@ -50,7 +54,8 @@ taken_outside given left after ps c place taken next outside count = record {
 }
 
 -- the coordinates of one more point were written after those before it
-pub coordinates_put : (whole put after : List BufferPoint) (left rest : List Point) (p : Point) → put ++ coordinates_of left ≡ whole → left ≡ p ∷ rest
+pub coordinates_put : (whole put after : List BufferPoint) (left rest : List Point) (p : Point)
+    → put ++ coordinates_of left ≡ whole → left ≡ p ∷ rest
     → after ≡ put ++ coordinates_at p ∷ [] → after ++ coordinates_of rest ≡ whole
 coordinates_put whole put after left rest p held next more =
     ap (λ (r : List BufferPoint). r ++ coordinates_of rest) more

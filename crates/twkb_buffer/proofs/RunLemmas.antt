@@ -23,13 +23,16 @@ use Rattle.twkb_convert.specs.declared.conversion.Conversion.{Conversion}
 use Rattle.twkb_convert.specs.declared.conversion.Conversion.TheVariants as conversion
 
 -- These bytes were written after those that the writer held, and agree with the answer.
-pub record Wrote {W : Type 0} (Ended : Ends) (Halted : Stops) (contents : W → Option (List ℕ)) (writer written : Tap W) (answer : Result Report ConvertFault) : Type 0 where
+pub record Wrote {W : Type 0} (Ended : Ends) (Halted : Stops) (contents : W → Option (List ℕ))
+    (writer written : Tap W) (answer : Result Report ConvertFault) : Type 0 where
   pub bytes : List ℕ
   pub appends : Appends (contents (device_of writer)) (contents (device_of written)) bytes
   pub agrees : Answers Ended Halted bytes answer
 
-module _ {R W : Type 0} (l : Allowance) (input : List ℕ) (remaining : R → Option (List ℕ)) (contents : W → Option (List ℕ))
-    (reader : Tap R) (writer : Tap W) (read : Tap R) (written : Tap W) (told : remaining (device_of reader) ≡ Some input) where
+module _ {R W : Type 0} (l : Allowance) (input : List ℕ) (remaining : R → Option (List ℕ))
+    (contents : W → Option (List ℕ))
+    (reader : Tap R) (writer : Tap W) (read : Tap R) (written : Tap W)
+    (told : remaining (device_of reader) ≡ Some input) where
   packed : (style : Style) (report : Report) → Packed style l remaining contents reader writer report read written
       → Wrote (PackedSlice style l input) (PackedFront style l input) contents writer written (Ok report)
   packed style report p = record {
@@ -51,7 +54,8 @@ module _ {R W : Type 0} (l : Allowance) (input : List ℕ) (remaining : R → Op
     );
   }
 
-  packed_front : (style : Style) (fault : ConvertFault) → StoppedPacking style l remaining contents reader writer fault read written
+  packed_front : (style : Style) (fault : ConvertFault)
+      → StoppedPacking style l remaining contents reader writer fault read written
       → Wrote (PackedSlice style l input) (PackedFront style l input) contents writer written (Err fault)
   packed_front style fault p = record {
     bytes = p.bytes;
@@ -70,15 +74,18 @@ module _ {R W : Type 0} (l : Allowance) (input : List ℕ) (remaining : R → Op
         one = p.one;
         done_is = p.done;
         given = bytes_given read;
-        explains = subst (λ (o : Option (List ℕ)). ExplainsPackingCause style l o (bytes_given read) fault.cause p.part.whole p.part.later p.part.front) told p.explains;
+        explains = subst (λ (o : Option (List ℕ)). ExplainsPackingCause style l o (bytes_given read)
+            fault.cause p.part.whole p.part.later p.part.front) told p.explains;
       },
       p.sent,
     );
   }
 
-  listed : {A : Type 0} (AreBlobs : List ℕ → List A → Type 0) (trees_of : List A → List Tree) (text_of : List A → List ℕ) (report : Report)
+  listed : {A : Type 0} (AreBlobs : List ℕ → List A → Type 0) (trees_of : List A → List Tree)
+      (text_of : List A → List ℕ) (report : Report)
       → Listed AreBlobs text_of remaining contents reader writer report read written
-      → Wrote (ListedSlice AreBlobs text_of input) (ListedFront AreBlobs trees_of text_of l input) contents writer written (Ok report)
+      → Wrote (ListedSlice AreBlobs text_of input) (ListedFront AreBlobs trees_of text_of l input)
+      contents writer written (Ok report)
   listed AreBlobs trees_of text_of report p = record {
     bytes = text_of p.found;
     appends = p.appends;
@@ -93,9 +100,11 @@ module _ {R W : Type 0} (l : Allowance) (input : List ℕ) (remaining : R → Op
     );
   }
 
-  listed_front : {A : Type 0} (AreBlobs : List ℕ → List A → Type 0) (trees_of : List A → List Tree) (text_of : List A → List ℕ) (fault : ConvertFault)
+  listed_front : {A : Type 0} (AreBlobs : List ℕ → List A → Type 0) (trees_of : List A → List Tree)
+      (text_of : List A → List ℕ) (fault : ConvertFault)
       → StoppedListing AreBlobs trees_of text_of l remaining contents reader writer fault read written
-      → Wrote (ListedSlice AreBlobs text_of input) (ListedFront AreBlobs trees_of text_of l input) contents writer written (Err fault)
+      → Wrote (ListedSlice AreBlobs text_of input) (ListedFront AreBlobs trees_of text_of l input)
+      contents writer written (Err fault)
   listed_front AreBlobs trees_of text_of fault p = record {
     bytes = p.text;
     appends = p.appends;
@@ -114,13 +123,16 @@ module _ {R W : Type 0} (l : Allowance) (input : List ℕ) (remaining : R → Op
         };
         done_is = p.done;
         told = remaining (device_of read);
-        explains = subst (λ (o : Option (List ℕ)). ExplainsListingCause trees_of text_of l o (remaining (device_of read)) p.part.bytes fault.cause p.part.whole p.part.later p.part.left) told p.explains;
+        explains = subst (λ (o : Option (List ℕ)). ExplainsListingCause trees_of text_of l o
+            (remaining (device_of read)) p.part.bytes fault.cause p.part.whole p.part.later
+            p.part.left) told p.explains;
       },
       p.sent,
     );
   }
 
-  pub ran : (what : Conversion) (answer : Result Report ConvertFault) → Converts what l remaining contents reader writer read written answer
+  pub ran : (what : Conversion) (answer : Result Report ConvertFault)
+      → Converts what l remaining contents reader writer read written answer
       → Wrote (Finished what l input) (Stopped what l input) contents writer written answer
   ran (conversion.Pack style) (Ok report) p = packed style report p.ok
   ran (conversion.Pack style) (Err fault) p = packed_front style fault p.err

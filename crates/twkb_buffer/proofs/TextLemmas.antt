@@ -1,6 +1,7 @@
 -- The words of the reason with a number, and how a text is copied into a buffer.
 use Rattle.std.specs.Prelude.{◌≢◌}
-use Rattle.std.proofs.Common.{◌≡◌, ◌∙◌, ℕ, ◌+◌, ◌-◌, ◌<◌, ◌≤◌, List, [], ◌∷◌, ◌++◌, length, take, drop, set, min, arith, refl, sym, subst, ap, eqb, if◌then◌else◌}
+use Rattle.std.proofs.Common.{◌≡◌, ◌∙◌, ℕ, ◌+◌, ◌-◌, ◌<◌, ◌≤◌, List, [], ◌∷◌, ◌++◌, length, take, drop, set, min}
+use Rattle.std.proofs.Common.{arith, refl, sym, subst, ap, eqb, if◌then◌else◌}
 use Rattle.std.proofs.Math.Nat.{min_comm, min-le_right}
 use Rattle.std.proofs.Math.Numerals.{add-one}
 use Rattle.std.proofs.lemmas.List.{drop-set, drop_min, take_min}
@@ -103,7 +104,11 @@ found_at n why has = ap (λ (k : ℕ). words_at all_causes k) (sym has.0) ∙ fo
 
 -- the words of one cause with a number are those of the number
 pub named : (n : ℕ) (why : Cause) (words : List ℕ) → HasReason n why → words ≡ cause_words why → AreWordsOf n words
-named n why words has e = record { told = λ other same. e ∙ (sym (found_at n why has) ∙ found_at n other same); none = λ lacks. absurd (lacks why has) }
+named n why words has e = record {
+  told = λ other same. e
+      ∙ (sym (found_at n why has) ∙ found_at n other same);
+  none = λ lacks. absurd (lacks why has);
+}
 
 -- a number that no cause has is that of no words
 pub unnamed : (n : ℕ) → ((why : Cause) → HasReason n why → ⊥) → AreWordsOf n []
@@ -151,7 +156,8 @@ no_blob n lacks blob.CoordinateRange = λ e. lacks.7 (sym e)
 no_blob n lacks blob.SizeMismatch = λ e. lacks.8 (sym e)
 
 -- no cause has a number other than all these
-pub no_cause : (n : ℕ) → NamesNoRow n → NamesNoPointText n → NamesNoBlob n → n ≢ 61 → n ≢ 62 → (why : Cause) → HasReason n why → ⊥
+pub no_cause : (n : ℕ) → NamesNoRow n → NamesNoPointText n → NamesNoBlob n → n ≢ 61 → n ≢ 62
+    → (why : Cause) → HasReason n why → ⊥
 no_cause n rows points items long many (cause.Row number reason) has = no_row n rows points reason has.0
 no_cause n rows points items long many (cause.Blob offset reason) has = no_blob n items reason has.0
 no_cause n rows points items long many cause.ReadDevice has = has.1 (sym has.0)
@@ -161,17 +167,25 @@ no_cause n rows points items long many cause.TooLong has = long (sym has.0)
 no_cause n rows points items long many cause.TooManyRecords has = many (sym has.0)
 
 -- in a buffer of at least one byte: the words as far as there is room, then a zero byte
-over : (words bs : List ℕ) (b m : ℕ) → m ≡ min (length words) (length bs) → take m words ++ drop m (set (b ∷ bs) m 0) ≡ take (length bs) words ++ (0 ∷ drop (length words) bs)
+over : (words bs : List ℕ) (b m : ℕ) → m ≡ min (length words) (length bs)
+    → take m words ++ drop m (set (b ∷ bs) m 0) ≡ take (length bs) words
+    ++ (0 ∷ drop (length words) bs)
 over words bs b m e =
     let low : m ≤ length bs = subst (λ (n : ℕ). n ≤ length bs) (sym e) (min-le_right (length words) (length bs)) in
     let within : m < length (b ∷ bs) = omega (arith, low) in
-    let first : take m words ≡ take (length bs) words = ap (λ (n : ℕ). take n words) (e ∙ min_comm (length words) (length bs)) ∙ take_min (length bs) words in
-    let left : drop (m + 1) (b ∷ bs) ≡ drop (length words) bs = ap (λ (n : ℕ). drop n (b ∷ bs)) (add-one m) ∙ (ap (λ (n : ℕ). drop n bs) e ∙ drop_min (length words) bs) in
-    let last : drop m (set (b ∷ bs) m 0) ≡ 0 ∷ drop (length words) bs = drop-set (b ∷ bs) m 0 within ∙ ap (λ (xs : List ℕ). 0 ∷ xs) left in
-    ap (λ (xs : List ℕ). xs ++ drop m (set (b ∷ bs) m 0)) first ∙ ap (λ (xs : List ℕ). take (length bs) words ++ xs) last
+    let first : take m words ≡ take (length bs) words = ap (λ (n : ℕ). take n words)
+    (e ∙ min_comm (length words) (length bs)) ∙ take_min (length bs) words in
+    let left : drop (m + 1) (b ∷ bs) ≡ drop (length words) bs = ap (λ (n : ℕ). drop n (b ∷ bs))
+    (add-one m) ∙ (ap (λ (n : ℕ). drop n bs) e ∙ drop_min (length words) bs) in
+    let last : drop m (set (b ∷ bs) m 0) ≡ 0 ∷ drop (length words) bs = drop-set (b ∷ bs) m 0 within
+    ∙ ap (λ (xs : List ℕ). 0 ∷ xs) left in
+    ap (λ (xs : List ℕ). xs ++ drop m (set (b ∷ bs) m 0)) first
+    ∙ ap (λ (xs : List ℕ). take (length bs) words ++ xs) last
 
 -- in any buffer that is not empty: the words as far as there is room, then a zero byte
-pub put_text : (words old : List ℕ) (m : ℕ) → length old ≢ 0 → m ≡ min (length words) (length old - 1) → take m words ++ drop m (set old m 0) ≡ with_text words old
+pub put_text : (words old : List ℕ) (m : ℕ) → length old ≢ 0
+    → m ≡ min (length words) (length old - 1) → take m words ++ drop m (set old m 0)
+    ≡ with_text words old
 put_text words [] m some e = absurd (some refl)
 put_text words (b ∷ bs) m some e =
     let less : length (b ∷ bs) - 1 ≡ length bs = omega arith in

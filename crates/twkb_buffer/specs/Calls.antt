@@ -67,7 +67,8 @@ count_of (Some n) = n
 
 -- A call filled the start of a slice as its report states. If the slice is too small, the report
 -- gives the length of the whole output, or 0.
-pub record FillsSlice (Ended : Ends) (Halted : Stops) (HasLength : ℕ → Type 0) (slice : List ℕ) (report : BufferReport) : Type 0 where
+pub record FillsSlice (Ended : Ends) (Halted : Stops) (HasLength : ℕ → Type 0) (slice : List ℕ)
+    (report : BufferReport) : Type 0 where
   pub fits : report.sent ≤ length slice
   pub finished : report.status ≡ 0 → Ended (take report.sent slice) report.done
   pub stopped : report.status ≢ 0 → (why : Cause) × Tells report why × Halted (take report.sent slice) report.done why
@@ -77,13 +78,17 @@ pub record FillsSlice (Ended : Ends) (Halted : Stops) (HasLength : ℕ → Type 
 -- the report states what the answer does, except that nothing was sent, and that the whole length
 -- is needed
 abbrev pub MeasuresBy : Result Report ConvertFault → BufferReport → Type 0
-MeasuresBy (Ok answer) report = (report.sent ≡ 0) × (report.status ≡ 0) × (report.done ≡ answer.geometries) × (report.needed ≡ answer.bytes)
-MeasuresBy (Err fault) report = (report.sent ≡ 0) × Tells report fault.cause × (report.done ≡ fault.done) × (report.needed ≡ count_of (refused_length fault.cause fault.sent))
+MeasuresBy (Ok answer) report = (report.sent ≡ 0) × (report.status ≡ 0)
+    × (report.done ≡ answer.geometries) × (report.needed ≡ answer.bytes)
+MeasuresBy (Err fault) report = (report.sent ≡ 0) × Tells report fault.cause
+    × (report.done ≡ fault.done)
+    × (report.needed ≡ count_of (refused_length fault.cause fault.sent))
 
 -- A call wrote nothing. Its report states what would be written, and the length of the whole
 -- output, or 0 if that is not known.
 pub record Measures (Ended : Ends) (Halted : Stops) (HasLength : ℕ → Type 0) (report : BufferReport) : Type 0 where
   pub none : report.sent ≡ 0
   pub finished : report.status ≡ 0 → (written : List ℕ) × Ended written report.done × (report.needed ≡ length written)
-  pub stopped : report.status ≢ 0 → (why : Cause) × (written : List ℕ) × Tells report why × Halted written report.done why × (IsRefusal why → report.needed ≡ length written)
+  pub stopped : report.status ≢ 0 → (why : Cause) × (written : List ℕ) × Tells report why
+      × Halted written report.done why × (IsRefusal why → report.needed ≡ length written)
   pub needed : report.needed ≢ 0 → HasLength report.needed

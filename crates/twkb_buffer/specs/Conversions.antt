@@ -29,11 +29,13 @@ HasLength conversion.Show l input = ShowsTo l input
 
 -- the start of a slice was filled with the output of this input, as a report states
 abbrev pub FillsOutput : Conversion → Allowance → List ℕ → List ℕ → BufferReport → Type 0
-FillsOutput what l input slice report = FillsSlice (Finished what l input) (Stopped what l input) (HasLength what l input) slice report
+FillsOutput what l input slice report = FillsSlice (Finished what l input) (Stopped what l input)
+    (HasLength what l input) slice report
 
 -- the output of this input was measured, as a report states
 abbrev pub MeasuresOutput : Conversion → Allowance → List ℕ → BufferReport → Type 0
-MeasuresOutput what l input report = Measures (Finished what l input) (Stopped what l input) (HasLength what l input) report
+MeasuresOutput what l input report = Measures (Finished what l input) (Stopped what l input)
+    (HasLength what l input) report
 
 -- a table was packed into a slice
 abbrev pub PacksSlice : Style → Allowance → List ℕ → List ℕ → BufferReport → Type 0

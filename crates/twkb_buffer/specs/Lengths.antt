@@ -9,7 +9,8 @@ use Rattle.twkb_convert.specs.Outputs.{PackTo, UnpackTo}
 
 -- the output to which the table is packed has this length
 abbrev pub PacksTo : Style → Allowance → List ℕ → ℕ → Type 0
-PacksTo style l table count = (records : List Record) → AreRecordsOf table records → (bytes : List ℕ) × PackTo style l records bytes × (count ≡ length bytes)
+PacksTo style l table count = (records : List Record) → AreRecordsOf table records
+    → (bytes : List ℕ) × PackTo style l records bytes × (count ≡ length bytes)
 
 -- the output to which the stream is unpacked has this length
 abbrev pub UnpacksTo : Allowance → List ℕ → ℕ → Type 0

@@ -47,7 +47,15 @@ put_report count = record { status = 0; reason = 0; place = 0; text_offset = 0; 
 
 -- the report of a call that wrote nothing, with this status and the number of places it needs
 abbrev pub nothing_report : ℕ → ℕ → BufferReport
-nothing_report status needed = record { status = status; reason = 0; place = 0; text_offset = 0; done = 0; sent = 0; needed = needed }
+nothing_report status needed = record {
+  status = status;
+  reason = 0;
+  place = 0;
+  text_offset = 0;
+  done = 0;
+  sent = 0;
+  needed = needed;
+}
 
 -- A list was written at the start of a slice; or the slice has fewer places than needed and is
 -- unchanged, and the report gives the number of places needed.
@@ -70,7 +78,10 @@ pub record RefusesPoints (given : List BufferPoint) (old new : List ℕ) (report
 -- The text is no polyline: the reason and the offset are those of its first fault.
 pub record RefusesText (text : List ℕ) (old new : List BufferPoint) (report : BufferReport) : Type 0 where
   pub why : PolyReason
-  pub report_is : report ≡ record (nothing_report 1 0) { reason = point_text_number_of why; text_offset = report.text_offset }
+  pub report_is : report ≡ record (nothing_report 1 0) {
+    reason = point_text_number_of why;
+    text_offset = report.text_offset;
+  }
   pub fault : IsTextFault text (2 ^ 32 - 1) report.text_offset why
   pub same : new ≡ old
 
@@ -88,8 +99,10 @@ pub record PutsPoints (text : List ℕ) (old new : List BufferPoint) (report : B
 
 -- the result for points: status 0 or 5, 1, or 4
 abbrev pub EncodesSlice : List BufferPoint → List ℕ → List ℕ → BufferReport → Type 0
-EncodesSlice given old new report = PutsPolyline given old new report ⊎ (RefusesPoints given old new report ⊎ FindsNoMemory old new report)
+EncodesSlice given old new report = PutsPolyline given old new report
+    ⊎ (RefusesPoints given old new report ⊎ FindsNoMemory old new report)
 
 -- the result for a text: status 0 or 5, 1, or 4
 abbrev pub DecodesSlice : List ℕ → List BufferPoint → List BufferPoint → BufferReport → Type 0
-DecodesSlice text old new report = PutsPoints text old new report ⊎ (RefusesText text old new report ⊎ FindsNoMemory old new report)
+DecodesSlice text old new report = PutsPoints text old new report
+    ⊎ (RefusesText text old new report ⊎ FindsNoMemory old new report)

@@ -29,7 +29,8 @@ pub record PackedFront (style : Style) (l : Allowance) (table written : List ℕ
   pub explains : ExplainsPackingCause style l (Some table) given why part.whole part.later part.front
 
 -- The bytes are this many blobs, and their text was written.
-pub record ListedSlice {A : Type 0} (AreBlobs : List ℕ → List A → Type 0) (text_of : List A → List ℕ) (stream written : List ℕ) (done : ℕ) : Type 0 where
+pub record ListedSlice {A : Type 0} (AreBlobs : List ℕ → List A → Type 0)
+    (text_of : List A → List ℕ) (stream written : List ℕ) (done : ℕ) : Type 0 where
   pub found : List A
   pub stream_is : AreBlobs stream found
   pub written_is : written ≡ text_of found
@@ -37,12 +38,14 @@ pub record ListedSlice {A : Type 0} (AreBlobs : List ℕ → List A → Type 0) 
 
 -- The bytes begin with blobs, and a prefix of their text was written, with all text of this many
 -- of them. The cause explains that.
-pub record ListedFront {A : Type 0} (AreBlobs : List ℕ → List A → Type 0) (trees_of : List A → List Tree) (text_of : List A → List ℕ) (l : Allowance)
+pub record ListedFront {A : Type 0} (AreBlobs : List ℕ → List A → Type 0)
+    (trees_of : List A → List Tree) (text_of : List A → List ℕ) (l : Allowance)
     (stream written : List ℕ) (done : ℕ) (why : Cause) : Type 0 where
   pub part : FrontOfText AreBlobs text_of (Some stream) written
   pub done_is : done ≡ length part.whole
   pub told : Option (List ℕ)
-  pub explains : ExplainsListingCause trees_of text_of l (Some stream) told part.bytes why part.whole part.later part.left
+  pub explains : ExplainsListingCause trees_of text_of l (Some stream) told part.bytes why
+      part.whole part.later part.left
 
 -- the bytes are this many blobs, and the text of their table was written
 abbrev pub UnpackedSlice : Allowance → List ℕ → List ℕ → ℕ → Type 0

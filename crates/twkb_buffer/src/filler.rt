@@ -49,7 +49,8 @@ impl Write for Filler<'_> {
         ensures bound { WritesAtMost result buf.now }
         ensures bytes { WriteAppends (held self.old) (held self.new) result buf.now }
         ensures passes { is_err result ≡ false }
-        ensures most { IfOk result (λ count. (count ≡ length buf.now) ⊎ (filled_of self.new ≡ length (buffer_of self.new).now)) }
+        ensures most { IfOk result (λ count. (count ≡ length buf.now)
+            ⊎ (filled_of self.new ≡ length (buffer_of self.new).now)) }
     {
         let count = copy_at(self.filled, buf, self.buffer);
         self.filled += count;

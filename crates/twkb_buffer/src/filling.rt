@@ -23,7 +23,8 @@ fn run_into(
 ) -> Result<Report, ConvertFault>
     requires { filled_of filler.old ≡ 0 }
     ensures same_borrow { (buffer_of filler.new).ghost_name ≡ (buffer_of filler.old).ghost_name }
-    ensures fills { Fills (Finished what limits input.now) (Stopped what limits input.now) (buffer_of filler.new).now result }
+    ensures fills { Fills (Finished what limits input.now) (Stopped what limits input.now)
+        (buffer_of filler.new).now result }
 {
     let mut reader = Tap::new(input);
     let mut writer = Tap::new(mem::replace(filler, Filler::new(&mut [])));

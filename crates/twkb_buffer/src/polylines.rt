@@ -1,7 +1,8 @@
 //! Points of a buffer as an encoded polyline in another, and back.
 ghost use Rattle.std.specs.Prelude.{◌≡◌, ◌↔◌, IfErr, IfOk, IfSome, IsSome};
 ghost use Rattle.twkb_points.specs.Point.{IsInRange, point_at};
-ghost use Rattle.twkb_buffer.specs.Polylines.{ArePoints, DecodesSlice, EncodesSlice, Puts, IsRefusedPoint, coordinates_at, coordinates_of, nothing_report};
+ghost use Rattle.twkb_buffer.specs.Polylines.{ArePoints, DecodesSlice, EncodesSlice, Puts, IsRefusedPoint};
+ghost use Rattle.twkb_buffer.specs.Polylines.{coordinates_at, coordinates_of, nothing_report};
 
 use crate::point::BufferPoint;
 use crate::reason_numbers::{DONE, MEMORY, REFUSED, TOO_SMALL, point_text_number};

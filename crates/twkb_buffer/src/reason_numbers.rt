@@ -1,6 +1,7 @@
 //! The numbers of statuses and reasons for C.
 ghost use Rattle.std.specs.Prelude.{◌≡◌};
-ghost use Rattle.twkb_buffer.specs.Numbers.{blob_number_of, place_of, point_text_number_of, reason_number_of, row_number_of, row_text_offset_of, status_of, text_offset_of};
+ghost use Rattle.twkb_buffer.specs.Numbers.{blob_number_of, place_of, point_text_number_of, reason_number_of};
+ghost use Rattle.twkb_buffer.specs.Numbers.{row_number_of, row_text_offset_of, status_of, text_offset_of};
 
 use twkb_convert::{BlobReason, Cause, PolyReason, RowReason};
 

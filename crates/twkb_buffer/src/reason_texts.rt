@@ -3,7 +3,8 @@ ghost use Rattle.std.specs.Prelude.{◌≡◌, ◌≢◌, ◌≤◌, IfSome, IsN
 ghost use Rattle.twkb_convert.specs.declared.report.Cause.{Cause};
 ghost use Rattle.twkb_convert.specs.Version.{version_text};
 ghost use Rattle.twkb_buffer.specs.Numbers.{blob_number_of, point_text_number_of, row_number_of};
-ghost use Rattle.twkb_buffer.specs.Texts.{AreWordsOf, HasReason, NamesNoBlob, NamesNoPointText, NamesNoRow, PutsText, with_text};
+ghost use Rattle.twkb_buffer.specs.Texts.{AreWordsOf, HasReason, NamesNoBlob, NamesNoPointText, NamesNoRow, PutsText};
+ghost use Rattle.twkb_buffer.specs.Texts.{with_text};
 
 use twkb_convert::{BlobReason, Cause, PolyReason, RowReason, VERSION};
 

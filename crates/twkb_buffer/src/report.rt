@@ -31,7 +31,15 @@ pub struct BufferReport {
 
 // Makes the report of a conversion that reached its end.
 pub(crate) fn finished(report: Report) -> BufferReport
-    ensures { result ≡ record { status = 0; reason = 0; place = 0; text_offset = 0; done = report.geometries; sent = report.bytes; needed = report.bytes } }
+    ensures { result ≡ record {
+      status = 0;
+      reason = 0;
+      place = 0;
+      text_offset = 0;
+      done = report.geometries;
+      sent = report.bytes;
+      needed = report.bytes;
+    } }
 {
     BufferReport {
         status: DONE,

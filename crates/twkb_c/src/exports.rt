@@ -38,7 +38,8 @@ pub extern "C" fn polytwkb_pack(
     limits: BufferLimits,
     style: u32,
 ) -> BufferReport
-    ensures packs { IsAllowance (allowance_of limits) → (s : Style) → IsStyleNumber s style → PacksSlice s (allowance_of limits) input.now output.new result }
+    ensures packs { IsAllowance (allowance_of limits) → (s : Style) → IsStyleNumber s style
+        → PacksSlice s (allowance_of limits) input.now output.new result }
     ensures limits_out_of_range { (IsAllowance (allowance_of limits) → ⊥) → result ≡ arguments_report }
     ensures style_out_of_range { 1 < style → result ≡ arguments_report }
     ensures refused { result.status ≡ 2 → output.new ≡ output.old }
@@ -60,7 +61,8 @@ pub extern "C" fn polytwkb_unpack(
     output: &mut [u8],
     limits: BufferLimits,
 ) -> BufferReport
-    ensures unpacks { IsAllowance (allowance_of limits) → UnpacksSlice (allowance_of limits) input.now output.new result }
+    ensures unpacks { IsAllowance (allowance_of limits)
+        → UnpacksSlice (allowance_of limits) input.now output.new result }
     ensures limits_out_of_range { (IsAllowance (allowance_of limits) → ⊥) → result ≡ arguments_report }
     ensures refused { result.status ≡ 2 → output.new ≡ output.old }
 {
@@ -98,7 +100,8 @@ pub extern "C" fn polytwkb_measure(
     limits: BufferLimits,
     style: u32,
 ) -> BufferReport
-    ensures measures { IsAllowance (allowance_of limits) → (s : Style) → IsStyleNumber s style → (what : Conversion) → IsConversionNumber s what conversion
+    ensures measures { IsAllowance (allowance_of limits) → (s : Style) → IsStyleNumber s style
+        → (what : Conversion) → IsConversionNumber s what conversion
         → MeasuresOutput what (allowance_of limits) input.now result }
     ensures limits_out_of_range { (IsAllowance (allowance_of limits) → ⊥) → result ≡ arguments_report }
     ensures style_out_of_range { 1 < style → result ≡ arguments_report }

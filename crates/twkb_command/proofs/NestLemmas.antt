@@ -1,5 +1,6 @@
 -- Words without a fault give `--max-nest` only numbers from 0 to 32.
-use Rattle.std.proofs.Common.{◌≡◌, ◌==◌, ◌≤◌, Bool, true, false, true≢false, cond, refl, sym, subst, ap, arith, List, [], ◌∷◌, ◌++◌, drop, codes, Option, Some, None, find, bytes_eq}
+use Rattle.std.proofs.Common.{◌≡◌, ◌==◌, ◌≤◌, Bool, true, false, true≢false, cond, refl, sym, subst, ap, arith, List}
+use Rattle.std.proofs.Common.{[], ◌∷◌, ◌++◌, drop, codes, Option, Some, None, find, bytes_eq}
 use Rattle.std.specs.Prelude.{⊤, IfOk, Ok, Err, Result, option_and_then, pos, unwrap_or}
 use Rattle.std.specs.Borrow.{Bor}
 use Rattle.std.specs.Str.Parse.{IsNumeral, digits_value, starts_with_minus, without_leading_plus}
@@ -13,7 +14,8 @@ use Rattle.clap.specs.Lexer.{without_minus}
 use Rattle.clap.specs.Simple.{built, filled, help_rule, subcommand_of, subcommand_rows_of}
 use Rattle.clap.specs.Values.{IsSignedIn, refused_kind}
 use Rattle.clap.specs.ValueTests.{accepts}
-use Rattle.clap.specs.Walk.{Row, Rule, Text, action_of, at_row, more_values, one_of, reading_by, row_text, used_as, values_or_missing, with_values, without}
+use Rattle.clap.specs.Walk.{Row, Rule, Text, action_of, at_row, more_values, one_of, reading_by, row_text, used_as}
+use Rattle.clap.specs.Walk.{values_or_missing, with_values, without}
 use Rattle.clap.specs.declared.builder.action.ArgAction.{ArgAction}
 use Rattle.clap.specs.declared.builder.action.ArgAction.TheVariants as action
 use Rattle.clap.specs.declared.builder.value_parser.Reading.{Reading}
@@ -63,7 +65,9 @@ signed_nest t passed = rw (without_minus-cond t) (go (starts_with_minus t) refl)
 accepted_nest : (t : Text) → value_kinds false (parser.Signed (pos 0) (pos 32)) t ≡ [] → IsNest (without_minus t)
 accepted_nest t none = go (accepts false (parser.Signed (pos 0) (pos 32)) t) refl none
   where
-    go : (b : Bool) → accepts false (parser.Signed (pos 0) (pos 32)) t ≡ b → cond b [] (refused_kind (parser.Signed (pos 0) (pos 32)) ∷ []) ≡ [] → IsNest (without_minus t)
+    go : (b : Bool) → accepts false (parser.Signed (pos 0) (pos 32)) t ≡ b
+        → cond b [] (refused_kind (parser.Signed (pos 0) (pos 32)) ∷ []) ≡ []
+        → IsNest (without_minus t)
     go true passed none = signed_nest t (accepts-Accepts false (parser.Signed (pos 0) (pos 32)) t passed)
     go false passed none = absurd (cc none)
 
@@ -92,16 +96,20 @@ rows_join : (xs ys : List Row) → NestRows xs → NestRows ys → NestRows (xs 
 rows_join [] ys first second = second
 rows_join (x ∷ xs) ys first second = (first.0, rows_join xs ys first.1 second)
 
-at_row_nest : (id : Text) (change : Row → List Row) (missing rows : List Row) → ((r : Row) → bytes_eq r.id id ≡ true → IsNestRow r → NestRows (change r))
+at_row_nest : (id : Text) (change : Row → List Row) (missing rows : List Row)
+    → ((r : Row) → bytes_eq r.id id ≡ true → IsNestRow r → NestRows (change r))
     → NestRows missing → NestRows rows → NestRows (at_row id change missing rows)
 at_row_nest id change missing [] changes lacks held = lacks
-at_row_nest id change missing (r ∷ rs) changes lacks held = go (bytes_eq r.id id) refl (at_row_nest id change missing rs changes lacks held.1)
+at_row_nest id change missing (r ∷ rs) changes lacks held = go (bytes_eq r.id id) refl
+    (at_row_nest id change missing rs changes lacks held.1)
   where
-    go : (b : Bool) → bytes_eq r.id id ≡ b → NestRows (at_row id change missing rs) → NestRows (cond b (change r ++ rs) (r ∷ at_row id change missing rs))
+    go : (b : Bool) → bytes_eq r.id id ≡ b → NestRows (at_row id change missing rs)
+        → NestRows (cond b (change r ++ rs) (r ∷ at_row id change missing rs))
     go true same later = rows_join (change r) rs (changes r same held.0) held.1
     go false other later = (held.0, later)
 
-same_id : (a b : Text) → bytes_eq a b ≡ true → bytes_eq a (codes "max-nest") ≡ true → bytes_eq b (codes "max-nest") ≡ true
+same_id : (a b : Text) → bytes_eq a b ≡ true → bytes_eq a (codes "max-nest") ≡ true
+    → bytes_eq b (codes "max-nest") ≡ true
 same_id a b same is = subst (λ x. bytes_eq x (codes "max-nest") ≡ true) ((bytes_eq-Decides a b).0 same) is
 
 given_rows : (id : Text) (how : Reading) (values : List Text) (rows : List Row)
@@ -109,19 +117,26 @@ given_rows : (id : Text) (how : Reading) (values : List Text) (rows : List Row)
     → NestRows (with_values id how CommandLine values (without id rows))
 given_rows id how values rows given held =
     at_row_nest id (more_values CommandLine values) _ (without id rows)
-    (λ r same is. (λ nest. let before = is nest in (before.0, each_join r.values values before.1 (given (same_id r.id id same nest)).1), tt))
+    (λ r same is. (
+      λ nest. let before = is nest in
+          (before.0, each_join r.values values before.1 (given (same_id r.id id same nest)).1),
+      tt,
+    ))
     (given, tt)
     (at_row_nest id (λ r. []) [] rows (λ r same is. tt) tt held)
 
 -- ---- the arguments of the subcommands
 
 set_keeps : (again : Bool) (a : Rule) → action_of a ≡ action.Set
-    → ((values : List Text) → values_fault a values ≡ [] → bytes_eq a.id (codes "max-nest") ≡ true → (reading_by a ≡ reading.WithoutMinus) × EachNest values)
+    → ((values : List Text) → values_fault a values ≡ [] → bytes_eq a.id (codes "max-nest") ≡ true
+    → (reading_by a ≡ reading.WithoutMinus) × EachNest values)
     → Keeps NestRows again a
 set_keeps again a is given values rows held none =
     let given_values = values_or_missing a values in
-    let P : ArgAction → Type 0 = λ x. action_fault x again a given_values rows ≡ [] → NestRows (used_as x a.id (reading_by a) given_values rows) in
-    let here : P action.Set = λ fine. given_rows a.id (reading_by a) given_values rows (given given_values (last_none _ _ fine)) held in
+    let P : ArgAction → Type 0 = λ x. action_fault x again a given_values rows ≡ []
+    → NestRows (used_as x a.id (reading_by a) given_values rows) in
+    let here : P action.Set = λ fine. given_rows a.id (reading_by a) given_values rows
+    (given given_values (last_none _ _ fine)) held in
     subst P (sym is) here (last_none _ _ none)
 
 help_keeps : (again : Bool) (a : Rule) → action_of a ≡ action.Help → Keeps NestRows again a
@@ -142,7 +157,10 @@ style_keeps again styles = set_keeps again (filled (style_option styles)) refl (
 levels_nest : (styles : Bor (List (Bor Text))) → EachLevel NestRows (built (command_line styles)).subs
 unfolding clap_on_literals command_line
 levels_nest styles = (
-  ((option_keeps false, (style_keeps false styles, (help_keeps false (filled help_rule) refl, tt))), (refl, (refl, (refl, tt)))),
+  (
+    (option_keeps false, (style_keeps false styles, (help_keeps false (filled help_rule) refl, tt))),
+    (refl, (refl, (refl, tt))),
+  ),
   (
     ((option_keeps false, (help_keeps false (filled help_rule) refl, tt)), (refl, (refl, tt))),
     (((option_keeps false, (help_keeps false (filled help_rule) refl, tt)), (refl, (refl, tt))), tt),
@@ -154,9 +172,11 @@ levels_nest styles = (
 head_nest : (r : Row) → IsNestRow r → bytes_eq r.id (codes "max-nest") ≡ true → GivesNest (row_text r)
 head_nest r is same = go r.reading r.values (is same).0 (is same).1
   where
-    go : (how : Reading) (values : List Text) → how ≡ reading.WithoutMinus → EachNest values → GivesNest (row_text (record r { reading = how; values = values }))
+    go : (how : Reading) (values : List Text) → how ≡ reading.WithoutMinus → EachNest values
+        → GivesNest (row_text (record r { reading = how; values = values }))
     go how [] reads each = tt
-    go how (v ∷ vs) reads each = subst (λ x. GivesNest (row_text (record r { reading = x; values = v ∷ vs }))) (sym reads) each.0
+    go how (v ∷ vs) reads each = subst (λ x. GivesNest
+        (row_text (record r { reading = x; values = v ∷ vs }))) (sym reads) each.0
 
 one_nest : (rows : List Row) → NestRows rows → GivesNest (one_of (codes "max-nest") rows)
 one_nest [] held = tt
@@ -172,10 +192,15 @@ below_nest None holds = tt
 below_nest (Some p) holds = one_nest p.1 holds
 
 -- words that the command line accepts give the option only numbers from 0 to 32
-pub has_nest : (styles : Bor (List (Bor Text))) (words : List Text) → fault_of (command_line styles) words ≡ [] → HasNest (subcommand_of (command_line styles) words)
-has_nest styles words none = below_nest _ (subcommand_holds NestRows (command_line styles) words (levels_nest styles) tt none)
+pub has_nest : (styles : Bor (List (Bor Text))) (words : List Text)
+    → fault_of (command_line styles) words ≡ [] → HasNest
+    (subcommand_of (command_line styles) words)
+has_nest styles words none = below_nest _ (subcommand_holds NestRows (command_line styles) words
+    (levels_nest styles) tt none)
 
-pub nest_line : (styles : Bor (List (Bor Text))) (result : Result ArgMatches Error) (words : List Text) → FailsBy (fault_of (command_line styles) words) result
-    → IfOk result (λ m. subcommand_rows_of m ≡ subcommand_of (command_line styles) words) → IfOk result (λ m. HasNest (subcommand_rows_of m))
+pub nest_line : (styles : Bor (List (Bor Text))) (result : Result ArgMatches Error)
+    (words : List Text) → FailsBy (fault_of (command_line styles) words) result
+    → IfOk result (λ m. subcommand_rows_of m ≡ subcommand_of (command_line styles) words)
+    → IfOk result (λ m. HasNest (subcommand_rows_of m))
 nest_line styles (Ok m) words none is = subst HasNest (sym is) (has_nest styles words none)
 nest_line styles (Err e) words kinds is = tt

@@ -1,5 +1,6 @@
 -- Two prints, one after the other, print the join of their bytes.
-use Rattle.std.proofs.Common.{◌≡◌, ◌∙◌, ◌++◌, ℕ, ◌+◌, ◌≤◌, ◌^◌, ◌⊎◌, inl, inr, List, Option, true, false, sym, subst, ap, arith, length}
+use Rattle.std.proofs.Common.{◌≡◌, ◌∙◌, ◌++◌, ℕ, ◌+◌, ◌≤◌, ◌^◌, ◌⊎◌, inl, inr, List, Option, true, false, sym, subst}
+use Rattle.std.proofs.Common.{ap, arith, length}
 use Rattle.std.proofs.lemmas.List.{length-append}
 use Rattle.twkb_io.specs.Outputs.{Took, is_spent, sent_of}
 use Rattle.twkb_io.specs.OutputLaws.{took_join}
@@ -7,20 +8,23 @@ use Rattle.twkb_io.specs.Taps.{count_failure}
 use Rattle.twkb_io.specs.declared.output.Output.{Output}
 use Rattle.twkb_command.specs.Printing.{Fails, Prints}
 
-not_spent : {W : Type 0} (old new : Output W) → is_spent old ≡ false → is_spent new ≡ is_spent old → is_spent new ≡ false
+not_spent : {W : Type 0} (old new : Output W) → is_spent old ≡ false → is_spent new ≡ is_spent old
+    → is_spent new ≡ false
 not_spent old new fresh same = same ∙ fresh
 
 later : {W : Type 0} (a b c : Output W) → Fails a b → c ≡ b → Fails a c
 later a b c first same = subst (λ x. Fails a x) (sym same) first
 
-second_fails : {W : Type 0} (contents : W → Option (List ℕ)) (a b c : Output W) (xs : List ℕ) → Took contents a xs b → Fails b c → Fails a c
+second_fails : {W : Type 0} (contents : W → Option (List ℕ)) (a b c : Output W) (xs : List ℕ)
+    → Took contents a xs b → Fails b c → Fails a c
 second_fails contents a b c xs first second = record {
   same_tap = second.same_tap ∙ first.sends.same_tap;
   failures = second.failures ∙ ap (count_failure true) first.failures;
   spent = second.spent;
 }
 
-then_puts : {W : Type 0} (contents : W → Option (List ℕ)) (a b c : Output W) (xs ys : List ℕ) → is_spent a ≡ false → sent_of a + length (xs ++ ys) ≤ 2 ^ 62
+then_puts : {W : Type 0} (contents : W → Option (List ℕ)) (a b c : Output W) (xs ys : List ℕ)
+    → is_spent a ≡ false → sent_of a + length (xs ++ ys) ≤ 2 ^ 62
     → Took contents a xs b ⊎ Fails a b → Prints contents b ys c → Took contents a (xs ++ ys) c ⊎ Fails a c
 then_puts contents a b c xs ys fresh room (inr failed) second = inr (later a b c failed (second.stays failed.spent))
 then_puts contents a b c xs ys fresh room (inl took) second =

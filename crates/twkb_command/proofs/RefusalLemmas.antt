@@ -12,25 +12,36 @@ use Rattle.twkb_command.specs.Carrying.{Refuses, TellsMemory}
 use Rattle.twkb_command.specs.Runs.{Answers, LacksMemory}
 use Rattle.twkb_command.specs.Words.{IsRefusal, IsRefusalAmong}
 
-among : (kinds : Kinds) (kind : ErrorKind) (r : Refusal) → IsAmong kind kinds → IsRefusal kind r → IsRefusalAmong kinds r
+among : (kinds : Kinds) (kind : ErrorKind) (r : Refusal) → IsAmong kind kinds → IsRefusal kind r
+    → IsRefusalAmong kinds r
 among kinds kind refusal.Memory listed is = tt
 among kinds kind (refusal.Help text) listed is = subst (λ k. IsAmong k kinds) is listed
 among kinds kind (refusal.Version text) listed is = subst (λ k. IsAmong k kinds) is listed
 among kinds kind (refusal.Usage text) listed is = (kind, listed, is.0, is.1)
 
 -- an error of one of these kinds is refused as one of these kinds
-pub refusal_among : (kinds : Kinds) (e : Error) (r : Refusal) → HasKind kinds e → (kind_of e ≡ OutOfMemory → r ≡ refusal.Memory) → IsRefusal (kind_of e) r → IsRefusalAmong kinds r
+pub refusal_among : (kinds : Kinds) (e : Error) (r : Refusal) → HasKind kinds e
+    → (kind_of e ≡ OutOfMemory → r ≡ refusal.Memory) → IsRefusal (kind_of e) r
+    → IsRefusalAmong kinds r
 refusal_among kinds e r (inl memory) is_memory is = subst (IsRefusalAmong kinds) (sym (is_memory memory)) tt
 refusal_among kinds e r (inr listed) is_memory is = among kinds (kind_of e) r listed is
 
 -- ---- the effect of a run with refused words
 
-module _ {R W E : Type 0} (told : E → Option (List ℕ)) (kinds : Kinds) (reader : Tap R) (writer writer_after : Tap W) (errors errors_after : Tap E) (status : ℕ) where
-  lacks_memory : TellsMemory told writer errors writer_after errors_after status → LacksMemory told reader writer errors reader writer_after errors_after status
-  lacks_memory tells = record { unread = refl; unwritten = tells.unwritten; status_is = tells.status_is; line = tells.line }
+module _ {R W E : Type 0} (told : E → Option (List ℕ)) (kinds : Kinds) (reader : Tap R)
+    (writer writer_after : Tap W) (errors errors_after : Tap E) (status : ℕ) where
+  lacks_memory : TellsMemory told writer errors writer_after errors_after status
+      → LacksMemory told reader writer errors reader writer_after errors_after status
+  lacks_memory tells = record {
+    unread = refl;
+    unwritten = tells.unwritten;
+    status_is = tells.status_is;
+    line = tells.line;
+  }
 
   -- words without a fault are refused only if memory was
-  pub fine_lacks : (r : Refusal) → IsRefusalAmong kinds r → Refuses told r writer errors writer_after errors_after status
+  pub fine_lacks : (r : Refusal) → IsRefusalAmong kinds r
+      → Refuses told r writer errors writer_after errors_after status
       → kinds ≡ [] → LacksMemory told reader writer errors reader writer_after errors_after status
   fine_lacks refusal.Memory among refuses none = lacks_memory refuses
   fine_lacks (refusal.Help text) among refuses none = absurd (subst (IsAmong DisplayHelp) none among)
@@ -38,14 +49,32 @@ module _ {R W E : Type 0} (told : E → Option (List ℕ)) (kinds : Kinds) (read
   fine_lacks (refusal.Usage text) among refuses none = absurd (subst (IsAmong among.0) none among.1)
 
   -- one of the kinds of the words' fault is answered, or memory was refused
-  pub refused_answers : (r : Refusal) → IsRefusalAmong kinds r → Refuses told r writer errors writer_after errors_after status
-      → ((kind : ErrorKind) × IsAmong kind kinds × Answers kind reader writer errors reader writer_after errors_after status)
+  pub refused_answers : (r : Refusal) → IsRefusalAmong kinds r
+      → Refuses told r writer errors writer_after errors_after status
+      → ((kind : ErrorKind) × IsAmong kind kinds × Answers kind reader writer errors reader
+      writer_after errors_after status)
       ⊎ LacksMemory told reader writer errors reader writer_after errors_after status
   refused_answers refusal.Memory among refuses = inr (lacks_memory refuses)
   refused_answers (refusal.Help text) among refuses =
-      inl (DisplayHelp, among, record { unread = refl; told = λ asked. refuses; refused = λ other more. absurd (other refl) })
+      inl (
+        DisplayHelp,
+        among,
+        record {
+          unread = refl;
+          told = λ asked. refuses;
+          refused = λ other more. absurd (other refl);
+        },
+      )
   refused_answers (refusal.Version text) among refuses =
-      inl (DisplayVersion, among, record { unread = refl; told = λ asked. refuses; refused = λ other more. absurd (more refl) })
+      inl (
+        DisplayVersion,
+        among,
+        record {
+          unread = refl;
+          told = λ asked. refuses;
+          refused = λ other more. absurd (more refl);
+        },
+      )
   refused_answers (refusal.Usage text) among refuses =
       inl (
         among.0,

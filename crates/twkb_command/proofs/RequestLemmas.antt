@@ -1,17 +1,27 @@
 -- The fault of words asks only for help, only for the version, or for neither.
-use Rattle.std.proofs.Common.{◌≡◌, ◌∙◌, ◌&&◌, ◌||◌, ◌==◌, ℕ, zero, suc, Bool, true, false, true≢false, not, cond, inl, inr, refl, sym, codes, List, [], ◌∷◌, drop, length, Option, Some, None, is_some, find, bytes_eq, chars, encode_utf8, nat_lt, slice_get, subst}
+use Rattle.std.proofs.Common.{◌≡◌, ◌∙◌, ◌&&◌, ◌||◌, ◌==◌, ℕ, zero, suc, Bool, true, false, true≢false, not, cond, inl}
+use Rattle.std.proofs.Common.{inr, refl, sym, codes, List, [], ◌∷◌, drop, length, Option, Some, None, is_some, find}
+use Rattle.std.proofs.Common.{bytes_eq, chars, encode_utf8, nat_lt, slice_get, subst}
 use Rattle.std.specs.Prelude.{⊤}
 use Rattle.std.specs.List.{list_any}
 use Rattle.std.specs.Option.{option_map_or}
 use Rattle.std.specs.Borrow.{Bor}
 use Rattle.clap.specs.Facts.{parser_of_value, unwrap_or_range}
-use Rattle.clap.specs.Faults.{action_fault, bundle_fault, bundle_step_fault, count_fault, default_fault, defaults_fault, entered_fault, fault_of, flag_word_fault, flags_fault, level_fault, long_fault, option_fault, other_fault, positional_fault, react_fault, set_fault, settle_fault, short_fault, step_fault, stray_fault, turn_fault, use_fault, walk_fault}
-use Rattle.clap.specs.Kinds.{IsAmong, Kinds, check_kinds, or_else, range_kinds, request_kinds, value_kinds, values_kinds}
+use Rattle.clap.specs.Faults.{action_fault, bundle_fault, bundle_step_fault, count_fault, default_fault}
+use Rattle.clap.specs.Faults.{defaults_fault, entered_fault, fault_of, flag_word_fault, flags_fault, level_fault}
+use Rattle.clap.specs.Faults.{long_fault, option_fault, other_fault, positional_fault, react_fault, set_fault}
+use Rattle.clap.specs.Faults.{settle_fault, short_fault, step_fault, stray_fault, turn_fault, use_fault, walk_fault}
+use Rattle.clap.specs.Kinds.{IsAmong, Kinds, check_kinds, or_else, range_kinds, request_kinds, value_kinds}
+use Rattle.clap.specs.Kinds.{values_kinds}
 use Rattle.clap.specs.Lexer.{long_of, short_of}
 use Rattle.clap.specs.Simple.{App, Shape, built, label_of}
 use Rattle.clap.specs.Values.{refused_kind}
 use Rattle.clap.specs.ValueTests.{accepts}
-use Rattle.clap.specs.Walk.{Held, Names, Row, Rule, Step, Text, Walk, action_of, answers_to, arg_by_id, arg_by_index, arg_by_long, arg_by_short, attached_value, has_row, is_empty, is_pending, most_values, next, nothing_held, reacted, settled, subcommand, subcommand_met, takes_several, takes_values, trailing, value, values_or_missing, walk, walk_from, walked, with_default, word_met}
+use Rattle.clap.specs.Walk.{Held, Names, Row, Rule, Step, Text, Walk, action_of, answers_to, arg_by_id, arg_by_index}
+use Rattle.clap.specs.Walk.{arg_by_long, arg_by_short, attached_value, has_row, is_empty, is_pending, most_values}
+use Rattle.clap.specs.Walk.{next, nothing_held, reacted, settled, subcommand, subcommand_met, takes_several}
+use Rattle.clap.specs.Walk.{takes_values, trailing, value, values_or_missing, walk, walk_from, walked, with_default}
+use Rattle.clap.specs.Walk.{word_met}
 use Rattle.clap.specs.declared.builder.action.ArgAction.{ArgAction}
 use Rattle.clap.specs.declared.builder.action.ArgAction.TheVariants as action
 use Rattle.clap.specs.declared.builder.value_parser.ValueParser.{ValueParser}
@@ -40,7 +50,8 @@ is_asked kind.DisplayHelp = true
 is_asked kind.DisplayVersion = true
 is_asked k = false
 
-not_among : (k : ErrorKind) → is_asked k ≡ true → (kinds : Kinds) → list_any is_asked kinds ≡ false → IsAmong k kinds → ⊥
+not_among : (k : ErrorKind) → is_asked k ≡ true → (kinds : Kinds) → list_any is_asked kinds ≡ false
+    → IsAmong k kinds → ⊥
 not_among k asked [] plain listed = listed
 not_among k asked (x ∷ xs) plain listed = elim listed [
   | inl same ↦ absurd (true≢false (sym (subst (λ y. is_asked y ≡ true) same asked) ∙ here))
@@ -59,7 +70,12 @@ not_among k asked (x ∷ xs) plain listed = elim listed [
     here = any_here (is_asked x) (list_any is_asked xs) plain
 
 plain_one : (kinds : Kinds) → list_any is_asked kinds ≡ false → IsOneRequest kinds
-plain_one kinds plain = inr (inr (not_among kind.DisplayHelp refl kinds plain, not_among kind.DisplayVersion refl kinds plain))
+plain_one kinds plain = inr
+    (inr (
+      not_among kind.DisplayHelp refl kinds plain,
+      not_among kind.DisplayVersion refl
+          kinds plain,
+    ))
 
 -- ---- a use of an argument
 
@@ -98,12 +114,14 @@ count_one : (a : Rule) (values : List Text) (rows : List Row) → IsOneRequest (
 count_one a [] rows = value_one a.ignore_case (parser_of_value a.parser) _
 count_one a (v ∷ vs) rows = values_one a.ignore_case (parser_of_value a.parser) (v ∷ vs)
 
-set_one : (again : Bool) (a : Rule) (values : List Text) (rows : List Row) → IsOneRequest (set_fault again a values rows)
+set_one : (again : Bool) (a : Rule) (values : List Text) (rows : List Row)
+    → IsOneRequest (set_fault again a values rows)
 set_one again a values rows =
     or_one _ _ (if_one (has_row a.id rows && not again) _ _ (plain_one (kind.ArgumentConflict ∷ []) refl) none_one)
     (values_one a.ignore_case (parser_of_value a.parser) values)
 
-action_one : (x : ArgAction) (again : Bool) (a : Rule) (values : List Text) (rows : List Row) → IsOneRequest (action_fault x again a values rows)
+action_one : (x : ArgAction) (again : Bool) (a : Rule) (values : List Text) (rows : List Row)
+    → IsOneRequest (action_fault x again a values rows)
 action_one action.Set again a values rows = set_one again a values rows
 action_one action.SetTrue again a values rows = set_one again a values rows
 action_one action.SetFalse again a values rows = set_one again a values rows
@@ -111,9 +129,11 @@ action_one action.Append again a values rows = values_one a.ignore_case (parser_
 action_one action.Count again a values rows = count_one a values rows
 action_one other again a values rows = request_one other
 
-use_one : (again : Bool) (a : Rule) (values : List Text) (rows : List Row) → IsOneRequest (use_fault again a values rows)
+use_one : (again : Bool) (a : Rule) (values : List Text) (rows : List Row)
+    → IsOneRequest (use_fault again a values rows)
 use_one again a values rows =
-    or_one _ _ (range_one (unwrap_or_range a.range).start_inclusive (most_values a) (length values)) (action_one (action_of a) again a (values_or_missing a values) rows)
+    or_one _ _ (range_one (unwrap_or_range a.range).start_inclusive (most_values a) (length values))
+    (action_one (action_of a) again a (values_or_missing a values) rows)
 
 -- ---- a word
 
@@ -121,11 +141,14 @@ module _ (c : List Rule) (again : Bool) where
   settle_one : (h : Held) → IsOneRequest (settle_fault c again h)
   settle_one h = go h.pending
     where
-      of_rule : (found : Option Rule) (values : List Text) → IsOneRequest (option_map_or (λ a. use_fault again a values h.rows) found [])
+      of_rule : (found : Option Rule) (values : List Text)
+          → IsOneRequest (option_map_or (λ a. use_fault again a values h.rows) found [])
       of_rule None values = none_one
       of_rule (Some a) values = use_one again a values h.rows
 
-      go : (p : Option (Text × List Text)) → IsOneRequest (option_map_or (λ q. option_map_or (λ a. use_fault again a q.1 h.rows) (arg_by_id c q.0) []) p [])
+      go : (p : Option (Text × List Text)) → IsOneRequest
+          (option_map_or (λ q. option_map_or (λ a. use_fault again a q.1 h.rows)
+          (arg_by_id c q.0) []) p [])
       go None = none_one
       go (Some q) = of_rule (arg_by_id c q.0) q.1
 
@@ -139,14 +162,19 @@ module _ (c : List Rule) (again : Bool) where
   long_one : (found : Option Rule) (v : Option Text) (h : Held) → IsOneRequest (long_fault c again found v h)
   long_one None v h = plain_one (kind.UnknownArgument ∷ []) refl
   long_one (Some a) v h =
-      if_one (takes_values a) _ _ (option_one a v h) (if_one (is_some v) _ _ (plain_one (kind.TooManyValues ∷ []) refl) (react_one a [] h))
+      if_one (takes_values a) _ _ (option_one a v h)
+      (if_one (is_some v) _ _ (plain_one (kind.TooManyValues ∷ []) refl) (react_one a [] h))
 
-  short_one : (found : Option Rule) (rest : Text) (h : Held) (later : Held → Kinds) → ((x : Held) → IsOneRequest (later x)) → IsOneRequest (short_fault c again found rest h later)
+  short_one : (found : Option Rule) (rest : Text) (h : Held) (later : Held → Kinds)
+      → ((x : Held) → IsOneRequest (later x)) → IsOneRequest
+      (short_fault c again found rest h later)
   short_one None rest h later one = plain_one (kind.UnknownArgument ∷ []) refl
   short_one (Some a) rest h later one =
-      if_one (takes_values a) _ _ (option_one a (attached_value rest) h) (or_one _ _ (react_one a [] h) (one (reacted c a [] h)))
+      if_one (takes_values a) _ _ (option_one a (attached_value rest) h)
+      (or_one _ _ (react_one a [] h) (one (reacted c a [] h)))
 
-  flag_one : (x : Option ℕ) (flags : Text) (skip : ℕ) (h : Held) (later : Text → ℕ → Held → Kinds) → ((t : Text) (n : ℕ) (x : Held) → IsOneRequest (later t n x))
+  flag_one : (x : Option ℕ) (flags : Text) (skip : ℕ) (h : Held) (later : Text → ℕ → Held → Kinds)
+      → ((t : Text) (n : ℕ) (x : Held) → IsOneRequest (later t n x))
       → IsOneRequest (bundle_step_fault c again x flags skip h later)
   flag_one None flags skip h later one = none_one
   flag_one (Some x) flags zero h later one =
@@ -157,9 +185,11 @@ module _ (c : List Rule) (again : Bool) where
   flags_one : (k : ℕ) (flags : Text) (skip : ℕ) (h : Held) → IsOneRequest (flags_fault c again k flags skip h)
   unfolding flags_fault
   flags_one zero flags skip h = none_one
-  flags_one (suc k) flags skip h = flag_one (slice_get (chars flags) 0) flags skip h (flags_fault c again k) (λ t n x. flags_one k t n x)
+  flags_one (suc k) flags skip h = flag_one (slice_get (chars flags) 0) flags skip h
+      (flags_fault c again k) (λ t n x. flags_one k t n x)
 
-  flag_word_one : (p : Option (Text × Option Text)) (word : Text) (h : Held) → IsOneRequest (flag_word_fault c again p word h)
+  flag_word_one : (p : Option (Text × Option Text)) (word : Text) (h : Held)
+      → IsOneRequest (flag_word_fault c again p word h)
   flag_word_one (Some p) word h = long_one (arg_by_long c p.0) p.1 h
   flag_word_one None word h = go (short_of word)
     where
@@ -171,12 +201,14 @@ module _ (s : Shape) (no_help : s.disable_help_subcommand ≡ true) where
   other_one : (name : Option Text) (word : Text) (h : Held) → IsOneRequest (other_fault s name word h)
   other_one (Some name) word h = go (bytes_eq name (codes "help")) s.disable_help_subcommand no_help
     where
-      go : (a b : Bool) → b ≡ true → IsOneRequest (cond (a && not b) (kind.DisplayHelp ∷ kind.InvalidSubcommand ∷ []) [])
+      go : (a b : Bool) → b ≡ true
+          → IsOneRequest (cond (a && not b) (kind.DisplayHelp ∷ kind.InvalidSubcommand ∷ []) [])
       go true true e = none_one
       go true false e = absurd (true≢false (sym e))
       go false b e = none_one
   other_one None word h =
-      if_one (bytes_eq word (45 ∷ 45 ∷ [])) _ _ none_one (flag_word_one s.rules s.args_override_self (long_of word) word h)
+      if_one (bytes_eq word (45 ∷ 45 ∷ [])) _ _ none_one
+      (flag_word_one s.rules s.args_override_self (long_of word) word h)
 
   step_one : (position : ℕ) (h : Held) (step : Step) → IsOneRequest (step_fault s position h step)
   step_one position h (next waiting) = none_one
@@ -184,9 +216,13 @@ module _ (s : Shape) (no_help : s.disable_help_subcommand ≡ true) where
   step_one position h (subcommand name) = none_one
   step_one position h value = go (arg_by_index s.rules position)
     where
-      go : (found : Option Rule) → IsOneRequest (option_map_or (λ a. positional_fault s.rules s.args_override_self a h) found (stray_fault s))
-      go None = if_one s.is_leaf _ _ (plain_one (kind.UnknownArgument ∷ []) refl) (plain_one (kind.UnknownArgument ∷ kind.InvalidSubcommand ∷ []) refl)
-      go (Some a) = if_one (is_pending a h.pending && takes_several a) _ _ none_one (settle_one s.rules s.args_override_self h)
+      go : (found : Option Rule)
+          → IsOneRequest (option_map_or (λ a. positional_fault s.rules s.args_override_self a h)
+          found (stray_fault s))
+      go None = if_one s.is_leaf _ _ (plain_one (kind.UnknownArgument ∷ []) refl)
+          (plain_one (kind.UnknownArgument ∷ kind.InvalidSubcommand ∷ []) refl)
+      go (Some a) = if_one (is_pending a h.pending && takes_several a) _ _ none_one
+          (settle_one s.rules s.args_override_self h)
 
   turn_one : (names : Names) (w : Walk) (word : Text) → IsOneRequest (turn_fault s names w word)
   turn_one names w word =
@@ -198,7 +234,8 @@ module _ (s : Shape) (no_help : s.disable_help_subcommand ≡ true) where
   walk_one : (names : Names) (w : Walk) (words : List Text) → IsOneRequest (walk_fault s names w words)
   unfolding walk_fault
   walk_one names w [] = none_one
-  walk_one names w (word ∷ rest) = or_one _ _ (turn_one names w word) (walk_one names (walked s.rules names w word) rest)
+  walk_one names w (word ∷ rest) = or_one _ _ (turn_one names w word)
+      (walk_one names (walked s.rules names w word) rest)
 
   -- ---- the end of the words
 
@@ -215,13 +252,16 @@ module _ (s : Shape) (no_help : s.disable_help_subcommand ≡ true) where
   check_one : (help needed argument : Bool) → IsOneRequest (check_kinds help needed argument)
   check_one help needed argument =
       if_one help _ _ (plain_one (kind.DisplayHelpOnMissingArgumentOrSubcommand ∷ []) refl)
-      (if_one needed _ _ (plain_one (kind.MissingSubcommand ∷ []) refl) (if_one argument _ _ (plain_one (kind.MissingRequiredArgument ∷ []) refl) none_one))
+      (if_one needed _ _ (plain_one (kind.MissingSubcommand ∷ []) refl)
+      (if_one argument _ _ (plain_one (kind.MissingRequiredArgument ∷ []) refl) none_one))
 
-  level_one : (names : Names) (h : Held) (words : List Text) (has : Bool) (below : Kinds) → IsOneRequest below → IsOneRequest (level_fault s names h words has below)
+  level_one : (names : Names) (h : Held) (words : List Text) (has : Bool) (below : Kinds)
+      → IsOneRequest below → IsOneRequest (level_fault s names h words has below)
   level_one names h words has below one =
       let end = (walk s.rules names h words).held in
       or_one _ _ (walk_one names (walk_from h) words)
-      (or_one _ _ one (or_one _ _ (settle_one s.rules s.args_override_self end) (or_one _ _ (defaults_one (settled s.rules end).rows s.rules) (check_one _ _ _))))
+      (or_one _ _ one (or_one _ _ (settle_one s.rules s.args_override_self end)
+      (or_one _ _ (defaults_one (settled s.rules end).rows s.rules) (check_one _ _ _))))
 
 -- ---- a command and its subcommands
 
@@ -235,7 +275,8 @@ found_one test [] words lack = none_one
 found_one test (s ∷ ss) words lack = go (test s) (found_one test ss words lack.1)
   where
     go : (b : Bool) → IsOneRequest (option_map_or (λ x. level_fault x [] nothing_held words false []) (find test ss) [])
-        → IsOneRequest (option_map_or (λ x. level_fault x [] nothing_held words false []) (cond b (Some s) (find test ss)) [])
+        → IsOneRequest (option_map_or (λ x. level_fault x [] nothing_held words false [])
+        (cond b (Some s) (find test ss)) [])
     go true later = level_one s lack.0 [] nothing_held words false [] none_one
     go false later = later
 
@@ -243,14 +284,18 @@ entered_one : (a : App) (stop : Option (Text × List Text)) → LackHelp a.subs 
 entered_one a None lack = none_one
 entered_one a (Some p) lack = found_one (λ s. answers_to p.0 (label_of s)) a.subs p.1 lack
 
-words_one : (a : App) (words : List Text) → (built a).top.disable_help_subcommand ≡ true → LackHelp (built a).subs → IsOneRequest (fault_of a words)
+words_one : (a : App) (words : List Text) → (built a).top.disable_help_subcommand ≡ true
+    → LackHelp (built a).subs → IsOneRequest (fault_of a words)
 words_one a words top subs =
     level_one (built a).top top _ _ _ _ _ (entered_one (built a) _ subs)
 
-lacking_line : (styles : Bor (List (Bor Text))) → ((built (command_line styles)).top.disable_help_subcommand ≡ true) × LackHelp (built (command_line styles)).subs
+lacking_line : (styles : Bor (List (Bor Text)))
+    → ((built (command_line styles)).top.disable_help_subcommand ≡ true)
+    × LackHelp (built (command_line styles)).subs
 unfolding clap_on_literals command_line
 lacking_line styles = (refl, (refl, (refl, (refl, tt))))
 
 -- the fault of a command line asks only for help, only for the version, or for neither
-pub line_one : (styles : Bor (List (Bor Text))) (words : List Text) → IsOneRequest (fault_of (command_line styles) words)
+pub line_one : (styles : Bor (List (Bor Text))) (words : List Text)
+    → IsOneRequest (fault_of (command_line styles) words)
 line_one styles words = words_one (command_line styles) words (lacking_line styles).0 (lacking_line styles).1

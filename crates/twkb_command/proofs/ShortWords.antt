@@ -12,23 +12,45 @@ use Rattle.twkb_convert.specs.declared.report.Cause.{Cause}
 use Rattle.twkb_command.specs.Lines.{cause_text, line_of, reason_text, text_reason}
 
 -- the words for a fault in a text of points are short
-pub short_text_reason : (offset : ℕ) (reason : PolyReason) → length (decimal offset) ≤ 40 → length (text_reason offset reason) ≤ 100
+pub short_text_reason : (offset : ℕ) (reason : PolyReason) → length (decimal offset) ≤ 40
+    → length (text_reason offset reason) ≤ 100
 short_text_reason offset reason short =
     let words = short_point_text reason in
-    omega (arith, short, words, length-append (decimal offset) (codes ": " ++ point_text_words reason), length-append (codes ": ") (point_text_words reason))
+    omega (
+      arith,
+      short,
+      words,
+      length-append (decimal offset)
+          (codes ": " ++ point_text_words reason),
+      length-append (codes ": ")
+          (point_text_words reason),
+    )
 
 -- the words for a refused record are short
-pub short_row_line : (number : ℕ) (reason : RowReason) → length (decimal number) ≤ 40 → length (reason_text reason) ≤ 100
+pub short_row_line : (number : ℕ) (reason : RowReason) → length (decimal number) ≤ 40
+    → length (reason_text reason) ≤ 100
     → length (codes "record " ++ (decimal number ++ (codes ": " ++ reason_text reason))) ≤ 160
 short_row_line number reason short words =
-    omega (arith, short, words, length-append (decimal number) (codes ": " ++ reason_text reason), length-append (codes ": ") (reason_text reason))
+    omega (
+      arith,
+      short,
+      words,
+      length-append (decimal number) (codes ": " ++ reason_text reason),
+      length-append (codes ": ") (reason_text reason),
+    )
 
 -- the words for a refused item are short
 pub short_blob_line : (offset : ℕ) (reason : BlobReason) → length (decimal offset) ≤ 40
     → length (codes "byte " ++ (decimal offset ++ (codes ": " ++ blob_words reason))) ≤ 160
 short_blob_line offset reason short =
     let words = short_blob reason in
-    omega (arith, short, words, length-append (decimal offset) (codes ": " ++ blob_words reason), length-append (codes ": ") (blob_words reason))
+    omega (
+      arith,
+      short,
+      words,
+      length-append (decimal offset) (codes ": " ++ blob_words reason),
+      length-append (codes ": ") (blob_words reason),
+    )
 
 -- the line of a cause is short
 pub short_line : (c : Cause) → length (cause_text c) ≤ 160 → length (line_of c) ≤ 200

@@ -24,15 +24,20 @@ line_of_answer (Err stop) = line_of stop.cause
 
 -- A request is carried out: its status is that of the conversion's answer, and standard error
 -- gets the line of a fault.
-pub record CarriesOut {R W E : Type 0} (remaining : R → Option (List ℕ)) (contents : W → Option (List ℕ)) (told : E → Option (List ℕ)) (request : Request) (reader : Tap R) (writer : Tap W) (errors : Tap E) (reader_after : Tap R) (writer_after : Tap W) (errors_after : Tap E) (status : ℕ) : Type 0 where
+pub record CarriesOut {R W E : Type 0} (remaining : R → Option (List ℕ))
+    (contents : W → Option (List ℕ)) (told : E → Option (List ℕ)) (request : Request)
+    (reader : Tap R) (writer : Tap W) (errors : Tap E) (reader_after : Tap R) (writer_after : Tap W)
+    (errors_after : Tap E) (status : ℕ) : Type 0 where
   pub answer : Result Report ConvertFault
-  pub converts : Converts request.conversion request.limits remaining contents reader writer reader_after writer_after answer
+  pub converts : Converts request.conversion request.limits remaining contents reader writer
+      reader_after writer_after answer
   pub status_is : status ≡ status_of_answer answer
   pub line : IsPrinted told errors (line_of_answer answer) errors_after
 
 -- Memory was refused: nothing is written, the status is 4, and standard error gets the line that
 -- says so.
-pub record TellsMemory {W E : Type 0} (told : E → Option (List ℕ)) (writer : Tap W) (errors : Tap E) (writer_after : Tap W) (errors_after : Tap E) (status : ℕ) : Type 0 where
+pub record TellsMemory {W E : Type 0} (told : E → Option (List ℕ)) (writer : Tap W) (errors : Tap E)
+    (writer_after : Tap W) (errors_after : Tap E) (status : ℕ) : Type 0 where
   pub unwritten : writer_after ≡ writer
   pub status_is : status ≡ 4
   pub line : IsPrinted told errors (line_of cause.Memory) errors_after
@@ -40,7 +45,10 @@ pub record TellsMemory {W E : Type 0} (told : E → Option (List ℕ)) (writer :
 -- The answer to words that make no request: help and the version with status 0 and nothing on
 -- standard error, a fault with status 2 and nothing written.
 abbrev pub Refuses : {W E : Type 0} → (E → Option (List ℕ)) → Refusal → Tap W → Tap E → Tap W → Tap E → ℕ → Type 0
-Refuses told refusal.Memory writer errors writer_after errors_after status = TellsMemory told writer errors writer_after errors_after status
+Refuses told refusal.Memory writer errors writer_after errors_after status = TellsMemory told writer
+    errors writer_after errors_after status
 Refuses told (refusal.Help text) writer errors writer_after errors_after status = (status ≡ 0) × (errors_after ≡ errors)
-Refuses told (refusal.Version text) writer errors writer_after errors_after status = (status ≡ 0) × (errors_after ≡ errors)
-Refuses told (refusal.Usage text) writer errors writer_after errors_after status = (status ≡ 2) × (writer_after ≡ writer)
+Refuses told (refusal.Version text) writer errors writer_after errors_after status = (status ≡ 0)
+    × (errors_after ≡ errors)
+Refuses told (refusal.Usage text) writer errors writer_after errors_after status = (status ≡ 2)
+    × (writer_after ≡ writer)

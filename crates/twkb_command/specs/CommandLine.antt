@@ -6,11 +6,19 @@ use Rattle.clap.specs.declared.builder.value_parser.ValueParser.TheVariants as p
 
 -- `--max-nest`, with values 0 to 32
 abbrev pub max_nest : Rule
-max_nest = record (new_rule (codes "max-nest")) { long = Some (codes "max-nest"); value_names = 1; parser = Some (parser.Signed (pos 0) (pos 32)) }
+max_nest = record (new_rule (codes "max-nest")) {
+  long = Some (codes "max-nest");
+  value_names = 1;
+  parser = Some (parser.Signed (pos 0) (pos 32));
+}
 
 -- `--style`, whose values are these names
 abbrev pub style_option : Bor (List (Bor Text)) → Rule
-style_option styles = record (new_rule (codes "style")) { long = Some (codes "style"); value_names = 1; parser = Some (parser.Names styles) }
+style_option styles = record (new_rule (codes "style")) {
+  long = Some (codes "style");
+  value_names = 1;
+  parser = Some (parser.Names styles);
+}
 
 -- a subcommand with `--max-nest`
 abbrev pub conversion_shape : Text → Shape
@@ -24,12 +32,19 @@ pack_shape styles = (with_rule (with_rule (new_app (codes "pack")) max_nest) (st
 abbrev pub bare_app : App
 bare_app =
     let app = new_app (codes "polytwkb") in
-    record app { top = record app.top { subcommand_required = true; disable_help_subcommand = true; has_version = true } }
+    record app {
+      top = record app.top {
+        subcommand_required = true;
+        disable_help_subcommand = true;
+        has_version = true;
+      };
+    }
 
 -- the program with its subcommands, if the styles have these names
 unfoldable pub command_line : Bor (List (Bor Text)) → App
 command_line styles =
-    with_subcommand (with_subcommand (with_subcommand bare_app (pack_shape styles)) (conversion_shape (codes "unpack"))) (conversion_shape (codes "show"))
+    with_subcommand (with_subcommand (with_subcommand bare_app (pack_shape styles))
+    (conversion_shape (codes "unpack"))) (conversion_shape (codes "show"))
 
 -- The command line: the styles are `full` and `plain`, wherever these names are in memory.
 pub record IsCommandLine (line : App) : Type 0 where

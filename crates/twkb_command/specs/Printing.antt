@@ -13,7 +13,8 @@ pub record Fails {W : Type 0} (old new : Output W) : Type 0 where
   pub spent : is_spent new ≡ true
 
 -- The writer took all of these bytes, or a write failed, now or earlier.
-pub record Prints {W : Type 0} (contents : W → Option (List ℕ)) (old : Output W) (bytes : List ℕ) (new : Output W) : Type 0 where
+pub record Prints {W : Type 0} (contents : W → Option (List ℕ)) (old : Output W) (bytes : List ℕ)
+    (new : Output W) : Type 0 where
   pub puts : is_spent old ≡ false → sent_of old + length bytes ≤ 2 ^ 62 → Took contents old bytes new ⊎ Fails old new
   pub stays : is_spent old ≡ true → new ≡ old
 

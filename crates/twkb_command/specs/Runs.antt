@@ -13,7 +13,9 @@ use Rattle.twkb_command.specs.Words.{AsksFor}
 
 -- Memory was refused while the words were read: nothing is converted, and standard error gets the
 -- line that says so.
-pub record LacksMemory {R W E : Type 0} (told : E → Option (List ℕ)) (reader : Tap R) (writer : Tap W) (errors : Tap E) (reader_after : Tap R) (writer_after : Tap W) (errors_after : Tap E) (status : ℕ) : Type 0 where
+pub record LacksMemory {R W E : Type 0} (told : E → Option (List ℕ)) (reader : Tap R)
+    (writer : Tap W) (errors : Tap E) (reader_after : Tap R) (writer_after : Tap W)
+    (errors_after : Tap E) (status : ℕ) : Type 0 where
   pub unread : reader_after ≡ reader
   pub unwritten : writer_after ≡ writer
   pub status_is : status ≡ 4
@@ -21,23 +23,30 @@ pub record LacksMemory {R W E : Type 0} (told : E → Option (List ℕ)) (reader
 
 -- Words refused with an error of this kind are answered: help and the version with status 0 and
 -- nothing on standard error, any other with status 2 and nothing written. Nothing is read.
-pub record Answers {R W E : Type 0} (kind : ErrorKind) (reader : Tap R) (writer : Tap W) (errors : Tap E) (reader_after : Tap R) (writer_after : Tap W) (errors_after : Tap E) (status : ℕ) : Type 0 where
+pub record Answers {R W E : Type 0} (kind : ErrorKind) (reader : Tap R) (writer : Tap W)
+    (errors : Tap E) (reader_after : Tap R) (writer_after : Tap W) (errors_after : Tap E)
+    (status : ℕ) : Type 0 where
   pub unread : reader_after ≡ reader
   pub told : (kind ≡ DisplayHelp) ⊎ (kind ≡ DisplayVersion) → (status ≡ 0) × (errors_after ≡ errors)
   pub refused : kind ≢ DisplayHelp → kind ≢ DisplayVersion → (status ≡ 2) × (writer_after ≡ writer)
 
 -- ---- the effect of a command line's words, with a fault or without
 
-module _ {R W E : Type 0} (remaining : R → Option (List ℕ)) (contents : W → Option (List ℕ)) (told : E → Option (List ℕ)) (line : App) (words : List Text)
-    (reader : Tap R) (writer : Tap W) (errors : Tap E) (reader_after : Tap R) (writer_after : Tap W) (errors_after : Tap E) (status : ℕ) where
+module _ {R W E : Type 0} (remaining : R → Option (List ℕ)) (contents : W → Option (List ℕ))
+    (told : E → Option (List ℕ)) (line : App) (words : List Text)
+    (reader : Tap R) (writer : Tap W) (errors : Tap E) (reader_after : Tap R) (writer_after : Tap W)
+    (errors_after : Tap E) (status : ℕ) where
   -- words without a fault: the request is carried out, or memory was refused
   abbrev pub RunsAccepted : Type 0
   RunsAccepted = fault_of line words ≡ []
-      → ((request : Request) × AsksFor line words request × CarriesOut remaining contents told request reader writer errors reader_after writer_after errors_after status)
+      → ((request : Request) × AsksFor line words request
+      × CarriesOut remaining contents told request reader writer errors reader_after writer_after
+      errors_after status)
       ⊎ LacksMemory told reader writer errors reader_after writer_after errors_after status
 
   -- words with a fault: one of its kinds is answered, or memory was refused
   abbrev pub RunsRefused : Type 0
   RunsRefused = fault_of line words ≢ []
-      → ((kind : ErrorKind) × IsAmong kind (fault_of line words) × Answers kind reader writer errors reader_after writer_after errors_after status)
+      → ((kind : ErrorKind) × IsAmong kind (fault_of line words)
+      × Answers kind reader writer errors reader_after writer_after errors_after status)
       ⊎ LacksMemory told reader writer errors reader_after writer_after errors_after status

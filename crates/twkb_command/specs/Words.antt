@@ -1,5 +1,6 @@
 -- The request that the words make.
-use Rattle.std.specs.Prelude.{◌≡◌, ◌≢◌, ◌≤◌, ◌↔◌, ◌⊎◌, ⊤, List, [], ◌∷◌, Option, Some, None, Result, IfOk, IfErr, OnOk, codes}
+use Rattle.std.specs.Prelude.{◌≡◌, ◌≢◌, ◌≤◌, ◌↔◌, ◌⊎◌, ⊤, List, [], ◌∷◌, Option, Some, None, Result, IfOk, IfErr}
+use Rattle.std.specs.Prelude.{OnOk, codes}
 use Rattle.std.specs.Str.Parse.{IsNumeral, digits_value, without_leading_plus}
 use Rattle.clap.specs.Words.{App, IsAmong, Kinds, Row, Text, fault_of, first_of, one_of, subcommand_of}
 use Rattle.clap.specs.declared.error.kind.ErrorKind.{ErrorKind}
@@ -27,7 +28,8 @@ IsNest digits = IsNumeral 10 (without_leading_plus digits) × (digits_value 10 (
 -- if it gives none
 abbrev pub AreLimits : Option Text → Allowance → Type 0
 AreLimits None l = l ≡ standard_limits
-AreLimits (Some digits) l = IsNest digits × (l ≡ record standard_limits { nest = digits_value 10 (without_leading_plus digits) })
+AreLimits (Some digits) l = IsNest digits
+    × (l ≡ record standard_limits { nest = digits_value 10 (without_leading_plus digits) })
 
 -- the option gives nothing, or a number from 0 to 32
 abbrev pub GivesNest : Option Text → Type 0
@@ -58,7 +60,8 @@ Names name given what = (name ≡ name_of what) × HasStyle given what
 abbrev pub IsAskedBy : Option (Text × List Row) → Request → Type 0
 IsAskedBy None request = ⊥
 IsAskedBy (Some (name, rows)) request =
-    Names name (first_of (codes "style") rows) request.conversion × AreLimits (one_of (codes "max-nest") rows) request.limits
+    Names name (first_of (codes "style") rows) request.conversion
+    × AreLimits (one_of (codes "max-nest") rows) request.limits
 
 -- the option of a subcommand gives nothing, or a number from 0 to 32
 abbrev pub HasNest : Option (Text × List Row) → Type 0
@@ -91,11 +94,13 @@ abbrev pub IsRefusalAmong : Kinds → Refusal → Type 0
 IsRefusalAmong kinds refusal.Memory = ⊤
 IsRefusalAmong kinds (refusal.Help text) = IsAmong DisplayHelp kinds
 IsRefusalAmong kinds (refusal.Version text) = IsAmong DisplayVersion kinds
-IsRefusalAmong kinds (refusal.Usage text) = (kind : ErrorKind) × IsAmong kind kinds × (kind ≢ DisplayHelp) × (kind ≢ DisplayVersion)
+IsRefusalAmong kinds (refusal.Usage text) = (kind : ErrorKind) × IsAmong kind kinds
+    × (kind ≢ DisplayHelp) × (kind ≢ DisplayVersion)
 
 -- the fault of words asks only for help, only for the version, or for neither
 abbrev pub IsOneRequest : Kinds → Type 0
-IsOneRequest kinds = (kinds ≡ DisplayHelp ∷ []) ⊎ (kinds ≡ DisplayVersion ∷ []) ⊎ ((IsAmong DisplayHelp kinds → ⊥) × (IsAmong DisplayVersion kinds → ⊥))
+IsOneRequest kinds = (kinds ≡ DisplayHelp ∷ []) ⊎ (kinds ≡ DisplayVersion ∷ [])
+    ⊎ ((IsAmong DisplayHelp kinds → ⊥) × (IsAmong DisplayVersion kinds → ⊥))
 
 -- The result of reading words: their request if they have no fault, otherwise a refusal of one of
 -- its kinds. The fault asks only for help, only for the version, or for neither.

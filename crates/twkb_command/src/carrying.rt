@@ -23,7 +23,8 @@ pub fn carry_out<R: Read, W: Write, E: Write>(
     writer: &mut Tap<W>,
     errors: &mut Tap<E>,
 ) -> u8
-    ensures { CarriesOut R.remaining W.contents E.contents request reader.old writer.old errors.old reader.new writer.new errors.new result }
+    ensures { CarriesOut R.remaining W.contents E.contents request reader.old writer.old errors.old
+        reader.new writer.new errors.new result }
 {
     match convert(alloc, request.conversion, reader, writer, request.limits) {
         Ok(_) => DONE,
@@ -71,8 +72,10 @@ pub fn lack_memory<E: Write>(errors: &mut Tap<E>) -> u8
 /// Reports why the words were not read, and returns the status. A word that is not UTF-8 is
 /// refused like any other bad word. Takes no memory.
 pub fn lack_words<E: Write>(errors: &mut Tap<E>, kind: ErrorKind) -> u8
-    ensures memory { kind ≡ ErrorKind.OutOfMemory → (result ≡ 4) × IsPrinted E.contents errors.old (line_of Cause.Memory) errors.new }
-    ensures other { kind ≢ ErrorKind.OutOfMemory → (result ≡ 2) × IsPrinted E.contents errors.old no_text_line errors.new }
+    ensures memory { kind ≡ ErrorKind.OutOfMemory → (result ≡ 4)
+        × IsPrinted E.contents errors.old (line_of Cause.Memory) errors.new }
+    ensures other { kind ≢ ErrorKind.OutOfMemory → (result ≡ 2)
+        × IsPrinted E.contents errors.old no_text_line errors.new }
 {
     if kind == ErrorKind::OutOfMemory {
         return lack_memory(errors);

@@ -2,7 +2,8 @@
 ghost use Rattle.std.specs.Prelude.{◌≡◌, false, codes, IfOk};
 ghost use Rattle.clap.specs.Words.{app_of, new_app, rule_of, shape_of, with_subcommand};
 ghost use Rattle.clap.specs.declared.builder.command.Command.TheViews.{out-Command};
-ghost use Rattle.twkb_command.specs.CommandLine.{bare_app, command_line, conversion_shape, max_nest, pack_shape, style_option};
+ghost use Rattle.twkb_command.specs.CommandLine.{bare_app, command_line, conversion_shape, max_nest, pack_shape};
+ghost use Rattle.twkb_command.specs.CommandLine.{style_option};
 
 use crate::help;
 use clap::{Arg, Command, value_parser};
@@ -113,7 +114,8 @@ fn with_conversion<'a>(
     about: &'a str,
     usage: &'a str,
 ) -> Result<Command<'a>, AllocError>
-    ensures { IfOk result (λ command. app_of command ≡ with_subcommand (app_of program.entry) (conversion_shape name.entry.now)) }
+    ensures { IfOk result (λ command. app_of command ≡ with_subcommand (app_of program.entry)
+        (conversion_shape name.entry.now)) }
 {
     let conversion = conversion_command(alloc, name, about, usage)?;
     program.subcommand(conversion)

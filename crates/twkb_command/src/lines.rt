@@ -51,7 +51,8 @@ fn put_row_reason<W: Write>(output: &mut Output<'_, W>, reason: RowReason)
 
 // Puts the number and the reason of a refused record.
 fn put_row<W: Write>(output: &mut Output<'_, W>, number: u64, reason: RowReason)
-    ensures prints { Prints W.contents output.old (codes "record " ++ (decimal number ++ (codes ": " ++ reason_text reason))) output.new }
+    ensures prints { Prints W.contents output.old
+        (codes "record " ++ (decimal number ++ (codes ": " ++ reason_text reason))) output.new }
     ensures short { length (codes "record " ++ (decimal number ++ (codes ": " ++ reason_text reason))) ≤ 160 }
 {
     put_text(output, "record ");
@@ -62,7 +63,8 @@ fn put_row<W: Write>(output: &mut Output<'_, W>, number: u64, reason: RowReason)
 
 // Puts the offset and the reason of a refused item.
 fn put_blob<W: Write>(output: &mut Output<'_, W>, offset: u64, reason: BlobReason)
-    ensures prints { Prints W.contents output.old (codes "byte " ++ (decimal offset ++ (codes ": " ++ blob_words reason))) output.new }
+    ensures prints { Prints W.contents output.old
+        (codes "byte " ++ (decimal offset ++ (codes ": " ++ blob_words reason))) output.new }
     ensures short { length (codes "byte " ++ (decimal offset ++ (codes ": " ++ blob_words reason))) ≤ 160 }
 {
     put_text(output, "byte ");

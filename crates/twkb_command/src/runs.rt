@@ -22,9 +22,14 @@ pub fn run<R: Read, W: Write, E: Write>(
     writer: &mut Tap<W>,
     errors: &mut Tap<E>,
 ) -> u8
-    ensures accepted { (line : App) × IsCommandLine line × RunsAccepted R.remaining W.contents E.contents line (map string_bytes words.now) reader.old writer.old errors.old reader.new writer.new errors.new result }
-    ensures refused { (line : App) × IsCommandLine line × RunsRefused R.remaining W.contents E.contents line (map string_bytes words.now) reader.old writer.old errors.old reader.new writer.new errors.new result }
-    ensures one_request { (line : App) × IsCommandLine line × IsOneRequest (fault_of line (map string_bytes words.now)) }
+    ensures accepted { (line : App) × IsCommandLine line
+        × RunsAccepted R.remaining W.contents E.contents line (map string_bytes words.now)
+        reader.old writer.old errors.old reader.new writer.new errors.new result }
+    ensures refused { (line : App) × IsCommandLine line
+        × RunsRefused R.remaining W.contents E.contents line (map string_bytes words.now) reader.old
+        writer.old errors.old reader.new writer.new errors.new result }
+    ensures one_request { (line : App) × IsCommandLine line
+        × IsOneRequest (fault_of line (map string_bytes words.now)) }
 {
     match read_words(alloc, words) {
         Ok(request) => carry_out(alloc, request, reader, writer, errors),

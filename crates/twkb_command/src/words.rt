@@ -1,8 +1,11 @@
 //! Reading the words of a command line as a request.
 ghost use Rattle.std.specs.Prelude.{◌≡◌, [], map, string_bytes, codes, IfNone, IfOk, IfErr, IfSome, OnOk};
-ghost use Rattle.clap.specs.Words.{App, FailsBy, fault_of, first_value, found_of, kind_of, one_text, subcommand_of, subcommand_rows_of};
+ghost use Rattle.clap.specs.Words.{App, FailsBy, fault_of, first_value, found_of, kind_of, one_text, subcommand_of};
+ghost use Rattle.clap.specs.Words.{subcommand_rows_of};
 ghost use Rattle.twkb_command.specs.CommandLine.{IsCommandLine, command_line};
-ghost use Rattle.twkb_command.specs.Words.{AreLimits, AsksFor, GivesNest, GivesNoNest, HasNest, IsAskedBy, IsConversionName, IsRefusal, IsRefusalAmong, IsStyle, Names, NamesConversion, Reads};
+ghost use Rattle.twkb_command.specs.Words.{AreLimits, AsksFor, GivesNest, GivesNoNest, HasNest, IsAskedBy};
+ghost use Rattle.twkb_command.specs.Words.{IsConversionName, IsRefusal, IsRefusalAmong, IsStyle, Names};
+ghost use Rattle.twkb_command.specs.Words.{NamesConversion, Reads};
 
 use crate::command_line::command;
 use crate::refusal::Refusal;
@@ -19,7 +22,8 @@ fn matches_of<'a>(
     styles: &'a [&'a str],
     words: &'a [String],
 ) -> Result<ArgMatches<'a>, Error>
-    ensures ok { IfOk result (λ m. subcommand_rows_of m ≡ subcommand_of (command_line styles.entry) (map string_bytes words.entry.now)) }
+    ensures ok { IfOk result (λ m. subcommand_rows_of m ≡ subcommand_of (command_line styles.entry)
+        (map string_bytes words.entry.now)) }
     ensures named { IfOk result (λ m. NamesConversion (subcommand_rows_of m)) }
     ensures nest { IfOk result (λ m. HasNest (subcommand_rows_of m)) }
     ensures kinds { FailsBy (fault_of (command_line styles.entry) (map string_bytes words.entry.now)) result }
@@ -112,7 +116,8 @@ fn refusal_of(alloc: Global, error: &Error) -> Refusal
 fn read_styled_words(alloc: Global, styles: &[&str], words: &[String]) -> Result<Request, Refusal>
     ensures asked { IfOk result (AsksFor (command_line styles.entry) (map string_bytes words.now)) }
     ensures fits { OnOk result (fault_of (command_line styles.entry) (map string_bytes words.now) ≡ []) }
-    ensures refused { IfErr result (IsRefusalAmong (fault_of (command_line styles.entry) (map string_bytes words.now))) }
+    ensures refused { IfErr result (IsRefusalAmong
+        (fault_of (command_line styles.entry) (map string_bytes words.now))) }
 {
     match matches_of(alloc, styles, words) {
         Ok(matches) => Ok(request_of(&matches)),

@@ -30,11 +30,20 @@ flush_written out.TooLong short unspent = absurd (short refl)
 flush_written out.Spent short unspent = absurd (unspent refl)
 
 -- the reader is as the stop before the flush reports
-pub stops_flush : {R : Type 0} {read : Ghosts R} (from to : Reader R read) (why : StreamObstacle) (f : OutFault) → StopsRead from why to → (f ≡ out.TooLong → ⊥) → (f ≡ out.Spent → ⊥) → StopsRead from (stream.Output f) to
-stops_flush from to why f stops short unspent = record { has_failed = stops.has_failed; follows = stops.follows; told = inr (flush_written f short unspent) }
+pub stops_flush : {R : Type 0} {read : Ghosts R} (from to : Reader R read) (why : StreamObstacle)
+    (f : OutFault) → StopsRead from why to → (f ≡ out.TooLong → ⊥) → (f ≡ out.Spent → ⊥)
+    → StopsRead from (stream.Output f) to
+stops_flush from to why f stops short unspent =
+    record {
+      has_failed = stops.has_failed;
+      follows = stops.follows;
+      told = inr (flush_written f short unspent);
+    }
 
 -- a cause that reports no refused put
-pub flushed_by : (why : StreamObstacle) (told : Cause) (Fact : Type 0) → told ≡ cause_of_obstacle why → UnlessOutput why Fact → told ≢ cause.WriteDevice → told ≢ cause.TooLong → Fact
+pub flushed_by : (why : StreamObstacle) (told : Cause) (Fact : Type 0)
+    → told ≡ cause_of_obstacle why → UnlessOutput why Fact → told ≢ cause.WriteDevice
+    → told ≢ cause.TooLong → Fact
 flushed_by (stream.Stream f) told Fact is fact no_write no_length = fact
 flushed_by (stream.Output out.Write) told Fact is fact no_write no_length = absurd (no_write is)
 flushed_by (stream.Output out.Stuck) told Fact is fact no_write no_length = absurd (no_write is)
@@ -62,12 +71,16 @@ held table.Undrained Fact none fact = fact
 held (table.Output f) Fact none fact = absurd (none refl)
 
 -- the causes of a refused put are these
-no_refusal : (told : Cause) → (told ≡ cause.WriteDevice) ⊎ (told ≡ cause.ReadDevice) ⊎ (told ≡ cause.TooLong) → told ≢ cause.WriteDevice → told ≢ cause.ReadDevice → told ≢ cause.TooLong → ⊥
+no_refusal : (told : Cause) → (told ≡ cause.WriteDevice) ⊎ (told ≡ cause.ReadDevice)
+    ⊎ (told ≡ cause.TooLong) → told ≢ cause.WriteDevice → told ≢ cause.ReadDevice
+    → told ≢ cause.TooLong → ⊥
 no_refusal told (inl e) no_write no_read no_length = no_write e
 no_refusal told (inr (inl e)) no_write no_read no_length = no_read e
 no_refusal told (inr (inr e)) no_write no_read no_length = no_length e
 
-pub packing_flushed : (why : TableObstacle) (told : Cause) (Fact : Type 0) → (is_output why ≡ true → (told ≡ cause.WriteDevice) ⊎ (told ≡ cause.ReadDevice) ⊎ (told ≡ cause.TooLong)) → Sending.UnlessOutput why Fact
+pub packing_flushed : (why : TableObstacle) (told : Cause) (Fact : Type 0)
+    → (is_output why ≡ true → (told ≡ cause.WriteDevice) ⊎ (told ≡ cause.ReadDevice)
+    ⊎ (told ≡ cause.TooLong)) → Sending.UnlessOutput why Fact
     → told ≢ cause.WriteDevice → told ≢ cause.ReadDevice → told ≢ cause.TooLong → Fact
 packing_flushed why told Fact caused fact no_write no_read no_length =
     held why Fact (λ refused. no_refusal told (caused refused) no_write no_read no_length) fact

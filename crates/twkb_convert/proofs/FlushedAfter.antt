@@ -1,5 +1,8 @@
 -- A flush after the bytes that were sent.
-use Rattle.twkb_convert.proofs.Prelude.{◌≡◌, ◌∙◌, ℕ, List, [], Option, false, ap, refl, subst, append-nil, Ghosts, count_failure, Refused, Sent, Took, is_spent, output_failures, took_join, Output, OutFault, Allowance, canonical_stream, Style, Reader, Located, StreamObstacle, TableObstacle, Unfinished, sent_join, Tally}
+use Rattle.twkb_convert.proofs.Prelude.{◌≡◌, ◌∙◌, ℕ, List, [], Option, false, ap, refl, subst, append-nil, Ghosts}
+use Rattle.twkb_convert.proofs.Prelude.{count_failure, Refused, Sent, Took, is_spent, output_failures, took_join}
+use Rattle.twkb_convert.proofs.Prelude.{Output, OutFault, Allowance, canonical_stream, Style, Reader, Located}
+use Rattle.twkb_convert.proofs.Prelude.{StreamObstacle, TableObstacle, Unfinished, sent_join, Tally}
 use Rattle.twkb_io.specs.declared.output.OutFault.TheVariants as out
 use Rattle.twkb_convert.specs.BlobSending.{CutText}
 use Rattle.twkb_convert.specs.BlobSending as Blobs
@@ -10,8 +13,10 @@ use Rattle.twkb_convert.specs.declared.obstacle.TableObstacle.TheVariants as tab
 
 module _ {W : Type 0} (contents : W → Option (List ℕ)) where
   -- bytes that were sent with nothing after them
-  sent_with : (old mid new : Output W) (bytes : List ℕ) → Sent contents old bytes mid → Sent contents mid [] new → Sent contents old bytes new
-  sent_with old mid new bytes first second = subst (λ b. Sent contents old b new) (append-nil bytes) (sent_join contents old mid new bytes [] first second)
+  sent_with : (old mid new : Output W) (bytes : List ℕ) → Sent contents old bytes mid
+      → Sent contents mid [] new → Sent contents old bytes new
+  sent_with old mid new bytes first second = subst (λ b. Sent contents old b new) (append-nil bytes)
+      (sent_join contents old mid new bytes [] first second)
 
 -- ---- tables
 
@@ -28,16 +33,22 @@ table_wrote (table.Output f) none = absurd (cc none)
 
 module _ {W : Type 0} (style : Style) (l : Allowance) (contents : W → Option (List ℕ)) (told : Option (List ℕ)) where
   -- a flush after the whole table
-  pub table_flushed : (old mid new : Output W) (tally : Tally) → SentTable style l contents told old mid tally → Took contents mid [] new → SentTable style l contents told old new tally
+  pub table_flushed : (old mid new : Output W) (tally : Tally)
+      → SentTable style l contents told old mid tally → Took contents mid [] new
+      → SentTable style l contents told old new tally
   table_flushed old mid new tally all flushed = record {
     table = all.table;
-    took = subst (λ b. Took contents old b new) (append-nil (canonical_stream style all.table.geometries)) (took_join contents old mid new (canonical_stream style all.table.geometries) [] all.took flushed);
+    took = subst (λ b. Took contents old b new) (append-nil
+        (canonical_stream style all.table.geometries))
+        (took_join contents old mid new (canonical_stream style all.table.geometries) []
+        all.took flushed);
     count = all.count;
     work_of = all.work_of;
   }
 
   -- a flush after a prefix of the output
-  pub stopped_flushed : (passed : ℕ) (old mid new : Output W) (stop : Unfinished TableObstacle) → Stopped style l contents told passed old mid stop → Took contents mid [] new
+  pub stopped_flushed : (passed : ℕ) (old mid new : Output W) (stop : Unfinished TableObstacle)
+      → Stopped style l contents told passed old mid stop → Took contents mid [] new
       → Stopped style l contents told passed old new stop
   stopped_flushed passed old mid new stop s flushed = record {
     bytes = s.bytes;
@@ -47,14 +58,20 @@ module _ {W : Type 0} (style : Style) (l : Allowance) (contents : W → Option (
     count = s.count;
     explains = s.explains;
     failures = flushed.failures ∙ s.failures;
-    unspent = table_unless stop.why (is_spent mid ≡ is_spent old) (is_spent new ≡ is_spent old) (λ e. flushed.spent ∙ e) s.unspent;
+    unspent = table_unless stop.why (is_spent mid ≡ is_spent old) (is_spent new ≡ is_spent old)
+        (λ e. flushed.spent ∙ e) s.unspent;
   }
 
   -- a failed flush after a prefix of the output
-  pub stopped_unflushed : (passed : ℕ) (old mid new : Output W) (stop : Unfinished TableObstacle) (f : OutFault) → Tables.is_output stop.why ≡ false → Stopped style l contents told passed old mid stop
-      → Refused contents mid [] f new → (f ≡ out.TooLong → ⊥) → (f ≡ out.Spent → ⊥) → Stopped style l contents told passed old new (record { done = stop.done; why = table.Output f })
+  pub stopped_unflushed : (passed : ℕ) (old mid new : Output W) (stop : Unfinished TableObstacle)
+      (f : OutFault) → Tables.is_output stop.why ≡ false
+      → Stopped style l contents told passed old mid stop
+      → Refused contents mid [] f new → (f ≡ out.TooLong → ⊥) → (f ≡ out.Spent → ⊥)
+      → Stopped style l contents told passed old new
+      (record { done = stop.done; why = table.Output f })
   stopped_unflushed passed old mid new stop f none s failed short unspent =
-      let wrote : output_failures mid ≡ output_failures old = s.failures ∙ ap (λ b. count_failure b (output_failures old)) (table_wrote stop.why none) in
+      let wrote : output_failures mid ≡ output_failures old = s.failures
+      ∙ ap (λ b. count_failure b (output_failures old)) (table_wrote stop.why none) in
       record {
         bytes = s.bytes;
         part = s.part;
@@ -78,7 +95,9 @@ stream_wrote (stream.Output f) none = absurd (none f refl)
 
 module _ {R W : Type 0} {read : Ghosts R} (text_of : List Located → List ℕ) (contents : W → Option (List ℕ)) where
   -- a flush after a prefix of the text
-  pub cut_flushed : (from to : Reader R read) (old mid new : Output W) (stop : Unfinished StreamObstacle) → CutText text_of contents from old to mid stop → Took contents mid [] new
+  pub cut_flushed : (from to : Reader R read) (old mid new : Output W)
+      (stop : Unfinished StreamObstacle) → CutText text_of contents from old to mid stop
+      → Took contents mid [] new
       → CutText text_of contents from old to new stop
   cut_flushed from to old mid new stop s flushed = record {
     text = s.text;
@@ -91,11 +110,15 @@ module _ {R W : Type 0} {read : Ghosts R} (text_of : List Located → List ℕ) 
   }
 
   -- a failed flush after a prefix of the text
-  pub cut_unflushed : (from to : Reader R read) (old mid new : Output W) (stop : Unfinished StreamObstacle) (f : OutFault) → ((e : OutFault) → stop.why ≡ stream.Output e → ⊥)
-      → CutText text_of contents from old to mid stop → Refused contents mid [] f new → (f ≡ out.TooLong → ⊥) → (f ≡ out.Spent → ⊥)
+  pub cut_unflushed : (from to : Reader R read) (old mid new : Output W)
+      (stop : Unfinished StreamObstacle) (f : OutFault)
+      → ((e : OutFault) → stop.why ≡ stream.Output e → ⊥)
+      → CutText text_of contents from old to mid stop → Refused contents mid [] f new
+      → (f ≡ out.TooLong → ⊥) → (f ≡ out.Spent → ⊥)
       → CutText text_of contents from old to new (record { done = stop.done; why = stream.Output f })
   cut_unflushed from to old mid new stop f none s failed short unspent =
-      let wrote : output_failures mid ≡ output_failures old = s.failures ∙ ap (λ b. count_failure b (output_failures old)) (stream_wrote stop.why none) in
+      let wrote : output_failures mid ≡ output_failures old = s.failures
+      ∙ ap (λ b. count_failure b (output_failures old)) (stream_wrote stop.why none) in
       record {
         text = s.text;
         part = s.part;

@@ -1,5 +1,11 @@
 -- The bytes that may be written are a prefix of the whole output.
-use Rattle.twkb_convert.proofs.Prelude.{◌⊎◌, map, ◌≡◌, ◌∙◌, ℕ, List, [], ◌∷◌, ◌++◌, Some, None, ap, refl, sym, subst, inl, inr, append_assoc, append-nil, flat_map-append, BeginsWith, Tree, Allowance, IsAllowance, Row, rows, rows_of, Stream, FirstFault, Reason, canonical_blob, canonical_stream, Style, Record, header, record_of, Named, AreComplete, HasNoHeader, all_but_last, RowReason, AreRecordsOf, BeginWith, FrontOfBlobs, PackTextTo, PackTo, UnpackTo, rows_text, table_text, MayBeWritten}
+use Rattle.twkb_convert.proofs.Prelude.{◌⊎◌, map, ◌≡◌, ◌∙◌, ℕ, List, [], ◌∷◌, ◌++◌, Some, None, ap, refl, sym, subst}
+use Rattle.twkb_convert.proofs.Prelude.{inl, inr, append_assoc, append-nil, flat_map-append, BeginsWith, Tree}
+use Rattle.twkb_convert.proofs.Prelude.{Allowance, IsAllowance, Row, rows, rows_of, Stream, FirstFault, Reason}
+use Rattle.twkb_convert.proofs.Prelude.{canonical_blob, canonical_stream, Style, Record, header, record_of, Named}
+use Rattle.twkb_convert.proofs.Prelude.{AreComplete, HasNoHeader, all_but_last, RowReason, AreRecordsOf, BeginWith}
+use Rattle.twkb_convert.proofs.Prelude.{FrontOfBlobs, PackTextTo, PackTo, UnpackTo, rows_text, table_text}
+use Rattle.twkb_convert.proofs.Prelude.{MayBeWritten}
 use Rattle.csv.specs.Reading.{AreRecords, Reached, default_config, strip_bom}
 use Rattle.csv.specs.Machine.{Read, next_record}
 use Rattle.csv.specs.declared.parser.Config.{Config}
@@ -26,33 +32,40 @@ BeginTrees gs hs = (more : List Tree) × (hs ≡ gs ++ more)
 
 -- ---- records
 
-reached_first : (cfg : Config) (s : State) (xs : List ℕ) (rs qs : List Record) → AreRecords cfg s xs rs → (state : State) (left : List ℕ) → Reached cfg s xs qs state left
+reached_first : (cfg : Config) (s : State) (xs : List ℕ) (rs qs : List Record)
+    → AreRecords cfg s xs rs → (state : State) (left : List ℕ) → Reached cfg s xs qs state left
     → (more : List Record) × (rs ≡ qs ++ more)
 unfolding Reached
 reached_first cfg s xs rs [] a state left b = (rs, refl)
 reached_first cfg s xs [] (q ∷ qs) a state left b =
-    let ended : next_record cfg s [] [] xs ≡ None = subst (λ t. next_record cfg t [] [] xs ≡ None) (sym a.2.0) (subst (λ l. next_record cfg a.0 [] [] l ≡ None) (sym a.2.1) a.3) in
+    let ended : next_record cfg s [] [] xs ≡ None = subst (λ t. next_record cfg t [] [] xs ≡ None)
+    (sym a.2.0) (subst (λ l. next_record cfg a.0 [] [] l ≡ None) (sym a.2.1) a.3) in
     absurd (let more = b.1 in cc)
 reached_first cfg s xs (r ∷ rs) (q ∷ qs) a state left b =
     let first = a.2.1 in
     let second = b.1 in
     let same : a.2.0 ≡ b.0 = cc (first, second) in
-    let later : AreRecords cfg b.0.1 b.0.2 rs = subst (λ (p : Read). AreRecords cfg p.1 p.2 rs) same (a.0, a.1, a.2.3, a.3) in
+    let later : AreRecords cfg b.0.1 b.0.2 rs = subst (λ (p : Read). AreRecords cfg p.1 p.2 rs) same
+    (a.0, a.1, a.2.3, a.3) in
     let tail = reached_first cfg b.0.1 b.0.2 rs qs later state left b.3 in
     (tail.0, ap (λ x. x ∷ rs) (a.2.2 ∙ ap (λ (p : Read). p.0) same ∙ sym b.2) ∙ ap (λ l. q ∷ l) tail.1)
 
 -- the records with which a text begins are the first of its records
-pub first_records : (text : List ℕ) (records seen : List Record) → AreRecordsOf text records → BeginWith text seen → (more : List Record) × (records ≡ seen ++ more)
-first_records text records seen all begins = reached_first default_config StartRecord (strip_bom text) records seen all begins.0 begins.1 begins.2
+pub first_records : (text : List ℕ) (records seen : List Record) → AreRecordsOf text records
+    → BeginWith text seen → (more : List Record) × (records ≡ seen ++ more)
+first_records text records seen all begins = reached_first default_config StartRecord
+    (strip_bom text) records seen all begins.0 begins.1 begins.2
 
 -- of two prefixes of a list, one continues the other
 abbrev OneGoesOn : List Record → List Record → Record → Type 0
 OneGoesOn xs ys x = ((more : List Record) × (ys ≡ xs ++ more)) ⊎ ((more : List Record) × (xs ≡ (ys ++ x ∷ []) ++ more))
 
-one_goes_on : (xs ys : List Record) (x : Record) (rest more : List Record) → xs ++ rest ≡ ys ++ x ∷ more → OneGoesOn xs ys x
+one_goes_on : (xs ys : List Record) (x : Record) (rest more : List Record)
+    → xs ++ rest ≡ ys ++ x ∷ more → OneGoesOn xs ys x
 one_goes_on [] ys x rest more e = inl (ys, refl)
 one_goes_on (a ∷ xs) [] x rest more e = inr (xs, ap (λ q. q ∷ xs) (head_same a x (xs ++ rest) more e))
-one_goes_on (a ∷ xs) (b ∷ ys) x rest more e = go (one_goes_on xs ys x rest more (tail_same a b (xs ++ rest) (ys ++ x ∷ more) e))
+one_goes_on (a ∷ xs) (b ∷ ys) x rest more e = go
+    (one_goes_on xs ys x rest more (tail_same a b (xs ++ rest) (ys ++ x ∷ more) e))
   where
     same : a ≡ b
     same = head_same a b (xs ++ rest) (ys ++ x ∷ more) e
@@ -65,14 +78,16 @@ one_goes_on (a ∷ xs) (b ∷ ys) x rest more e = go (one_goes_on xs ys x rest m
 
 -- a geometry has at least one row
 no_row : (g : Tree) (gs : List Tree) (more : List Row) → AreGeometries (g ∷ gs) → [] ≡ rows_of (g ∷ gs) ++ more → ⊥
-no_row g gs more are e = let (below, first, deep) = below_root g are.0 in cc (e ∙ ap (λ rs. (rs ++ rows_of gs) ++ more) first)
+no_row g gs more are e = let (below, first, deep) = below_root g are.0 in
+    cc (e ∙ ap (λ rs. (rs ++ rows_of gs) ++ more) first)
 
 -- All but the last of the geometries are the first of others, and of all but the last of those.
 record ComeFirst (gs hs : List Tree) : Type 0 where
   in_all : BeginTrees (all_but_last gs) hs
   in_complete : BeginTrees (all_but_last gs) (all_but_last hs)
 
-first_and : (g k : Tree) (gs rest hs : List Tree) → hs ≡ g ∷ rest → (rest ≡ [] → ⊥) → ComeFirst (k ∷ gs) rest → ComeFirst (g ∷ k ∷ gs) hs
+first_and : (g k : Tree) (gs rest hs : List Tree) → hs ≡ g ∷ rest → (rest ≡ [] → ⊥)
+    → ComeFirst (k ∷ gs) rest → ComeFirst (g ∷ k ∷ gs) hs
 first_and g k gs [] hs whole some first = absurd (some refl)
 first_and g k gs (r ∷ rest) hs whole some first = record {
   in_all = (first.in_all.0, whole ∙ ap (λ l. g ∷ l) first.in_all.1);
@@ -80,24 +95,34 @@ first_and g k gs (r ∷ rest) hs whole some first = record {
 }
 
 -- if rows of geometries begin with the rows of others
-come_first : (gs hs : List Tree) (more : List Row) → AreGeometries gs → AreGeometries hs → rows_of hs ≡ rows_of gs ++ more → ComeFirst gs hs
+come_first : (gs hs : List Tree) (more : List Row) → AreGeometries gs → AreGeometries hs
+    → rows_of hs ≡ rows_of gs ++ more → ComeFirst gs hs
 come_first [] hs more a b e = record { in_all = (hs, refl); in_complete = (all_but_last hs, refl) }
 come_first (g ∷ []) hs more a b e = record { in_all = (hs, refl); in_complete = (all_but_last hs, refl) }
 come_first (g ∷ k ∷ gs) hs more a b e =
-    let (rest, whole, others) = first_ended g (rows_of (k ∷ gs) ++ more) hs a.0 b (at_root k gs more a.1) (sym (append_assoc (rows 0 g) (rows_of (k ∷ gs)) more) ∙ sym e) in
+    let (rest, whole, others) = first_ended g (rows_of (k ∷ gs) ++ more) hs a.0 b
+    (at_root k gs more a.1) (sym (append_assoc (rows 0 g) (rows_of (k ∷ gs)) more) ∙ sym e) in
     let are : AreGeometries (g ∷ rest) = subst AreGeometries whole b in
-    first_and g k gs rest hs whole (λ none. no_row k gs more a.1 (ap rows_of (sym none) ∙ others)) (come_first (k ∷ gs) rest more a.1 are.1 others)
+    first_and g k gs rest hs whole (λ none. no_row k gs more a.1 (ap rows_of (sym none) ∙ others))
+    (come_first (k ∷ gs) rest more a.1 are.1 others)
 
 -- if records of geometries begin with the records of others, so do the rows
-named_first : (l : Allowance) (seen tail : List Record) (gs hs : List Tree) → IsAllowance l → Named l seen gs → Named l (seen ++ tail) hs → ComeFirst gs hs
+named_first : (l : Allowance) (seen tail : List Record) (gs hs : List Tree) → IsAllowance l
+    → Named l seen gs → Named l (seen ++ tail) hs → ComeFirst gs hs
 named_first l [] tail gs hs allowed a b = absurd (let e = a.table_of in cc)
 named_first l (h ∷ front) tail gs hs allowed a b =
     let head = head_same h header (front ++ tail) (map record_of (rows_of hs)) b.table_of in
-    let s = split (rows_of hs) front tail (sym (tail_same h header (front ++ tail) (map record_of (rows_of hs)) b.table_of)) in
+    let s = split (rows_of hs) front tail
+    (sym (tail_same h header (front ++ tail) (map record_of (rows_of hs)) b.table_of)) in
     let v = valid_front l s.front s.more (hs, b.valid, s.whole) in
-    let named : Named l (h ∷ front) v.0 = record { table_of = ap (λ q. q ∷ front) head ∙ ap (λ qs. header ∷ qs) (sym s.fronts ∙ ap (λ qs. map record_of qs) (sym v.2)); valid = v.1 } in
+    let named : Named l (h ∷ front) v.0 = record {
+      table_of = ap (λ q. q ∷ front) head
+          ∙ ap (λ qs. header ∷ qs) (sym s.fronts ∙ ap (λ qs. map record_of qs) (sym v.2));
+      valid = v.1;
+    } in
     let same : rows_of gs ≡ s.front = ap rows_of (one_table l (h ∷ front) gs v.0 allowed a named) ∙ v.2 in
-    come_first gs hs s.more (geometries l gs a.valid) (geometries l hs b.valid) (s.whole ∙ ap (λ rs. rs ++ s.more) (sym same))
+    come_first gs hs s.more (geometries l gs a.valid) (geometries l hs b.valid)
+    (s.whole ∙ ap (λ rs. rs ++ s.more) (sym same))
 
 -- ---- geometries that may be written
 
@@ -105,86 +130,134 @@ named_first l (h ∷ front) tail gs hs allowed a b =
 abbrev IsReady : List ℕ → List Record → List Tree → List Tree → Type 0
 IsReady text seen trees gs = (gs ≡ all_but_last trees) ⊎ (AreRecordsOf text seen × (gs ≡ trees))
 
-none_ready : (text : List ℕ) (seen : List Record) (trees gs : List Tree) → trees ≡ [] → IsReady text seen trees gs → gs ≡ []
+none_ready : (text : List ℕ) (seen : List Record) (trees gs : List Tree) → trees ≡ []
+    → IsReady text seen trees gs → gs ≡ []
 none_ready text seen trees gs none (inl e) = e ∙ ap all_but_last none
 none_ready text seen trees gs none (inr e) = e.1 ∙ none
 
-ready_named : (l : Allowance) (text : List ℕ) (records seen : List Record) (trees gs hs : List Tree) → IsAllowance l → AreRecordsOf text records → BeginWith text seen → NameSoFar l seen trees
+ready_named : (l : Allowance) (text : List ℕ) (records seen : List Record) (trees gs hs : List Tree)
+    → IsAllowance l → AreRecordsOf text records → BeginWith text seen → NameSoFar l seen trees
     → IsReady text seen trees gs → Named l records hs → BeginTrees gs hs
-ready_named l text records [] trees gs hs allowed all begins named ready other = (hs, ap (λ ks. ks ++ hs) (sym (none_ready text [] trees gs named ready)))
+ready_named l text records [] trees gs hs allowed all begins named ready other =
+    (hs, ap (λ ks. ks ++ hs) (sym (none_ready text [] trees gs named ready)))
 ready_named l text records (s ∷ seen) trees gs hs allowed all begins named (inl e) other =
     let (tail, whole) = first_records text records (s ∷ seen) all begins in
     let first = named_first l (s ∷ seen) tail trees hs allowed named (subst (λ r. Named l r hs) whole other) in
     (first.in_all.0, first.in_all.1 ∙ ap (λ ks. ks ++ first.in_all.0) (sym e))
 ready_named l text records (s ∷ seen) trees gs hs allowed all begins named (inr (ended, e)) other =
-    let same : s ∷ seen ≡ records = one_records text (s ∷ seen) records ended all in
-    ([], one_table l records hs trees allowed other (subst (λ r. Named l r trees) same named) ∙ sym e ∙ sym (append-nil gs))
+    let same : s ∷ seen ≡ records = one_records text (s ∷ seen) records ended all in (
+      [],
+      one_table l records hs trees allowed other (subst (λ r. Named l r trees) same named)
+          ∙ sym e ∙ sym (append-nil gs),
+    )
 
-is_header : (l : Allowance) (s : Record) (seen tail records : List Record) (trees : List Tree) → Named l (s ∷ seen) trees → records ≡ s ∷ (seen ++ tail) → HasNoHeader records → ⊥
+is_header : (l : Allowance) (s : Record) (seen tail records : List Record) (trees : List Tree)
+    → Named l (s ∷ seen) trees → records ≡ s ∷ (seen ++ tail) → HasNoHeader records → ⊥
 is_header l s seen tail [] trees named e none = cc e
 is_header l s seen tail (q ∷ qs) trees named e none =
     none (head_same q s qs (seen ++ tail) e ∙ head_same s header seen (map record_of (rows_of trees)) named.table_of)
 
-ready_complete : (l : Allowance) (text : List ℕ) (records seen : List Record) (number : ℕ) (reason : RowReason) (trees gs hs : List Tree) → IsAllowance l → AreRecordsOf text records
-    → BeginWith text seen → NameSoFar l seen trees → IsReady text seen trees gs → AreComplete l records number reason hs → BeginTrees gs hs
-ready_complete l text records [] number reason trees gs hs allowed all begins named ready complete = (hs, ap (λ ks. ks ++ hs) (sym (none_ready text [] trees gs named ready)))
+ready_complete : (l : Allowance) (text : List ℕ) (records seen : List Record) (number : ℕ)
+    (reason : RowReason) (trees gs hs : List Tree) → IsAllowance l → AreRecordsOf text records
+    → BeginWith text seen → NameSoFar l seen trees → IsReady text seen trees gs
+    → AreComplete l records number reason hs → BeginTrees gs hs
+ready_complete l text records [] number reason trees gs hs allowed all begins named ready complete =
+    (hs, ap (λ ks. ks ++ hs) (sym (none_ready text [] trees gs named ready)))
 ready_complete l text records (s ∷ seen) number reason trees gs hs allowed all begins named ready (inl f) =
     let (tail, whole) = first_records text records (s ∷ seen) all begins in
     absurd (is_header l s seen tail records trees named whole f.0)
 ready_complete l text records (s ∷ seen) number reason trees gs hs allowed all begins named (inr (ended, e)) (inr f) =
-    absurd (later_none l records number reason f.0 trees (subst (λ r. Named l r trees) (one_records text (s ∷ seen) records ended all) named))
-ready_complete l text records (s ∷ seen) number reason trees gs hs allowed all begins named (inl e) (inr f) = go (one_goes_on (s ∷ seen) f.0.before f.0.here tail.0 f.0.more (sym tail.1 ∙ f.0.split))
+    absurd (later_none l records number reason f.0 trees
+    (subst (λ r. Named l r trees) (one_records text (s ∷ seen) records ended all) named))
+ready_complete l text records (s ∷ seen) number reason trees gs hs allowed all begins named (inl e)
+    (inr f) = go (one_goes_on (s ∷ seen) f.0.before f.0.here tail.0 f.0.more
+    (sym tail.1 ∙ f.0.split))
   where
     tail : (more : List Record) × (records ≡ (s ∷ seen) ++ more)
     tail = first_records text records (s ∷ seen) all begins
 
     go : OneGoesOn (s ∷ seen) f.0.before f.0.here → BeginTrees gs hs
     go (inl (more, longer)) =
-        let first = named_first l (s ∷ seen) more trees f.0.geometries allowed named (subst (λ r. Named l r f.0.geometries) longer f.0.named) in
+        let first = named_first l (s ∷ seen) more trees f.0.geometries allowed named
+        (subst (λ r. Named l r f.0.geometries) longer f.0.named) in
         (first.in_complete.0, f.1 ∙ first.in_complete.1 ∙ ap (λ ks. ks ++ first.in_complete.0) (sym e))
     go (inr (more, longer)) =
-        let front = table_front l (f.0.before ++ f.0.here ∷ []) more trees (never_none f.0.before f.0.here) (subst (λ r. Named l r trees) longer named) in
+        let front = table_front l (f.0.before ++ f.0.here ∷ []) more trees
+        (never_none f.0.before f.0.here) (subst (λ r. Named l r trees) longer named) in
         absurd (f.0.none front.0 front.1)
 
-ready_packed : (style : Style) (l : Allowance) (text : List ℕ) (records : List Record) (gs : List Tree) (bytes : List ℕ) → IsAllowance l → AreRecordsOf text records → MayBeWritten l (Some text) gs → PackTo style l records bytes
+ready_packed : (style : Style) (l : Allowance) (text : List ℕ) (records : List Record)
+    (gs : List Tree) (bytes : List ℕ) → IsAllowance l → AreRecordsOf text records
+    → MayBeWritten l (Some text) gs → PackTo style l records bytes
     → (hs : List Tree) × (bytes ≡ canonical_stream style hs) × BeginTrees gs hs
-ready_packed style l text records gs bytes allowed all may (inl (hs, named, e)) =
-    (hs, e, ready_named l text records may.records may.geometries gs hs allowed all may.begins may.named may.ready named)
-ready_packed style l text records gs bytes allowed all may (inr (number, reason, hs, complete, e)) =
-    (hs, e, ready_complete l text records may.records number reason may.geometries gs hs allowed all may.begins may.named may.ready complete)
+ready_packed style l text records gs bytes allowed all may (inl (hs, named, e)) = (
+  hs,
+  e,
+  ready_named l text records may.records may.geometries gs hs allowed all may.begins
+      may.named may.ready named,
+)
+ready_packed style l text records gs bytes allowed all may (inr (number, reason, hs, complete, e)) = (
+  hs,
+  e,
+  ready_complete l text records may.records number reason may.geometries gs hs allowed all
+      may.begins may.named may.ready complete,
+)
 
-pub pack_front : (style : Style) (l : Allowance) (text written bytes : List ℕ) → IsAllowance l → FrontOfBlobs style l (Some text) written → PackTextTo style l text bytes → BeginsWith (Some bytes) written
+pub pack_front : (style : Style) (l : Allowance) (text written bytes : List ℕ) → IsAllowance l
+    → FrontOfBlobs style l (Some text) written → PackTextTo style l text bytes
+    → BeginsWith (Some bytes) written
 pack_front style l text written bytes allowed f (records, all, packs) =
-    let (hs, e, (others, first)) = ready_packed style l text records (f.whole ++ f.later) bytes allowed all f.ready packs in
+    let (hs, e, (others, first)) = ready_packed style l text records (f.whole ++ f.later) bytes
+    allowed all f.ready packs in
     let stream = canonical_stream style in
     let behind = f.rest ++ stream others in (
       behind,
-      e ∙ ap stream first ∙ flat_map-append (canonical_blob style) (f.whole ++ f.later) others ∙ ap (λ b. b ++ stream others) (flat_map-append (canonical_blob style) f.whole f.later)
-          ∙ append_assoc (stream f.whole) (stream f.later) (stream others) ∙ ap (λ b. stream f.whole ++ (b ++ stream others)) f.cut
-          ∙ ap (λ b. stream f.whole ++ b) (append_assoc f.front f.rest (stream others)) ∙ sym (append_assoc (stream f.whole) f.front behind)
+      e ∙ ap stream first ∙ flat_map-append (canonical_blob style) (f.whole ++ f.later) others
+          ∙ ap (λ b. b ++ stream others) (flat_map-append (canonical_blob style) f.whole f.later)
+          ∙ append_assoc (stream f.whole) (stream f.later) (stream others)
+          ∙ ap (λ b. stream f.whole ++ (b ++ stream others)) f.cut
+          ∙ ap (λ b. stream f.whole ++ b) (append_assoc f.front f.rest (stream others))
+          ∙ sym (append_assoc (stream f.whole) f.front behind)
           ∙ ap (λ b. b ++ behind) (sym f.bytes),
     )
 
 -- ---- tables
 
 -- blobs before bytes with a fault are the first of those before the fault
-blobs_first : (l : Allowance) (a b x y : List ℕ) (gs hs : List Tree) (within : ℕ) (reason : Reason) → Stream l a gs → Stream l b hs → FirstFault l y within reason → a ++ x ≡ b ++ y → BeginTrees gs hs
+blobs_first : (l : Allowance) (a b x y : List ℕ) (gs hs : List Tree) (within : ℕ) (reason : Reason)
+    → Stream l a gs → Stream l b hs → FirstFault l y within reason → a ++ x ≡ b ++ y
+    → BeginTrees gs hs
 blobs_first l a b x y [] hs within reason s t f e = (hs, refl)
 blobs_first l a b x y (g ∷ gs) [] within reason s t f e =
-    let whole : y ≡ s.0 ++ (s.1 ++ x) = ap (λ k. k ++ y) (sym t) ∙ (sym e ∙ (ap (λ k. k ++ x) s.2 ∙ append_assoc s.0 s.1 x)) in
+    let whole : y ≡ s.0 ++ (s.1 ++ x) = ap (λ k. k ++ y) (sym t)
+    ∙ (sym e ∙ (ap (λ k. k ++ x) s.2 ∙ append_assoc s.0 s.1 x)) in
     absurd (no_fault l y (s.1 ++ x) g within reason (record { front = s.0; whole = whole; blob = s.3 }) f.fault)
 blobs_first l a b x y (g ∷ gs) (h ∷ hs) within reason s t f e =
-    let whole : s.0 ++ (s.1 ++ x) ≡ t.0 ++ (t.1 ++ y) = sym (append_assoc s.0 s.1 x) ∙ (ap (λ k. k ++ x) (sym s.2) ∙ (e ∙ (ap (λ k. k ++ y) t.2 ∙ append_assoc t.0 t.1 y))) in
+    let whole : s.0 ++ (s.1 ++ x) ≡ t.0 ++ (t.1 ++ y) = sym (append_assoc s.0 s.1 x)
+    ∙ (ap (λ k. k ++ x) (sym s.2) ∙ (e ∙ (ap (λ k. k ++ y) t.2 ∙ append_assoc t.0 t.1 y))) in
     let one = one_blob_lem l s.0 t.0 (s.1 ++ x) (t.1 ++ y) g h s.3 t.3 whole in
-    let rest = blobs_first l s.1 t.1 x y gs hs within reason s.4 t.4 f (peel s.0 t.0 (s.1 ++ x) (t.1 ++ y) one.1 whole) in
+    let rest = blobs_first l s.1 t.1 x y gs hs within reason s.4 t.4 f
+    (peel s.0 t.0 (s.1 ++ x) (t.1 ++ y) one.1 whole) in
     (rest.0, ap (λ k. h ∷ k) rest.1 ∙ ap (λ k. k ∷ (gs ++ rest.0)) (sym one.0))
 
-blobs_unpacked : (l : Allowance) (all bytes rest : List ℕ) (gs : List Tree) (text : List ℕ) → all ≡ bytes ++ rest → Stream l bytes gs → UnpackTo l all text → (hs : List Tree) × (text ≡ table_text hs) × BeginTrees gs hs
-blobs_unpacked l all bytes rest gs text whole s (inl (hs, t, e)) = let behind = behind_stream l bytes rest gs hs s (subst (λ k. Stream l k hs) whole t) in (hs, e, (behind.0, behind.1))
-blobs_unpacked l all bytes rest gs text whole s (inr (offset, reason, hs, f, e)) = (hs, e, blobs_first l bytes f.front rest f.rest gs hs f.within reason s f.blobs f.first (sym whole ∙ f.whole))
+blobs_unpacked : (l : Allowance) (all bytes rest : List ℕ) (gs : List Tree) (text : List ℕ)
+    → all ≡ bytes ++ rest → Stream l bytes gs → UnpackTo l all text → (hs : List Tree)
+    × (text ≡ table_text hs) × BeginTrees gs hs
+blobs_unpacked l all bytes rest gs text whole s (inl (hs, t, e)) = let behind = behind_stream l
+    bytes rest gs hs s (subst (λ k. Stream l k hs) whole t) in (hs, e, (behind.0, behind.1))
+blobs_unpacked l all bytes rest gs text whole s (inr (offset, reason, hs, f, e)) = (
+  hs,
+  e,
+  blobs_first l bytes f.front rest f.rest gs hs f.within reason s f.blobs f.first
+      (sym whole ∙ f.whole),
+)
 
-pub unpack_front : (l : Allowance) (all bytes text written : List ℕ) (gs : List Tree) → BeginsWith (Some all) bytes → Stream l bytes gs → BeginsWith (Some (table_text gs)) written
+pub unpack_front : (l : Allowance) (all bytes text written : List ℕ) (gs : List Tree)
+    → BeginsWith (Some all) bytes → Stream l bytes gs → BeginsWith (Some (table_text gs)) written
     → UnpackTo l all text → BeginsWith (Some text) written
 unpack_front l all bytes text written gs (rest, whole) s (left, cut) unpacks =
-    let (hs, e, (others, first)) = blobs_unpacked l all bytes rest gs text whole s unpacks in
-    (left ++ rows_text others, e ∙ ap table_text first ∙ table_text-append gs others ∙ ap (λ k. k ++ rows_text others) cut ∙ append_assoc written left (rows_text others))
+    let (hs, e, (others, first)) = blobs_unpacked l all bytes rest gs text whole s unpacks in (
+      left ++ rows_text others,
+      e ∙ ap table_text first ∙ table_text-append gs others
+          ∙ ap (λ k. k ++ rows_text others) cut ∙ append_assoc written left (rows_text others),
+    )

@@ -1,5 +1,7 @@
 -- Names that the lemmas of this crate share, from it and from the crates below.
-pub use Rattle.std.proofs.Common.{◌≡◌, ◌∙◌, ℕ, List, [], ◌∷◌, ◌++◌, Some, None, ap, refl, sym, subst, inl, inr, append_assoc, ◌+◌, ◌<◌, ◌^◌, Option, Bool, true, false, length, arith, ◌≤◌, ◌-◌, Err, length-append, Result, Ok}
+pub use Rattle.std.proofs.Common.{◌≡◌, ◌∙◌, ℕ, List, [], ◌∷◌, ◌++◌, Some, None, ap, refl, sym, subst, inl, inr}
+pub use Rattle.std.proofs.Common.{append_assoc, ◌+◌, ◌<◌, ◌^◌, Option, Bool, true, false, length, arith, ◌≤◌, ◌-◌}
+pub use Rattle.std.proofs.Common.{Err, length-append, Result, Ok}
 pub use Rattle.std.specs.Prelude.{◌⊎◌, map, IfSome, IfOk, IfErr}
 pub use Rattle.std.proofs.lemmas.List.{append-nil, map-append, length-map, append_cancel_left}
 pub use Rattle.std.proofs.lemmas.Grind.{flat_map-append}
@@ -33,7 +35,8 @@ pub use Rattle.twkb_table.specs.declared.reason.RowReason.{RowReason}
 pub use Rattle.twkb_convert.specs.Fronts.{FrontOfBlobs, HoldsWhole}
 pub use Rattle.twkb_convert.specs.Outputs.{PackTextTo, PackTo, UnpackTo, rows_text, table_text, AtMostOneCut, IsTable}
 pub use Rattle.twkb_convert.specs.RefusedRows.{MayBeWritten, IsRefusedText}
-pub use Rattle.twkb_convert.specs.LocatedBlobs.{LocatedStream, geometries_of, TellsSpans, BeginLocated, ShowTo, lines_text}
+pub use Rattle.twkb_convert.specs.LocatedBlobs.{LocatedStream, geometries_of, TellsSpans, BeginLocated, ShowTo}
+pub use Rattle.twkb_convert.specs.LocatedBlobs.{lines_text}
 pub use Rattle.twkb_convert.specs.Listings.{Layout, listing_text, blobs_text}
 pub use Rattle.twkb_convert.specs.Devices.{IsDeviceCause, Changes}
 pub use Rattle.twkb_convert.specs.declared.obstacle.StreamObstacle.{StreamObstacle}

@@ -16,7 +16,8 @@ rows_text-one g = ap (λ l. csvtext (map record_of l)) (sym (append-nil (rows 0 
 
 -- the rows of two lists of geometries, one after the other
 pub rows_text-append : (gs hs : List Tree) → rows_text (gs ++ hs) ≡ rows_text gs ++ rows_text hs
-rows_text-append gs hs = ap csvtext (records-append gs hs) ∙ flat_map-append _ (map record_of (rows_of gs)) (map record_of (rows_of hs))
+rows_text-append gs hs = ap csvtext (records-append gs hs)
+    ∙ flat_map-append _ (map record_of (rows_of gs)) (map record_of (rows_of hs))
 
 -- the table is the header's line and the rows
 pub table_text-rows : (gs : List Tree) → csvtext (header ∷ []) ++ rows_text gs ≡ table_text gs
@@ -26,4 +27,6 @@ table_text-rows gs = ap (λ l. l ++ rows_text gs) (append-nil (joined header ++ 
 pub table_text-append : (gs hs : List Tree) → table_text (gs ++ hs) ≡ table_text gs ++ rows_text hs
 table_text-append gs hs =
     let line = csvtext (header ∷ []) in
-    sym (table_text-rows (gs ++ hs)) ∙ ap (λ k. line ++ k) (rows_text-append gs hs) ∙ sym (append_assoc line (rows_text gs) (rows_text hs)) ∙ ap (λ k. k ++ rows_text hs) (table_text-rows gs)
+    sym (table_text-rows (gs ++ hs)) ∙ ap (λ k. line ++ k) (rows_text-append gs hs)
+    ∙ sym (append_assoc line (rows_text gs) (rows_text hs))
+    ∙ ap (λ k. k ++ rows_text hs) (table_text-rows gs)

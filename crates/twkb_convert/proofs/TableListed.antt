@@ -1,5 +1,9 @@
 -- From a listing of located blobs as a table to the result of unpacking.
-use Rattle.twkb_convert.proofs.Prelude.{IfSome, IfOk, IfErr, Result, Ok, Err, ◌≡◌, ◌∙◌, ◌<◌, ◌^◌, ℕ, List, ◌++◌, Option, Some, None, length, ap, sym, subst, inl, inr, Appends, map-append, length-map, Tap, device_of, Tree, Allowance, Stream, Located, AtMostOneCut, table_text, LocatedStream, geometries_of, listing_text, HoldsWhole, Report, ConvertFault, Cause}
+use Rattle.twkb_convert.proofs.Prelude.{IfSome, IfOk, IfErr, Result, Ok, Err, ◌≡◌, ◌∙◌, ◌<◌, ◌^◌, ℕ, List, ◌++◌}
+use Rattle.twkb_convert.proofs.Prelude.{Option, Some, None, length, ap, sym, subst, inl, inr, Appends, map-append}
+use Rattle.twkb_convert.proofs.Prelude.{length-map, Tap, device_of, Tree, Allowance, Stream, Located, AtMostOneCut}
+use Rattle.twkb_convert.proofs.Prelude.{table_text, LocatedStream, geometries_of, listing_text, HoldsWhole, Report}
+use Rattle.twkb_convert.proofs.Prelude.{ConvertFault, Cause}
 use Rattle.twkb_convert.specs.Listings.{table_layout}
 use Rattle.twkb_convert.specs.Listed.{ExplainsListingCause, Listed, StoppedListing}
 use Rattle.twkb_convert.specs.Unpacked.{StoppedUnpacking, Unpacked}
@@ -10,7 +14,9 @@ use Rattle.twkb_convert.proofs.ListingTexts.{table_of_blobs}
 joined : (bs cs : List Located) → geometries_of (bs ++ cs) ≡ geometries_of bs ++ geometries_of cs
 joined bs cs = map-append (λ (b : Located). b.geometry) bs cs
 
-known_stream : (l : Allowance) (known : Option (List ℕ)) (bs : List Located) → IfSome known (λ bytes. LocatedStream l 0 bytes bs) → IfSome known (λ bytes. Stream l bytes (geometries_of bs))
+known_stream : (l : Allowance) (known : Option (List ℕ)) (bs : List Located)
+    → IfSome known (λ bytes. LocatedStream l 0 bytes bs)
+    → IfSome known (λ bytes. Stream l bytes (geometries_of bs))
 known_stream l None bs s = tt
 known_stream l (Some bytes) bs s = located-stream l 0 bytes bs s
 
@@ -18,35 +24,45 @@ cut_without : (later : List Located) (left : List ℕ) → AtMostOneCut later le
 cut_without later left (inl none) = inl (ap geometries_of none)
 cut_without later left (inr one) = inr (one.0.geometry, ap geometries_of one.1, one.2)
 
-holds_without : (text : List ℕ) (whole : List Located) → HoldsWhole (listing_text table_layout) text whole → HoldsWhole table_text text (geometries_of whole)
+holds_without : (text : List ℕ) (whole : List Located)
+    → HoldsWhole (listing_text table_layout) text whole
+    → HoldsWhole table_text text (geometries_of whole)
 holds_without text whole (inl none) = inl (ap geometries_of none)
 holds_without text whole (inr more) = inr (more.0, more.1 ∙ ap (λ t. t ++ more.0) (table_of_blobs whole))
 
 -- the text of the table of all these blobs
-all_text : (whole later : List Located) → listing_text table_layout (whole ++ later) ≡ table_text (geometries_of whole ++ geometries_of later)
+all_text : (whole later : List Located) → listing_text table_layout (whole ++ later) ≡ table_text
+    (geometries_of whole ++ geometries_of later)
 all_text whole later = table_of_blobs (whole ++ later) ∙ ap table_text (joined whole later)
 
-explains_without : (l : Allowance) (old told : Option (List ℕ)) (bytes : List ℕ) (why : Cause) (whole later : List Located) (left : List ℕ)
+explains_without : (l : Allowance) (old told : Option (List ℕ)) (bytes : List ℕ) (why : Cause)
+    (whole later : List Located) (left : List ℕ)
     → ExplainsListingCause geometries_of (listing_text table_layout) l old told bytes why whole later left
-    → ExplainsListingCause (λ (trees : List Tree). trees) table_text l old told bytes why (geometries_of whole) (geometries_of later) left
+    → ExplainsListingCause (λ (trees : List Tree). trees) table_text l old told bytes why
+    (geometries_of whole) (geometries_of later) left
 explains_without l old told bytes (causes.Row number reason) whole later left e = e
 explains_without l old told bytes (causes.Blob offset reason) whole later left e = (ap geometries_of e.0, e.1, e.2)
 explains_without l old told bytes causes.ReadDevice whole later left e = (ap geometries_of e.0, e.1, e.2)
 explains_without l old told bytes causes.WriteDevice whole later left e = tt
 explains_without l old told bytes causes.Memory whole later left e = (ap geometries_of e.0, e.1)
 explains_without l old told bytes causes.TooLong whole later left (inl long) = inl long
-explains_without l old told bytes causes.TooLong whole later left (inr long) = inr (subst (λ (t : List ℕ). 2 ^ 62 < length t) (all_text whole later) long)
+explains_without l old told bytes causes.TooLong whole later left (inr long) = inr
+    (subst (λ (t : List ℕ). 2 ^ 62 < length t) (all_text whole later) long)
 explains_without l old told bytes causes.TooManyRecords whole later left e = e
 
-module _ {R W : Type 0} (l : Allowance) (remaining : R → Option (List ℕ)) (contents : W → Option (List ℕ)) (reader : Tap R) (writer : Tap W) where
-  unpacked : (report : Report) (read : Tap R) (written : Tap W) → Listed (LocatedStream l 0) (listing_text table_layout) remaining contents reader writer report read written
+module _ {R W : Type 0} (l : Allowance) (remaining : R → Option (List ℕ))
+    (contents : W → Option (List ℕ)) (reader : Tap R) (writer : Tap W) where
+  unpacked : (report : Report) (read : Tap R) (written : Tap W)
+      → Listed (LocatedStream l 0) (listing_text table_layout) remaining contents reader writer
+      report read written
       → Unpacked l remaining contents reader writer report read written
   unpacked report read written listed =
       let text = table_of_blobs listed.found in
       record {
         found = geometries_of listed.found;
         stream = known_stream l (remaining (device_of reader)) listed.found listed.stream;
-        appends = subst (λ t. Appends (contents (device_of writer)) (contents (device_of written)) t) text listed.appends;
+        appends = subst (λ t. Appends (contents (device_of writer)) (contents (device_of written))
+            t) text listed.appends;
         geometries = listed.geometries ∙ sym (length-map listed.found (λ (b : Located). b.geometry));
         bytes = listed.bytes ∙ ap length text;
         end = listed.end;
@@ -55,7 +71,8 @@ module _ {R W : Type 0} (l : Allowance) (remaining : R → Option (List ℕ)) (c
       }
 
   stopped_unpacking : (fault : ConvertFault) (read : Tap R) (written : Tap W)
-      → StoppedListing (LocatedStream l 0) geometries_of (listing_text table_layout) l remaining contents reader writer fault read written
+      → StoppedListing (LocatedStream l 0) geometries_of (listing_text table_layout) l remaining
+      contents reader writer fault read written
       → StoppedUnpacking l remaining contents reader writer fault read written
   stopped_unpacking fault read written stopped =
       let p = stopped.part in
@@ -66,7 +83,8 @@ module _ {R W : Type 0} (l : Allowance) (remaining : R → Option (List ℕ)) (c
           later = geometries_of p.later;
           bytes = p.bytes;
           left = p.left;
-          blobs = subst (λ gs. Stream l p.bytes gs) (joined p.whole p.later) (located-stream l 0 p.bytes (p.whole ++ p.later) p.blobs);
+          blobs = subst (λ gs. Stream l p.bytes gs) (joined p.whole p.later)
+              (located-stream l 0 p.bytes (p.whole ++ p.later) p.blobs);
           begins = p.begins;
           cut = sym (all_text p.whole p.later) ∙ p.cut;
           one = cut_without p.later p.left p.one;
@@ -75,18 +93,21 @@ module _ {R W : Type 0} (l : Allowance) (remaining : R → Option (List ℕ)) (c
         appends = stopped.appends;
         done = stopped.done ∙ sym (length-map p.whole (λ (b : Located). b.geometry));
         sent = stopped.sent;
-        explains = explains_without l (remaining (device_of reader)) (remaining (device_of read)) p.bytes fault.cause p.whole p.later p.left stopped.explains;
+        explains = explains_without l (remaining (device_of reader)) (remaining (device_of read))
+            p.bytes fault.cause p.whole p.later p.left stopped.explains;
         devices = stopped.devices;
       }
 
   pub table_unpacked : (answer : Result Report ConvertFault) (read : Tap R) (written : Tap W)
-      → IfOk answer (λ report. Listed (LocatedStream l 0) (listing_text table_layout) remaining contents reader writer report read written)
+      → IfOk answer (λ report. Listed (LocatedStream l 0) (listing_text table_layout) remaining
+      contents reader writer report read written)
       → IfOk answer (λ report. Unpacked l remaining contents reader writer report read written)
   table_unpacked (Ok report) read written listed = unpacked report read written listed
   table_unpacked (Err fault) read written listed = tt
 
   pub table_stopped : (answer : Result Report ConvertFault) (read : Tap R) (written : Tap W)
-      → IfErr answer (λ fault. StoppedListing (LocatedStream l 0) geometries_of (listing_text table_layout) l remaining contents reader writer fault read written)
+      → IfErr answer (λ fault. StoppedListing (LocatedStream l 0) geometries_of
+      (listing_text table_layout) l remaining contents reader writer fault read written)
       → IfErr answer (λ fault. StoppedUnpacking l remaining contents reader writer fault read written)
   table_stopped (Ok report) read written stopped = tt
   table_stopped (Err fault) read written stopped = stopped_unpacking fault read written stopped

@@ -12,11 +12,15 @@ use Rattle.twkb_convert.specs.CountedWork.{AddsWork, IsWorkOf, points, total}
 -- ---- one geometry
 
 -- the work of measuring and writing a geometry
-pub adds_work : (g : Tree) (flat_rows : List Row) (sizes : List Entry) (old mid new : Work) → rows 0 g ≡ flat_rows → length (rows 0 g) ≡ nodes g → row_points (rows 0 g) ≡ flat g → length sizes ≡ geometries g
-    → Counted old (length (row_points flat_rows)) (length flat_rows) (length sizes) mid → Reads mid (2 * length flat_rows) (length (row_points flat_rows)) new → AddsWork g old new
+pub adds_work : (g : Tree) (flat_rows : List Row) (sizes : List Entry) (old mid new : Work)
+    → rows 0 g ≡ flat_rows → length (rows 0 g) ≡ nodes g → row_points (rows 0 g) ≡ flat g
+    → length sizes ≡ geometries g
+    → Counted old (length (row_points flat_rows)) (length flat_rows) (length sizes) mid
+    → Reads mid (2 * length flat_rows) (length (row_points flat_rows)) new → AddsWork g old new
 adds_work g flat_rows sizes old mid new same of_nodes of_points entry_count counted reads =
     let node_count : length flat_rows ≡ nodes g = ap length (sym same) ∙ of_nodes in
-    let point_count : length (row_points flat_rows) ≡ points g = ap (λ rs. length (row_points rs)) (sym same) ∙ ap length of_points in
+    let point_count : length (row_points flat_rows) ≡ points g = ap (λ rs. length (row_points rs))
+    (sym same) ∙ ap length of_points in
     record {
       more_points = reads.same_points ∙ counted.more_points ∙ ap (λ n. saturated (old.points + n)) point_count;
       more_nodes = reads.same_nodes ∙ counted.more_nodes ∙ ap (λ n. saturated (old.nodes + n)) node_count;
@@ -35,12 +39,16 @@ total-last count (h ∷ gs) g = omega (arith, total-last count gs g)
 saturated-twice : (a b : ℕ) → saturated (saturated a + b) ≡ saturated (a + b)
 saturated-twice a b = omega arith
 
-sum_more : (count : Tree → ℕ) (gs : List Tree) (g : Tree) (old new : ℕ) → old ≡ saturated (total count gs) → new ≡ saturated (old + count g) → new ≡ saturated (total count (gs ++ g ∷ []))
+sum_more : (count : Tree → ℕ) (gs : List Tree) (g : Tree) (old new : ℕ)
+    → old ≡ saturated (total count gs) → new ≡ saturated (old + count g)
+    → new ≡ saturated (total count (gs ++ g ∷ []))
 sum_more count gs g old new before more =
-    more ∙ ap (λ n. saturated (n + count g)) before ∙ saturated-twice (total count gs) (count g) ∙ ap saturated (sym (total-last count gs g))
+    more ∙ ap (λ n. saturated (n + count g)) before ∙ saturated-twice (total count gs) (count g)
+    ∙ ap saturated (sym (total-last count gs g))
 
 -- one more geometry
-pub work_more : (gs : List Tree) (g : Tree) (old new : Work) → IsWorkOf gs old → AddsWork g old new → IsWorkOf (gs ++ g ∷ []) new
+pub work_more : (gs : List Tree) (g : Tree) (old new : Work) → IsWorkOf gs old → AddsWork g old new
+    → IsWorkOf (gs ++ g ∷ []) new
 work_more gs g old new before adds = record {
   all_points = sum_more points gs g old.points new.points before.all_points adds.more_points;
   all_nodes = sum_more nodes gs g old.nodes new.nodes before.all_nodes adds.more_nodes;

@@ -51,7 +51,8 @@ pub record Used (old : Option (List ℕ)) (before : ℕ) (bytes : List ℕ) (new
   pub counted : after ≡ before + length bytes
 
 -- One blob was read, and its bytes determine these spans at its offset.
-pub record GivesBlob (limits : Allowance) (old : Option (List ℕ)) (before : ℕ) (b : Located) (new : Option (List ℕ)) (after : ℕ) : Type 0 where
+pub record GivesBlob (limits : Allowance) (old : Option (List ℕ)) (before : ℕ) (b : Located)
+    (new : Option (List ℕ)) (after : ℕ) : Type 0 where
   pub front : List ℕ
   pub tells : TellsSpans limits before front b
   pub used : Used old before front new after
@@ -64,7 +65,8 @@ pub record RefusesBlob (limits : Allowance) (bytes : List ℕ) (before : ℕ) (o
 
 -- The device gave these bytes and then at most a part of a blob. The bytes after that part are
 -- still to come.
-pub record GaveOnly (limits : Allowance) (old : Option (List ℕ)) (bytes : List ℕ) (told : Option (List ℕ)) : Type 0 where
+pub record GaveOnly (limits : Allowance) (old : Option (List ℕ)) (bytes : List ℕ)
+    (told : Option (List ℕ)) : Type 0 where
   pub cut : List ℕ
   pub consumed : Consumes old told (bytes ++ cut)
   pub cut_off : AreCutOff limits cut

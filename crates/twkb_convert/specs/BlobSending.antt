@@ -1,5 +1,6 @@
 -- How far the texts of a stream's blobs were sent.
-use Rattle.std.specs.Prelude.{◌≡◌, ◌≢◌, ℕ, ◌+◌, ◌^◌, ◌<◌, ◌≤◌, ◌⊎◌, List, [], ◌++◌, length, Option, IfSome, Bool, true, false, ⊤}
+use Rattle.std.specs.Prelude.{◌≡◌, ◌≢◌, ℕ, ◌+◌, ◌^◌, ◌<◌, ◌≤◌, ◌⊎◌, List, [], ◌++◌, length, Option, IfSome, Bool}
+use Rattle.std.specs.Prelude.{true, false, ⊤}
 use Rattle.std.specs.Io.KnownBytes.{IsAtEnd}
 use Rattle.std.specs.declared.io.traits.Read.{Ghosts}
 use Rattle.twkb_io.specs.Taps.{count_failure, device_of}
@@ -9,7 +10,8 @@ use Rattle.twkb_io.specs.declared.output.OutFault.{OutFault}
 use Rattle.twkb_io.specs.declared.output.OutFault.TheVariants as out
 use Rattle.twkb_io.specs.declared.input.InFault.TheVariants as input
 use Rattle.twkb_tree.specs.Limits.{Allowance}
-use Rattle.twkb_convert.specs.BlobReading.{GaveOnly, GivesBlob, Misses, RefusesBlob, Used, given, limits_of, reader_failures, reader_tap, rest_of, told_of}
+use Rattle.twkb_convert.specs.BlobReading.{GaveOnly, GivesBlob, Misses, RefusesBlob, Used, given, limits_of}
+use Rattle.twkb_convert.specs.BlobReading.{reader_failures, reader_tap, rest_of, told_of}
 use Rattle.twkb_blob.specs.Readers.{reader_input}
 use Rattle.twkb_blob.specs.Through.{IsAbreast}
 use Rattle.twkb_blob.specs.declared.reader.Reader.{Reader}
@@ -61,7 +63,8 @@ IsEnded remaining from to = IfSome (rest_of from) (λ bytes. IsAtEnd (remaining 
 
 -- What a stop says about the reader: if a read failed, the obstacle is that read, or a write or
 -- flush that failed later.
-pub record StopsRead {R : Type 0} {read : Ghosts R} (from : Reader R read) (why : StreamObstacle) (to : Reader R read) : Type 0 where
+pub record StopsRead {R : Type 0} {read : Ghosts R} (from : Reader R read) (why : StreamObstacle)
+    (to : Reader R read) : Type 0 where
   pub has_failed : Bool
   pub follows : Follows from to has_failed
   pub told : (has_failed ≡ is_read why) ⊎ (is_write why ≡ true)
@@ -71,7 +74,8 @@ abbrev pub IsReady : {R : Type 0} {read : Ghosts R} → Reader R read → Sessio
 IsReady reader s = IsAbreast (limits_of reader) (reader_input reader) s
 
 -- No bytes are left for another blob.
-pub record EndsBlobs {R : Type 0} {read : Ghosts R} (remaining : R → Option (List ℕ)) (from to : Reader R read) : Type 0 where
+pub record EndsBlobs {R : Type 0} {read : Ghosts R} (remaining : R → Option (List ℕ))
+    (from to : Reader R read) : Type 0 where
   pub empty : IsAtEnd (rest_of from)
   pub used : Used (rest_of from) (given from) [] (rest_of to) (given to)
   pub ended : IsEnded remaining from to
@@ -79,7 +83,8 @@ pub record EndsBlobs {R : Type 0} {read : Ghosts R} (remaining : R → Option (L
 -- ---- one blob
 
 -- One blob was read, and this is its text.
-pub record GivesText {R : Type 0} {read : Ghosts R} (layout : Layout) (from to : Reader R read) (text : List ℕ) : Type 0 where
+pub record GivesText {R : Type 0} {read : Ghosts R} (layout : Layout) (from to : Reader R read)
+    (text : List ℕ) : Type 0 where
   pub found : Located
   pub gives : GivesBlob (limits_of from) (rest_of from) (given from) found (rest_of to) (given to)
   pub own : text ≡ layout.text_of found
@@ -89,26 +94,33 @@ abbrev pub StopsText : {R : Type 0} {read : Ghosts R} → Reader R read → Blob
 StopsText from why to = Misses (limits_of from) (rest_of from) (given from) (told_of to) why
 
 -- One blob was read, and its text was sent.
-pub record SentBlob {R W : Type 0} {read : Ghosts R} (layout : Layout) (contents : W → Option (List ℕ)) (from : Reader R read) (old : Output W) (to : Reader R read) (new : Output W) : Type 0 where
+pub record SentBlob {R W : Type 0} {read : Ghosts R} (layout : Layout)
+    (contents : W → Option (List ℕ)) (from : Reader R read) (old : Output W) (to : Reader R read)
+    (new : Output W) : Type 0 where
   pub found : Located
   pub gives : GivesBlob (limits_of from) (rest_of from) (given from) found (rest_of to) (given to)
   pub took : Took contents old (layout.text_of found) new
 
 -- One blob was read, and the put of its text was refused.
-pub record CutBlob {R W : Type 0} {read : Ghosts R} (layout : Layout) (contents : W → Option (List ℕ)) (from : Reader R read) (old : Output W) (to : Reader R read) (why : OutFault) (new : Output W) : Type 0 where
+pub record CutBlob {R W : Type 0} {read : Ghosts R} (layout : Layout)
+    (contents : W → Option (List ℕ)) (from : Reader R read) (old : Output W) (to : Reader R read)
+    (why : OutFault) (new : Output W) : Type 0 where
   pub found : Located
   pub gives : GivesBlob (limits_of from) (rest_of from) (given from) found (rest_of to) (given to)
   pub cut : Cut contents old (layout.text_of found) why new
 
 -- what an obstacle says if the text of a blob was not sent whole
-abbrev pub StopsBlob : {R W : Type 0} {read : Ghosts R} → Layout → (W → Option (List ℕ)) → Reader R read → Output W → StreamObstacle → Reader R read → Output W → Type 0
+abbrev pub StopsBlob : {R W : Type 0} {read : Ghosts R} → Layout → (W → Option (List ℕ))
+    → Reader R read → Output W → StreamObstacle → Reader R read → Output W → Type 0
 StopsBlob layout contents from old (obstacle.Stream why) to new = (new ≡ old) × StopsText from why to
 StopsBlob layout contents from old (obstacle.Output why) to new = CutBlob layout contents from old to why new
 
 -- ---- all blobs
 
 -- The texts of some blobs were sent.
-pub record SentBlobs {R W : Type 0} {read : Ghosts R} (layout : Layout) (contents : W → Option (List ℕ)) (from : Reader R read) (old : Output W) (to : Reader R read) (new : Output W) (done : ℕ) : Type 0 where
+pub record SentBlobs {R W : Type 0} {read : Ghosts R} (layout : Layout)
+    (contents : W → Option (List ℕ)) (from : Reader R read) (old : Output W) (to : Reader R read)
+    (new : Output W) (done : ℕ) : Type 0 where
   pub found : List Located
   pub bytes : List ℕ
   pub blobs : LocatedStream (limits_of from) (given from) bytes found
@@ -117,7 +129,9 @@ pub record SentBlobs {R W : Type 0} {read : Ghosts R} (layout : Layout) (content
   pub count : done ≡ length found
 
 -- The whole text of a stream was sent, given the text of its blobs.
-pub record SentText {R W : Type 0} {read : Ghosts R} (text_of : List Located → List ℕ) (contents : W → Option (List ℕ)) (from : Reader R read) (old new : Output W) (done : ℕ) : Type 0 where
+pub record SentText {R W : Type 0} {read : Ghosts R} (text_of : List Located → List ℕ)
+    (contents : W → Option (List ℕ)) (from : Reader R read) (old new : Output W)
+    (done : ℕ) : Type 0 where
   pub found : List Located
   pub bytes : List ℕ
   pub blobs : LocatedStream (limits_of from) (given from) bytes found
@@ -133,22 +147,29 @@ ExplainsStream l old told before bytes (blob.Device input.Read) = GaveOnly l old
 ExplainsStream l old told before bytes (blob.Device input.TooLong) = IfSome old (λ all. 2 ^ 62 < before + length all)
 ExplainsStream l old told before bytes (blob.Device input.Spent) = ⊥
 ExplainsStream l old told before bytes (blob.At offset reason) =
-    IfSome old (λ all. (left : List ℕ) × (all ≡ bytes ++ left) × RefusesBlob l left (before + length bytes) offset reason)
+    IfSome old (λ all. (left : List ℕ) × (all ≡ bytes ++ left)
+    × RefusesBlob l left (before + length bytes) offset reason)
 
 -- what an obstacle says, given the whole text to be sent and the number of bytes that the output
 -- had sent before
-abbrev pub ExplainsObstacle : Allowance → Option (List ℕ) → Option (List ℕ) → ℕ → List ℕ → StreamObstacle → ℕ → List ℕ → List Located → List ℕ → Type 0
-ExplainsObstacle l old told before bytes (obstacle.Stream why) sent text later left = (later ≡ []) × (left ≡ []) × ExplainsStream l old told before bytes why
-ExplainsObstacle l old told before bytes (obstacle.Output why) sent text later left = (why ≡ out.TooLong → 2 ^ 62 < sent + length text) × (why ≢ out.Spent)
+abbrev pub ExplainsObstacle : Allowance → Option (List ℕ) → Option (List ℕ) → ℕ → List ℕ
+    → StreamObstacle → ℕ → List ℕ → List Located → List ℕ → Type 0
+ExplainsObstacle l old told before bytes (obstacle.Stream why) sent text later left = (later ≡ [])
+    × (left ≡ []) × ExplainsStream l old told before bytes why
+ExplainsObstacle l old told before bytes (obstacle.Output why) sent text later left =
+    (why ≡ out.TooLong → 2 ^ 62 < sent + length text) × (why ≢ out.Spent)
 
 -- A prefix of the text of a stream was sent, with the whole text of the first blobs, given the
 -- text of its blobs.
-pub record CutText {R W : Type 0} {read : Ghosts R} (text_of : List Located → List ℕ) (contents : W → Option (List ℕ)) (from : Reader R read) (old : Output W) (to : Reader R read) (new : Output W)
+pub record CutText {R W : Type 0} {read : Ghosts R} (text_of : List Located → List ℕ)
+    (contents : W → Option (List ℕ)) (from : Reader R read) (old : Output W) (to : Reader R read)
+    (new : Output W)
     (stop : Unfinished StreamObstacle) : Type 0 where
   pub text : List ℕ
   pub part : FrontOfText (LocatedStream (limits_of from) (given from)) text_of (rest_of from) text
   pub sends : Sent contents old text new
   pub count : stop.done ≡ length part.whole
-  pub explains : ExplainsObstacle (limits_of from) (rest_of from) (told_of to) (given from) part.bytes stop.why (sent_of old) (text_of (part.whole ++ part.later)) part.later part.left
+  pub explains : ExplainsObstacle (limits_of from) (rest_of from) (told_of to) (given from)
+      part.bytes stop.why (sent_of old) (text_of (part.whole ++ part.later)) part.later part.left
   pub failures : output_failures new ≡ count_failure (is_write stop.why) (output_failures old)
   pub unspent : UnlessOutput stop.why (is_spent new ≡ false)

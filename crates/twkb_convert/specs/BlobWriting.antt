@@ -12,11 +12,13 @@ use Rattle.twkb_writer.specs.declared.encoding.EncodeFault.TheVariants.{Memory, 
 use Rattle.twkb_convert.specs.CountedWork.{AddsWork}
 
 -- The blob was sent, and the work was counted.
-pub record WritesBlob {W : Type 0} (style : Style) (contents : W → Option (List ℕ)) (g : Tree) (old : Output W) (before : Work) (new : Output W) (after : Work) : Type 0 where
+pub record WritesBlob {W : Type 0} (style : Style) (contents : W → Option (List ℕ)) (g : Tree)
+    (old : Output W) (before : Work) (new : Output W) (after : Work) : Type 0 where
   pub took : Took contents old (canonical_blob style g) new
   pub work : AddsWork g before after
 
 -- nothing was sent if memory was refused, otherwise a prefix of the blob
-abbrev pub CutsBlob : {W : Type 0} → Style → (W → Option (List ℕ)) → Tree → Output W → EncodeFault OutFault → Output W → Type 0
+abbrev pub CutsBlob : {W : Type 0} → Style → (W → Option (List ℕ)) → Tree → Output W
+    → EncodeFault OutFault → Output W → Type 0
 CutsBlob style contents g old Memory new = new ≡ old
 CutsBlob style contents g old (Sink fault) new = Cut contents old (canonical_blob style g) fault new

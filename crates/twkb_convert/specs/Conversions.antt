@@ -13,25 +13,36 @@ use Rattle.twkb_convert.specs.declared.report.ConvertFault.{ConvertFault}
 use Rattle.twkb_convert.specs.declared.report.Report.{Report}
 
 -- The result of packing: the whole table was packed, or it stopped.
-pub record Packs {R W : Type 0} (style : Style) (l : Allowance) (remaining : R → Option (List ℕ)) (contents : W → Option (List ℕ)) (reader : Tap R) (writer : Tap W) (reader_after : Tap R) (writer_after : Tap W) (answer : Result Report ConvertFault) : Type 0 where
+pub record Packs {R W : Type 0} (style : Style) (l : Allowance) (remaining : R → Option (List ℕ))
+    (contents : W → Option (List ℕ)) (reader : Tap R) (writer : Tap W) (reader_after : Tap R)
+    (writer_after : Tap W) (answer : Result Report ConvertFault) : Type 0 where
   pub ok : IfOk answer (λ report. Packed style l remaining contents reader writer report reader_after writer_after)
-  pub err : IfErr answer (λ fault. StoppedPacking style l remaining contents reader writer fault reader_after writer_after)
+  pub err : IfErr answer (λ fault. StoppedPacking style l remaining contents reader writer fault
+      reader_after writer_after)
   pub flushed : IsFlushedButForDevices answer writer_after
 
 -- The result of unpacking: the whole stream was unpacked, or it stopped.
-pub record Unpacks {R W : Type 0} (l : Allowance) (remaining : R → Option (List ℕ)) (contents : W → Option (List ℕ)) (reader : Tap R) (writer : Tap W) (reader_after : Tap R) (writer_after : Tap W) (answer : Result Report ConvertFault) : Type 0 where
+pub record Unpacks {R W : Type 0} (l : Allowance) (remaining : R → Option (List ℕ))
+    (contents : W → Option (List ℕ)) (reader : Tap R) (writer : Tap W) (reader_after : Tap R)
+    (writer_after : Tap W) (answer : Result Report ConvertFault) : Type 0 where
   pub ok : IfOk answer (λ report. Unpacked l remaining contents reader writer report reader_after writer_after)
   pub err : IfErr answer (λ fault. StoppedUnpacking l remaining contents reader writer fault reader_after writer_after)
   pub flushed : IsFlushed answer writer_after
 
 -- The result of showing: the whole stream was shown, or it stopped.
-pub record Shows {R W : Type 0} (l : Allowance) (remaining : R → Option (List ℕ)) (contents : W → Option (List ℕ)) (reader : Tap R) (writer : Tap W) (reader_after : Tap R) (writer_after : Tap W) (answer : Result Report ConvertFault) : Type 0 where
+pub record Shows {R W : Type 0} (l : Allowance) (remaining : R → Option (List ℕ))
+    (contents : W → Option (List ℕ)) (reader : Tap R) (writer : Tap W) (reader_after : Tap R)
+    (writer_after : Tap W) (answer : Result Report ConvertFault) : Type 0 where
   pub ok : IfOk answer (λ report. Shown l remaining contents reader writer report reader_after writer_after)
   pub err : IfErr answer (λ fault. StoppedShowing l remaining contents reader writer fault reader_after writer_after)
   pub flushed : IsFlushed answer writer_after
 
 -- the result of the conversion asked for, and its effect on its reader and writer
-abbrev pub Converts : {R W : Type 0} → Conversion → Allowance → (R → Option (List ℕ)) → (W → Option (List ℕ)) → Tap R → Tap W → Tap R → Tap W → Result Report ConvertFault → Type 0
-Converts (conversion.Pack style) l remaining contents reader writer reader_after writer_after answer = Packs style l remaining contents reader writer reader_after writer_after answer
-Converts conversion.Unpack l remaining contents reader writer reader_after writer_after answer = Unpacks l remaining contents reader writer reader_after writer_after answer
-Converts conversion.Show l remaining contents reader writer reader_after writer_after answer = Shows l remaining contents reader writer reader_after writer_after answer
+abbrev pub Converts : {R W : Type 0} → Conversion → Allowance → (R → Option (List ℕ))
+    → (W → Option (List ℕ)) → Tap R → Tap W → Tap R → Tap W → Result Report ConvertFault → Type 0
+Converts (conversion.Pack style) l remaining contents reader writer reader_after writer_after
+    answer = Packs style l remaining contents reader writer reader_after writer_after answer
+Converts conversion.Unpack l remaining contents reader writer reader_after writer_after answer =
+    Unpacks l remaining contents reader writer reader_after writer_after answer
+Converts conversion.Show l remaining contents reader writer reader_after writer_after answer =
+    Shows l remaining contents reader writer reader_after writer_after answer

@@ -21,7 +21,8 @@ Changes true before after = after ≢ before
 Changes false before after = after ≡ before
 
 -- The taps counted failed reads, in this way, and a failed write or flush, and the cause agrees.
-pub record DevicesTell {R W : Type 0} (CountsReads : Bool → ℕ → ℕ → Type 0) (reader : Tap R) (writer : Tap W) (why : Cause) (read : Tap R) (written : Tap W) : Type 0 where
+pub record DevicesTell {R W : Type 0} (CountsReads : Bool → ℕ → ℕ → Type 0) (reader : Tap R)
+    (writer : Tap W) (why : Cause) (read : Tap R) (written : Tap W) : Type 0 where
   pub read_failed : Bool
   pub write_failed : Bool
   pub reads : CountsReads read_failed (failures_of reader) (failures_of read)

@@ -9,9 +9,11 @@ use Rattle.twkb_convert.specs.declared.report.ConvertFault.{ConvertFault}
 -- would be written
 abbrev pub IsFlushed : {T W : Type 0} → Result T ConvertFault → Tap W → Type 0
 IsFlushed (Ok report) writer = has_unflushed writer ≡ false
-IsFlushed (Err fault) writer = fault.cause ≢ cause.WriteDevice → fault.cause ≢ cause.TooLong → has_unflushed writer ≡ false
+IsFlushed (Err fault) writer = fault.cause ≢ cause.WriteDevice → fault.cause ≢ cause.TooLong
+    → has_unflushed writer ≡ false
 
 -- no byte that the writer took is unflushed, with a failed read as one more exception
 abbrev pub IsFlushedButForDevices : {T W : Type 0} → Result T ConvertFault → Tap W → Type 0
 IsFlushedButForDevices (Ok report) writer = has_unflushed writer ≡ false
-IsFlushedButForDevices (Err fault) writer = fault.cause ≢ cause.WriteDevice → fault.cause ≢ cause.ReadDevice → fault.cause ≢ cause.TooLong → has_unflushed writer ≡ false
+IsFlushedButForDevices (Err fault) writer = fault.cause ≢ cause.WriteDevice
+    → fault.cause ≢ cause.ReadDevice → fault.cause ≢ cause.TooLong → has_unflushed writer ≡ false

@@ -26,7 +26,8 @@ HoldsWhole text_of text bs = (bs ≡ []) ⊎ ((more : List ℕ) × (text ≡ tex
 
 -- The known bytes begin with blobs, and this is a prefix of their text: the whole text of the first
 -- blobs, and a part of the text of at most one more.
-pub record FrontOfText {A : Type 0} (AreBlobs : List ℕ → List A → Type 0) (text_of : List A → List ℕ) (told : Option (List ℕ)) (written : List ℕ) : Type 0 where
+pub record FrontOfText {A : Type 0} (AreBlobs : List ℕ → List A → Type 0)
+    (text_of : List A → List ℕ) (told : Option (List ℕ)) (written : List ℕ) : Type 0 where
   pub whole : List A
   pub later : List A
   pub bytes : List ℕ

@@ -16,7 +16,8 @@ pub record TellsSpans (l : Allowance) (offset : ℕ) (bytes : List ℕ) (b : Loc
 -- From this offset of a stream on, the bytes are these blobs, one after another, and nothing else.
 abbrev pub LocatedStream : Allowance → (offset : ℕ) → List ℕ → List Located → Type 0
 LocatedStream l offset bytes [] = bytes ≡ []
-LocatedStream l offset bytes (b ∷ bs) = (front rest : List ℕ) × (bytes ≡ front ++ rest) × TellsSpans l offset front b × LocatedStream l (offset + length front) rest bs
+LocatedStream l offset bytes (b ∷ bs) = (front rest : List ℕ) × (bytes ≡ front ++ rest)
+    × TellsSpans l offset front b × LocatedStream l (offset + length front) rest bs
 
 -- the geometries of the blobs
 abbrev pub geometries_of : List Located → List Tree
@@ -39,4 +40,6 @@ BeginLocated l bytes bs = (front rest : List ℕ) × (bytes ≡ front ++ rest) �
 abbrev pub ShowTo : Allowance → List ℕ → List ℕ → Type 0
 ShowTo l bytes text =
     ((bs : List Located) × LocatedStream l 0 bytes bs × (text ≡ lines_text bs))
-    ⊎ ((offset : ℕ) × (reason : Reason) × (bs : List Located) × StreamFault l bytes (geometries_of bs) offset reason × BeginLocated l bytes bs × (text ≡ lines_text bs))
+    ⊎ ((offset : ℕ) × (reason : Reason) × (bs : List Located)
+    × StreamFault l bytes (geometries_of bs) offset reason × BeginLocated l bytes bs
+    × (text ≡ lines_text bs))

@@ -20,7 +20,8 @@ use Rattle.twkb_table.specs.declared.reason.RowReason.{RowReason}
 abbrev pub PackTo : Style → Allowance → List Record → List ℕ → Type 0
 PackTo style l records bytes =
     ((gs : List Tree) × Named l records gs × (bytes ≡ canonical_stream style gs))
-    ⊎ ((number : ℕ) × (reason : RowReason) × (gs : List Tree) × AreComplete l records number reason gs × (bytes ≡ canonical_stream style gs))
+    ⊎ ((number : ℕ) × (reason : RowReason) × (gs : List Tree)
+    × AreComplete l records number reason gs × (bytes ≡ canonical_stream style gs))
 
 -- a text is packed to these bytes if its records are
 abbrev pub PackTextTo : Style → Allowance → List ℕ → List ℕ → Type 0
@@ -47,7 +48,8 @@ table_text gs = csvtext (table gs)
 abbrev pub UnpackTo : Allowance → List ℕ → List ℕ → Type 0
 UnpackTo l bytes text =
     ((gs : List Tree) × Stream l bytes gs × (text ≡ table_text gs))
-    ⊎ ((offset : ℕ) × (reason : Reason) × (gs : List Tree) × StreamFault l bytes gs offset reason × (text ≡ table_text gs))
+    ⊎ ((offset : ℕ) × (reason : Reason) × (gs : List Tree) × StreamFault l bytes gs offset reason
+    × (text ≡ table_text gs))
 
 -- At most one more geometry was begun, and bytes of its output are left to be written, so the
 -- output of no other geometry is whole.

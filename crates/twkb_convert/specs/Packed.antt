@@ -23,10 +23,12 @@ use Rattle.twkb_convert.specs.declared.report.Report.{Report}
 -- The records of the reader's text, fewer than 2 ^ 32, name geometries, and their canonical
 -- stream in this style was written after the bytes that the writer held. No device failed, and
 -- the reader is at its end.
-pub record Packed {R W : Type 0} (style : Style) (l : Allowance) (remaining : R → Option (List ℕ)) (contents : W → Option (List ℕ)) (reader : Tap R) (writer : Tap W)
+pub record Packed {R W : Type 0} (style : Style) (l : Allowance) (remaining : R → Option (List ℕ))
+    (contents : W → Option (List ℕ)) (reader : Tap R) (writer : Tap W)
     (report : Report) (read : Tap R) (written : Tap W) : Type 0 where
   pub table : WholeTable l (remaining (device_of reader))
-  pub appends : Appends (contents (device_of writer)) (contents (device_of written)) (canonical_stream style table.geometries)
+  pub appends : Appends (contents (device_of writer)) (contents (device_of written))
+      (canonical_stream style table.geometries)
   pub count : report.geometries ≡ length table.geometries
   pub bytes : report.bytes ≡ length (canonical_stream style table.geometries)
   pub end : IsAtEnd (remaining (device_of read))
@@ -34,7 +36,9 @@ pub record Packed {R W : Type 0} (style : Style) (l : Allowance) (remaining : R 
   pub writes : failures_of written ≡ failures_of writer
 
 -- The whole table was packed, and this is the work of measuring and writing its geometries.
-pub record PackedWith {R W : Type 0} (style : Style) (l : Allowance) (remaining : R → Option (List ℕ)) (contents : W → Option (List ℕ)) (reader : Tap R) (writer : Tap W)
+pub record PackedWith {R W : Type 0} (style : Style) (l : Allowance)
+    (remaining : R → Option (List ℕ)) (contents : W → Option (List ℕ)) (reader : Tap R)
+    (writer : Tap W)
     (report : Report) (work : Work) (read : Tap R) (written : Tap W) : Type 0 where
   pub packed : Packed style l remaining contents reader writer report read written
   pub work_of : IsWorkOf packed.table.geometries work
@@ -46,8 +50,10 @@ pub record PackedWith {R W : Type 0} (style : Style) (l : Allowance) (remaining 
 -- whole table the reader gave bytes until its tap's count of them was full. ReadDevice: a blob is
 -- cut only if the output would also be too long. WriteDevice: nothing. The other causes leave no
 -- blob cut.
-abbrev pub ExplainsPackingCause : Style → Allowance → Option (List ℕ) → ℕ → Cause → List Tree → List Tree → List ℕ → Type 0
-ExplainsPackingCause style l told given (cause.Row number reason) whole later front = (later ≡ []) × (front ≡ []) × IsRefusedAt l told number reason whole
+abbrev pub ExplainsPackingCause : Style → Allowance → Option (List ℕ) → ℕ → Cause → List Tree
+    → List Tree → List ℕ → Type 0
+ExplainsPackingCause style l told given (cause.Row number reason) whole later front = (later ≡ [])
+    × (front ≡ []) × IsRefusedAt l told number reason whole
 ExplainsPackingCause style l told given cause.TooManyRecords whole later front =
     (later ≡ []) × (front ≡ []) × HasTooMany l told whole
 ExplainsPackingCause style l told given (cause.Blob offset reason) whole later front = ⊥
@@ -56,15 +62,20 @@ ExplainsPackingCause style l told given cause.ReadDevice whole later front =
 ExplainsPackingCause style l told given cause.WriteDevice whole later front = ⊤
 ExplainsPackingCause style l told given cause.Memory whole later front = (later ≡ []) × (front ≡ [])
 ExplainsPackingCause style l told given cause.TooLong whole later front =
-    (2 ^ 62 < length (canonical_stream style (whole ++ later))) ⊎ ((later ≡ []) × (front ≡ []) × NamesAll l told whole × (2 ^ 64 - 1 ≤ given))
+    (2 ^ 62 < length (canonical_stream style (whole ++ later)))
+    ⊎ ((later ≡ []) × (front ≡ []) × NamesAll l told whole × (2 ^ 64 - 1 ≤ given))
 
 -- the cause says what the obstacle says, for any output that had sent nothing before
 abbrev pub ExplainsAs : TableObstacle → Cause → Type 0
-ExplainsAs why answer = (style : Style) (l : Allowance) (told : Option (List ℕ)) (given sent : ℕ) (whole later : List Tree) (front : List ℕ) → sent ≡ 0
-    → ExplainsWhy style l told given why sent whole later front → ExplainsPackingCause style l told given answer whole later front
+ExplainsAs why answer = (style : Style) (l : Allowance) (told : Option (List ℕ)) (given sent : ℕ)
+    (whole later : List Tree) (front : List ℕ) → sent ≡ 0
+    → ExplainsWhy style l told given why sent whole later front
+    → ExplainsPackingCause style l told given answer whole later front
 
 -- The writer took canonical blobs of geometries that may be written, and a prefix of the next blob.
-pub record StoppedPacking {R W : Type 0} (style : Style) (l : Allowance) (remaining : R → Option (List ℕ)) (contents : W → Option (List ℕ)) (reader : Tap R) (writer : Tap W)
+pub record StoppedPacking {R W : Type 0} (style : Style) (l : Allowance)
+    (remaining : R → Option (List ℕ)) (contents : W → Option (List ℕ)) (reader : Tap R)
+    (writer : Tap W)
     (fault : ConvertFault) (read : Tap R) (written : Tap W) : Type 0 where
   pub bytes : List ℕ
   pub part : FrontOfBlobs style l (remaining (device_of reader)) bytes
@@ -72,5 +83,6 @@ pub record StoppedPacking {R W : Type 0} (style : Style) (l : Allowance) (remain
   pub appends : Appends (contents (device_of writer)) (contents (device_of written)) bytes
   pub sent : fault.sent ≡ length bytes
   pub done : fault.done ≡ length part.whole
-  pub explains : ExplainsPackingCause style l (remaining (device_of reader)) (bytes_given read) fault.cause part.whole part.later part.front
+  pub explains : ExplainsPackingCause style l (remaining (device_of reader)) (bytes_given read)
+      fault.cause part.whole part.later part.front
   pub devices : DevicesTell Changes reader writer fault.cause read written

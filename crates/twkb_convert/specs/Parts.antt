@@ -15,7 +15,8 @@ RowsName l rows = NamesSome l (header ∷ rows)
 -- two lists of rows, each packed below a header, have outputs whose join is the output of both
 -- lists below one header
 abbrev pub PackApart : Style → Allowance → List Record → List Record → Type 0
-PackApart style l rows more = (a b : List ℕ) → PackTo style l (header ∷ rows) a → PackTo style l (header ∷ more) b → PackTo style l (header ∷ (rows ++ more)) (a ++ b)
+PackApart style l rows more = (a b : List ℕ) → PackTo style l (header ∷ rows) a
+    → PackTo style l (header ∷ more) b → PackTo style l (header ∷ (rows ++ more)) (a ++ b)
 
 -- a blob with its spans, moved by this many bytes
 abbrev pub moved : ℕ → Located → Located

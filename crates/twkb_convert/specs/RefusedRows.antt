@@ -11,7 +11,8 @@ use Rattle.twkb_table.specs.TableReading.{NameSoFar}
 
 -- The first records of the text are refused at the record with this number, for this reason, and
 -- these geometries are complete before it. If they are no records, the text has none.
-pub record IsRefusedAt (l : Allowance) (told : Option (List ℕ)) (number : ℕ) (reason : RowReason) (gs : List Tree) : Type 0 where
+pub record IsRefusedAt (l : Allowance) (told : Option (List ℕ)) (number : ℕ) (reason : RowReason)
+    (gs : List Tree) : Type 0 where
   pub seen : List Record
   pub begins : IfSome told (λ text. BeginWith text seen)
   pub none : seen ≡ [] → IfSome told (λ text. AreRecordsOf text [])

@@ -16,7 +16,8 @@ spaced (word ∷ next ∷ words) = (word ++ 32 ∷ []) ++ spaced (next ∷ words
 
 -- the words of a span: level, offset, kind, precision, metadata byte, length and points
 abbrev pub span_words : Span → List (List ℕ)
-span_words s = decimal s.level ∷ decimal s.offset ∷ word_of s.kind ∷ signed_decimal s.precision ∷ hex_of s.metadata ∷ decimal s.length ∷ decimal s.points ∷ []
+span_words s = decimal s.level ∷ decimal s.offset ∷ word_of s.kind ∷ signed_decimal s.precision
+    ∷ hex_of s.metadata ∷ decimal s.length ∷ decimal s.points ∷ []
 
 -- the line of a span, ended by LF
 abbrev pub span_line : Span → List ℕ

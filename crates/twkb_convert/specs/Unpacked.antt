@@ -9,10 +9,12 @@ use Rattle.twkb_convert.specs.declared.report.Report.{Report}
 use Rattle.twkb_convert.specs.declared.report.ConvertFault.{ConvertFault}
 
 -- All bytes of the reader are a stream, and the writer took the text of its table.
-abbrev pub Unpacked : {R W : Type 0} → Allowance → (R → Option (List ℕ)) → (W → Option (List ℕ)) → Tap R → Tap W → Report → Tap R → Tap W → Type 0
+abbrev pub Unpacked : {R W : Type 0} → Allowance → (R → Option (List ℕ)) → (W → Option (List ℕ))
+    → Tap R → Tap W → Report → Tap R → Tap W → Type 0
 Unpacked l = Listed (Stream l) table_text
 
 -- The bytes of the reader begin with blobs, and the writer took a prefix of the text of their
 -- table, with all rows of the first ones.
-abbrev pub StoppedUnpacking : {R W : Type 0} → Allowance → (R → Option (List ℕ)) → (W → Option (List ℕ)) → Tap R → Tap W → ConvertFault → Tap R → Tap W → Type 0
+abbrev pub StoppedUnpacking : {R W : Type 0} → Allowance → (R → Option (List ℕ))
+    → (W → Option (List ℕ)) → Tap R → Tap W → ConvertFault → Tap R → Tap W → Type 0
 StoppedUnpacking l = StoppedListing (Stream l) (λ trees. trees) table_text l

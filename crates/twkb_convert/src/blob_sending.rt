@@ -5,7 +5,8 @@ ghost use Rattle.twkb_io.specs.Taps.{has_unflushed};
 ghost use Rattle.twkb_blob.specs.Readers.{has_ended, is_spent};
 ghost use Rattle.twkb_convert.specs.BlobReading.{given, is_input_spent, limits_of};
 ghost use Rattle.twkb_convert.specs.Listings.{blobs_text, listing_text};
-ghost use Rattle.twkb_convert.specs.BlobSending.{CutText, EndsBlobs, Follows, IsEnded, IsReady, SentBlob, SentText, StopsBlob, StopsRead, UnlessOutput};
+ghost use Rattle.twkb_convert.specs.BlobSending.{CutText, EndsBlobs, Follows, IsEnded, IsReady, SentBlob, SentText};
+ghost use Rattle.twkb_convert.specs.BlobSending.{StopsBlob, StopsRead, UnlessOutput};
 
 use crate::blob_text::BlobText;
 use crate::obstacle::{StreamObstacle, Unfinished};
@@ -29,12 +30,16 @@ pub(crate) fn send_listing_and_flush<R: Read, W: Write, T: BlobText>(
     requires start { given reader.old ≡ 0 }
     requires limits { limits_of reader.old ≡ limits }
     requires output { Outputs.is_spent output.old ≡ false }
-    ensures ok { IfOk result (λ done. SentText (listing_text T.layout) W.contents reader.old output.old output.new done) }
-    ensures unfailed { IfOk result (λ done. Follows reader.old reader.new false × IsEnded R.remaining reader.old reader.new) }
-    ensures err { IfErr result (λ stop. CutText (listing_text T.layout) W.contents reader.old output.old reader.new output.new stop) }
+    ensures ok { IfOk result (λ done. SentText (listing_text T.layout) W.contents reader.old
+        output.old output.new done) }
+    ensures unfailed { IfOk result (λ done. Follows reader.old reader.new false
+        × IsEnded R.remaining reader.old reader.new) }
+    ensures err { IfErr result (λ stop. CutText (listing_text T.layout) W.contents reader.old
+        output.old reader.new output.new stop) }
     ensures stops { IfErr result (λ stop. StopsRead reader.old stop.why reader.new) }
     ensures flushed { OnOk result (has_unflushed (Outputs.output_tap output.new).now ≡ false) }
-    ensures stop_flushed { IfErr result (λ stop. UnlessOutput stop.why (has_unflushed (Outputs.output_tap output.new).now ≡ false)) }
+    ensures stop_flushed { IfErr result (λ stop. UnlessOutput stop.why
+        (has_unflushed (Outputs.output_tap output.new).now ≡ false)) }
 {
     let done = match send_listing(text, alloc, limits, reader, output) {
         Ok(done) => done,
@@ -71,9 +76,12 @@ fn send_listing<R: Read, W: Write, T: BlobText>(
     requires start { given reader.old ≡ 0 }
     requires limits { limits_of reader.old ≡ limits }
     requires output { Outputs.is_spent output.old ≡ false }
-    ensures ok { IfOk result (λ done. SentText (listing_text T.layout) W.contents reader.old output.old output.new done) }
-    ensures unfailed { IfOk result (λ done. Follows reader.old reader.new false × IsEnded R.remaining reader.old reader.new) }
-    ensures err { IfErr result (λ stop. CutText (listing_text T.layout) W.contents reader.old output.old reader.new output.new stop) }
+    ensures ok { IfOk result (λ done. SentText (listing_text T.layout) W.contents reader.old
+        output.old output.new done) }
+    ensures unfailed { IfOk result (λ done. Follows reader.old reader.new false
+        × IsEnded R.remaining reader.old reader.new) }
+    ensures err { IfErr result (λ stop. CutText (listing_text T.layout) W.contents reader.old
+        output.old reader.new output.new stop) }
     ensures stops { IfErr result (λ stop. StopsRead reader.old stop.why reader.new) }
 {
     match output.put(T::first_line()) {
@@ -100,8 +108,10 @@ fn send_blobs<R: Read, W: Write, T: BlobText>(
     requires limits { limits_of reader.old ≡ limits }
     requires output { Outputs.is_spent output.old ≡ false }
     ensures ok { IfOk result (λ done. SentText (blobs_text T.layout) W.contents reader.old output.old output.new done) }
-    ensures unfailed { IfOk result (λ done. Follows reader.old reader.new false × IsEnded R.remaining reader.old reader.new) }
-    ensures err { IfErr result (λ stop. CutText (blobs_text T.layout) W.contents reader.old output.old reader.new output.new stop) }
+    ensures unfailed { IfOk result (λ done. Follows reader.old reader.new false
+        × IsEnded R.remaining reader.old reader.new) }
+    ensures err { IfErr result (λ stop. CutText (blobs_text T.layout) W.contents reader.old
+        output.old reader.new output.new stop) }
     ensures stops { IfErr result (λ stop. StopsRead reader.old stop.why reader.new) }
 {
     let mut session = Session::new(alloc, limits);
@@ -122,8 +132,10 @@ fn send_each<R: Read, W: Write, T: BlobText>(
     requires session { IsReady reader.old session.old }
     requires output { Outputs.is_spent output.old ≡ false }
     ensures ok { IfOk result (λ done. SentText (blobs_text T.layout) W.contents reader.old output.old output.new done) }
-    ensures unfailed { IfOk result (λ done. Follows reader.old reader.new false × IsEnded R.remaining reader.old reader.new) }
-    ensures err { IfErr result (λ stop. CutText (blobs_text T.layout) W.contents reader.old output.old reader.new output.new stop) }
+    ensures unfailed { IfOk result (λ done. Follows reader.old reader.new false
+        × IsEnded R.remaining reader.old reader.new) }
+    ensures err { IfErr result (λ stop. CutText (blobs_text T.layout) W.contents reader.old
+        output.old reader.new output.new stop) }
     ensures stops { IfErr result (λ stop. StopsRead reader.old stop.why reader.new) }
 {
     twkb_grammar::laws::some_byte();
@@ -149,12 +161,14 @@ fn send_blob<R: Read, W: Write, T: BlobText>(
     requires input { is_input_spent reader.old ≡ false }
     requires session { IsReady reader.old session.old }
     requires output { Outputs.is_spent output.old ≡ false }
-    ensures more { IfOk result (λ found. found ≡ true → SentBlob T.layout W.contents reader.old output.old reader.new output.new) }
+    ensures more { IfOk result (λ found. found ≡ true
+        → SentBlob T.layout W.contents reader.old output.old reader.new output.new) }
     ensures fresh { IfOk result (λ found. is_spent reader.new ≡ false) }
     ensures going_on { IfOk result (λ found. found ≡ true → has_ended reader.new ≡ false) }
     ensures input { IfOk result (λ found. found ≡ true → is_input_spent reader.new ≡ false) }
     ensures session { IfOk result (λ found. found ≡ true → IsReady reader.new session.new) }
-    ensures end { IfOk result (λ found. found ≡ false → EndsBlobs R.remaining reader.old reader.new × (output.new ≡ output.old)) }
+    ensures end { IfOk result (λ found. found ≡ false → EndsBlobs R.remaining reader.old reader.new
+        × (output.new ≡ output.old)) }
     ensures follows { IfOk result (λ found. Follows reader.old reader.new false) }
     ensures err { IfErr result (λ why. StopsBlob T.layout W.contents reader.old output.old why reader.new output.new) }
     ensures stops { IfErr result (λ why. StopsRead reader.old why reader.new) }

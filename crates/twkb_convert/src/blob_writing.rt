@@ -38,8 +38,10 @@ pub(crate) fn write_blob<W: Write>(
     output: &mut Output<'_, W>,
     work: &mut Work,
 ) -> Result<(), EncodeFault<OutFault>>
-    ensures ok { OnOk result ((g : Tree) → IsTree g → rows 0 g ≡ flat.now → WritesBlob style W.contents g output.old work.old output.new work.new) }
-    ensures err { IfErr result (λ fault. (g : Tree) → IsTree g → rows 0 g ≡ flat.now → CutsBlob style W.contents g output.old fault output.new) }
+    ensures ok { OnOk result ((g : Tree) → IsTree g → rows 0 g ≡ flat.now
+        → WritesBlob style W.contents g output.old work.old output.new work.new) }
+    ensures err { IfErr result (λ fault. (g : Tree) → IsTree g → rows 0 g ≡ flat.now
+        → CutsBlob style W.contents g output.old fault output.new) }
 {
     twkb_tree::laws::nodes_are_rows();
     twkb_writer::laws::one_size_each();

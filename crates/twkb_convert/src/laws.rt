@@ -31,29 +31,35 @@ pub fn unpack_of_pack()
 /// Packing an unpacked stream gives the canonical stream of its geometries.
 pub fn pack_of_unpack()
     ensures { (style : Style) (l : Allowance) (bytes text packed : List ℕ) (gs : List Tree) → IsAllowance l
-        → Stream l bytes gs → UnpackTo l bytes text → PackTextTo style l text packed → packed ≡ canonical_stream style gs }
+        → Stream l bytes gs → UnpackTo l bytes text → PackTextTo style l text packed
+        → packed ≡ canonical_stream style gs }
 {}
 
 /// Any records have exactly one packed output in each style.
 pub fn one_packed_output()
-    ensures some { (style : Style) (l : Allowance) (records : List Record) → IsAllowance l → (bytes : List ℕ) × PackTo style l records bytes }
-    ensures one { (style : Style) (l : Allowance) (records : List Record) (a b : List ℕ) → IsAllowance l → PackTo style l records a → PackTo style l records b → a ≡ b }
+    ensures some { (style : Style) (l : Allowance) (records : List Record) → IsAllowance l
+        → (bytes : List ℕ) × PackTo style l records bytes }
+    ensures one { (style : Style) (l : Allowance) (records : List Record) (a b : List ℕ)
+        → IsAllowance l → PackTo style l records a → PackTo style l records b → a ≡ b }
 {}
 
 /// The refused record that `pack` reports is the first one refused in the whole table, and the
 /// geometries that it reports are those complete before that record. So the records of the whole
 /// table name no geometries.
 pub fn refused_table()
-    ensures complete { (l : Allowance) (text : List ℕ) (records : List Record) (number : ℕ) (reason : RowReason) (gs : List Tree)
+    ensures complete { (l : Allowance) (text : List ℕ) (records : List Record) (number : ℕ)
+        (reason : RowReason) (gs : List Tree)
         → IsRefusedText l text records number reason gs → AreComplete l records number reason gs }
-    ensures none { (l : Allowance) (text : List ℕ) (records : List Record) (number : ℕ) (reason : RowReason) (gs : List Tree)
+    ensures none { (l : Allowance) (text : List ℕ) (records : List Record) (number : ℕ)
+        (reason : RowReason) (gs : List Tree)
         → IsRefusedText l text records number reason gs → NamesNone l records }
 {}
 
 /// The packed output of a table with a refused record is the canonical stream of the geometries
 /// that are complete before that record.
 pub fn refused_output()
-    ensures { (style : Style) (l : Allowance) (text : List ℕ) (records : List Record) (number : ℕ) (reason : RowReason) (gs : List Tree)
+    ensures { (style : Style) (l : Allowance) (text : List ℕ) (records : List Record) (number : ℕ)
+        (reason : RowReason) (gs : List Tree)
         → IsRefusedText l text records number reason gs → PackTo style l records (canonical_stream style gs) }
 {}
 
@@ -66,33 +72,40 @@ pub fn pack_front()
 
 /// Any bytes have exactly one unpacked output.
 pub fn one_unpacked_output()
-    ensures some { (l : Allowance) (bytes : List ℕ) → IsAllowance l → AreBytes bytes → (text : List ℕ) × UnpackTo l bytes text }
+    ensures some { (l : Allowance) (bytes : List ℕ) → IsAllowance l → AreBytes bytes
+        → (text : List ℕ) × UnpackTo l bytes text }
     ensures one { (l : Allowance) (bytes a b : List ℕ) → UnpackTo l bytes a → UnpackTo l bytes b → a ≡ b }
 {}
 
 /// The text that `unpack` has written when it stops, a prefix of the table of the first blobs, is a
 /// prefix of the output for all bytes.
 pub fn unpack_front()
-    ensures { (l : Allowance) (all bytes text written : List ℕ) (gs : List Tree) → BeginsWith (Some all) bytes → Stream l bytes gs
+    ensures { (l : Allowance) (all bytes text written : List ℕ) (gs : List Tree)
+        → BeginsWith (Some all) bytes → Stream l bytes gs
         → BeginsWith (Some (table_text gs)) written → UnpackTo l all text → BeginsWith (Some text) written }
 {}
 
 /// A stream has exactly one list of blobs with their spans.
 pub fn one_located_stream()
-    ensures some { (l : Allowance) (offset : ℕ) (bytes : List ℕ) (gs : List Tree) → Stream l bytes gs → (bs : List Located) × LocatedStream l offset bytes bs × (geometries_of bs ≡ gs) }
-    ensures one { (l : Allowance) (offset : ℕ) (bytes : List ℕ) (bs cs : List Located) → LocatedStream l offset bytes bs → LocatedStream l offset bytes cs → bs ≡ cs }
+    ensures some { (l : Allowance) (offset : ℕ) (bytes : List ℕ) (gs : List Tree)
+        → Stream l bytes gs → (bs : List Located) × LocatedStream l offset bytes bs
+        × (geometries_of bs ≡ gs) }
+    ensures one { (l : Allowance) (offset : ℕ) (bytes : List ℕ) (bs cs : List Located)
+        → LocatedStream l offset bytes bs → LocatedStream l offset bytes cs → bs ≡ cs }
 {}
 
 /// Any bytes have exactly one output of `show`.
 pub fn one_shown_output()
-    ensures some { (l : Allowance) (bytes : List ℕ) → IsAllowance l → AreBytes bytes → (text : List ℕ) × ShowTo l bytes text }
+    ensures some { (l : Allowance) (bytes : List ℕ) → IsAllowance l → AreBytes bytes
+        → (text : List ℕ) × ShowTo l bytes text }
     ensures one { (l : Allowance) (bytes a b : List ℕ) → ShowTo l bytes a → ShowTo l bytes b → a ≡ b }
 {}
 
 /// The text that `show` has written when it stops, a prefix of the lines of the first blobs, is a
 /// prefix of the output for all bytes.
 pub fn show_front()
-    ensures { (l : Allowance) (all bytes text written : List ℕ) (bs : List Located) → BeginsWith (Some all) bytes → LocatedStream l 0 bytes bs
+    ensures { (l : Allowance) (all bytes text written : List ℕ) (bs : List Located)
+        → BeginsWith (Some all) bytes → LocatedStream l 0 bytes bs
         → BeginsWith (Some (lines_text bs)) written → ShowTo l all text → BeginsWith (Some text) written }
 {}
 
@@ -102,8 +115,10 @@ pub fn show_front()
 /// of the rows of both below one header. A table that names geometries may be cut for this before
 /// any row of depth 0.
 pub fn packed_parts()
-    ensures joined { (style : Style) (l : Allowance) (rows more : List Record) → IsAllowance l → RowsName l rows → RowsName l more → PackApart style l rows more }
-    ensures cut { (style : Style) (l : Allowance) (rows more : List Record) → IsAllowance l → BeginAtRoot more → RowsName l (rows ++ more) → PackApart style l rows more }
+    ensures joined { (style : Style) (l : Allowance) (rows more : List Record) → IsAllowance l
+        → RowsName l rows → RowsName l more → PackApart style l rows more }
+    ensures cut { (style : Style) (l : Allowance) (rows more : List Record) → IsAllowance l
+        → BeginAtRoot more → RowsName l (rows ++ more) → PackApart style l rows more }
 {}
 
 /// Bytes that begin with a stream may be unpacked in two parts: the output is the stream's table,
@@ -116,7 +131,10 @@ pub fn unpacked_parts()
 /// Bytes that begin with a stream may be shown in two parts: the output is the stream's lines, and
 /// then those of the other bytes, with the stream's length added to each offset.
 pub fn shown_parts()
-    ensures blobs { (l : Allowance) (a b : List ℕ) (bs cs : List Located) → LocatedStream l 0 a bs → LocatedStream l 0 b cs → LocatedStream l 0 (a ++ b) (bs ++ all_moved (length a) cs) }
-    ensures text { (l : Allowance) (a b : List ℕ) (gs : List Tree) (first second : List ℕ) → Stream l a gs → ShowTo l a first
-        → ShowTo l b second → (later : List ℕ) × AreMovedLines (length a) second later × ShowTo l (a ++ b) (first ++ later) }
+    ensures blobs { (l : Allowance) (a b : List ℕ) (bs cs : List Located) → LocatedStream l 0 a bs
+        → LocatedStream l 0 b cs → LocatedStream l 0 (a ++ b) (bs ++ all_moved (length a) cs) }
+    ensures text { (l : Allowance) (a b : List ℕ) (gs : List Tree) (first second : List ℕ)
+        → Stream l a gs → ShowTo l a first
+        → ShowTo l b second → (later : List ℕ) × AreMovedLines (length a) second later
+        × ShowTo l (a ++ b) (first ++ later) }
 {}

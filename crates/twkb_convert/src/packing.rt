@@ -26,8 +26,10 @@ pub fn pack<R: Read, W: Write>(
     writer: &mut Tap<W>,
     limits: Limits,
 ) -> Result<Report, ConvertFault>
-    ensures ok { IfOk result (λ report. Packed Full limits R.remaining W.contents reader.old writer.old report reader.new writer.new) }
-    ensures err { IfErr result (λ fault. StoppedPacking Full limits R.remaining W.contents reader.old writer.old fault reader.new writer.new) }
+    ensures ok { IfOk result (λ report. Packed Full limits R.remaining W.contents reader.old
+        writer.old report reader.new writer.new) }
+    ensures err { IfErr result (λ fault. StoppedPacking Full limits R.remaining W.contents
+        reader.old writer.old fault reader.new writer.new) }
     ensures flushed { IsFlushedButForDevices result writer.new }
 {
     pack_styled(alloc, reader, writer, limits, Style::Full)
@@ -49,8 +51,10 @@ pub fn pack_styled<R: Read, W: Write>(
     limits: Limits,
     style: Style,
 ) -> Result<Report, ConvertFault>
-    ensures ok { IfOk result (λ report. Packed style limits R.remaining W.contents reader.old writer.old report reader.new writer.new) }
-    ensures err { IfErr result (λ fault. StoppedPacking style limits R.remaining W.contents reader.old writer.old fault reader.new writer.new) }
+    ensures ok { IfOk result (λ report. Packed style limits R.remaining W.contents reader.old
+        writer.old report reader.new writer.new) }
+    ensures err { IfErr result (λ fault. StoppedPacking style limits R.remaining W.contents
+        reader.old writer.old fault reader.new writer.new) }
     ensures flushed { IsFlushedButForDevices result writer.new }
 {
     match pack_counted(alloc, reader, writer, limits, style) {
@@ -68,8 +72,10 @@ pub fn pack_counted<R: Read, W: Write>(
     limits: Limits,
     style: Style,
 ) -> Result<(Report, Work), ConvertFault>
-    ensures ok { IfOk result (λ done. PackedWith style limits R.remaining W.contents reader.old writer.old done.0 done.1 reader.new writer.new) }
-    ensures err { IfErr result (λ fault. StoppedPacking style limits R.remaining W.contents reader.old writer.old fault reader.new writer.new) }
+    ensures ok { IfOk result (λ done. PackedWith style limits R.remaining W.contents reader.old
+        writer.old done.0 done.1 reader.new writer.new) }
+    ensures err { IfErr result (λ fault. StoppedPacking style limits R.remaining W.contents
+        reader.old writer.old fault reader.new writer.new) }
     ensures flushed { IsFlushedButForDevices result writer.new }
 {
     let reads_failed = reader.failures();
@@ -124,7 +130,8 @@ fn packed(tally: Tally, sent: u64) -> (Report, Work)
 fn packing_cause(why: TableObstacle, has_read_failed: bool) -> Cause
     ensures devices { IsDeviceCause has_read_failed (is_write why) result }
     ensures explains { ExplainsAs why result }
-    ensures output { is_output why ≡ true → (result ≡ Cause.WriteDevice) ⊎ (result ≡ Cause.ReadDevice) ⊎ (result ≡ Cause.TooLong) }
+    ensures output { is_output why ≡ true → (result ≡ Cause.WriteDevice)
+        ⊎ (result ≡ Cause.ReadDevice) ⊎ (result ≡ Cause.TooLong) }
 {
     match why {
         TableObstacle::Output(OutFault::Write | OutFault::Stuck) => Cause::WriteDevice,

@@ -31,7 +31,8 @@ pub(crate) fn send_table<R: Read, W: Write>(
     output: &mut Output<'_, W>,
 ) -> Result<Tally, Unfinished<TableObstacle>>
     requires fresh { is_spent output.old ≡ false }
-    ensures sends { SendsTable style limits W.contents (R.remaining (device_of tap.old)) (bytes_given tap.new) output.old output.new result }
+    ensures sends { SendsTable style limits W.contents (R.remaining (device_of tap.old))
+        (bytes_given tap.new) output.old output.new result }
 {
     let mut table = TableReader::new(alloc, tap, limits);
     let mut flat = Flat::new(alloc);
@@ -79,7 +80,8 @@ fn send_next<R: Read, W: Write>(
     output: &mut Output<'_, W>,
     work: &mut Work,
 ) -> Result<bool, TableObstacle>
-    ensures sends { SendsFrom style R.remaining W.contents table.old output.old work.old table.new output.new work.new result }
+    ensures sends { SendsFrom style R.remaining W.contents table.old output.old work.old table.new
+        output.new work.new result }
 {
     match table.next_flat(flat) {
         Ok(true) => {}

@@ -26,8 +26,10 @@ pub fn show<R: Read, W: Write>(
     writer: &mut Tap<W>,
     limits: Limits,
 ) -> Result<Report, ConvertFault>
-    ensures ok { IfOk result (λ report. Shown limits R.remaining W.contents reader.old writer.old report reader.new writer.new) }
-    ensures err { IfErr result (λ fault. StoppedShowing limits R.remaining W.contents reader.old writer.old fault reader.new writer.new) }
+    ensures ok { IfOk result (λ report. Shown limits R.remaining W.contents reader.old writer.old
+        report reader.new writer.new) }
+    ensures err { IfErr result (λ fault. StoppedShowing limits R.remaining W.contents reader.old
+        writer.old fault reader.new writer.new) }
     ensures flushed { IsFlushed result writer.new }
 {
     let mut lines = HeaderLines::new(alloc);

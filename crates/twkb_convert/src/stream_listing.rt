@@ -24,8 +24,11 @@ pub(crate) fn list_stream<R: Read, W: Write, T: BlobText>(
     writer: &mut Tap<W>,
     limits: Limits,
 ) -> Result<Report, ConvertFault>
-    ensures ok { IfOk result (λ report. Listed (LocatedStream limits 0) (listing_text T.layout) R.remaining W.contents reader.old writer.old report reader.new writer.new) }
-    ensures err { IfErr result (λ fault. StoppedListing (LocatedStream limits 0) geometries_of (listing_text T.layout) limits R.remaining W.contents reader.old writer.old fault reader.new writer.new) }
+    ensures ok { IfOk result (λ report. Listed (LocatedStream limits 0) (listing_text T.layout)
+        R.remaining W.contents reader.old writer.old report reader.new writer.new) }
+    ensures err { IfErr result (λ fault. StoppedListing (LocatedStream limits 0) geometries_of
+        (listing_text T.layout) limits R.remaining W.contents reader.old writer.old fault reader.new
+        writer.new) }
     ensures flushed { IsFlushed result writer.new }
 {
     let mut output = Output::new(writer);

@@ -24,10 +24,12 @@ pub(crate) fn send_table_and_flush<R: Read, W: Write>(
     output: &mut Output<'_, W>,
 ) -> Result<Tally, Unfinished<TableObstacle>>
     requires fresh { is_spent output.old ≡ false }
-    ensures sends { SendsTable style limits W.contents (R.remaining (device_of tap.old)) (bytes_given tap.new) output.old output.new result }
+    ensures sends { SendsTable style limits W.contents (R.remaining (device_of tap.old))
+        (bytes_given tap.new) output.old output.new result }
     ensures end { OnOk result (IsAtEnd (R.remaining (device_of tap.new))) }
     ensures flushed { OnOk result (has_unflushed (output_tap output.new).now ≡ false) }
-    ensures stop_flushed { IfErr result (λ stop. UnlessOutput stop.why (has_unflushed (output_tap output.new).now ≡ false)) }
+    ensures stop_flushed { IfErr result (λ stop. UnlessOutput stop.why
+        (has_unflushed (output_tap output.new).now ≡ false)) }
 {
     let tally = match send_table_and_drain(alloc, tap, limits, style, output) {
         Ok(tally) => tally,
@@ -63,7 +65,8 @@ fn send_table_and_drain<R: Read, W: Write>(
     output: &mut Output<'_, W>,
 ) -> Result<Tally, Unfinished<TableObstacle>>
     requires fresh { is_spent output.old ≡ false }
-    ensures sends { SendsTable style limits W.contents (R.remaining (device_of tap.old)) (bytes_given tap.new) output.old output.new result }
+    ensures sends { SendsTable style limits W.contents (R.remaining (device_of tap.old))
+        (bytes_given tap.new) output.old output.new result }
     ensures end { OnOk result (IsAtEnd (R.remaining (device_of tap.new))) }
 {
     let tally = match send_table(alloc, tap, limits, style, output) {

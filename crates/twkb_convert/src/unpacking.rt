@@ -23,8 +23,10 @@ pub fn unpack<R: Read, W: Write>(
     writer: &mut Tap<W>,
     limits: Limits,
 ) -> Result<Report, ConvertFault>
-    ensures ok { IfOk result (λ report. Unpacked limits R.remaining W.contents reader.old writer.old report reader.new writer.new) }
-    ensures err { IfErr result (λ fault. StoppedUnpacking limits R.remaining W.contents reader.old writer.old fault reader.new writer.new) }
+    ensures ok { IfOk result (λ report. Unpacked limits R.remaining W.contents reader.old writer.old
+        report reader.new writer.new) }
+    ensures err { IfErr result (λ fault. StoppedUnpacking limits R.remaining W.contents reader.old
+        writer.old fault reader.new writer.new) }
     ensures flushed { IsFlushed result writer.new }
 {
     let mut rows = TableRows::new(alloc);

@@ -23,14 +23,19 @@ use Rattle.twkb_engine.specs.declared.engine.Engine.{Engine}
 use Rattle.twkb_engine.proofs.Collections.{groups_length}
 
 -- the rows take what the next item brings
-pub admitted : (rs : List Row) (d : Engine) (r : Role) (n : ℕ) (bytes : List ℕ) → IsAlive rs d → IsNext r d → Gives r n bytes → IsFree r n d → Admits (brings r n d) rs
-admitted rs d r n bytes alive says gives free = somewhere_admitted d.limits d.allowed (sums_of d) (outline_in d) rs r n bytes (∥∥₁_map alive (λ s. (s.1.front, s.1.outlined))) says gives free
+pub admitted : (rs : List Row) (d : Engine) (r : Role) (n : ℕ) (bytes : List ℕ) → IsAlive rs d
+    → IsNext r d → Gives r n bytes → IsFree r n d → Admits (brings r n d) rs
+admitted rs d r n bytes alive says gives free = somewhere_admitted d.limits d.allowed (sums_of d)
+    (outline_in d) rs r n bytes (∥∥₁_map alive (λ s. (s.1.front, s.1.outlined))) says gives free
 
 head_prop : (depth : ℕ) (id : Option ℤ) (h : place.Head) → IsProp (IsHeadAt depth id h)
 head_prop depth id h = Prim.hlevel (ℤ_set, props)
 
 -- its header is that of the geometry in the open collections
-pub alive_placed : (rs : List Row) (d : Engine) (item : NextItem) → d.next ≡ item → (let gs = groups_of d.collections in (IsPlaced item d → IsHeadAt (length gs) (id_in gs) d.head) → IsAlive rs d → IsHeadAt (length gs) (id_in gs) d.head)
+pub alive_placed : (rs : List Row) (d : Engine) (item : NextItem) → d.next ≡ item
+    → (let gs = groups_of d.collections in (IsPlaced item d
+    → IsHeadAt (length gs) (id_in gs) d.head) → IsAlive rs d
+    → IsHeadAt (length gs) (id_in gs) d.head)
 alive_placed rs d item is by alive =
     let gs = groups_of d.collections in
     ∥∥₁_elim alive (head_prop (length gs) (id_in gs) d.head) (λ s. by (subst (λ n. IsPlaced n d) is s.1.placed))
@@ -38,4 +43,11 @@ alive_placed rs d item is by alive =
 -- one collection more may be open
 pub alive_room : (rs : List Row) (d : Engine) → IsAlive rs d → length d.collections < depth_cap
 alive_room rs d alive =
-    ∥∥₁_elim alive (Prim.hlevel props) (λ s. let cap = d.allowed.nest_cap in omega (arith, cap, outlined_depth d.limits s.1.front (sums_of d) (outline_in d) rs s.1.outlined, groups_length [] d.collections))
+    ∥∥₁_elim alive (Prim.hlevel props) (λ s. let cap = d.allowed.nest_cap in
+    omega (
+      arith,
+      cap,
+      outlined_depth d.limits s.1.front (sums_of d) (outline_in d) rs
+          s.1.outlined,
+      groups_length [] d.collections,
+    ))

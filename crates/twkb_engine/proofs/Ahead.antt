@@ -1,5 +1,6 @@
 -- An engine after a header that is complete at the start of the bytes.
-use Rattle.std.proofs.Common.{◌≡◌, ℕ, ◌+◌, ◌-◌, ◌<◌, ◌≤◌, ◌%◌, ◌/◌, List, [], ◌∷◌, ◌++◌, append_assoc, append-nil, length, take, drop, false, ◌||◌, nat_eq, nat_lt, refl, sym, ap, subst, ◌∙◌, None, arith}
+use Rattle.std.proofs.Common.{◌≡◌, ℕ, ◌+◌, ◌-◌, ◌<◌, ◌≤◌, ◌%◌, ◌/◌, List, [], ◌∷◌, ◌++◌, append_assoc, append-nil}
+use Rattle.std.proofs.Common.{length, take, drop, false, ◌||◌, nat_eq, nat_lt, refl, sym, ap, subst, ◌∙◌, None, arith}
 use Rattle.std.specs.Prelude.{ℤ, pos, get_or, if◌then◌else◌}
 use Rattle.std.proofs.Math.Seq.{take-suc}
 use Rattle.std.proofs.lemmas.List.{length-drop, take_rest, drop-drop}
@@ -38,8 +39,18 @@ use Rattle.twkb_engine.proofs.Parts.{point_allowed, sums_as, add_zero}
 use Rattle.twkb_engine.proofs.Steps.{open_noted, all_whole, noted_at, stands_whole}
 
 -- no bytes lead nowhere
-pub leads_nowhere : {S : Type 0} (holds : S → Notes → Type 0) (rs : List Row) (d : Engine) (old : S) → LeadsOn holds rs d old [] rs d old
-leads_nowhere holds rs d old = λ front s. (record { front = s.front; whole = append-nil front ∙ s.whole; outlined = s.outlined; placed = s.placed; spelled = s.spelled }, λ h. h)
+pub leads_nowhere : {S : Type 0} (holds : S → Notes → Type 0) (rs : List Row) (d : Engine) (old : S)
+    → LeadsOn holds rs d old [] rs d old
+leads_nowhere holds rs d old = λ front s. (
+  record {
+    front = s.front;
+    whole = append-nil front ∙ s.whole;
+    outlined = s.outlined;
+    placed = s.placed;
+    spelled = s.spelled;
+  },
+  λ h. h,
+)
 
 -- a header is of a kind that is shown as the code shows it
 pub kind_shown : (k : machine.Kind) → kind_of (shown k) ≡ k
@@ -68,12 +79,15 @@ step_precision (OnMetadata k p) = p
 step_precision _ = pos 0
 
 -- its header is that of the geometry in the open collections, whatever comes next
-pub any_placed : (n : NextItem) (e : Engine) → (let gs = groups_of e.collections in IsHeadAt (length gs) (id_in gs) e.head) → IsPlaced n e
+pub any_placed : (n : NextItem) (e : Engine) → (let gs = groups_of e.collections in
+    IsHeadAt (length gs) (id_in gs) e.head) → IsPlaced n e
 any_placed next.TypeByte e p = tt
 any_placed next.MetadataByte e p = tt
 any_placed _ e p = p
 
-module _ (d : Engine) (rs : List Row) (rest : List ℕ) (h : FrontHeader) (is : d.next ≡ next.TypeByte) (alone : held_in d ≡ []) (found : HeaderInFront rest h) (low : get_or rest 0 0 < 256) (front : List ℕ) (s : StandsAt front rs d) where
+module _ (d : Engine) (rs : List Row) (rest : List ℕ) (h : FrontHeader)
+    (is : d.next ≡ next.TypeByte) (alone : held_in d ≡ []) (found : HeaderInFront rest h)
+    (low : get_or rest 0 0 < 256) (front : List ℕ) (s : StandsAt front rs d) where
   abbrev kind_here : machine.Kind
   kind_here = kind_at (h.type_byte % 16)
 
@@ -90,15 +104,19 @@ module _ (d : Engine) (rs : List Row) (rest : List ℕ) (h : FrontHeader) (is : 
   told_type start = note_header (start + d.bytes) d.points h.type_byte (notes_in start s.outlined)
 
   -- after its type byte
-  after_type : NotedOutline d.limits (s.front ++ h.type_byte ∷ []) sums_there (groups_of d.collections, OnMetadata kind_here precision_here) rs told_type
+  after_type : NotedOutline d.limits (s.front ++ h.type_byte ∷ []) sums_there
+      (groups_of d.collections, OnMetadata kind_here precision_here) rs told_type
   after_type =
       noted_item d.limits s.front (sums_of d) (groups_of d.collections, OnHeader) rs _ type_item
-      (subst (λ n. NotedOutline d.limits s.front (sums_of d) (groups_of d.collections, step_at n d) rs (λ start. notes_in start s.outlined)) is (noted_at s))
-      refl (subst (λ x. x < 256) (sym found.type_byte) low, refl) (type_free (h.type_byte % 16) found.some_type found.known_type)
+      (subst (λ n. NotedOutline d.limits s.front (sums_of d) (groups_of d.collections, step_at n d)
+      rs (λ start. notes_in start s.outlined)) is (noted_at s))
+      refl (subst (λ x. x < 256) (sym found.type_byte) low, refl)
+      (type_free (h.type_byte % 16) found.some_type found.known_type)
 
   type_front : s.front ++ h.type_byte ∷ [] ≡ front ++ take 1 rest
   type_front =
-      let byte = take-suc rest 0 0 (let two = found.two in omega (arith, two)) ∙ ap (λ b. b ∷ []) (sym found.type_byte) in
+      let byte = take-suc rest 0 0 (let two = found.two in omega (arith, two))
+      ∙ ap (λ b. b ∷ []) (sym found.type_byte) in
       λ i. sym (all_whole front rs d alone s) i ++ sym byte i
 
   -- there may be no memory for its span
@@ -107,16 +125,23 @@ module _ (d : Engine) (rs : List Row) (rest : List ℕ) (h : FrontHeader) (is : 
     used = 1;
     some = omega arith;
     within = (let two = found.two in omega (arith, two));
-    part = subst (IsJudged d.limits) type_front (outlined_judged d.limits (s.front ++ h.type_byte ∷ []) _ (groups_of d.collections, OnMetadata kind_here precision_here) rs after_type.outlined tt);
+    part = subst (IsJudged d.limits) type_front (outlined_judged d.limits
+        (s.front ++ h.type_byte ∷ []) _ (
+          groups_of d.collections,
+          OnMetadata kind_here precision_here,
+        ) rs after_type.outlined tt);
   }
 
-  module _ (low_meta : get_or rest 1 0 < 256) (points : ℕ) (announced : points ≡ (if announces_point (kind_number kind_here) h.metadata then 1 else 0)) (few : points ≤ d.limits.points - d.points) where
+  module _ (low_meta : get_or rest 1 0 < 256) (points : ℕ)
+      (announced : points ≡ (if announces_point (kind_number kind_here) h.metadata then 1 else 0))
+      (few : points ≤ d.limits.points - d.points) where
     abbrev left : List ℕ
     left = drop 1 rest
 
     -- what the metadata byte says, and the parts after it
     abbrev Says : ℕ → List ℕ → Type 0
-    Says x parts = (x < 256) × (bit x 4 ≡ false) × (objection d.limits sums_there (role.Metadata (kind_number kind_here)) x ≡ None)
+    Says x parts = (x < 256) × (bit x 4 ≡ false)
+        × (objection d.limits sums_there (role.Metadata (kind_number kind_here)) x ≡ None)
         × (d.points + points ≡ sums_there.points + (if announces_point (kind_number kind_here) x then 1 else 0))
         × PartsInFront x parts h.parts.size h.parts.from h.parts.used
 
@@ -128,7 +153,8 @@ module _ (d : Engine) (rs : List Row) (rest : List ℕ) (h : FrontHeader) (is : 
         subst (λ (x : ℕ × List ℕ). Says x.0 x.1) (λ i. (same i, sym (take_rest left 1 ∙ drop-drop 1 1 rest) i)) (
           subst (λ x. x < 256) (sym found.metadata) low_meta,
           found.body,
-          point_allowed (announces_point (kind_number kind_here) h.metadata) d.limits.points (d.points + 0) points announced (omega (arith, kept)) (omega (arith, few)),
+          point_allowed (announces_point (kind_number kind_here) h.metadata) d.limits.points
+              (d.points + 0) points announced (omega (arith, kept)) (omega (arith, few)),
           ap (λ x. x + points) (add_zero d.points) ∙ ap (λ x. (d.points + 0) + x) announced,
           found.parts,
         ))
@@ -143,20 +169,42 @@ module _ (d : Engine) (rs : List Row) (rest : List ℕ) (h : FrontHeader) (is : 
         ∙ (sym (append_assoc front (take 1 rest) (take n left)) ∙ ap (λ l. l ++ take n left) (sym type_front)))
 
     -- an engine whose fields say so stands after the optional parts
-    pub header_leads : {S : Type 0} (holds : S → Notes → Type 0) (old mid new : S) (e : Engine) → e.limits ≡ d.limits → held_in e ≡ [] → e.start ≡ d.start → IsPlaced e.next e
-        → sums_of e ≡ record { bytes = d.bytes + h.used; position = origin; nodes = d.nodes; points = d.points + points }
-        → outline_in e ≡ (groups_of d.collections, begins kind_here (sized_head precision_here h.metadata h.parts.size (d.bytes + h.from)))
-        → NotesGo holds (note_header (d.start + d.bytes) d.points h.type_byte) d old mid → ((w : Notes) → holds mid w → holds new (note_metadata h.metadata w))
+    pub header_leads : {S : Type 0} (holds : S → Notes → Type 0) (old mid new : S) (e : Engine)
+        → e.limits ≡ d.limits → held_in e ≡ [] → e.start ≡ d.start → IsPlaced e.next e
+        → sums_of e ≡ record {
+          bytes = d.bytes + h.used;
+          position = origin;
+          nodes = d.nodes;
+          points = d.points + points;
+        }
+        → outline_in e ≡ (
+          groups_of d.collections,
+          begins kind_here
+              (sized_head precision_here h.metadata h.parts.size (d.bytes + h.from)),
+        )
+        → NotesGo holds (note_header (d.start + d.bytes) d.points h.type_byte) d old mid
+        → ((w : Notes) → holds mid w → holds new (note_metadata h.metadata w))
         → (t : StandsAt (front ++ take h.used rest) rs e) × (holds old (notes_at s) → holds new (notes_at t))
     header_leads holds old mid new e limits none start placed sums step first next_told =
-        let read = read_ahead d.limits (s.front ++ h.type_byte ∷ []) sums_there (groups_of d.collections) kind_here precision_here rs told_type left h.parts.size h.parts.from h.parts.used (d.points + points)
+        let read = read_ahead d.limits (s.front ++ h.type_byte ∷ []) sums_there
+        (groups_of d.collections) kind_here precision_here rs told_type left h.parts.size
+        h.parts.from h.parts.used (d.points + points)
         (let two = found.two in omega (arith, length-drop 1 rest, two)) said.0 said.1 said.2 said.3 said.4 after_type in
-        let used : d.bytes + h.used ≡ sums_there.bytes + (1 + h.parts.used) = (let u = found.used in omega (arith, u)) in
-        let from : d.bytes + h.from ≡ (sums_there.bytes + 1) + h.parts.from = (let f = found.from in omega (arith, f)) in
-        let o : ℕ → ℕ → Outline = λ x k. (groups_of d.collections, begins kind_here (sized_head precision_here x h.parts.size k)) in
+        let used : d.bytes + h.used ≡ sums_there.bytes + (1 + h.parts.used) = (let u = found.used in
+        omega (arith, u)) in
+        let from : d.bytes + h.from ≡ (sums_there.bytes + 1) + h.parts.from = (let f = found.from in
+        omega (arith, f)) in
+        let o : ℕ → ℕ → Outline = λ x k.
+        (groups_of d.collections, begins kind_here (sized_head precision_here x h.parts.size k))
+        in
         let t = stands_whole (front ++ take h.used rest) rs e read limits
         (sums ∙ sums_as used refl (add_zero d.nodes) refl)
         (step ∙ (ap (λ x. o x (d.bytes + h.from)) same ∙ ap (o (get_or left 0 0)) from))
         refl placed whole none in
-        let noted = ap (λ x. note_metadata x (told_type e.start)) (sym same) ∙ ap (λ k. note_metadata h.metadata (told_type k)) start in
-        (t.0, λ held. subst (holds new) (sym (t.1 ∙ noted)) (next_told _ (first _ (open_noted d.limits s.front (sums_of d) (outline_in d) rs s.outlined d.start) held)))
+        let noted = ap (λ x. note_metadata x (told_type e.start)) (sym same)
+        ∙ ap (λ k. note_metadata h.metadata (told_type k)) start in (
+          t.0,
+          λ held. subst (holds new) (sym (t.1 ∙ noted))
+              (next_told _ (first _ (open_noted d.limits s.front (sums_of d) (outline_in d) rs
+              s.outlined d.start) held)),
+        )

@@ -1,5 +1,7 @@
 -- What an engine answers to a piece, alone and after another.
-use Rattle.std.proofs.Common.{drop, get_or, length-append, take, Result, Ok, Err, OnOk, IfOk, ◌≡◌, ℕ, ◌+◌, ◌-◌, ◌<◌, ◌≤◌, List, [], ◌∷◌, ◌++◌, length, refl, sym, ap, ◌∙◌, subst, append-nil, arith, true, false, Bool}
+use Rattle.std.proofs.Common.{drop, get_or, length-append, take, Result, Ok, Err, OnOk, IfOk, ◌≡◌, ℕ, ◌+◌, ◌-◌, ◌<◌}
+use Rattle.std.proofs.Common.{◌≤◌, List, [], ◌∷◌, ◌++◌, length, refl, sym, ap, ◌∙◌, subst, append-nil, arith, true}
+use Rattle.std.proofs.Common.{false, Bool}
 use Rattle.std.specs.Result.{IsErrAnd}
 use Rattle.std.proofs.lemmas.Result.{err_from_is_err_and}
 use Rattle.std.proofs.lemmas.List.{length-take-le, length-drop, take_rest, take-take}
@@ -16,7 +18,8 @@ use Rattle.twkb_body.specs.JudgedParts.{IsJudged}
 use Rattle.twkb_body.proofs.Pieces.{one_front, one_within}
 use Rattle.twkb_engine.specs.Notes.{NotesGo, notes_with}
 use Rattle.twkb_engine.specs.State.{IsNext, IsPlaced}
-use Rattle.twkb_engine.specs.Standing.{LeadsOn, LeadsQuietly, StandsAt, IsReady, IsAnswer, FedBy, IsFed, HoldsSpans, SaysNext, StopsIn, with_used, notes_at, held_in, offset_in}
+use Rattle.twkb_engine.specs.Standing.{LeadsOn, LeadsQuietly, StandsAt, IsReady, IsAnswer, FedBy, IsFed, HoldsSpans}
+use Rattle.twkb_engine.specs.Standing.{SaysNext, StopsIn, with_used, notes_at, held_in, offset_in}
 use Rattle.twkb_engine.specs.Taking.{Takes, Keeps, Stays}
 use Rattle.twkb_engine.specs.Stops.{reason_of}
 use Rattle.twkb_engine.specs.declared.stop.Stop.{Stop}
@@ -38,8 +41,10 @@ further_none (Err stop) = refl
 
 -- an answer to bytes `part`, after `before`, is one to the piece, of which `k` more were used
 module _ {S : Type 0} (holds : S → Notes → Type 0) (known after : Type 0) (limits : Allowance) (start : ℕ)
-    (bs piece before part : List ℕ) (k : ℕ) (rs : List Row) (e : Engine) (new : S) (go : known → after) (long : length before ≡ length bs + k)
-    (fits : (u : ℕ) → u ≤ length part → (k + u ≤ length piece) × (before ++ take u part ≡ bs ++ take (k + u) piece)) where
+    (bs piece before part : List ℕ) (k : ℕ) (rs : List Row) (e : Engine) (new : S)
+    (go : known → after) (long : length before ≡ length bs + k)
+    (fits : (u : ℕ) → u ≤ length part → (k + u ≤ length piece)
+    × (before ++ take u part ≡ bs ++ take (k + u) piece)) where
   shifted : (answer : Result (ℕ × Bool) Stop) → IsFed holds after limits start before part answer rs e new
       → IsFed holds known limits start bs piece (further k answer) rs e new
   shifted (Ok (u, false)) f =
@@ -47,8 +52,15 @@ module _ {S : Type 0} (holds : S → Notes → Type 0) (known after : Type 0) (l
       ((fits u f.0).0, f.1, both.0, λ x. both.1 (go x))
   shifted (Ok (u, true)) f =
       let m = f.0 in
-      let both = subst (λ l. (b : Blob limits l m.geometry) × (after → HoldsSpans holds new start b)) (fits u m.within).1 (m.blob, f.1) in (
-        record { some = (let some = m.some in omega (arith, some)); within = (fits u m.within).0; geometry = m.geometry; blob = both.0; made = m.made },
+      let both = subst (λ l. (b : Blob limits l m.geometry)
+      × (after → HoldsSpans holds new start b)) (fits u m.within).1 (m.blob, f.1) in (
+        record {
+          some = (let some = m.some in omega (arith, some));
+          within = (fits u m.within).0;
+          geometry = m.geometry;
+          blob = both.0;
+          made = m.made;
+        },
         λ x. both.1 (go x),
         f.2,
         omega (arith, f.3, long),
@@ -63,7 +75,8 @@ module _ {S : Type 0} (holds : S → Notes → Type 0) (known after : Type 0) (l
     used = k + f.used;
     some = (let some = f.some in omega (arith, some));
     within = (fits f.used f.within).0;
-    fault = λ rest. subst (λ l. FirstFault limits (l ++ rest) (offset_in e) (reason_of why)) (fits f.used f.within).1 (f.fault rest);
+    fault = λ rest. subst (λ l. FirstFault limits (l ++ rest) (offset_in e) (reason_of why))
+        (fits f.used f.within).1 (f.fault rest);
   }
 
 -- of one byte
@@ -94,14 +107,16 @@ module _ {S : Type 0} {holds : S → Notes → Type 0} {d e : Engine} {rs more :
     fed = λ bs s. subst (λ x. IsFed holds (holds old (notes_at s)) d.limits d.start bs piece x more e new)
         (further_none (with_used 1 answer))
         (shifted holds _ _ d.limits d.start bs piece bs (get_or piece 0 0 ∷ []) 0 more e new (λ x. x) (omega arith)
-        (λ u few. (omega (arith, some, few), ap (λ l. bs ++ l) (first_of u piece some few))) (with_used 1 answer) (fed bs s));
+        (λ u few. (omega (arith, some, few), ap (λ l. bs ++ l) (first_of u piece some few)))
+        (with_used 1 answer) (fed bs s));
   }
 
   -- so many bytes say the next item
   pub front_fed : {n count : ℕ} (answer : Result Bool Stop) → held_in d ≡ [] → SaysNext d piece n count
       → Keeps d e → ((r : Role) → IsNext r d → Takes r n count d rs answer e more)
       → ((r : Role) → IsNext r d → IfOk answer (λ ends. NotesGo holds (notes_with r n count d e ends) d old new))
-      → (IsPlaced d.next d → OnOk answer (IsPlaced e.next e)) → IsAnswer holds d rs old piece (with_used count answer) e more new
+      → (IsPlaced d.next d → OnOk answer (IsPlaced e.next e))
+      → IsAnswer holds d rs old piece (with_used count answer) e more new
   front_fed {n = n} {count = count} answer none says kept takes noted placed =
       let r = next_role d in
       record {
@@ -120,10 +135,13 @@ module _ {S : Type 0} {holds : S → Notes → Type 0} {d e : Engine} {rs more :
 
   -- the same stop
   pub same_stop : {stop : Stop} (r : Result (ℕ × Bool) Stop) {Q : Stop → Type 0} → IsErrAnd r Q
-      → ((y : Stop) → Q y → y ≡ stop) → IsAnswer holds d rs old piece (Err stop) e more new → IsAnswer holds d rs old piece r e more new
+      → ((y : Stop) → Q y → y ≡ stop) → IsAnswer holds d rs old piece (Err stop) e more new
+      → IsAnswer holds d rs old piece r e more new
   same_stop r is same a =
       let p = err_from_is_err_and r is in
-      subst (λ x. IsAnswer holds d rs old piece x e more new) (sym (p.1 ∙ ap (λ (y : Stop). let q : Result (ℕ × Bool) Stop = Err y in q) (same p.0 p.2))) a
+      subst (λ x. IsAnswer holds d rs old piece x e more new)
+      (sym (p.1 ∙ ap (λ (y : Stop). let q : Result (ℕ × Bool) Stop = Err y in q)
+      (same p.0 p.2))) a
 
   -- there is no memory
   pub stops_fed : (r : Result (ℕ × Bool) Stop) {Q : Stop → Type 0} → IsErrAnd r Q
@@ -138,7 +156,8 @@ module _ {S : Type 0} {holds : S → Notes → Type 0} {d e : Engine} {rs more :
 
   module _ {used : ℕ} (a : IsAnswer holds d rs old piece (Ok (used, false)) e more new) where
     -- the bytes that are left find room
-    pub ready_left : IsReady rs d (length piece) → IsReady more e (length (take (length piece - used) (drop used piece)))
+    pub ready_left : IsReady rs d (length piece) → IsReady more e
+        (length (take (length piece - used) (drop used piece)))
     ready_left ready = record {
       room = ∥∥₁_elim ready.alive (Prim.hlevel props) (λ s. let f = a.fed s.0 s.1 in
           omega (
@@ -168,13 +187,16 @@ module _ {S : Type 0} {holds : S → Notes → Type 0} {d e : Engine} {rs more :
           shifted holds _ _ d.limits d.start bs piece (bs ++ take used piece) part used last f w x.3
           (omega (arith, length-append bs (take used piece), length-take-le used piece x.0))
           (λ u few. (one_within piece used u x.0 few, one_front bs piece used u)) answer
-          (subst (λ (q : Allowance × ℕ). IsFed holds (holds new (notes_at x.2)) q.0 q.1 (bs ++ take used piece) part answer last f w)
+          (subst (λ (q : Allowance × ℕ). IsFed holds (holds new (notes_at x.2)) q.0 q.1
+          (bs ++ take used piece) part answer last f w)
           (λ i. (a.limits i, x.1 i)) (b.fed (bs ++ take used piece) x.2));
     }
 
   -- no blob ends with no bytes
-  zero_fed : (t : ℕ × Bool) → t.0 ≤ 0 → IsAnswer holds d rs old piece (Ok t) e more new → IsAnswer holds d rs old piece (Ok (0, false)) e more new
-  zero_fed (n, false) z a = let none : n ≡ 0 = omega (arith, z) in subst (λ k. IsAnswer holds d rs old piece (Ok (k, false)) e more new) none a
+  zero_fed : (t : ℕ × Bool) → t.0 ≤ 0 → IsAnswer holds d rs old piece (Ok t) e more new
+      → IsAnswer holds d rs old piece (Ok (0, false)) e more new
+  zero_fed (n, false) z a = let none : n ≡ 0 = omega (arith, z) in
+      subst (λ k. IsAnswer holds d rs old piece (Ok (k, false)) e more new) none a
   zero_fed (n, true) z a = record {
     limits = a.limits;
     fed = λ bs s. absurd (let some = (a.fed bs s).0.some in omega (arith, some, z));
@@ -189,7 +211,8 @@ module _ {S : Type 0} {holds : S → Notes → Type 0} {d e : Engine} {rs more :
         → IsAnswer holds e more new piece answer f last w → IsAnswer holds d rs old piece answer f last w
     answer_next {f = f} {last = last} {w = w} {answer = answer} b =
         subst (λ x. IsAnswer holds d rs old piece x f last w) (further_none answer)
-        (joined (zero_fed taken zero a) (subst (λ l. IsAnswer holds e more new l answer f last w) (sym (take_rest piece 0)) b))
+        (joined (zero_fed taken zero a) (subst (λ l. IsAnswer holds e more new l answer f last w)
+        (sym (take_rest piece 0)) b))
 
 -- bytes lead on and note nothing
 pub quiet_fed : {S : Type 0} {holds : S → Notes → Type 0} {d e : Engine} {rs more : List Row} {old : S}

@@ -1,5 +1,6 @@
 -- What an engine says of itself: whether the bytes may end, and how many geometries are open.
-use Rattle.std.proofs.Common.{◌≡◌, ◌⊎◌, inl, inr, ℕ, zero, suc, ◌+◌, ◌<◌, ◌≤◌, List, [], length, refl, sym, ap, ◌∙◌, subst, arith, true, false, nat_eq}
+use Rattle.std.proofs.Common.{◌≡◌, ◌⊎◌, inl, inr, ℕ, zero, suc, ◌+◌, ◌<◌, ◌≤◌, List, [], length, refl, sym, ap, ◌∙◌}
+use Rattle.std.proofs.Common.{subst, arith, true, false, nat_eq}
 use Rattle.std.proofs.lemmas.List.{nil_from_length}
 use Rattle.std.proofs.lemmas.Grind.{common_steps}
 use Rattle.twkb_num.specs.Varint.{IsOpenVarint}
@@ -23,7 +24,8 @@ use Rattle.twkb_engine.proofs.Steps.{next_role, next_number, next_no_end, all_wh
 -- what holds bytes waits for more of a number
 pub spelled_by : (d : Engine) → 0 < length (held_in d) → (IsByte d.next → ⊥) ⊎ (held_in d ≡ []) → IsByte d.next → ⊥
 spelled_by d some (inl s) = s
-spelled_by d some (inr e) = absurd (let none : length (held_in d) ≡ 0 = ap (λ (l : List ℕ). length l) e in omega (arith, some, none))
+spelled_by d some (inr e) = absurd (let none : length (held_in d) ≡ 0 =
+    ap (λ (l : List ℕ). length l) e in omega (arith, some, none))
 
 not_none : (bs : List ℕ) → 0 < length bs → bs ≡ [] → ⊥
 not_none bs some e = let none : length bs ≡ 0 = ap (λ (l : List ℕ). length l) e in omega (arith, some, none)
@@ -38,36 +40,64 @@ pub no_zero : (n : ℕ) → nat_eq n 0 ≡ false → 0 < n
 no_zero zero off = absurd cc
 no_zero (suc n) off = omega arith
 
-no_items : (bs : List ℕ) (rs : List Row) (d : Engine) (s : StandsAt bs rs d) → held_in d ≡ [] → (n : ℕ) → d.bytes ≡ n → IsEnd (allowance_of d) bs (offset_in d) (nat_eq d.bytes 0)
+no_items : (bs : List ℕ) (rs : List Row) (d : Engine) (s : StandsAt bs rs d) → held_in d ≡ []
+    → (n : ℕ) → d.bytes ≡ n → IsEnd (allowance_of d) bs (offset_in d) (nat_eq d.bytes 0)
 no_items bs rs d s none zero at =
-    let front : s.front ≡ [] = nil_from_length s.front (omega (arith, outlined_bytes d.limits s.front (sums_of d) (outline_in d) rs s.outlined, at)) in
+    let front : s.front ≡ [] = nil_from_length s.front
+    (omega (
+      arith,
+      outlined_bytes d.limits s.front (sums_of d) (outline_in d) rs
+          s.outlined,
+      at,
+    )) in
     subst (IsEnd (allowance_of d) bs (offset_in d)) (sym (is_zero d.bytes at)) (all_whole bs rs d none s ∙ front)
 no_items bs rs d s none (suc n) at =
-    let some : 0 < length s.front = omega (arith, outlined_bytes d.limits s.front (sums_of d) (outline_in d) rs s.outlined, at) in
+    let some : 0 < length s.front = omega (
+      arith,
+      outlined_bytes d.limits s.front (sums_of d)
+          (outline_in d) rs s.outlined,
+      at,
+    ) in
     let r = next_role d in
-    subst (IsEnd (allowance_of d) bs (offset_in d)) (sym (is_some d.bytes (omega (arith, at)))) (subst (λ l. FirstFault d.limits l d.bytes Truncated) (sym (all_whole bs rs d none s))
-    (outlined_missing d.limits s.front (sums_of d) (outline_in d) rs r.0 s.outlined r.1 (not_none s.front some) (next_no_end d)))
+    subst (IsEnd (allowance_of d) bs (offset_in d)) (sym (is_some d.bytes (omega (arith, at))))
+    (subst (λ l. FirstFault d.limits l d.bytes Truncated) (sym (all_whole bs rs d none s))
+    (outlined_missing d.limits s.front (sums_of d) (outline_in d) rs r.0 s.outlined r.1
+    (not_none s.front some) (next_no_end d)))
 
 -- no byte is held
-pub at_end : (bs : List ℕ) (rs : List Row) (d : Engine) (s : StandsAt bs rs d) → length (held_in d) ≡ 0 → IsEnd (allowance_of d) bs (offset_in d) (nat_eq d.bytes 0)
+pub at_end : (bs : List ℕ) (rs : List Row) (d : Engine) (s : StandsAt bs rs d)
+    → length (held_in d) ≡ 0 → IsEnd (allowance_of d) bs (offset_in d) (nat_eq d.bytes 0)
 at_end bs rs d s none = no_items bs rs d s (nil_from_length (held_in d) none) d.bytes refl
 
 -- the bytes end inside a number
-pub cut_end : (bs : List ℕ) (rs : List Row) (d : Engine) (s : StandsAt bs rs d) → IsOpenVarint (held_in d) → (n : ℕ) → n ≡ length (held_in d) → 0 < n → IsEnd (allowance_of d) bs (offset_in d) (nat_eq n 0)
+pub cut_end : (bs : List ℕ) (rs : List Row) (d : Engine) (s : StandsAt bs rs d)
+    → IsOpenVarint (held_in d) → (n : ℕ) → n ≡ length (held_in d) → 0 < n
+    → IsEnd (allowance_of d) bs (offset_in d) (nat_eq n 0)
 cut_end bs rs d s begun n many some =
     let r = next_role d in
-    subst (IsEnd (allowance_of d) bs (offset_in d)) (sym (is_some n some)) (subst (λ l. FirstFault d.limits l d.bytes Truncated) (sym s.whole)
-    (outlined_cut d.limits s.front (sums_of d) (outline_in d) rs (held_in d) r.0 s.outlined r.1 (next_number d (spelled_by d (omega (arith, many, some)) s.spelled)) (omega (arith, begun.room), begun.high)))
+    subst (IsEnd (allowance_of d) bs (offset_in d)) (sym (is_some n some))
+    (subst (λ l. FirstFault d.limits l d.bytes Truncated) (sym s.whole)
+    (outlined_cut d.limits s.front (sums_of d) (outline_in d) rs (held_in d) r.0 s.outlined r.1
+    (next_number d (spelled_by d (omega (arith, many, some)) s.spelled))
+    (omega (arith, begun.room), begun.high)))
 
 -- ---- open geometries
 
 pub few_open : (bs : List ℕ) (rs : List Row) (d : Engine) (s : StandsAt bs rs d) → length d.collections ≤ d.limits.nest
-few_open bs rs d s = omega (arith, groups_length [] d.collections, outlined_depth d.limits s.front (sums_of d) (outline_in d) rs s.outlined)
+few_open bs rs d s = omega (
+  arith,
+  groups_length [] d.collections,
+  outlined_depth d.limits s.front
+      (sums_of d) (outline_in d) rs s.outlined,
+)
 
-open_outside : (i : NextItem) (d : Engine) → i ≡ next.TypeByte → open_count (groups_of d.collections, step_at i d) ≡ length d.collections
-open_outside i d e = ap (λ j. open_count (groups_of d.collections, step_at j d)) e ∙ omega (arith, groups_length [] d.collections)
+open_outside : (i : NextItem) (d : Engine) → i ≡ next.TypeByte
+    → open_count (groups_of d.collections, step_at i d) ≡ length d.collections
+open_outside i d e = ap (λ j. open_count (groups_of d.collections, step_at j d)) e
+    ∙ omega (arith, groups_length [] d.collections)
 
-open_inside : (i : NextItem) (d : Engine) → (i ≡ next.TypeByte → ⊥) → open_count (groups_of d.collections, step_at i d) ≡ suc (length (groups_of d.collections))
+open_inside : (i : NextItem) (d : Engine) → (i ≡ next.TypeByte → ⊥)
+    → open_count (groups_of d.collections, step_at i d) ≡ suc (length (groups_of d.collections))
 open_inside next.TypeByte d n = absurd (n refl)
 open_inside _ d n = refl
 

@@ -1,5 +1,6 @@
 -- A y: where it leads, and what it brings.
-use Rattle.std.proofs.Common.{◌≡◌, ℕ, zero, suc, ◌-◌, ◌<◌, List, refl, sym, ap, ◌∙◌, subst, arith, true, if◌then◌else◌, Ok, None}
+use Rattle.std.proofs.Common.{◌≡◌, ℕ, zero, suc, ◌-◌, ◌<◌, List, refl, sym, ap, ◌∙◌, subst, arith, true}
+use Rattle.std.proofs.Common.{if◌then◌else◌, Ok, None}
 use Rattle.std.specs.Prelude.{ℤ, Option}
 use Rattle.twkb_points.specs.Point.{Point}
 use Rattle.twkb_tree.specs.Tree.{Ids}
@@ -29,7 +30,8 @@ lines_left kinds.Linestring (suc p) r m some fits = refl
 lines_left k (suc p) r m some fits = grind arith
 
 -- there a point comes to the last row
-line_point : (k : Kind) (p : Point) (depth : ℕ) (id : Option ℤ) (precision : ℤ) (member : Option ℤ) → has_lines k ≡ true → point_change p depth id precision (form_of k) member ≡ NewPoint p
+line_point : (k : Kind) (p : Point) (depth : ℕ) (id : Option ℤ) (precision : ℤ) (member : Option ℤ)
+    → has_lines k ≡ true → point_change p depth id precision (form_of k) member ≡ NewPoint p
 line_point kinds.Linestring p depth id precision member has = refl
 line_point k p depth id precision member has = cc
 
@@ -58,7 +60,11 @@ module _ {rs : List Row} {d : Engine} {n width : ℕ} {p : Point} (at : ComesNex
 
   -- another to the next one, and it comes to the last row
   pub y_more : 0 < d.points_left → Leads rs d role.Y n width
-      (Ok (groups_of d.collections, body_at d (Wanted 0 (lists_of d.head.kind (d.points_left - 1) d.rings_left d.members_left)))) (NewPoint p)
+      (Ok (
+        groups_of d.collections,
+        body_at d (Wanted 0
+            (lists_of d.head.kind (d.points_left - 1) d.rings_left d.members_left)),
+      )) (NewPoint p)
   y_more some =
       let one : d.points_left ≡ suc (d.points_left - 1) = omega (arith, some) in
       let fits = subst (λ i. lists_fit i d.head.kind d.points_left d.rings_left d.members_left

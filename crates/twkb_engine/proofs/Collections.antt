@@ -1,5 +1,6 @@
 -- Members that begin, and the ends of geometries in collections.
-use Rattle.std.proofs.Common.{◌≡◌, ℕ, zero, suc, ◌+◌, ◌-◌, ◌<◌, ◌≤◌, List, [], ◌∷◌, ◌++◌, length, take, set, get_or, true, refl, sym, ap, ◌∙◌, arith}
+use Rattle.std.proofs.Common.{◌≡◌, ℕ, zero, suc, ◌+◌, ◌-◌, ◌<◌, ◌≤◌, List, [], ◌∷◌, ◌++◌, length, take, set, get_or}
+use Rattle.std.proofs.Common.{true, refl, sym, ap, ◌∙◌, arith}
 use Rattle.std.proofs.Math.Seq.{take-suc}
 use Rattle.std.proofs.lemmas.List.{length-take-le, length-set, take-set, get_or-take}
 use Rattle.std.proofs.lemmas.Grind.{take-set_at}
@@ -19,35 +20,44 @@ use Rattle.twkb_engine.specs.Collections.{group_of, groups_from, groups_of}
 use Rattle.twkb_engine.specs.declared.open_collections.OpenCollection.{OpenCollection}
 
 -- the last group is the innermost
-pub groups_pushed : (below : List outline.Group) (gs : List OpenCollection) (g : OpenCollection) → groups_from below (gs ++ g ∷ []) ≡ group_of g ∷ groups_from below gs
+pub groups_pushed : (below : List outline.Group) (gs : List OpenCollection) (g : OpenCollection)
+    → groups_from below (gs ++ g ∷ []) ≡ group_of g ∷ groups_from below gs
 groups_pushed below [] g = refl
 groups_pushed below (f ∷ fs) g = groups_pushed (group_of f ∷ below) fs g
 
-pub groups_length : (below : List outline.Group) (gs : List OpenCollection) → length (groups_from below gs) ≡ length below + length gs
+pub groups_length : (below : List outline.Group) (gs : List OpenCollection)
+    → length (groups_from below gs) ≡ length below + length gs
 groups_length below [] = omega arith
 groups_length below (g ∷ gs) = omega (arith, groups_length (group_of g ∷ below) gs)
 
 -- the first member of a collection begins
-pub collection_begun : (items gs : List OpenCollection) (g : OpenCollection) → items ≡ gs ++ g ∷ [] → (groups_of items, OnHeader) ≡ members_open ManyGeometries (head_of g.head) (groups_of gs) (ids_of g.ids) (suc g.members_left)
+pub collection_begun : (items gs : List OpenCollection) (g : OpenCollection) → items ≡ gs ++ g ∷ []
+    → (groups_of items, OnHeader) ≡ members_open ManyGeometries (head_of g.head) (groups_of gs)
+    (ids_of g.ids) (suc g.members_left)
 collection_begun items gs g e = rw (e, groups_pushed [] gs g) refl
 
 -- the end of a member that others follow
-pub going_on : (bytes : ℕ) (old rest items : List OpenCollection) (f k : OpenCollection) → old ≡ rest ++ f ∷ [] → items ≡ rest ++ k ∷ []
-    → 0 < f.members_left → k.members_left ≡ f.members_left - 1 → head_of k.head ≡ head_of f.head → ids_of k.ids ≡ other_ids (ids_of f.ids)
+pub going_on : (bytes : ℕ) (old rest items : List OpenCollection) (f k : OpenCollection)
+    → old ≡ rest ++ f ∷ [] → items ≡ rest ++ k ∷ []
+    → 0 < f.members_left → k.members_left ≡ f.members_left - 1 → head_of k.head ≡ head_of f.head
+    → ids_of k.ids ≡ other_ids (ids_of f.ids)
     → outline_past_end true bytes (groups_of old) ≡ Ok (groups_of items, OnHeader)
 going_on bytes old rest items f k o i z l hd ids =
     let one : f.members_left ≡ suc k.members_left = omega (arith, z, l) in
     rw (o, i, groups_pushed [] rest f, groups_pushed [] rest k, one, hd, ids) refl
 
 -- the end of the last member is followed by that of its collection
-pub going_up : (bytes : ℕ) (old rest : List OpenCollection) (f : OpenCollection) (up : machine.Head) → old ≡ rest ++ f ∷ [] → f.members_left ≡ 0
-    → up ≡ head_of f.head → outline_past_end (exact up.size (bytes - up.from)) bytes (groups_of rest) ≡ outline_past_end true bytes (groups_of old)
+pub going_up : (bytes : ℕ) (old rest : List OpenCollection) (f : OpenCollection) (up : machine.Head)
+    → old ≡ rest ++ f ∷ [] → f.members_left ≡ 0
+    → up ≡ head_of f.head → outline_past_end (exact up.size (bytes - up.from)) bytes
+    (groups_of rest) ≡ outline_past_end true bytes (groups_of old)
 going_up bytes old rest f up o z u = rw (o, groups_pushed [] rest f, z, u) refl
 
 -- ---- the place of the geometry that is read
 
 -- the id that the last group gives
-pub last_id : (below : List outline.Group) (gs : List OpenCollection) (i : ℕ) (d : OpenCollection) → i + 1 ≡ length gs → id_in (groups_from below gs) ≡ first_id (ids_of (get_or gs i d).ids)
+pub last_id : (below : List outline.Group) (gs : List OpenCollection) (i : ℕ) (d : OpenCollection)
+    → i + 1 ≡ length gs → id_in (groups_from below gs) ≡ first_id (ids_of (get_or gs i d).ids)
 last_id below [] i d at = absurd (omega arith)
 last_id below (g ∷ []) zero d at = refl
 last_id below (g ∷ []) (suc i) d at = absurd (omega arith)
@@ -99,7 +109,8 @@ module _ (places : SmallVec OpenCollection) {m now : List OpenCollection} {n : �
       (omega (arith, z)) refl
 
 -- the id of the open member of the innermost
-pub innermost_id : (items m now : List OpenCollection) (n : ℕ) (d : OpenCollection) → m ≡ items → n ≤ length items → now ≡ take n items → 0 < n
+pub innermost_id : (items m now : List OpenCollection) (n : ℕ) (d : OpenCollection) → m ≡ items
+    → n ≤ length items → now ≡ take n items → 0 < n
     → first_id (ids_of (get_or m (n - 1) d).ids) ≡ id_in (groups_of now)
 innermost_id items m now n d same le is some =
     let at : (n - 1) + 1 ≡ length (take n items) = omega (arith, some, length-take-le n items le) in

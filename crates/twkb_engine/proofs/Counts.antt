@@ -1,5 +1,6 @@
 -- The counts of a body: what they lead to, and the rows that they bring.
-use Rattle.std.proofs.Common.{◌≡◌, ℕ, zero, suc, ◌-◌, ◌<◌, List, ◌∷◌, refl, sym, ap, ◌∙◌, subst, arith, Bool, true, ◌&&◌, nat_eq, if◌then◌else◌, Result, Ok, None}
+use Rattle.std.proofs.Common.{◌≡◌, ℕ, zero, suc, ◌-◌, ◌<◌, List, ◌∷◌, refl, sym, ap, ◌∙◌, subst, arith, Bool, true}
+use Rattle.std.proofs.Common.{◌&&◌, nat_eq, if◌then◌else◌, Result, Ok, None}
 use Rattle.std.specs.Prelude.{ℤ, Option}
 use Rattle.twkb_tree.specs.Tree.{Ids}
 use Rattle.twkb_tree.specs.Rows.{Row, first_id}
@@ -14,7 +15,8 @@ use Rattle.twkb_body.specs.Head.{head_of, form_of}
 use Rattle.twkb_body.specs.Ids.{ids_of}
 use Rattle.twkb_engine.specs.Collections.{groups_of}
 use Rattle.twkb_engine.specs.State.{ids_in, body_at}
-use Rattle.twkb_engine.specs.Fits.{lists_of, line_lists_of, area_lists_of, left_fit, lists_fit, item_fits, has_lines, has_areas, has_members}
+use Rattle.twkb_engine.specs.Fits.{lists_of, line_lists_of, area_lists_of, left_fit, lists_fit, item_fits, has_lines}
+use Rattle.twkb_engine.specs.Fits.{has_areas, has_members}
 use Rattle.twkb_engine.specs.Taking.{IsFree, shut_at, last_lists}
 use Rattle.twkb_engine.specs.Standing.{ComesNext}
 use Rattle.twkb_engine.specs.declared.next_item.NextItem.{NextItem}

@@ -1,5 +1,7 @@
 -- An engine takes the bytes of a piece.
-use Rattle.std.proofs.Common.{append_assoc, length-append, take, Result, None, Ok, Err, OnOk, IfOk, ◌≡◌, inl, inr, ℕ, ◌+◌, ◌<◌, ◌≤◌, List, [], ◌∷◌, ◌++◌, length, refl, sym, ap, ◌∙◌, subst, append-nil, arith, true, false, Bool}
+use Rattle.std.proofs.Common.{append_assoc, length-append, take, Result, None, Ok, Err, OnOk, IfOk, ◌≡◌, inl, inr, ℕ}
+use Rattle.std.proofs.Common.{◌+◌, ◌<◌, ◌≤◌, List, [], ◌∷◌, ◌++◌, length, refl, sym, ap, ◌∙◌, subst, append-nil}
+use Rattle.std.proofs.Common.{arith, true, false, Bool}
 use Rattle.std.proofs.lemmas.List.{length-take-le}
 use Rattle.std.proofs.Math.Logic.{∥∥₁_elim, ∥∥₁_map}
 use Rattle.std.proofs.Props.{props}
@@ -22,13 +24,15 @@ use Rattle.twkb_body.specs.Reading.{Outlined, OutlineLanded, outline_after, chan
 use Rattle.twkb_engine.specs.Fits.{IsByte}
 use Rattle.twkb_engine.specs.Notes.{NotesGo, notes_with, open_in}
 use Rattle.twkb_engine.specs.State.{IsNext, IsPlaced, sums_of, outline_in, allowance_of}
-use Rattle.twkb_engine.specs.Standing.{StandsAt, IsAlive, FedBy, IsFed, count_of, RefusedIn, with_used, notes_at, held_in, offset_in}
+use Rattle.twkb_engine.specs.Standing.{StandsAt, IsAlive, FedBy, IsFed, count_of, RefusedIn, with_used, notes_at}
+use Rattle.twkb_engine.specs.Standing.{held_in, offset_in}
 use Rattle.twkb_engine.specs.Taking.{Takes, BeginsAt}
 use Rattle.twkb_engine.specs.Stops.{reason_of}
 use Rattle.twkb_engine.specs.declared.stop.Stop.{Stop}
 use Rattle.twkb_engine.specs.declared.stop.Stop.TheVariants.{Memory, Refused}
 use Rattle.twkb_engine.specs.declared.engine.Engine.{Engine}
-use Rattle.twkb_engine.proofs.Steps.{next_role, next_number, open_noted, noted_ends, outlined_blob, stands_begun, stands_whole, number_written, SameItem, stands_else}
+use Rattle.twkb_engine.proofs.Steps.{next_role, next_number, open_noted, noted_ends, outlined_blob, stands_begun}
+use Rattle.twkb_engine.proofs.Steps.{stands_whole, number_written, SameItem, stands_else}
 
 -- ---- bytes that lead past an item
 
@@ -95,8 +99,12 @@ module _ {limits : Allowance} {bs piece : List ℕ} {used : ℕ} {sums : Sums} {
 
 -- ---- an item is taken
 
-module _ {S : Type 0} (holds : S → Notes → Type 0) (bs : List ℕ) (rs more : List Row) (d e : Engine) (old new : S) (front : List ℕ) (stood : Outlined d.limits front (sums_of d) (outline_in d) rs) (r : Role) (n : ℕ) (bytes piece : List ℕ) (used : ℕ)
-    (says : IsNext r d) (gives : Gives r n bytes) (some : 0 < used) (within : used ≤ length piece) (at : front ++ bytes ≡ bs ++ take used piece) (limits : e.limits ≡ d.limits) (none : held_in e ≡ []) where
+module _ {S : Type 0} (holds : S → Notes → Type 0) (bs : List ℕ) (rs more : List Row) (d e : Engine)
+    (old new : S) (front : List ℕ) (stood : Outlined d.limits front (sums_of d) (outline_in d) rs)
+    (r : Role) (n : ℕ) (bytes piece : List ℕ) (used : ℕ)
+    (says : IsNext r d) (gives : Gives r n bytes) (some : 0 < used) (within : used ≤ length piece)
+    (at : front ++ bytes ≡ bs ++ take used piece) (limits : e.limits ≡ d.limits)
+    (none : held_in e ≡ []) where
   abbrev item : Item
   item = record { role = r; number = n; bytes = bytes }
 
@@ -110,11 +118,13 @@ module _ {S : Type 0} (holds : S → Notes → Type 0) (bs : List ℕ) (rs more 
       → Reads d.limits bs piece used (added (sums_of d) item) (outline_after (sums_of d) item (outline_in d))
       (applied (change_after (sums_of d) item (outline_in d)) rs) told
   reads free =
-      let here : NotedOutline d.limits front (sums_of d) (outline_in d) rs (λ start. notes_in start stood) = record { outlined = stood; notes = λ start. refl } in
+      let here : NotedOutline d.limits front (sums_of d) (outline_in d) rs
+      (λ start. notes_in start stood) = record { outlined = stood; notes = λ start. refl } in
       record {
         some = some;
         within = within;
-        stood = subst (λ l. NotedOutline d.limits l (added (sums_of d) item) (outline_after (sums_of d) item (outline_in d))
+        stood = subst (λ l. NotedOutline d.limits l (added (sums_of d) item)
+            (outline_after (sums_of d) item (outline_in d))
             (applied (change_after (sums_of d) item (outline_in d)) rs) told) at
             (noted_item d.limits front (sums_of d) (outline_in d) rs _ item here says gives free);
       }
@@ -123,7 +133,9 @@ module _ {S : Type 0} (holds : S → Notes → Type 0) (bs : List ℕ) (rs more 
   noted w go known =
       go _ (open_noted d.limits front (sums_of d) (outline_in d) rs stood d.start) known
 
-  of_answer : (answer : Result Bool Stop) → Takes r n (length bytes) d rs answer e more → IfOk answer (λ ends. NotesGo holds (notes_with r n (length bytes) d e ends) d old new) → OnOk answer (IsPlaced e.next e)
+  of_answer : (answer : Result Bool Stop) → Takes r n (length bytes) d rs answer e more
+      → IfOk answer (λ ends. NotesGo holds (notes_with r n (length bytes) d e ends) d old new)
+      → OnOk answer (IsPlaced e.next e)
       → IsFed holds Known (allowance_of d) d.start bs piece (with_used used answer) more e new
   of_answer (Ok false) t go placed =
       past_on (reads t.0) holds Known d.start more e new t.1 t.2 limits t.4.start t.3 placed none
@@ -137,14 +149,20 @@ module _ {S : Type 0} (holds : S → Notes → Type 0) (bs : List ℕ) (rs more 
     some = some;
     within = within;
     fault = λ rest. subst (λ l. FirstFault d.limits (l ++ rest) e.bytes (reason_of why)) at
-        (rw (append_assoc, t.1) (outlined_refused d.limits front (sums_of d) (outline_in d) rs item (reason_of why) stood says gives t.0 rest));
+        (rw (append_assoc, t.1) (outlined_refused d.limits front (sums_of d) (outline_in d) rs item
+        (reason_of why) stood says gives t.0 rest));
   }
   of_answer (Err (Refused why)) (inr t) go placed = past_wrong (reads t.0) e.bytes (reason_of why) t.1 t.2
 
-  pub item_fed : (width : ℕ) (answer : Result Bool Stop) → length bytes ≡ width → Takes r n width d rs answer e more → IfOk answer (λ ends. NotesGo holds (notes_with r n width d e ends) d old new) → OnOk answer (IsPlaced e.next e)
+  pub item_fed : (width : ℕ) (answer : Result Bool Stop) → length bytes ≡ width
+      → Takes r n width d rs answer e more → IfOk answer
+      (λ ends. NotesGo holds (notes_with r n width d e ends) d old new)
+      → OnOk answer (IsPlaced e.next e)
       → IsFed holds Known (allowance_of d) d.start bs piece (with_used used answer) more e new
   item_fed width answer size t go placed =
-      of_answer answer (subst (λ k. Takes r n k d rs answer e more) (sym size) t) (subst (λ k. IfOk answer (λ ends. NotesGo holds (notes_with r n k d e ends) d old new)) (sym size) go) placed
+      of_answer answer (subst (λ k. Takes r n k d rs answer e more) (sym size) t)
+      (subst (λ k. IfOk answer (λ ends. NotesGo holds (notes_with r n k d e ends) d old new))
+      (sym size) go) placed
 
 -- ---- a byte is taken
 
@@ -153,41 +171,70 @@ pub byte_alone : (bs : List ℕ) (rs : List Row) (d : Engine) → IsByte d.next 
 byte_alone bs rs d byte s = elim s.spelled [ inl f ↦ absurd (f byte) | inr none ↦ none ]
 
 -- a byte more is held of a number
-pub held_more : (bs : List ℕ) (u : ℕ) (rs : List Row) (d e : Engine) (s : StandsAt bs rs d) → held_in e ≡ held_in d ++ u ∷ [] → bs ++ u ∷ [] ≡ s.front ++ held_in e
-held_more bs u rs d e s more = ap (λ l. l ++ u ∷ []) s.whole ∙ (append_assoc s.front (held_in d) (u ∷ []) ∙ ap (λ l. s.front ++ l) (sym more))
+pub held_more : (bs : List ℕ) (u : ℕ) (rs : List Row) (d e : Engine) (s : StandsAt bs rs d)
+    → held_in e ≡ held_in d ++ u ∷ [] → bs ++ u ∷ [] ≡ s.front ++ held_in e
+held_more bs u rs d e s more = ap (λ l. l ++ u ∷ []) s.whole
+    ∙ (append_assoc s.front (held_in d) (u ∷ []) ∙ ap (λ l. s.front ++ l) (sym more))
 
 -- the bytes of a number after whole items
-pub held_bytes : (bs front held more : List ℕ) (u : ℕ) → bs ≡ front ++ held → front ++ (held ++ u ∷ more) ≡ (bs ++ u ∷ []) ++ more
-held_bytes bs front held more u e = sym (ap (λ l. (l ++ u ∷ []) ++ more) e ∙ append_assoc (front ++ held) (u ∷ []) more ∙ append_assoc front held (u ∷ more))
+pub held_bytes : (bs front held more : List ℕ) (u : ℕ) → bs ≡ front ++ held
+    → front ++ (held ++ u ∷ more) ≡ (bs ++ u ∷ []) ++ more
+held_bytes bs front held more u e = sym (ap (λ l. (l ++ u ∷ []) ++ more) e
+    ∙ append_assoc (front ++ held) (u ∷ []) more ∙ append_assoc front held (u ∷ more))
 
 -- a byte after nine that go on
-pub long_refused : (bs : List ℕ) (u : ℕ) (rs : List Row) (d : Engine) → StandsAt bs rs d → (IsByte d.next → ⊥) → IsOpenVarint (held_in d) → length (held_in d) ≡ 9 → 2 ≤ u → RefusedIn (allowance_of d) bs (u ∷ []) (offset_in d) BadVarint
+pub long_refused : (bs : List ℕ) (u : ℕ) (rs : List Row) (d : Engine) → StandsAt bs rs d
+    → (IsByte d.next → ⊥) → IsOpenVarint (held_in d) → length (held_in d) ≡ 9 → 2 ≤ u
+    → RefusedIn (allowance_of d) bs (u ∷ []) (offset_in d) BadVarint
 long_refused bs u rs d s spelled begun nine above = record {
   used = 1;
   some = omega arith;
   within = omega arith;
   fault = λ more. (let r = next_role d in
       subst (λ l. FirstFault d.limits l d.bytes BadVarint) (held_bytes bs s.front (held_in d) more u s.whole)
-      (outlined_long d.limits s.front (sums_of d) (outline_in d) rs (held_in d ++ u ∷ more) r.0 s.outlined r.1 (next_number d spelled) (record { nine = held_in d; tenth = u; more = more; whole = refl; length = nine; go_on = begun.high; above = above })));
+      (outlined_long d.limits s.front (sums_of d) (outline_in d) rs (held_in d ++ u ∷ more) r.0
+      s.outlined r.1 (next_number d spelled)
+      (record {
+        nine = held_in d;
+        tenth = u;
+        more = more;
+        whole = refl;
+        length = nine;
+        go_on = begun.high;
+        above = above;
+      })));
 }
 
 -- the last byte of a number
-pub number_fed : {S : Type 0} (holds : S → Notes → Type 0) (bs : List ℕ) (rs more : List Row) (d b e : Engine) (old new : S) (u value width : ℕ) (answer : Result Bool Stop) (s : StandsAt bs rs d) → SameItem d b → held_in b ≡ [] → (IsByte d.next → ⊥)
-    → IsVarint (held_in d ++ u ∷ []) value → width ≡ length (held_in d) + 1 → e.limits ≡ b.limits → held_in e ≡ held_in b → ((r : Role) → IsNext r b → Takes r value width b rs answer e more)
-    → ((r : Role) → IsNext r b → IfOk answer (λ ends. NotesGo holds (notes_with r value width b e ends) b old new)) → (IsPlaced b.next b → OnOk answer (IsPlaced e.next e))
+pub number_fed : {S : Type 0} (holds : S → Notes → Type 0) (bs : List ℕ) (rs more : List Row)
+    (d b e : Engine) (old new : S) (u value width : ℕ) (answer : Result Bool Stop)
+    (s : StandsAt bs rs d) → SameItem d b → held_in b ≡ [] → (IsByte d.next → ⊥)
+    → IsVarint (held_in d ++ u ∷ []) value → width ≡ length (held_in d) + 1 → e.limits ≡ b.limits
+    → held_in e ≡ held_in b → ((r : Role) → IsNext r b → Takes r value width b rs answer e more)
+    → ((r : Role) → IsNext r b
+    → IfOk answer (λ ends. NotesGo holds (notes_with r value width b e ends) b old new))
+    → (IsPlaced b.next b → OnOk answer (IsPlaced e.next e))
     → IsFed holds (holds old (notes_at s)) (allowance_of d) d.start bs (u ∷ []) (with_used 1 answer) more e new
 number_fed holds bs rs more d b e old new u value width answer s q none spelled v size limits held takes noted placed =
     let whole : List ℕ = held_in d ++ u ∷ [] in
-    let (t, front, notes) = stands_else bs s.front rs d b q s (sym (ap (λ l. s.front ++ l) none ∙ append-nil s.front)) (inr none) in
+    let (t, front, notes) = stands_else bs s.front rs d b q s
+    (sym (ap (λ l. s.front ++ l) none ∙ append-nil s.front)) (inr none) in
     let r = next_role b in
-    let at : t.front ++ whole ≡ bs ++ take 1 (u ∷ []) = ap (λ l. l ++ whole) front ∙ (held_bytes bs s.front (held_in d) [] u s.whole ∙ append-nil (bs ++ u ∷ [])) in
-    let fed = item_fed holds bs rs more b e old new t.front t.outlined r.0 value whole (u ∷ []) 1 r.1 (number_written b value whole v (λ byte. spelled (subst IsByte q.next byte))) (omega arith) (omega arith) at limits (held ∙ none)
-    width answer (omega (arith, length-append (held_in d) (u ∷ []), size)) (takes r.0 r.1) (noted r.0 r.1) (placed t.placed) in
-    subst (λ (x : Allowance × ℕ × Notes). IsFed holds (holds old x.2) x.0 x.1 bs (u ∷ []) (with_used 1 answer) more e new)
+    let at : t.front ++ whole ≡ bs ++ take 1 (u ∷ []) = ap (λ l. l ++ whole) front
+    ∙ (held_bytes bs s.front (held_in d) [] u s.whole ∙ append-nil (bs ++ u ∷ [])) in
+    let fed = item_fed holds bs rs more b e old new t.front t.outlined r.0 value whole (u ∷ []) 1
+    r.1 (number_written b value whole v (λ byte. spelled (subst IsByte q.next byte)))
+    (omega arith) (omega arith) at limits (held ∙ none)
+    width answer (omega (arith, length-append (held_in d) (u ∷ []), size)) (takes r.0 r.1)
+    (noted r.0 r.1) (placed t.placed) in
+    subst (λ (x : Allowance × ℕ × Notes). IsFed holds (holds old x.2) x.0 x.1 bs (u ∷ [])
+    (with_used 1 answer) more e new)
     (λ i. (q.limits i, q.start i, notes i)) fed
 
 -- a byte of a number that goes on
-pub more_fed : {S : Type 0} (holds : S → Notes → Type 0) (bs : List ℕ) (rs : List Row) (d e : Engine) (old : S) (u : ℕ) (s : StandsAt bs rs d) → SameItem d e → (IsByte d.next → ⊥) → held_in e ≡ held_in d ++ u ∷ []
+pub more_fed : {S : Type 0} (holds : S → Notes → Type 0) (bs : List ℕ) (rs : List Row)
+    (d e : Engine) (old : S) (u : ℕ) (s : StandsAt bs rs d) → SameItem d e → (IsByte d.next → ⊥)
+    → held_in e ≡ held_in d ++ u ∷ []
     → IsFed holds (holds old (notes_at s)) (allowance_of d) d.start bs (u ∷ []) (Ok (1, false)) rs e old
 more_fed holds bs rs d e old u s q spelled held =
     let (t, front, notes) = stands_else bs (bs ++ u ∷ []) rs d e q s (held_more bs u rs d e s held) (inl spelled) in
@@ -200,12 +247,25 @@ not_both false p q = absurd cc
 -- ---- what the engine counts
 
 pub count_is : (bs : List ℕ) (rs : List Row) (d : Engine) → StandsAt bs rs d → length bs ≡ count_of d
-count_is bs rs d s = omega (arith, ap (λ (l : List ℕ). length l) s.whole, length-append s.front (held_in d), outlined_bytes d.limits s.front (sums_of d) (outline_in d) rs s.outlined)
+count_is bs rs d s = omega (
+  arith,
+  ap (λ (l : List ℕ). length l) s.whole,
+  length-append s.front
+      (held_in d),
+  outlined_bytes d.limits s.front (sums_of d) (outline_in d) rs s.outlined,
+)
 
-pub alive_left : {S : Type 0} (holds : S → Notes → Type 0) (piece : List ℕ) (used : ℕ) (rs more : List Row) (d e : Engine) (old new : S) → IsAlive rs d → FedBy holds d rs old piece (Ok (used, false)) e more new → IsAlive more e
-alive_left holds piece used rs more d e old new alive fed = ∥∥₁_map alive (λ s. (s.0 ++ take used piece, (fed s.0 s.1).2))
+pub alive_left : {S : Type 0} (holds : S → Notes → Type 0) (piece : List ℕ) (used : ℕ)
+    (rs more : List Row) (d e : Engine) (old new : S) → IsAlive rs d
+    → FedBy holds d rs old piece (Ok (used, false)) e more new → IsAlive more e
+alive_left holds piece used rs more d e old new alive fed = ∥∥₁_map alive
+    (λ s. (s.0 ++ take used piece, (fed s.0 s.1).2))
 
 -- no more are used than there are
-pub used_within : {S : Type 0} (holds : S → Notes → Type 0) (piece : List ℕ) (count : ℕ) (ends : Bool) (rs more : List Row) (d e : Engine) (old new : S) → IsAlive rs d → FedBy holds d rs old piece (Ok (count, ends)) e more new → count ≤ length piece
-used_within holds piece count false rs more d e old new alive fed = ∥∥₁_elim alive (Prim.hlevel props) (λ s. (fed s.0 s.1).0)
-used_within holds piece count true rs more d e old new alive fed = ∥∥₁_elim alive (Prim.hlevel props) (λ s. (fed s.0 s.1).0.within)
+pub used_within : {S : Type 0} (holds : S → Notes → Type 0) (piece : List ℕ) (count : ℕ)
+    (ends : Bool) (rs more : List Row) (d e : Engine) (old new : S) → IsAlive rs d
+    → FedBy holds d rs old piece (Ok (count, ends)) e more new → count ≤ length piece
+used_within holds piece count false rs more d e old new alive fed = ∥∥₁_elim alive
+    (Prim.hlevel props) (λ s. (fed s.0 s.1).0)
+used_within holds piece count true rs more d e old new alive fed = ∥∥₁_elim alive
+    (Prim.hlevel props) (λ s. (fed s.0 s.1).0.within)

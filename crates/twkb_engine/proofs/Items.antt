@@ -1,5 +1,6 @@
 -- An item that comes next: where it leads, and what it brings.
-use Rattle.std.proofs.Common.{◌≡◌, inr, ℕ, ◌+◌, ◌<◌, ◌^◌, List, length, sym, ap, ◌∙◌, subst, true, false, Bool, Result, Ok, Err, Some}
+use Rattle.std.proofs.Common.{◌≡◌, inr, ℕ, ◌+◌, ◌<◌, ◌^◌, List, length, sym, ap, ◌∙◌, subst, true, false, Bool}
+use Rattle.std.proofs.Common.{Result, Ok, Err, Some}
 use Rattle.std.specs.Prelude.{ℤ, Option}
 use Rattle.std.specs.Result.{IsErrAnd}
 use Rattle.std.proofs.lemmas.Result.{err_from_is_err_and}
@@ -61,7 +62,12 @@ module _ {rs : List Row} {d : Engine} {i : NextItem} (alive : IsAlive rs d) (is 
 
     pub given_leads : IsFree r n d → Admits (brings_in depth id) rs → LeadsIn depth id
     given_leads free admits =
-        record { free = free; way_is = ap (λ j. way_at n width d (step_at j d)) is; brings_is = brought; admits = admits }
+        record {
+          free = free;
+          way_is = ap (λ j. way_at n width d (step_at j d)) is;
+          brings_is = brought;
+          admits = admits;
+        }
 
     pub item_leads : (bytes : List ℕ) → Gives r n bytes → IsFree r n d → LeadsIn depth id
     item_leads bytes gives free =

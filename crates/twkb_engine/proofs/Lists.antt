@@ -1,5 +1,6 @@
 -- The ends of lists in a body.
-use Rattle.std.proofs.Common.{◌≡◌, ◌-◌, ◌<◌, ℕ, zero, suc, List, refl, sym, ap, subst, ◌∙◌, arith, true, if◌then◌else◌, Result, Ok, None}
+use Rattle.std.proofs.Common.{◌≡◌, ◌-◌, ◌<◌, ℕ, zero, suc, List, refl, sym, ap, subst, ◌∙◌, arith, true}
+use Rattle.std.proofs.Common.{if◌then◌else◌, Result, Ok, None}
 use Rattle.std.specs.Prelude.{ℤ, Option}
 use Rattle.twkb_points.specs.Point.{Point}
 use Rattle.twkb_tree.specs.Tree.{Ids}
@@ -14,7 +15,8 @@ use Rattle.twkb_body.specs.Head.{head_of, form_of}
 use Rattle.twkb_body.specs.Ids.{ids_of}
 use Rattle.twkb_engine.specs.Collections.{groups_of}
 use Rattle.twkb_engine.specs.State.{step_at, outline_in, IsHere, IsPlaced}
-use Rattle.twkb_engine.specs.Fits.{lists_of, left_fit, has_members, is_bodied, first_item, item_fits, lists_fit, IsInside}
+use Rattle.twkb_engine.specs.Fits.{lists_of, left_fit, has_members, is_bodied, first_item, item_fits, lists_fit}
+use Rattle.twkb_engine.specs.Fits.{IsInside}
 use Rattle.twkb_engine.specs.Taking.{past_last, point_row}
 use Rattle.twkb_engine.specs.declared.next_item.NextItem.{NextItem}
 use Rattle.twkb_engine.specs.declared.open_collections.OpenCollection.{OpenCollection}
@@ -29,20 +31,30 @@ has_some kinds.MultiPoint p r (suc m) some fits = refl
 has_some k p r (suc m) some fits = grind arith
 
 -- past the last list of a member, the next member begins
-begun_member : (k : Kind) (e : Engine) (h : machine.Head) (ids : Ids) (gs : List Group) (bytes : ℕ) → has_members k ≡ true → is_bodied k ≡ true → e.head.kind ≡ k → groups_of e.collections ≡ gs → head_of e.head ≡ h
+begun_member : (k : Kind) (e : Engine) (h : machine.Head) (ids : Ids) (gs : List Group) (bytes : ℕ)
+    → has_members k ≡ true → is_bodied k ≡ true → e.head.kind ≡ k → groups_of e.collections ≡ gs
+    → head_of e.head ≡ h
     → ids_of e.ids ≡ other_ids ids
-    → outline_ends bytes (gs, shut h (form_of k) (if has_members k then ids else None) 0 (lists_of k 0 0 (suc e.members_left))) ≡ Ok (groups_of e.collections, step_at (first_item k) e)
+    → outline_ends bytes (
+      gs,
+      shut h (form_of k) (if has_members k then ids else None) 0
+          (lists_of k 0 0 (suc e.members_left)),
+    ) ≡ Ok (groups_of e.collections, step_at (first_item k) e)
 begun_member kinds.MultiPoint e h ids gs bytes has body ek eg eh ei = rw (ek, eg, eh, ei) refl
 begun_member kinds.MultiLinestring e h ids gs bytes has body ek eg eh ei = rw (ek, eg, eh, ei) refl
 begun_member kinds.MultiPolygon e h ids gs bytes has body ek eg eh ei = rw (ek, eg, eh, ei) refl
 begun_member k e h ids gs bytes has body ek eg eh ei = absurd cc
 
-pub next_member : (d e : Engine) → d.rings_left ≡ 0 → has_members d.head.kind ≡ true → is_bodied d.head.kind ≡ true → 0 < d.members_left → e.members_left ≡ d.members_left - 1 → e.head ≡ d.head → e.collections ≡ d.collections
+pub next_member : (d e : Engine) → d.rings_left ≡ 0 → has_members d.head.kind ≡ true
+    → is_bodied d.head.kind ≡ true → 0 < d.members_left → e.members_left ≡ d.members_left - 1
+    → e.head ≡ d.head → e.collections ≡ d.collections
     → ids_of e.ids ≡ other_ids (ids_of d.ids) → e.next ≡ first_item d.head.kind → past_last d ≡ Ok (outline_in e)
 next_member d e er has body some em eh eg ei en =
     let one : d.members_left ≡ suc e.members_left = omega (arith, some, em) in
     rw (er, one)
-    (begun_member d.head.kind e (head_of d.head) (ids_of d.ids) (groups_of d.collections) d.bytes has body (ap (λ (h : Head). h.kind) eh) (ap (λ (c : List OpenCollection). groups_of c) eg) (ap head_of eh) ei
+    (begun_member d.head.kind e (head_of d.head) (ids_of d.ids) (groups_of d.collections) d.bytes
+    has body (ap (λ (h : Head). h.kind) eh) (ap (λ (c : List OpenCollection). groups_of c) eg)
+    (ap head_of eh) ei
     ∙ ap (λ (n : NextItem). let o : Result Outline Reason = Ok (groups_of e.collections, step_at n e) in o) (sym en))
 
 -- what fits before it fits then
@@ -50,7 +62,8 @@ pub next_fits : (k : Kind) (n : NextItem) → n ≡ first_item k → is_bodied k
 next_fits kinds.Point n en body = rw en refl
 next_fits k n en body = rw en cc
 
-pub next_lists_fit : (k : Kind) (n : NextItem) (p r m : ℕ) → n ≡ first_item k → p ≡ 0 → r ≡ 0 → has_members k ≡ true → is_bodied k ≡ true → lists_fit n k p r m ≡ true
+pub next_lists_fit : (k : Kind) (n : NextItem) (p r m : ℕ) → n ≡ first_item k → p ≡ 0 → r ≡ 0
+    → has_members k ≡ true → is_bodied k ≡ true → lists_fit n k p r m ≡ true
 next_lists_fit kinds.MultiPoint n p r m en ep er has body = rw (en, ep, er) refl
 next_lists_fit k n p r m en ep er has body = rw (en, ep, er) cc
 
@@ -72,12 +85,17 @@ next_placed d e en body eh eg at = placed_by d.head.kind e.next e en body (place
 
 -- the id of the open member is that of the kind's members, if it has any
 member_there : (k : Kind) (ids : Ids) (p : Point) (depth : ℕ) (id : Option ℤ) (precision : ℤ)
-    → point_change p depth id precision (form_of k) (first_id ids) ≡ point_change p depth id precision (form_of k) (first_id (if has_members k then ids else None))
+    → point_change p depth id precision (form_of k) (first_id ids) ≡ point_change p depth id
+    precision (form_of k) (first_id (if has_members k then ids else None))
 member_there kinds.Point ids p depth id precision = refl
 member_there k ids p depth id precision = refl
 
 -- the change is that of the engine
-pub point_there : (d : Engine) (h : Head) (member : Option ℤ) (p : Point) → h ≡ d.head → member ≡ first_id (ids_of d.ids) → point_change p h.depth h.id h.precision (form_of h.kind) member ≡ point_row p d
+pub point_there : (d : Engine) (h : Head) (member : Option ℤ) (p : Point) → h ≡ d.head
+    → member ≡ first_id (ids_of d.ids) → point_change p h.depth h.id h.precision (form_of h.kind)
+    member ≡ point_row p d
 point_there d h member p eh em =
     ap (λ (k : Head). point_change p k.depth k.id k.precision (form_of k.kind) member) eh
-    ∙ (ap (λ (m : Option ℤ). point_change p d.head.depth d.head.id d.head.precision (form_of d.head.kind) m) em ∙ member_there d.head.kind (ids_of d.ids) p d.head.depth d.head.id d.head.precision)
+    ∙ (ap (λ (m : Option ℤ). point_change p d.head.depth d.head.id d.head.precision
+    (form_of d.head.kind) m) em ∙ member_there d.head.kind (ids_of d.ids) p d.head.depth d.head.id
+    d.head.precision)

@@ -1,5 +1,6 @@
 -- Points of a list, members and ids that are taken many at once.
-use Rattle.std.proofs.Common.{◌≡◌, ℕ, suc, ◌-◌, ◌≤◌, ◌+◌, ◌<◌, List, [], ◌∷◌, ◌++◌, length, take, refl, sym, ap, ◌∙◌, subst, append-nil, arith, true, None}
+use Rattle.std.proofs.Common.{◌≡◌, ℕ, suc, ◌-◌, ◌≤◌, ◌+◌, ◌<◌, List, [], ◌∷◌, ◌++◌, length, take, refl, sym, ap, ◌∙◌}
+use Rattle.std.proofs.Common.{subst, append-nil, arith, true, None}
 use Rattle.std.proofs.lemmas.List.{length-take-le}
 use Rattle.std.specs.Prelude.{ℤ, if◌then◌else◌}
 use Rattle.twkb_points.specs.Point.{Point}
@@ -17,7 +18,8 @@ use Rattle.twkb_body.specs.Head.{head_of, form_of, many_of, IsHeadAt}
 use Rattle.twkb_body.specs.Ids.{ids_of, ids_read}
 use Rattle.twkb_body.specs.declared.head.Head.{Head}
 use Rattle.twkb_body.specs.declared.member_ids.MemberIds.{MemberIds}
-use Rattle.twkb_body.specs.Running.{HasLists, WantedIn, StepRuns, StepStops, ListRuns, ListStops, in_list, IdsTaken, IdsStop}
+use Rattle.twkb_body.specs.Running.{HasLists, WantedIn, StepRuns, StepStops, ListRuns, ListStops, in_list, IdsTaken}
+use Rattle.twkb_body.specs.Running.{IdsStop}
 use Rattle.twkb_engine.specs.Collections.{groups_of}
 use Rattle.twkb_engine.specs.Fits.{lists_of, line_lists_of, has_members, left_fit, lists_fit}
 use Rattle.twkb_engine.specs.State.{IsPlaced, sums_of, step_at, ids_in}
@@ -31,10 +33,15 @@ use Rattle.twkb_engine.proofs.Between.{is_some}
 
 -- no bytes lead an engine nowhere
 pub stays_put : (rs : List Row) (d : Engine) → LeadsQuietly rs d [] rs d
-stays_put rs d = λ front s. subst (λ l. (t : StandsAt l rs d) × (notes_at t ≡ notes_at s)) (sym (append-nil front)) (s, refl)
+stays_put rs d = λ front s. subst (λ l. (t : StandsAt l rs d) × (notes_at t ≡ notes_at s))
+    (sym (append-nil front)) (s, refl)
 
-pub place_at : (d e : Engine) → e.collections ≡ d.collections → e.head ≡ d.head → IsHeadAt (length (groups_of d.collections)) (id_in (groups_of d.collections)) d.head → IsHeadAt (length (groups_of e.collections)) (id_in (groups_of e.collections)) e.head
-place_at d e cs h p = subst (λ c. IsHeadAt (length (groups_of c)) (id_in (groups_of c)) e.head) (sym cs) (subst (IsHeadAt (length (groups_of d.collections)) (id_in (groups_of d.collections))) (sym h) p)
+pub place_at : (d e : Engine) → e.collections ≡ d.collections → e.head ≡ d.head
+    → IsHeadAt (length (groups_of d.collections)) (id_in (groups_of d.collections)) d.head
+    → IsHeadAt (length (groups_of e.collections)) (id_in (groups_of e.collections)) e.head
+place_at d e cs h p = subst (λ c. IsHeadAt (length (groups_of c)) (id_in (groups_of c)) e.head)
+    (sym cs) (subst (IsHeadAt (length (groups_of d.collections)) (id_in (groups_of d.collections)))
+    (sym h) p)
 
 -- it is so many bytes further, at this point, with so many points left
 pub record IsFurther (d e : Engine) (used : ℕ) (to : Point) (left : ℕ) : Type 0 where
@@ -70,7 +77,19 @@ pub record Fields : Type 0 where
   pub held : List ℕ
 
 abbrev pub fields_of : Engine → Fields
-fields_of d = record { limits = d.limits; start = d.start; sums = sums_of d; collections = d.collections; head = d.head; ids = d.ids; members_left = d.members_left; rings_left = d.rings_left; points_left = d.points_left; next = d.next; held = d.held }
+fields_of d = record {
+  limits = d.limits;
+  start = d.start;
+  sums = sums_of d;
+  collections = d.collections;
+  head = d.head;
+  ids = d.ids;
+  members_left = d.members_left;
+  rings_left = d.rings_left;
+  points_left = d.points_left;
+  next = d.next;
+  held = d.held;
+}
 
 -- so many bytes further, at this point, with these ids, members and points left
 abbrev pub moved_to : Engine → (used : ℕ) → Point → MemberIds → (members points : ℕ) → Fields
@@ -88,9 +107,12 @@ module _ (rs : List Row) (d : Engine) (i : NextItem) (step : Fields → Step) (s
   headed : (front : List ℕ) → StandsAt front rs d → Headed d
   headed front t = (placed d).0 (subst (λ j. IsPlaced j d) is t.placed)
 
-  wanted : (front : List ℕ) (t : StandsAt front rs d) → WantedIn d.limits t.front (sums_of d) (groups_of d.collections) (λ start. notes_in start t.outlined) d.head s rs
+  wanted : (front : List ℕ) (t : StandsAt front rs d)
+      → WantedIn d.limits t.front (sums_of d) (groups_of d.collections)
+      (λ start. notes_in start t.outlined) d.head s rs
   wanted front t = record {
-    outlined = subst (λ p. NotedOutline d.limits t.front (sums_of d) (groups_of d.collections, p) rs (λ start. notes_in start t.outlined))
+    outlined = subst (λ p. NotedOutline d.limits t.front (sums_of d) (groups_of d.collections, p) rs
+        (λ start. notes_in start t.outlined))
         (ap (λ j. step_at j d) is ∙ (at d ∙ here)) (noted_at t);
     placed = headed front t;
   }
@@ -108,21 +130,27 @@ module _ (rs : List Row) (d : Engine) (i : NextItem) (step : Fields → Step) (s
   step_led more e p used to ids members points bytes run size q there = λ front t.
       let next : e.next ≡ i = ap (λ (g : Fields). g.next) q ∙ is in
       let n : (d.bytes + used) ≡ d.bytes + length bytes = ap (λ k. d.bytes + k) (sym size) in
-      let u = stands_whole (front ++ bytes) more e (run d.limits (sums_of d) t.front (groups_of d.collections) _ refl (wanted front t))
+      let u = stands_whole (front ++ bytes) more e (run d.limits (sums_of d) t.front
+      (groups_of d.collections) _ refl (wanted front t))
       (ap (λ (g : Fields). g.limits) q)
       (ap (λ (g : Fields). g.sums) q ∙ (λ j. record { bytes = n j; position = to; nodes = d.nodes; points = d.points }))
       (λ j. (groups_of (q j).collections, (ap (λ k. step_at k e) next ∙ (at e ∙ (ap step q ∙ there))) j))
-      refl (subst (λ k. IsPlaced k e) (sym next) ((placed e).1 (place_at d e (ap (λ (g : Fields). g.collections) q) (ap (λ (g : Fields). g.head) q) (headed front t))))
+      refl (subst (λ k. IsPlaced k e) (sym next) ((placed e).1
+      (place_at d e (ap (λ (g : Fields). g.collections) q) (ap (λ (g : Fields). g.head) q)
+      (headed front t))))
       (ap (λ l. l ++ bytes) (all_whole front rs d none t)) (ap (λ (g : Fields). g.held) q ∙ none) in
       (u.0, u.1 ∙ ap (λ start. notes_in start t.outlined) (ap (λ (g : Fields). g.start) q))
 
 -- a point comes next
 abbrev on_point : Fields → Step
-on_point f = OnBody (head_of f.head) (form_of f.head.kind) (if has_members f.head.kind then ids_of f.ids else None) (Wanted 0 (lists_of f.head.kind f.points_left f.rings_left f.members_left))
+on_point f = OnBody (head_of f.head) (form_of f.head.kind)
+    (if has_members f.head.kind then ids_of f.ids else None)
+    (Wanted 0 (lists_of f.head.kind f.points_left f.rings_left f.members_left))
 
 -- an id comes next
 abbrev on_id : Fields → Step
-on_id f = OnId (many_of f.head.kind) (head_of f.head) (suc f.members_left) (ids_read f.ids) (f.members_left - length (ids_read f.ids))
+on_id f = OnId (many_of f.head.kind) (head_of f.head) (suc f.members_left) (ids_read f.ids)
+    (f.members_left - length (ids_read f.ids))
 
 -- ---- points of a list
 
@@ -130,7 +158,8 @@ on_id f = OnId (many_of f.head.kind) (head_of f.head) (suc f.members_left) (ids_
 pub record InLists (k : Kind) (ids : Ids) (r m : ℕ) : Type 0 where
   pub lists : (p : ℕ) → lists_of k p r m ≡ p ∷ line_lists_of k r m
   pub form : HasLists (form_of k)
-  pub same : next_ids (line_lists_of k r m) (if has_members k then ids else None) ≡ (if has_members k then ids else None)
+  pub same : next_ids (line_lists_of k r m) (if has_members k then ids else None)
+      ≡ (if has_members k then ids else None)
 
 in_lists : (k : Kind) (ids : Ids) (p r m : ℕ) → left_fit k p r m ≡ true → 0 < p → InLists k ids r m
 in_lists kinds.Linestring ids p r m h some = record { lists = λ p. refl; form = tt; same = refl }
@@ -141,50 +170,66 @@ in_lists k ids p r m h some = let z = is_some p some in absurd cc
 
 module _ (rs : List Row) (d : Engine) (is : d.next ≡ next.X) (some : 0 < d.points_left) (none : held_in d ≡ []) where
   inside : InLists d.head.kind (ids_of d.ids) d.rings_left d.members_left
-  inside = in_lists d.head.kind (ids_of d.ids) d.points_left d.rings_left d.members_left (subst (λ i. lists_fit i d.head.kind d.points_left d.rings_left d.members_left ≡ true) is d.lists_fit) some
+  inside = in_lists d.head.kind (ids_of d.ids) d.points_left d.rings_left d.members_left
+      (subst (λ i. lists_fit i d.head.kind d.points_left d.rings_left d.members_left ≡ true) is
+      d.lists_fit) some
 
   abbrev point : ℕ → Step
-  point left = in_list d.head (form_of d.head.kind) (ids_in d) left (line_lists_of d.head.kind d.rings_left d.members_left)
+  point left = in_list d.head (form_of d.head.kind) (ids_in d) left
+      (line_lists_of d.head.kind d.rings_left d.members_left)
 
-  listed : (left : ℕ) → OnBody (head_of d.head) (form_of d.head.kind) (ids_in d) (Wanted 0 (lists_of d.head.kind left d.rings_left d.members_left)) ≡ point left
+  listed : (left : ℕ) → OnBody (head_of d.head) (form_of d.head.kind) (ids_in d)
+      (Wanted 0 (lists_of d.head.kind left d.rings_left d.members_left)) ≡ point left
   listed left = ap (λ l. OnBody (head_of d.head) (form_of d.head.kind) (ids_in d) (Wanted 0 l)) (inside.lists left)
 
   pub list_stops : (rest : List ℕ) → ListStops rs d.position d.points_left rest → StopsIn rs d rest
   list_stops rest stops =
-      step_stops rs d next.X on_point (point d.points_left) is (λ e. refl) (listed d.points_left) none (λ e. (λ p. p, λ p. p)) rest
+      step_stops rs d next.X on_point (point d.points_left) is (λ e. refl) (listed d.points_left)
+      none (λ e. (λ p. p, λ p. p)) rest
       (stops d.head (form_of d.head.kind) (ids_in d) _ inside.form inside.same)
 
   pub list_led : (more : List Row) (e : Engine) (used left : ℕ) (to : Point) (bytes : List ℕ)
       → fields_of e ≡ moved_to d used to d.ids d.members_left left → length bytes ≡ used
       → ListRuns rs d.position d.points_left bytes left more to → LeadsQuietly rs d bytes more e
   list_led more e used left to bytes q size run =
-      step_led rs d next.X on_point (point d.points_left) is (λ e. refl) (listed d.points_left) none (λ e. (λ p. p, λ p. p))
+      step_led rs d next.X on_point (point d.points_left) is (λ e. refl) (listed d.points_left) none
+      (λ e. (λ p. p, λ p. p))
       more e (point left) used to d.ids d.members_left left bytes
       (run d.head (form_of d.head.kind) (ids_in d) _ inside.form inside.same) size q (listed left)
 
 -- ---- members of a multipoint
 
-module _ (rs : List Row) (d : Engine) (is : d.next ≡ next.X) (kind : d.head.kind ≡ kinds.MultiPoint) (none : held_in d ≡ []) where
+module _ (rs : List Row) (d : Engine) (is : d.next ≡ next.X) (kind : d.head.kind ≡ kinds.MultiPoint)
+    (none : held_in d ≡ []) where
   abbrev member : MemberIds → ℕ → Step
   member ids left = OnBody (head_of d.head) MultiPointForm (ids_of ids) (Wanted 0 (left ∷ []))
 
   -- the step there, by the kind
-  of_kind : (ids : MemberIds) (left : ℕ) → OnBody (head_of d.head) (form_of d.head.kind) (if has_members d.head.kind then ids_of ids else None) (Wanted 0 (lists_of d.head.kind d.points_left d.rings_left left)) ≡ member ids left
-  of_kind ids left = ap (λ k. OnBody (head_of d.head) (form_of k) (if has_members k then ids_of ids else None) (Wanted 0 (lists_of k d.points_left d.rings_left left))) kind
+  of_kind : (ids : MemberIds) (left : ℕ) → OnBody (head_of d.head) (form_of d.head.kind)
+      (if has_members d.head.kind then ids_of ids else None)
+      (Wanted 0 (lists_of d.head.kind d.points_left d.rings_left left)) ≡ member ids left
+  of_kind ids left = ap (λ k. OnBody (head_of d.head) (form_of k)
+      (if has_members k then ids_of ids else None) (Wanted 0
+      (lists_of k d.points_left d.rings_left left))) kind
 
-  pub members_stop : (rest : List ℕ) → StepStops d.head (member d.ids d.members_left) rs d.position rest → StopsIn rs d rest
-  members_stop = step_stops rs d next.X on_point (member d.ids d.members_left) is (λ e. refl) (of_kind d.ids d.members_left) none (λ e. (λ p. p, λ p. p))
+  pub members_stop : (rest : List ℕ) → StepStops d.head (member d.ids d.members_left) rs d.position
+      rest → StopsIn rs d rest
+  members_stop = step_stops rs d next.X on_point (member d.ids d.members_left) is (λ e. refl)
+      (of_kind d.ids d.members_left) none (λ e. (λ p. p, λ p. p))
 
   pub members_led : (more : List Row) (e : Engine) (used left : ℕ) (to : Point) (bytes : List ℕ)
       → fields_of e ≡ moved_to d used to e.ids left d.points_left → length bytes ≡ used
-      → StepRuns d.head (member d.ids d.members_left) rs d.position bytes (member e.ids left) more to → LeadsQuietly rs d bytes more e
+      → StepRuns d.head (member d.ids d.members_left) rs d.position bytes (member e.ids left) more
+      to → LeadsQuietly rs d bytes more e
   members_led more e used left to bytes q size run =
-      step_led rs d next.X on_point (member d.ids d.members_left) is (λ e. refl) (of_kind d.ids d.members_left) none (λ e. (λ p. p, λ p. p))
+      step_led rs d next.X on_point (member d.ids d.members_left) is (λ e. refl)
+      (of_kind d.ids d.members_left) none (λ e. (λ p. p, λ p. p))
       more e (member e.ids left) used to e.ids left d.points_left bytes run size q (of_kind e.ids left)
 
 -- ---- ids
 
-module _ (rs : List Row) (d : Engine) (is : d.next ≡ next.Id) (none : held_in d ≡ []) (most : ℕ) (many : most ≡ d.members_left - length (ids_read d.ids)) where
+module _ (rs : List Row) (d : Engine) (is : d.next ≡ next.Id) (none : held_in d ≡ []) (most : ℕ)
+    (many : most ≡ d.members_left - length (ids_read d.ids)) where
   abbrev id_step : List ℤ → ℕ → Step
   id_step ids left = OnId (many_of d.head.kind) (head_of d.head) (suc d.members_left) ids left
 
@@ -193,7 +238,8 @@ module _ (rs : List Row) (d : Engine) (is : d.next ≡ next.Id) (none : held_in 
 
   pub ids_stop : (rest : List ℕ) → IdsStop (ids_read d.ids) most rest → StopsIn rs d rest
   ids_stop rest stops =
-      step_stops rs d next.Id on_id (id_step (ids_read d.ids) most) is (λ e. refl) id_here none (λ e. (λ p. p, λ p. p)) rest
+      step_stops rs d next.Id on_id (id_step (ids_read d.ids) most) is (λ e. refl) id_here none
+      (λ e. (λ p. p, λ p. p)) rest
       (stops d.head (many_of d.head.kind) (suc d.members_left) rs d.position)
 
   pub ids_led : (e : Engine) (used : ℕ) (rest : List ℕ) → 0 < most → used ≤ length rest

@@ -1,5 +1,6 @@
 -- The members of a geometry: their count, their ids, and the step at which the first begins.
-use Rattle.std.proofs.Common.{◌≡◌, ℕ, zero, suc, ◌+◌, ◌-◌, ◌<◌, ◌≤◌, ◌⊎◌, List, [], ◌∷◌, ◌++◌, length, length-append, true, false, nat_lt, refl, sym, ap, subst, ◌∙◌, Ok, Some, None, arith}
+use Rattle.std.proofs.Common.{◌≡◌, ℕ, zero, suc, ◌+◌, ◌-◌, ◌<◌, ◌≤◌, ◌⊎◌, List, [], ◌∷◌, ◌++◌, length, length-append}
+use Rattle.std.proofs.Common.{true, false, nat_lt, refl, sym, ap, subst, ◌∙◌, Ok, Some, None, arith}
 use Rattle.std.specs.Prelude.{ℤ, Bool, Option, if◌then◌else◌}
 use Rattle.twkb_num.specs.Zigzag.{unzigzag_of}
 use Rattle.twkb_tree.specs.Tree.{Ids}

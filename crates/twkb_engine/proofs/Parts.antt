@@ -1,5 +1,6 @@
 -- The parts of a header, and what comes after it.
-use Rattle.std.proofs.Common.{◌≡◌, ℕ, ◌+◌, ◌-◌, ◌<◌, ◌≤◌, ◌^◌, [], ◌∷◌, ◌++◌, length, Bool, true, false, ◌&&◌, nat_le, refl, ap, ◌∙◌, OnOk, Result, Ok, Err, None, arith}
+use Rattle.std.proofs.Common.{◌≡◌, ℕ, ◌+◌, ◌-◌, ◌<◌, ◌≤◌, ◌^◌, [], ◌∷◌, ◌++◌, length, Bool, true, false, ◌&&◌, nat_le}
+use Rattle.std.proofs.Common.{refl, ap, ◌∙◌, OnOk, Result, Ok, Err, None, arith}
 use Rattle.std.specs.Prelude.{if◌then◌else◌}
 use Rattle.std.proofs.lemmas.Bool.Decides.{nat_tests}
 use Rattle.twkb_points.specs.Point.{Point}
@@ -32,17 +33,21 @@ header_fits kinds.Ring t = absurd cc
 header_fits k t = refl
 
 -- no list is open at it
-pub header_lists : (k : Kind) (p r m : ℕ) → is_typed k ≡ true → are_shut p r m ≡ true → lists_fit (header_item k) k p r m ≡ true
+pub header_lists : (k : Kind) (p r m : ℕ) → is_typed k ≡ true → are_shut p r m ≡ true
+    → lists_fit (header_item k) k p r m ≡ true
 header_lists kinds.Ring p r m t s = absurd cc
 header_lists k p r m t s = s
 
 -- with it the body begins
-header_begins_as : (d : Engine) (k : Kind) → d.head.kind ≡ k → is_typed k ≡ true → step_at (header_item k) d ≡ begins (kind_of k) (head_of d.head)
+header_begins_as : (d : Engine) (k : Kind) → d.head.kind ≡ k → is_typed k ≡ true
+    → step_at (header_item k) d ≡ begins (kind_of k) (head_of d.head)
 header_begins_as d kinds.Ring is t = absurd cc
 header_begins_as d k is t = rw is refl
 
-pub header_begins : (d : Engine) → d.next ≡ header_item d.head.kind → is_typed d.head.kind ≡ true → outline_in d ≡ (groups_of d.collections, begins (kind_of d.head.kind) (head_of d.head))
-header_begins d is t = ap (λ n. (groups_of d.collections, step_at n d)) is ∙ ap (λ s. (groups_of d.collections, s)) (header_begins_as d d.head.kind refl t)
+pub header_begins : (d : Engine) → d.next ≡ header_item d.head.kind → is_typed d.head.kind ≡ true
+    → outline_in d ≡ (groups_of d.collections, begins (kind_of d.head.kind) (head_of d.head))
+header_begins d is t = ap (λ n. (groups_of d.collections, step_at n d)) is
+    ∙ ap (λ s. (groups_of d.collections, s)) (header_begins_as d d.head.kind refl t)
 
 pub ruleset headers = (header_fits, header_lists, header_begins)
 
@@ -51,14 +56,18 @@ pub ruleset headers = (header_fits, header_lists, header_begins)
 -- before a type byte few geometries are open
 pub few_open : (d : Engine) → d.next ≡ next.TypeByte → open_in d < 2 ^ 32
 few_open d is =
-    let count : open_in d ≡ length (groups_of d.collections) = ap (λ n. open_count (groups_of d.collections, step_at n d)) is in
+    let count : open_in d ≡ length (groups_of d.collections) =
+    ap (λ n. open_count (groups_of d.collections, step_at n d)) is in
     let few = d.few_open in
     omega (arith, count, groups_length [] d.collections, few)
 
 -- a geometry that begins is noted
-pub begun_noted : {S A E : Type 0} (holds : S → Notes → Type 0) (old new : S) (d : Engine) (told : Notes → Notes) (r : Result A E) → OnOk r ((w : Notes) → length w.begun < 2 ^ 32 → holds old w → holds new (told w)) → open_in d < 2 ^ 32
+pub begun_noted : {S A E : Type 0} (holds : S → Notes → Type 0) (old new : S) (d : Engine)
+    (told : Notes → Notes) (r : Result A E) → OnOk r ((w : Notes) → length w.begun < 2 ^ 32
+    → holds old w → holds new (told w)) → open_in d < 2 ^ 32
     → OnOk r (NotesGo holds told d old new)
-begun_noted holds old new d told (Ok u) f few = λ w many h. let much : length w.begun ≡ open_in d = many in f w (omega (arith, much, few)) h
+begun_noted holds old new d told (Ok u) f few = λ w many h. let much : length w.begun ≡ open_in d =
+    many in f w (omega (arith, much, few)) h
 begun_noted holds old new d told (Err e) f few = tt
 
 -- ---- sums
@@ -76,7 +85,8 @@ sums_as eb ep en et = λ i. record { bytes = eb i; position = ep i; nodes = en i
 -- ---- after a metadata byte
 
 -- one point more may be announced
-pub point_allowed : (b : Bool) (most points x : ℕ) → x ≡ (if b then 1 else 0) → points ≤ most → x ≤ most - points → unless (b && nat_le most points) TooManyPoints None ≡ None
+pub point_allowed : (b : Bool) (most points x : ℕ) → x ≡ (if b then 1 else 0) → points ≤ most
+    → x ≤ most - points → unless (b && nat_le most points) TooManyPoints None ≡ None
 point_allowed true most points x is few fits =
     let less : nat_le most points ≡ false = grind (arith, nat_tests) in rw less refl
 point_allowed false most points x is few fits = refl

@@ -1,5 +1,6 @@
 -- A point that is complete at the start of the bytes, and the ends after it.
-use Rattle.std.proofs.Common.{◌≡◌, ℕ, ◌+◌, List, [], ◌++◌, length, take, refl, sym, ap, ◌∙◌, subst, arith, true, false, Bool, Result, Ok, Err, OnOk, IfOk}
+use Rattle.std.proofs.Common.{◌≡◌, ℕ, ◌+◌, List, [], ◌++◌, length, take, refl, sym, ap, ◌∙◌, subst, arith, true}
+use Rattle.std.proofs.Common.{false, Bool, Result, Ok, Err, OnOk, IfOk}
 use Rattle.std.specs.Prelude.{if◌then◌else◌, None}
 use Rattle.std.proofs.lemmas.List.{length-take-le}
 use Rattle.twkb_points.specs.Point.{Point}
@@ -56,7 +57,9 @@ module _ (rs : List Row) (d : Engine) (is : d.next ≡ next.X) (last : d.points_
   placed_at_x s = subst (λ i. IsPlaced i d) is s.placed
 
   pub point_fits : left_fit d.head.kind 0 d.rings_left d.members_left ≡ true
-  point_fits = subst (λ p. left_fit d.head.kind p d.rings_left d.members_left ≡ true) last (subst (λ i. lists_fit i d.head.kind d.points_left d.rings_left d.members_left ≡ true) is d.lists_fit)
+  point_fits = subst (λ p. left_fit d.head.kind p d.rings_left d.members_left ≡ true) last
+      (subst (λ i. lists_fit i d.head.kind d.points_left d.rings_left d.members_left ≡ true) is
+      d.lists_fit)
 
   module _ (rest : List ℕ) (to : Point) (used : ℕ) (cut : PointInFront d.position rest to used) where
     -- the rows take it
@@ -70,7 +73,8 @@ module _ (rs : List Row) (d : Engine) (is : d.next ≡ next.X) (last : d.points_
         (point_admitted d.limits d.allowed s.1.front (sums_of d) gs (head_of d.head) f (ids_in d)
         (last_lists d) rs (take used rest) to o cut.pair))
 
-    module _ {S : Type 0} (holds : S → Notes → Type 0) (m e : Engine) (more : List Row) (old new : S) (q : IsFurther d m used to 0) (none : held_in d ≡ []) where
+    module _ {S : Type 0} (holds : S → Notes → Type 0) (m e : Engine) (more : List Row)
+        (old new : S) (q : IsFurther d m used to 0) (none : held_in d ≡ []) where
       open_there : open_in m ≡ open_in d
       open_there =
           let inside : IsInside d.next = subst IsInside (sym is) tt in
@@ -102,7 +106,8 @@ module _ (rs : List Row) (d : Engine) (is : d.next ≡ next.X) (last : d.points_
         read =
             let gs = groups_of d.collections in
             let f = form_of d.head.kind in
-            let stood = subst (λ o. NotedOutline d.limits s.front (sums_of d) o rs told) here (record { outlined = s.outlined; notes = λ start. refl }) in
+            let stood = subst (λ o. NotedOutline d.limits s.front (sums_of d) o rs told) here
+            (record { outlined = s.outlined; notes = λ start. refl }) in
             subst (λ c. NotedOutline d.limits all (sums_past (sums_of d) (take used rest) to)
             (gs, shut_at d 0 (last_lists d)) (applied c rs) told) (same_change to gs d.head f
             (first_id (ids_in d)) (placed_at_x s))
@@ -115,8 +120,11 @@ module _ (rs : List Row) (d : Engine) (is : d.next ≡ next.X) (last : d.points_
             let size : m.bytes ≡ d.bytes + length (take used rest) =
             omega (arith, q.bytes, length-take-le used rest cut.within) in
             subst (λ (X : Type 0). X) (sym (λ t. NotedOutline (q.limits t) all
-            (record { bytes = size t; position = q.position t; nodes = q.nodes t; points = q.points t })
-            (groups_of (q.collections t), step_past (q.head t) (q.ids t) (q.rings_left t) (q.members_left t)) (applied (brought to (q.head t) (q.ids t)) rs) told)) read
+            (record { bytes = size t; position = q.position t; nodes = q.nodes t; points = q.points t }) (
+              groups_of (q.collections t),
+              step_past (q.head t) (q.ids t) (q.rings_left t)
+                  (q.members_left t),
+            ) (applied (brought to (q.head t) (q.ids t)) rs) told)) read
 
         reads : Reads m.limits bs rest used (sums_of m) ended grown told
         reads = record {

@@ -21,7 +21,8 @@ AreOpen d w = length w.begun ≡ open_in d
 -- what an item of this role, number and width notes, and the ends after it: all, if the blob ends,
 -- else those of the geometries that are open no more
 abbrev pub notes_with : Role → (n width : ℕ) → (d e : Engine) → (ends : Bool) → Notes → Notes
-notes_with r n width d e ends w = note_ends_to (if ends then 0 else open_in e) (d.start + (d.bytes + width)) (d.points + points_by r n) (noted_by d.start (sums_of d) r n w)
+notes_with r n width d e ends w = note_ends_to (if ends then 0 else open_in e)
+    (d.start + (d.bytes + width)) (d.points + points_by r n) (noted_by d.start (sums_of d) r n w)
 
 -- what the ends note that come after what an engine took: all, if the blob ends, else those of the
 -- geometries that are open no more
@@ -34,4 +35,12 @@ NotesGo holds told d old new = (w : Notes) → AreOpen d w → holds old w → h
 
 -- the span of a point whose blob has these bytes and begins at this offset
 abbrev pub point_span : (start : ℕ) (bytes : List ℕ) → Span
-point_span start bytes = record { level = 0; offset = start; kind = kinds.Point; precision = unzigzag_of (get_or bytes 0 0 / 16); metadata = get_or bytes 1 0; length = length bytes; points = 1 }
+point_span start bytes = record {
+  level = 0;
+  offset = start;
+  kind = kinds.Point;
+  precision = unzigzag_of (get_or bytes 0 0 / 16);
+  metadata = get_or bytes 1 0;
+  length = length bytes;
+  points = 1;
+}

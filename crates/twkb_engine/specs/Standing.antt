@@ -1,5 +1,6 @@
 -- What an engine stands for.
-use Rattle.std.specs.Prelude.{◌≡◌, ◌⊎◌, ℕ, ◌+◌, ◌<◌, ◌≤◌, ◌^◌, List, [], ◌++◌, length, take, Bool, true, false, Result, Ok, Err, ⊤}
+use Rattle.std.specs.Prelude.{◌≡◌, ◌⊎◌, ℕ, ◌+◌, ◌<◌, ◌≤◌, ◌^◌, List, [], ◌++◌, length, take, Bool, true, false}
+use Rattle.std.specs.Prelude.{Result, Ok, Err, ⊤}
 use Rattle.twkb_tree.specs.Tree.{Tree}
 use Rattle.twkb_tree.specs.Limits.{Allowance}
 use Rattle.twkb_tree.specs.Rows.{Row, rows}
@@ -64,12 +65,15 @@ notes_at {d = d} s = notes_in d.start s.outlined
 
 -- Wherever the engine stands, with these notes held, these bytes lead it on within its blob, and
 -- the notes of their items are held.
-abbrev pub LeadsOn : {S : Type 0} → (S → Notes → Type 0) → List Row → Engine → S → List ℕ → List Row → Engine → S → Type 0
-LeadsOn holds rs d old bytes more e new = (front : List ℕ) (s : StandsAt front rs d) → (t : StandsAt (front ++ bytes) more e) × (holds old (notes_at s) → holds new (notes_at t))
+abbrev pub LeadsOn : {S : Type 0} → (S → Notes → Type 0) → List Row → Engine → S → List ℕ → List Row
+    → Engine → S → Type 0
+LeadsOn holds rs d old bytes more e new = (front : List ℕ) (s : StandsAt front rs d)
+    → (t : StandsAt (front ++ bytes) more e) × (holds old (notes_at s) → holds new (notes_at t))
 
 -- Wherever the engine stands, these bytes lead it on within its blob, and note nothing.
 abbrev pub LeadsQuietly : List Row → Engine → List ℕ → List Row → Engine → Type 0
-LeadsQuietly rs d bytes more e = (front : List ℕ) (s : StandsAt front rs d) → (t : StandsAt (front ++ bytes) more e) × (notes_at t ≡ notes_at s)
+LeadsQuietly rs d bytes more e = (front : List ℕ) (s : StandsAt front rs d)
+    → (t : StandsAt (front ++ bytes) more e) × (notes_at t ≡ notes_at s)
 
 -- this number of bytes says this number in the role of the next item
 pub record SaysNext (d : Engine) (bytes : List ℕ) (n count : ℕ) : Type 0 where
@@ -95,7 +99,8 @@ abbrev pub IsStep : Allowance → List ℕ → Result Bool Stop → List Row →
 IsStep limits bytes (Ok false) rs d = StandsAt bytes rs d
 IsStep limits bytes (Ok true) rs d = (g : Tree) × Blob limits bytes g × (rs ≡ rows 0 g) × StandsAt [] [] d
 IsStep limits bytes (Err Memory) rs d = IsJudged limits bytes
-IsStep limits bytes (Err (Refused r)) rs d = (more : List ℕ) → FirstFault limits (bytes ++ more) (offset_in d) (reason_of r)
+IsStep limits bytes (Err (Refused r)) rs d = (more : List ℕ)
+    → FirstFault limits (bytes ++ more) (offset_in d) (reason_of r)
 
 -- a byte of the piece is the last of an item that is refused, whatever follows
 pub record RefusedIn (limits : Allowance) (bs piece : List ℕ) (offset : ℕ) (reason : Reason) : Type 0 where
@@ -113,17 +118,24 @@ pub record MadeIn (limits : Allowance) (bs piece : List ℕ) (used : ℕ) (rs : 
   pub made : rs ≡ rows 0 geometry
 
 -- the notes are those of a blob of these bytes, which begins at this offset
-abbrev pub HoldsSpans : {S : Type 0} → (S → Notes → Type 0) → S → (start : ℕ) → {limits : Allowance} {bytes : List ℕ} {g : Tree} → Blob limits bytes g → Type 0
+abbrev pub HoldsSpans : {S : Type 0} → (S → Notes → Type 0) → S → (start : ℕ)
+    → {limits : Allowance} {bytes : List ℕ} {g : Tree} → Blob limits bytes g → Type 0
 HoldsSpans holds new start b = (w : Notes) × holds new w × (w.spans ≡ spans_of_blob start b)
 
 -- What an engine answers to a piece: bytes of it were used, after which it stands with their notes;
 -- or those up to the end of a blob, whose rows and spans it has; or there was no memory for an item
 -- of it, or one was refused.
-abbrev pub IsFed : {S : Type 0} → (S → Notes → Type 0) → (told : Type 0) → Allowance → (start : ℕ) → List ℕ → List ℕ → Result (ℕ × Bool) Stop → List Row → Engine → S → Type 0
-IsFed holds told limits start bs piece (Ok (used, false)) rs d new = (used ≤ length piece) × (d.start ≡ start) × (s : StandsAt (bs ++ take used piece) rs d) × (told → holds new (notes_at s))
-IsFed holds told limits start bs piece (Ok (used, true)) rs d new = (m : MadeIn limits bs piece used rs) × (told → HoldsSpans holds new start m.blob) × StandsAt [] [] d × (d.start ≡ start + (length bs + used))
+abbrev pub IsFed : {S : Type 0} → (S → Notes → Type 0) → (told : Type 0) → Allowance → (start : ℕ)
+    → List ℕ → List ℕ → Result (ℕ × Bool) Stop → List Row → Engine → S → Type 0
+IsFed holds told limits start bs piece (Ok (used, false)) rs d new = (used ≤ length piece)
+    × (d.start ≡ start) × (s : StandsAt (bs ++ take used piece) rs d)
+    × (told → holds new (notes_at s))
+IsFed holds told limits start bs piece (Ok (used, true)) rs d new =
+    (m : MadeIn limits bs piece used rs) × (told → HoldsSpans holds new start m.blob)
+    × StandsAt [] [] d × (d.start ≡ start + (length bs + used))
 IsFed holds told limits start bs piece (Err Memory) rs d new = PartIn limits bs piece
-IsFed holds told limits start bs piece (Err (Refused r)) rs d new = RefusedIn limits bs piece (offset_in d) (reason_of r)
+IsFed holds told limits start bs piece (Err (Refused r)) rs d new = RefusedIn limits bs piece
+    (offset_in d) (reason_of r)
 
 -- an answer, with how many bytes were used
 abbrev pub with_used : ℕ → Result Bool Stop → Result (ℕ × Bool) Stop
@@ -142,10 +154,14 @@ IsEnd limits bs offset false = FirstFault limits bs offset Truncated
 
 -- wherever the engine stands, that is its answer to the bytes; of the notes it is said if they were
 -- those of its items before
-abbrev pub FedBy : {S : Type 0} → (S → Notes → Type 0) → Engine → List Row → S → List ℕ → Result (ℕ × Bool) Stop → Engine → List Row → S → Type 0
-FedBy holds d rs old bytes answer e more new = (bs : List ℕ) (s : StandsAt bs rs d) → IsFed holds (holds old (notes_at s)) (allowance_of d) d.start bs bytes answer more e new
+abbrev pub FedBy : {S : Type 0} → (S → Notes → Type 0) → Engine → List Row → S → List ℕ
+    → Result (ℕ × Bool) Stop → Engine → List Row → S → Type 0
+FedBy holds d rs old bytes answer e more new = (bs : List ℕ) (s : StandsAt bs rs d)
+    → IsFed holds (holds old (notes_at s)) (allowance_of d) d.start bs bytes answer more e new
 
 -- that is its answer to the bytes, wherever it stands, and it keeps its limits
-pub record IsAnswer {S : Type 0} (holds : S → Notes → Type 0) (d : Engine) (rs : List Row) (old : S) (bytes : List ℕ) (answer : Result (ℕ × Bool) Stop) (e : Engine) (more : List Row) (new : S) : Type 0 where
+pub record IsAnswer {S : Type 0} (holds : S → Notes → Type 0) (d : Engine) (rs : List Row) (old : S)
+    (bytes : List ℕ) (answer : Result (ℕ × Bool) Stop) (e : Engine) (more : List Row)
+    (new : S) : Type 0 where
   pub limits : e.limits ≡ d.limits
   pub fed : FedBy holds d rs old bytes answer e more new

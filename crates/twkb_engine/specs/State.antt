@@ -6,7 +6,8 @@ use Rattle.twkb_grammar.specs.Bits.{bit}
 use Rattle.twkb_grammar.specs.Roles as role
 use Rattle.twkb_grammar.specs.Roles.{Role, where_set}
 use Rattle.twkb_grammar.specs.Machine.{Sums}
-use Rattle.twkb_body.specs.Outline.{Outline, Step, OnHeader, OnMetadata, OnOption, OnCount, OnId, OnBody, Wanted, WantedY, Spot, outline_role}
+use Rattle.twkb_body.specs.Outline.{Outline, Step, OnHeader, OnMetadata, OnOption, OnCount, OnId, OnBody, Wanted}
+use Rattle.twkb_body.specs.Outline.{WantedY, Spot, outline_role}
 use Rattle.twkb_body.specs.Growing.{id_in}
 use Rattle.twkb_body.specs.Head.{head_of, kind_of, form_of, many_of, IsHeadAt}
 use Rattle.twkb_body.specs.Ids.{ids_of, ids_read}
@@ -49,7 +50,8 @@ step_at next.ExtendedByte d = OnOption (kind_of d.head.kind) (head_of d.head) ro
 step_at next.Size d = OnOption (kind_of d.head.kind) (head_of d.head) role.Size (box_roles d.head.metadata)
 step_at (next.BoxNumber left) d = OnOption (kind_of d.head.kind) (head_of d.head) role.Box (boxes left)
 step_at next.MemberCount d = OnCount (many_of d.head.kind) (head_of d.head)
-step_at next.Id d = OnId (many_of d.head.kind) (head_of d.head) (suc d.members_left) (ids_read d.ids) (d.members_left - length (ids_read d.ids))
+step_at next.Id d = OnId (many_of d.head.kind) (head_of d.head) (suc d.members_left)
+    (ids_read d.ids) (d.members_left - length (ids_read d.ids))
 step_at next.X d = body_at d (Wanted 0 (lists_of d.head.kind d.points_left d.rings_left d.members_left))
 step_at next.Y d = body_at d (WantedY (lists_of d.head.kind d.points_left d.rings_left d.members_left))
 step_at next.PointCount d = body_at d (Wanted 1 (line_lists_of d.head.kind d.rings_left d.members_left))

@@ -1,5 +1,6 @@
 -- What an engine makes of the next item.
-use Rattle.std.specs.Prelude.{◌≡◌, ◌+◌, ◌⊎◌, ℕ, List, [], Bool, true, false, Some, None, Result, Ok, Err, if◌then◌else◌, ⊤}
+use Rattle.std.specs.Prelude.{◌≡◌, ◌+◌, ◌⊎◌, ℕ, List, [], Bool, true, false, Some, None, Result, Ok, Err}
+use Rattle.std.specs.Prelude.{if◌then◌else◌, ⊤}
 use Rattle.twkb_points.specs.Point.{Point, origin}
 use Rattle.twkb_tree.specs.Rows.{Row, first_id}
 use Rattle.twkb_grammar.specs.Bits.{bit}
@@ -23,7 +24,12 @@ use Rattle.twkb_engine.specs.declared.stop.Stop.TheVariants.{Memory, Refused}
 
 -- the sums after an item of this role, number and width
 abbrev pub sums_with : Sums → Role → (n width : ℕ) → Sums
-sums_with e r n width = record { bytes = e.bytes + width; position = moved e.position r n; nodes = e.nodes + nodes_by r n; points = e.points + points_by r n }
+sums_with e r n width = record {
+  bytes = e.bytes + width;
+  position = moved e.position r n;
+  nodes = e.nodes + nodes_by r n;
+  points = e.points + points_by r n;
+}
 
 -- the outline after it, past the ends; or why they are refused
 abbrev pub way_of : (n width : ℕ) → Engine → Result Outline Reason
@@ -85,11 +91,15 @@ pub record SameBut (d e : Engine) : Type 0 where
 -- it; or the blob ends with it; or it was judged, and so were the sizes that end with it, but there
 -- is no memory for what it brings; or the grammar's first reason refuses it, or a size at its end.
 abbrev pub Takes : Role → (n width : ℕ) → Engine → List Row → Result Bool Stop → Engine → List Row → Type 0
-Takes r n width d rs (Ok false) e more = IsFree r n d × (way_of n width d ≡ Ok (outline_in e)) × (sums_of e ≡ sums_with (sums_of d) r n width) × (more ≡ applied (brings r n d) rs) × SameBlob d e
-Takes r n width d rs (Ok true) e more = IsFree r n d × (way_of n width d ≡ Ok ([], OnFinished)) × (more ≡ applied (brings r n d) rs) × BeginsAt (d.start + (d.bytes + width)) e
+Takes r n width d rs (Ok false) e more = IsFree r n d × (way_of n width d ≡ Ok (outline_in e))
+    × (sums_of e ≡ sums_with (sums_of d) r n width) × (more ≡ applied (brings r n d) rs)
+    × SameBlob d e
+Takes r n width d rs (Ok true) e more = IsFree r n d × (way_of n width d ≡ Ok ([], OnFinished))
+    × (more ≡ applied (brings r n d) rs) × BeginsAt (d.start + (d.bytes + width)) e
 Takes r n width d rs (Err Memory) e more = IsFree r n d × Passes (way_of n width d)
 Takes r n width d rs (Err (Refused why)) e more =
-    ((objection d.limits (sums_of d) r n ≡ Some (reason_of why)) × (e.bytes ≡ d.bytes)) ⊎ (IsFree r n d × (way_of n width d ≡ Err (reason_of why)) × (e.bytes ≡ d.bytes + width))
+    ((objection d.limits (sums_of d) r n ≡ Some (reason_of why)) × (e.bytes ≡ d.bytes))
+    ⊎ (IsFree r n d × (way_of n width d ≡ Err (reason_of why)) × (e.bytes ≡ d.bytes + width))
 
 -- what an engine answers to an item with which no geometry ends, and which is not refused: whether
 -- there is memory for it
@@ -101,8 +111,10 @@ TakesOn r n width d rs (Err why) e more = Takes r n width d rs (Err Memory) e mo
 -- on that way; or the blob ends; or there is no memory for the change, though the sizes were
 -- judged; or one is wrong.
 abbrev pub Lands : Result Outline Reason → Change → Engine → List Row → Result Bool Stop → Engine → List Row → Type 0
-Lands way change d rs (Ok false) e more = (way ≡ Ok (outline_in e)) × (sums_of e ≡ sums_of d) × (more ≡ applied change rs) × SameBlob d e
-Lands way change d rs (Ok true) e more = (way ≡ Ok ([], OnFinished)) × (more ≡ applied change rs) × BeginsAt (d.start + d.bytes) e
+Lands way change d rs (Ok false) e more = (way ≡ Ok (outline_in e)) × (sums_of e ≡ sums_of d)
+    × (more ≡ applied change rs) × SameBlob d e
+Lands way change d rs (Ok true) e more = (way ≡ Ok ([], OnFinished)) × (more ≡ applied change rs)
+    × BeginsAt (d.start + d.bytes) e
 Lands way change d rs (Err Memory) e more = Passes way
 Lands way change d rs (Err (Refused why)) e more = (way ≡ Err (reason_of why)) × (e.bytes ≡ d.bytes)
 

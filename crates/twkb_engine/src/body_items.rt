@@ -1,5 +1,6 @@
 //! The items of a body: coordinates, and counts of points and of rings.
-ghost use Rattle.std.specs.Prelude.{◌≡◌, ◌≢◌, ◌+◌, ◌≤◌, ◌^◌, [], true, false, List, Ok, Some, IfOk, OnOk, IfSome, IfNone};
+ghost use Rattle.std.specs.Prelude.{◌≡◌, ◌≢◌, ◌+◌, ◌≤◌, ◌^◌, [], true, false, List, Ok, Some, IfOk, OnOk, IfSome};
+ghost use Rattle.std.specs.Prelude.{IfNone};
 ghost use Rattle.twkb_tree.specs.Rows.{Row as TableRow};
 ghost use Rattle.twkb_grammar.specs.Roles as role;
 ghost use Rattle.twkb_grammar.specs.Fault.{CoordinateRange, moved};
@@ -73,7 +74,8 @@ impl Engine {
     ) -> Result<bool, Stop>
         requires { ComesNext next.Y flat.old self.old number width }
         ensures taken { Takes role.Y number width self.old flat.old result self.new flat.new }
-        ensures noted { IfOk result (λ ends. NotesGo S.holds (notes_with role.Y number width self.old self.new ends) self.old spans.old spans.new) }
+        ensures noted { IfOk result (λ ends. NotesGo S.holds
+            (notes_with role.Y number width self.old self.new ends) self.old spans.old spans.new) }
         ensures placed { IsPlaced self.old.next self.old → OnOk result (IsPlaced self.new.next self.new) }
         ensures kept { Keeps self.old self.new }
     {
@@ -105,8 +107,10 @@ impl Engine {
         requires bodied { is_bodied self.old.head.kind ≡ true }
         requires inside { IsInside self.old.next }
         requires may { Admits (point_row position self.old) flat.old }
-        ensures shut { Lands (past_last self.old) (point_row position self.old) self.old flat.old result self.new flat.new }
-        ensures noted { IfOk result (λ ends. NotesGo S.holds (notes_past self.old self.new ends) self.old spans.old spans.new) }
+        ensures shut { Lands (past_last self.old) (point_row position self.old) self.old flat.old
+            result self.new flat.new }
+        ensures noted { IfOk result (λ ends. NotesGo S.holds (notes_past self.old self.new ends)
+            self.old spans.old spans.new) }
         ensures placed { IsHere self.old → OnOk result (IsPlaced self.new.next self.new) }
         ensures kept { Keeps self.old self.new }
     {
@@ -127,7 +131,9 @@ impl Engine {
     ) -> Result<bool, Stop>
         requires { ComesNext next.PointCount flat.old self.old count width }
         ensures taken { Takes (role.Count (listed 0)) count width self.old flat.old result self.new flat.new }
-        ensures noted { IfOk result (λ ends. NotesGo S.holds (notes_with (role.Count (listed 0)) count width self.old self.new ends) self.old spans.old spans.new) }
+        ensures noted { IfOk result (λ ends. NotesGo S.holds
+            (notes_with (role.Count (listed 0)) count width self.old self.new ends) self.old
+            spans.old spans.new) }
         ensures placed { IsPlaced self.old.next self.old → OnOk result (IsPlaced self.new.next self.new) }
         ensures kept { Keeps self.old self.new }
     {
@@ -157,7 +163,9 @@ impl Engine {
     ) -> Result<bool, Stop>
         requires { ComesNext next.RingCount flat.old self.old count width }
         ensures taken { Takes (role.Count (listed 1)) count width self.old flat.old result self.new flat.new }
-        ensures noted { IfOk result (λ ends. NotesGo S.holds (notes_with (role.Count (listed 1)) count width self.old self.new ends) self.old spans.old spans.new) }
+        ensures noted { IfOk result (λ ends. NotesGo S.holds
+            (notes_with (role.Count (listed 1)) count width self.old self.new ends) self.old
+            spans.old spans.new) }
         ensures placed { IsPlaced self.old.next self.old → OnOk result (IsPlaced self.new.next self.new) }
         ensures kept { Keeps self.old self.new }
     {
@@ -188,8 +196,10 @@ impl Engine {
         requires bodied { is_bodied self.old.head.kind ≡ true }
         requires inside { IsInside self.old.next }
         requires may { Admits (NewRow (row_with row [])) flat.old }
-        ensures shut { Lands (past_last self.old) (NewRow (row_with row [])) self.old flat.old result self.new flat.new }
-        ensures noted { IfOk result (λ ends. NotesGo S.holds (notes_past self.old self.new ends) self.old spans.old spans.new) }
+        ensures shut { Lands (past_last self.old) (NewRow (row_with row [])) self.old flat.old
+            result self.new flat.new }
+        ensures noted { IfOk result (λ ends. NotesGo S.holds (notes_past self.old self.new ends)
+            self.old spans.old spans.new) }
         ensures placed { IsHere self.old → OnOk result (IsPlaced self.new.next self.new) }
         ensures kept { Keeps self.old self.new }
     {
@@ -207,7 +217,8 @@ impl Engine {
         requires bodied { is_bodied self.old.head.kind ≡ true }
         requires inside { IsInside self.old.next }
         ensures ended { (rs : List TableRow) → Lands (past_last self.old) Nothing self.old rs result self.new rs }
-        ensures noted { IfOk result (λ ends. NotesGo S.holds (notes_past self.old self.new ends) self.old spans.old spans.new) }
+        ensures noted { IfOk result (λ ends. NotesGo S.holds (notes_past self.old self.new ends)
+            self.old spans.old spans.new) }
         ensures head { self.new.head ≡ self.old.head }
         ensures placed { IsHere self.old → OnOk result (IsPlaced self.new.next self.new) }
         ensures kept { Keeps self.old self.new }

@@ -37,7 +37,8 @@ impl Engine {
         requires shut { are_shut self.old.points_left self.old.rings_left self.old.members_left ≡ true }
         requires inside { IsInside self.old.next }
         ensures ended { (rs : List Row) → Lands (past_end self.old) Nothing self.old rs result self.new rs }
-        ensures noted { IfOk result (λ ends. NotesGo S.holds (notes_past self.old self.new ends) self.old spans.old spans.new) }
+        ensures noted { IfOk result (λ ends. NotesGo S.holds (notes_past self.old self.new ends)
+            self.old spans.old spans.new) }
         ensures head { self.new.head ≡ self.old.head }
         ensures placed { OnOk result (IsPlaced self.new.next self.new) }
         ensures kept { Keeps self.old self.new }
@@ -73,7 +74,8 @@ impl Engine {
         requires inside { IsInside self.old.next }
         requires row { Admits (own_row self.old) flat.old }
         ensures ended { Lands (past_end self.old) (own_row self.old) self.old flat.old result self.new flat.new }
-        ensures noted { IfOk result (λ ends. NotesGo S.holds (notes_past self.old self.new ends) self.old spans.old spans.new) }
+        ensures noted { IfOk result (λ ends. NotesGo S.holds (notes_past self.old self.new ends)
+            self.old spans.old spans.new) }
         ensures placed { OnOk result (IsPlaced self.new.next self.new) }
         ensures kept { Keeps self.old self.new }
     {

@@ -112,8 +112,11 @@ impl Engine {
         requires byte { IsByte self.old.next → (number < 256) × (width ≡ 1) }
         requires room { self.old.start + (self.old.bytes + width) ≤ 2 ^ 63 }
         requires alive { IsAlive flat.old self.old }
-        ensures taken { (r : Role) → IsNext r self.old → Takes r number width self.old flat.old result self.new flat.new }
-        ensures noted { (r : Role) → IsNext r self.old → IfOk result (λ ends. NotesGo S.holds (notes_with r number width self.old self.new ends) self.old spans.old spans.new) }
+        ensures taken { (r : Role) → IsNext r self.old
+            → Takes r number width self.old flat.old result self.new flat.new }
+        ensures noted { (r : Role) → IsNext r self.old
+            → IfOk result (λ ends. NotesGo S.holds (notes_with r number width self.old self.new
+            ends) self.old spans.old spans.new) }
         ensures placed { IsPlaced self.old.next self.old → OnOk result (IsPlaced self.new.next self.new) }
         ensures kept { Keeps self.old self.new }
     {
@@ -135,7 +138,8 @@ impl Engine {
     /// Whether no byte was taken since the start or the last blob's end. Takes no memory.
     #[inline(always)]
     pub fn is_between(&self) -> bool
-        ensures ended { (bs : List ℕ) (rs : List Row) → StandsAt bs rs self.now → IsEnd (allowance_of self.now) bs (offset_in self.now) result }
+        ensures ended { (bs : List ℕ) (rs : List Row) → StandsAt bs rs self.now
+            → IsEnd (allowance_of self.now) bs (offset_in self.now) result }
         ensures alone { result ≡ true → held_in self.now ≡ [] }
         ensures none { result ≡ true → self.now.bytes ≡ 0 }
         ensures some { result ≡ false → 0 < count_of self.now }
@@ -187,7 +191,8 @@ impl Engine {
     /// The number of geometries that are begun and not finished. Takes no memory.
     pub fn open_geometries(&self) -> usize
         ensures open { result ≡ open_in self.now }
-        ensures few { (bs : List ℕ) (rs : List Row) → StandsAt bs rs self.now → result ≤ (allowance_of self.now).nest + 1 }
+        ensures few { (bs : List ℕ) (rs : List Row) → StandsAt bs rs self.now
+            → result ≤ (allowance_of self.now).nest + 1 }
     {
         let open = self.collections.len();
         match self.next {

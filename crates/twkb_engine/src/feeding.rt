@@ -29,7 +29,8 @@ fn with_bytes(used: usize, answer: Result<bool, Stop>) -> Result<(usize, bool), 
 impl Engine {
     ghost use Rattle.twkb_tree.specs.Rows.{Row};
     ghost use Rattle.twkb_engine.specs.Taking.{Stays};
-    ghost use Rattle.twkb_engine.specs.Standing.{IsAlive, IsReady, IsAnswer, FedBy, LeadsQuietly, SaysNext, StopsIn, TakesAll, held_in, count_of, place_in};
+    ghost use Rattle.twkb_engine.specs.Standing.{IsAlive, IsReady, IsAnswer, FedBy, LeadsQuietly, SaysNext, StopsIn};
+    ghost use Rattle.twkb_engine.specs.Standing.{TakesAll, held_in, count_of, place_in};
     ghost use Rattle.twkb_engine.specs.declared.next_item.NextItem.TheVariants.{X, Id};
 
     /// Takes a byte, and returns whether the blob ends with it. It takes memory as `feed` does.
@@ -43,7 +44,8 @@ impl Engine {
         requires room { self.old.start + count_of self.old < 2 ^ 63 }
         requires alive { IsAlive flat.old self.old }
         ensures limits { self.new.limits ≡ self.old.limits }
-        ensures fed { FedBy S.holds self.old flat.old spans.old (byte ∷ []) (with_used 1 result) self.new flat.new spans.new }
+        ensures fed { FedBy S.holds self.old flat.old spans.old (byte ∷ []) (with_used 1 result)
+            self.new flat.new spans.new }
     {
         if self.next.is_byte() {
             return self.take(flat, spans, u64::from(byte), 1);
@@ -216,7 +218,8 @@ impl Engine {
         requires room { place_in self.old + length rest.now ≤ 2 ^ 63 }
         requires alone { held_in self.old ≡ [] }
         ensures within { IfOk result (λ used. used ≤ length rest.now) }
-        ensures led { (rs : List Row) → IfOk result (λ used. LeadsQuietly rs self.old (take used rest.now) rs self.new) }
+        ensures led { (rs : List Row) → IfOk result (λ used. LeadsQuietly rs self.old
+            (take used rest.now) rs self.new) }
         ensures memory { (rs : List Row) → OnErr result (StopsIn rs self.old rest.now) }
         ensures stays { Stays self.old self.new }
     {

@@ -1,5 +1,5 @@
 //! The items of a header: type byte, metadata byte, extended byte, size and box.
-ghost use Rattle.std.specs.Prelude.{◌≡◌, ◌+◌, ◌≤◌, ◌<◌, ◌^◌, ◌/◌, ◌%◌, ℕ, List, [], None, true, IfOk, OnOk, OnErr, Ok, length, take};
+ghost use Rattle.std.specs.Prelude.{◌≡◌, ◌+◌, ◌≤◌, ◌<◌, ◌^◌, ◌/◌, ◌%◌, ℕ, List, [], None, true, IfOk, OnOk};
 ghost use Rattle.twkb_tree.specs.Rows.{Row};
 ghost use Rattle.twkb_grammar.specs.Roles as role;
 ghost use Rattle.twkb_grammar.specs.Fault.{announces_point as announces};
@@ -18,7 +18,6 @@ use crate::next_item::NextItem;
 use crate::span_notes::SpanNotes;
 use crate::stop::Stop;
 use std::alloc::AllocError;
-use twkb_body::front_header;
 use twkb_flat::Flat;
 use twkb_grammar::{Metadata, TypeByte};
 use twkb_points::Pt;
@@ -31,13 +30,13 @@ impl Engine {
     ghost use Rattle.twkb_engine.specs.State.{IsPlaced, IsHere, outline_in, sums_of, size_roles, box_roles};
     ghost use Rattle.twkb_engine.specs.Collections.{groups_of};
     ghost use Rattle.twkb_engine.specs.Fits.{IsInside, are_shut, is_typed};
-    ghost use Rattle.twkb_engine.specs.Taking.{Takes, Lands, SameBlob, SameBut, Keeps, Stays, past_parts, header_row};
+    ghost use Rattle.twkb_engine.specs.Taking.{Takes, Lands, SameBlob, SameBut, Keeps, past_parts, header_row};
     ghost use Rattle.twkb_engine.specs.Notes.{NotesGo, notes_with, notes_past};
-    ghost use Rattle.twkb_engine.specs.Standing.{IsAlive, ComesNext, LeadsOn, StopsIn, held_in};
+    ghost use Rattle.twkb_engine.specs.Standing.{IsAlive, ComesNext};
 
     // The geometry that this type byte begins, and its span. A span takes memory.
     #[inline(always)]
-    fn begin_geometry<S: SpanNotes>(
+    pub(crate) fn begin_geometry<S: SpanNotes>(
         &mut self,
         spans: &mut S,
         byte: TypeByte,
@@ -45,8 +44,11 @@ impl Engine {
         requires next { self.old.next ≡ next.TypeByte }
         requires room { self.old.start + self.old.bytes ≤ 2 ^ 63 }
         ensures typed { is_typed self.new.head.kind ≡ true }
-        ensures step { OnMetadata (kind_of self.new.head.kind) self.new.head.precision ≡ OnMetadata (kind_at (byte % 16)) (unzigzag_of (byte / 16)) }
-        ensures noted { OnOk result (NotesGo S.holds (note_header (self.old.start + self.old.bytes) self.old.points byte) self.old spans.old spans.new) }
+        ensures step { OnMetadata (kind_of self.new.head.kind) self.new.head.precision ≡ OnMetadata
+            (kind_at (byte % 16)) (unzigzag_of (byte / 16)) }
+        ensures noted { OnOk result
+            (NotesGo S.holds (note_header (self.old.start + self.old.bytes) self.old.points byte)
+            self.old spans.old spans.new) }
         ensures position { self.new.position ≡ origin_of }
         ensures same { SameBut self.old self.new }
     {
@@ -58,8 +60,13 @@ impl Engine {
 
     // Keeps what the metadata byte says of the geometry: it has no size yet, and its bytes count from here.
     #[inline(always)]
-    fn set_metadata<S: SpanNotes>(&mut self, spans: &mut S, metadata: Metadata)
-        ensures head { head_of self.new.head ≡ record { precision = self.old.head.precision; meta = metadata; size = None; from = self.old.bytes } }
+    pub(crate) fn set_metadata<S: SpanNotes>(&mut self, spans: &mut S, metadata: Metadata)
+        ensures head { head_of self.new.head ≡ record {
+          precision = self.old.head.precision;
+          meta = metadata;
+          size = None;
+          from = self.old.bytes;
+        } }
         ensures placed { IsHere self.new }
         ensures kind { self.new.head.kind ≡ self.old.head.kind }
         ensures position { self.new.position ≡ self.old.position }
@@ -77,7 +84,7 @@ impl Engine {
 
     // Whether this metadata byte announces a point: that of a point with a body.
     #[inline(always)]
-    fn announces_point(&self, kind: Kind, metadata: Metadata) -> bool
+    pub(crate) fn announces_point(&self, kind: Kind, metadata: Metadata) -> bool
         ensures { result ≡ announces (kind_number (kind_of kind)) metadata }
     {
         kind == Kind::Point && !metadata.is_empty()
@@ -94,7 +101,8 @@ impl Engine {
         requires next { self.old.next ≡ next.TypeByte }
         requires room { self.old.start + self.old.bytes < 2 ^ 63 }
         ensures taken { (rs : List Row) → Takes role.Header number 1 self.old rs result self.new rs }
-        ensures noted { IfOk result (λ ends. NotesGo S.holds (notes_with role.Header number 1 self.old self.new ends) self.old spans.old spans.new) }
+        ensures noted { IfOk result (λ ends. NotesGo S.holds
+            (notes_with role.Header number 1 self.old self.new ends) self.old spans.old spans.new) }
         ensures placed { IsPlaced self.old.next self.old → OnOk result (IsPlaced self.new.next self.new) }
         ensures kept { Keeps self.old self.new }
     {
@@ -120,8 +128,11 @@ impl Engine {
         requires next { self.old.next ≡ next.MetadataByte }
         requires room { self.old.start + self.old.bytes < 2 ^ 63 }
         requires alive { IsAlive flat.old self.old }
-        ensures taken { Takes (role.Metadata (kind_number (kind_of self.old.head.kind))) number 1 self.old flat.old result self.new flat.new }
-        ensures noted { IfOk result (λ ends. NotesGo S.holds (notes_with (role.Metadata (kind_number (kind_of self.old.head.kind))) number 1 self.old self.new ends) self.old spans.old spans.new) }
+        ensures taken { Takes (role.Metadata (kind_number (kind_of self.old.head.kind))) number 1
+            self.old flat.old result self.new flat.new }
+        ensures noted { IfOk result (λ ends. NotesGo S.holds
+            (notes_with (role.Metadata (kind_number (kind_of self.old.head.kind))) number 1 self.old
+            self.new ends) self.old spans.old spans.new) }
         ensures placed { IsPlaced self.old.next self.old → OnOk result (IsPlaced self.new.next self.new) }
         ensures kept { Keeps self.old self.new }
     {
@@ -153,7 +164,9 @@ impl Engine {
         requires room { self.old.start + self.old.bytes < 2 ^ 63 }
         requires alive { IsAlive flat.old self.old }
         ensures taken { Takes role.Extended number 1 self.old flat.old result self.new flat.new }
-        ensures noted { IfOk result (λ ends. NotesGo S.holds (notes_with role.Extended number 1 self.old self.new ends) self.old spans.old spans.new) }
+        ensures noted { IfOk result (λ ends. NotesGo S.holds
+            (notes_with role.Extended number 1 self.old self.new ends) self.old spans.old
+            spans.new) }
         ensures placed { IsPlaced self.old.next self.old → OnOk result (IsPlaced self.new.next self.new) }
         ensures kept { Keeps self.old self.new }
     {
@@ -176,7 +189,9 @@ impl Engine {
     ) -> Result<bool, Stop>
         requires { ComesNext next.Size flat.old self.old number width }
         ensures taken { Takes role.Size number width self.old flat.old result self.new flat.new }
-        ensures noted { IfOk result (λ ends. NotesGo S.holds (notes_with role.Size number width self.old self.new ends) self.old spans.old spans.new) }
+        ensures noted { IfOk result (λ ends. NotesGo S.holds
+            (notes_with role.Size number width self.old self.new ends) self.old spans.old
+            spans.new) }
         ensures placed { IsPlaced self.old.next self.old → OnOk result (IsPlaced self.new.next self.new) }
         ensures kept { Keeps self.old self.new }
     {
@@ -199,7 +214,9 @@ impl Engine {
         requires room { self.old.start + (self.old.bytes + width) ≤ 2 ^ 63 }
         requires alive { IsAlive flat.old self.old }
         ensures taken { (number : ℕ) → Takes role.Box number width self.old flat.old result self.new flat.new }
-        ensures noted { (number : ℕ) → IfOk result (λ ends. NotesGo S.holds (notes_with role.Box number width self.old self.new ends) self.old spans.old spans.new) }
+        ensures noted { (number : ℕ)
+            → IfOk result (λ ends. NotesGo S.holds (notes_with role.Box number width self.old
+            self.new ends) self.old spans.old spans.new) }
         ensures placed { IsPlaced self.old.next self.old → OnOk result (IsPlaced self.new.next self.new) }
         ensures kept { Keeps self.old self.new }
     {
@@ -225,8 +242,11 @@ impl Engine {
         requires inside { IsInside self.old.next }
         requires room { self.old.start + self.old.bytes ≤ 2 ^ 63 }
         requires may { Admits (header_row self.old (size_roles self.old.head.metadata)) flat.old }
-        ensures landed { Lands (past_parts self.old (size_roles self.old.head.metadata)) (header_row self.old (size_roles self.old.head.metadata)) self.old flat.old result self.new flat.new }
-        ensures noted { IfOk result (λ ends. NotesGo S.holds (notes_past self.old self.new ends) self.old spans.old spans.new) }
+        ensures landed { Lands (past_parts self.old (size_roles self.old.head.metadata))
+            (header_row self.old (size_roles self.old.head.metadata)) self.old flat.old result
+            self.new flat.new }
+        ensures noted { IfOk result (λ ends. NotesGo S.holds (notes_past self.old self.new ends)
+            self.old spans.old spans.new) }
         ensures placed { IsHere self.old → OnOk result (IsPlaced self.new.next self.new) }
         ensures kept { Keeps self.old self.new }
     {
@@ -251,8 +271,11 @@ impl Engine {
         requires inside { IsInside self.old.next }
         requires room { self.old.start + self.old.bytes ≤ 2 ^ 63 }
         requires may { Admits (header_row self.old (box_roles self.old.head.metadata)) flat.old }
-        ensures landed { Lands (past_parts self.old (box_roles self.old.head.metadata)) (header_row self.old (box_roles self.old.head.metadata)) self.old flat.old result self.new flat.new }
-        ensures noted { IfOk result (λ ends. NotesGo S.holds (notes_past self.old self.new ends) self.old spans.old spans.new) }
+        ensures landed { Lands (past_parts self.old (box_roles self.old.head.metadata))
+            (header_row self.old (box_roles self.old.head.metadata)) self.old flat.old result
+            self.new flat.new }
+        ensures noted { IfOk result (λ ends. NotesGo S.holds (notes_past self.old self.new ends)
+            self.old spans.old spans.new) }
         ensures placed { IsHere self.old → OnOk result (IsPlaced self.new.next self.new) }
         ensures kept { Keeps self.old self.new }
     {
@@ -271,8 +294,10 @@ impl Engine {
         requires inside { IsInside self.old.next }
         requires room { self.old.start + self.old.bytes ≤ 2 ^ 63 }
         requires may { Admits (header_row self.old []) flat.old }
-        ensures landed { Lands (past_parts self.old []) (header_row self.old []) self.old flat.old result self.new flat.new }
-        ensures noted { IfOk result (λ ends. NotesGo S.holds (notes_past self.old self.new ends) self.old spans.old spans.new) }
+        ensures landed { Lands (past_parts self.old []) (header_row self.old []) self.old flat.old
+            result self.new flat.new }
+        ensures noted { IfOk result (λ ends. NotesGo S.holds (notes_past self.old self.new ends)
+            self.old spans.old spans.new) }
         ensures placed { IsHere self.old → OnOk result (IsPlaced self.new.next self.new) }
         ensures kept { Keeps self.old self.new }
     {
@@ -286,10 +311,13 @@ impl Engine {
     // The body begins, or the count of members comes next.
     #[inline(always)]
     #[tactic(auto, using(crate::proofs::Parts::headers))]
-    fn go_to_body(&mut self)
+    pub(crate) fn go_to_body(&mut self)
         requires typed { is_typed self.old.head.kind ≡ true }
         requires shut { are_shut self.old.points_left self.old.rings_left self.old.members_left ≡ true }
-        ensures step { outline_in self.new ≡ (groups_of self.old.collections, begins (kind_of self.old.head.kind) (head_of self.old.head)) }
+        ensures step { outline_in self.new ≡ (
+          groups_of self.old.collections,
+          begins (kind_of self.old.head.kind) (head_of self.old.head),
+        ) }
         ensures head { self.new.head ≡ self.old.head }
         ensures collections { self.new.collections ≡ self.old.collections }
         ensures sums { sums_of self.new ≡ sums_of self.old }
@@ -297,40 +325,5 @@ impl Engine {
         ensures kept { Keeps self.old self.new }
     {
         self.next = NextItem::after_header(self.head.kind);
-    }
-
-    // Takes a header that is complete, with a body after it; returns how many bytes it has, or 0,
-    // and then it changes nothing: a point that it announces may be one too many. A span takes
-    // memory.
-    #[inline(always)]
-    pub(crate) fn take_header<S: SpanNotes>(
-        &mut self,
-        spans: &mut S,
-        rest: &[u8],
-    ) -> Result<usize, AllocError>
-        requires next { self.old.next ≡ next.TypeByte }
-        requires alone { held_in self.old ≡ [] }
-        requires room { self.old.start + (self.old.bytes + length rest.now) ≤ 2 ^ 63 }
-        ensures within { IfOk result (λ used. used ≤ length rest.now) }
-        ensures led { (rs : List Row) → IfOk result (λ used. LeadsOn S.holds rs self.old spans.old (take used rest.now) rs self.new spans.new) }
-        ensures memory { (rs : List Row) → OnErr result (StopsIn rs self.old rest.now) }
-        ensures same { result ≡ Ok 0 → self.new ≡ self.old }
-        ensures stays { Stays self.old self.new }
-    {
-        let Some(header) = front_header(rest) else {
-            return Ok(0);
-        };
-        let points = u64::from(self.announces_point(header.type_byte.kind(), header.metadata));
-        if points > u64::from(self.limits.points()) - self.points {
-            return Ok(0);
-        }
-        self.begin_geometry(spans, header.type_byte)?;
-        self.points += points;
-        self.set_metadata(spans, header.metadata);
-        self.head.size = header.parts.size;
-        self.head.from = self.bytes + header.from as u64;
-        self.bytes += header.used as u64;
-        self.go_to_body();
-        Ok(header.used)
     }
 }

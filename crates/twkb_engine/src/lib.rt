@@ -14,6 +14,7 @@ mod open_collections;
 mod root_point;
 mod span_notes;
 mod stop;
+mod whole_header;
 
 pub use blob_reason::BlobReason;
 pub use engine::Engine;

@@ -49,7 +49,9 @@ impl Engine {
     // Why this number of further rows and points is not allowed, if it is not.
     #[inline(always)]
     pub(crate) fn too_many(&self, nodes: u64, points: u64) -> Option<BlobReason>
-        ensures { objection_of result ≡ unless (nat_lt self.now.limits.nodes (self.now.nodes + nodes)) fault.TooManyNodes (unless (nat_lt self.now.limits.points (self.now.points + points)) fault.TooManyPoints None) }
+        ensures { objection_of result ≡ unless (nat_lt self.now.limits.nodes
+            (self.now.nodes + nodes)) fault.TooManyNodes (unless
+            (nat_lt self.now.limits.points (self.now.points + points)) fault.TooManyPoints None) }
     {
         if nodes > u64::from(self.limits.nodes()) - self.nodes {
             return Some(BlobReason::TooManyNodes);
@@ -63,7 +65,8 @@ impl Engine {
     // The number of points that this number of members announces.
     #[inline(always)]
     fn member_points(&self, count: u64) -> u64
-        ensures { result ≡ points_of (first_count (many_of self.now.head.kind) (length (groups_of self.now.collections))) count }
+        ensures { result ≡ points_of (first_count (many_of self.now.head.kind)
+            (length (groups_of self.now.collections))) count }
     {
         if self.head.kind == Kind::MultiPoint {
             return count;
@@ -75,8 +78,11 @@ impl Engine {
     #[inline(always)]
     fn too_many_members(&self, count: u64, points: u64) -> Option<BlobReason>
         requires next { self.now.next ≡ next.MemberCount }
-        requires points { points ≡ points_of (first_count (many_of self.now.head.kind) (length (groups_of self.now.collections))) count }
-        ensures { objection_of result ≡ objection self.now.limits (sums_of self.now) (role.Count (first_count (many_of self.now.head.kind) (length (groups_of self.now.collections)))) count }
+        requires points { points ≡ points_of (first_count (many_of self.now.head.kind)
+            (length (groups_of self.now.collections))) count }
+        ensures { objection_of result ≡ objection self.now.limits (sums_of self.now)
+            (role.Count (first_count (many_of self.now.head.kind)
+            (length (groups_of self.now.collections)))) count }
     {
         let nest = self.limits.nest() as usize;
         if self.head.kind == Kind::Collection && count > 0 && self.collections.len() >= nest {
@@ -95,8 +101,14 @@ impl Engine {
         width: u64,
     ) -> Result<bool, Stop>
         requires { ComesNext next.MemberCount flat.old self.old count width }
-        ensures taken { Takes (role.Count (first_count (many_of self.old.head.kind) (length (groups_of self.old.collections)))) count width self.old flat.old result self.new flat.new }
-        ensures noted { IfOk result (λ ends. NotesGo S.holds (notes_with (role.Count (first_count (many_of self.old.head.kind) (length (groups_of self.old.collections)))) count width self.old self.new ends) self.old spans.old spans.new) }
+        ensures taken { Takes
+            (role.Count (first_count (many_of self.old.head.kind)
+            (length (groups_of self.old.collections)))) count width self.old flat.old result
+            self.new flat.new }
+        ensures noted { IfOk result (λ ends. NotesGo S.holds
+            (notes_with (role.Count (first_count (many_of self.old.head.kind)
+            (length (groups_of self.old.collections)))) count width self.old self.new ends) self.old
+            spans.old spans.new) }
         ensures placed { IsPlaced self.old.next self.old → OnOk result (IsPlaced self.new.next self.new) }
         ensures kept { Keeps self.old self.new }
     {
@@ -121,7 +133,8 @@ impl Engine {
         requires row { Admits (own_row self.old) flat.old }
         ensures landed { Lands (past_end self.old) (own_row self.old) self.old flat.old result
             self.new flat.new }
-        ensures noted { IfOk result (λ ends. NotesGo S.holds (notes_past self.old self.new ends) self.old spans.old spans.new) }
+        ensures noted { IfOk result (λ ends. NotesGo S.holds (notes_past self.old self.new ends)
+            self.old spans.old spans.new) }
         ensures placed { OnOk result (IsPlaced self.new.next self.new) }
         ensures kept { Keeps self.old self.new }
     {
@@ -136,7 +149,8 @@ impl Engine {
         requires some { 0 < count }
         requires row { bit self.old.head.metadata 2 ≡ false → Admits (own_row self.old) flat.old }
         requires room { length self.old.collections < depth_cap }
-        ensures step { OnOk result (outline_in self.new ≡ many_counted (many_of self.old.head.kind) (head_of self.old.head) (groups_of self.old.collections) count) }
+        ensures step { OnOk result (outline_in self.new ≡ many_counted (many_of self.old.head.kind)
+            (head_of self.old.head) (groups_of self.old.collections) count) }
         ensures rows { OnOk result (flat.new ≡ applied (counted_row self.old) flat.old) }
         ensures sums { sums_of self.new ≡ sums_of self.old }
         ensures same { SameBlob self.old self.new }
@@ -179,7 +193,9 @@ impl Engine {
         requires next { self.old.next ≡ next.Id }
         requires row { Admits (own_row self.old) flat.old }
         requires room { length self.old.collections < depth_cap }
-        ensures step { OnOk result (outline_in self.new ≡ members_open (many_of self.old.head.kind) (head_of self.old.head) (groups_of self.old.collections) (ids_of self.old.ids) (suc self.old.members_left)) }
+        ensures step { OnOk result (outline_in self.new ≡ members_open (many_of self.old.head.kind)
+            (head_of self.old.head) (groups_of self.old.collections) (ids_of self.old.ids)
+            (suc self.old.members_left)) }
         ensures rows { OnOk result (flat.new ≡ applied (own_row self.old) flat.old) }
         ensures sums { sums_of self.new ≡ sums_of self.old }
         ensures same { SameBlob self.old self.new }

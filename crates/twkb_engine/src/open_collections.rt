@@ -120,7 +120,8 @@ impl OpenCollections {
         ids: &mut MemberIds,
         members_left: u64,
     ) -> Result<(), AllocError>
-        ensures pushed { OnOk result (self.new ≡ self.old ++ record { head = head.now; ids = ids.old; members_left = members_left } ∷ []) }
+        ensures pushed { OnOk result (self.new ≡ self.old
+            ++ record { head = head.now; ids = ids.old; members_left = members_left } ∷ []) }
         ensures same { OnErr result (self.new ≡ self.old) }
     {
         if self.count >= self.places.len() {
@@ -149,8 +150,11 @@ impl OpenCollections {
     #[inline(always)]
     pub(crate) fn end_member(&mut self, ids: &mut MemberIds) -> MemberEnd
         ensures blob { IfBlob result (self.old ≡ []) }
-        ensures goes_on { IfNext result ((bytes : ℕ) → outline_past_end true bytes (groups_of self.old) ≡ Ok (groups_of self.new, OnHeader)) }
-        ensures goes_up { IfCollection result (λ h. (bytes : ℕ) → outline_past_end (exact h.size (bytes - h.from)) bytes (groups_of self.new) ≡ outline_past_end true bytes (groups_of self.old)) }
+        ensures goes_on { IfNext result ((bytes : ℕ) → outline_past_end true bytes
+            (groups_of self.old) ≡ Ok (groups_of self.new, OnHeader)) }
+        ensures goes_up { IfCollection result (λ h. (bytes : ℕ)
+            → outline_past_end (exact h.size (bytes - h.from)) bytes (groups_of self.new)
+            ≡ outline_past_end true bytes (groups_of self.old)) }
         ensures fewer { IfCollection result (λ h. length self.new + 1 ≡ length self.old) }
         ensures same { IfNext result (length self.new ≡ length self.old) }
         ensures as_many { length self.new ≤ length self.old }

@@ -57,7 +57,8 @@ impl Engine {
         piece: &[u8],
     ) -> Result<usize, AllocError>
         requires room { self.old.start + (count_of self.old + length piece.now) ≤ 2 ^ 63 }
-        ensures made { IfOk result (λ used. 0 < used → FedBy S.holds self.old flat.old spans.old piece.now (Ok (used, true)) self.new flat.new spans.new) }
+        ensures made { IfOk result (λ used. 0 < used → FedBy S.holds self.old flat.old spans.old
+            piece.now (Ok (used, true)) self.new flat.new spans.new) }
         ensures same { result ≡ Ok 0 → (self.new ≡ self.old) × (flat.new ≡ flat.old) × (spans.new ≡ spans.old) }
         ensures memory { OnErr result (StopsIn flat.old self.old piece.now) }
         ensures limits { self.new.limits ≡ self.old.limits }
@@ -81,7 +82,8 @@ impl Engine {
         requires none { self.old.bytes ≡ 0 }
         requires alone { held_in self.old ≡ [] }
         requires room { self.old.start + length piece.now ≤ 2 ^ 63 }
-        ensures made { IfOk result (λ used. 0 < used → FedBy S.holds self.old flat.old spans.old piece.now (Ok (used, true)) self.new flat.new spans.new) }
+        ensures made { IfOk result (λ used. 0 < used → FedBy S.holds self.old flat.old spans.old
+            piece.now (Ok (used, true)) self.new flat.new spans.new) }
         ensures same { result ≡ Ok 0 → (self.new ≡ self.old) × (flat.new ≡ flat.old) × (spans.new ≡ spans.old) }
         ensures memory { OnErr result (StopsIn flat.old self.old piece.now) }
         ensures limits { self.new.limits ≡ self.old.limits }

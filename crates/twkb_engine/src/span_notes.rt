@@ -13,7 +13,8 @@ pub trait SpanNotes {
     /// Notes that a geometry begins with this type byte at this offset, after this number of points.
     /// Takes memory.
     fn begin(&mut self, offset: u64, points: u64, byte: TypeByte) -> Result<(), AllocError>
-        ensures { OnOk result ((w : Notes) → length w.begun < 2 ^ 32 → holds self.old w → holds self.new (note_header offset points byte w)) };
+        ensures { OnOk result ((w : Notes) → length w.begun < 2 ^ 32 → holds self.old w
+            → holds self.new (note_header offset points byte w)) };
 
     /// Notes the metadata byte of the innermost geometry. Takes no memory.
     fn set_metadata(&mut self, byte: u8)

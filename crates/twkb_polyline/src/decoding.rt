@@ -117,10 +117,10 @@ const NUMBERS: u32 = 16;
 // Where blocks are first searched for: after the first point, whose numbers are mostly large.
 const FIRST_LOOK: usize = 1;
 
-// The number of characters after a search that found blocks before the next search.
+// The number of characters after a search that found blocks.
 const APART: usize = 32;
 
-// The same after a search in vain, so that lines of far points are seldom searched.
+// The number of characters after a search in vain: lines of far points are seldom searched.
 const FAR_APART: usize = 256;
 
 // The number of characters from a search for blocks to the next search.

@@ -105,12 +105,12 @@ pub(crate) fn eight_points(from: Pt, text: &[u8], ends: u64) -> Option<Eight>
     let four = two + more;
     let (e, f, more) = two_by(d, &text[four..], ends >> (four as u32))?;
     let six = four + more;
-    let behind = ends >> (six as u32);
-    let (g, h, more) = two_by(f, &text[six..], behind)?;
+    let others = ends >> (six as u32);
+    let (g, h, more) = two_by(f, &text[six..], others)?;
     Some(Eight {
         points: [a, b, c, d, e, f, g, h],
         last: h,
         used: six + more,
-        ends: behind >> (more as u32),
+        ends: others >> (more as u32),
     })
 }

@@ -29,7 +29,8 @@ const RUNS: [Run; 7] = [
     },
     Run {
         line: "polytwkb pack",
-        input: b"depth,kind,id,precision,polyline\n0,multipolygon,,0,\n1,polygon,3,,\n2,ring,,,AA\n2,ring,,,\n1,polygon,4,,\n",
+        input: b"depth,kind,id,precision,polyline\n0,multipolygon,,0,\n1,polygon,3,,\n\
+            2,ring,,,AA\n2,ring,,,\n1,polygon,4,,\n",
         status: 0,
         output: b"\x06\x07\x0D\x02\x00\x02\x00\x02\x06\x08\x02\x01\x02\x02\x00\x00",
     },

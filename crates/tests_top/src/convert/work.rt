@@ -20,7 +20,8 @@ struct Counted {
 const COUNTED: [Counted; 3] = [
     Counted {
         name: "two roots",
-        table: b"depth,kind,id,precision,polyline\n0,collection,,0,\n1,point,7,0,AA\n1,linestring,-1,0,AAGG\n0,point,,0,AC\n",
+        table: b"depth,kind,id,precision,polyline\n0,collection,,0,\n1,point,7,0,AA\n\
+            1,linestring,-1,0,AAGG\n0,point,,0,AC\n",
         points: 4,
         nodes: 4,
         entries: 4,
@@ -38,7 +39,18 @@ const COUNTED: [Counted; 3] = [
     },
     Counted {
         name: "a line of a hundred points in 32 collections",
-        table: b"depth,kind,id,precision,polyline\n0,collection,,0,\n1,collection,,0,\n2,collection,,0,\n3,collection,,0,\n4,collection,,0,\n5,collection,,0,\n6,collection,,0,\n7,collection,,0,\n8,collection,,0,\n9,collection,,0,\n10,collection,,0,\n11,collection,,0,\n12,collection,,0,\n13,collection,,0,\n14,collection,,0,\n15,collection,,0,\n16,collection,,0,\n17,collection,,0,\n18,collection,,0,\n19,collection,,0,\n20,collection,,0,\n21,collection,,0,\n22,collection,,0,\n23,collection,,0,\n24,collection,,0,\n25,collection,,0,\n26,collection,,0,\n27,collection,,0,\n28,collection,,0,\n29,collection,,0,\n30,collection,,0,\n31,collection,,0,\n32,linestring,,0,ACACACACACACACACACACACACACACACACACACACACACACACACACACACACACACACACACACACACACACACACACACACACACACACACACACACACACACACACACACACACACACACACACACACACACACACACACACACACACACACACACACACACACACACACACACACACACACACACACACACAC\n",
+        table: b"depth,kind,id,precision,polyline\n0,collection,,0,\n1,collection,,0,\n\
+            2,collection,,0,\n3,collection,,0,\n4,collection,,0,\n5,collection,,0,\n\
+            6,collection,,0,\n7,collection,,0,\n8,collection,,0,\n9,collection,,0,\n\
+            10,collection,,0,\n11,collection,,0,\n12,collection,,0,\n13,collection,,0,\n\
+            14,collection,,0,\n15,collection,,0,\n16,collection,,0,\n17,collection,,0,\n\
+            18,collection,,0,\n19,collection,,0,\n20,collection,,0,\n21,collection,,0,\n\
+            22,collection,,0,\n23,collection,,0,\n24,collection,,0,\n25,collection,,0,\n\
+            26,collection,,0,\n27,collection,,0,\n28,collection,,0,\n29,collection,,0,\n\
+            30,collection,,0,\n31,collection,,0,\n\
+            32,linestring,,0,ACACACACACACACACACACACACACACACACACACACACACACACACACACACACACACACACACAC\
+            ACACACACACACACACACACACACACACACACACACACACACACACACACACACACACACACACACACACACACACACACACACA\
+            CACACACACACACACACACACACACACACACACACACACACACACAC\n",
         points: 100,
         nodes: 33,
         entries: 33,

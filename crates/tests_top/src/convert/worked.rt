@@ -42,7 +42,12 @@ const MEMBERS_LINES: &[u8] =
 // one before: with numbers of four bytes and of five characters, which fill the first piece of
 // the row's polyline and more.
 const LONG_LINE: &[u8] =
-    b"\x02\x00\x0E\x80\x80\x80\x01\x81\x80\x80\x01\x80\x80\x80\x01\x81\x80\x80\x01\x80\x80\x80\x01\x81\x80\x80\x01\x80\x80\x80\x01\x81\x80\x80\x01\x80\x80\x80\x01\x81\x80\x80\x01\x80\x80\x80\x01\x81\x80\x80\x01\x80\x80\x80\x01\x81\x80\x80\x01\x80\x80\x80\x01\x81\x80\x80\x01\x80\x80\x80\x01\x81\x80\x80\x01\x80\x80\x80\x01\x81\x80\x80\x01\x80\x80\x80\x01\x81\x80\x80\x01\x80\x80\x80\x01\x81\x80\x80\x01\x80\x80\x80\x01\x81\x80\x80\x01\x80\x80\x80\x01\x81\x80\x80\x01";
+    b"\x02\x00\x0E\x80\x80\x80\x01\x81\x80\x80\x01\x80\x80\x80\x01\x81\x80\x80\x01\x80\x80\x80\
+    \x01\x81\x80\x80\x01\x80\x80\x80\x01\x81\x80\x80\x01\x80\x80\x80\x01\x81\x80\x80\x01\x80\x80\
+    \x80\x01\x81\x80\x80\x01\x80\x80\x80\x01\x81\x80\x80\x01\x80\x80\x80\x01\x81\x80\x80\x01\x80\
+    \x80\x80\x01\x81\x80\x80\x01\x80\x80\x80\x01\x81\x80\x80\x01\x80\x80\x80\x01\x81\x80\x80\x01\
+    \x80\x80\x80\x01\x81\x80\x80\x01\x80\x80\x80\x01\x81\x80\x80\x01\x80\x80\x80\x01\x81\x80\x80\
+    \x01";
 
 // A blob before one that is cut, and the reason; and bytes that name no type.
 const CUT: &[u8] = b"\x01\x00\x04\x02\x01\x00\x04";
@@ -113,14 +118,15 @@ pub const WORKED: [Worked; 18] = [
     },
     Worked {
         name: "polygons are packed",
-        input: b"depth,kind,id,precision,polyline\n0,multipolygon,,0,\n1,polygon,3,,\n2,ring,,,AA\n2,ring,,,\n1,polygon,4,,\n",
+        input: b"depth,kind,id,precision,polyline\n0,multipolygon,,0,\n1,polygon,3,,\n\
+            2,ring,,,AA\n2,ring,,,\n1,polygon,4,,\n",
         output: b"\x06\x07\x0d\x02\x00\x02\x00\x02\x06\x08\x02\x01\x02\x02\x00\x00",
         first: 16,
         reads: 103,
         ..PACKED
     },
     Worked {
-        name: "a row is refused behind two points",
+        name: "a row is refused after two points",
         input: b"depth,kind,id,precision,polyline\n0,point,,0,AC\n0,point,,0,AA\n0,pont,,0,\n",
         reads: 72,
         stopped: Some(Cause::Row {
@@ -162,7 +168,9 @@ pub const WORKED: [Worked; 18] = [
     Worked {
         name: "a line whose row is longer than the room of a text is unpacked",
         input: LONG_LINE,
-        output: b"depth,kind,id,precision,polyline\n0,linestring,,0,`___A____A`___A____A`___A____A`___A____A`___A____A`___A____A`___A____A`___A____A`___A____A`___A____A`___A____A`___A____A`___A____A`___A____A\n",
+        output: b"depth,kind,id,precision,polyline\n\
+            0,linestring,,0,`___A____A`___A____A`___A____A`___A____A`___A____A`___A____A`___A____\
+            A`___A____A`___A____A`___A____A`___A____A`___A____A`___A____A`___A____A\n",
         first: 190,
         whole: 115,
         reads: 116,
@@ -198,7 +206,8 @@ pub const WORKED: [Worked; 18] = [
     Worked {
         name: "collections whose lines are longer than the room of a text are shown",
         input: b"\x07\x00\x01\x07\x00\x01\x07\x00\x01\x07\x00\x01\x07\x00\x01\x07\x10",
-        output: b"0 0 collection 0 00 17 0\n1 3 collection 0 00 14 0\n2 6 collection 0 00 11 0\n3 9 collection 0 00 8 0\n4 12 collection 0 00 5 0\n5 15 collection 0 10 2 0\n",
+        output: b"0 0 collection 0 00 17 0\n1 3 collection 0 00 14 0\n2 6 collection 0 00 11 0\n\
+            3 9 collection 0 00 8 0\n4 12 collection 0 00 5 0\n5 15 collection 0 10 2 0\n",
         first: 149,
         whole: 17,
         reads: 18,

@@ -15,7 +15,8 @@ struct Table {
 }
 
 const MANY_KINDS: Table = Table {
-    text: b"depth,kind,id,precision,polyline\n0,multipolygon,,0,\n1,polygon,3,,\n2,ring,,,AA\n2,ring,,,\n1,polygon,4,,\n0,multilinestring,,0,\n1,linestring,,,\n0,linestring,,0,AAGG\n",
+    text: b"depth,kind,id,precision,polyline\n0,multipolygon,,0,\n1,polygon,3,,\n2,ring,,,AA\n\
+        2,ring,,,\n1,polygon,4,,\n0,multilinestring,,0,\n1,linestring,,,\n0,linestring,,0,AAGG\n",
     ends: [33, 102, 140, 161],
     count: 3,
 };
@@ -23,7 +24,11 @@ const MANY_KINDS: Table = Table {
 // A line in sixteen collections, and a point after it in one: seventeen rows are open, one more
 // than fit without taking memory.
 const DEEP: Table = Table {
-    text: b"depth,kind,id,precision,polyline\n0,collection,,0,\n1,collection,,0,\n2,collection,,0,\n3,collection,,0,\n4,collection,,0,\n5,collection,,0,\n6,collection,,0,\n7,collection,,0,\n8,collection,,0,\n9,collection,,0,\n10,collection,,0,\n11,collection,,0,\n12,collection,,0,\n13,collection,,0,\n14,collection,,0,\n15,collection,,0,\n16,linestring,,0,AAGG\n1,point,,-8,AC\n",
+    text: b"depth,kind,id,precision,polyline\n0,collection,,0,\n1,collection,,0,\n\
+        2,collection,,0,\n3,collection,,0,\n4,collection,,0,\n5,collection,,0,\n\
+        6,collection,,0,\n7,collection,,0,\n8,collection,,0,\n9,collection,,0,\n\
+        10,collection,,0,\n11,collection,,0,\n12,collection,,0,\n13,collection,,0,\n\
+        14,collection,,0,\n15,collection,,0,\n16,linestring,,0,AAGG\n1,point,,-8,AC\n",
     ends: [33, 348, 348, 348],
     count: 1,
 };

@@ -9,7 +9,12 @@ use twkb_table::{TableReader, header_text, put_flat_rows, rows_text};
 // A table of all kinds, with empty ones, ids and precisions at both ends of their ranges, and
 // nested collections.
 const TABLE: &[u8] =
-    b"depth,kind,id,precision,polyline\n0,point,,0,AC\n0,point,,-8,\n0,linestring,,7,AAGG\n0,polygon,,0,\n1,ring,,,???GGF\n1,ring,,,\n0,multipoint,,0,\n1,point,-9223372036854775808,,AA\n1,point,9223372036854775807,,AC\n0,multilinestring,,0,\n1,linestring,0,,AAGG\n1,linestring,-1,,\n0,multipolygon,,0,\n1,polygon,3,,\n2,ring,,,AA\n2,ring,,,\n1,polygon,44,,\n0,collection,,0,\n1,collection,12,1,\n2,point,7,2,AA\n2,multipoint,-3,3,\n3,point,,,AC\n2,collection,8,4,\n1,linestring,10,0,AAGG\n";
+    b"depth,kind,id,precision,polyline\n0,point,,0,AC\n0,point,,-8,\n0,linestring,,7,AAGG\n\
+    0,polygon,,0,\n1,ring,,,???GGF\n1,ring,,,\n0,multipoint,,0,\n\
+    1,point,-9223372036854775808,,AA\n1,point,9223372036854775807,,AC\n0,multilinestring,,0,\n\
+    1,linestring,0,,AAGG\n1,linestring,-1,,\n0,multipolygon,,0,\n1,polygon,3,,\n2,ring,,,AA\n\
+    2,ring,,,\n1,polygon,44,,\n0,collection,,0,\n1,collection,12,1,\n2,point,7,2,AA\n\
+    2,multipoint,-3,3,\n3,point,,,AC\n2,collection,8,4,\n1,linestring,10,0,AAGG\n";
 
 // Appends rows that the writer of `csv` gave.
 fn put_records(lines: Result<Vec<u8>, AllocError>, rows: &mut Vec<u8>) -> bool {

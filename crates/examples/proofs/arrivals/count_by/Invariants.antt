@@ -8,7 +8,8 @@ use Rattle.examples.proofs.arrivals.count_by.Given as goal
 abbrev pub invariant-loop-count : goal.invariant-loop-count
 invariant-loop-count g l =
     record {
-      took : TookBytes (g.R.Read.remaining l.fn.socket) (g.R.Read.remaining l.socket) l.arrived.bytes l.arrived.geometries l.session;
+      took : TookBytes (g.R.Read.remaining l.fn.socket) (g.R.Read.remaining l.socket)
+          l.arrived.bytes l.arrived.geometries l.session;
       few : l.arrived.geometries ≤ l.arrived.bytes;
       limits : session_limits l.session ≡ standard_limits;
     }

@@ -8,11 +8,13 @@ returns-in-Ok-clause-fed g c = record { limits = c.take_byte.ensures.limits; fed
 
 pub returns-in-Ok-clause-few : goal.returns-in-Ok-clause-few
 returns-in-Ok-clause-few g c =
-    let many = many_fed c.in-Ok.ends (returns-in-Ok-clause-fed g c) c.requires.alive in omega (arith, many.1, c.requires.room)
+    let many = many_fed c.in-Ok.ends (returns-in-Ok-clause-fed g c) c.requires.alive in
+    omega (arith, many.1, c.requires.room)
 
 pub returns-in-Ok-clause-alive : goal.returns-in-Ok-clause-alive
 returns-in-Ok-clause-alive g c = alive_fed c.in-Ok.ends (returns-in-Ok-clause-fed g c) c.requires.alive
 
 pub returns-in-Err-clause-fed : goal.returns-in-Err-clause-fed
 returns-in-Err-clause-fed g c =
-    rw c.fault_at.ensures (stopped 1 c.in-Err.stop c.take_byte.ensures.limits c.in-Err.ensures.fed (omega (arith, c.start-began.ensures, c.bytes.ensures)))
+    rw c.fault_at.ensures (stopped 1 c.in-Err.stop c.take_byte.ensures.limits c.in-Err.ensures.fed
+    (omega (arith, c.start-began.ensures, c.bytes.ensures)))

@@ -13,8 +13,10 @@ returns-in-Err-clause-filled g c = λ bs rs s.
     inl (
       [],
       left_none fill.keeps fill.given,
-      rw (append-nil bs) (are_cut_off (allowance_of d) bs (offset_in d) c.is_between-learnt.result (c.is_between-learnt.ensures.ended bs rs s)),
-      fill_none c.args.input.now c.fill.new.self c.in-Err.fault c.in-Err.is fill.given fill.too_long fill.none_held fill.spent.0,
+      rw (append-nil bs) (are_cut_off (allowance_of d) bs (offset_in d) c.is_between-learnt.result
+          (c.is_between-learnt.ensures.ended bs rs s)),
+      fill_none c.args.input.now c.fill.new.self c.in-Err.fault c.in-Err.is fill.given fill.too_long
+          fill.none_held fill.spent.0,
     )
 
 pub returns-in-Ok-clause-filled : goal.returns-in-Ok-clause-filled
@@ -25,5 +27,7 @@ returns-in-Ok-clause-filled g c = λ bs rs s.
 pub returns-in-Err-at_end-clause-filled : goal.returns-in-Err-at_end-clause-filled
 returns-in-Err-at_end-clause-filled g c = λ bs rs s.
     let none = none_in c.held.result.now c.is_empty.result c.is_empty.ensures c.if-not-is_empty.false in
-    halts_end {a = c.args.input.now} {b = c.fill.new.self} (allowance_of c.args.engine.now) c.args.engine.now.start bs c.in-Err-at_end.fault (c.fill.ensures.ended (c.in_default.ensures.end (sym c.held.ensures.held ∙ none))).1
+    halts_end {a = c.args.input.now} {b = c.fill.new.self} (allowance_of c.args.engine.now)
+    c.args.engine.now.start bs c.in-Err-at_end.fault
+    (c.fill.ensures.ended (c.in_default.ensures.end (sym c.held.ensures.held ∙ none))).1
     (left_none c.fill.ensures.keeps c.fill.ensures.given) (c.in-Err-at_end.ensures.end bs rs s)

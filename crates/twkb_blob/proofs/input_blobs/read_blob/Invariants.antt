@@ -7,7 +7,8 @@ use Rattle.twkb_blob.proofs.input_blobs.read_blob.Given as goal
 -- what is said of a blob that is read from here on, is said from the start on
 abbrev pub invariant-loop-fault : goal.invariant-loop-fault
 invariant-loop-fault g l = record {
-  from : Onto g.S.SpanNotes.holds l.initial.engine l.initial.flat l.initial.spans l.initial.input l.engine l.flat l.spans l.input;
+  from : Onto g.S.SpanNotes.holds l.initial.engine l.initial.flat l.initial.spans l.initial.input
+      l.engine l.flat l.spans l.input;
   room : place_in l.engine ≤ 2 ^ 62;
   alive : IsAlive l.flat l.engine;
 }

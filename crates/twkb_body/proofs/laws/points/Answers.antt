@@ -9,4 +9,5 @@ pub returns-clause-takes : goal.returns-clause-takes
 returns-clause-takes c = point_takes
 
 pub returns-clause-noted : goal.returns-clause-noted
-returns-clause-noted c = λ limits told front e gs h f ids lefts rs bytes to. noted_point limits front e gs h f ids lefts rs told bytes to
+returns-clause-noted c = λ limits told front e gs h f ids lefts rs bytes to.
+    noted_point limits front e gs h f ids lefts rs told bytes to

@@ -1,4 +1,7 @@
-use Rattle.twkb_body.proofs.Outlined.{outlined_start, outlined_item, outlined_refused, outlined_ends, outlined_whole, outlined_valid, outlined_largest, row_goes_on, outlined_takes, outlined_fits, outlined_bytes, outlined_depth, outlined_part, outlined_cut, outlined_long, outlined_missing}
+use Rattle.twkb_body.proofs.Outlined.{outlined_start, outlined_item, outlined_refused, outlined_ends, outlined_whole}
+use Rattle.twkb_body.proofs.Outlined.{outlined_valid, outlined_largest, row_goes_on, outlined_takes, outlined_fits}
+use Rattle.twkb_body.proofs.Outlined.{outlined_bytes, outlined_depth, outlined_part, outlined_cut, outlined_long}
+use Rattle.twkb_body.proofs.Outlined.{outlined_missing}
 use Rattle.twkb_body.proofs.laws.reading.Goals as goal
 
 pub returns-clause-starts : goal.returns-clause-starts

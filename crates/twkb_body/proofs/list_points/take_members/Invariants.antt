@@ -8,7 +8,8 @@ use Rattle.twkb_body.proofs.list_points.take_members.Given as goal
 -- the bytes so far are members that were taken, and the multipoint takes those that are left
 abbrev pub invariant-loop-left : goal.invariant-loop-left
 invariant-loop-left l = record {
-  leads : MembersLead l.initial.flat (ids_of l.initial.ids) l.depth l.initial.position l.bytes l.initial.left (record { used = l.used; position = l.position }) l.left (ids_of l.ids) l.flat;
+  leads : MembersLead l.initial.flat (ids_of l.initial.ids) l.depth l.initial.position l.bytes
+      l.initial.left (record { used = l.used; position = l.position }) l.left (ids_of l.ids) l.flat;
   has : l.ids.has_ids ≡ l.initial.ids.has_ids;
   member : EndsInMember l.depth l.ids.has_ids l.flat;
   nodes : length l.flat + l.left ≤ 2 ^ 20;

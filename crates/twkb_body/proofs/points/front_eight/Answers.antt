@@ -37,8 +37,10 @@ front_two_by-requires-4-clause-ends c =
 
 pub returns-clause-points : goal.returns-clause-points
 returns-clause-points c =
-    eight_found c.args.from c.in_ok-a.a c.in_ok-a.b c.in_ok-c.c c.in_ok-c.d c.in_ok-e.e c.in_ok-e.f c.in_ok-g.g c.in_ok-g.h c.args.bytes.now
-    c.in_ok-a.two c.in_ok-c.more c.in_ok-e.more c.in_ok-g.more c.in_ok-a.ensures.two c.in_ok-c.ensures.two c.in_ok-e.ensures.two c.in_ok-g.ensures.two
+    eight_found c.args.from c.in_ok-a.a c.in_ok-a.b c.in_ok-c.c c.in_ok-c.d c.in_ok-e.e c.in_ok-e.f
+    c.in_ok-g.g c.in_ok-g.h c.args.bytes.now
+    c.in_ok-a.two c.in_ok-c.more c.in_ok-e.more c.in_ok-g.more c.in_ok-a.ensures.two
+    c.in_ok-c.ensures.two c.in_ok-e.ensures.two c.in_ok-g.ensures.two
 
 pub returns-clause-rest : goal.returns-clause-rest
 returns-clause-rest c =

@@ -33,4 +33,5 @@ returns c =
     let d_fits : SFits w64 four.fourth = search rules in
     let there = simp to_z-of_z at c.in_ok-first.ensures in
     let on = simp to_z-of_z at c.in_ok-second.ensures in
-    two_in_front c.args.from c.in_ok-first.first c.in_ok-second.second c.args.bytes.now _ _ _ _ _ c.in_ok-four.ensures there on
+    two_in_front c.args.from c.in_ok-first.first c.in_ok-second.second c.args.bytes.now _ _ _ _ _
+    c.in_ok-four.ensures there on

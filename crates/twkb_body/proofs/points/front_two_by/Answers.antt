@@ -29,7 +29,8 @@ step-two-requires-clause-x_in_range c =
     let a_fits : SFits w64 four.first = search rules in
     let b_fits : SFits w64 four.second = search rules in
     let fits : SFits w64 four.third = search rules in
-    let first : c.step-one.result ≡ moved_by c.args.from four.first four.second = simp to_z-of_z at c.step-one.ensures in
+    let first : c.step-one.result ≡ moved_by c.args.from four.first four.second = simp to_z-of_z at
+    c.step-one.ensures in
     let near = short_moved 6 c.args.from c.step-one.result four.first four.second c.requires.near
     small.first_small small.second_small first in
     simp to_z-of_z (short_in_range 7 c.step-one.result four.third four.fourth (omega arith) near
@@ -42,7 +43,8 @@ step-two-requires-clause-y_in_range c =
     let a_fits : SFits w64 four.first = search rules in
     let b_fits : SFits w64 four.second = search rules in
     let fits : SFits w64 four.fourth = search rules in
-    let first : c.step-one.result ≡ moved_by c.args.from four.first four.second = simp to_z-of_z at c.step-one.ensures in
+    let first : c.step-one.result ≡ moved_by c.args.from four.first four.second = simp to_z-of_z at
+    c.step-one.ensures in
     let near = short_moved 6 c.args.from c.step-one.result four.first four.second c.requires.near
     small.first_small small.second_small first in
     simp to_z-of_z (short_in_range 7 c.step-one.result four.third four.fourth (omega arith) near
@@ -56,8 +58,10 @@ returns-clause-two c =
     let b_fits : SFits w64 four.second = search rules in
     let c_fits : SFits w64 four.third = search rules in
     let d_fits : SFits w64 four.fourth = search rules in
-    let first : c.step-one.result ≡ moved_by c.args.from four.first four.second = simp to_z-of_z at c.step-one.ensures in
-    let second : c.step-two.result ≡ moved_by c.step-one.result four.third four.fourth = simp to_z-of_z at c.step-two.ensures in
+    let first : c.step-one.result ≡ moved_by c.args.from four.first four.second = simp to_z-of_z at
+    c.step-one.ensures in
+    let second : c.step-two.result ≡ moved_by c.step-one.result four.third four.fourth =
+    simp to_z-of_z at c.step-two.ensures in
     let near = short_moved 6 c.args.from c.step-one.result four.first four.second c.requires.near
     small.first_small small.second_small first in
     two_in_front c.args.from c.step-one.result c.step-two.result c.args.bytes.now _ _ _ _ _ small
@@ -74,8 +78,10 @@ returns-clause-onward c = λ n near.
     let b_fits : SFits w64 four.second = search rules in
     let c_fits : SFits w64 four.third = search rules in
     let d_fits : SFits w64 four.fourth = search rules in
-    let first : c.step-one.result ≡ moved_by c.args.from four.first four.second = simp to_z-of_z at c.step-one.ensures in
-    let second : c.step-two.result ≡ moved_by c.step-one.result four.third four.fourth = simp to_z-of_z at c.step-two.ensures in
+    let first : c.step-one.result ≡ moved_by c.args.from four.first four.second = simp to_z-of_z at
+    c.step-one.ensures in
+    let second : c.step-two.result ≡ moved_by c.step-one.result four.third four.fourth =
+    simp to_z-of_z at c.step-two.ensures in
     let one = short_moved n c.args.from c.step-one.result four.first four.second near
     small.first_small small.second_small first in
     near_further (n + 1 + 1) (n + 2) c.step-two.result (omega arith)

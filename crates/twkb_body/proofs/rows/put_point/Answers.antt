@@ -13,5 +13,7 @@ pub push_point-requires-in-MultiPoint : goal.push_point-requires-in-MultiPoint
 push_point-requires-in-MultiPoint c =
     let h = c.args.head.now in
     let deep : suc h.depth ≡ h.depth + 1 = omega arith in
-    subst (λ d. Continues largest_limits c.args.flat.now (plain_row d kinds.Point c.args.member (c.args.point ∷ []))) deep
-    (subst (λ (f : Kind). Admits (point_change c.args.point h.depth h.id h.precision (form_of f) c.args.member) c.args.flat.now) c.in-MultiPoint.is c.requires)
+    subst (λ d. Continues largest_limits c.args.flat.now
+    (plain_row d kinds.Point c.args.member (c.args.point ∷ []))) deep
+    (subst (λ (f : Kind). Admits (point_change c.args.point h.depth h.id h.precision (form_of f)
+    c.args.member) c.args.flat.now) c.in-MultiPoint.is c.requires)

@@ -8,4 +8,5 @@ returns c =
     let some : length c.args.text.now ≢ 0 = search rules in
     let least : c.min-count.result ≡ min (length c.args.words.now) (length c.args.text.now - 1) = search rules in
     let front : c.copy_from_slice.new.self ≡ take c.min-count.result c.args.words.now = search rules in
-    ap (λ (xs : List ℕ). xs ++ drop c.min-count.result (set c.args.text.now c.min-count.result 0)) front ∙ put_text c.args.words.now c.args.text.now c.min-count.result some least
+    ap (λ (xs : List ℕ). xs ++ drop c.min-count.result (set c.args.text.now c.min-count.result 0))
+    front ∙ put_text c.args.words.now c.args.text.now c.min-count.result some least

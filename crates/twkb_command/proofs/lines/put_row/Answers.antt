@@ -9,4 +9,5 @@ returns-clause-prints g c =
     (join _ _ _ _ _ c.put_text-2.ensures c.put_row_reason.ensures.prints))
 
 pub returns-clause-short : goal.returns-clause-short
-returns-clause-short g c = short_row_line c.args.number c.args.reason c.put_decimal.ensures.short c.put_row_reason.ensures.short
+returns-clause-short g c = short_row_line c.args.number c.args.reason c.put_decimal.ensures.short
+    c.put_row_reason.ensures.short

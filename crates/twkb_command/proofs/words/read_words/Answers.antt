@@ -8,4 +8,10 @@ returns c =
     let styles = c.as_slice.result in
     let names : map (λ name. name.now) styles.now ≡ codes "full" ∷ codes "plain" ∷ [] = search rules in
     let read = c.read_styled_words.ensures in
-    line_of_styles styles names (record { asked = read.asked; fits = read.fits; refused = read.refused; one_request = line_one styles _ })
+    line_of_styles styles names
+    (record {
+      asked = read.asked;
+      fits = read.fits;
+      refused = read.refused;
+      one_request = line_one styles _;
+    })

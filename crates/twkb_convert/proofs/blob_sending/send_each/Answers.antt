@@ -17,19 +17,32 @@ loop-done-init g c = record {
 pub overflow_add-done : goal.overflow_add-done
 overflow_add-done g c =
     let sent = c.loop-done.invariant.sent in
-    omega (arith, sent.count, located_long _ _ sent.bytes sent.found sent.blobs, sent.used.counted, c.loop-done.invariant.follows.within)
+    omega (
+      arith,
+      sent.count,
+      located_long _ _ sent.bytes sent.found sent.blobs,
+      sent.used.counted,
+      c.loop-done.invariant.follows.within,
+    )
 
 pub loop-done-smaller : goal.loop-done-smaller
 loop-done-smaller g c =
     let one = c.in-Ok-true.ensures.more (search rules) in
-    omega (arith, one.gives.used.counted, c.some_byte.ensures _ one.gives.front one.found.geometry one.gives.tells.blob, c.in-Ok-true.ensures.follows.within)
+    omega (
+      arith,
+      one.gives.used.counted,
+      c.some_byte.ensures _ one.gives.front one.found.geometry
+          one.gives.tells.blob,
+      c.in-Ok-true.ensures.follows.within,
+    )
 
 pub loop-done-preserved : goal.loop-done-preserved
 loop-done-preserved g c =
     let kept = c.loop-done.invariant in
     let one = c.in-Ok-true.ensures.more (search rules) in
     record {
-      sent = sent_more g.T.BlobText.layout g.W.Write.contents _ _ _ _ _ _ c.loop-done.done kept.sent kept.follows.limits one;
+      sent = sent_more g.T.BlobText.layout g.W.Write.contents _ _ _ _ _ _ c.loop-done.done kept.sent
+          kept.follows.limits one;
       follows = follows_trans _ _ _ _ kept.follows c.in-Ok-true.ensures.follows;
       reader = c.in-Ok-true.ensures.fresh;
       going_on = c.in-Ok-true.ensures.going_on (search rules);
@@ -41,7 +54,13 @@ loop-done-preserved g c =
 pub send_blob-requires : goal.send_blob-requires
 send_blob-requires g c =
     let kept = c.loop-done.invariant in
-    record { reader = kept.reader; going_on = kept.going_on; input = kept.input; session = kept.session; output = kept.output }
+    record {
+      reader = kept.reader;
+      going_on = kept.going_on;
+      input = kept.input;
+      session = kept.session;
+      output = kept.output;
+    }
 
 pub returns-in-Ok-false : goal.returns-in-Ok-false
 returns-in-Ok-false g c = record {
@@ -57,6 +76,7 @@ returns-in-Err g c =
     record {
       ok = tt;
       unfailed = tt;
-      err = cut_blobs g.T.BlobText.layout g.W.Write.contents _ _ _ _ _ _ c.loop-done.done c.in-Err.why kept.sent kept.follows.limits kept.output c.in-Err.ensures.err;
+      err = cut_blobs g.T.BlobText.layout g.W.Write.contents _ _ _ _ _ _ c.loop-done.done
+          c.in-Err.why kept.sent kept.follows.limits kept.output c.in-Err.ensures.err;
       stops = search rules;
     }

@@ -29,7 +29,9 @@ pub returns-in-Err-flush : goal.returns-in-Err-flush
 returns-in-Err-flush g c = record {
   ok = tt;
   unfailed = tt;
-  err = cut_unflushed (listing_text g.T.BlobText.layout) g.W.Write.contents _ _ _ _ _ c.in-Err.stop c.in-Err-flush.fault c.in_default.not-Output c.in-Err.ensures.err c.in-Err-flush.ensures.err (search rules) (search rules);
+  err = cut_unflushed (listing_text g.T.BlobText.layout) g.W.Write.contents _ _ _ _ _ c.in-Err.stop
+      c.in-Err-flush.fault c.in_default.not-Output c.in-Err.ensures.err c.in-Err-flush.ensures.err
+      (search rules) (search rules);
   stops = stops_flush _ _ c.in-Err.stop.why c.in-Err-flush.fault c.in-Err.ensures.stops (search rules) (search rules);
   flushed = tt;
   stop_flushed = tt;
@@ -39,7 +41,8 @@ pub returns-in-Err : goal.returns-in-Err
 returns-in-Err g c = record {
   ok = tt;
   unfailed = tt;
-  err = cut_flushed (listing_text g.T.BlobText.layout) g.W.Write.contents _ _ _ _ _ c.in-Err.stop c.in-Err.ensures.err (search rules);
+  err = cut_flushed (listing_text g.T.BlobText.layout) g.W.Write.contents _ _ _ _ _ c.in-Err.stop
+      c.in-Err.ensures.err (search rules);
   stops = c.in-Err.ensures.stops;
   flushed = tt;
   stop_flushed = unless_output c.in-Err.stop.why _ (search rules);
@@ -49,7 +52,9 @@ pub returns-in-Err-flush-2 : goal.returns-in-Err-flush-2
 returns-in-Err-flush-2 g c = record {
   ok = tt;
   unfailed = tt;
-  err = cut_by_flush g.T.BlobText.layout g.W.Write.contents _ _ _ _ _ c.in-Ok.done c.in-Err-flush-2.fault c.in-Ok.ensures.ok c.in-Err-flush-2.ensures.err (search rules) (search rules);
+  err = cut_by_flush g.T.BlobText.layout g.W.Write.contents _ _ _ _ _ c.in-Ok.done
+      c.in-Err-flush-2.fault c.in-Ok.ensures.ok c.in-Err-flush-2.ensures.err (search rules)
+      (search rules);
   stops = search rules;
   flushed = tt;
   stop_flushed = tt;

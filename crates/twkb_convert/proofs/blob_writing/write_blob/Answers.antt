@@ -6,7 +6,8 @@ pub returns-in-Ok-write_through-clause-ok : goal.returns-in-Ok-write_through-cla
 returns-in-Ok-write_through-clause-ok g c h tree same = record {
   took = c.in-Ok-write_through.ensures.ok h tree same;
   work = adds_work h c.args.flat.now _ _ _ _ same (c.nodes_are_rows.ensures.nodes h) (c.nodes_are_rows.ensures.points h)
-      (c.one_size_each.ensures c.args.style h _ _ tree same c.in-Ok.ensures.sizes) c.in-Ok.ensures.work c.in-Ok-write_through.ensures.reads;
+      (c.one_size_each.ensures c.args.style h _ _ tree same c.in-Ok.ensures.sizes)
+      c.in-Ok.ensures.work c.in-Ok-write_through.ensures.reads;
 }
 
 pub returns-in-Err-clause-err : goal.returns-in-Err-clause-err

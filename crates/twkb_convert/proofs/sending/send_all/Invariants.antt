@@ -7,4 +7,6 @@ use Rattle.twkb_convert.proofs.sending.send_all.Given as goal
 -- the geometries so far were sent
 abbrev pub invariant-loop-done : goal.invariant-loop-done
 invariant-loop-done g l =
-    (lim : Allowance) (told : Option (List ℕ)) → StandsAfter lim g.R.Read.remaining told [] [] l.fn.table → SentSoFar l.style lim g.R.Read.remaining g.W.Write.contents told l.table l.fn.output l.output l.done l.work
+    (lim : Allowance) (told : Option (List ℕ)) → StandsAfter lim g.R.Read.remaining told [] []
+    l.fn.table → SentSoFar l.style lim g.R.Read.remaining g.W.Write.contents told l.table
+    l.fn.output l.output l.done l.work

@@ -12,7 +12,8 @@ returns-in_err-geometry-clause-memory g c = λ is.
     let read = c.next_flat in
     let found : read.result ≡ Ok true = search rules in
     let next = came read.ensures.shared found read.ensures.next in
-    made_ahead (subst (λ r. IsNextFlat (reader_limits old) (reader_input old) (reader_input read.new.self) r read.new.flat) found next).1
+    made_ahead (subst (λ r. IsNextFlat (reader_limits old) (reader_input old)
+    (reader_input read.new.self) r read.new.flat) found next).1
 
 pub returns-clause-next : goal.returns-clause-next
 returns-clause-next g c = λ live going.
@@ -20,7 +21,9 @@ returns-clause-next g c = λ live going.
     let read = c.next_flat in
     let tree = c.in_ok-geometry in
     let found : read.result ≡ Ok true = search rules in
-    let (h, makes, is) = subst (λ r. IsNextFlat (reader_limits old) (reader_input old) (reader_input read.new.self) r read.new.flat) found (read.ensures.next live going) in
+    let (h, makes, is) = subst (λ r. IsNextFlat (reader_limits old) (reader_input old)
+    (reader_input read.new.self) r read.new.flat) found (read.ensures.next live going) in
     subst (λ i. Makes (reader_limits old) [] (reader_input old) i tree.geometry) (sym c.tree_of.ensures.kept.0)
     (subst (λ t. Makes (reader_limits old) [] (reader_input old) (reader_input read.new.self) t)
-    (tree_made one_geometry read.new.flat h tree.geometry makes.blob.valid.tree is tree.ensures.rows tree.ensures.valid) makes)
+    (tree_made one_geometry read.new.flat h tree.geometry makes.blob.valid.tree is tree.ensures.rows
+    tree.ensures.valid) makes)

@@ -13,7 +13,8 @@ returns-in_err-geometry-clause-memory g c = λ is.
     let read = c.next_spans in
     let found : read.result ≡ Ok true = search rules in
     let next = came read.ensures.shared found read.ensures.next in
-    made_ahead (subst (λ r. IsSpanned (reader_limits old) (reader_input old) (reader_input read.new.self) r read.new.flat read.new.spans) found next).1.made
+    made_ahead (subst (λ r. IsSpanned (reader_limits old) (reader_input old)
+    (reader_input read.new.self) r read.new.flat read.new.spans) found next).1.made
 
 pub returns-clause-next : goal.returns-clause-next
 returns-clause-next g c = λ live going.
@@ -21,9 +22,14 @@ returns-clause-next g c = λ live going.
     let read = c.next_spans in
     let tree = c.in_ok-geometry in
     let found : read.result ≡ Ok true = search rules in
-    let (h, has, is) = subst (λ r. IsSpanned (reader_limits old) (reader_input old) (reader_input read.new.self) r read.new.flat read.new.spans) found (read.ensures.next live going) in
-    let spans : HasSpans (reader_limits old) (reader_input old) (reader_input c.tree_of.new.self) tree.geometry read.new.spans =
-    subst (λ i. HasSpans (reader_limits old) (reader_input old) i tree.geometry read.new.spans) (sym c.tree_of.ensures.kept.0)
+    let (h, has, is) = subst (λ r. IsSpanned (reader_limits old) (reader_input old)
+    (reader_input read.new.self) r read.new.flat read.new.spans) found
+    (read.ensures.next live going) in
+    let spans : HasSpans (reader_limits old) (reader_input old) (reader_input c.tree_of.new.self)
+    tree.geometry read.new.spans =
+    subst (λ i. HasSpans (reader_limits old) (reader_input old) i tree.geometry read.new.spans)
+    (sym c.tree_of.ensures.kept.0)
     (subst (λ t. HasSpans (reader_limits old) (reader_input old) (reader_input read.new.self) t read.new.spans)
-    (tree_made one_geometry read.new.flat h tree.geometry has.made.blob.valid.tree is tree.ensures.rows tree.ensures.valid) has) in
+    (tree_made one_geometry read.new.flat h tree.geometry has.made.blob.valid.tree is
+    tree.ensures.rows tree.ensures.valid) has) in
     record { next = spans.made; spans = spans }

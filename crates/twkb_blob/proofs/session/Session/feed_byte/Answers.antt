@@ -4,11 +4,14 @@ use Rattle.twkb_blob.proofs.Alive.{of_begun}
 use Rattle.twkb_blob.proofs.session.Session.feed_byte.Goals as goal
 
 pub feed_one-requires-clause-alive : goal.feed_one-requires-clause-alive
-feed_one-requires-clause-alive c = let s = c.args.self.now in of_begun s.rows.flat s.engine s.is_whole c.requires.begun (s.alive c.requires.live)
+feed_one-requires-clause-alive c = let s = c.args.self.now in
+    of_begun s.rows.flat s.engine s.is_whole c.requires.begun (s.alive c.requires.live)
 
 pub returns-in-Ok-clause-fed : goal.returns-in-Ok-clause-fed
 returns-in-Ok-clause-fed c = λ bytes gs s.
-    fed_ok s _ c.requires.begun c.in-Ok.ensures.fed.limits c.in-Ok.ends c.in-Ok.ensures.fed c.requires.live refl (λ off. omega arith)
+    fed_ok s _ c.requires.begun c.in-Ok.ensures.fed.limits c.in-Ok.ends c.in-Ok.ensures.fed
+    c.requires.live refl (λ off. omega arith)
 
 pub returns-in-Err-clause-fed : goal.returns-in-Err-clause-fed
-returns-in-Err-clause-fed c = λ bytes gs s. fed_err s _ c.requires.begun c.in-Err.ensures.fed.limits c.in-Err.fault c.in-Err.ensures.fed
+returns-in-Err-clause-fed c = λ bytes gs s. fed_err s _ c.requires.begun c.in-Err.ensures.fed.limits
+    c.in-Err.fault c.in-Err.ensures.fed

@@ -7,8 +7,11 @@ use Rattle.twkb_blob.proofs.session.Session.give_tree.Goals as goal
 
 pub returns-in_default-clause-fed : goal.returns-in_default-clause-fed
 returns-in_default-clause-fed c = λ bytes piece gs was s same fed.
-    let part = subst (λ d. PartAt (allowance_of d) bytes gs piece) (sym c.give_up.ensures.engine) (no_tree s piece c.args.self.now c.args.used same fed) in
+    let part = subst (λ d. PartAt (allowance_of d) bytes gs piece) (sym c.give_up.ensures.engine)
+    (no_tree s piece c.args.self.now c.args.used same fed) in
     subst (λ r. FedSession bytes gs piece r c.give_up.new.self) (sym c.refused.ensures) part
 
 pub returns-clause-fed : goal.returns-clause-fed
-returns-clause-fed c = λ bytes piece gs was s same fed. gave_found one_geometry bytes gs piece c.args.self.now c.args.used c.in-Ok.found fed (λ none. let is = none in search rules) c.in-Ok.ensures.rows c.in-Ok.ensures.valid
+returns-clause-fed c = λ bytes piece gs was s same fed. gave_found one_geometry bytes gs piece
+    c.args.self.now c.args.used c.in-Ok.found fed (λ none. let is = none in search rules)
+    c.in-Ok.ensures.rows c.in-Ok.ensures.valid

@@ -8,7 +8,8 @@ use Rattle.twkb_blob.proofs.session.Session.read_from.Goals as goal
 
 pub read_blob-requires-clause-alive : goal.read_blob-requires-clause-alive
 read_blob-requires-clause-alive g c =
-    let t = c.begin.new.self in of_begun t.rows.flat t.engine t.is_whole c.begin.ensures.open (t.alive (c.begin.ensures.spent ∙ c.if-self.false))
+    let t = c.begin.new.self in of_begun t.rows.flat t.engine t.is_whole c.begin.ensures.open
+    (t.alive (c.begin.ensures.spent ∙ c.if-self.false))
 
 pub invariant_of-self : goal.invariant_of-self
 invariant_of-self g c = record {
@@ -18,29 +19,38 @@ invariant_of-self g c = record {
 
 pub returns-in-Ok-true-clause-through : goal.returns-in-Ok-true-clause-through
 returns-in-Ok-true-clause-through g c = λ bytes gs s.
-    read_ok (c.begin.ensures.stands bytes gs s) _ c.begin.ensures.open (ap allowance_of c.begin.ensures.engine) c.in-Ok-true.ensures.read.limits refl refl
+    read_ok (c.begin.ensures.stands bytes gs s) _ c.begin.ensures.open
+    (ap allowance_of c.begin.ensures.engine) c.in-Ok-true.ensures.read.limits refl refl
     (rw c.in-Ok-true.field-0-test at c.in-Ok-true.ensures.read)
 
 pub returns-in-Ok-false-clause-through : goal.returns-in-Ok-false-clause-through
 returns-in-Ok-false-clause-through g c = λ bytes gs s.
     let t = c.give_up-in-Ok-false.new.self in
-    subst (λ l. IsThrough l bytes gs c.args.input.now c.read_blob.new.input (Ok false) t) (ap allowance_of c.begin.ensures.engine)
-    (read_none (c.begin.ensures.stands bytes gs s) t c.begin.ensures.open (Ok false) (λ e. absurd (cc e)) (rw c.in-Ok-false.field-0-test at c.in-Ok-false.ensures.read))
+    subst (λ l. IsThrough l bytes gs c.args.input.now c.read_blob.new.input (Ok false) t)
+    (ap allowance_of c.begin.ensures.engine)
+    (read_none (c.begin.ensures.stands bytes gs s) t c.begin.ensures.open (Ok false)
+    (λ e. absurd (cc e)) (rw c.in-Ok-false.field-0-test at c.in-Ok-false.ensures.read))
 
 pub returns-in-Err-clause-through : goal.returns-in-Err-clause-through
 returns-in-Err-clause-through g c = λ bytes gs s.
     let t = c.give_up-in-Err.new.self in
-    subst (λ l. IsThrough l bytes gs c.args.input.now c.read_blob.new.input (Err c.in-Err.fault) t) (ap allowance_of c.begin.ensures.engine)
-    (read_none (c.begin.ensures.stands bytes gs s) t c.begin.ensures.open (Err c.in-Err.fault) (λ e. absurd (cc e)) c.in-Err.ensures.read)
+    subst (λ l. IsThrough l bytes gs c.args.input.now c.read_blob.new.input (Err c.in-Err.fault) t)
+    (ap allowance_of c.begin.ensures.engine)
+    (read_none (c.begin.ensures.stands bytes gs s) t c.begin.ensures.open (Err c.in-Err.fault)
+    (λ e. absurd (cc e)) c.in-Err.ensures.read)
 
 pub returns-in-Ok-true-clause-read : goal.returns-in-Ok-true-clause-read
 returns-in-Ok-true-clause-read g c = λ limits k.
-    read_abreast k c.begin.new.self (Ok true) c.begin.ensures.engine c.begin.ensures.rows c.requires.no_notes (λ e. refl) (rw c.in-Ok-true.field-0-test at c.in-Ok-true.ensures.read)
+    read_abreast k c.begin.new.self (Ok true) c.begin.ensures.engine c.begin.ensures.rows
+    c.requires.no_notes (λ e. refl) (rw c.in-Ok-true.field-0-test at c.in-Ok-true.ensures.read)
 
 pub returns-in-Ok-false-clause-read : goal.returns-in-Ok-false-clause-read
 returns-in-Ok-false-clause-read g c = λ limits k.
-    read_abreast k c.begin.new.self (Ok false) c.begin.ensures.engine c.begin.ensures.rows c.requires.no_notes (λ e. cc e) (rw c.in-Ok-false.field-0-test at c.in-Ok-false.ensures.read)
+    read_abreast k c.begin.new.self (Ok false) c.begin.ensures.engine c.begin.ensures.rows
+    c.requires.no_notes (λ e. cc e) (rw c.in-Ok-false.field-0-test at
+    c.in-Ok-false.ensures.read)
 
 pub returns-in-Err-clause-read : goal.returns-in-Err-clause-read
 returns-in-Err-clause-read g c = λ limits k.
-    read_abreast k c.begin.new.self (Err c.in-Err.fault) c.begin.ensures.engine c.begin.ensures.rows c.requires.no_notes (λ e. cc e) c.in-Err.ensures.read
+    read_abreast k c.begin.new.self (Err c.in-Err.fault) c.begin.ensures.engine c.begin.ensures.rows
+    c.requires.no_notes (λ e. cc e) c.in-Err.ensures.read

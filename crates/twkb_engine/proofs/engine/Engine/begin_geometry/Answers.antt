@@ -8,4 +8,6 @@ returns-clause-noted g c =
     let d = c.args.self.now in
     let holds = g.S.SpanNotes.holds in
     begun_noted holds c.args.spans.now c.begin.new.self d _ c.begin.result
-    (subst (λ o. OnOk c.begin.result ((w : Notes) → length w.begun < 2 ^ 32 → holds c.args.spans.now w → holds c.begin.new.self (note_header o d.points c.args.byte w))) c.offset.ensures c.begin.ensures) (few_open d c.requires.next)
+    (subst (λ o. OnOk c.begin.result ((w : Notes) → length w.begun < 2 ^ 32
+    → holds c.args.spans.now w → holds c.begin.new.self (note_header o d.points c.args.byte w)))
+    c.offset.ensures c.begin.ensures) (few_open d c.requires.next)

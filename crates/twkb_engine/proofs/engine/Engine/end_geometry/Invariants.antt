@@ -18,9 +18,12 @@ invariant-loop-spans g l = record {
   head : l.self.head ≡ l.initial.self.head;
   shut : are_shut l.self.points_left l.self.rings_left l.self.members_left ≡ true;
   few : length l.self.collections ≤ length l.initial.self.collections;
-  way : outline_past_end (exact l.head.size (l.self.bytes - l.head.from)) l.self.bytes (groups_of l.self.collections) ≡ past_end l.initial.self;
+  way : outline_past_end (exact l.head.size (l.self.bytes - l.head.from)) l.self.bytes
+      (groups_of l.self.collections) ≡ past_end l.initial.self;
   noted : (w : Notes) → g.S.SpanNotes.holds l.initial.spans w
-      → g.S.SpanNotes.holds l.spans (note_ends (length l.initial.self.collections - length l.self.collections) (l.initial.self.start + l.initial.self.bytes) l.initial.self.points w);
+      → g.S.SpanNotes.holds l.spans
+      (note_ends (length l.initial.self.collections - length l.self.collections)
+      (l.initial.self.start + l.initial.self.bytes) l.initial.self.points w);
 }
 
 abbrev pub decreases-loop-spans : goal.decreases-loop-spans

@@ -8,8 +8,12 @@ use Rattle.twkb_engine.proofs.engine.Engine.end_value.Goals as goal
 
 pub returns-then-ends_with_list-clause-ended : goal.returns-then-ends_with_list-clause-ended
 returns-then-ends_with_list-clause-ended g c = λ rs.
-    subst (λ (way : Result Outline Reason). Lands way Nothing c.args.self.now rs c.end_geometry.result c.end_geometry.new.self rs) (sym (c.ends_with_list.ensures.ends c.if-ends_with_list.true)) (c.end_geometry.ensures.ended rs)
+    subst (λ (way : Result Outline Reason). Lands way Nothing c.args.self.now rs
+    c.end_geometry.result c.end_geometry.new.self rs)
+    (sym (c.ends_with_list.ensures.ends c.if-ends_with_list.true))
+    (c.end_geometry.ensures.ended rs)
 
 pub returns-clause-noted : goal.returns-clause-noted
 returns-clause-noted g c = λ w are held.
-    none_ended g.S.SpanNotes.holds c.args.spans.now c.args.self.now c.end_list.new.self w c.requires.inside c.end_list.ensures.inside c.end_list.ensures.same are held
+    none_ended g.S.SpanNotes.holds c.args.spans.now c.args.self.now c.end_list.new.self w
+    c.requires.inside c.end_list.ensures.inside c.end_list.ensures.same are held

@@ -13,12 +13,19 @@ feed_items-requires g c =
     let zero : c.in_ok-used.used ≡ 0 = omega (arith, c.if-used-gt0.false) in
     let same = c.in_ok-used.ensures.same (ap (λ n. Ok n) zero) in
     subst (λ d. IsReady c.take_root.new.flat d (length c.args.piece.now)) (sym same.0)
-    (subst (λ l. IsReady l c.args.self.now (length c.args.piece.now)) (sym same.1) (record { room = c.requires.room; alive = c.requires.alive }))
+    (subst (λ l. IsReady l c.args.self.now (length c.args.piece.now)) (sym same.1)
+    (record { room = c.requires.room; alive = c.requires.alive }))
 
 pub returns-clause-fed : goal.returns-clause-fed
 returns-clause-fed g c =
     let zero : c.in_ok-used.used ≡ 0 = omega (arith, c.if-used-gt0.false) in
     let same = c.in_ok-used.ensures.same (ap (λ n. Ok n) zero) in
-    subst (λ d. FedBy g.S.SpanNotes.holds d c.args.flat.now c.args.spans.now c.args.piece.now c.feed_items.result c.feed_items.new.self c.feed_items.new.flat c.feed_items.new.spans) same.0
-    (subst (λ l. FedBy g.S.SpanNotes.holds c.take_root.new.self l c.args.spans.now c.args.piece.now c.feed_items.result c.feed_items.new.self c.feed_items.new.flat c.feed_items.new.spans) same.1
-    (subst (λ o. FedBy g.S.SpanNotes.holds c.take_root.new.self c.take_root.new.flat o c.args.piece.now c.feed_items.result c.feed_items.new.self c.feed_items.new.flat c.feed_items.new.spans) same.2 c.feed_items.ensures.answer.fed))
+    subst (λ d. FedBy g.S.SpanNotes.holds d c.args.flat.now c.args.spans.now c.args.piece.now
+    c.feed_items.result c.feed_items.new.self c.feed_items.new.flat c.feed_items.new.spans)
+    same.0
+    (subst (λ l. FedBy g.S.SpanNotes.holds c.take_root.new.self l c.args.spans.now c.args.piece.now
+    c.feed_items.result c.feed_items.new.self c.feed_items.new.flat c.feed_items.new.spans)
+    same.1
+    (subst (λ o. FedBy g.S.SpanNotes.holds c.take_root.new.self c.take_root.new.flat o
+    c.args.piece.now c.feed_items.result c.feed_items.new.self c.feed_items.new.flat
+    c.feed_items.new.spans) same.2 c.feed_items.ensures.answer.fed))

@@ -18,11 +18,13 @@ pub overflow_add-used : goal.overflow_add-used
 overflow_add-used g c =
     let l = c.loop-used in
     let few = few_used c.in_ok-count.ends (ready_left l.invariant.answer c.requires) c.in_ok-count.ensures.answer in
-    let within : l.used + c.in_ok-count.count ≤ length c.args.piece.now = one_within c.args.piece.now l.used c.in_ok-count.count l.invariant.within few in
+    let within : l.used + c.in_ok-count.count ≤ length c.args.piece.now = one_within
+    c.args.piece.now l.used c.in_ok-count.count l.invariant.within few in
     search rules
 
 pub returns-then-ends-clause-answer : goal.returns-then-ends-clause-answer
-returns-then-ends-clause-answer g c = joined c.loop-used.invariant.answer (rw c.if-ends.true at c.in_ok-count.ensures.answer)
+returns-then-ends-clause-answer g c = joined c.loop-used.invariant.answer
+    (rw c.if-ends.true at c.in_ok-count.ensures.answer)
 
 pub loop-used-preserved : goal.loop-used-preserved
 loop-used-preserved g c =

@@ -7,7 +7,8 @@ pub returns-clause-stands : goal.returns-clause-stands
 returns-clause-stands c = record {
   front = [];
   whole = sym c.new-3.ensures;
-  outlined = starts_at c.args.limits c.origin.result _ [] (search rules) c.origin.ensures (ap groups_of c.new.ensures) refl;
+  outlined = starts_at c.args.limits c.origin.result _ [] (search rules) c.origin.ensures
+      (ap groups_of c.new.ensures) refl;
   placed = tt;
   spelled = inr c.new-3.ensures;
 }

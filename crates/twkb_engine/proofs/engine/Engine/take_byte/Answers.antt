@@ -15,26 +15,38 @@ returns-then-is_byte-clause-fed g c = λ bs s.
     let none = byte_alone bs c.args.flat.now d byte s in
     let r = next_role d in
     let number : c.from.result ≡ c.args.byte = search rules in
-    item_fed g.S.SpanNotes.holds bs c.args.flat.now c.take.new.flat d c.take.new.self c.args.spans.now c.take.new.spans s.front s.outlined r.0 c.from.result (c.args.byte ∷ []) (c.args.byte ∷ []) 1 r.1
-    (subst (λ n. Gives r.0 n (c.args.byte ∷ [])) (sym number) (byte_written d c.args.byte c.ranges.byte.fits byte)) (omega arith) (omega arith)
-    (ap (λ l. l ++ c.args.byte ∷ []) (sym (all_whole bs c.args.flat.now d none s))) c.take.ensures.kept.limits (c.take.ensures.kept.held ∙ none)
-    1 c.take.result (omega arith) (c.take.ensures.taken r.0 r.1) (c.take.ensures.noted r.0 r.1) (c.take.ensures.placed s.placed)
+    item_fed g.S.SpanNotes.holds bs c.args.flat.now c.take.new.flat d c.take.new.self
+    c.args.spans.now c.take.new.spans s.front s.outlined r.0 c.from.result (c.args.byte ∷ [])
+    (c.args.byte ∷ []) 1 r.1
+    (subst (λ n. Gives r.0 n (c.args.byte ∷ [])) (sym number)
+    (byte_written d c.args.byte c.ranges.byte.fits byte)) (omega arith) (omega arith)
+    (ap (λ l. l ++ c.args.byte ∷ []) (sym (all_whole bs c.args.flat.now d none s)))
+    c.take.ensures.kept.limits (c.take.ensures.kept.held ∙ none)
+    1 c.take.result (omega arith) (c.take.ensures.taken r.0 r.1) (c.take.ensures.noted r.0 r.1)
+    (c.take.ensures.placed s.placed)
 
 pub take-requires-in-Done-clause-alive : goal.take-requires-in-Done-clause-alive
 take-requires-in-Done-clause-alive g c = ∥∥₁_map c.requires.alive (λ s. (
   s.1.front,
   (stands_else s.0 s.1.front c.args.flat.now c.args.self.now _
       (search rules)
-      s.1 (sym (ap (λ l. s.1.front ++ l) c.in-Done.ensures.held ∙ append-nil s.1.front)) (inr c.in-Done.ensures.held)).0,
+      s.1 (sym (ap (λ l. s.1.front ++ l) c.in-Done.ensures.held ∙ append-nil s.1.front))
+      (inr c.in-Done.ensures.held)).0,
 ))
 
 pub returns-in-Done-clause-fed : goal.returns-in-Done-clause-fed
 returns-in-Done-clause-fed g c = λ bs s.
     let d = c.args.self.now in
-    number_fed g.S.SpanNotes.holds bs c.args.flat.now c.take-in-Done.new.flat d _ c.take-in-Done.new.self c.args.spans.now c.take-in-Done.new.spans c.args.byte c.in-Done.value _ c.take-in-Done.result s
+    number_fed g.S.SpanNotes.holds bs c.args.flat.now c.take-in-Done.new.flat d _
+    c.take-in-Done.new.self c.args.spans.now c.take-in-Done.new.spans c.args.byte
+    c.in-Done.value _ c.take-in-Done.result s
     (search rules)
-    c.in-Done.ensures.held (λ b. not_both c.is_byte.result c.if-is_byte.false (c.is_byte.ensures.1 b)) ((varint_is (held_in d ++ c.args.byte ∷ []) c.in-Done.value).1 c.in-Done.ensures.answer.0)
-    (omega (arith, c.len.ensures.count)) c.take-in-Done.ensures.kept.limits c.take-in-Done.ensures.kept.held c.take-in-Done.ensures.taken c.take-in-Done.ensures.noted c.take-in-Done.ensures.placed
+    c.in-Done.ensures.held (λ b. not_both c.is_byte.result c.if-is_byte.false
+    (c.is_byte.ensures.1 b)) ((varint_is (held_in d ++ c.args.byte ∷ []) c.in-Done.value).1
+    c.in-Done.ensures.answer.0)
+    (omega (arith, c.len.ensures.count)) c.take-in-Done.ensures.kept.limits
+    c.take-in-Done.ensures.kept.held c.take-in-Done.ensures.taken c.take-in-Done.ensures.noted
+    c.take-in-Done.ensures.placed
 
 pub returns-in-More-clause-fed : goal.returns-in-More-clause-fed
 returns-in-More-clause-fed g c = λ bs s.
@@ -47,4 +59,6 @@ returns-in-TooLong-clause-fed g c = λ bs s.
     let d = c.args.self.now in
     let begun = (open_varint_is (held_in d)).1 c.len.ensures.held in
     let long = (too_long_is (held_in d) c.args.byte begun c.ranges.byte.fits).0 c.in-TooLong.ensures.answer in
-    long_refused bs c.args.byte c.args.flat.now d s (λ b. not_both c.is_byte.result c.if-is_byte.false (c.is_byte.ensures.1 b)) begun long.0 long.1
+    long_refused bs c.args.byte c.args.flat.now d s
+    (λ b. not_both c.is_byte.result c.if-is_byte.false (c.is_byte.ensures.1 b)) begun
+    long.0 long.1

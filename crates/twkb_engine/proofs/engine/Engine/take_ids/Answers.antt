@@ -8,7 +8,9 @@ returns-then-most-eq0-clause-led c = λ rs. stays_put rs c.args.self.now
 
 pub returns-in_err-used-clause-memory : goal.returns-in_err-used-clause-memory
 returns-in_err-used-clause-memory c = λ rs.
-    on_err c.from_residual.result (ids_stop rs c.args.self.now c.requires.next c.requires.alone c.saturating_sub-most.result (omega (arith, c.saturating_sub-most.ensures, c.count.ensures)) c.args.rest.now c.in_err-used.ensures.memory)
+    on_err c.from_residual.result (ids_stop rs c.args.self.now c.requires.next c.requires.alone
+    c.saturating_sub-most.result (omega (arith, c.saturating_sub-most.ensures, c.count.ensures))
+    c.args.rest.now c.in_err-used.ensures.memory)
 
 pub returns-clause-led : goal.returns-clause-led
 returns-clause-led c = λ rs.

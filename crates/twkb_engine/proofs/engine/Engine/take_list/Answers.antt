@@ -9,7 +9,8 @@ returns-then-not-takes_points-clause-led c = stays_put c.args.flat.now c.args.se
 
 pub returns-in_err-taken-clause-memory : goal.returns-in_err-taken-clause-memory
 returns-in_err-taken-clause-memory c =
-    on_err c.from_residual.result (list_stops c.args.flat.now c.args.self.now c.requires.next c.requires.some c.requires.alone c.args.rest.now c.in_err-taken.ensures)
+    on_err c.from_residual.result (list_stops c.args.flat.now c.args.self.now c.requires.next
+    c.requires.some c.requires.alone c.args.rest.now c.in_err-taken.ensures)
 
 pub returns-clause-led : goal.returns-clause-led
 returns-clause-led c =

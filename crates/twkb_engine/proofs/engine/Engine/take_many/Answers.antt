@@ -16,7 +16,8 @@ returns-in_ok-take_header-in-TypeByte g c =
 
 pub returns-in_err-take_ids-in-Id : goal.returns-in_err-take_ids-in-Id
 returns-in_err-take_ids-in-Id g c =
-    stops_fed c.from_residual-in_err-take_ids-in-Id.result c.from_residual-in_err-take_ids-in-Id.ensures.1 (λ y same. same)
+    stops_fed c.from_residual-in_err-take_ids-in-Id.result
+    c.from_residual-in_err-take_ids-in-Id.ensures.1 (λ y same. same)
     (c.in_err-take_ids-in-Id.ensures.memory c.args.flat.now) c.take_ids.ensures.stays
 
 pub returns-in_ok-take_ids-in-Id : goal.returns-in_ok-take_ids-in-Id

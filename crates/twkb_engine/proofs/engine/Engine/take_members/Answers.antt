@@ -12,7 +12,8 @@ pub returns-in_err-taken-clause-memory : goal.returns-in_err-taken-clause-memory
 returns-in_err-taken-clause-memory c =
     let d = c.args.self.now in
     let kind : d.head.kind ≡ kinds.MultiPoint = search rules in
-    on_err c.from_residual.result (members_stop c.args.flat.now d c.requires.next kind c.requires.alone c.args.rest.now (c.in_err-taken.ensures.taken d.head (omega arith)))
+    on_err c.from_residual.result (members_stop c.args.flat.now d c.requires.next kind
+    c.requires.alone c.args.rest.now (c.in_err-taken.ensures.taken d.head (omega arith)))
 
 pub returns-clause-led : goal.returns-clause-led
 returns-clause-led c =
@@ -21,4 +22,5 @@ returns-clause-led c =
     let kind : d.head.kind ≡ kinds.MultiPoint = search rules in
     let run = c.in_ok-taken.ensures.taken in
     members_led c.args.flat.now d c.requires.next kind c.requires.alone c.take_members.new.flat _ t.used
-    c.in_ok-taken.left t.position _ refl (length-take-le t.used c.args.rest.now run.within) (run.run d.head (omega arith))
+    c.in_ok-taken.left t.position _ refl (length-take-le t.used c.args.rest.now run.within)
+    (run.run d.head (omega arith))

@@ -14,4 +14,9 @@ returns-in_err-begin_geometry-clause-taken g c = λ rs.
     let n = c.args.number in
     let p = err_from_is_err_and c.from_residual.result c.from_residual.ensures.1 in
     let free : IsFree role.Header n d = search rules in
-    rw (p.1, p.2) (free, subst (λ i. Passes (outline_ends (d.bytes + 1) (outline_advanced (d.bytes + 1) n (groups_of d.collections, step_at i d)))) (sym c.requires.next) tt)
+    rw (p.1, p.2) (
+      free,
+      subst (λ i. Passes (outline_ends (d.bytes + 1)
+          (outline_advanced (d.bytes + 1) n (groups_of d.collections, step_at i d))))
+          (sym c.requires.next) tt,
+    )
