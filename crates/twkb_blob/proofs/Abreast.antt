@@ -48,11 +48,11 @@ module _ {R : Type 0} {read : Ghosts R} {limits : Allowance} {a : Input R read} 
       → b.engine ≡ s.engine → session_rows b ≡ begun_rows s → holds w no_notes → (answer ≡ Ok true → qs ≡ more)
       → Reads holds b.engine (session_rows b) w a c answer e more v → ReadsInto holds limits a c answer qs v
   read_abreast b answer same rows noted kept run =
-      let stood : StandsAt [] (session_rows b) b.engine =
-      subst (λ d. StandsAt [] (session_rows b) d) (sym same) (subst (λ l. StandsAt [] l s.engine) (sym rows)
-      (subst (λ l. StandsAt l (begun_rows s) s.engine) (sym none_begun) k.stands.begun)) in
+      let stood : StandsAt [] (begun_rows s) b.engine =
+      subst (λ d. StandsAt [] (begun_rows s) d) (sym same)
+      (subst (λ l. StandsAt l (begun_rows s) s.engine) (sym none_begun) k.stands.begun) in
       read_next answer (ap (λ (d : Engine). d.limits) same ∙ k.same_limits)
-      (ap (λ (d : Engine). d.start) same ∙ begins) stood noted kept run
+      (ap (λ (d : Engine). d.start) same ∙ begins) stood rows noted kept run
 
   -- and the session keeps pace
   pub still_abreast : (c : Input R read) (t : Session) (answer : Result Bool BlobFault)

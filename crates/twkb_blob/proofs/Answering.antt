@@ -82,16 +82,17 @@ module _ {R : Type 0} {read : Ghosts R} (limits : Allowance) (a c : Input R read
 
 module _ {R : Type 0} {read : Ghosts R} {limits : Allowance} {a c : Input R read} where
   module _ {S : Type 0} {holds : S → Notes → Type 0} {rs : List Row} {v : S} where
-    pub read_next : {d e : Engine} {none qs : List Row} {told : S} (answer : Result Bool BlobFault)
-        → d.limits ≡ limits → d.start ≡ given a → StandsAt [] none d
+    pub read_next : {d e : Engine} {none held qs : List Row} {told : S} (answer : Result Bool BlobFault)
+        → d.limits ≡ limits → d.start ≡ given a → StandsAt [] none d → held ≡ none
         → holds told no_notes → (answer ≡ Ok true → qs ≡ rs)
-        → Reads holds d none told a c answer e rs v → ReadsInto holds limits a c answer qs v
-    read_next {d} {e} {none} {qs} {told} answer own begins s noted kept run =
+        → Reads holds d held told a c answer e rs v → ReadsInto holds limits a c answer qs v
+    read_next {d} {e} {none} {held} {qs} {told} answer own begins stood same noted kept run =
+        let s : StandsAt [] held d = subst (λ l. StandsAt [] l d) (sym same) stood in
         let known : Type 0 = holds told (notes_at s) in
         let here = subst (λ n. ReadsBlob holds known d.limits n [] a c answer e rs v) begins (run.blob [] s) in
         record {
           is = answered limits a c holds known e rs qs v answer
-              (subst (holds told) (sym (none_noted none d s)) noted) kept
+              (subst (holds told) (sym (none_noted held d s)) noted) kept
               (subst (λ l. ReadsBlob holds known l (given a) [] a c answer e rs v) own here);
         }
 

@@ -1,7 +1,8 @@
 -- The bytes say how many of them are held and how many geometries are begun.
-use Rattle.std.proofs.Common.{◌≡◌, ℕ, zero, suc, ◌+◌, ◌<◌, inl, inr, List, [], ◌∷◌, ◌++◌, length, refl, sym, ap, ◌∙◌}
-use Rattle.std.proofs.Common.{subst, append_assoc, append-nil, Option, Bool, true, false, Some, arith}
+use Rattle.std.proofs.Common.{◌≡◌, ℕ, zero, suc, ◌+◌, ◌<◌, inl, inr, List, [], ◌∷◌, ◌++◌, length, length-append, refl}
+use Rattle.std.proofs.Common.{sym, ap, ◌∙◌, subst, append_assoc, append-nil, Option, Bool, true, false, Some, arith}
 use Rattle.std.specs.Prelude.{sum_by}
+use Rattle.std.proofs.lemmas.List.{nil_from_length}
 use Rattle.std.proofs.lemmas.List.Sums.{sum_by-append, sum_by-cons}
 use Rattle.twkb_num.specs.Varint.{IsOpenVarint}
 use Rattle.twkb_tree.specs.Tree.{Tree}
@@ -73,8 +74,8 @@ open_behind : (limits : Allowance) (before is : List Item) → Part limits (befo
     → AreOpen before (open_after 0 before) → AreOpen (before ++ is) (open_after 0 (before ++ is))
 open_behind limits before [] part h = subst (λ l. AreOpen l (open_after 0 l)) (sym (append-nil before)) h
 open_behind limits before (i ∷ is) part h =
-    let at : (before ++ i ∷ []) ++ is ≡ before ++ i ∷ is = append_assoc before (i ∷ []) is in
-    let whole : Part limits ((before ++ i ∷ []) ++ is) = subst (λ l. Part limits l) (sym at) part in
+    let at = append_assoc before (i ∷ []) is in
+    let whole = subst (Part limits) (sym at) part in
     let step = open_step (open_after 0 before) (sum_by (λ i. ended_by i.role) before)
     (sum_by (λ i. begun_by i.role) before) i.role
     (λ d came e. open_at_end limits before i d came (part_front limits (before ++ i ∷ []) is whole) e) h in
@@ -100,10 +101,6 @@ part_open limits is part = open_behind limits [] is part refl
 pub no_items : (is : List Item) (st : Stack) → Runs nothing started is st → join is ≡ [] → is ≡ []
 no_items [] st r e = refl
 no_items (i ∷ is) st r e = absurd (first_item i is st r e)
-
-pub no_front : (a b : List ℕ) → a ++ b ≡ [] → a ≡ []
-no_front [] b e = refl
-no_front (x ∷ a) b e = absurd cc
 
 -- the geometries that are begun are those of the items that were taken
 frames_are : (bs : List ℕ) (rs : List Row) (d : Engine) (s : StandsAt bs rs d)
@@ -174,7 +171,14 @@ module _ {bytes : List ℕ} {gs : List Tree} {old : Session} (s : Stands bytes g
   unfolding stands_of
   frames_told o true none =
       let r = s.begun.outlined.reached in
-      let front : s.begun.front ≡ [] = no_front s.begun.front (held_in d) (sym s.begun.whole ∙ none) in
+      let front : s.begun.front ≡ [] =
+      nil_from_length s.begun.front
+      (omega (
+        arith,
+        ap length (sym s.begun.whole ∙ none),
+        length-append s.begun.front
+            (held_in d),
+      )) in
       inl (
         none_at s s.whole none,
         frames_are s.rest (begun_rows old) d s.begun

@@ -227,11 +227,11 @@ module _ {bytes : List ℕ} {gs : List Tree} {old : Session} (s : Stands bytes g
           unspent = m.unspent;
         }
 
-    pub read_none : (answer : Result Bool BlobFault) {e : Engine} {more : List Row}
+    none_read : (answer : Result Bool BlobFault) {e : Engine} {more : List Row}
         → ¬ (answer ≡ Ok true) → Reads holds old.engine (session_rows old) w a c answer e more v
         → IsThrough own bytes gs a c answer new
-    read_none (Ok true) none run = absurd (none refl)
-    read_none (Ok false) none run =
+    none_read (Ok true) none run = absurd (none refl)
+    none_read (Ok false) none run =
         let h = run.blob s.rest (begun_at opened) in
         record {
           more = h.0;
@@ -240,11 +240,11 @@ module _ {bytes : List ℕ} {gs : List Tree} {old : Session} (s : Stands bytes g
               (λ rest. rest ≡ h.0) h.1.consumed h.2 refl;
           blobs = none_at (further h.0) h.3;
         }
-    read_none (Err fault.Memory) none run = IfSome_then (rest_of a)
+    none_read (Err fault.Memory) none run = IfSome_then (rest_of a)
         (run.blob s.rest (begun_at opened)) (λ rest part. part_at part)
-    read_none (Err (fault.At offset reason)) none run = IfSome_then (rest_of a)
+    none_read (Err (fault.At offset reason)) none run = IfSome_then (rest_of a)
         (run.blob s.rest (begun_at opened)) (λ rest f. fault_at (further rest) f.2 f.1)
-    read_none (Err (fault.Device why)) none run = elim (run.blob s.rest (begun_at opened)) [
+    none_read (Err (fault.Device why)) none run = elim (run.blob s.rest (begun_at opened)) [
       | inl h ↦ inl (record { more = h.0; left = h.1; begun = cut_at (further h.0) h.2; none = h.3 })
       | inr h ↦ inr (
         h.0,
@@ -252,7 +252,12 @@ module _ {bytes : List ℕ} {gs : List Tree} {old : Session} (s : Stands bytes g
             (arith, ahead, s.start, ap length s.whole, length-append s.front s.rest)),
       )
     ]
-    read_none (Err fault.Spent) none run = absurd (run.blob s.rest (begun_at opened))
+    none_read (Err fault.Spent) none run = absurd (run.blob s.rest (begun_at opened))
+
+    pub read_none : {limits : Allowance} (answer : Result Bool BlobFault) {e : Engine}
+        {more : List Row} → own ≡ limits → ¬ (answer ≡ Ok true)
+        → Reads holds old.engine (session_rows old) w a c answer e more v → IsThrough limits bytes gs a c answer new
+    read_none answer here none run = subst (λ l. IsThrough l bytes gs a c answer new) here (none_read answer none run)
 
   -- ---- a geometry's tree
 

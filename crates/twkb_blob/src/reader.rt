@@ -9,7 +9,7 @@ ghost use Rattle.twkb_grammar.specs.Noting.{no_notes};
 use crate::fault::BlobFault;
 use crate::input_blobs::read_blob;
 use crate::session::Session;
-use crate::spans::{Located, Spans};
+use crate::spans::{Located, Spans, keep_spans};
 use std::alloc::Global;
 use std::io::Read;
 use twkb_engine::{Engine, NoSpans, SpanNotes};

@@ -1,6 +1,7 @@
 //! Geometries with the place and the header of each.
-ghost use Rattle.std.specs.Prelude.{◌≡◌, []};
+ghost use Rattle.std.specs.Prelude.{◌≡◌, ◌⊎◌, [], Ok, true};
 
+use crate::fault::BlobFault;
 use crate::open_spans::OpenSpans;
 use std::alloc::Global;
 use std::marker::Model;

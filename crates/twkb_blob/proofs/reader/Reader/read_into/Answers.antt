@@ -1,54 +1,24 @@
-use Rattle.std.proofs.Common.{◌∙◌, subst}
-use Rattle.twkb_blob.specs.Feeding.{Reads}
+use Rattle.std.proofs.Common.{◌∙◌, rules}
 use Rattle.twkb_blob.proofs.Answering.{flat_next, read_next, same_answer, some_rows}
 use Rattle.twkb_blob.proofs.reader.Reader.read_into.Goals as goal
 
 pub returns-clause-read : goal.returns-clause-read
 returns-clause-read g c = λ live going.
     let read = c.read_blob-found in
-    let d = c.new-engine in
-    let run = subst (λ l. Reads g.S.SpanNotes.holds d.result l c.args.spans.now
-    c.args.self.now.input read.new.input read.result read.new.engine read.new.flat
-    read.new.spans)
-    c.requires.empty read.ensures.read in
-    read_next read.result d.ensures.limits (d.ensures.begins.start ∙ c.offset.ensures.offset)
-    d.ensures.stands c.requires.no_notes c.keep_rows.ensures.made run
+    let d = c.new-engine.ensures in
+    read_next read.result d.limits (d.begins.start ∙ c.offset.ensures.offset) d.stands
+    c.requires.empty c.requires.no_notes
+    c.keep_rows.ensures.made read.ensures.read
 
 pub returns-clause-next : goal.returns-clause-next
 returns-clause-next g c = λ live going. flat_next c.read_blob-found.result (returns-clause-read g c live going)
 
 pub returns-clause-memory : goal.returns-clause-memory
-returns-clause-memory g c = λ missing.
-    let read = c.read_blob-found in
-    let d = c.new-engine in
-    let run = subst (λ l. Reads g.S.SpanNotes.holds d.result l c.args.spans.now
-    c.args.self.now.input read.new.input read.result read.new.engine read.new.flat
-    read.new.spans)
-    c.requires.empty read.ensures.read in
-    (same_answer missing (read_next read.result d.ensures.limits (d.ensures.begins.start
-    ∙ c.offset.ensures.offset) d.ensures.stands c.requires.no_notes
-    c.keep_rows.ensures.made run)).is
+returns-clause-memory g c = λ missing. (same_answer missing (returns-clause-read g c (search rules) (search rules))).is
 
 pub returns-clause-spent : goal.returns-clause-spent
-returns-clause-spent g c = λ spent.
-    let read = c.read_blob-found in
-    let d = c.new-engine in
-    let run = subst (λ l. Reads g.S.SpanNotes.holds d.result l c.args.spans.now
-    c.args.self.now.input read.new.input read.result read.new.engine read.new.flat
-    read.new.spans)
-    c.requires.empty read.ensures.read in
-    absurd (same_answer spent (read_next read.result d.ensures.limits (d.ensures.begins.start
-    ∙ c.offset.ensures.offset) d.ensures.stands c.requires.no_notes
-    c.keep_rows.ensures.made run)).is
+returns-clause-spent g c = λ spent. absurd (same_answer spent
+    (returns-clause-read g c (search rules) (search rules))).is
 
 pub returns-clause-some : goal.returns-clause-some
-returns-clause-some g c = λ found.
-    let read = c.read_blob-found in
-    let d = c.new-engine in
-    let run = subst (λ l. Reads g.S.SpanNotes.holds d.result l c.args.spans.now
-    c.args.self.now.input read.new.input read.result read.new.engine read.new.flat
-    read.new.spans)
-    c.requires.empty read.ensures.read in
-    some_rows found (read_next read.result d.ensures.limits (d.ensures.begins.start
-    ∙ c.offset.ensures.offset) d.ensures.stands c.requires.no_notes
-    c.keep_rows.ensures.made run)
+returns-clause-some g c = λ found. some_rows found (returns-clause-read g c (search rules) (search rules))

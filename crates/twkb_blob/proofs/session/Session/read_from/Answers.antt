@@ -1,6 +1,5 @@
-use Rattle.std.proofs.Common.{◌∙◌, Ok, Err, true, false, ap, refl, subst}
+use Rattle.std.proofs.Common.{◌∙◌, Ok, Err, true, false, ap, refl}
 use Rattle.twkb_engine.specs.State.{allowance_of}
-use Rattle.twkb_blob.specs.Through.{IsThrough}
 use Rattle.twkb_blob.proofs.Abreast.{read_abreast}
 use Rattle.twkb_blob.proofs.Alive.{of_begun}
 use Rattle.twkb_blob.proofs.Standing.{read_none, read_ok}
@@ -25,19 +24,15 @@ returns-in-Ok-true-clause-through g c = λ bytes gs s.
 
 pub returns-in-Ok-false-clause-through : goal.returns-in-Ok-false-clause-through
 returns-in-Ok-false-clause-through g c = λ bytes gs s.
-    let t = c.give_up-in-Ok-false.new.self in
-    subst (λ l. IsThrough l bytes gs c.args.input.now c.read_blob.new.input (Ok false) t)
-    (ap allowance_of c.begin.ensures.engine)
-    (read_none (c.begin.ensures.stands bytes gs s) t c.begin.ensures.open (Ok false)
-    (λ e. absurd (cc e)) (rw c.in-Ok-false.field-0-test at c.in-Ok-false.ensures.read))
+    read_none (c.begin.ensures.stands bytes gs s) c.give_up-in-Ok-false.new.self
+    c.begin.ensures.open (Ok false) (ap allowance_of c.begin.ensures.engine)
+    (λ e. absurd (cc e)) (rw c.in-Ok-false.field-0-test at c.in-Ok-false.ensures.read)
 
 pub returns-in-Err-clause-through : goal.returns-in-Err-clause-through
 returns-in-Err-clause-through g c = λ bytes gs s.
-    let t = c.give_up-in-Err.new.self in
-    subst (λ l. IsThrough l bytes gs c.args.input.now c.read_blob.new.input (Err c.in-Err.fault) t)
-    (ap allowance_of c.begin.ensures.engine)
-    (read_none (c.begin.ensures.stands bytes gs s) t c.begin.ensures.open (Err c.in-Err.fault)
-    (λ e. absurd (cc e)) c.in-Err.ensures.read)
+    read_none (c.begin.ensures.stands bytes gs s) c.give_up-in-Err.new.self c.begin.ensures.open
+    (Err c.in-Err.fault) (ap allowance_of c.begin.ensures.engine)
+    (λ e. absurd (cc e)) c.in-Err.ensures.read
 
 pub returns-in-Ok-true-clause-read : goal.returns-in-Ok-true-clause-read
 returns-in-Ok-true-clause-read g c = λ limits k.
