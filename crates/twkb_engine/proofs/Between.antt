@@ -36,10 +36,6 @@ is_zero n at = grind (arith, common_steps)
 pub is_some : (n : ℕ) → 0 < n → nat_eq n 0 ≡ false
 is_some n some = grind (arith, common_steps)
 
-pub no_zero : (n : ℕ) → nat_eq n 0 ≡ false → 0 < n
-no_zero zero off = absurd cc
-no_zero (suc n) off = omega arith
-
 no_items : (bs : List ℕ) (rs : List Row) (d : Engine) (s : StandsAt bs rs d) → held_in d ≡ []
     → (n : ℕ) → d.bytes ≡ n → IsEnd (allowance_of d) bs (offset_in d) (nat_eq d.bytes 0)
 no_items bs rs d s none zero at =

@@ -1,12 +1,9 @@
-use Rattle.std.proofs.Common.{◌≡◌, ◌∙◌, length, sym, ap, subst, arith, Ok}
+use Rattle.std.proofs.Common.{◌≡◌, length, sym, ap, subst, arith, Ok}
 use Rattle.twkb_engine.specs.Standing.{FedBy, IsReady}
 use Rattle.twkb_engine.proofs.engine.Engine.feed.Goals as goal
 
 pub returns-then-used-gt0-clause-fed : goal.returns-then-used-gt0-clause-fed
 returns-then-used-gt0-clause-fed g c = c.in_ok-used.ensures.made c.if-used-gt0.true
-
-pub returns-clause-limits : goal.returns-clause-limits
-returns-clause-limits g c = c.feed_items.ensures.answer.limits ∙ c.take_root.ensures.limits
 
 pub feed_items-requires : goal.feed_items-requires
 feed_items-requires g c =
