@@ -21,7 +21,7 @@ use Rattle.twkb_body.specs.declared.member_ids.MemberIds.{MemberIds}
 use Rattle.twkb_body.proofs.PointRuns.{same_change}
 use Rattle.twkb_body.specs.Reading.{sums_past}
 use Rattle.twkb_engine.specs.Collections.{groups_of}
-use Rattle.twkb_engine.specs.Fits.{IsInside, lists_of, left_fit, lists_fit, has_members}
+use Rattle.twkb_engine.specs.Fits.{IsInside, lists_of, has_members}
 use Rattle.twkb_engine.specs.State.{IsHere, IsPlaced, sums_of, outline_in, step_at, ids_in, body_at}
 use Rattle.twkb_engine.specs.Taking.{Lands, shut_at, last_lists, past_last, point_row}
 use Rattle.twkb_engine.specs.Notes.{NotesGo, notes_past, open_in}
@@ -55,11 +55,6 @@ module _ (rs : List Row) (d : Engine) (is : d.next ≡ next.X) (last : d.points_
   -- the header is that of the geometry in the open collections
   placed_at_x : {bs : List ℕ} → StandsAt bs rs d → IsHere d
   placed_at_x s = subst (λ i. IsPlaced i d) is s.placed
-
-  pub point_fits : left_fit d.head.kind 0 d.rings_left d.members_left ≡ true
-  point_fits = subst (λ p. left_fit d.head.kind p d.rings_left d.members_left ≡ true) last
-      (subst (λ i. lists_fit i d.head.kind d.points_left d.rings_left d.members_left ≡ true) is
-      d.lists_fit)
 
   module _ (rest : List ℕ) (to : Point) (used : ℕ) (cut : PointInFront d.position rest to used) where
     -- the rows take it

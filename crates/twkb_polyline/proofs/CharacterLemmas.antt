@@ -6,7 +6,7 @@ use Rattle.std.specs.Int.Digits.{AllBelowBase}
 use Rattle.std.specs.Prelude.{Some, None}
 use Rattle.twkb_num.specs.Alphabet.{five_unit, five_group}
 use Rattle.twkb_num.specs.Spelling.{open_units}
-use Rattle.twkb_polyline.specs.Fault.{IsCharacter, GoesOn, EndsIn}
+use Rattle.twkb_polyline.specs.Fault.{IsCharacter, GoesOn}
 
 -- a character whose group says that more follow goes on
 pub goes_on : (c d : ℕ) → five_group c ≡ Some (d, true) → GoesOn c
@@ -26,9 +26,6 @@ no_character c h known = grind (arith, common_steps)
 -- for each group below 32 there is a character that goes on and one that ends a number
 pub unit_goes_on : (d : ℕ) → d < 32 → GoesOn (five_unit d true)
 unit_goes_on d h = (omega arith, omega arith)
-
-pub unit_ends : (d : ℕ) → d < 32 → EndsIn (five_unit d false) d
-unit_ends d h = (omega arith, h)
 
 -- the groups of characters that go on
 unfoldable pub groups_of : List ℕ → List ℕ
