@@ -22,8 +22,8 @@ pub struct Taken {
     pub position: Pt,
 }
 
-// The most bytes of a point whose numbers are short, four bytes each.
-const NEAR: usize = 8;
+// The most bytes of two points whose numbers are short, four bytes each.
+const NEAR: usize = 16;
 
 // How many points are taken at once, and how many numbers they have.
 const POINTS: u64 = 8;
@@ -37,8 +37,8 @@ const APART: usize = 32;
 const FAR_APART: usize = 256;
 
 /// Takes points of a list to the last row as far as they are complete, at most `most`; and how many
-/// of these are left. Takes memory. Eight or two at a time if that goes: the numbers of points that lie near
-/// one another are found four at once, and not looked for after a point that lies far.
+/// of these are left. Takes memory. Eight or two at a time if that goes: the numbers of points that
+/// lie near one another are found four at once, and not looked for after a point that lies far.
 #[inline(always)]
 pub fn take_row(
     flat: &mut Flat,
@@ -53,10 +53,11 @@ pub fn take_row(
     let mut used = 0;
     let mut position = from;
     let mut left = most;
-    let mut is_near = true;
+    let mut pair_bytes = 0;
     let mut next_look = 0;
     while left > 0 {
-        if is_near && used >= next_look && left >= POINTS && bytes.len() - used >= BLOCK {
+        // a block holds no eight points whose numbers have four bytes each
+        if pair_bytes < NEAR && used >= next_look && left >= POINTS && bytes.len() - used >= BLOCK {
             let (taken, after) = take_eights(flat, position, &bytes[used..], left)?;
             used += taken.used;
             position = taken.position;
@@ -64,7 +65,7 @@ pub fn take_row(
             next_look = used + if taken.used == 0 { FAR_APART } else { APART };
             continue;
         }
-        match take_few(flat, position, &bytes[used..], left, &mut is_near)? {
+        match take_few(flat, position, &bytes[used..], left, &mut pair_bytes)? {
             Some((taken, after)) => {
                 used += taken.used;
                 position = taken.position;
@@ -77,23 +78,25 @@ pub fn take_row(
 }
 
 // Takes two points of a list to the last row, or one; `None` if the next is not complete. Takes
-// memory. Two only after a point that lies near, and `is_near` tells that of the last.
+// memory. Two only after points that lie near: `pair_bytes` is how many bytes the last two had, or
+// twice those of the last one.
 #[inline(always)]
 fn take_few(
     flat: &mut Flat,
     from: Pt,
     bytes: &[u8],
     most: u64,
-    is_near: &mut bool,
+    pair_bytes: &mut usize,
 ) -> Result<Option<(Taken, u64)>, AllocError>
     requires line { EndsInLine flat.old }
     requires room { length (row_points flat.old) + most ≤ 2 ^ 24 }
     requires some { 0 < most }
     ensures { TakesFew flat.old from bytes.now most result flat.new }
 {
-    if *is_near && most > 1 {
+    if *pair_bytes <= NEAR && most > 1 {
         if let Some((first, position, used)) = front_two(from, bytes) {
             flat.add_two(first, position)?;
+            *pair_bytes = used;
             return Ok(Some((Taken { used, position }, most - 2)));
         }
     }
@@ -101,7 +104,7 @@ fn take_few(
         return Ok(None);
     };
     flat.add_point(position)?;
-    *is_near = used <= NEAR;
+    *pair_bytes = used * 2;
     Ok(Some((Taken { used, position }, most - 1)))
 }
 

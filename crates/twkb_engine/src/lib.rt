@@ -11,10 +11,9 @@ mod header_items;
 mod member_items;
 mod next_item;
 mod open_collections;
-mod root_point;
 mod span_notes;
 mod stop;
-mod whole_header;
+mod whole_items;
 
 pub use blob_reason::BlobReason;
 pub use engine::Engine;
