@@ -1,5 +1,6 @@
 //! Items that stand whole at the start of some bytes: a header, and a blob of a single point.
-ghost use Rattle.std.specs.Prelude.{◌≡◌, ◌+◌, ◌-◌, ◌<◌, ◌≤◌, ◌^◌, [], true, List, Ok, length, take, IfOk, IfSome, OnErr};
+ghost use Rattle.std.specs.Prelude.{◌≡◌, ◌+◌, ◌-◌, ◌<◌, ◌≤◌, ◌^◌, [], true, List, Ok, length, take};
+ghost use Rattle.std.specs.Prelude.{IfOk, IfSome, OnErr};
 ghost use Rattle.twkb_tree.specs.Rows.{Row};
 ghost use Rattle.twkb_grammar.specs.PlainReader.{is_exact};
 ghost use Rattle.twkb_body.specs.Whole.{WholePoint};
