@@ -9,7 +9,7 @@ use twkb_polyline::{PolyFault, decode, decode_into, encode};
 const MOST: u32 = 10_000;
 
 /// Joins two routes: the polyline of the points of both, one after the other. A text that is no
-/// polyline, or has too many points, is refused with its place and reason. Takes memory for the
+/// polyline of at most 10,000 points is refused with its place and reason. Takes memory for the
 /// points and the new text.
 pub fn joined(alloc: Global, first: &[u8], second: &[u8]) -> Result<Vec<u8>, PolyFault>
     ensures { IfOk result (λ text. IsJoined first.now second.now text.items) }

@@ -25,7 +25,7 @@ use Rattle.twkb_engine.specs.declared.engine.Engine.{Engine}
 use Rattle.twkb_engine.specs.declared.stop.Stop.{Stop}
 use Rattle.twkb_engine.specs.declared.stop.Stop.TheVariants as stop
 use Rattle.twkb_engine.proofs.Feeds.{count_is}
-use Rattle.twkb_blob.specs.Feeding.{FedPiece, Feeds, Goes, Halts, IsCutAt, Reads, ReadsBlob, Turns}
+use Rattle.twkb_blob.specs.Feeding.{FedPiece, Feeds, Goes, IsCutAt, Reads, ReadsBlob, ReadsNoBlob, Turns}
 use Rattle.twkb_blob.specs.Readers.{AreCutOff, Left, failed_by_read}
 use Rattle.twkb_blob.specs.declared.fault.BlobFault.{BlobFault}
 use Rattle.twkb_blob.specs.declared.fault.BlobFault.TheVariants as fault
@@ -35,7 +35,7 @@ use Rattle.twkb_blob.proofs.Pieces.{known_after, left_join, none_from, part_afte
 -- the bytes end inside a blob
 pub halts_end : {R : Type 0} {read : Ghosts R} {a b : Input R read} (limits : Allowance) (start : ℕ)
     (bs : List ℕ) (why : BlobFault)
-    → IsAtEnd (rest_of b) → Left a b [] → IsCutAt limits start bs why → Halts limits start bs a b why
+    → IsAtEnd (rest_of b) → Left a b [] → IsCutAt limits start bs why → ReadsNoBlob limits start bs a b why
 halts_end {a = a} {b = b} limits start bs (fault.At offset reason) end left h =
     Consumes-whole (rest_of a) (rest_of b) [] (λ rest. (within : ℕ)
     × FirstFault limits (bs ++ rest) within (reason_of reason) × (offset ≡ start + within))
@@ -46,7 +46,7 @@ module _ {R : Type 0} {read : Ghosts R} {a b : Input R read} {bytes : List ℕ}
     (left : Left a b bytes) (live : is_spent b ≢ true)
     (c : Input R read) (limits : Allowance) (start : ℕ) (bs : List ℕ) where
   -- what is said after bytes that left, is said before them
-  halts_after : (why : BlobFault) → Halts limits start (bs ++ bytes) b c why → Halts limits start bs a c why
+  halts_after : (why : BlobFault) → ReadsNoBlob limits start (bs ++ bytes) b c why → ReadsNoBlob limits start bs a c why
   halts_after fault.Memory h = known_after (PartIn limits bs) (rest_of a) (rest_of b) bytes
       left.consumed h (λ rest part. part_after bs bytes part)
   halts_after (fault.At offset reason) h =
@@ -109,7 +109,7 @@ module _ {S : Type 0} (holds : S → Notes → Type 0) {R : Type 0} {read : Ghos
       (drop (length piece) rest) more e now (Err why) fed)
 
   halts_in : (why : BlobFault) → FedPiece holds d rs told piece (Err why) e more now
-      → Halts (allowance_of d) d.start bs a a why
+      → ReadsNoBlob (allowance_of d) d.start bs a a why
   halts_in fault.Memory f = IfSome_then (rest_of a) starts (λ rest is. in_rest stop.Memory rest is (f bs s))
   halts_in (fault.At offset why) f =
       IfSome_then (rest_of a) starts (λ rest is. let h : RefusedIn (allowance_of d) bs rest

@@ -61,23 +61,23 @@ EndsAt limits start bs (Err why) = IsCutAt limits start bs why
 -- Why no blob of an input was read, after these bytes of it, which began at this offset: there was
 -- no memory, or the known bytes have a first fault; or the input gave no byte after some; or the
 -- stream has no room for what it holds, since more than the input gave out was taken.
-abbrev pub Halts : Allowance → (start : ℕ) → List ℕ → {R : Type 0} {read : Ghosts R} → Input R read
+abbrev pub ReadsNoBlob : Allowance → (start : ℕ) → List ℕ → {R : Type 0} {read : Ghosts R} → Input R read
     → Input R read → BlobFault → Type 0
-Halts limits start bs old new fault.Memory = PartAhead limits bs old
-Halts limits start bs old new (fault.At offset reason) =
+ReadsNoBlob limits start bs old new fault.Memory = PartAhead limits bs old
+ReadsNoBlob limits start bs old new (fault.At offset reason) =
     IfSome (rest_of old) (λ rest. (within : ℕ) × FirstFault limits (bs ++ rest) within
     (reason_of reason) × (offset ≡ start + within))
-Halts limits start bs old new (fault.Device why) =
+ReadsNoBlob limits start bs old new (fault.Device why) =
     ((bytes : List ℕ) × Left old new bytes × AreCutOff limits (bs ++ bytes) × HasNone why old new)
     ⊎ ((why ≡ TooLong) × (given old < start + length bs))
-Halts limits start bs old new fault.Spent = ⊥
+ReadsNoBlob limits start bs old new fault.Spent = ⊥
 
 -- What it answers that fills an input: it holds bytes; or it is at its end, and there are no bytes.
 abbrev pub Fills : Allowance → (start : ℕ) → List ℕ → {R : Type 0} {read : Ghosts R} → Input R read
     → Input R read → Result Bool BlobFault → Type 0
 Fills limits start bs old new (Ok true) = ⊤
 Fills limits start bs old new (Ok false) = IsAtEnd (rest_of new) × (bs ≡ [])
-Fills limits start bs old new (Err why) = Halts limits start bs old new why
+Fills limits start bs old new (Err why) = ReadsNoBlob limits start bs old new why
 
 -- What it answers that reads a blob of an input, after these bytes of it: some that left end the
 -- blob, whose rows and spans it has; or the input ended, and there are no bytes; or it halts.
@@ -90,7 +90,7 @@ ReadsBlob holds told limits start bs old new (Ok true) e more spans =
     × StandsAt [] [] e × (e.start ≡ start + length (bs ++ made.bytes))
 ReadsBlob holds told limits start bs old new (Ok false) e more spans = (bytes : List ℕ)
     × Left old new bytes × IsAtEnd (rest_of new) × (bs ++ bytes ≡ [])
-ReadsBlob holds told limits start bs old new (Err why) e more spans = Halts limits start bs old new why
+ReadsBlob holds told limits start bs old new (Err why) e more spans = ReadsNoBlob limits start bs old new why
 
 -- What a call says that reads a blob of an input, wherever its engine stands.
 pub record Reads {S : Type 0} (holds : S → Notes → Type 0) {R : Type 0} {read : Ghosts R}

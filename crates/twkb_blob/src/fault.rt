@@ -28,7 +28,7 @@ pub enum BlobFault {
     },
 }
 
-// The fault of an engine that stopped at this offset.
+// The fault of an engine that stopped: `Memory`, or the refusal's reason at this offset.
 pub(crate) fn fault_at(offset: u64, stop: Stop) -> BlobFault
     ensures { result ≡ fault_of offset stop }
 {

@@ -15,8 +15,8 @@ use twkb_engine::{BlobReason, Engine, SpanNotes};
 use twkb_flat::Flat;
 use twkb_io::{InFault, Input, MAX_BYTES};
 
-// The number of bytes of the piece that a stream may have after `taken`: all, or those up to the
-// most that it may have. Refused if there may be none.
+// How many bytes of the piece a stream may have after its first `taken`: as many as keep it within
+// 2^62 bytes. `TooLong` if it is longer already.
 #[inline(always)]
 fn room_in(taken: u64, piece: &[u8]) -> Result<usize, BlobFault>
     ensures fits { IfOk result (λ count. (taken + count ≤ 2 ^ 62) × (count ≤ length piece.now)) }
@@ -30,8 +30,9 @@ fn room_in(taken: u64, piece: &[u8]) -> Result<usize, BlobFault>
     Ok(room.min(piece.len() as u64) as usize)
 }
 
-// Feeds a piece to an engine, up to the end of a blob or to where a stream may have no further
-// byte; returns how many bytes were taken, and whether a blob ends with them.
+// Feeds a piece to an engine, up to the end of a blob, or all of it if none ends; returns how many
+// bytes were taken, and whether a blob ends with them. `TooLong` if the stream would pass 2^62 bytes
+// before that.
 #[inline(always)]
 pub(crate) fn feed_piece<S: SpanNotes>(
     engine: &mut Engine,
@@ -109,8 +110,8 @@ pub(crate) fn at_end(engine: &Engine) -> Result<(), BlobFault>
     })
 }
 
-// Has an input hold bytes, by a read if it holds none: false at its end, if the engine is inside
-// no blob there.
+// Reads if the input holds no bytes; true if it then holds some. At the input's end it answers false
+// between two blobs, and `Truncated` inside one.
 #[inline(always)]
 fn fill_held<R: Read>(input: &mut Input<'_, R>, engine: &Engine) -> Result<bool, BlobFault>
     ensures same_tap { (input_tap input.new).ghost_name ≡ (input_tap input.old).ghost_name }
@@ -162,7 +163,8 @@ fn feed_held<R: Read, S: SpanNotes>(
     }
 }
 
-// Reads a blob from an input into a form, and its spans; returns whether there was one.
+// Reads the next blob of an input, its rows into `flat` and its spans into `spans`; false if the
+// input ends before another blob begins.
 #[inline(always)]
 pub(crate) fn read_blob<R: Read, S: SpanNotes>(
     input: &mut Input<'_, R>,

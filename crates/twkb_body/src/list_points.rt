@@ -25,20 +25,22 @@ pub struct Taken {
 // The most bytes of two points whose numbers are short, four bytes each.
 const NEAR: usize = 16;
 
-// How many points are taken at once, and how many numbers they have.
+// How many points are taken at once from a block.
 const POINTS: u64 = 8;
 
+// How many numbers these points have.
 const NUMBERS: u32 = 16;
 
-// How many bytes after a look that found blocks they are looked for again.
+// How many bytes after a search that found points in blocks the next search begins.
 const APART: usize = 32;
 
-// How many bytes after a look in vain they are looked for again: far points have no blocks.
+// How many bytes after a search in vain the next begins: far points are in no block.
 const FAR_APART: usize = 256;
 
-/// Takes points of a list to the last row as far as they are complete, at most `most`; and how many
-/// of these are left. Takes memory. Eight or two at a time if that goes: the numbers of points that
-/// lie near one another are found four at once, and not looked for after a point that lies far.
+/// Appends to the last row the points that are complete at the start of the bytes, at most `most`,
+/// each by its steps from the one before, the first from `from`; returns what was taken, and how
+/// many of `most` are left. Takes memory. Points that lie near one another are read eight or two at
+/// a time.
 #[inline(always)]
 pub fn take_row(
     flat: &mut Flat,
@@ -77,8 +79,8 @@ pub fn take_row(
     Ok((Taken { used, position }, left))
 }
 
-// Takes two points of a list to the last row, or one; `None` if the next is not complete. Takes
-// memory. Two only after points that lie near: `pair_bytes` is how many bytes the last two had, or
+// Appends the next two points of a list to the last row, or one; `None` if the next is not complete.
+// Takes memory. Two only after points that lie near: `pair_bytes` is how many bytes the last two had, or
 // twice those of the last one.
 #[inline(always)]
 fn take_few(
@@ -108,8 +110,8 @@ fn take_few(
     Ok(Some((Taken { used, position }, most - 1)))
 }
 
-// Takes points of a list to the last row, eight at a time, as far as their numbers are found in
-// blocks; at most `most`; and how many of these are left. Takes memory.
+// Appends points of a list to the last row, eight at a time, as long as their numbers are found in
+// blocks, at most `most`; returns what was taken, and how many of `most` are left. Takes memory.
 #[inline(never)]
 fn take_eights(
     flat: &mut Flat,

@@ -28,7 +28,7 @@ pub(crate) trait BlobText {
     fn bytes(&self) -> &[u8]
         ensures text { result.now ≡ made self.now };
 
-    // Reads the next blob through the session, if there is one, and makes its text.
+    // Reads the next blob through the session and makes its text; false if there is none.
     fn read_next<R: Read>(
         &mut self,
         reader: &mut Reader<'_, R>,
@@ -52,8 +52,8 @@ pub(crate) trait BlobText {
 // The bytes that a text has room for at first.
 const FIRST_ROOM: usize = 128;
 
-// Makes room for the text of a small blob, if there is less. A text that grew from nothing would
-// ask for memory at each step.
+// Reserves room for the text of a small blob, if the capacity is below that: a text that grew from
+// nothing would ask for memory at each step.
 #[inline(always)]
 fn make_room(text: &mut Vec<u8>) -> Result<(), AllocError>
     ensures same { text.new.items ≡ text.old.items }

@@ -21,8 +21,8 @@ ghost use Rattle.twkb_convert.specs.Outputs.{IsTable, PackTextTo, PackTo, Unpack
 ghost use Rattle.twkb_convert.specs.Parts.{AreMovedLines, PackApart, RowsName, all_moved};
 ghost use Rattle.twkb_convert.specs.RefusedRows.{IsRefusedText};
 
-/// If the records of a table name geometries, unpacking its packed stream, in either style, gives a
-/// table with these records, as `csv` reads them.
+/// If a table's records are those of valid geometries, packing it, in either style, and unpacking the
+/// result gives a table from which `csv` reads the same records.
 pub fn unpack_of_pack()
     ensures { (style : Style) (l : Allowance) (table bytes text : List ℕ) (records : List Record) → IsAllowance l
         → IsTable l table records → PackTo style l records bytes → UnpackTo l bytes text → AreRecordsOf text records }
@@ -111,8 +111,8 @@ pub fn show_front()
 
 // ---- parts, converted separately
 
-/// Two tables that name geometries may be packed separately: their outputs, joined, are the output
-/// of the rows of both below one header. A table that names geometries may be cut for this before
+/// Two tables of valid geometries may be packed separately: their outputs, joined, are the output
+/// of the rows of both below one header. A table of valid geometries may be cut into two such before
 /// any row of depth 0.
 pub fn packed_parts()
     ensures joined { (style : Style) (l : Allowance) (rows more : List Record) → IsAllowance l

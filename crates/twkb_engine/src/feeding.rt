@@ -14,7 +14,7 @@ use twkb_flat::Flat;
 use twkb_num::Step;
 use twkb_tree::Kind;
 
-// What an item's answer says of the bytes, of which it has this number.
+// Adds the number of bytes used to an item's answer; an `Err` stays as it is.
 #[inline(always)]
 fn with_bytes(used: usize, answer: Result<bool, Stop>) -> Result<(usize, bool), Stop>
     ensures is { result ≡ with_used used answer }
@@ -141,8 +141,9 @@ impl Engine {
         with_bytes(used, self.last_point(flat, spans, position))
     }
 
-    // Takes points of the open list, but not its last, and returns how many bytes they had. They
-    // take memory. A frame of its own, for the sake of its callers' registers.
+    // Takes points of the open list, but not its last, and returns how many bytes they had; 0 if
+    // the form has no room for all that are left. Takes memory. Not inlined, so that its callers
+    // keep their registers.
     #[inline(never)]
     fn take_list(&mut self, flat: &mut Flat, rest: &[u8]) -> Result<usize, AllocError>
         requires next { self.old.next ≡ X }
@@ -165,7 +166,8 @@ impl Engine {
     }
 
     // Takes members of a multipoint after its first, but not its last, and returns how many bytes
-    // they had. They take memory. A frame of its own, as `take_list`.
+    // they had; 0 if the geometry is no multipoint, or the form has no room for all that are left.
+    // Takes memory. Not inlined, so that its callers keep their registers.
     #[inline(never)]
     fn take_members(&mut self, flat: &mut Flat, rest: &[u8]) -> Result<usize, AllocError>
         requires next { self.old.next ≡ X }
@@ -211,7 +213,7 @@ impl Engine {
         self.take_members(flat, rest)
     }
 
-    // Takes ids, but not the last, and returns how many bytes they had. They take memory.
+    // Takes ids, but not the last, and returns how many bytes they had. Takes memory.
     #[inline(never)]
     fn take_ids(&mut self, rest: &[u8]) -> Result<usize, AllocError>
         requires next { self.old.next ≡ Id }
@@ -299,9 +301,9 @@ impl Engine {
     }
 
     /// Takes bytes up to the end of a blob, else all of them; returns how many, and whether a blob
-    /// ends with them. The form has no rows when a blob begins, and then those that were read of
-    /// it; the rows of a blob that ended stay in it, and the next call needs it cleared. A row, a
-    /// point, an id, an open collection and a span take memory.
+    /// ends with them. `flat` has no rows when a blob begins, and then the rows read of it so far;
+    /// those of a blob that ended stay in it, so clear it before the next call. Takes memory for
+    /// rows, points, ids, open collections and spans.
     #[inline(always)]
     pub fn feed<S: SpanNotes>(
         &mut self,

@@ -119,6 +119,7 @@ pub fn completions()
         ([], Finished g) }
 {}
 
+/// A part is a prefix of a valid geometry's items in which each size that can be checked is exact.
 /// The machine runs through some items, within the limits and with exact sizes, exactly if they are
 /// a part. The bytes that a reader has taken are those of a part, and so are the bytes of a blob.
 /// Bytes that begin with a part have no fault inside that part.

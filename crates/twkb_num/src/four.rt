@@ -32,10 +32,9 @@ pub fn four_varints(bytes: &[u8]) -> Option<Four>
     four_in_front(bytes, VARINTS)
 }
 
-/// Fast path: reads the four signed numbers at the start of a polyline's text, if each zigzag
-/// form is below 2^28 and in its shortest spelling (Encoded Polyline Algorithm Format). `None`
-/// proves nothing about the text: it is also the answer if a number has more than four
-/// characters, or if there are fewer than sixteen in all. Takes no memory.
+/// Fast path: reads the four signed numbers at the start of a polyline's text, if each has a
+/// shortest spelling of at most four characters (Encoded Polyline Algorithm Format). `None` proves
+/// nothing about the text: it is also the answer for fewer than sixteen characters. Takes no memory.
 #[inline(always)]
 pub fn four_characters(text: &[u8]) -> Option<Four>
     ensures { IfSome result (λ f. FourInFront five_unit 32 text.now (zigzag_of f.first)
@@ -44,9 +43,9 @@ pub fn four_characters(text: &[u8]) -> Option<Four>
     four_in_front(text, POLYLINES)
 }
 
-/// Like `four_varints`, with the ends that `varint_ends` found, shifted so that bit 0 is for the
-/// first of these bytes. Shifted by `used` more, they are the ends of the bytes after the four
-/// numbers.
+/// Reads the four numbers that `four_varints` reads, from bytes whose ends `varint_ends` found: bit
+/// i of `ends` says whether byte i ends a number. `None` proves nothing about the bytes. Shifted
+/// by `used`, `ends` says it of the bytes after the four numbers. Takes no memory.
 #[inline(always)]
 pub fn four_varints_by(bytes: &[u8], ends: u64) -> Option<Four>
     requires long { 16 ≤ length bytes.now }
@@ -59,9 +58,9 @@ pub fn four_varints_by(bytes: &[u8], ends: u64) -> Option<Four>
     four_by(bytes, ends, VARINTS)
 }
 
-/// Like `four_characters`, with the ends that `character_ends` found, shifted so that bit 0 is for
-/// the first of these characters. Shifted by `used` more, they are the ends of the text after the
-/// four numbers.
+/// Reads the four numbers that `four_characters` reads, from a text whose ends `character_ends`
+/// found: bit i of `ends` says whether character i ends a number. `None` proves nothing about the
+/// text. Shifted by `used`, `ends` says it of the text after the four numbers. Takes no memory.
 #[inline(always)]
 pub fn four_characters_by(text: &[u8], ends: u64) -> Option<Four>
     requires long { 16 ≤ length text.now }

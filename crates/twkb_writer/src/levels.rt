@@ -13,8 +13,8 @@ use twkb_grammar::Style;
 use twkb_points::{Bounds, merged};
 use twkb_tree::Kind;
 
-// Totals of the rows at one depth and of all rows below them, from a row on up to the next row at a
-// smaller depth.
+// Totals of a row, of the rows after it at its depth, and of all rows below these: of all rows before
+// the next one at a smaller depth.
 #[derive(Clone, Copy)]
 pub(crate) struct Level {
     // The number of rows at this depth.
