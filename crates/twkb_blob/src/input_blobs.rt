@@ -1,6 +1,6 @@
 //! A blob that is read from the held bytes of an input, or from a piece of a stream.
 ghost use Rattle.std.specs.Prelude.{◌≡◌, ◌+◌, ◌<◌, ◌≤◌, ◌^◌, ◌∷◌, ℕ, List, [], false, true, Ok, Err, length};
-ghost use Rattle.std.specs.Prelude.{if◌then◌else◌, IfOk, IfErr, OnErr, OnOk};
+ghost use Rattle.std.specs.Prelude.{if◌then◌else◌, IfOk, IfSome, IfNone, OnOk};
 ghost use Rattle.twkb_tree.specs.Rows.{Row};
 ghost use Rattle.twkb_io.specs.Taps.{count_failure};
 ghost use Rattle.twkb_io.specs.Inputs.{given, held_of, input_failures, input_tap, is_spent};
@@ -16,18 +16,15 @@ use twkb_flat::Flat;
 use twkb_io::{InFault, Input, MAX_BYTES};
 
 // How many bytes of the piece a stream may have after its first `taken`: as many as keep it within
-// 2^62 bytes. `TooLong` if it is longer already.
+// 2^62 bytes. `None` if it is longer already.
 #[inline(always)]
-fn room_in(taken: u64, piece: &[u8]) -> Result<usize, BlobFault>
-    ensures fits { IfOk result (λ count. (taken + count ≤ 2 ^ 62) × (count ≤ length piece.now)) }
-    ensures full { IfOk result (λ count. count < length piece.now → taken + count ≡ 2 ^ 62) }
-    ensures past { OnErr result (2 ^ 62 < taken) }
-    ensures fault { IfErr result (λ why. why ≡ BlobFault.Device InFault.TooLong) }
+fn room_in(taken: u64, piece: &[u8]) -> Option<usize>
+    ensures fits { IfSome result (λ count. (taken + count ≤ 2 ^ 62) × (count ≤ length piece.now)) }
+    ensures full { IfSome result (λ count. count < length piece.now → taken + count ≡ 2 ^ 62) }
+    ensures past { IfNone result (2 ^ 62 < taken) }
 {
-    let Some(room) = MAX_BYTES.checked_sub(taken) else {
-        return Err(BlobFault::Device(InFault::TooLong));
-    };
-    Ok(room.min(piece.len() as u64) as usize)
+    let room = MAX_BYTES.checked_sub(taken)?;
+    Some(room.min(piece.len() as u64) as usize)
 }
 
 // Feeds a piece to an engine, up to the end of a blob, or all of it if none ends; returns how many
@@ -53,9 +50,8 @@ pub(crate) fn feed_piece<S: SpanNotes>(
     let taken = engine.offset() + engine.held() as u64;
     // learnt: where the engine stands, the bytes end inside a blob, or there are none
     let _learnt = engine.is_between();
-    let count = match room_in(taken, piece) {
-        Ok(count) => count,
-        Err(fault) => return Err(fault),
+    let Some(count) = room_in(taken, piece) else {
+        return Err(BlobFault::Device(InFault::TooLong));
     };
     match engine.feed(flat, spans, &piece[..count]) {
         Ok((used, ends)) => {

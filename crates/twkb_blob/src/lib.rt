@@ -2,7 +2,6 @@
 #![tactic(auto)]
 
 mod fault;
-mod feed_result;
 mod input_blobs;
 pub mod laws;
 mod open_spans;

@@ -11,7 +11,6 @@ ghost use Rattle.twkb_engine.specs.Standing.{IsAlive, count_of};
 ghost use Rattle.twkb_blob.specs.Readers.{failed_by_read};
 
 use crate::fault::BlobFault;
-use crate::feed_result::{none_after, refused};
 use crate::input_blobs::{at_end, feed_one, feed_piece, read_blob};
 use std::alloc::{AllocError, Global};
 use std::io::Read;
@@ -73,8 +72,8 @@ impl Session {
     {
         let used = match self.feed_flat(piece) {
             Ok((used, true)) => used,
-            Ok((used, false)) => return none_after(used),
-            Err(fault) => return refused(fault),
+            Ok((used, false)) => return Ok((used, None)),
+            Err(fault) => return Err(fault),
         };
         self.give_tree(used)
     }
@@ -94,7 +93,7 @@ impl Session {
     {
         let Ok(found) = self.tree() else {
             self.give_up();
-            return refused(BlobFault::Memory);
+            return Err(BlobFault::Memory);
         };
         // a geometry has rows: if a session stands for a stream there is a tree
         Ok((used, found))
@@ -247,21 +246,14 @@ impl Session {
         self.begin();
         // nothing is known of an engine that refused
         self.spent = true;
-        match read_blob(input, &mut self.engine, &mut self.rows.flat, spans) {
-            Ok(true) => {
-                self.is_whole = true;
-                self.spent = false;
-                Ok(true)
-            }
-            Ok(false) => {
-                self.give_up();
-                Ok(false)
-            }
-            Err(fault) => {
-                self.give_up();
-                Err(fault)
-            }
+        let found = read_blob(input, &mut self.engine, &mut self.rows.flat, spans);
+        if let Ok(true) = found {
+            self.is_whole = true;
+            self.spent = false;
+            return Ok(true);
         }
+        self.give_up();
+        found
     }
 
     // Clears the rows if they are still those of the last geometry.

@@ -33,14 +33,14 @@ ids_after-snoc ids end g = refl
 ids_after-snoc ids (k ▷ gs) g = ids_after-snoc (other_ids ids) gs g
 
 -- the step of a body, which at its end is its geometry's end
-abbrev spot_step : {whole : ℕ} → Head → Form → Ids → Body whole → Step
-spot_step h f ids (Want d a) = OnBody h f (ids_left ids a) (Wanted d (lefts_of a))
-spot_step h f ids (WantY a) = OnBody h f (ids_left ids a) (WantedY (lefts_of a))
-spot_step h f ids (Done v) = OnEnd h
+abbrev place_step : {whole : ℕ} → Head → Form → Ids → Body whole → Step
+place_step h f ids (Want d a) = OnBody h f (ids_left ids a) (Wanted d (lefts_of a))
+place_step h f ids (WantY a) = OnBody h f (ids_left ids a) (WantedY (lefts_of a))
+place_step h f ids (Done v) = OnEnd h
 
 -- the step of a phase with a body
 settled_step : (h : Head) (f : Form) (ids : Ids) (b : Body (depth_of f))
-    → step_of (settled h f ids b) ≡ spot_step h f ids b
+    → step_of (settled h f ids b) ≡ place_step h f ids b
 settled_step h f ids (Want d a) = refl
 settled_step h f ids (WantY a) = refl
 settled_step h f ids (Done v) = refl
@@ -60,7 +60,7 @@ shut_ids h f ids done left top n = refl
 shut_ids h f ids done left (within others more a) n = refl
 
 shut_step : {whole d : ℕ} (h : Head) (f : Form) (ids : Ids) (a : Around whole d) (v : Nested d)
-    → spot_step h f ids (closed a v) ≡ shut h f (ids_left ids a) d (lefts_of a)
+    → place_step h f ids (closed a v) ≡ shut h f (ids_left ids a) d (lefts_of a)
 shut_step h f ids top v = refl
 shut_step {d = d} h f ids (within done zero a) v = shut_step h f ids a (done ++ v ∷ [])
     ∙ shut_ids h f ids done 0 a (suc d)
@@ -74,7 +74,7 @@ first_left ids left top = refl
 first_left ids left (within others more a) = refl
 
 listing_step : {whole : ℕ} (h : Head) (f : Form) (ids : Ids) (d n : ℕ) (a : Around whole (suc d))
-    → spot_step h f ids (opened d n a) ≡ listing h f (ids_left ids a) d n (lefts_of a)
+    → place_step h f ids (opened d n a) ≡ listing h f (ids_left ids a) d n (lefts_of a)
 listing_step h f ids d zero a = shut_step h f ids a []
 listing_step h f ids d (suc n) a = ap (λ js. OnBody h f js (Wanted d (n ∷ lefts_of a))) (first_left ids n a)
 

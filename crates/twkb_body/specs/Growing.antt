@@ -13,7 +13,7 @@ use Rattle.twkb_grammar.specs.Machine.{LineForm, PolygonForm, MultiPointForm, Mu
 use Rattle.twkb_grammar.specs.Machine.{SimpleKind, CollectionKind, depth_of, shape_of, Head, Frame, Many, ManyPoints}
 use Rattle.twkb_grammar.specs.Machine.{ManyLines, ManyPolygons, ManyGeometries, Phase, AtBody, AtEnd, Finished, Stack}
 use Rattle.twkb_grammar.specs.Machine.{asked}
-use Rattle.twkb_body.specs.Outline.{ids_after, Group, Spot, Wanted, WantedY, Full, Step, OnMetadata, OnOption}
+use Rattle.twkb_body.specs.Outline.{ids_after, Group, BodyPlace, Wanted, WantedY, Full, Step, OnMetadata, OnOption}
 use Rattle.twkb_body.specs.Outline.{OnCount, OnId, OnBody, Outline}
 
 -- ---- the rows of a stack
@@ -111,11 +111,11 @@ point_change p d id precision MultiPointForm member = NewRow (plain_row (suc d) 
 point_change p d id precision f member = NewPoint p
 
 -- The change of a number in a body that leads to position p.
-abbrev pub spot_change : Point → ℕ → Option ℤ → ℤ → Form → Option ℤ → Spot → Change
-spot_change p d id precision f member (Wanted zero lefts) = Nothing
-spot_change p d id precision f member (Wanted (suc inner) lefts) = NewRow (list_row d id precision f member inner)
-spot_change p d id precision f member (WantedY lefts) = point_change p d id precision f member
-spot_change p d id precision f member Full = Nothing
+abbrev pub place_change : Point → ℕ → Option ℤ → ℤ → Form → Option ℤ → BodyPlace → Change
+place_change p d id precision f member (Wanted zero lefts) = Nothing
+place_change p d id precision f member (Wanted (suc inner) lefts) = NewRow (list_row d id precision f member inner)
+place_change p d id precision f member (WantedY lefts) = point_change p d id precision f member
+place_change p d id precision f member Full = Nothing
 
 -- The change of a header with this precision and metadata byte, and with these optional parts to come.
 abbrev pub header_change : ℕ → Option ℤ → Kind → (precision : ℤ) → (meta : ℕ) → List Role → Change
@@ -141,7 +141,7 @@ step_change p n d id (OnMetadata k precision) = header_change d id k precision n
 step_change p n d id (OnOption k h r rs) = header_change d id k h.precision h.meta rs
 step_change p n d id (OnCount m h) = count_change d id m h n
 step_change p n d id (OnId m h members ids zero) = NewRow (own_of d id (kind_with m) h.precision)
-step_change p n d id (OnBody h f ids s) = spot_change p d id h.precision f (first_id ids) s
+step_change p n d id (OnBody h f ids s) = place_change p d id h.precision f (first_id ids) s
 step_change p n d id _ = Nothing
 
 -- The id of the open geometry.

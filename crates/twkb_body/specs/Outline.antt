@@ -35,10 +35,10 @@ pub record Group : Type 0 where
 -- The place in a body: a count, or at depth 0 an x, is expected; a y is expected; or the body is
 -- complete. For each open list, innermost first, it has the number of values left after the open
 -- one.
-pub data Spot : Type 0 where
-  Wanted : (d : ℕ) → (lefts : List ℕ) → Spot
-  WantedY : (lefts : List ℕ) → Spot
-  Full : Spot
+pub data BodyPlace : Type 0 where
+  Wanted : (d : ℕ) → (lefts : List ℕ) → BodyPlace
+  WantedY : (lefts : List ℕ) → BodyPlace
+  Full : BodyPlace
 
 -- What is expected next in the open geometry. For a body it has the ids from the open member on.
 pub data Step : Type 0 where
@@ -47,7 +47,7 @@ pub data Step : Type 0 where
   OnOption : Kind → Head → Role → List Role → Step
   OnCount : Many → Head → Step
   OnId : Many → Head → (members : ℕ) → (ids : List ℤ) → (left : ℕ) → Step
-  OnBody : Head → (f : Form) → Ids → Spot → Step
+  OnBody : Head → (f : Form) → Ids → BodyPlace → Step
   OnEnd : Head → Step
   OnFinished : Step
 
@@ -96,11 +96,11 @@ outline_of st = (map group_of st.0, step_of st.1)
 -- ---- the role of the next item
 
 -- The role of the next item in a body.
-abbrev pub spot_role : Spot → Option Role
-spot_role (Wanted zero lefts) = Some X
-spot_role (Wanted (suc d) lefts) = Some (Count (listed d))
-spot_role (WantedY lefts) = Some Y
-spot_role Full = None
+abbrev pub place_role : BodyPlace → Option Role
+place_role (Wanted zero lefts) = Some X
+place_role (Wanted (suc d) lefts) = Some (Count (listed d))
+place_role (WantedY lefts) = Some Y
+place_role Full = None
 
 -- The role of the next item, inside `level` collections and after this many bytes.
 abbrev pub step_role : (level bytes : ℕ) → Step → Option Role
@@ -109,7 +109,7 @@ step_role level bytes (OnMetadata k p) = Some (Metadata (kind_number k))
 step_role level bytes (OnOption k h r rs) = Some r
 step_role level bytes (OnCount m h) = Some (Count (first_count m level))
 step_role level bytes (OnId m h n ids left) = Some Id
-step_role level bytes (OnBody h f ids s) = spot_role s
+step_role level bytes (OnBody h f ids s) = place_role s
 step_role level bytes (OnEnd h) = Some (End h.size (bytes - h.from))
 step_role level bytes OnFinished = None
 
@@ -136,11 +136,11 @@ listing h f ids d zero lefts = shut h f ids (suc d) lefts
 listing h f ids d (suc n) lefts = OnBody h f ids (Wanted d (n ∷ lefts))
 
 -- The step after a number in a body.
-abbrev pub spot_after : Head → Form → Ids → ℕ → Spot → Step
-spot_after h f ids n (Wanted zero lefts) = OnBody h f ids (WantedY lefts)
-spot_after h f ids n (Wanted (suc d) lefts) = listing h f ids d n lefts
-spot_after h f ids n (WantedY lefts) = shut h f ids 0 lefts
-spot_after h f ids n Full = OnEnd h
+abbrev pub place_after : Head → Form → Ids → ℕ → BodyPlace → Step
+place_after h f ids n (Wanted zero lefts) = OnBody h f ids (WantedY lefts)
+place_after h f ids n (Wanted (suc d) lefts) = listing h f ids d n lefts
+place_after h f ids n (WantedY lefts) = shut h f ids 0 lefts
+place_after h f ids n Full = OnEnd h
 
 -- The body begins.
 abbrev pub begins : Kind → Head → Step
@@ -192,7 +192,7 @@ outline_advanced bytes n (gs, OnCount m h) = many_counted m h gs n
 outline_advanced bytes n (gs, OnId m h members ids zero) = members_open m h gs
     (Some (ids ++ unzigzag_of n ∷ [])) members
 outline_advanced bytes n (gs, OnId m h members ids (suc left)) = (gs, OnId m h members (ids ++ unzigzag_of n ∷ []) left)
-outline_advanced bytes n (gs, OnBody h f ids s) = (gs, spot_after h f ids n s)
+outline_advanced bytes n (gs, OnBody h f ids s) = (gs, place_after h f ids n s)
 outline_advanced bytes n (gs, OnEnd h) = outline_ended gs
 outline_advanced bytes n (gs, OnFinished) = (gs, OnFinished)
 

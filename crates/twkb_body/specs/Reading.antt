@@ -11,8 +11,8 @@ use Rattle.twkb_grammar.specs.Fault.{Reason, FirstFault, moved}
 use Rattle.twkb_grammar.specs.Machine.{Form, Head, depth_of, Sums, added, Stack}
 use Rattle.twkb_grammar.specs.PlainReader.{in_range, objection}
 use Rattle.twkb_grammar.specs.Reading.{Reached, IsGiven}
-use Rattle.twkb_body.specs.Outline.{Group, Spot, Wanted, WantedY, Full, Step, OnHeader, OnBody, OnFinished, Outline}
-use Rattle.twkb_body.specs.Outline.{outline_of, outline_role, outline_advanced, shut}
+use Rattle.twkb_body.specs.Outline.{Group, BodyPlace, Wanted, WantedY, Full, Step, OnHeader, OnBody, OnFinished}
+use Rattle.twkb_body.specs.Outline.{Outline, outline_of, outline_role, outline_advanced, shut}
 use Rattle.twkb_body.specs.Growing.{rows_so_far, Change, change_of, applied, point_change, id_in}
 
 -- The bytes are complete items that the machine ran through within the limits; these are the sums
@@ -52,14 +52,14 @@ OutlineLanded limits bytes e rs (Ok o) = Outlined limits bytes e o rs
 OutlineLanded limits bytes e rs (Err reason) = (rest : List ℕ) → FirstFault limits (bytes ++ rest) e.bytes reason
 
 -- The open lists, and the value expected in them, are those of the form.
-abbrev pub SpotFits : ℕ → Spot → Type 0
-SpotFits whole (Wanted d lefts) = d + length lefts ≡ whole
-SpotFits whole (WantedY lefts) = length lefts ≡ whole
-SpotFits whole Full = ⊤
+abbrev pub PlaceFits : ℕ → BodyPlace → Type 0
+PlaceFits whole (Wanted d lefts) = d + length lefts ≡ whole
+PlaceFits whole (WantedY lefts) = length lefts ≡ whole
+PlaceFits whole Full = ⊤
 
 -- The open lists of a step, and the value expected in them, are those of its form.
 abbrev pub StepFits : Step → Type 0
-StepFits (OnBody h f ids s) = SpotFits (depth_of f) s
+StepFits (OnBody h f ids s) = PlaceFits (depth_of f) s
 StepFits _ = ⊤
 
 -- The number of open geometries.

@@ -52,24 +52,8 @@ pub fn put_point(
     ensures same { OnErr result (flat.new ≡ flat.old) }
 {
     match head.kind {
-        Kind::Point => {
-            let row = Row {
-                depth: head.depth,
-                kind: Kind::Point,
-                id: head.id,
-                precision: Some(head.precision),
-            };
-            push_point(flat, row, point)
-        }
-        Kind::MultiPoint => {
-            let row = Row {
-                depth: head.depth + 1,
-                kind: Kind::Point,
-                id: member,
-                precision: None,
-            };
-            push_point(flat, row, point)
-        }
+        Kind::Point => push_point(flat, own_row(head), point),
+        Kind::MultiPoint => push_point(flat, part_row(head.depth + 1, Kind::Point, member), point),
         _ => flat.add_point(point),
     }
 }

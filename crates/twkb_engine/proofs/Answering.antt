@@ -18,7 +18,7 @@ use Rattle.twkb_body.specs.JudgedParts.{IsJudged}
 use Rattle.twkb_body.proofs.Pieces.{one_front, one_within}
 use Rattle.twkb_engine.specs.Notes.{NotesGo, notes_with}
 use Rattle.twkb_engine.specs.State.{IsNext, IsPlaced}
-use Rattle.twkb_engine.specs.Standing.{LeadsOn, LeadsQuietly, StandsAt, IsReady, IsAnswer, FedBy, IsFed, HoldsSpans}
+use Rattle.twkb_engine.specs.Standing.{LeadsOn, TakesMany, StandsAt, IsReady, IsAnswer, FedBy, IsFed, HoldsSpans}
 use Rattle.twkb_engine.specs.Standing.{SaysNext, StopsIn, with_used, notes_at, held_in, offset_in}
 use Rattle.twkb_engine.specs.Taking.{Takes, Keeps, Stays}
 use Rattle.twkb_engine.specs.Stops.{reason_of}
@@ -214,9 +214,15 @@ module _ {S : Type 0} {holds : S → Notes → Type 0} {d e : Engine} {rs more :
         (joined (zero_fed taken zero a) (subst (λ l. IsAnswer holds e more new l answer f last w)
         (sym (take_rest piece 0)) b))
 
--- bytes lead on and note nothing
-pub quiet_fed : {S : Type 0} {holds : S → Notes → Type 0} {d e : Engine} {rs more : List Row} {old : S}
-    {piece : List ℕ} {used : ℕ} → used ≤ length piece → LeadsQuietly rs d (take used piece) more e
-    → Stays d e → IsAnswer holds d rs old piece (Ok (used, false)) e more old
-quiet_fed {holds = holds} {old = old} within led stays =
-    led_fed within (λ bs s. let f = led bs s in (f.0, λ known. subst (holds old) (sym f.1) known)) stays
+-- many items were taken, or there is no memory for one
+module _ {E S : Type 0} {holds : S → Notes → Type 0} {d e : Engine} {rs more : List Row} {old : S}
+    {piece : List ℕ} where
+  pub many_fed : {used : ℕ} → TakesMany {E = E} rs d piece (Ok used) more e
+      → IsAnswer holds d rs old piece (Ok (used, false)) e more old
+  many_fed t =
+      led_fed t.within (λ bs s. let f = t.led bs s in (f.0, λ known. subst (holds old) (sym f.1) known)) t.stays
+
+  pub many_stopped : {why : E} (r : Result (ℕ × Bool) Stop) {Q : Stop → Type 0} → IsErrAnd r Q
+      → ((y : Stop) → Q y → y ≡ Memory) → TakesMany rs d piece (Err why) more e
+      → IsAnswer holds d rs old piece r e more old
+  many_stopped r is same t = stops_fed r is same t.memory t.stays

@@ -1,7 +1,7 @@
 -- The ends of lists in a body.
-use Rattle.std.proofs.Common.{◌≡◌, ◌-◌, ◌<◌, ℕ, zero, suc, List, refl, sym, ap, subst, ◌∙◌, arith, true}
+use Rattle.std.proofs.Common.{◌≡◌, ◌-◌, ◌<◌, ℕ, zero, suc, List, refl, sym, ap, subst, ◌∙◌, arith, true, false}
 use Rattle.std.proofs.Common.{if◌then◌else◌, Result, Ok, None}
-use Rattle.std.specs.Prelude.{ℤ, Option}
+use Rattle.std.specs.Prelude.{ℤ, Option, Bool, ◌&&◌, nat_eq}
 use Rattle.twkb_points.specs.Point.{Point}
 use Rattle.twkb_tree.specs.Tree.{Ids}
 use Rattle.twkb_tree.specs.Rows.{first_id, other_ids}
@@ -16,9 +16,10 @@ use Rattle.twkb_body.specs.Ids.{ids_of}
 use Rattle.twkb_engine.specs.Collections.{groups_of}
 use Rattle.twkb_engine.specs.State.{step_at, outline_in, IsHere, IsPlaced}
 use Rattle.twkb_engine.specs.Fits.{lists_of, left_fit, has_members, is_bodied, first_item, item_fits, lists_fit}
-use Rattle.twkb_engine.specs.Fits.{IsInside}
+use Rattle.twkb_engine.specs.Fits.{has_lines, has_areas, IsInside, IsBodyItem}
 use Rattle.twkb_engine.specs.Taking.{past_last, point_row}
 use Rattle.twkb_engine.specs.declared.next_item.NextItem.{NextItem}
+use Rattle.twkb_engine.specs.declared.next_item.NextItem.TheVariants as next
 use Rattle.twkb_engine.specs.declared.open_collections.OpenCollection.{OpenCollection}
 use Rattle.twkb_body.specs.declared.head.Head.{Head}
 use Rattle.twkb_engine.specs.declared.engine.Engine.{Engine}
@@ -29,6 +30,40 @@ pub has_some : (k : Kind) (p r m : ℕ) → 0 < m → left_fit k p r m ≡ true 
 has_some k p r zero some fits = absurd (omega (arith, some))
 has_some kinds.MultiPoint p r (suc m) some fits = refl
 has_some k p r (suc m) some fits = grind arith
+
+-- what an item of a body says of its kind, and of the open lists of a kind without points left
+none_left : (p : ℕ) (f : Bool) → nat_eq p 0 && f ≡ true → f ≡ true
+none_left p true fits = refl
+none_left p false fits = grind arith
+
+pub body_fits : (i : NextItem) (k : Kind) (p r m : ℕ) → IsBodyItem i → lists_fit i k p r m ≡ true → p ≡ 0
+    → left_fit k 0 r m ≡ true
+body_fits next.X k p r m body fits none = subst (λ n. left_fit k n r m ≡ true) none fits
+body_fits next.Y k p r m body fits none = subst (λ n. left_fit k n r m ≡ true) none fits
+body_fits next.PointCount k p r m body fits none =
+    subst (λ n. left_fit k n r m ≡ true) none (none_left p (left_fit k p r m) fits)
+body_fits next.RingCount k p r m body fits none =
+    subst (λ n. left_fit k n r m ≡ true) none (none_left r (left_fit k p r m) (none_left p _ fits))
+body_fits i k p r m body fits none = absurd body
+
+lined_bodied : (k : Kind) → has_lines k ≡ true → is_bodied k ≡ true
+lined_bodied kinds.Linestring lines = refl
+lined_bodied k lines = cc
+
+area_bodied : (k : Kind) → has_areas k ≡ true → is_bodied k ≡ true
+area_bodied kinds.Polygon areas = refl
+area_bodied k areas = cc
+
+pub body_kind : (i : NextItem) (k : Kind) → IsBodyItem i → item_fits i k ≡ true → is_bodied k ≡ true
+body_kind next.X k body fits = fits
+body_kind next.Y k body fits = fits
+body_kind next.PointCount k body fits = lined_bodied k fits
+body_kind next.RingCount k body fits = area_bodied k fits
+body_kind i k body fits = absurd body
+
+pub body_inside : (i : NextItem) → IsBodyItem i → IsInside i
+body_inside next.TypeByte body = absurd body
+body_inside i body = tt
 
 -- past the last list of a member, the next member begins
 begun_member : (k : Kind) (e : Engine) (h : machine.Head) (ids : Ids) (gs : List Group) (bytes : ℕ)

@@ -1,6 +1,6 @@
 -- Points of a list, members and ids that are taken many at once.
 use Rattle.std.proofs.Common.{◌≡◌, ℕ, suc, ◌-◌, ◌≤◌, ◌+◌, ◌<◌, List, [], ◌∷◌, ◌++◌, length, take, refl, sym, ap, ◌∙◌}
-use Rattle.std.proofs.Common.{subst, append-nil, arith, true, None}
+use Rattle.std.proofs.Common.{subst, append-nil, arith, true, None, Result, Ok, Err}
 use Rattle.std.proofs.lemmas.List.{length-take-le}
 use Rattle.std.specs.Prelude.{ℤ, if◌then◌else◌}
 use Rattle.twkb_points.specs.Point.{Point}
@@ -23,7 +23,8 @@ use Rattle.twkb_body.specs.Running.{IdsStop}
 use Rattle.twkb_engine.specs.Collections.{groups_of}
 use Rattle.twkb_engine.specs.Fits.{lists_of, line_lists_of, has_members, left_fit, lists_fit}
 use Rattle.twkb_engine.specs.State.{IsPlaced, sums_of, step_at, ids_in}
-use Rattle.twkb_engine.specs.Standing.{StandsAt, LeadsQuietly, StopsIn, notes_at, held_in}
+use Rattle.twkb_engine.specs.Taking.{Stays}
+use Rattle.twkb_engine.specs.Standing.{StandsAt, TakesMany, notes_at, held_in}
 use Rattle.twkb_engine.specs.declared.open_collections.OpenCollection.{OpenCollection}
 use Rattle.twkb_engine.specs.declared.next_item.NextItem.{NextItem}
 use Rattle.twkb_engine.specs.declared.next_item.NextItem.TheVariants as next
@@ -31,10 +32,14 @@ use Rattle.twkb_engine.specs.declared.engine.Engine.{Engine}
 use Rattle.twkb_engine.proofs.Steps.{all_whole, noted_at, stands_whole}
 use Rattle.twkb_engine.proofs.Between.{is_some}
 
--- no bytes lead an engine nowhere
-pub stays_put : (rs : List Row) (d : Engine) → LeadsQuietly rs d [] rs d
-stays_put rs d = λ front s. subst (λ l. (t : StandsAt l rs d) × (notes_at t ≡ notes_at s))
-    (sym (append-nil front)) (s, refl)
+-- none are taken: no bytes lead an engine nowhere
+pub none_taken : {E : Type 0} {rs : List Row} {d : Engine} {rest : List ℕ} → TakesMany {E = E} rs d rest (Ok 0) rs d
+none_taken {rs = rs} {d = d} = record {
+  within = omega arith;
+  led = λ front s. subst (λ l. (t : StandsAt l rs d) × (notes_at t ≡ notes_at s)) (sym (append-nil front)) (s, refl);
+  memory = tt;
+  stays = record { limits = refl; start = refl; held = refl };
+}
 
 pub place_at : (d e : Engine) → e.collections ≡ d.collections → e.head ≡ d.head
     → IsHeadAt (length (groups_of d.collections)) (id_in (groups_of d.collections)) d.head
@@ -42,23 +47,6 @@ pub place_at : (d e : Engine) → e.collections ≡ d.collections → e.head ≡
 place_at d e cs h p = subst (λ c. IsHeadAt (length (groups_of c)) (id_in (groups_of c)) e.head)
     (sym cs) (subst (IsHeadAt (length (groups_of d.collections)) (id_in (groups_of d.collections)))
     (sym h) p)
-
--- it is so many bytes further, at this point, with so many points left
-pub record IsFurther (d e : Engine) (used : ℕ) (to : Point) (left : ℕ) : Type 0 where
-  pub limits : e.limits ≡ d.limits
-  pub start : e.start ≡ d.start
-  pub bytes : e.bytes ≡ d.bytes + used
-  pub position : e.position ≡ to
-  pub nodes : e.nodes ≡ d.nodes
-  pub points : e.points ≡ d.points
-  pub collections : e.collections ≡ d.collections
-  pub head : e.head ≡ d.head
-  pub ids : e.ids ≡ d.ids
-  pub members_left : e.members_left ≡ d.members_left
-  pub rings_left : e.rings_left ≡ d.rings_left
-  pub points_left : e.points_left ≡ left
-  pub next : e.next ≡ d.next
-  pub held : e.held ≡ d.held
 
 -- ---- many of one step
 
@@ -118,28 +106,47 @@ module _ (rs : List Row) (d : Engine) (i : NextItem) (step : Fields → Step) (s
   }
 
   -- there is no memory for one
-  step_stops : (rest : List ℕ) → StepStops d.head s rs d.position rest → StopsIn rs d rest
-  step_stops rest stops = λ front t. subst (λ l. PartIn d.limits l rest) (sym (all_whole front rs d none t))
-      (stops d.limits (sums_of d) t.front (groups_of d.collections) _ refl (wanted front t))
+  step_stops : {E : Type 0} {why : E} {more : List Row} {e : Engine} {r : Result ℕ E} (rest : List ℕ)
+      → r ≡ Err why → Stays d e → StepStops d.head s rs d.position rest → TakesMany rs d rest r more e
+  step_stops {E} {why} {more} {e} rest failed stays stops =
+      subst (λ x. TakesMany rs d rest x more e) (sym failed) (record {
+        within = tt;
+        led = tt;
+        memory = λ front t. subst (λ l. PartIn d.limits l rest) (sym (all_whole front rs d none t))
+            (stops d.limits (sums_of d) t.front (groups_of d.collections) _ refl (wanted front t));
+        stays = stays;
+      })
 
   -- they were taken
-  step_led : (more : List Row) (e : Engine) (p : Step) (used : ℕ) (to : Point) (ids : MemberIds) (members points : ℕ)
-      (bytes : List ℕ) → StepRuns d.head s rs d.position bytes p more to → length bytes ≡ used
-      → fields_of e ≡ moved_to d used to ids members points
-      → step (moved_to d used to ids members points) ≡ p → LeadsQuietly rs d bytes more e
-  step_led more e p used to ids members points bytes run size q there = λ front t.
-      let next : e.next ≡ i = ap (λ (g : Fields). g.next) q ∙ is in
-      let n : (d.bytes + used) ≡ d.bytes + length bytes = ap (λ k. d.bytes + k) (sym size) in
-      let u = stands_whole (front ++ bytes) more e (run d.limits (sums_of d) t.front
-      (groups_of d.collections) _ refl (wanted front t))
-      (ap (λ (g : Fields). g.limits) q)
-      (ap (λ (g : Fields). g.sums) q ∙ (λ j. record { bytes = n j; position = to; nodes = d.nodes; points = d.points }))
-      (λ j. (groups_of (q j).collections, (ap (λ k. step_at k e) next ∙ (at e ∙ (ap step q ∙ there))) j))
-      refl (subst (λ k. IsPlaced k e) (sym next) ((placed e).1
-      (place_at d e (ap (λ (g : Fields). g.collections) q) (ap (λ (g : Fields). g.head) q)
-      (headed front t))))
-      (ap (λ l. l ++ bytes) (all_whole front rs d none t)) (ap (λ (g : Fields). g.held) q ∙ none) in
-      (u.0, u.1 ∙ ap (λ start. notes_in start t.outlined) (ap (λ (g : Fields). g.start) q))
+  step_taken : {E : Type 0} {rest : List ℕ} (more : List Row) (e : Engine) (p : Step) (used : ℕ) (to : Point)
+      (ids : MemberIds) (members points : ℕ) → StepRuns d.head s rs d.position (take used rest) p more to
+      → used ≤ length rest → fields_of e ≡ moved_to d used to ids members points
+      → step (moved_to d used to ids members points) ≡ p → TakesMany {E = E} rs d rest (Ok used) more e
+  step_taken {E} {rest} more e p used to ids members points run within q there = record {
+    within = within;
+    led = λ front t.
+        let bytes = take used rest in
+        let next : e.next ≡ i = ap (λ (g : Fields). g.next) q ∙ is in
+        let n : (d.bytes + used) ≡ d.bytes + length bytes =
+        ap (λ k. d.bytes + k) (sym (length-take-le used rest within)) in
+        let u = stands_whole (front ++ bytes) more e (run d.limits (sums_of d) t.front
+        (groups_of d.collections) _ refl (wanted front t))
+        (ap (λ (g : Fields). g.limits) q)
+        (ap (λ (g : Fields). g.sums) q
+        ∙ (λ j. record { bytes = n j; position = to; nodes = d.nodes; points = d.points }))
+        (λ j. (groups_of (q j).collections, (ap (λ k. step_at k e) next ∙ (at e ∙ (ap step q ∙ there))) j))
+        refl (subst (λ k. IsPlaced k e) (sym next) ((placed e).1
+        (place_at d e (ap (λ (g : Fields). g.collections) q) (ap (λ (g : Fields). g.head) q)
+        (headed front t))))
+        (ap (λ l. l ++ bytes) (all_whole front rs d none t)) (ap (λ (g : Fields). g.held) q ∙ none) in
+        (u.0, u.1 ∙ ap (λ start. notes_in start t.outlined) (ap (λ (g : Fields). g.start) q));
+    memory = tt;
+    stays = record {
+      limits = ap (λ (g : Fields). g.limits) q;
+      start = ap (λ (g : Fields). g.start) q;
+      held = ap (λ (g : Fields). g.held) q;
+    };
+  }
 
 -- a point comes next
 abbrev on_point : Fields → Step
@@ -182,20 +189,21 @@ module _ (rs : List Row) (d : Engine) (is : d.next ≡ next.X) (some : 0 < d.poi
       (Wanted 0 (lists_of d.head.kind left d.rings_left d.members_left)) ≡ point left
   listed left = ap (λ l. OnBody (head_of d.head) (form_of d.head.kind) (ids_in d) (Wanted 0 l)) (inside.lists left)
 
-  pub list_stops : (rest : List ℕ) → ListStops rs d.position d.points_left rest → StopsIn rs d rest
-  list_stops rest stops =
+  pub list_stops : {E : Type 0} {why : E} {more : List Row} {e : Engine} {rest : List ℕ} {r : Result ℕ E}
+      → r ≡ Err why → Stays d e → ListStops rs d.position d.points_left rest → TakesMany rs d rest r more e
+  list_stops {rest = rest} failed stays stops =
       step_stops rs d next.X on_point (point d.points_left) is (λ e. refl) (listed d.points_left)
-      none (λ e. (λ p. p, λ p. p)) rest
+      none (λ e. (λ p. p, λ p. p)) rest failed stays
       (stops d.head (form_of d.head.kind) (ids_in d) _ inside.form inside.same)
 
-  pub list_led : (more : List Row) (e : Engine) (used left : ℕ) (to : Point) (bytes : List ℕ)
-      → fields_of e ≡ moved_to d used to d.ids d.members_left left → length bytes ≡ used
-      → ListRuns rs d.position d.points_left bytes left more to → LeadsQuietly rs d bytes more e
-  list_led more e used left to bytes q size run =
-      step_led rs d next.X on_point (point d.points_left) is (λ e. refl) (listed d.points_left) none
-      (λ e. (λ p. p, λ p. p))
-      more e (point left) used to d.ids d.members_left left bytes
-      (run d.head (form_of d.head.kind) (ids_in d) _ inside.form inside.same) size q (listed left)
+  pub list_taken : {E : Type 0} {rest : List ℕ} (more : List Row) (e : Engine) (used left : ℕ) (to : Point)
+      → fields_of e ≡ moved_to d used to d.ids d.members_left left → used ≤ length rest
+      → ListRuns rs d.position d.points_left (take used rest) left more to
+      → TakesMany {E = E} rs d rest (Ok used) more e
+  list_taken more e used left to q within run =
+      step_taken rs d next.X on_point (point d.points_left) is (λ e. refl) (listed d.points_left) none
+      (λ e. (λ p. p, λ p. p)) more e (point left) used to d.ids d.members_left left
+      (run d.head (form_of d.head.kind) (ids_in d) _ inside.form inside.same) within q (listed left)
 
 -- ---- members of a multipoint
 
@@ -212,19 +220,21 @@ module _ (rs : List Row) (d : Engine) (is : d.next ≡ next.X) (kind : d.head.ki
       (if has_members k then ids_of ids else None) (Wanted 0
       (lists_of k d.points_left d.rings_left left))) kind
 
-  pub members_stop : (rest : List ℕ) → StepStops d.head (member d.ids d.members_left) rs d.position
-      rest → StopsIn rs d rest
-  members_stop = step_stops rs d next.X on_point (member d.ids d.members_left) is (λ e. refl)
-      (of_kind d.ids d.members_left) none (λ e. (λ p. p, λ p. p))
+  pub members_stop : {E : Type 0} {why : E} {more : List Row} {e : Engine} {rest : List ℕ} {r : Result ℕ E}
+      → r ≡ Err why → Stays d e → StepStops d.head (member d.ids d.members_left) rs d.position rest
+      → TakesMany rs d rest r more e
+  members_stop {rest = rest} failed stays stops =
+      step_stops rs d next.X on_point (member d.ids d.members_left) is (λ e. refl)
+      (of_kind d.ids d.members_left) none (λ e. (λ p. p, λ p. p)) rest failed stays stops
 
-  pub members_led : (more : List Row) (e : Engine) (used left : ℕ) (to : Point) (bytes : List ℕ)
-      → fields_of e ≡ moved_to d used to e.ids left d.points_left → length bytes ≡ used
-      → StepRuns d.head (member d.ids d.members_left) rs d.position bytes (member e.ids left) more
-      to → LeadsQuietly rs d bytes more e
-  members_led more e used left to bytes q size run =
-      step_led rs d next.X on_point (member d.ids d.members_left) is (λ e. refl)
+  pub members_taken : {E : Type 0} {rest : List ℕ} (more : List Row) (e : Engine) (used left : ℕ) (to : Point)
+      → fields_of e ≡ moved_to d used to e.ids left d.points_left → used ≤ length rest
+      → StepRuns d.head (member d.ids d.members_left) rs d.position (take used rest) (member e.ids left) more to
+      → TakesMany {E = E} rs d rest (Ok used) more e
+  members_taken more e used left to q within run =
+      step_taken rs d next.X on_point (member d.ids d.members_left) is (λ e. refl)
       (of_kind d.ids d.members_left) none (λ e. (λ p. p, λ p. p))
-      more e (member e.ids left) used to e.ids left d.points_left bytes run size q (of_kind e.ids left)
+      more e (member e.ids left) used to e.ids left d.points_left run within q (of_kind e.ids left)
 
 -- ---- ids
 
@@ -236,18 +246,19 @@ module _ (rs : List Row) (d : Engine) (is : d.next ≡ next.Id) (none : held_in 
   id_here : step_at next.Id d ≡ id_step (ids_read d.ids) most
   id_here = ap (λ n. id_step (ids_read d.ids) n) (sym many)
 
-  pub ids_stop : (rest : List ℕ) → IdsStop (ids_read d.ids) most rest → StopsIn rs d rest
-  ids_stop rest stops =
+  pub ids_stop : {E : Type 0} {why : E} {e : Engine} {rest : List ℕ} {r : Result ℕ E} → r ≡ Err why
+      → Stays d e → IdsStop (ids_read d.ids) most rest → TakesMany rs d rest r rs e
+  ids_stop {rest = rest} failed stays stops =
       step_stops rs d next.Id on_id (id_step (ids_read d.ids) most) is (λ e. refl) id_here none
-      (λ e. (λ p. p, λ p. p)) rest
+      (λ e. (λ p. p, λ p. p)) rest failed stays
       (stops d.head (many_of d.head.kind) (suc d.members_left) rs d.position)
 
-  pub ids_led : (e : Engine) (used : ℕ) (rest : List ℕ) → 0 < most → used ≤ length rest
+  pub ids_taken : {E : Type 0} (e : Engine) (used : ℕ) (rest : List ℕ) → 0 < most → used ≤ length rest
       → fields_of e ≡ moved_to d used d.position e.ids d.members_left d.points_left
-      → IdsTaken (ids_read d.ids) most rest used (ids_read e.ids) → LeadsQuietly rs d (take used rest) rs e
-  ids_led e used rest some within q taken =
+      → IdsTaken (ids_read d.ids) most rest used (ids_read e.ids) → TakesMany {E = E} rs d rest (Ok used) rs e
+  ids_taken e used rest some within q taken =
       let left_is : d.members_left - length (ids_read e.ids) ≡ taken.0 = omega (arith, taken.1, many, some) in
-      step_led rs d next.Id on_id (id_step (ids_read d.ids) most) is (λ e. refl) id_here none (λ e. (λ p. p, λ p. p))
-      rs e (id_step (ids_read e.ids) taken.0) used d.position e.ids d.members_left d.points_left (take used rest)
-      (taken.2 d.head (many_of d.head.kind) (suc d.members_left) rs d.position) (length-take-le used rest within) q
+      step_taken rs d next.Id on_id (id_step (ids_read d.ids) most) is (λ e. refl) id_here none
+      (λ e. (λ p. p, λ p. p)) rs e (id_step (ids_read e.ids) taken.0) used d.position e.ids d.members_left
+      d.points_left (taken.2 d.head (many_of d.head.kind) (suc d.members_left) rs d.position) within q
       (ap (λ n. id_step (ids_read e.ids) n) left_is)

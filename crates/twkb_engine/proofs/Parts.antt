@@ -19,11 +19,33 @@ use Rattle.twkb_tree.specs.declared.kind.Kind.TheVariants as kinds
 use Rattle.twkb_body.specs.Head.{head_of, kind_of}
 use Rattle.twkb_engine.specs.State.{step_at, outline_in, size_roles}
 use Rattle.twkb_engine.specs.Collections.{groups_of}
-use Rattle.twkb_engine.specs.Fits.{item_fits, lists_fit, are_shut, is_typed, header_item}
+use Rattle.twkb_engine.specs.Fits.{item_fits, lists_fit, are_shut, is_typed, header_item, IsHeaderItem, IsInside}
 use Rattle.twkb_engine.specs.Notes.{NotesGo, open_in}
+use Rattle.twkb_engine.specs.declared.next_item.NextItem.{NextItem}
 use Rattle.twkb_engine.specs.declared.next_item.NextItem.TheVariants as next
 use Rattle.twkb_engine.specs.declared.engine.Engine.{Engine}
 use Rattle.twkb_engine.proofs.Collections.{groups_length}
+
+-- ---- an item of a header
+
+-- it is inside a geometry, whose kind is of a type, and no list is open
+pub header_inside : (i : NextItem) → IsHeaderItem i → IsInside i
+header_inside next.TypeByte header = absurd header
+header_inside i header = tt
+
+pub header_typed : (i : NextItem) (k : Kind) → IsHeaderItem i → item_fits i k ≡ true → is_typed k ≡ true
+header_typed next.TypeByte k header fits = absurd header
+header_typed i kinds.Ring header fits = absurd cc
+header_typed i k header fits = refl
+
+pub header_shut : (i : NextItem) (k : Kind) (p r m : ℕ) → IsHeaderItem i → lists_fit i k p r m ≡ true
+    → are_shut p r m ≡ true
+header_shut next.MetadataByte k p r m header fits = fits
+header_shut next.ExtendedByte k p r m header fits = fits
+header_shut next.Size k p r m header fits = fits
+header_shut (next.BoxNumber left) k p r m header fits = fits
+header_shut next.MemberCount k p r m header fits = fits
+header_shut i k p r m header fits = absurd header
 
 -- ---- the item after a header
 

@@ -34,7 +34,7 @@ use Rattle.twkb_engine.specs.declared.stop.Stop.TheVariants.{Memory, Refused}
 use Rattle.twkb_engine.proofs.Ends.{many_open}
 use Rattle.twkb_engine.proofs.Feeds.{Reads, past_on, past_blob, past_judged, past_wrong}
 use Rattle.twkb_engine.proofs.Steps.{all_whole, open_noted}
-use Rattle.twkb_engine.proofs.Many.{IsFurther, place_at}
+use Rattle.twkb_engine.proofs.Many.{Fields, fields_of, moved_to, place_at}
 
 -- the step after a point that is the last of its list, or in none
 abbrev step_past : Head → MemberIds → (rings members : ℕ) → Step
@@ -69,12 +69,13 @@ module _ (rs : List Row) (d : Engine) (is : d.next ≡ next.X) (last : d.points_
         (last_lists d) rs (take used rest) to o cut.pair))
 
     module _ {S : Type 0} (holds : S → Notes → Type 0) (m e : Engine) (more : List Row)
-        (old new : S) (q : IsFurther d m used to 0) (none : held_in d ≡ []) where
+        (old new : S) (q : fields_of m ≡ moved_to d used to d.ids d.members_left d.points_left)
+        (none : held_in d ≡ []) where
       open_there : open_in m ≡ open_in d
       open_there =
           let inside : IsInside d.next = subst IsInside (sym is) tt in
-          let still : IsInside m.next = subst IsInside (sym q.next) inside in
-          omega (arith, many_open d inside, many_open m still, ap length q.collections)
+          let still : IsInside m.next = subst IsInside (sym (ap (λ (g : Fields). g.next) q)) inside in
+          omega (arith, many_open d inside, many_open m still, ap (λ (g : Fields). length g.collections) q)
 
       module _ (bs : List ℕ) (s : StandsAt bs rs d) where
         abbrev told : ℕ → Notes
@@ -112,14 +113,15 @@ module _ (rs : List Row) (d : Engine) (is : d.next ≡ next.X) (last : d.points_
         -- as the engine has it then
         stood : NotedOutline m.limits all (sums_of m) ended grown told
         stood =
-            let size : m.bytes ≡ d.bytes + length (take used rest) =
-            omega (arith, q.bytes, length-take-le used rest cut.within) in
-            subst (λ (X : Type 0). X) (sym (λ t. NotedOutline (q.limits t) all
-            (record { bytes = size t; position = q.position t; nodes = q.nodes t; points = q.points t }) (
-              groups_of (q.collections t),
-              step_past (q.head t) (q.ids t) (q.rings_left t)
-                  (q.members_left t),
-            ) (applied (brought to (q.head t) (q.ids t)) rs) told)) read
+            let size : d.bytes + length (take used rest) ≡ d.bytes + used =
+            ap (λ n. d.bytes + n) (length-take-le used rest cut.within) in
+            subst (λ (g : Fields). NotedOutline g.limits all g.sums (
+              groups_of g.collections,
+              step_past g.head g.ids g.rings_left g.members_left,
+            ) (applied (brought to g.head g.ids) rs) told) (sym q)
+            (subst (λ n. NotedOutline d.limits all
+            (record { bytes = n; position = to; nodes = d.nodes; points = d.points })
+            (groups_of d.collections, shut_at d 0 (last_lists d)) (applied (point_row to d) rs) told) size read)
 
         reads : Reads m.limits bs rest used (sums_of m) ended grown told
         reads = record {
@@ -133,7 +135,7 @@ module _ (rs : List Row) (d : Engine) (is : d.next ≡ next.X) (last : d.points_
             → holds new (notes_past m e ends (told m.start))
         kept ends go known = go (told m.start) (open_noted d.limits s.front (sums_of d)
             (outline_in d) rs s.outlined m.start ∙ sym open_there) (subst (λ x. holds old (told x))
-            (sym q.start) known)
+            (sym (ap (λ (g : Fields). g.start) q)) known)
 
         fed : e.limits ≡ m.limits → held_in e ≡ [] → (answer : Result Bool Stop)
             → Lands (past_last m) (point_row to m) m rs answer e more
@@ -156,7 +158,8 @@ module _ (rs : List Row) (d : Engine) (is : d.next ≡ next.X) (last : d.points_
           → (IsHere m → OnOk answer (IsPlaced e.next e))
           → FedBy holds d rs old rest (with_used used answer) e more new
       point_fed answer limits held lands go placed = λ bs s.
-          subst (λ (X : Type 0). X) (λ t. IsFed holds (holds old (notes_at s)) (q.limits t)
-          (q.start t) bs rest (with_used used answer) more e new)
-          (fed bs s limits (held ∙ (q.held ∙ none)) answer lands go
-          (placed (place_at d m q.collections q.head (placed_at_x s))))
+          subst (λ (g : Fields). IsFed holds (holds old (notes_at s)) g.limits g.start bs rest
+          (with_used used answer) more e new) q
+          (fed bs s limits (held ∙ (ap (λ (g : Fields). g.held) q ∙ none)) answer lands go
+          (placed (place_at d m (ap (λ (g : Fields). g.collections) q) (ap (λ (g : Fields). g.head) q)
+          (placed_at_x s))))

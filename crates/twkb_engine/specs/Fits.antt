@@ -126,3 +126,20 @@ IsByte _ = ⊥
 abbrev pub IsInside : NextItem → Type 0
 IsInside next.TypeByte = ⊥
 IsInside _ = ⊤
+
+-- the next item is one of a header after its type byte, or the count of members that may follow it
+abbrev pub IsHeaderItem : NextItem → Type 0
+IsHeaderItem next.MetadataByte = ⊤
+IsHeaderItem next.ExtendedByte = ⊤
+IsHeaderItem next.Size = ⊤
+IsHeaderItem (next.BoxNumber left) = ⊤
+IsHeaderItem next.MemberCount = ⊤
+IsHeaderItem _ = ⊥
+
+-- the next item is one of a body
+abbrev pub IsBodyItem : NextItem → Type 0
+IsBodyItem next.X = ⊤
+IsBodyItem next.Y = ⊤
+IsBodyItem next.PointCount = ⊤
+IsBodyItem next.RingCount = ⊤
+IsBodyItem _ = ⊥

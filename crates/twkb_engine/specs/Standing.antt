@@ -1,6 +1,6 @@
 -- What an engine stands for.
 use Rattle.std.specs.Prelude.{◌≡◌, ◌⊎◌, ℕ, ◌+◌, ◌<◌, ◌≤◌, ◌^◌, List, [], ◌++◌, length, take, Bool, true, false}
-use Rattle.std.specs.Prelude.{Result, Ok, Err, ⊤}
+use Rattle.std.specs.Prelude.{Result, Ok, Err, IfOk, OnErr, ⊤}
 use Rattle.twkb_tree.specs.Tree.{Tree}
 use Rattle.twkb_tree.specs.Limits.{Allowance}
 use Rattle.twkb_tree.specs.Rows.{Row, rows}
@@ -15,6 +15,7 @@ use Rattle.twkb_body.specs.Noting.{notes_in}
 use Rattle.twkb_engine.specs.State.{IsPlaced, IsNext, allowance_of, sums_of, outline_in}
 use Rattle.twkb_engine.specs.Fits.{IsByte}
 use Rattle.twkb_body.specs.JudgedParts.{IsJudged, PartIn}
+use Rattle.twkb_engine.specs.Taking.{Stays}
 use Rattle.twkb_engine.specs.Stops.{reason_of}
 use Rattle.twkb_engine.specs.declared.next_item.NextItem.{NextItem}
 use Rattle.twkb_engine.specs.declared.engine.Engine.{Engine}
@@ -89,9 +90,24 @@ pub record ComesNext (item : NextItem) (rs : List Row) (d : Engine) (n width : �
   pub wide : n < 2 ^ 64
   pub alive : IsAlive rs d
 
+-- this item comes next, no byte of it is held, and there is room for this number of bytes
+pub record IsAhead (item : NextItem) (d : Engine) (many : ℕ) : Type 0 where
+  pub next : d.next ≡ item
+  pub room : place_in d + many ≤ 2 ^ 63
+  pub alone : held_in d ≡ []
+
 -- wherever the engine stands, a prefix of these bytes ends a part that was judged
 abbrev pub StopsIn : List Row → Engine → List ℕ → Type 0
 StopsIn rs d bytes = (front : List ℕ) → StandsAt front rs d → PartIn (allowance_of d) front bytes
+
+-- What an engine answers that takes many items at once: so many bytes lead it on within its blob,
+-- and note nothing; or there is no memory for one of them.
+pub record TakesMany {E : Type 0} (rs : List Row) (d : Engine) (bytes : List ℕ) (answer : Result ℕ E)
+    (more : List Row) (e : Engine) : Type 0 where
+  pub within : IfOk answer (λ used. used ≤ length bytes)
+  pub led : IfOk answer (λ used. LeadsQuietly rs d (take used bytes) more e)
+  pub memory : OnErr answer (StopsIn rs d bytes)
+  pub stays : Stays d e
 
 -- the bytes are a blob so far, or a blob with these rows and none of a further one, or a part that
 -- was judged, for whose last item there is no memory, or they have a first fault, whatever follows

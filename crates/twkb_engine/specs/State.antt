@@ -7,7 +7,7 @@ use Rattle.twkb_grammar.specs.Roles as role
 use Rattle.twkb_grammar.specs.Roles.{Role, where_set}
 use Rattle.twkb_grammar.specs.Machine.{Sums}
 use Rattle.twkb_body.specs.Outline.{Outline, Step, OnHeader, OnMetadata, OnOption, OnCount, OnId, OnBody, Wanted}
-use Rattle.twkb_body.specs.Outline.{WantedY, Spot, outline_role}
+use Rattle.twkb_body.specs.Outline.{WantedY, BodyPlace, outline_role}
 use Rattle.twkb_body.specs.Growing.{id_in}
 use Rattle.twkb_body.specs.Head.{head_of, kind_of, form_of, many_of, IsHeadAt}
 use Rattle.twkb_body.specs.Ids.{ids_of, ids_read}
@@ -39,7 +39,7 @@ abbrev pub ids_in : Engine → Ids
 ids_in d = if has_members d.head.kind then ids_of d.ids else None
 
 -- its body, at this place
-abbrev pub body_at : Engine → Spot → Step
+abbrev pub body_at : Engine → BodyPlace → Step
 body_at d s = OnBody (head_of d.head) (form_of d.head.kind) (ids_in d) s
 
 -- the step of the grammar's machine at this item

@@ -23,7 +23,7 @@ use twkb_points::Pt;
 
 impl Engine {
     ghost use Rattle.twkb_engine.specs.State.{IsPlaced, IsHere, outline_in, sums_of};
-    ghost use Rattle.twkb_engine.specs.Fits.{left_fit, is_bodied, are_shut, IsInside};
+    ghost use Rattle.twkb_engine.specs.Fits.{are_shut, IsInside, IsBodyItem};
     ghost use Rattle.twkb_engine.specs.Taking.{Takes, Lands, IsFree, SameBlob, Keeps, past_end, past_last, point_row};
     ghost use Rattle.twkb_engine.specs.Notes.{NotesGo, notes_with, notes_past, open_in};
     ghost use Rattle.twkb_engine.specs.Standing.{ComesNext};
@@ -103,9 +103,7 @@ impl Engine {
         position: Pt,
     ) -> Result<bool, Stop>
         requires last { self.old.points_left ≡ 0 }
-        requires fits { left_fit self.old.head.kind 0 self.old.rings_left self.old.members_left ≡ true }
-        requires bodied { is_bodied self.old.head.kind ≡ true }
-        requires inside { IsInside self.old.next }
+        requires body { IsBodyItem self.old.next }
         requires may { Admits (point_row position self.old) flat.old }
         ensures shut { Lands (past_last self.old) (point_row position self.old) self.old flat.old
             result self.new flat.new }
@@ -192,9 +190,7 @@ impl Engine {
         row: Row,
     ) -> Result<bool, Stop>
         requires last { self.old.points_left ≡ 0 }
-        requires fits { left_fit self.old.head.kind 0 self.old.rings_left self.old.members_left ≡ true }
-        requires bodied { is_bodied self.old.head.kind ≡ true }
-        requires inside { IsInside self.old.next }
+        requires body { IsBodyItem self.old.next }
         requires may { Admits (NewRow (row_with row [])) flat.old }
         ensures shut { Lands (past_last self.old) (NewRow (row_with row [])) self.old flat.old
             result self.new flat.new }
@@ -213,9 +209,7 @@ impl Engine {
     #[inline(always)]
     fn end_value<S: SpanNotes>(&mut self, spans: &mut S) -> Result<bool, Stop>
         requires last { self.old.points_left ≡ 0 }
-        requires fits { left_fit self.old.head.kind 0 self.old.rings_left self.old.members_left ≡ true }
-        requires bodied { is_bodied self.old.head.kind ≡ true }
-        requires inside { IsInside self.old.next }
+        requires body { IsBodyItem self.old.next }
         ensures ended { (rs : List TableRow) → Lands (past_last self.old) Nothing self.old rs result self.new rs }
         ensures noted { IfOk result (λ ends. NotesGo S.holds (notes_past self.old self.new ends)
             self.old spans.old spans.new) }
@@ -243,9 +237,8 @@ impl Engine {
     // Goes past the end of a list of points, with which the body does not end: to the next ring, or to the next member.
     #[inline(always)]
     fn end_list(&mut self)
-        requires empty { self.old.points_left ≡ 0 }
-        requires fits { left_fit self.old.head.kind 0 self.old.rings_left self.old.members_left ≡ true }
-        requires bodied { is_bodied self.old.head.kind ≡ true }
+        requires last { self.old.points_left ≡ 0 }
+        requires body { IsBodyItem self.old.next }
         requires left { self.old.rings_left + self.old.members_left ≢ 0 }
         ensures step { past_last self.old ≡ Ok (outline_in self.new) }
         ensures sums { sums_of self.new ≡ sums_of self.old }

@@ -27,7 +27,7 @@ fn is_exact(head: &Head, bytes: u64) -> bool
 
 impl Engine {
     ghost use Rattle.twkb_engine.specs.State.{IsPlaced};
-    ghost use Rattle.twkb_engine.specs.Fits.{are_shut, IsInside};
+    ghost use Rattle.twkb_engine.specs.Fits.{are_shut, IsInside, IsHeaderItem};
     ghost use Rattle.twkb_engine.specs.Taking.{Lands, Keeps, past_end, own_row};
     ghost use Rattle.twkb_engine.specs.Notes.{NotesGo, notes_past};
 
@@ -70,8 +70,7 @@ impl Engine {
         flat: &mut Flat,
         spans: &mut S,
     ) -> Result<bool, Stop>
-        requires shut { are_shut self.old.points_left self.old.rings_left self.old.members_left ≡ true }
-        requires inside { IsInside self.old.next }
+        requires header { IsHeaderItem self.old.next }
         requires row { Admits (own_row self.old) flat.old }
         ensures ended { Lands (past_end self.old) (own_row self.old) self.old flat.old result self.new flat.new }
         ensures noted { IfOk result (λ ends. NotesGo S.holds (notes_past self.old self.new ends)

@@ -1,6 +1,6 @@
 //! The ways in: a held number that further bytes complete, an item that is complete at the
 //! start of the bytes, and points of a list many at once.
-ghost use Rattle.std.specs.Prelude.{◌≡◌, ◌+◌, ◌<◌, ◌≤◌, ◌^◌, ◌∷◌, [], List, IfOk, IfSome, OnErr, take, length};
+ghost use Rattle.std.specs.Prelude.{◌≡◌, ◌+◌, ◌<◌, ◌≤◌, ◌^◌, ◌∷◌, [], List, IfOk, IfSome, length};
 ghost use Rattle.twkb_engine.specs.Standing.{with_used};
 
 use crate::blob_reason::BlobReason;
@@ -28,9 +28,8 @@ fn with_bytes(used: usize, answer: Result<bool, Stop>) -> Result<(usize, bool), 
 
 impl Engine {
     ghost use Rattle.twkb_tree.specs.Rows.{Row};
-    ghost use Rattle.twkb_engine.specs.Taking.{Stays};
-    ghost use Rattle.twkb_engine.specs.Standing.{IsAlive, IsReady, IsAnswer, FedBy, LeadsQuietly, SaysNext, StopsIn};
-    ghost use Rattle.twkb_engine.specs.Standing.{TakesAll, held_in, count_of, place_in};
+    ghost use Rattle.twkb_engine.specs.Standing.{IsAhead, IsAlive, IsReady, IsAnswer, FedBy, SaysNext, TakesAll};
+    ghost use Rattle.twkb_engine.specs.Standing.{TakesMany, held_in, count_of};
     ghost use Rattle.twkb_engine.specs.declared.next_item.NextItem.TheVariants.{X, Id};
 
     /// Takes a byte, and returns whether the blob ends with it. It takes memory as `feed` does.
@@ -146,14 +145,9 @@ impl Engine {
     // keep their registers.
     #[inline(never)]
     fn take_list(&mut self, flat: &mut Flat, rest: &[u8]) -> Result<usize, AllocError>
-        requires next { self.old.next ≡ X }
+        requires ahead { IsAhead X self.old (length rest.now) }
         requires some { 0 < self.old.points_left }
-        requires room { place_in self.old + length rest.now ≤ 2 ^ 63 }
-        requires alone { held_in self.old ≡ [] }
-        ensures within { IfOk result (λ used. used ≤ length rest.now) }
-        ensures led { IfOk result (λ used. LeadsQuietly flat.old self.old (take used rest.now) flat.new self.new) }
-        ensures memory { OnErr result (StopsIn flat.old self.old rest.now) }
-        ensures stays { Stays self.old self.new }
+        ensures { TakesMany flat.old self.old rest.now result flat.new self.new }
     {
         if !flat.takes_points(self.points_left) {
             return Ok(0);
@@ -170,13 +164,8 @@ impl Engine {
     // Takes memory. Not inlined, so that its callers keep their registers.
     #[inline(never)]
     fn take_members(&mut self, flat: &mut Flat, rest: &[u8]) -> Result<usize, AllocError>
-        requires next { self.old.next ≡ X }
-        requires room { place_in self.old + length rest.now ≤ 2 ^ 63 }
-        requires alone { held_in self.old ≡ [] }
-        ensures within { IfOk result (λ used. used ≤ length rest.now) }
-        ensures led { IfOk result (λ used. LeadsQuietly flat.old self.old (take used rest.now) flat.new self.new) }
-        ensures memory { OnErr result (StopsIn flat.old self.old rest.now) }
-        ensures stays { Stays self.old self.new }
+        requires { IsAhead X self.old (length rest.now) }
+        ensures taken { TakesMany flat.old self.old rest.now result flat.new self.new }
         ensures next { self.new.next ≡ self.old.next }
         ensures lists { self.new.points_left ≡ self.old.points_left }
     {
@@ -197,13 +186,8 @@ impl Engine {
     // Takes members as `take_members` does, if any are left.
     #[inline(always)]
     fn take_others(&mut self, flat: &mut Flat, rest: &[u8]) -> Result<usize, AllocError>
-        requires next { self.old.next ≡ X }
-        requires room { place_in self.old + length rest.now ≤ 2 ^ 63 }
-        requires alone { held_in self.old ≡ [] }
-        ensures within { IfOk result (λ used. used ≤ length rest.now) }
-        ensures led { IfOk result (λ used. LeadsQuietly flat.old self.old (take used rest.now) flat.new self.new) }
-        ensures memory { OnErr result (StopsIn flat.old self.old rest.now) }
-        ensures stays { Stays self.old self.new }
+        requires { IsAhead X self.old (length rest.now) }
+        ensures taken { TakesMany flat.old self.old rest.now result flat.new self.new }
         ensures next { self.new.next ≡ self.old.next }
         ensures lists { self.new.points_left ≡ self.old.points_left }
     {
@@ -216,14 +200,8 @@ impl Engine {
     // Takes ids, but not the last, and returns how many bytes they had. Takes memory.
     #[inline(never)]
     fn take_ids(&mut self, rest: &[u8]) -> Result<usize, AllocError>
-        requires next { self.old.next ≡ Id }
-        requires room { place_in self.old + length rest.now ≤ 2 ^ 63 }
-        requires alone { held_in self.old ≡ [] }
-        ensures within { IfOk result (λ used. used ≤ length rest.now) }
-        ensures led { (rs : List Row) → IfOk result (λ used. LeadsQuietly rs self.old
-            (take used rest.now) rs self.new) }
-        ensures memory { (rs : List Row) → OnErr result (StopsIn rs self.old rest.now) }
-        ensures stays { Stays self.old self.new }
+        requires { IsAhead Id self.old (length rest.now) }
+        ensures { (rs : List Row) → TakesMany rs self.old rest.now result rs self.new }
     {
         let most = self.members_left.saturating_sub(self.ids.count());
         if most == 0 {

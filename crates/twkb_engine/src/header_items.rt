@@ -29,7 +29,7 @@ const BOX_REST: u8 = 3;
 impl Engine {
     ghost use Rattle.twkb_engine.specs.State.{IsPlaced, IsHere, outline_in, sums_of, size_roles, box_roles};
     ghost use Rattle.twkb_engine.specs.Collections.{groups_of};
-    ghost use Rattle.twkb_engine.specs.Fits.{IsInside, are_shut, is_typed};
+    ghost use Rattle.twkb_engine.specs.Fits.{IsHeaderItem, are_shut, is_typed};
     ghost use Rattle.twkb_engine.specs.Taking.{Takes, Lands, SameBlob, SameBut, Keeps, past_parts, header_row};
     ghost use Rattle.twkb_engine.specs.Notes.{NotesGo, notes_with, notes_past};
     ghost use Rattle.twkb_engine.specs.Standing.{IsAlive, ComesNext};
@@ -41,8 +41,7 @@ impl Engine {
         spans: &mut S,
         byte: TypeByte,
     ) -> Result<(), AllocError>
-        requires next { self.old.next ≡ next.TypeByte }
-        requires room { self.old.start + self.old.bytes ≤ 2 ^ 63 }
+        requires { self.old.next ≡ next.TypeByte }
         ensures typed { is_typed self.new.head.kind ≡ true }
         ensures step { OnMetadata (kind_of self.new.head.kind) self.new.head.precision ≡ OnMetadata
             (kind_at (byte % 16)) (unzigzag_of (byte / 16)) }
@@ -125,9 +124,7 @@ impl Engine {
         number: u64,
     ) -> Result<bool, Stop>
         requires byte { number < 256 }
-        requires next { self.old.next ≡ next.MetadataByte }
-        requires room { self.old.start + self.old.bytes < 2 ^ 63 }
-        requires alive { IsAlive flat.old self.old }
+        requires comes { ComesNext next.MetadataByte flat.old self.old number 1 }
         ensures taken { Takes (role.Metadata (kind_number (kind_of self.old.head.kind))) number 1
             self.old flat.old result self.new flat.new }
         ensures noted { IfOk result (λ ends. NotesGo S.holds
@@ -160,9 +157,7 @@ impl Engine {
         number: u64,
     ) -> Result<bool, Stop>
         requires byte { number < 256 }
-        requires next { self.old.next ≡ next.ExtendedByte }
-        requires room { self.old.start + self.old.bytes < 2 ^ 63 }
-        requires alive { IsAlive flat.old self.old }
+        requires comes { ComesNext next.ExtendedByte flat.old self.old number 1 }
         ensures taken { Takes role.Extended number 1 self.old flat.old result self.new flat.new }
         ensures noted { IfOk result (λ ends. NotesGo S.holds
             (notes_with role.Extended number 1 self.old self.new ends) self.old spans.old
@@ -237,10 +232,7 @@ impl Engine {
         metadata: Metadata,
     ) -> Result<bool, Stop>
         requires same { metadata ≡ self.old.head.metadata }
-        requires typed { is_typed self.old.head.kind ≡ true }
-        requires shut { are_shut self.old.points_left self.old.rings_left self.old.members_left ≡ true }
-        requires inside { IsInside self.old.next }
-        requires room { self.old.start + self.old.bytes ≤ 2 ^ 63 }
+        requires header { IsHeaderItem self.old.next }
         requires may { Admits (header_row self.old (size_roles self.old.head.metadata)) flat.old }
         ensures landed { Lands (past_parts self.old (size_roles self.old.head.metadata))
             (header_row self.old (size_roles self.old.head.metadata)) self.old flat.old result
@@ -266,10 +258,7 @@ impl Engine {
         metadata: Metadata,
     ) -> Result<bool, Stop>
         requires same { metadata ≡ self.old.head.metadata }
-        requires typed { is_typed self.old.head.kind ≡ true }
-        requires shut { are_shut self.old.points_left self.old.rings_left self.old.members_left ≡ true }
-        requires inside { IsInside self.old.next }
-        requires room { self.old.start + self.old.bytes ≤ 2 ^ 63 }
+        requires header { IsHeaderItem self.old.next }
         requires may { Admits (header_row self.old (box_roles self.old.head.metadata)) flat.old }
         ensures landed { Lands (past_parts self.old (box_roles self.old.head.metadata))
             (header_row self.old (box_roles self.old.head.metadata)) self.old flat.old result
@@ -289,10 +278,7 @@ impl Engine {
     // Goes past the header: to the body, or to the count of members; a geometry without a body ends.
     #[inline(always)]
     fn begin_body<S: SpanNotes>(&mut self, flat: &mut Flat, spans: &mut S) -> Result<bool, Stop>
-        requires typed { is_typed self.old.head.kind ≡ true }
-        requires shut { are_shut self.old.points_left self.old.rings_left self.old.members_left ≡ true }
-        requires inside { IsInside self.old.next }
-        requires room { self.old.start + self.old.bytes ≤ 2 ^ 63 }
+        requires header { IsHeaderItem self.old.next }
         requires may { Admits (header_row self.old []) flat.old }
         ensures landed { Lands (past_parts self.old []) (header_row self.old []) self.old flat.old
             result self.new flat.new }

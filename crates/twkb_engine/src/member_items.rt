@@ -42,8 +42,8 @@ impl Engine {
     ghost use Rattle.twkb_engine.specs.State.{IsPlaced, outline_in, sums_of};
     ghost use Rattle.twkb_engine.specs.Collections.{groups_of};
     ghost use Rattle.twkb_engine.specs.Fits.{depth_cap};
-    ghost use Rattle.twkb_engine.specs.Taking.{Takes, Lands, SameBlob, Keeps, own_row, counted_row, past_end};
-    ghost use Rattle.twkb_engine.specs.Notes.{NotesGo, notes_with, notes_past, open_in};
+    ghost use Rattle.twkb_engine.specs.Taking.{Takes, SameBlob, Keeps, own_row, counted_row};
+    ghost use Rattle.twkb_engine.specs.Notes.{NotesGo, notes_with, open_in};
     ghost use Rattle.twkb_engine.specs.Standing.{ComesNext};
 
     // Why this number of further rows and points is not allowed, if it is not.
@@ -120,25 +120,10 @@ impl Engine {
         self.nodes += count;
         self.points += points;
         if count == 0 {
-            return self.end_counted(flat, spans);
+            return self.end_empty(flat, spans);
         }
         self.begin_counted(flat, count)?;
         Ok(false)
-    }
-
-    // Ends a geometry whose count was taken, and is 0. Its row takes memory.
-    #[inline(always)]
-    fn end_counted<S: SpanNotes>(&mut self, flat: &mut Flat, spans: &mut S) -> Result<bool, Stop>
-        requires next { self.old.next ≡ next.MemberCount }
-        requires row { Admits (own_row self.old) flat.old }
-        ensures landed { Lands (past_end self.old) (own_row self.old) self.old flat.old result
-            self.new flat.new }
-        ensures noted { IfOk result (λ ends. NotesGo S.holds (notes_past self.old self.new ends)
-            self.old spans.old spans.new) }
-        ensures placed { OnOk result (IsPlaced self.new.next self.new) }
-        ensures kept { Keeps self.old self.new }
-    {
-        self.end_empty(flat, spans)
     }
 
     // Goes to the members of a geometry that has `count` of them: to the first id if they have ids,

@@ -50,7 +50,7 @@ fn point_span(offset: u64, blob: &[u8]) -> Span
 
 impl Engine {
     ghost use Rattle.twkb_engine.specs.Taking.{Stays};
-    ghost use Rattle.twkb_engine.specs.Standing.{FedBy, LeadsOn, StopsIn, held_in, count_of};
+    ghost use Rattle.twkb_engine.specs.Standing.{FedBy, IsAhead, LeadsOn, StopsIn, held_in, count_of};
 
     // Takes a blob as `take_root_point` does, if no byte was taken since the start or the last blob.
     #[inline(always)]
@@ -114,9 +114,7 @@ impl Engine {
         spans: &mut S,
         rest: &[u8],
     ) -> Result<usize, AllocError>
-        requires next { self.old.next ≡ next.TypeByte }
-        requires alone { held_in self.old ≡ [] }
-        requires room { self.old.start + (self.old.bytes + length rest.now) ≤ 2 ^ 63 }
+        requires { IsAhead next.TypeByte self.old (length rest.now) }
         ensures within { IfOk result (λ used. used ≤ length rest.now) }
         ensures led { (rs : List Row) → IfOk result (λ used. LeadsOn S.holds rs self.old spans.old
             (take used rest.now) rs self.new spans.new) }

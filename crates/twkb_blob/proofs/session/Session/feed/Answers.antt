@@ -1,12 +1,8 @@
-use Rattle.std.proofs.Common.{sym, subst}
-use Rattle.twkb_blob.specs.Sessions.{FedSession}
 use Rattle.twkb_blob.proofs.session.Session.feed.Goals as goal
 
 pub returns-in-Ok-default-false-clause-fed : goal.returns-in-Ok-default-false-clause-fed
 returns-in-Ok-default-false-clause-fed c = λ bytes gs s.
-    subst (λ r. FedSession bytes gs c.args.piece.now r c.feed_flat.new.self)
-    (sym c.none_after.ensures) (rw c.in-Ok-default-false.field-0-1-test at
-    (c.in-Ok-default-false.ensures.fed bytes gs s))
+    rw c.in-Ok-default-false.field-0-1-test at (c.in-Ok-default-false.ensures.fed bytes gs s)
 
 pub returns-clause-fed : goal.returns-clause-fed
 returns-clause-fed c = λ bytes gs s.

@@ -10,4 +10,4 @@ returns-clause-noted g c =
     begun_noted holds c.args.spans.now c.begin.new.self d _ c.begin.result
     (subst (λ o. OnOk c.begin.result ((w : Notes) → length w.begun < 2 ^ 32
     → holds c.args.spans.now w → holds c.begin.new.self (note_header o d.points c.args.byte w)))
-    c.offset.ensures c.begin.ensures) (few_open d c.requires.next)
+    c.offset.ensures c.begin.ensures) (few_open d c.requires)

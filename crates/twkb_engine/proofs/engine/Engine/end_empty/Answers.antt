@@ -3,7 +3,16 @@ use Rattle.twkb_grammar.specs.PlainReader.{is_exact as exact}
 use Rattle.twkb_engine.specs.Collections.{groups_of}
 use Rattle.twkb_engine.specs.Taking.{past_end, own_row}
 use Rattle.twkb_engine.proofs.Ends.{past_ends, lands_passed, lands_brought, lands_stopped, lands_unkept, own_pushed}
+use Rattle.twkb_engine.proofs.Parts.{header_inside, header_shut}
 use Rattle.twkb_engine.proofs.engine.Engine.end_empty.Goals as goal
+
+pub end_geometry-requires : goal.end_geometry-requires
+end_geometry-requires g c =
+    let d = c.args.self.now in
+    record {
+      shut = header_shut d.next d.head.kind d.points_left d.rings_left d.members_left c.requires.header d.lists_fit;
+      inside = header_inside d.next c.requires.header;
+    }
 
 pub returns-in_err-ends-clause-ended : goal.returns-in_err-ends-clause-ended
 returns-in_err-ends-clause-ended g c =

@@ -4,7 +4,11 @@ use Rattle.twkb_body.specs.Outline.{Outline}
 use Rattle.twkb_body.specs.Growing.{Nothing}
 use Rattle.twkb_engine.specs.Taking.{Lands}
 use Rattle.twkb_engine.proofs.Ends.{none_ended}
+use Rattle.twkb_engine.proofs.Lists.{body_inside}
 use Rattle.twkb_engine.proofs.engine.Engine.end_value.Goals as goal
+
+pub end_geometry-requires-clause-inside : goal.end_geometry-requires-clause-inside
+end_geometry-requires-clause-inside g c = body_inside c.args.self.now.next c.requires.body
 
 pub returns-then-ends_with_list-clause-ended : goal.returns-then-ends_with_list-clause-ended
 returns-then-ends_with_list-clause-ended g c = λ rs.
@@ -16,4 +20,4 @@ returns-then-ends_with_list-clause-ended g c = λ rs.
 pub returns-clause-noted : goal.returns-clause-noted
 returns-clause-noted g c = λ w are held.
     none_ended g.S.SpanNotes.holds c.args.spans.now c.args.self.now c.end_list.new.self w
-    c.requires.inside c.end_list.ensures.inside c.end_list.ensures.same are held
+    (body_inside c.args.self.now.next c.requires.body) c.end_list.ensures.inside c.end_list.ensures.same are held

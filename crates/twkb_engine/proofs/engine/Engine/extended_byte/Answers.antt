@@ -6,11 +6,11 @@ use Rattle.twkb_engine.proofs.engine.Engine.extended_byte.Goals as goal
 
 pub after_extended-requires-clause-may : goal.after_extended-requires-clause-may
 after_extended-requires-clause-may g c =
-    (byte_leads c.requires.alive c.requires.next role.Extended c.args.number 1 refl _ (λ at. at)
+    (byte_leads c.requires.comes.alive c.requires.comes.next role.Extended c.args.number 1 refl _ (λ at. at)
     (c.requires.byte, refl) (search rules)).admits
 
 pub returns-clause-taken : goal.returns-clause-taken
 returns-clause-taken g c =
-    takes (byte_leads c.requires.alive c.requires.next role.Extended c.args.number 1 refl _
+    takes (byte_leads c.requires.comes.alive c.requires.comes.next role.Extended c.args.number 1 refl _
     (λ at. at) (c.requires.byte, refl) (search rules))
     _ _ _ _ (sums_as refl refl (add_zero _) (add_zero _)) refl refl c.after_extended.ensures.landed

@@ -13,8 +13,8 @@ use Rattle.twkb_engine.proofs.Parts.{sums_as}
 use Rattle.twkb_engine.proofs.Steps.{quiet_noted}
 use Rattle.twkb_engine.proofs.engine.Engine.member_count.Goals as goal
 
-pub end_counted-requires-clause-row : goal.end_counted-requires-clause-row
-end_counted-requires-clause-row g c =
+pub end_empty-requires-clause-row : goal.end_empty-requires-clause-row
+end_empty-requires-clause-row g c =
     (count_none c.requires (search rules) (search rules)).admits
 
 pub returns-then-count-eq0-clause-taken : goal.returns-then-count-eq0-clause-taken
@@ -22,7 +22,7 @@ returns-then-count-eq0-clause-taken g c =
     takes (count_none c.requires (search rules) (search rules)) _ _ _ _
     (sums_as refl refl (count_nodes c.args.self.now c.args.count)
     (ap (λ x. c.args.self.now.points + x) c.member_points-points.ensures)) refl refl
-    c.end_counted.ensures.landed
+    c.end_empty.ensures.ended
 
 pub begin_counted-requires-clause-row : goal.begin_counted-requires-clause-row
 begin_counted-requires-clause-row g c = λ bare.

@@ -56,7 +56,7 @@ after_extended-requires-clause-may g c =
     let s = c.set_metadata.ensures in
     let byte = c.from_number-metadata.ensures.whole c.requires.byte in
     (metadata_leads c.set_metadata.new.self c.from_number-metadata.result c.from-points.result
-    c.requires.alive c.requires.next (omega (arith, byte, c.requires.byte))
+    c.requires.comes.alive c.requires.comes.next (omega (arith, byte, c.requires.byte))
     (search rules) (search rules) (sym c.has_extended.ensures ∙ c.if-has_extended.false)
     s.same.collections s.same.bytes s.kind s.head s.placed).admits
 
@@ -70,8 +70,8 @@ returns-clause-taken g c =
     search rules in
     subst (λ n. Takes (role.Metadata (kind_in d)) n 1 d c.args.flat.now c.after_extended.result
     c.after_extended.new.self c.after_extended.new.flat) byte
-    (takes (metadata_leads c.set_metadata.new.self meta c.from-points.result c.requires.alive
-    c.requires.next (omega (arith, byte, c.requires.byte))
+    (takes (metadata_leads c.set_metadata.new.self meta c.from-points.result c.requires.comes.alive
+    c.requires.comes.next (omega (arith, byte, c.requires.byte))
     one (search rules) (sym c.has_extended.ensures ∙ c.if-has_extended.false) s.same.collections
     s.same.bytes s.kind s.head s.placed)
     _ _ _ _ (sums_as s.same.bytes s.position (s.same.nodes ∙ add_zero d.nodes) (s.same.points

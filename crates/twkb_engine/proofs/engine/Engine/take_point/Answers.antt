@@ -18,21 +18,6 @@ returns g c =
       fed = point_fed c.args.flat.now c.args.self.now c.requires.next c.requires.last
           c.args.rest.now _ _ c.in-Some.ensures
           g.S.SpanNotes.holds _ c.last_point.new.self c.last_point.new.flat c.args.spans.now c.last_point.new.spans
-          (record {
-            limits = refl;
-            start = refl;
-            bytes = refl;
-            position = refl;
-            nodes = refl;
-            points = refl;
-            collections = refl;
-            head = refl;
-            ids = refl;
-            members_left = refl;
-            rings_left = refl;
-            points_left = c.requires.last;
-            next = refl;
-            held = refl;
-          })
+          refl
           c.requires.alone c.last_point.result t.kept.limits t.kept.held t.shut t.noted t.placed;
     })
