@@ -10,7 +10,6 @@ use Rattle.twkb_tree.specs.declared.kind.Kind.{Kind}
 use Rattle.twkb_tree.specs.declared.kind.Kind.TheVariants as kinds
 use Rattle.twkb_grammar.specs.Bits.{bit}
 use Rattle.twkb_grammar.specs.Roles as role
-use Rattle.twkb_grammar.specs.Roles.{Role}
 use Rattle.twkb_grammar.specs.Fault.{Reason, TooManyNodes, TooManyPoints, nodes_by, nodes_of, points_of}
 use Rattle.twkb_grammar.specs.PlainReader.{objection, unless}
 use Rattle.twkb_grammar.specs.Machine as machine
@@ -26,7 +25,7 @@ use Rattle.twkb_engine.specs.State.{outline_in, step_at}
 use Rattle.twkb_engine.specs.Collections.{groups_of}
 use Rattle.twkb_engine.specs.Fits.{has_members, item_fits}
 use Rattle.twkb_engine.specs.Standing.{ComesNext}
-use Rattle.twkb_engine.specs.Taking.{IsFree, own_row, counted_row}
+use Rattle.twkb_engine.specs.Taking.{IsFree, own_row, counted_row, count_role}
 use Rattle.twkb_engine.specs.Notes.{open_in}
 use Rattle.twkb_engine.specs.declared.next_item.NextItem.TheVariants as next
 use Rattle.twkb_engine.specs.declared.engine.Engine.{Engine}
@@ -112,10 +111,6 @@ members_allowed limits s m level n points o is deep says = rw is at says
 
 -- ---- the count and the ids
 
--- the role of the count
-abbrev pub count_in : Engine → Role
-count_in d = role.Count (first_count (many_of d.head.kind) (length (groups_of d.collections)))
-
 -- ids come, of which these were read and this number is left after the next one
 abbrev pub on_id : Engine → List ℤ → ℕ → Step
 on_id d ids left = OnId (many_of d.head.kind) (head_of d.head) (suc d.members_left) ids left
@@ -132,7 +127,7 @@ abbrev pub counted_at : Engine → ℕ → Outline
 counted_at d n = many_counted (many_of d.head.kind) (head_of d.head) (groups_of d.collections) n
 
 -- what some members announce
-pub count_nodes : (d : Engine) (n : ℕ) → d.nodes + n ≡ d.nodes + nodes_by (count_in d) n
+pub count_nodes : (d : Engine) (n : ℕ) → d.nodes + n ≡ d.nodes + nodes_by (count_role d) n
 count_nodes d n = ap (λ x. d.nodes + x) (nodes_all (many_of d.head.kind)
     (length (groups_of d.collections)) n)
 
@@ -147,15 +142,15 @@ pub count_begins : (d : Engine) {n : ℕ} → 0 < n → Begins 0 (groups_of d.co
 count_begins d {n} some = counted_begin (head_of d.head) (many_of d.head.kind) n some
 
 module _ {rs : List Row} {d : Engine} {n width : ℕ} (at : ComesNext next.MemberCount rs d n width)
-    (free : IsFree (count_in d) n d) where
-  count_leads : Leads rs d (count_in d) n width (outline_ends (d.bytes + width) (counted_at d n))
+    (free : IsFree (count_role d) n d) where
+  count_leads : Leads rs d (count_role d) n width (outline_ends (d.bytes + width) (counted_at d n))
       (count_change d.head.depth d.head.id (many_of d.head.kind) (head_of d.head) n)
-  count_leads = number_leads at.alive at.next (count_in d) n width refl (λ p. p) tt at.wide free
+  count_leads = number_leads at.alive at.next (count_role d) n width refl (λ p. p) tt at.wide free
 
   many_fit : has_members d.head.kind ≡ true
   many_fit = subst (λ i. item_fits i d.head.kind ≡ true) at.next d.item_fits
 
-  pub count_none : n ≡ 0 → Leads rs d (count_in d) n width (past_with width d
+  pub count_none : n ≡ 0 → Leads rs d (count_role d) n width (past_with width d
       (OnEnd (head_of d.head))) (own_row d)
   count_none none =
       leads_as count_leads (ap (λ x. outline_ends (d.bytes + width) (counted_at d x)) none
@@ -164,7 +159,7 @@ module _ {rs : List Row} {d : Engine} {n width : ℕ} (at : ComesNext next.Membe
       (ap (λ x. count_change d.head.depth d.head.id (many_of d.head.kind) (head_of d.head) x) none
       ∙ own_is d many_fit)
 
-  pub count_some : 0 < n → Leads rs d (count_in d) n width (Ok (counted_at d n)) (counted_row d)
+  pub count_some : 0 < n → Leads rs d (count_role d) n width (Ok (counted_at d n)) (counted_row d)
   count_some some =
       leads_as count_leads (counted_begin (head_of d.head) (many_of d.head.kind) n some).past
       (counted_brings (many_of d.head.kind) (head_of d.head) d.head.depth d.head.id n some

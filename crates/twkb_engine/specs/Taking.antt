@@ -1,18 +1,18 @@
 -- What an engine makes of the next item.
-use Rattle.std.specs.Prelude.{◌≡◌, ◌+◌, ◌⊎◌, ℕ, List, [], Bool, true, false, Some, None, Result, Ok, Err}
+use Rattle.std.specs.Prelude.{◌≡◌, ◌+◌, ◌⊎◌, ℕ, List, [], Bool, true, false, Some, None, Result, Ok, Err, length}
 use Rattle.std.specs.Prelude.{if◌then◌else◌, ⊤}
 use Rattle.twkb_points.specs.Point.{Point, origin}
 use Rattle.twkb_tree.specs.Rows.{Row, first_id}
 use Rattle.twkb_grammar.specs.Bits.{bit}
-use Rattle.twkb_grammar.specs.Roles.{Role}
+use Rattle.twkb_grammar.specs.Roles.{Role, Count}
 use Rattle.twkb_grammar.specs.Fault.{Reason, moved, nodes_by, points_by}
-use Rattle.twkb_grammar.specs.Machine.{Sums}
+use Rattle.twkb_grammar.specs.Machine.{Sums, first_count}
 use Rattle.twkb_grammar.specs.PlainReader.{objection}
 use Rattle.twkb_body.specs.Outline.{Outline, OnFinished, Step, OnEnd, options, shut, outline_advanced, outline_ends}
 use Rattle.twkb_body.specs.Growing.{Change, NewRow, Nothing, change_of, applied, own_of, header_change, point_change}
 use Rattle.twkb_body.specs.Admitting.{Admits}
 use Rattle.twkb_body.specs.JudgedParts.{Passes}
-use Rattle.twkb_body.specs.Head.{head_of, kind_of, form_of}
+use Rattle.twkb_body.specs.Head.{head_of, kind_of, form_of, many_of}
 use Rattle.twkb_engine.specs.State.{sums_of, outline_in, ids_in}
 use Rattle.twkb_engine.specs.Collections.{groups_of}
 use Rattle.twkb_engine.specs.Fits.{lists_of}
@@ -149,6 +149,10 @@ past_last d = past_value d 0 (last_lists d)
 -- its own row
 abbrev pub own_row : Engine → Change
 own_row d = NewRow (own_of d.head.depth d.head.id (kind_of d.head.kind) d.head.precision)
+
+-- the role of the count of its members
+abbrev pub count_role : Engine → Role
+count_role d = Count (first_count (many_of d.head.kind) (length (groups_of d.collections)))
 
 -- the row that a count of members brings, if there are any: its own, unless their ids come first
 abbrev pub counted_row : Engine → Change

@@ -4,9 +4,8 @@ ghost use Rattle.twkb_num.specs.Zigzag.{unzigzag_of};
 ghost use Rattle.twkb_grammar.specs.Bits.{bit};
 ghost use Rattle.twkb_grammar.specs.Roles as role;
 ghost use Rattle.twkb_grammar.specs.Fault as fault;
-ghost use Rattle.twkb_grammar.specs.Fault.{points_of};
+ghost use Rattle.twkb_grammar.specs.Fault.{points_by};
 ghost use Rattle.twkb_grammar.specs.PlainReader.{unless, objection};
-ghost use Rattle.twkb_grammar.specs.Machine.{first_count};
 ghost use Rattle.twkb_body.specs.Outline.{members_open, many_counted};
 ghost use Rattle.twkb_body.specs.Growing.{applied};
 ghost use Rattle.twkb_body.specs.Admitting.{Admits};
@@ -42,7 +41,7 @@ impl Engine {
     ghost use Rattle.twkb_engine.specs.State.{IsPlaced, outline_in, sums_of};
     ghost use Rattle.twkb_engine.specs.Collections.{groups_of};
     ghost use Rattle.twkb_engine.specs.Fits.{depth_cap};
-    ghost use Rattle.twkb_engine.specs.Taking.{Takes, SameBlob, Keeps, own_row, counted_row};
+    ghost use Rattle.twkb_engine.specs.Taking.{Takes, SameBlob, Keeps, own_row, counted_row, count_role};
     ghost use Rattle.twkb_engine.specs.Notes.{NotesGo, notes_with, open_in};
     ghost use Rattle.twkb_engine.specs.Standing.{ComesNext};
 
@@ -65,8 +64,7 @@ impl Engine {
     // The number of points that this number of members announces.
     #[inline(always)]
     fn member_points(&self, count: u64) -> u64
-        ensures { result ≡ points_of (first_count (many_of self.now.head.kind)
-            (length (groups_of self.now.collections))) count }
+        ensures { result ≡ points_by (count_role self.now) count }
     {
         if self.head.kind == Kind::MultiPoint {
             return count;
@@ -78,11 +76,8 @@ impl Engine {
     #[inline(always)]
     fn too_many_members(&self, count: u64, points: u64) -> Option<BlobReason>
         requires next { self.now.next ≡ next.MemberCount }
-        requires points { points ≡ points_of (first_count (many_of self.now.head.kind)
-            (length (groups_of self.now.collections))) count }
-        ensures { objection_of result ≡ objection self.now.limits (sums_of self.now)
-            (role.Count (first_count (many_of self.now.head.kind)
-            (length (groups_of self.now.collections)))) count }
+        requires points { points ≡ points_by (count_role self.now) count }
+        ensures { objection_of result ≡ objection self.now.limits (sums_of self.now) (count_role self.now) count }
     {
         let nest = self.limits.nest() as usize;
         if self.head.kind == Kind::Collection && count > 0 && self.collections.len() >= nest {
@@ -101,14 +96,9 @@ impl Engine {
         width: u64,
     ) -> Result<bool, Stop>
         requires { ComesNext next.MemberCount flat.old self.old count width }
-        ensures taken { Takes
-            (role.Count (first_count (many_of self.old.head.kind)
-            (length (groups_of self.old.collections)))) count width self.old flat.old result
-            self.new flat.new }
+        ensures taken { Takes (count_role self.old) count width self.old flat.old result self.new flat.new }
         ensures noted { IfOk result (λ ends. NotesGo S.holds
-            (notes_with (role.Count (first_count (many_of self.old.head.kind)
-            (length (groups_of self.old.collections)))) count width self.old self.new ends) self.old
-            spans.old spans.new) }
+            (notes_with (count_role self.old) count width self.old self.new ends) self.old spans.old spans.new) }
         ensures placed { IsPlaced self.old.next self.old → OnOk result (IsPlaced self.new.next self.new) }
         ensures kept { Keeps self.old self.new }
     {

@@ -5,10 +5,10 @@ use Rattle.twkb_body.specs.Admitting.{Admits}
 use Rattle.twkb_body.specs.Reading.{open_count}
 use Rattle.twkb_engine.specs.State.{step_at}
 use Rattle.twkb_engine.specs.Collections.{groups_of}
-use Rattle.twkb_engine.specs.Taking.{own_row}
+use Rattle.twkb_engine.specs.Taking.{own_row, count_role}
 use Rattle.twkb_engine.proofs.Admitted.{alive_room}
 use Rattle.twkb_engine.proofs.Items.{takes, takes_on, takes_none}
-use Rattle.twkb_engine.proofs.Members.{count_in, count_none, count_some, count_nodes, count_begins, open_after}
+use Rattle.twkb_engine.proofs.Members.{count_none, count_some, count_nodes, count_begins, open_after}
 use Rattle.twkb_engine.proofs.Parts.{sums_as}
 use Rattle.twkb_engine.proofs.Steps.{quiet_noted}
 use Rattle.twkb_engine.proofs.engine.Engine.member_count.Goals as goal
@@ -52,7 +52,7 @@ returns-clause-taken g c =
 pub returns-clause-noted : goal.returns-clause-noted
 returns-clause-noted g c =
     let d = c.args.self.now in
-    quiet_noted g.S.SpanNotes.holds (count_in d) c.args.count c.args.width d
+    quiet_noted g.S.SpanNotes.holds (count_role d) c.args.count c.args.width d
     c.begin_counted.new.self c.args.spans.now tt (open_after d c.begin_counted.new.self
     c.in_ok-begin_counted.ensures.step (count_begins d (omega (arith, c.if-count-eq0.false)))
     (ap (λ i. open_count (groups_of d.collections, step_at i d)) c.requires.next))
