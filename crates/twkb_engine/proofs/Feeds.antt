@@ -32,7 +32,8 @@ use Rattle.twkb_engine.specs.declared.stop.Stop.{Stop}
 use Rattle.twkb_engine.specs.declared.stop.Stop.TheVariants.{Memory, Refused}
 use Rattle.twkb_engine.specs.declared.engine.Engine.{Engine}
 use Rattle.twkb_engine.proofs.Steps.{next_role, next_number, open_noted, noted_ends, outlined_blob, stands_begun}
-use Rattle.twkb_engine.proofs.Steps.{stands_whole, number_written, SameItem, stands_else}
+use Rattle.twkb_engine.proofs.Fields.{Fields, SameItem}
+use Rattle.twkb_engine.proofs.Steps.{stands_whole, number_written, stands_else}
 
 -- ---- bytes that lead past an item
 
@@ -223,13 +224,13 @@ number_fed holds bs rs more d b e old new u value width answer s q none spelled 
     let at : t.front ++ whole ≡ bs ++ take 1 (u ∷ []) = ap (λ l. l ++ whole) front
     ∙ (held_bytes bs s.front (held_in d) [] u s.whole ∙ append-nil (bs ++ u ∷ [])) in
     let fed = item_fed holds bs rs more b e old new t.front t.outlined r.0 value whole (u ∷ []) 1
-    r.1 (number_written b value whole v (λ byte. spelled (subst IsByte q.next byte)))
+    r.1 (number_written b value whole v (λ byte. spelled (subst IsByte (ap (λ (g : Fields). g.next) q) byte)))
     (omega arith) (omega arith) at limits (held ∙ none)
     width answer (omega (arith, length-append (held_in d) (u ∷ []), size)) (takes r.0 r.1)
     (noted r.0 r.1) (placed t.placed) in
     subst (λ (x : Allowance × ℕ × Notes). IsFed holds (holds old x.2) x.0 x.1 bs (u ∷ [])
     (with_used 1 answer) more e new)
-    (λ i. (q.limits i, q.start i, notes i)) fed
+    (λ i. ((q i).limits, (q i).start, notes i)) fed
 
 -- a byte of a number that goes on
 pub more_fed : {S : Type 0} (holds : S → Notes → Type 0) (bs : List ℕ) (rs : List Row)
@@ -238,7 +239,7 @@ pub more_fed : {S : Type 0} (holds : S → Notes → Type 0) (bs : List ℕ) (rs
     → IsFed holds (holds old (notes_at s)) (allowance_of d) d.start bs (u ∷ []) (Ok (1, false)) rs e old
 more_fed holds bs rs d e old u s q spelled held =
     let (t, front, notes) = stands_else bs (bs ++ u ∷ []) rs d e q s (held_more bs u rs d e s held) (inl spelled) in
-    (omega arith, q.start, t, λ known. subst (holds old) (sym notes) known)
+    (omega arith, ap (λ (g : Fields). g.start) q, t, λ known. subst (holds old) (sym notes) known)
 
 pub not_both : (b : Bool) → b ≡ false → b ≡ true → ⊥
 not_both true p q = absurd cc

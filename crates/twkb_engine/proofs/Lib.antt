@@ -1,4 +1,5 @@
 pub mod Collections
+pub mod Fields
 pub mod Admitted
 pub mod Ends
 pub mod Lists

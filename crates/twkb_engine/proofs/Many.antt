@@ -7,16 +7,14 @@ use Rattle.twkb_points.specs.Point.{Point}
 use Rattle.twkb_tree.specs.declared.kind.Kind.{Kind}
 use Rattle.twkb_tree.specs.declared.kind.Kind.TheVariants as kinds
 use Rattle.twkb_tree.specs.Tree.{Ids}
-use Rattle.twkb_tree.specs.Limits.{Allowance}
 use Rattle.twkb_tree.specs.Rows.{Row}
-use Rattle.twkb_grammar.specs.Machine.{MultiPointForm, Sums}
+use Rattle.twkb_grammar.specs.Machine.{MultiPointForm}
 use Rattle.twkb_body.specs.Outline.{Step, OnId, OnBody, Wanted, next_ids}
 use Rattle.twkb_body.specs.Growing.{id_in}
 use Rattle.twkb_body.specs.Noting.{NotedOutline, notes_in}
 use Rattle.twkb_body.specs.JudgedParts.{PartIn}
 use Rattle.twkb_body.specs.Head.{head_of, form_of, many_of, IsHeadAt}
 use Rattle.twkb_body.specs.Ids.{ids_of, ids_read}
-use Rattle.twkb_body.specs.declared.head.Head.{Head}
 use Rattle.twkb_body.specs.declared.member_ids.MemberIds.{MemberIds}
 use Rattle.twkb_body.specs.Running.{HasLists, WantedIn, StepRuns, StepStops, ListRuns, ListStops, in_list, IdsTaken}
 use Rattle.twkb_body.specs.Running.{IdsStop}
@@ -25,12 +23,12 @@ use Rattle.twkb_engine.specs.Fits.{lists_of, line_lists_of, has_members, left_fi
 use Rattle.twkb_engine.specs.State.{IsPlaced, sums_of, step_at, ids_in}
 use Rattle.twkb_engine.specs.Taking.{Stays}
 use Rattle.twkb_engine.specs.Standing.{StandsAt, TakesMany, notes_at, held_in}
-use Rattle.twkb_engine.specs.declared.open_collections.OpenCollection.{OpenCollection}
 use Rattle.twkb_engine.specs.declared.next_item.NextItem.{NextItem}
 use Rattle.twkb_engine.specs.declared.next_item.NextItem.TheVariants as next
 use Rattle.twkb_engine.specs.declared.engine.Engine.{Engine}
 use Rattle.twkb_engine.proofs.Steps.{all_whole, noted_at, stands_whole}
 use Rattle.twkb_engine.proofs.Between.{is_some}
+use Rattle.twkb_engine.proofs.Fields.{Fields, fields_of, moved_to}
 
 -- none are taken: no bytes lead an engine nowhere
 pub none_taken : {E : Type 0} {rs : List Row} {d : Engine} {rest : List ℕ} → TakesMany {E = E} rs d rest (Ok 0) rs d
@@ -49,41 +47,6 @@ place_at d e cs h p = subst (λ c. IsHeadAt (length (groups_of c)) (id_in (group
     (sym h) p)
 
 -- ---- many of one step
-
--- the fields of an engine that such a step reads or changes
-pub record Fields : Type 0 where
-  pub limits : Allowance
-  pub start : ℕ
-  pub sums : Sums
-  pub collections : List OpenCollection
-  pub head : Head
-  pub ids : MemberIds
-  pub members_left : ℕ
-  pub rings_left : ℕ
-  pub points_left : ℕ
-  pub next : NextItem
-  pub held : List ℕ
-
-abbrev pub fields_of : Engine → Fields
-fields_of d = record {
-  limits = d.limits;
-  start = d.start;
-  sums = sums_of d;
-  collections = d.collections;
-  head = d.head;
-  ids = d.ids;
-  members_left = d.members_left;
-  rings_left = d.rings_left;
-  points_left = d.points_left;
-  next = d.next;
-  held = d.held;
-}
-
--- so many bytes further, at this point, with these ids, members and points left
-abbrev pub moved_to : Engine → (used : ℕ) → Point → MemberIds → (members points : ℕ) → Fields
-moved_to d used to ids members points =
-    let s : Sums = record { bytes = d.bytes + used; position = to; nodes = d.nodes; points = d.points } in
-    record (fields_of d) { sums = s; ids = ids; members_left = members; points_left = points }
 
 abbrev Headed : Engine → Type 0
 Headed d = IsHeadAt (length (groups_of d.collections)) (id_in (groups_of d.collections)) d.head

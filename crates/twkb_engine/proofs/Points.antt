@@ -34,7 +34,8 @@ use Rattle.twkb_engine.specs.declared.stop.Stop.TheVariants.{Memory, Refused}
 use Rattle.twkb_engine.proofs.Ends.{many_open}
 use Rattle.twkb_engine.proofs.Feeds.{Reads, past_on, past_blob, past_judged, past_wrong}
 use Rattle.twkb_engine.proofs.Steps.{all_whole, open_noted}
-use Rattle.twkb_engine.proofs.Many.{Fields, fields_of, moved_to, place_at}
+use Rattle.twkb_engine.proofs.Fields.{Fields, fields_of, moved_to}
+use Rattle.twkb_engine.proofs.Many.{place_at}
 
 -- the step after a point that is the last of its list, or in none
 abbrev step_past : Head → MemberIds → (rings members : ℕ) → Step

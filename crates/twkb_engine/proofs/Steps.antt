@@ -33,7 +33,6 @@ use Rattle.twkb_body.specs.Growing.{rows_so_far, id_in}
 use Rattle.twkb_body.specs.Noting.{NotedOutline, notes_in}
 use Rattle.twkb_body.proofs.Outlined.{outlined_start, noted_item}
 use Rattle.twkb_body.proofs.Notings.{same_count}
-use Rattle.twkb_body.specs.declared.head.Head as place
 use Rattle.twkb_body.specs.Head.{kind_of, many_of, IsHeadAt}
 use Rattle.twkb_engine.specs.Collections.{groups_of}
 use Rattle.twkb_engine.specs.Fits.{IsByte}
@@ -41,11 +40,11 @@ use Rattle.twkb_engine.specs.State.{IsNext, IsPlaced, sums_of, outline_in, step_
 use Rattle.twkb_engine.specs.Taking.{BeginsAt}
 use Rattle.twkb_engine.specs.Notes.{NotesGo, notes_with, open_in}
 use Rattle.twkb_engine.specs.Standing.{StandsAt, notes_at, held_in}
-use Rattle.twkb_engine.specs.declared.open_collections.OpenCollection.{OpenCollection}
 use Rattle.twkb_engine.specs.declared.next_item.NextItem.{NextItem}
 use Rattle.twkb_engine.specs.declared.next_item.NextItem.TheVariants as next
 use Rattle.twkb_engine.specs.declared.engine.Engine.{Engine}
 use Rattle.twkb_engine.specs.declared.stop.Stop.{Stop}
+use Rattle.twkb_engine.proofs.Fields.{Fields, SameItem}
 
 -- an item that begins and ends nothing notes nothing
 pub quiet_noted : {S : Type 0} (holds : S → Notes → Type 0) (r : Role) (n width : ℕ) (d e : Engine)
@@ -297,42 +296,34 @@ pub all_whole : (bytes : List ℕ) (rs : List Row) (d : Engine) → held_in d �
     → (s : StandsAt bytes rs d) → bytes ≡ s.front
 all_whole bytes rs d none s = s.whole ∙ (ap (λ l. s.front ++ l) none ∙ append-nil s.front)
 
--- ---- two engines that differ in the bytes of a number alone
-
-pub record SameItem (d e : Engine) : Type 0 where
-  pub limits : e.limits ≡ d.limits
-  pub start : e.start ≡ d.start
-  pub bytes : e.bytes ≡ d.bytes
-  pub position : e.position ≡ d.position
-  pub nodes : e.nodes ≡ d.nodes
-  pub points : e.points ≡ d.points
-  pub collections : e.collections ≡ d.collections
-  pub head : e.head ≡ d.head
-  pub ids : e.ids ≡ d.ids
-  pub members_left : e.members_left ≡ d.members_left
-  pub rings_left : e.rings_left ≡ d.rings_left
-  pub points_left : e.points_left ≡ d.points_left
-  pub next : e.next ≡ d.next
+-- ---- the bytes of a number
 
 step_else : (i : NextItem) (d e : Engine) → SameItem d e → step_at i e ≡ step_at i d
 step_else next.TypeByte d e q = refl
-step_else i d e q = simp (q.head, q.ids, q.members_left, q.rings_left, q.points_left)
+step_else i d e q =
+    simp (
+      ap (λ (g : Fields). g.head) q,
+      ap (λ (g : Fields). g.ids) q,
+      ap (λ (g : Fields). g.members_left) q,
+      ap (λ (g : Fields). g.rings_left) q,
+      ap (λ (g : Fields). g.points_left) q,
+    )
 
 placed_else : (i : NextItem) (d e : Engine) → SameItem d e → IsPlaced i d → IsPlaced i e
 placed_else next.TypeByte d e q p = tt
 placed_else next.MetadataByte d e q p = tt
-placed_else i d e q p = subst (λ (x : List OpenCollection × place.Head).
-    IsHeadAt (length (groups_of x.0)) (id_in (groups_of x.0)) x.1)
-    (λ t. (sym q.collections t, sym q.head t)) p
+placed_else i d e q p =
+    subst (λ (g : Fields). IsHeadAt (length (groups_of g.collections)) (id_in (groups_of g.collections)) g.head)
+    (sym q) p
 
 pub stands_else : (bs all : List ℕ) (rs : List Row) (d e : Engine) → SameItem d e
     → (s : StandsAt bs rs d) → all ≡ s.front ++ held_in e → (IsByte d.next → ⊥) ⊎ (held_in e ≡ [])
     → (t : StandsAt all rs e) × (t.front ≡ s.front) × (notes_at t ≡ notes_at s)
 stands_else bs all rs d e q s whole spelled =
+    let next = ap (λ (g : Fields). g.next) q in
     let outline : outline_in e ≡ outline_in d = λ t.
-    (groups_of (q.collections t), (ap (λ i. step_at i e) q.next ∙ step_else d.next d e q) t) in
-    let t = stands_there all rs e (noted_at s) q.limits
-    (λ t. record { bytes = q.bytes t; position = q.position t; nodes = q.nodes t; points = q.points t })
-    outline refl (subst (λ i. IsPlaced i e) (sym q.next) (placed_else d.next d e q s.placed)) whole
-    (subst (λ i. (IsByte i → ⊥) ⊎ (held_in e ≡ [])) (sym q.next) spelled) in
-    (t.0, t.1, t.2 ∙ ap (λ start. notes_in start s.outlined) q.start)
+    (groups_of (q t).collections, (ap (λ i. step_at i e) next ∙ step_else d.next d e q) t) in
+    let t = stands_there all rs e (noted_at s) (ap (λ (g : Fields). g.limits) q) (ap (λ (g : Fields). g.sums) q)
+    outline refl (subst (λ i. IsPlaced i e) (sym next) (placed_else d.next d e q s.placed)) whole
+    (subst (λ i. (IsByte i → ⊥) ⊎ (held_in e ≡ [])) (sym next) spelled) in
+    (t.0, t.1, t.2 ∙ ap (λ start. notes_in start s.outlined) (ap (λ (g : Fields). g.start) q))

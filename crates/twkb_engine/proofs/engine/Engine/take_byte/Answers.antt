@@ -1,4 +1,4 @@
-use Rattle.std.proofs.Common.{rules, ◌≡◌, ◌∙◌, ◌++◌, ◌∷◌, [], ap, sym, subst, arith, inr, append-nil}
+use Rattle.std.proofs.Common.{rules, ◌≡◌, ◌∙◌, ◌++◌, ◌∷◌, [], ap, refl, sym, subst, arith, inr, append-nil}
 use Rattle.std.proofs.Math.Logic.{∥∥₁_map}
 use Rattle.twkb_num.proofs.VarintLemmas.{varint_is, open_varint_is, too_long_is}
 use Rattle.twkb_grammar.specs.Reading.{Gives}
@@ -29,7 +29,7 @@ pub take-requires-in-Done-clause-alive : goal.take-requires-in-Done-clause-alive
 take-requires-in-Done-clause-alive g c = ∥∥₁_map c.requires.alive (λ s. (
   s.1.front,
   (stands_else s.0 s.1.front c.args.flat.now c.args.self.now _
-      (search rules)
+      refl
       s.1 (sym (ap (λ l. s.1.front ++ l) c.in-Done.ensures.held ∙ append-nil s.1.front))
       (inr c.in-Done.ensures.held)).0,
 ))
@@ -40,7 +40,7 @@ returns-in-Done-clause-fed g c = λ bs s.
     number_fed g.S.SpanNotes.holds bs c.args.flat.now c.take-in-Done.new.flat d _
     c.take-in-Done.new.self c.args.spans.now c.take-in-Done.new.spans c.args.byte
     c.in-Done.value _ c.take-in-Done.result s
-    (search rules)
+    refl
     c.in-Done.ensures.held (λ b. not_both c.is_byte.result c.if-is_byte.false
     (c.is_byte.ensures.1 b)) ((varint_is (held_in d ++ c.args.byte ∷ []) c.in-Done.value).1
     c.in-Done.ensures.answer.0)
@@ -51,7 +51,7 @@ returns-in-Done-clause-fed g c = λ bs s.
 pub returns-in-More-clause-fed : goal.returns-in-More-clause-fed
 returns-in-More-clause-fed g c = λ bs s.
     more_fed g.S.SpanNotes.holds bs c.args.flat.now c.args.self.now _ c.args.spans.now c.args.byte s
-    (search rules)
+    refl
     (λ b. not_both c.is_byte.result c.if-is_byte.false (c.is_byte.ensures.1 b)) c.in-More.ensures.held
 
 pub returns-in-TooLong-clause-fed : goal.returns-in-TooLong-clause-fed
