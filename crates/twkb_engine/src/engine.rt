@@ -112,7 +112,8 @@ impl Engine {
         requires byte { IsByte self.old.next → (number < 256) × (width ≡ 1) }
         requires room { self.old.start + (self.old.bytes + width) ≤ 2 ^ 63 }
         requires alive { IsAlive flat.old self.old }
-        ensures taken { (r : Role) → IsNext r self.old → Takes r number width self.old flat.old result self.new flat.new }
+        ensures taken { (r : Role) → IsNext r self.old
+            → Takes r number width self.old flat.old result self.new flat.new }
         ensures noted { (r : Role) → IsNext r self.old → IfOk result (λ ends. NotesGo S.holds
             (notes_with r number width self.old self.new ends) self.old spans.old spans.new) }
         ensures placed { IsPlaced self.old.next self.old → OnOk result (IsPlaced self.new.next self.new) }
