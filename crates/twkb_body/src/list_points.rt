@@ -41,6 +41,8 @@ const FAR_APART: usize = 256;
 /// each by its steps from the one before, the first from `from`; returns what was taken, and how
 /// many of `most` are left. Takes memory. Points that lie near one another are read eight or two at
 /// a time.
+// One function, as its loop with the choice of the next step in another took up to 6 in 1000
+// instructions more.
 #[inline(always)]
 pub fn take_row(
     flat: &mut Flat,
