@@ -11,7 +11,7 @@ use Rattle.twkb_engine.specs.declared.open_collections.OpenCollection.{OpenColle
 use Rattle.twkb_engine.specs.declared.next_item.NextItem.{NextItem}
 use Rattle.twkb_engine.specs.declared.engine.Engine.{Engine}
 
--- what an item and the bytes of a number may change, the sums as one
+-- the fields, with the sums of the items as one
 pub record Fields : Type 0 where
   pub limits : Allowance
   pub start : ℕ

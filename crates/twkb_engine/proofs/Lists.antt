@@ -31,11 +31,13 @@ has_some k p r zero some fits = absurd (omega (arith, some))
 has_some kinds.MultiPoint p r (suc m) some fits = refl
 has_some k p r (suc m) some fits = grind arith
 
--- what an item of a body says of its kind, and of the open lists of a kind without points left
+-- ---- what an item of a body says
+
 none_left : (p : ℕ) (f : Bool) → nat_eq p 0 && f ≡ true → f ≡ true
 none_left p true fits = refl
 none_left p false fits = grind arith
 
+-- no values are left but in lists of its kind
 pub body_fits : (i : NextItem) (k : Kind) (p r m : ℕ) → IsBodyItem i → lists_fit i k p r m ≡ true → p ≡ 0
     → left_fit k 0 r m ≡ true
 body_fits next.X k p r m body fits none = subst (λ n. left_fit k n r m ≡ true) none fits
@@ -46,6 +48,7 @@ body_fits next.RingCount k p r m body fits none =
     subst (λ n. left_fit k n r m ≡ true) none (none_left r (left_fit k p r m) (none_left p _ fits))
 body_fits i k p r m body fits none = absurd body
 
+-- a kind with lists of points, or of rings, has a body
 lined_bodied : (k : Kind) → has_lines k ≡ true → is_bodied k ≡ true
 lined_bodied kinds.Linestring lines = refl
 lined_bodied k lines = cc
@@ -54,6 +57,7 @@ area_bodied : (k : Kind) → has_areas k ≡ true → is_bodied k ≡ true
 area_bodied kinds.Polygon areas = refl
 area_bodied k areas = cc
 
+-- its kind has a body
 pub body_kind : (i : NextItem) (k : Kind) → IsBodyItem i → item_fits i k ≡ true → is_bodied k ≡ true
 body_kind next.X k body fits = fits
 body_kind next.Y k body fits = fits
@@ -61,9 +65,12 @@ body_kind next.PointCount k body fits = lined_bodied k fits
 body_kind next.RingCount k body fits = area_bodied k fits
 body_kind i k body fits = absurd body
 
+-- a geometry is begun
 pub body_inside : (i : NextItem) → IsBodyItem i → IsInside i
 body_inside next.TypeByte body = absurd body
 body_inside i body = tt
+
+-- ---- after a list
 
 -- past the last list of a member, the next member begins
 begun_member : (k : Kind) (e : Engine) (h : machine.Head) (ids : Ids) (gs : List Group) (bytes : ℕ)

@@ -30,7 +30,7 @@ use Rattle.twkb_engine.proofs.Steps.{all_whole, noted_at, stands_whole}
 use Rattle.twkb_engine.proofs.Between.{is_some}
 use Rattle.twkb_engine.proofs.Fields.{Fields, fields_of, moved_to}
 
--- none are taken: no bytes lead an engine nowhere
+-- none are taken: the engine stays where it is
 pub none_taken : {E : Type 0} {rs : List Row} {d : Engine} {rest : List ℕ} → TakesMany {E = E} rs d rest (Ok 0) rs d
 none_taken {rs = rs} {d = d} = record {
   within = omega arith;

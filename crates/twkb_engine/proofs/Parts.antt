@@ -26,18 +26,20 @@ use Rattle.twkb_engine.specs.declared.next_item.NextItem.TheVariants as next
 use Rattle.twkb_engine.specs.declared.engine.Engine.{Engine}
 use Rattle.twkb_engine.proofs.Collections.{groups_length}
 
--- ---- an item of a header
+-- ---- what an item of a header says
 
--- it is inside a geometry, whose kind is of a type, and no list is open
+-- a geometry is begun
 pub header_inside : (i : NextItem) → IsHeaderItem i → IsInside i
 header_inside next.TypeByte header = absurd header
 header_inside i header = tt
 
+-- its kind is that of a type
 pub header_typed : (i : NextItem) (k : Kind) → IsHeaderItem i → item_fits i k ≡ true → is_typed k ≡ true
 header_typed next.TypeByte k header fits = absurd header
 header_typed i kinds.Ring header fits = absurd cc
 header_typed i k header fits = refl
 
+-- no list is open
 pub header_shut : (i : NextItem) (k : Kind) (p r m : ℕ) → IsHeaderItem i → lists_fit i k p r m ≡ true
     → are_shut p r m ≡ true
 header_shut next.MetadataByte k p r m header fits = fits
