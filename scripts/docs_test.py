@@ -1,7 +1,8 @@
 #!/usr/bin/env python3
 """Runs the commands that documents show, and compares their output with the output shown. Compares the callers
 in the READMEs of crates with the files of the crate `examples`, which the gate proves. Then checks the words,
-links and marks of pages (scripts/pages.py) and the tables of promises (scripts/promises.py).
+links and marks of pages (scripts/pages.py), the tables of promises (scripts/promises.py), and numbers, names and
+texts of reasons (scripts/reasons.py).
 
     scripts/docs_test.py [FILE ..]
     scripts/docs_test.py --pages      all but the commands, for which a program is needed
@@ -32,6 +33,7 @@ import tempfile
 
 import pages
 import promises
+import reasons
 
 REPO = os.path.abspath(os.path.join(os.path.dirname(__file__), ".."))
 FILES = ["README.md", "docs/USING.md", "docs/RECIPES.md", "crates/polytwkb/README.md"]
@@ -187,7 +189,7 @@ def caller_differences():
 
 def page_faults():
     """How many faults pages have that can be found without a program, each reported on standard output."""
-    return caller_differences() + pages.main([]) + promises.main([])
+    return caller_differences() + pages.main([]) + promises.main([]) + reasons.main()
 
 
 def main():
