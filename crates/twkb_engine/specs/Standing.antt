@@ -14,7 +14,7 @@ use Rattle.twkb_body.specs.Reading.{Outlined}
 use Rattle.twkb_body.specs.Noting.{notes_in}
 use Rattle.twkb_engine.specs.State.{IsPlaced, IsNext, allowance_of, sums_of, outline_in}
 use Rattle.twkb_engine.specs.Fits.{IsByte}
-use Rattle.twkb_body.specs.JudgedParts.{IsJudged, PartIn}
+use Rattle.twkb_body.specs.JudgedParts.{PartIn}
 use Rattle.twkb_engine.specs.Taking.{Stays}
 use Rattle.twkb_engine.specs.Stops.{reason_of}
 use Rattle.twkb_engine.specs.declared.next_item.NextItem.{NextItem}
@@ -108,15 +108,6 @@ pub record TakesMany {E : Type 0} (rs : List Row) (d : Engine) (bytes : List ℕ
   pub led : IfOk answer (λ used. LeadsQuietly rs d (take used bytes) more e)
   pub memory : OnErr answer (StopsIn rs d bytes)
   pub stays : Stays d e
-
--- the bytes are a blob so far, or a blob with these rows and none of a further one, or a part that
--- was judged, for whose last item there is no memory, or they have a first fault, whatever follows
-abbrev pub IsStep : Allowance → List ℕ → Result Bool Stop → List Row → Engine → Type 0
-IsStep limits bytes (Ok false) rs d = StandsAt bytes rs d
-IsStep limits bytes (Ok true) rs d = (g : Tree) × Blob limits bytes g × (rs ≡ rows 0 g) × StandsAt [] [] d
-IsStep limits bytes (Err Memory) rs d = IsJudged limits bytes
-IsStep limits bytes (Err (Refused r)) rs d = (more : List ℕ)
-    → FirstFault limits (bytes ++ more) (offset_in d) (reason_of r)
 
 -- a byte of the piece is the last of an item that is refused, whatever follows
 pub record RefusedIn (limits : Allowance) (bs piece : List ℕ) (offset : ℕ) (reason : Reason) : Type 0 where

@@ -1,6 +1,6 @@
 -- What an engine makes of the next item.
 use Rattle.std.specs.Prelude.{◌≡◌, ◌+◌, ◌⊎◌, ℕ, List, [], Bool, true, false, Some, None, Result, Ok, Err, length}
-use Rattle.std.specs.Prelude.{if◌then◌else◌, ⊤}
+use Rattle.std.specs.Prelude.{if◌then◌else◌}
 use Rattle.twkb_points.specs.Point.{Point, origin}
 use Rattle.twkb_tree.specs.Rows.{Row, first_id}
 use Rattle.twkb_grammar.specs.Bits.{bit}
@@ -10,7 +10,6 @@ use Rattle.twkb_grammar.specs.Machine.{Sums, first_count}
 use Rattle.twkb_grammar.specs.PlainReader.{objection}
 use Rattle.twkb_body.specs.Outline.{Outline, OnFinished, Step, OnEnd, options, shut, outline_advanced, outline_ends}
 use Rattle.twkb_body.specs.Growing.{Change, NewRow, Nothing, change_of, applied, own_of, header_change, point_change}
-use Rattle.twkb_body.specs.Admitting.{Admits}
 use Rattle.twkb_body.specs.JudgedParts.{Passes}
 use Rattle.twkb_body.specs.Head.{head_of, kind_of, form_of, many_of}
 use Rattle.twkb_engine.specs.State.{sums_of, outline_in, ids_in}
@@ -42,10 +41,6 @@ IsFree r n d = objection d.limits (sums_of d) r n ≡ None
 -- the row or the point that it brings
 abbrev pub brings : Role → (n : ℕ) → Engine → Change
 brings r n d = change_of (moved d.position r n) n (outline_in d)
-
--- the rows take what it brings
-abbrev pub MayBring : Role → (n : ℕ) → Engine → List Row → Type 0
-MayBring r n d rs = IsFree r n d → Admits (brings r n d) rs
 
 -- a blob begins, at this offset of the stream
 pub record BeginsAt (offset : ℕ) (d : Engine) : Type 0 where
@@ -100,12 +95,6 @@ Takes r n width d rs (Err Memory) e more = IsFree r n d × Passes (way_of n widt
 Takes r n width d rs (Err (Refused why)) e more =
     ((objection d.limits (sums_of d) r n ≡ Some (reason_of why)) × (e.bytes ≡ d.bytes))
     ⊎ (IsFree r n d × (way_of n width d ≡ Err (reason_of why)) × (e.bytes ≡ d.bytes + width))
-
--- what an engine answers to an item with which no geometry ends, and which is not refused: whether
--- there is memory for it
-abbrev pub TakesOn : {E : Type 0} → Role → (n width : ℕ) → Engine → List Row → Result ⊤ E → Engine → List Row → Type 0
-TakesOn r n width d rs (Ok u) e more = Takes r n width d rs (Ok false) e more
-TakesOn r n width d rs (Err why) e more = Takes r n width d rs (Err Memory) e more
 
 -- What an engine answers from which this way leads on, with this change of the rows: it is further
 -- on that way; or the blob ends; or there is no memory for the change, though the sizes were

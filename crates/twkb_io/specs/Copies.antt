@@ -7,10 +7,8 @@ use Rattle.twkb_io.specs.declared.input.Input.{Input}
 use Rattle.twkb_io.specs.declared.input.InFault.TheVariants as fault
 use Rattle.twkb_io.specs.declared.copying.CopyFault.{CopyFault}
 use Rattle.twkb_io.specs.declared.copying.CopyFault.TheVariants as stop
-use Rattle.twkb_io.specs.declared.output.OutFault.{OutFault}
 use Rattle.twkb_io.specs.Taps.{count_failure}
 use Rattle.twkb_io.specs.Inputs.{given, has_ended, input_failures, input_tap, is_read, is_spent, rest_of}
-use Rattle.twkb_io.specs.Outputs.{is_device}
 
 -- these bytes left the input, which counted them, and the sink took them
 pub record Copied {R S : Type 0} {read : Ghosts R} (took : S → List ℕ → S → Type 0)
@@ -48,12 +46,6 @@ is_of_read (stop.Sink why) = false
 abbrev pub is_read_stop : {A F : Type 0} → Result A (CopyFault F) → Bool
 is_read_stop (Ok done) = false
 is_read_stop (Err why) = is_of_read why
-
--- whether a copy was stopped by a writer that failed
-abbrev pub is_write_stop : {A : Type 0} → Result A (CopyFault OutFault) → Bool
-is_write_stop (Ok done) = false
-is_write_stop (Err (stop.Source why)) = false
-is_write_stop (Err (stop.Sink why)) = is_device why
 
 -- one step of a copy: all held bytes go to the sink, or the input is at its end, or the copy stops
 pub record CopiesPiece {R S F : Type 0} {read : Ghosts R} (took : S → List ℕ → S → Type 0)
