@@ -42,7 +42,9 @@ fn writes_and_flushes<W: Write>(tap: &mut Tap<W>) -> bool {
 fn each_write_and_flush_of_a_tap_reaches_its_device_once(rt: HostRuntime) {
     let mut writer = Tap::new(Tap::new(Vec::new(rt.alloc())));
     let are_written = writes_and_flushes(&mut writer);
-    assert!(rt; are_written & (writer.calls() == 2) & (writer.into_inner().calls() == 2));
+    let is_counted = writer.calls() == 2;
+    let device = writer.into_inner();
+    assert!(rt; are_written & is_counted & (device.calls() == 2) & !device.has_unflushed());
 }
 
 // Whether all bytes of a device are copied.
