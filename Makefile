@@ -118,11 +118,12 @@ smoke: build
 completions-test: build
 	scripts/completions_test.sh
 
-hostile: build bin/refuse.so bin/growths
+hostile: build bin/refuse.so bin/growths bin/tests_middle bin/tests_top
 	tests/hostile/each_failing.py bin/polytwkb bin/refuse.so
 	tests/hostile/sizes.py bin/polytwkb 64
 	tests/hostile/sizes.py bin/polytwkb 1024
 	tests/hostile/growths.py bin/growths bin/refuse.so
+	tests/hostile/growths_of_tests.py bin/refuse.so bin/tests_middle bin/tests_top
 
 CASES ?= 100000
 PROCESSES ?= 2
@@ -134,6 +135,10 @@ fuzz: build bin/refuse.so
 bin/refuse.so: tests/hostile/refuse.c
 	mkdir -p bin
 	$(CC) -O1 -shared -fPIC -o $@ $<
+
+# The programs of tests, which `make test` takes from the gate.
+bin/tests_middle bin/tests_top: $(SOURCES)
+	@scripts/build.sh $(@F) $@
 
 # Counts growths. It is not a crate of the repository, so it is proved in a copy.
 bin/growths: tests/hostile/growths/main.rt.in tests/hostile/growths/build.sh $(SOURCES)

@@ -1,5 +1,6 @@
 #!/usr/bin/env bash
-# Proves a crate and those below it, reporting progress, and writes its program or static library to a file:
+# Proves a crate and those below it, reporting progress, and writes its program, its static library or, of a crate
+# of tests, the program of its tests to a file:
 #
 #   scripts/build.sh CRATE FILE
 set -euo pipefail
@@ -20,6 +21,7 @@ if line=$(grep "^$crate staticlib:" "$repository/crates.txt"); then
 else
   copy_crates "$work/copy" "$crate"
   prove "$work/copy"
-  install -D "$work/copy/crates/$crate/out/$crate" "$file"
+  [ -e "$repository/crates/$crate/src/main.rt" ] || built=${crate}_tests
+  install -D "$work/copy/crates/$crate/out/${built:-$crate}" "$file"
 fi
 echo "$2 is built"

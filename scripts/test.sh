@@ -51,7 +51,14 @@ install_lacking() {
   for package in $packages; do timeout 120 "${apt[@]}" install --no-install-recommends "$package"; done
 }
 
-# gate: runs `rt ci`, and leaves its counts; what it built goes where `make` looks for it.
+# take_programs: copies what the gate built to where `make` looks for it.
+take_programs() {
+  local crate
+  install -D crates/polytwkb/out/polytwkb bin/polytwkb || return 1
+  for crate in tests_middle tests_top; do install "crates/$crate/out/${crate}_tests" "bin/$crate" || return 1; done
+}
+
+# gate: runs `rt ci`, and leaves its counts and what it built.
 gate() {
   local status own counts
   own=$(compgen -G 'crates/*/out/rlib')
@@ -62,7 +69,7 @@ gate() {
   [ "$status" -eq 0 ] || [[ $counts != *" 0 failed" ]] || counts="${counts% 0 failed} 1 failed"
   echo "$counts" > "$work/gate.counts"
   [[ $counts == *" 0 failed" ]] || return 1
-  install -D crates/polytwkb/out/polytwkb bin/polytwkb || { echo "${counts% 0 failed} 1 failed" > "$work/gate.counts"; return 1; }
+  take_programs || { echo "${counts% 0 failed} 1 failed" > "$work/gate.counts"; return 1; }
   # Libraries of other runs were there, and are back: those of the gate are gone.
   [ -n "$own" ] || export PROVED=$PWD
 }

@@ -13,7 +13,7 @@ import sys
 HERE = os.path.dirname(os.path.abspath(__file__))
 CRATE = os.path.join(HERE, "..", "..", "crates", "vectors")
 BLOBS = os.path.join(HERE, "..", "postgis", "blobs.jsonl")
-ROWS = ["numbers", "polylines", "devices", "fields", "forms", "tables", "streams", "runs"]
+ROWS = ["numbers", "points", "polylines", "devices", "fields", "forms", "tables", "streams", "runs"]
 HEADER = "depth,kind,id,precision,polyline"
 KINDS = ["", "point", "linestring", "polygon", "multipoint", "multilinestring", "multipolygon", "collection"]
 BOX, SIZE, IDS, EXTENDED, EMPTY = 1, 2, 4, 8, 16

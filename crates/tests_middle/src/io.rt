@@ -1,8 +1,8 @@
-//! What no clause says about taps, endings and sinks: that calls succeed, and how often a device
-//! is called. Inputs and outputs are tested by the program `vectors`.
+//! What no clause says about taps, endings and copies: that calls succeed, and how often a device
+//! is called. Inputs, outputs and sinks are tested by the program `vectors`.
 use std::alloc::Global;
 use std::io::{Read, Write};
-use twkb_io::{Bytes, Count, Ending, Fuse, FuseEnd, Input, Sink, Tap, copy};
+use twkb_io::{Bytes, Ending, Fuse, FuseEnd, Input, Tap, copy};
 
 // Whether a read gives `count` bytes.
 fn reads<R: Read>(reader: &mut R, count: usize) -> bool {
@@ -42,27 +42,9 @@ fn writes_and_flushes<W: Write>(tap: &mut Tap<W>) -> bool {
 fn each_write_and_flush_of_a_tap_reaches_its_device_once(rt: HostRuntime) {
     let mut writer = Tap::new(Tap::new(Vec::new(rt.alloc())));
     let are_written = writes_and_flushes(&mut writer);
-    assert!(rt; are_written & (writer.calls() == 2) & (writer.into_inner().calls() == 2));
-}
-
-// Whether the bytes are taken, at the second put if the first is refused, and then counted.
-fn takes(bytes: &mut Bytes, count: &mut Count, part: &[u8]) -> bool {
-    if bytes.put(part).is_err() && bytes.put(part).is_err() {
-        return false;
-    }
-    count.put(part).is_ok()
-}
-
-// If memory is refused at any growth, the bytes taken are kept, and a later put goes on from there.
-#[test]
-fn a_refused_put_keeps_what_was_taken(rt: HostRuntime) {
-    let mut bytes = Bytes::new(rt.alloc());
-    let mut count = Count::new();
-    let is_taken = takes(&mut bytes, &mut count, &[1; 40])
-        & takes(&mut bytes, &mut count, &[2; 4000]);
-    let kept = bytes.into_vec();
-    let is_kept = (count.total() == 4040) & (kept.len() == 4040);
-    assert!(rt; is_taken & is_kept & kept.starts_with(&[1; 40]) & kept.ends_with(&[2; 4000]));
+    let is_counted = writer.calls() == 2;
+    let device = writer.into_inner();
+    assert!(rt; are_written & is_counted & (device.calls() == 2) & !device.has_unflushed());
 }
 
 // Whether all bytes of a device are copied.

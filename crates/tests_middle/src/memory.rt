@@ -1,12 +1,12 @@
-//! Copies, flat forms and blobs of geometries, with memory and with memory refused. Run with each
-//! allocation refused in turn (`rt try --test --fail-alloc N`) too: an answer is then the right
+//! Copies, flat forms and blobs of geometries, sinks that keep bytes, and room that is used again:
+//! with memory, and with each growth refused in turn (`make hostile`), where an answer is the right
 //! one or want of memory.
 use crate::fixtures::{
     NINE_COLLECTIONS, POINT_AND_LINE, THREE_PRECISIONS, TWO_POLYGONS, form, geometry,
 };
 use std::alloc::Global;
 use twkb_geom::{Flat, Geometry, Kind, Limits, Row, Work};
-use twkb_io::Count;
+use twkb_io::{Bytes, Count, Sink};
 use twkb_points::Pt;
 use twkb_polyline::decode;
 use twkb_writer::{
@@ -109,24 +109,6 @@ fn form_is_written(alloc: Global, if_refused: bool) -> bool {
     (flat.is_empty() & if_refused) || is_written(alloc, &flat, if_refused)
 }
 
-// Whether three geometries pass all these tests.
-fn all_hold(alloc: Global, if_refused: bool) -> bool {
-    let are_polygons = holds(alloc, TWO_POLYGONS, (11, 16), if_refused);
-    let are_members = holds(alloc, POINT_AND_LINE, (11, 18), if_refused);
-    let are_nested = holds(alloc, THREE_PRECISIONS, (14, 18), if_refused);
-    are_polygons & are_members & are_nested & form_is_written(alloc, if_refused)
-}
-
-#[test]
-fn copies_forms_and_blobs_are_those_of_their_geometry(rt: HostRuntime) {
-    assert!(rt; all_hold(rt.alloc(), false));
-}
-
-#[test]
-fn each_growth_may_be_refused(rt: HostRuntime) {
-    assert!(rt; all_hold(rt.alloc(), true));
-}
-
 // Whether a form that held more rows takes a point's row, and then that row in its place, without
 // asking for memory.
 fn takes_rows_again(flat: &mut Flat, own: &mut Vec<Pt>) -> bool {
@@ -144,14 +126,12 @@ fn takes_rows_again(flat: &mut Flat, own: &mut Vec<Pt>) -> bool {
     is_pushed & flat.begin(row, own).is_ok() & (flat.point_count() == 1)
 }
 
-#[test]
-fn rows_in_place_of_others_ask_for_no_growth(rt: HostRuntime) {
-    let mut flat = form(rt.alloc(), TWO_POLYGONS);
-    if !flat.is_empty() {
-        if let Ok(mut own) = decode(rt.alloc(), b"AC", 1) {
-            assert!(rt; takes_rows_again(&mut flat, &mut own));
-        }
-    }
+// Whether the form of a blob takes a row in place of its rows so; `if_refused` is the answer if
+// memory was refused before.
+fn is_used_again(alloc: Global, if_refused: bool) -> bool {
+    let mut flat = form(alloc, TWO_POLYGONS);
+    let mut own = decode(alloc, b"AC", 1).unwrap_or(Vec::new(alloc));
+    ((flat.is_empty() | own.is_empty()) & if_refused) || takes_rows_again(&mut flat, &mut own)
 }
 
 // Memory reused from one geometry to the next.
@@ -181,27 +161,66 @@ fn is_done(flat: &Flat, style: Style, room: &mut Room) -> bool {
 }
 
 // Whether the other form is measured and written without asking for memory after the largest one
-// was, and then in another style.
-fn asks_for_no_growth(alloc: Global, largest: &Flat, other: &Flat) -> bool {
+// was, and then in another style; `if_refused` is the answer if memory was refused before.
+fn grows_no_more_for(largest: &Flat, other: &Flat, room: &mut Room, if_refused: bool) -> bool {
+    if largest.is_empty() | other.is_empty() || !is_done(largest, Style::Full, room) {
+        return if_refused;
+    }
+    is_done(other, Style::Full, room) & is_done(largest, Style::Plain, room)
+}
+
+// Whether room that has grown for a form grows no more for a smaller one.
+fn room_grows_no_more(alloc: Global, if_refused: bool) -> bool {
     let mut room = Room {
         depths: Depths::new(),
         sizes: Sizes::new(alloc),
         piece: Piece::new(),
     };
-    if !is_done(largest, Style::Full, &mut room) {
-        return true;
-    }
-    is_done(other, Style::Full, &mut room) & is_done(largest, Style::Plain, &mut room)
+    let largest = form(alloc, NINE_COLLECTIONS);
+    let other = form(alloc, TWO_POLYGONS);
+    grows_no_more_for(&largest, &other, &mut room, if_refused)
+}
+
+// Bytes of two puts, of which the second takes more room than comes with the first.
+const FIRST: &[u8] = &[1; 40];
+
+const SECOND: &[u8] = &[2; 4000];
+
+// The bytes that were put, if they were taken.
+fn taken(bytes: &[u8], is_taken: bool) -> &[u8] {
+    if is_taken { bytes } else { &[] }
+}
+
+// Whether a sink keeps those of two puts that it took; `if_refused` is the answer if it took fewer
+// than both.
+fn keeps_what_was_put(alloc: Global, if_refused: bool) -> bool {
+    let mut bytes = Bytes::new(alloc);
+    let has_first = bytes.put(FIRST).is_ok();
+    let has_second = bytes.put(SECOND).is_ok();
+    let kept = bytes.into_vec();
+    let (first, second) = (taken(FIRST, has_first), taken(SECOND, has_second));
+    let is_all = kept.len() == first.len() + second.len();
+    let is_kept = is_all & kept.starts_with(first) & kept.ends_with(second);
+    is_kept & (if_refused | (has_first & has_second))
+}
+
+// Whether three geometries pass all these tests, and bytes and room do.
+fn all_hold(alloc: Global, if_refused: bool) -> bool {
+    let are_polygons = holds(alloc, TWO_POLYGONS, (11, 16), if_refused);
+    let are_members = holds(alloc, POINT_AND_LINE, (11, 18), if_refused);
+    let are_nested = holds(alloc, THREE_PRECISIONS, (14, 18), if_refused);
+    let are_written = form_is_written(alloc, if_refused) & keeps_what_was_put(alloc, if_refused);
+    let is_room = is_used_again(alloc, if_refused) & room_grows_no_more(alloc, if_refused);
+    are_polygons & are_members & are_nested & are_written & is_room
 }
 
 #[test]
-fn room_that_has_grown_grows_no_more(rt: HostRuntime) {
-    let alloc = rt.alloc();
-    assert!(rt;
-        asks_for_no_growth(
-            alloc,
-            &form(alloc, NINE_COLLECTIONS),
-            &form(alloc, TWO_POLYGONS)
-        )
-    );
+fn copies_forms_and_blobs_are_those_of_their_geometry(rt: HostRuntime) {
+    assert!(rt; all_hold(rt.alloc(), false));
+}
+
+// The same where a growth is refused: by itself this test asks for less than the one before.
+#[test]
+fn each_growth_may_be_refused(rt: HostRuntime) {
+    assert!(rt; all_hold(rt.alloc(), true));
 }

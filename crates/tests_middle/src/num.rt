@@ -1,9 +1,9 @@
-//! The units of both alphabets, and the laws. Vectors of numbers are those of the program `vectors`.
+//! The units of both alphabets. Vectors of numbers are those of the program `vectors`.
 ghost use Rattle.std.specs.Prelude.{◌<◌, ◌^◌};
 
 use twkb_num::{
-    Five, Four, Groups, Leb128, Piece, character_ends, four_characters, four_varints, laws,
-    varint_ends, zigzag,
+    Five, Four, Groups, Leb128, Piece, character_ends, four_characters, four_varints, varint_ends,
+    zigzag,
 };
 
 // Whether this is the unit of a group that says that more follow, both ways, and the alphabet has
@@ -76,7 +76,6 @@ fn a_piece_gathers_bytes(rt: HostRuntime) {
     assert!(rt; is_gathered & has_room & piece.as_slice().is_empty());
 }
 
-// The laws do nothing when they run.
 // The ends of 63 numbers of a unit each.
 const ALL_ENDS: u64 = (1 << 63) - 1;
 
@@ -107,20 +106,4 @@ fn characters_have_ends() -> bool {
 #[test]
 fn a_block_has_the_ends_of_its_numbers(rt: HostRuntime) {
     assert!(rt; bytes_have_ends() & characters_have_ends());
-}
-
-#[test]
-fn laws_return(_rt: HostRuntime) {
-    laws::one_form();
-    laws::zigzag_undone();
-    laws::one_spelling::<Leb128>();
-    laws::shortest_spells::<Leb128>();
-    laws::none_shorter::<Leb128>();
-    laws::one_answer::<Leb128>();
-    laws::due_answers::<Leb128>();
-    laws::open_units_end::<Five>();
-    laws::refused_units_end::<Five>();
-    laws::varints();
-    laws::long_varints();
-    laws::samples();
 }

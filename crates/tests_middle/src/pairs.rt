@@ -1,5 +1,5 @@
-//! Two points at once, and eight: read at the start of bytes; two added to a flat form. Run with
-//! each allocation refused in turn (`rt try --test --fail-alloc N`) too.
+//! Two points at once, and eight: read at the start of bytes; two added to a flat form, also with
+//! each growth refused in turn (`make hostile`).
 use crate::fixtures::form;
 use crate::num::STEPS;
 use std::alloc::Global;

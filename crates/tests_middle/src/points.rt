@@ -1,6 +1,6 @@
-//! The range of points, a cursor that stays, lists both ways, boxes that are joined, and the laws.
+//! The range of points, a cursor that stays, lists both ways, and boxes that are joined.
 use std::alloc::Global;
-use twkb_points::{Bounds, Cursor, Pt, laws, merged, to_differences, to_points};
+use twkb_points::{Bounds, Cursor, Pt, merged, to_differences, to_points};
 use twkb_polyline::decode;
 
 // 2^62, the first number above the range of a coordinate.
@@ -81,16 +81,4 @@ fn are_measured(alloc: Global) -> bool {
 #[test]
 fn boxes_and_differences_of_a_list(rt: HostRuntime) {
     assert!(rt; are_measured(rt.alloc()));
-}
-
-// The laws do nothing when they run.
-#[test]
-fn laws_are_calls(_rt: HostRuntime) {
-    laws::differences_by_place();
-    laws::there_and_back();
-    laws::one_list();
-    laws::extent_by_bounds();
-    laws::extents_join();
-    laws::spans_join();
-    laws::box_by_bounds();
 }

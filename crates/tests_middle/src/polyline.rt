@@ -1,8 +1,9 @@
-//! Want of memory, the text of its fault, and the laws. Vectors of polylines are those of the program `vectors`.
+//! Want of memory, points in blocks and points one by one. Vectors of polylines are those of the
+//! program `vectors`.
 use std::alloc::Global;
 use twkb_num::Piece;
 use twkb_points::Pt;
-use twkb_polyline::{PolyFault, decode, decode_into, encode, encode_into, encode_point, laws};
+use twkb_polyline::{PolyFault, decode, decode_into, encode, encode_into, encode_point};
 
 // Far points, whose text grows more than once, and near ones, of which there are more.
 const FAR: &[u8] = b"A____________CA~~~~~~~~~~~~FA____________G";
@@ -151,14 +152,4 @@ fn one_point_is_encoded_behind_a_byte(rt: HostRuntime) {
     }
     let wanted: &[u8] = b",_p~iF~ps|U";
     assert!(rt; piece.as_slice() == wanted);
-}
-
-#[test]
-fn laws_can_be_called() {
-    laws::distinct_lists();
-    laws::no_polyline();
-    laws::one_fault();
-    laws::polyline_or_fault();
-    laws::samples();
-    laws::too_long_numbers();
 }

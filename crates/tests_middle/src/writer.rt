@@ -1,4 +1,4 @@
-//! Sinks that refuse a put, and the law of sizes. Blobs of tables are those of the program `vectors`.
+//! Sinks that refuse a put, and lengths at their thresholds. Blobs of tables are those of the
+//! program `vectors`.
 mod failing;
-mod laws;
 mod thresholds;

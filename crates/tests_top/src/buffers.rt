@@ -156,7 +156,7 @@ fn fills_or_lacks(alloc: Global, worked: &Worked) -> bool {
     is_front & is_told
 }
 
-// Run with each growth refused in turn (`rt try --test --fail-alloc N`) too.
+// Run with each growth refused in turn (`make hostile`) too.
 #[test]
 fn a_refused_growth_is_want_of_memory_after_the_first_bytes_of_the_output(rt: HostRuntime) {
     for worked in &WORKED {

@@ -52,10 +52,17 @@ struct Ended {
     errors: Vec<u8>,
 }
 
-// Runs the words of a line over devices that pass one byte a call.
-fn run_over(alloc: Global, line: &str, input: &[u8], failing: Failing, told: u64) -> Ended {
+// Runs the words of a line over devices that pass one byte a call; the writer fills an empty room.
+fn run_over(
+    alloc: Global,
+    line: &str,
+    input: &[u8],
+    failing: Failing,
+    told: u64,
+    room: Vec<u8>,
+) -> Ended {
     let mut reader = cut_reader(input, failing.given);
-    let mut writer = cut_writer(Vec::new(alloc), failing);
+    let mut writer = cut_writer(room, failing);
     let mut errors = short_writer(alloc, told);
     let mut words = Vec::new(alloc);
     let status = if put_words(alloc, line, &mut words) {

@@ -13,8 +13,6 @@ mod convert;
 #[cfg(test)]
 mod devices;
 #[cfg(test)]
-mod laws;
-#[cfg(test)]
 mod table;
 #[cfg(test)]
 mod texts;

@@ -11,6 +11,10 @@ device_of tap = tap.device
 abbrev pub calls_of : {D : Type 0} → Tap D → ℕ
 calls_of tap = tap.calls
 
+-- the number of flushes passed on so far
+abbrev pub flushes_of : {D : Type 0} → Tap D → ℕ
+flushes_of tap = tap.flushes
+
 -- the number of calls that failed so far
 abbrev pub failures_of : {D : Type 0} → Tap D → ℕ
 failures_of tap = tap.failures

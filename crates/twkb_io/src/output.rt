@@ -70,16 +70,18 @@ impl<'a, W> Output<'a, W> {
 }
 
 impl<'a, W: Write> Output<'a, W> {
-    ghost use Rattle.twkb_io.specs.Taps.{calls_of, has_unflushed, is_stuck, one_call};
+    ghost use Rattle.twkb_io.specs.Taps.{calls_of, flushes_of, has_unflushed, is_stuck, one_call};
     ghost use Rattle.twkb_io.specs.Outputs.{Refused, Took, is_device, is_of_stuck, is_spent, output_tap, sent_of};
 
-    /// Flushes the writer. After an `Err` each later put or flush returns `Spent`.
+    /// Flushes the writer, once. After an `Err` each later put or flush returns `Spent`.
     pub fn flush(&mut self) -> Result<(), OutFault>
         ensures ok { OnOk result (Took W.contents self.old [] self.new) }
         ensures err { IfErr result (λ fault. Refused W.contents self.old [] fault self.new) }
         ensures flushed { OnOk result (has_unflushed (output_tap self.new).now ≡ false) }
         ensures asks { is_spent self.old ≡ false → calls_of (output_tap self.new).now ≡ one_call
             (calls_of (output_tap self.old).now) }
+        ensures flushes { is_spent self.old ≡ false → flushes_of (output_tap self.new).now ≡ one_call
+            (flushes_of (output_tap self.old).now) }
         ensures spent { (result ≡ Err OutFault.Spent) ↔ (is_spent self.old ≡ true) }
         ensures kinds { (result ≢ Err OutFault.Stuck) × (result ≢ Err OutFault.TooLong) }
         ensures unchanged { is_spent self.old ≡ true → self.new ≡ self.old }
@@ -103,6 +105,7 @@ impl<'a, W: Write> Output<'a, W> {
         ensures ok { IfOk result (λ n. Took W.contents self.old (take n bytes.now) self.new) }
         ensures err { IfErr result (λ fault. Refused W.contents self.old [] fault self.new × (is_device fault ≡ true)) }
         ensures told { IfErr result (λ fault. is_of_stuck fault ≡ is_stuck (output_tap self.new).now) }
+        ensures flushes { flushes_of (output_tap self.new).now ≡ flushes_of (output_tap self.old).now }
     {
         match self.tap.write(bytes) {
             Ok(0) => {
@@ -122,7 +125,7 @@ impl<'a, W: Write> Output<'a, W> {
 }
 
 impl<'a, W: Write> Sink for Output<'a, W> {
-    ghost use Rattle.twkb_io.specs.Taps.{is_stuck};
+    ghost use Rattle.twkb_io.specs.Taps.{flushes_of, is_stuck};
     ghost use Rattle.twkb_io.specs.Outputs.{Cut, Took, is_device, is_of_stuck, is_spent, output_tap, sent_of};
     ghost use Rattle.twkb_io.specs.OutputLaws.{cut_join, cut_within, took_join, took_nothing};
 
@@ -144,8 +147,8 @@ impl<'a, W: Write> Sink for Output<'a, W> {
 
     ghost adds_no_more = { cut_within W.contents };
 
-    /// Sends the bytes, with as many writes as the writer needs. After an `Err` each later put or
-    /// flush returns `Spent`.
+    /// Sends the bytes, with as many writes as the writer needs, and no flush. After an `Err` each
+    /// later put or flush returns `Spent`.
     fn put(&mut self, bytes: &[u8]) -> Result<(), OutFault>
         ensures ok { OnOk result (Took W.contents self.old bytes.now self.new) }
         ensures err { IfErr result (λ fault. TookFront (Cut W.contents) self.old bytes.now fault self.new) }
@@ -158,6 +161,7 @@ impl<'a, W: Write> Sink for Output<'a, W> {
         ensures unchanged { is_spent self.old ≡ true → self.new ≡ self.old }
         ensures told { IfErr result (λ fault. is_device fault ≡ true
             → is_of_stuck fault ≡ is_stuck (output_tap self.new).now) }
+        ensures flushes { flushes_of (output_tap self.new).now ≡ flushes_of (output_tap self.old).now }
         ensures short { OnErr result (0 < length bytes.now → sent_of self.new < sent_of self.old + length bytes.now) }
     {
         if self.spent {

@@ -6,14 +6,15 @@ ghost use Rattle.std.specs.Io.KnownBytes.{Keeps, ReadConsumes, WriteAppends};
 use std::io;
 use std::io::{Read, Write};
 
-/// A reader or a writer with counts of its calls, of the calls that failed and of the bytes that
-/// it gave. It also knows whether it took bytes after its last flush, and whether its last write
+/// A reader or a writer with counts of its calls, of its flushes, of the calls that failed and of
+/// the bytes that it gave. It also knows whether it took bytes after its last flush, and whether its last write
 /// took none. Each read, write and flush is passed on once, and answered as the device answers
 /// it. Takes no memory itself.
 #[derive(Drop)]
 pub struct Tap<D> {
     device: D,
     calls: u64,
+    flushes: u64,
     failures: u64,
     given: u64,
     unflushed: bool,
@@ -22,12 +23,13 @@ pub struct Tap<D> {
 
 impl<D> Tap<D> {
     ghost use Rattle.twkb_io.specs.Taps.{bytes_given, calls_of, count_failure, device_of};
-    ghost use Rattle.twkb_io.specs.Taps.{failures_of, has_unflushed, is_stuck, one_call};
+    ghost use Rattle.twkb_io.specs.Taps.{failures_of, flushes_of, has_unflushed, is_stuck, one_call};
 
     /// Wraps a device of which no call has failed yet.
     pub fn new(device: D) -> Tap<D>
         ensures device { device_of result ≡ device }
         ensures calls { calls_of result ≡ 0 }
+        ensures flushes { flushes_of result ≡ 0 }
         ensures failures { failures_of result ≡ 0 }
         ensures given { bytes_given result ≡ 0 }
         ensures flushed { has_unflushed result ≡ false }
@@ -35,6 +37,7 @@ impl<D> Tap<D> {
         Tap {
             device,
             calls: 0,
+            flushes: 0,
             failures: 0,
             given: 0,
             unflushed: false,
@@ -80,6 +83,7 @@ impl<D> Tap<D> {
     // Counts a call, and its failure if it failed.
     fn count(&mut self, has_failed: bool)
         ensures calls { calls_of self.new ≡ one_call (calls_of self.old) }
+        ensures flushes { flushes_of self.new ≡ flushes_of self.old }
         ensures failures { failures_of self.new ≡ count_failure has_failed (failures_of self.old) }
         ensures device { device_of self.new ≡ device_of self.old }
         ensures given { bytes_given self.new ≡ bytes_given self.old }
@@ -117,7 +121,7 @@ impl<D: Read> Read for Tap<D> {
 }
 
 impl<D: Write> Write for Tap<D> {
-    ghost use Rattle.twkb_io.specs.Taps.{calls_of, count_failure, device_of, failures_of};
+    ghost use Rattle.twkb_io.specs.Taps.{calls_of, count_failure, device_of, failures_of, flushes_of};
     ghost use Rattle.twkb_io.specs.Taps.{has_unflushed, is_stuck, one_call, takes_none, takes_some};
     ghost use Rattle.twkb_io.specs.Taps.{write_failed};
 
@@ -128,6 +132,7 @@ impl<D: Write> Write for Tap<D> {
         ensures bytes { WriteAppends (D.contents (device_of self.old))
             (D.contents (device_of self.new)) result buf.now }
         ensures calls { calls_of self.new ≡ one_call (calls_of self.old) }
+        ensures flushes { flushes_of self.new ≡ flushes_of self.old }
         ensures failures { failures_of self.new ≡ count_failure (write_failed result buf.now) (failures_of self.old) }
         ensures unflushed { has_unflushed self.new ≡ has_unflushed self.old || takes_some result }
         ensures stuck { is_stuck self.new ≡ takes_none result buf.now }
@@ -151,9 +156,11 @@ impl<D: Write> Write for Tap<D> {
         ensures bytes { Keeps (D.contents (device_of self.old)) (D.contents (device_of self.new)) }
         ensures calls { calls_of self.new ≡ one_call (calls_of self.old) }
         ensures failures { failures_of self.new ≡ count_failure (is_err result) (failures_of self.old) }
+        ensures flushes { flushes_of self.new ≡ one_call (flushes_of self.old) }
         ensures unflushed { has_unflushed self.new ≡ is_err result && has_unflushed self.old }
     {
         let flushed = self.device.flush();
+        self.flushes = self.flushes.saturating_add(1);
         self.unflushed = flushed.is_err() & self.unflushed;
         self.count(flushed.is_err());
         flushed

@@ -1,8 +1,8 @@
 //! Inputs and outputs over devices that are cut or fail.
-use super::text::{count_of, cut_word, number_of, put, put_counts, put_hex, put_shown};
+use super::text::{bytes_of, count_of, cut_word, number_of, put, put_counts, put_hex, put_shown};
 use std::alloc::Global;
 use std::io::{Read, Write};
-use twkb_io::{Fuse, FuseEnd, InFault, Input, OutFault, Output, Sink, Tap};
+use twkb_io::{Bytes, Count, Fuse, FuseEnd, InFault, Input, OutFault, Output, Sink, Tap};
 
 // Makes a device as words describe it, and returns the rest of the words: the most bytes a call,
 // the most in all, and how it ends.
@@ -55,23 +55,39 @@ fn put_done(alloc: Global, answer: Result<(), OutFault>, text: &mut Vec<u8>) {
     }
 }
 
-// Prints the answers to three puts and two flushes, then the numbers of bytes sent and of failures.
-fn put_puts<W: Write>(alloc: Global, tap: &mut Tap<W>, text: &mut Vec<u8>) {
+// Prints the answers to calls: the digits of a put, `none` for one without bytes, or `flush`; then
+// the numbers of bytes sent and of failures.
+fn put_puts<W: Write>(alloc: Global, tap: &mut Tap<W>, calls: &str, text: &mut Vec<u8>) {
     let mut output = Output::new(tap);
-    put_done(alloc, output.put(&[]), text);
-    put_done(alloc, output.put(&[1, 2]), text);
-    put_done(alloc, output.put(&[3, 4, 5, 6]), text);
-    put_done(alloc, output.flush(), text);
-    put_done(alloc, output.flush(), text);
+    for call in calls.split(' ') {
+        let answer = if call == "flush" {
+            output.flush()
+        } else {
+            output.put(&bytes_of(alloc, call))
+        };
+        put_done(alloc, answer, text);
+    }
     put_counts(alloc, text, b";", &[output.sent(), output.failures()]);
 }
 
 /// Prints the answers of an output over a device, the numbers of bytes sent and of failures, the
 /// calls of the device, and what it took.
 pub fn put_output(alloc: Global, words: &str, text: &mut Vec<u8>) {
-    let (mut tap, _) = cut_device(Vec::new(alloc), words);
+    let (mut tap, calls) = cut_device(Vec::new(alloc), words);
     put(text, b"\n  output");
-    put_puts(alloc, &mut tap, text);
+    put_puts(alloc, &mut tap, calls, text);
     put_shown(alloc, text, b" ", &tap.calls());
     put_hex(alloc, text, &tap.into_inner().into_inner());
+}
+
+/// Prints how many bytes a sink counts of these puts, and the bytes that another keeps.
+pub fn put_sinks(alloc: Global, puts: &str, text: &mut Vec<u8>) {
+    let mut count = Count::new();
+    let mut kept = Bytes::new(alloc);
+    for digits in puts.split(' ') {
+        let bytes = bytes_of(alloc, digits);
+        let _are_put = count.put(&bytes).is_ok() & kept.put(&bytes).is_ok();
+    }
+    put_counts(alloc, text, b"\n  sinks", &[count.total()]);
+    put_hex(alloc, text, &kept.into_vec());
 }

@@ -1,11 +1,15 @@
 //! The words that begin a line of the input.
+use super::admitting::put_admitted;
+use super::calls::{put_blob_calls, put_table_calls};
 use super::conversions::{put_all, put_conversion};
-use super::devices::{put_input, put_output};
+use super::devices::{put_input, put_output, put_sinks};
 use super::fields::put_field;
 use super::forms::{put_form, put_tree};
 use super::numbers::{put_number, put_units, put_zigzag};
+use super::points::{put_box, put_cursor};
 use super::polylines::{put_polyline_of_bytes, put_polyline_of_text};
 use super::runs::{put_request, put_run};
+use super::sessions::{put_encoded, put_session};
 use super::streams::{put_located, put_read};
 use super::tables::{put_rows_table, put_table};
 use super::text::{bytes_of, count_of, cut_word, lines_of};
@@ -25,49 +29,65 @@ enum Word {
     Full,
     Plain,
     Table,
+    TableCalls,
     /// Digits of bytes, in hexadecimal.
     Blob,
     Read,
     Show,
     Unpack,
+    BlobCalls,
+    Encoded,
     Units,
     Characters,
     FieldOfBytes,
     /// Words.
     Number,
     Zigzag,
+    Cursor,
+    Box,
     Polyline,
     PolylineOfBytes,
     Field,
     Input,
     Output,
+    Sinks,
+    Session,
+    Admits,
     Run,
     Words,
     /// A comment: the line is only printed.
     Comment,
 }
 
-const WORDS: [(&str, Word); 22] = [
+const WORDS: [(&str, Word); 30] = [
     ("limits", Word::Limits),
     ("geometry", Word::Geometry),
     ("form", Word::Form),
     ("full", Word::Full),
     ("plain", Word::Plain),
     ("table", Word::Table),
+    ("table_calls", Word::TableCalls),
     ("blob", Word::Blob),
     ("read", Word::Read),
     ("show", Word::Show),
     ("unpack", Word::Unpack),
+    ("blob_calls", Word::BlobCalls),
+    ("encode", Word::Encoded),
     ("bytes", Word::Units),
     ("characters", Word::Characters),
     ("field_of_bytes", Word::FieldOfBytes),
     ("number", Word::Number),
     ("zigzag", Word::Zigzag),
+    ("cursor", Word::Cursor),
+    ("box", Word::Box),
     ("polyline", Word::Polyline),
     ("polyline_of_bytes", Word::PolylineOfBytes),
     ("field", Word::Field),
     ("input", Word::Input),
     ("output", Word::Output),
+    ("sinks", Word::Sinks),
+    ("session", Word::Session),
+    ("admits", Word::Admits),
     ("run", Word::Run),
     ("words", Word::Words),
 ];
@@ -99,6 +119,7 @@ fn answer_lines(alloc: Global, limits: Limits, what: Word, lines: &[u8], text: &
         Word::Full => put_rows_table(alloc, Style::Full, limits, lines, text),
         Word::Plain => put_rows_table(alloc, Style::Plain, limits, lines, text),
         Word::Table => put_table(alloc, Style::Full, limits, lines, text),
+        Word::TableCalls => put_table_calls(alloc, lines, text),
         _ => {}
     }
 }
@@ -121,6 +142,8 @@ fn answer_bytes(alloc: Global, limits: Limits, what: Word, bytes: &[u8], text: &
         Word::Read => put_read(alloc, limits, bytes, text),
         Word::Show => put_shown_stream(alloc, limits, bytes, text),
         Word::Unpack => put_unpacked(alloc, limits, bytes, text),
+        Word::BlobCalls => put_blob_calls(alloc, bytes, text),
+        Word::Encoded => put_encoded(alloc, bytes, text),
         Word::Units => put_units::<Leb128>(alloc, bytes, text),
         Word::Characters => put_units::<Five>(alloc, bytes, text),
         Word::FieldOfBytes => put_field(alloc, bytes, text),
@@ -133,11 +156,16 @@ fn answer_words(alloc: Global, what: Word, rest: &str, text: &mut Vec<u8>) {
     match what {
         Word::Number => put_number(alloc, rest, text),
         Word::Zigzag => put_zigzag(alloc, rest, text),
+        Word::Cursor => put_cursor(alloc, rest, text),
+        Word::Box => put_box(alloc, rest, text),
         Word::Polyline => put_polyline_of_text(alloc, rest, text),
         Word::PolylineOfBytes => put_polyline_of_bytes(alloc, rest, text),
         Word::Field => put_field(alloc, rest.as_bytes(), text),
         Word::Input => put_input(alloc, rest, text),
         Word::Output => put_output(alloc, rest, text),
+        Word::Sinks => put_sinks(alloc, rest, text),
+        Word::Session => put_session(alloc, rest, text),
+        Word::Admits => put_admitted(alloc, rest, text),
         Word::Run => put_run(alloc, rest, text),
         Word::Words => put_request(alloc, rest, text),
         _ => {}

@@ -1,14 +1,18 @@
 //! Reads lines, and prints each with its answers after it.
 #![tactic(auto)]
 
+mod admitting;
+mod calls;
 mod conversions;
 mod devices;
 mod fields;
 mod forms;
 mod lines;
 mod numbers;
+mod points;
 mod polylines;
 mod runs;
+mod sessions;
 mod streams;
 mod tables;
 mod text;

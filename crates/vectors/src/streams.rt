@@ -8,7 +8,7 @@ use twkb_io::{Bytes, Input, Tap};
 
 /// How a stream is read.
 #[derive(Clone, Copy)]
-enum Way {
+pub enum Way {
     Trees,
     Located,
     Rows,
@@ -86,8 +86,8 @@ fn read_rows<R: Read>(
     read
 }
 
-// Reads the next geometry in this way, appends the result, and returns whether there was one.
-fn read_next<R: Read>(
+/// Reads the next geometry in this way, appends the result, and returns whether there was one.
+pub fn read_next<R: Read>(
     alloc: Global,
     way: Way,
     reader: &mut Reader<'_, R>,
@@ -133,8 +133,9 @@ fn read_by(
     read_device(alloc, way, limits, &mut Tap::new(bytes), most, found)
 }
 
-// Feeds a piece, appends the full blob of a tree that it ends, and returns the number of bytes used.
-fn feed_tree(
+/// Feeds a piece, appends the full blob of the tree that ends in it, and returns the number of
+/// bytes used.
+pub fn feed_tree(
     alloc: Global,
     session: &mut Session,
     piece: &[u8],
@@ -151,7 +152,8 @@ fn feed_tree(
     }
 }
 
-// Feeds a piece, appends the full blob of rows that it ends, and returns the number of bytes used.
+// Feeds a piece, appends the full blob of the rows that end in it, and returns the number of bytes
+// used.
 fn feed_rows(
     alloc: Global,
     session: &mut Session,
@@ -212,6 +214,61 @@ fn feed_by(
     feed_all(alloc, way, &mut session, length, bytes, found)
 }
 
+// Feeds a piece, and what is unused of it again, until all of it is used.
+fn feed_again(
+    alloc: Global,
+    way: Way,
+    session: &mut Session,
+    piece: &[u8],
+    found: &mut Vec<u8>,
+) -> Option<BlobFault> {
+    let mut rest = piece;
+    for _ in 0..piece.len() {
+        if !rest.is_empty() {
+            match feed(alloc, way, session, rest, found) {
+                Ok(used) => rest = &rest[used.min(rest.len())..],
+                Err(fault) => return Some(fault),
+            }
+        }
+    }
+    None
+}
+
+// Feeds a new session the bytes before a place, and then those after it.
+fn feed_halves(
+    alloc: Global,
+    way: Way,
+    limits: Limits,
+    halves: (&[u8], &[u8]),
+    found: &mut Vec<u8>,
+) -> Option<BlobFault> {
+    let mut session = Session::new(alloc, limits);
+    let (first, second) = halves;
+    if let Some(fault) = feed_again(alloc, way, &mut session, first, found) {
+        return Some(fault);
+    }
+    if let Some(fault) = feed_again(alloc, way, &mut session, second, found) {
+        return Some(fault);
+    }
+    session.finish().err()
+}
+
+// Whether a stream that is cut in two at this place gives these blobs and this fault, by trees and
+// by rows.
+fn halves_give(
+    alloc: Global,
+    limits: Limits,
+    halves: (&[u8], &[u8]),
+    blobs: &[u8],
+    fault: Option<BlobFault>,
+) -> bool {
+    let mut trees = Vec::new(alloc);
+    let mut rows = Vec::new(alloc);
+    let are_trees = feed_halves(alloc, Way::Trees, limits, halves, &mut trees) == fault;
+    let are_rows = feed_halves(alloc, Way::Rows, limits, halves, &mut rows) == fault;
+    are_trees & are_rows & (trees.as_slice() == blobs) & (rows.as_slice() == blobs)
+}
+
 // Whether pieces of this many bytes give these blobs and this fault, by trees and by rows.
 fn pieces_give(
     alloc: Global,
@@ -228,7 +285,8 @@ fn pieces_give(
     are_trees & are_rows & (trees.as_slice() == blobs) & (rows.as_slice() == blobs)
 }
 
-// Whether rows, and pieces of each length, give these blobs and this fault.
+// Whether rows, pieces of each length, and two pieces, cut at each place, give these blobs and this
+// fault.
 fn each_way_gives(
     alloc: Global,
     limits: Limits,
@@ -241,6 +299,8 @@ fn each_way_gives(
     is_given &= rows.as_slice() == blobs;
     for length in 1..bytes.len().saturating_add(1) {
         is_given &= pieces_give(alloc, limits, length, bytes, blobs, fault);
+        let halves = (&bytes[..length], &bytes[length..]);
+        is_given &= halves_give(alloc, limits, halves, blobs, fault);
     }
     is_given
 }

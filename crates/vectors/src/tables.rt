@@ -22,8 +22,8 @@ fn put_tree(geometry: &Geometry, rows: &mut Vec<u8>) {
     }
 }
 
-// Reads a tree, appends its rows, and returns whether there was one.
-fn read_tree<R: Read>(
+/// Reads a tree, appends its rows, and returns whether there was one.
+pub fn read_tree<R: Read>(
     reader: &mut TableReader<'_, R>,
     rows: &mut Vec<u8>,
 ) -> Result<bool, TableFault> {
@@ -38,8 +38,8 @@ fn read_tree<R: Read>(
     }
 }
 
-// Reads a flat form, appends its rows, and returns whether there was one.
-fn read_form<R: Read>(
+/// Reads a flat form, appends its rows, and returns whether there was one.
+pub fn read_form<R: Read>(
     reader: &mut TableReader<'_, R>,
     form: &mut Rows,
     rows: &mut Vec<u8>,

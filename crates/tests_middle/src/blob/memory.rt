@@ -1,5 +1,5 @@
-//! Want of memory. Run with each allocation refused in turn (`rt try --test --fail-alloc N`): an
-//! answer is then the right one or want of memory, and that is final.
+//! Want of memory. With each growth refused in turn (`make hostile`), an answer is the right one or
+//! want of memory, and that is final.
 use super::ways::{Way, fault_of, read_twice};
 use std::alloc::Global;
 use twkb_blob::{BlobFault, Session};
@@ -157,7 +157,7 @@ fn lends_bytewise(session: &mut Session, bytes: &[u8], rows: u32) -> bool {
 }
 
 #[test]
-fn a_session_whose_room_has_grown_grows_no_more(rt: HostRuntime) {
+fn a_session_makes_each_growth_once(rt: HostRuntime) {
     assert!(rt; grows_no_more(rt.alloc(), NAMED, 7) & grows_no_more(rt.alloc(), DEEP, 7));
     assert!(rt; grows_no_more(rt.alloc(), ALL_NAMED, 7) & grows_no_more(rt.alloc(), NEAR, 1));
     assert!(rt; grows_no_more_behind_bytes(rt.alloc(), NEAR, 1));

@@ -64,7 +64,8 @@ fn reads(limits: Limits, nest: u32, nodes: u32, points: u32) -> bool {
 fn limits_and_their_caps(rt: HostRuntime) {
     let made = Limits::try_new(8, 2, 1).unwrap_or(Limits::standard());
     let are_caps = reads(Limits::largest(), 32, 1 << 20, 1 << 24)
-        & Limits::try_new(33, 1, 0).is_none();
+        & Limits::try_new(33, 1, 0).is_none()
+        & Limits::try_new(0, 0, 0).is_none();
     assert!(rt; are_caps & reads(made, 8, 2, 1));
 }
 

@@ -67,7 +67,7 @@ const STREAM: Run = Run {
 // Readers that fail: for a stream after its complete blobs, for a table before a row, in it, and
 // after the last. In the last runs standard error takes three bytes, or standard output three
 // bytes of help; the status does not change.
-const RUNS: [Run; 24] = [
+const RUNS: [Run; 25] = [
     Run {
         taken: 0,
         output: b"",
@@ -86,8 +86,8 @@ const RUNS: [Run; 24] = [
     },
     Run {
         input: COLLECTION_TABLE,
-        taken: 6,
-        output: b"\x07\x07\x0F\x02\x00\x02",
+        taken: 7,
+        output: b"\x07\x07\x0F\x02\x00\x02\x00",
         ..PACKING
     },
     Run {
@@ -125,6 +125,11 @@ const RUNS: [Run; 24] = [
     },
     STREAM,
     Run { given: 9, ..STREAM },
+    Run {
+        input: b"\x01\x00\x04\x02",
+        given: 4,
+        ..STREAM
+    },
     Run {
         given: 10,
         output: POINT_TABLE,
@@ -220,7 +225,14 @@ fn ends(alloc: Global, run: &Run) -> bool {
     };
     is_due(
         run,
-        &run_over(alloc, run.line, run.input, failing, run.told),
+        &run_over(
+            alloc,
+            run.line,
+            run.input,
+            failing,
+            run.told,
+            Vec::new(alloc),
+        ),
     )
 }
 

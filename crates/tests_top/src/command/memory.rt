@@ -1,4 +1,4 @@
-//! Runs while memory is short: run with each growth refused in turn (`rt try --test --fail-alloc N`).
+//! Runs while memory is short: with each growth refused in turn (`make hostile`).
 use super::{COLLECTION_BLOB, COLLECTION_LINES, COLLECTION_TABLE, Ended, run_over};
 use crate::devices::{AMPLE, SOUND};
 use std::alloc::Global;
@@ -60,21 +60,31 @@ const RUNS: [Run; 7] = [
     },
 ];
 
-// Whether this may be the result of a run. Whichever growth is refused, the status is that of the
-// run with enough memory, that of want of memory or, if a writer in memory can't grow, that of a
-// failed write; and a prefix of the output was written. If there was no memory for the words,
-// nothing was run.
+const OUT_OF_MEMORY: &[u8] = b"polytwkb: out of memory\n";
+
+// Whether this may be the result of a run. Whichever growth is refused, a run ends as with enough
+// memory, or with status 4 after a prefix of its output, and with as much of its line as standard
+// error has memory for. If there was no memory for the words, nothing was run.
 fn may_end_so(run: &Run, ended: &Ended) -> bool {
     match ended.status {
-        Some(3 | 4) => run.output.starts_with(&ended.output),
+        Some(4) => {
+            run.output.starts_with(&ended.output) & OUT_OF_MEMORY.starts_with(&ended.errors)
+        }
         Some(found) => found == run.status && ended.output.as_slice() == run.output,
         None => ended.output.is_empty(),
     }
 }
 
-// Whether a run has one of its allowed results.
+// Whether a run has one of its allowed results. Its writer has room for the whole output, and so
+// no write fails.
 fn ends_short(alloc: Global, run: &Run) -> bool {
-    may_end_so(run, &run_over(alloc, run.line, run.input, SOUND, AMPLE))
+    match Vec::with_capacity(alloc, run.output.len()) {
+        Ok(room) => may_end_so(
+            run,
+            &run_over(alloc, run.line, run.input, SOUND, AMPLE, room),
+        ),
+        Err(_) => true,
+    }
 }
 
 #[test]

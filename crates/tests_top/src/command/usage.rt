@@ -17,7 +17,8 @@ fn names(ended: &Ended, named: &str) -> bool {
 
 // Whether a line is refused with a text that contains this word.
 fn is_refused(alloc: Global, line: &str, named: &str) -> bool {
-    names(&run_over(alloc, line, POINT_TABLE, SOUND, AMPLE), named)
+    let ended = run_over(alloc, line, POINT_TABLE, SOUND, AMPLE, Vec::new(alloc));
+    names(&ended, named)
 }
 
 // Whether a row, a line followed by the word that its text contains, is refused.

@@ -1,5 +1,5 @@
 //! Worked tables and streams between devices, with each read, each write and the flush failing in
-//! turn; and with little memory (`rt try --test --fail-alloc N`). The flush comes once, as the
+//! turn; and with each growth refused in turn (`make hostile`). The flush comes once, as the
 //! last call, and not after a refused write.
 use super::runs::{Ended, carried};
 use super::worked::{WORKED, Worked};
@@ -151,32 +151,26 @@ fn may_want(worked: &Worked, sent: usize) -> bool {
         || sent == worked.before
 }
 
-// Whether a conversion is complete, or reports want of memory after a prefix of the output, or a
-// failed write if the writer in memory may have to grow.
-fn is_whole_or_stops(worked: &Worked, found: &Ended, may_grow: bool) -> bool {
+// Whether a conversion is complete, or reports want of memory after a prefix of the output.
+fn is_whole_or_lacks(worked: &Worked, found: &Ended) -> bool {
     let sent = found.written.len();
     (sent == worked.output.len() && is_told(worked, found, sent, worked.stopped))
         || (may_want(worked, sent) && is_told(worked, found, sent, Some(Cause::Memory)))
-        || (may_grow && is_told(worked, found, sent, Some(Cause::WriteDevice)))
 }
 
-// Whether every refused growth is reported, for a writer that grows and for one that has room for
-// the whole output.
+// Whether every refused growth is want of memory, for a writer that has room for the whole output.
 fn growths_are_told(alloc: Global, worked: &Worked) -> bool {
-    let is_told = is_whole_or_stops(worked, &run(alloc, worked, SOUND), true);
     match Vec::with_capacity(alloc, worked.output.len()) {
         Ok(room) => {
             let found = carried(alloc, worked.what, worked.input, SOUND, room);
-            is_told && is_whole_or_stops(worked, &found, false)
+            is_whole_or_lacks(worked, &found)
         }
-        Err(_) => is_told,
+        Err(_) => true,
     }
 }
 
 #[test]
-fn a_refused_growth_is_want_of_memory_or_a_failed_write_behind_a_front_of_the_output(
-    rt: HostRuntime,
-) {
+fn a_refused_growth_is_want_of_memory_behind_a_front_of_the_output(rt: HostRuntime) {
     for worked in &WORKED {
         let are_told = growths_are_told(rt.alloc(), worked);
         assert!(rt; are_told, "{}", worked.name);

@@ -134,7 +134,7 @@ fn is_read(alloc: Global, table: &Table) -> bool {
     is_told && is_front(table, &outcome)
 }
 
-// Run with `rt try --test --fail-alloc N`: whichever growth is refused, it is reported, and the
+// Run with each growth refused in turn (`make hostile`) too: each is reported, and the
 // geometries before it are given.
 #[test]
 fn a_refused_growth_is_told(rt: HostRuntime) {

@@ -86,7 +86,7 @@ fn the_writer_of_csv_and_the_direct_printer_give_the_same_rows(rt: HostRuntime) 
     assert!(rt; prints_alike(rt.alloc()) == Some(true));
 }
 
-// Run with `rt try --test --fail-alloc N`: whichever growth is refused, no wrong rows are given.
+// Run with each growth refused in turn (`make hostile`) too: no wrong rows are given.
 #[test]
 fn a_printer_that_is_refused_a_growth_says_so(rt: HostRuntime) {
     assert!(rt; prints_alike(rt.alloc()) != Some(false));

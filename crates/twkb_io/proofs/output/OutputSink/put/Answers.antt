@@ -38,6 +38,7 @@ loop-rest-preserved g c =
     let next = c.in_ok-taken.ensures.ok in
     record {
       fresh = next.spent ∙ c.loop-rest.invariant.fresh;
+      flushes = c.in_ok-taken.ensures.flushes ∙ c.loop-rest.invariant.flushes;
       room = room_left _ _ n _ rest c.loop-rest.invariant.room c.in_ok-taken.ensures.count.1 next.sends.sent;
       front = (
         front ++ take n rest,
@@ -72,6 +73,7 @@ returns-in_err-taken g c =
       untouched = λ same. absurd (no_device _ fault.TooLong told.err.1 refl (cc same));
       unchanged = λ was. absurd (not_both was c.if-self.false);
       told = λ _. told.told;
+      flushes = told.flushes ∙ c.loop-rest.invariant.flushes;
       short = λ _. cut_short g.W.Write.contents _ _ _ c.args.bytes.now front c.loop-rest.rest.now _
           whole some took told.err.0;
     }
@@ -89,6 +91,7 @@ returns-then-bytes-self g c = record {
   untouched = search rules;
   unchanged = search rules;
   told = search rules;
+  flushes = search rules;
   short = search rules;
 }
 

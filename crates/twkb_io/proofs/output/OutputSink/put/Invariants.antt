@@ -1,5 +1,6 @@
 use Rattle.std.proofs.Common.{◌≡◌, ◌+◌, ◌≤◌, ◌^◌, ◌++◌, List, ℕ, false, length}
-use Rattle.twkb_io.specs.Outputs.{Took, is_spent, sent_of}
+use Rattle.twkb_io.specs.Outputs.{Took, is_spent, output_tap, sent_of}
+use Rattle.twkb_io.specs.Taps.{flushes_of}
 use Rattle.twkb_io.proofs.output.OutputSink.put.Given as goal
 
 -- the writer took a prefix of the bytes, and the rest still fits
@@ -7,6 +8,7 @@ abbrev pub invariant-loop-rest : goal.invariant-loop-rest
 invariant-loop-rest g l =
     record {
       fresh : is_spent l.self ≡ false;
+      flushes : flushes_of (output_tap l.self).now ≡ flushes_of (output_tap l.fn.self).now;
       room : sent_of l.self + length l.rest ≤ 2 ^ 62;
       front : (front : List ℕ) × (l.fn.bytes ≡ front ++ l.rest) × Took g.W.Write.contents l.fn.self front l.self;
     }
