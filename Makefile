@@ -1,9 +1,9 @@
+# make demo              the main job on an example: builds the command, and runs the first lines of README.md with it
 # make test              all tests: the gate, and then the parts named below on what it built
 # make check             the short round
 # make build             the command into bin/
 # make dist              archive, Debian package and wheel of the built program and libraries into dist/
 # make dist-test         each of these, installed into an empty root and used there; as root also by apt-get
-# make demo              the main job on an example
 # make smoke             the built program with real files and pipes
 # make completions-test  the words of the completions and of the manual page, compared with help
 # make docs-test         the commands that documents show, run and compared; the words, links and promises of the pages
@@ -102,12 +102,8 @@ wheel: lib
 python-test: lib
 	cd python/tests && POLYTWKB_LIBRARY=../../out/libpolytwkb.so PYTHONPATH=.. python3 -B -m unittest -q
 
-demo: build
-	cat examples/collection.csv
-	bin/polytwkb pack < examples/collection.csv > bin/collection.twkb
-	od -An -v -tx1 bin/collection.twkb
-	bin/polytwkb show < bin/collection.twkb
-	bin/polytwkb unpack < bin/collection.twkb
+demo:
+	@scripts/demo.sh
 
 bench: build
 	bench/run.sh $(BENCH)

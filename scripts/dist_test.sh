@@ -56,7 +56,7 @@ depth,kind,id,precision,polyline
 1,point,7,,AC
 1,point,8,,GE
 END
-# worked by hand in README.md
+# worked by hand in docs/USING.md
 printf '\004\007\013\004\002\002\006\002\016\020\004\002\002\006' > "$work/stops.twkb"
 echo "0 0 multipoint 0 07 14 2" > "$work/stops.txt"
 
