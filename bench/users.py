@@ -1,12 +1,15 @@
 #!/usr/bin/env python3
 """Measures the three commands beside the plain program of bench/plain. See run.sh, which builds both."""
 import argparse
+import csv
 import datetime
 import hashlib
 import json
 import os
+import re
 import subprocess
 import sys
+import zlib
 
 from picture import picture
 
@@ -31,7 +34,7 @@ def parse_words():
     parser.add_argument("--points", type=int, default=10_000_000, help="points of the long line (10000000)")
     parser.add_argument("--rounds", type=int, default=9, help="runs of each program, of which the best counts (9)")
     parser.add_argument("--cases", nargs="+", default=list(CASES), choices=list(CASES), help="only these tables")
-    parser.add_argument("--docs", action="store_true", help="put the table and the picture into docs/ too")
+    parser.add_argument("--docs", action="store_true", help="write the tables and the picture into docs/ too, and the lines on size and speed into README.md and docs/USING.md")
     for word in ("polytwkb", "plain", "maker", "folder"):
         parser.add_argument(word, help=argparse.SUPPRESS)
     return parser.parse_args()
@@ -101,6 +104,15 @@ class Table:
     def peak(self, word):
         return {name: peak_of(self.programs[name], word, self.source(word)) for name in PROGRAMS}
 
+    def sizes(self):
+        """The bytes of the table, of its streams in both styles and of the same geometries as WKB, and of the first two after gzip."""
+        with open(self.table, "rb") as reads:
+            plain = subprocess.run([self.programs["polytwkb"], "pack", "--style", "plain"], stdin=reads, stdout=subprocess.PIPE, check=True)
+        return {
+            "table": os.path.getsize(self.table), "full": os.path.getsize(self.stream), "plain": len(plain.stdout), "wkb": wkb_length(self.table),
+            "table_gzip": deflated_length(self.table), "full_gzip": deflated_length(self.stream),
+        }
+
     def remove(self):
         for path in (self.table, self.stream):
             os.remove(path)
@@ -112,8 +124,30 @@ def best(tables, word, rounds):
     return [{name: min(run[place][name] for run in runs) for name in PROGRAMS} for place in range(len(tables))]
 
 
+WKB_HEADERS = {"point": 5, "ring": 4}
+NUMBER_ENDS = re.compile("[?-^]")
+
+
+def wkb_length(path):
+    """How many bytes the geometries of a table have as WKB: 9 for a header with a count, 16 for a point."""
+    csv.field_size_limit(1 << 30)
+    with open(path, encoding="ascii", newline="") as file:
+        rows = csv.reader(file)
+        next(rows)
+        # each number of a polyline ends with one of these characters, and a point has two numbers
+        return sum(WKB_HEADERS.get(kind, 9) + 8 * len(NUMBER_ENDS.findall(polyline)) for _, kind, _, _, polyline in rows)
+
+
+def deflated_length(path):
+    deflating, length = zlib.compressobj(6), 0
+    with open(path, "rb") as file:
+        while piece := file.read(PIECE):
+            length += len(deflating.compress(piece))
+    return length + len(deflating.flush())
+
+
 def measure(options, case):
-    """One row for each command."""
+    """One row for each command, and the sizes."""
     size = options.points if case == "long_line" else int(options.megabytes * MEGABYTE)
     whole, half = Table(options, case, size), Table(options, case, size // 2)
     whole.check()
@@ -131,9 +165,11 @@ def measure(options, case):
             "growth": {name: seconds[name] / half_seconds[name] for name in PROGRAMS},
         })
         print(line_of(rows[-1]), flush=True)
+    sizes = {"case": rows[0]["case"], **whole.sizes()}
+    print(sizes_line(sizes), flush=True)
     whole.remove()
     half.remove()
-    return rows
+    return rows, sizes
 
 
 def points_text(count):
@@ -147,9 +183,12 @@ HEAD = (
 )
 
 PAGE_HEAD = (
-    "| Table | pack MB/s | over plain | unpack MB/s | over plain | show MB/s | over plain | peak kB | plain |\n"
+    "| Table | pack MB/s | over plain | unpack MB/s | over plain | show MB/s | over plain | memory MB | plain |\n"
     "|---|---|---|---|---|---|---|---|---|"
 )
+
+SIZES = {"table": "table", "full": "stream, full", "plain": "stream, plain", "wkb": "WKB", "table_gzip": "table, gzip", "full_gzip": "stream, gzip"}
+SIZES_HEAD = f"| MB of | {' | '.join(SIZES.values())} |\n|---|{'---|' * len(SIZES)}"
 
 PICTURE = "![Time of polytwkb over that of the plain program, for each table and command](benchmark.svg)"
 
@@ -166,8 +205,31 @@ def page_lines(rows):
     for case in dict.fromkeys(row["case"] for row in rows):
         own = [row for row in rows if row["case"] == case]
         cells = [cell for row in own for cell in (f"{row['speed']['polytwkb']:.0f}", f"{row['ratio']:.2f}")]
-        peaks = [str(max(row["peak"][name] for row in own)) for name in PROGRAMS]
+        peaks = [f"{max(row['peak'][name] for row in own) / 1000:.1f}" for name in PROGRAMS]
         yield "| " + " | ".join([case, *cells, *peaks]) + " |"
+
+
+def sizes_line(sizes):
+    return "| " + " | ".join([sizes["case"], *(f"{sizes[name] / MEGABYTE:.1f}" for name in SIZES)]) + " |"
+
+
+def speed_text(rows):
+    """One sentence on speed and memory."""
+    speeds = {word: [row["speed"]["polytwkb"] for row in rows if row["command"] == word] for word in WORDS}
+    pack, unpack = (f"{min(speeds[word]):.0f} to {max(speeds[word]):.0f}" for word in ("pack", "unpack"))
+    peaks = {}
+    for row in rows:
+        peaks[row["case"]] = max(row["peak"]["polytwkb"], peaks.get(row["case"], 0))
+    *usual, (most, case) = sorted((peak, case) for case, peak in peaks.items())
+    memory = f"{usual[-1][0] / 1000:.1f} MB of memory; {case} takes {most / 1000:.0f} MB" if usual else f"{most / 1000:.0f} MB of memory"
+    return f"one core packs {pack} MB of table a second and unpacks {unpack}, in {memory}."
+
+
+def size_text(sizes):
+    """One sentence on the size of lines."""
+    lines = next((each for each in sizes if each["case"] == CASES["lines"]), sizes[0])
+    table, full, wkb = (f"{lines[name] / MEGABYTE:.1f}" for name in ("table", "full", "wkb"))
+    return f"a table of {table} MB, lines of 1000 points, is a stream of {full} MB; the same lines take {wkb} MB as WKB."
 
 
 def growth_line(rows):
@@ -176,15 +238,16 @@ def growth_line(rows):
     return f"Growth {least[0]:.2f} to {greatest[0]:.2f}, plain {least[1]:.2f} to {greatest[1]:.2f}."
 
 
-def put_into(path, begin, end, text):
-    """Puts a text between two lines of a document."""
+def put_into(path, name, text):
+    """Puts a text between the two marks of a name in a document."""
+    begin, end = f"<!-- make bench: {name}begin -->", f"<!-- make bench: {name}end -->"
     with open(path, encoding="utf-8") as file:
-        front, _, rest = file.read().partition(begin + "\n")
+        front, _, rest = file.read().partition(begin)
     _, found, back = rest.partition(end)
     if not found:
-        sys.exit(f"{path} lacks the lines {begin} and {end}")
+        sys.exit(f"{path} lacks the marks {begin} and {end}")
     with open(path, "w", encoding="utf-8") as file:
-        file.write(front + begin + "\n" + text + end + back)
+        file.write(front + begin + text + end + back)
 
 
 def circumstances(options, read_by):
@@ -205,16 +268,25 @@ def main():
     read_by = subprocess.run([options.plain, "records"], stdout=subprocess.PIPE, check=True, text=True).stdout.strip()
     line = circumstances(options, read_by)
     print(f"{line}\n\n{HEAD}", flush=True)
-    rows = [row for case in options.cases for row in measure(options, case)]
+    measured = [measure(options, case) for case in options.cases]
+    rows, sizes = [row for own, _ in measured for row in own], [own for _, own in measured]
     with open(f"{options.folder}/users.json", "w", encoding="utf-8") as file:
-        json.dump({"circumstances": line, "rows": rows}, file, indent=1)
+        json.dump({"circumstances": line, "rows": rows, "sizes": sizes}, file, indent=1)
     with open(f"{options.folder}/users.svg", "w", encoding="utf-8") as file:
         file.write(picture(rows))
     if options.docs:
-        lines = [f"{line} {growth_line(rows)}", "", PAGE_HEAD, *page_lines(rows), "", PICTURE]
-        put_into("docs/PERF.md", "<!-- make bench: begin -->", "<!-- make bench: end -->", "\n".join(lines) + "\n")
-        with open("docs/benchmark.svg", "w", encoding="utf-8") as file:
-            file.write(picture(rows))
+        write_pages(f"{line} {growth_line(rows)}", rows, sizes)
+
+
+def write_pages(line, rows, sizes):
+    """Puts what was measured into the pages that show it."""
+    tables = [line, "", PAGE_HEAD, *page_lines(rows), "", PICTURE, "", SIZES_HEAD, *map(sizes_line, sizes)]
+    put_into("docs/PERF.md", "", "\n" + "\n".join(tables) + "\n")
+    with open("docs/benchmark.svg", "w", encoding="utf-8") as file:
+        file.write(picture(rows))
+    for page in ("README.md", "docs/USING.md"):
+        put_into(page, "speed ", speed_text(rows))
+    put_into("README.md", "size ", size_text(sizes))
 
 
 if __name__ == "__main__":

@@ -4,8 +4,7 @@
  * A conversion takes tables or blobs as bytes: points go in and come out as encoded polylines, inside a
  * table. polytwkb_encode and polytwkb_decode make a polyline of points, and points of a polyline. One call
  * converts a whole table or a whole stream, of any number of geometries. Give it many: a call has a price
- * of its own, most of all from another language. By ctypes one geometry took 42 microseconds in a call of
- * its own, and 9.5 in a call for many.
+ * of its own, most of all from another language.
  *
  * The library is proved: what each call writes, and what its report says, is the contract of its
  * function in crates/twkb_c. It keeps nothing between calls, opens no file and prints nothing. It
@@ -38,7 +37,7 @@ extern "C" {
 #define POLYTWKB_DONE 0u      /* all was converted */
 #define POLYTWKB_REFUSED 1u   /* the input is refused: reason and place say why and where */
 #define POLYTWKB_ARGUMENTS 2u /* a limit, the style or the conversion is out of range; nothing was done */
-#define POLYTWKB_DEVICE 3u    /* the input could not be read; no buffer was seen to give that */
+#define POLYTWKB_DEVICE 3u    /* the input could not be read; this has never been seen with a buffer */
 #define POLYTWKB_MEMORY 4u    /* memory was refused */
 #define POLYTWKB_TOO_SMALL 5u /* the output is too small: needed is the size needed */
 
