@@ -1,9 +1,9 @@
+# make demo              the main job on an example: builds the command, and runs the first lines of README.md with it
 # make test              all tests: the gate, and then the parts named below on what it built
 # make check             the short round
 # make build             the command into bin/
 # make dist              archive, Debian package and wheel of the built program and libraries into dist/
 # make dist-test         each of these, installed into an empty root and used there; as root also by apt-get
-# make demo              the main job on an example
 # make smoke             the built program with real files and pipes
 # make completions-test  the words of the completions and of the manual page, compared with help
 # make docs-test         the commands that documents show, run and compared; the words, links and promises of the pages
@@ -13,7 +13,7 @@
 # make lib-bench         times of calls of the library and of the package for Python
 # make wheel             the package for Python with the shared library, into dist/
 # make python-test       the package for Python over the shared library
-# make install           program, page, completions, libraries and licence below PREFIX, in the folder DESTDIR
+# make install           program, libraries, manual page, completions, pages and examples below PREFIX, in the folder DESTDIR
 # make uninstall         removes these files
 # make hostile           the built program with little memory, failing devices and hostile inputs
 # make fuzz              the program compared with a second implementation, on random inputs (CASES, SEED, PROCESSES)
@@ -29,6 +29,9 @@ LIBDIR ?= $(PREFIX)/lib
 INCLUDEDIR ?= $(PREFIX)/include
 ZSHDIR ?= $(DATADIR)/zsh/site-functions
 INSTALL ?= install
+# The address of the sources, which the packages name if there is one.
+HOMEPAGE ?=
+export HOMEPAGE
 
 # The version of the command and of the library, read from the code. Programs find the library by a name with the
 # major number.
@@ -102,12 +105,8 @@ wheel: lib
 python-test: lib
 	cd python/tests && POLYTWKB_LIBRARY=../../out/libpolytwkb.so PYTHONPATH=.. python3 -B -m unittest -q
 
-demo: build
-	cat examples/collection.csv
-	bin/polytwkb pack < examples/collection.csv > bin/collection.twkb
-	od -An -v -tx1 bin/collection.twkb
-	bin/polytwkb show < bin/collection.twkb
-	bin/polytwkb unpack < bin/collection.twkb
+demo:
+	@scripts/demo.sh
 
 bench: build
 	bench/run.sh $(BENCH)
@@ -139,19 +138,23 @@ bin/refuse.so: tests/hostile/refuse.c
 bin/growths: tests/hostile/growths/main.rt.in tests/hostile/growths/build.sh $(SOURCES)
 	tests/hostile/growths/build.sh $@
 
-# The files that are installed, and their places; `uninstall` removes these files and leaves their folders.
+# The files that are installed, and their places; `uninstall` removes these files, and of folders that of the pages alone.
 PROGRAM_FILE := $(BINDIR)/polytwkb
 PAGE_FILE := $(DATADIR)/man/man1/polytwkb.1
 BASH_FILE := $(DATADIR)/bash-completion/completions/polytwkb
 ZSH_FILE := $(ZSHDIR)/_polytwkb
 FISH_FILE := $(DATADIR)/fish/vendor_completions.d/polytwkb.fish
-LICENCE_FILE := $(DATADIR)/doc/polytwkb/LICENSE
+DOC_DIR := $(DATADIR)/doc/polytwkb
+LICENCE_FILE := $(DOC_DIR)/LICENSE
 STATIC_FILE := $(LIBDIR)/libpolytwkb.a
 SHARED_FILE := $(LIBDIR)/$(REAL_NAME)
 SONAME_LINK := $(LIBDIR)/$(SONAME)
 SHARED_LINK := $(LIBDIR)/libpolytwkb.so
 PACKAGE_FILE := $(LIBDIR)/pkgconfig/polytwkb.pc
 HEADER_FILE := $(INCLUDEDIR)/polytwkb.h
+# Pages that are installed, beside the examples that they name. A link to what is not becomes its text.
+PAGES := USING RECIPES FORMATS
+LINKS_OUT := s!\[([^]]*)\]\((\.\./(README|python|crates|tests)|PERF)[^)]*\)!\1!g
 
 install: build lib
 	$(INSTALL) -D -m 755 bin/polytwkb '$(DESTDIR)$(PROGRAM_FILE)'
@@ -167,12 +170,15 @@ install: build lib
 	$(INSTALL) -D -m 644 include/polytwkb.h '$(DESTDIR)$(HEADER_FILE)'
 	sed -e 's|@VERSION@|$(VERSION)|' -e 's|@PREFIX@|$(PREFIX)|' -e 's|@LIBDIR@|$(LIBDIR)|' -e 's|@INCLUDEDIR@|$(INCLUDEDIR)|' include/polytwkb.pc.in > out/polytwkb.pc
 	$(INSTALL) -D -m 644 out/polytwkb.pc '$(DESTDIR)$(PACKAGE_FILE)'
+	@for page in $(PAGES); do sed -E '$(LINKS_OUT)' docs/$$page.md | $(INSTALL) -D -m 644 /dev/stdin "$(DESTDIR)$(DOC_DIR)/docs/$$page.md" || exit 1; done
+	tar -c --exclude=__pycache__ --mode=u=rwX,go=rX examples | tar -x --no-same-owner -C '$(DESTDIR)$(DOC_DIR)'
 
 uninstall:
 	rm -f '$(DESTDIR)$(PROGRAM_FILE)' '$(DESTDIR)$(PAGE_FILE)' '$(DESTDIR)$(BASH_FILE)'
-	rm -f '$(DESTDIR)$(ZSH_FILE)' '$(DESTDIR)$(FISH_FILE)' '$(DESTDIR)$(LICENCE_FILE)'
+	rm -f '$(DESTDIR)$(ZSH_FILE)' '$(DESTDIR)$(FISH_FILE)'
 	rm -f '$(DESTDIR)$(STATIC_FILE)' '$(DESTDIR)$(SHARED_FILE)' '$(DESTDIR)$(SHARED_LINK)' '$(DESTDIR)$(SONAME_LINK)'
 	rm -f '$(DESTDIR)$(PACKAGE_FILE)' '$(DESTDIR)$(HEADER_FILE)'
+	rm -rf '$(DESTDIR)$(DOC_DIR)'
 
 # Built files for users without the kit.
 dist: build lib

@@ -4,6 +4,8 @@
 #
 #   scripts/dist.sh FOLDER
 #
+# HOMEPAGE, if it is set, is the address of the sources, which each of them then names.
+#
 # The same build gives the same bytes: names are sorted, and each time is noon of the day of the version in
 # CHANGELOG.md.
 set -euo pipefail
@@ -12,18 +14,29 @@ cd "$(dirname "$0")/.."
 umask 022
 export LC_ALL=C
 unset MAKEFLAGS MAKELEVEL
-version=$(bin/polytwkb --version | cut -d ' ' -f 2)
+version=$(sed -n 's/^pub const VERSION: &str = "\(.*\)";/\1/p' crates/twkb_convert/src/version.rt)
+# the processor that the program was built for: its name for Linux, for Debian and for a reader
+case $(readelf -h bin/polytwkb | sed -n 's/^ *Machine: *//p') in
+  *X86-64) machine=x86_64 debian=amd64 processor=x86-64 ;;
+  *) echo "dist.sh: bin/polytwkb is of an unknown processor" >&2; exit 1 ;;
+esac
 day=$(sed -n "s/^## .*$version (\(.*\))$/\1/p" CHANGELOG.md | head -n 1)
 [ -n "$day" ] || { echo "CHANGELOG.md has no version $version" >&2; exit 1; }
 SOURCE_DATE_EPOCH=${SOURCE_DATE_EPOCH:-$(date -u -d "$day 12:00" +%s)}
 export SOURCE_DATE_EPOCH
 # the newest version of the C library whose symbols the program or the shared library uses
 libc=$(grep -aoh 'GLIBC_[0-9.]*' bin/polytwkb out/libpolytwkb.so | sort -Vu | tail -n 1 | cut -d _ -f 2)
-name=polytwkb-$version-x86_64-linux
+name=polytwkb-$version-$machine-linux
 work=$(mktemp -d)
 trap 'rm -rf "$work"' EXIT
 
-filled() { sed -e "s|@VERSION@|$version|" -e "s|@LIBC@|$libc|" -e "s|@SIZE@|${size:-}|" "$1"; }
+# a line that names the address of the sources is left out if there is none
+address=/@HOMEPAGE@/d
+[ -z "${HOMEPAGE:-}" ] || address="s|@HOMEPAGE@|$HOMEPAGE|"
+filled() {
+  sed -e "s|@VERSION@|$version|" -e "s|@MACHINE@|$machine|" -e "s|@DEBIAN@|$debian|" -e "s|@PROCESSOR@|$processor|" \
+    -e "s|@LIBC@|$libc|" -e "s|@SIZE@|${size:-}|" -e "$address" "$1"
+}
 dated() { find "$1" -exec touch -h -d "@$SOURCE_DATE_EPOCH" {} +; }
 
 archive() {
@@ -44,14 +57,14 @@ changelog() {
 # the line that the linker needs for the shared library, if its name has a version
 shlibs() {
   local soname
-  soname=$(objdump -p out/libpolytwkb.so | sed -n 's/^ *SONAME *//p')
+  soname=$(readelf -d out/libpolytwkb.so | sed -n 's/.*Library soname: \[\(.*\)\]$/\1/p')
   [[ $soname != *.so.* ]] || echo "${soname%%.so.*} ${soname#*.so.} polytwkb (>= $version)"
 }
 
 package() {
   local tree=$work/package size
   local documents=$tree/usr/share/doc/polytwkb
-  make -s install DESTDIR="$tree" PREFIX=/usr LIBDIR=/usr/lib/x86_64-linux-gnu ZSHDIR=/usr/share/zsh/vendor-completions
+  make -s install DESTDIR="$tree" PREFIX=/usr LIBDIR="/usr/lib/$machine-linux-gnu" ZSHDIR=/usr/share/zsh/vendor-completions
   find "$tree/usr/lib" -type f -exec chmod 644 {} +
   gzip -9n "$tree/usr/share/man/man1/polytwkb.1"
   mv "$documents/LICENSE" "$documents/copyright"
@@ -65,11 +78,11 @@ package() {
   [ -s "$tree/DEBIAN/shlibs" ] || rm "$tree/DEBIAN/shlibs"
   echo "activate-noawait ldconfig" > "$tree/DEBIAN/triggers"
   dated "$tree"
-  dpkg-deb --root-owner-group -Zxz --build "$tree" "$folder/polytwkb_${version}_amd64.deb" > /dev/null
+  dpkg-deb --root-owner-group -Zxz --build "$tree" "$folder/polytwkb_${version}_$debian.deb" > /dev/null
 }
 
 mkdir -p "$folder"
-rm -f "$folder"/polytwkb-*.tar.gz "$folder"/polytwkb_*.deb "$folder"/polytwkb-*.whl "$folder/SHA256SUMS"
+rm -f "$folder"/polytwkb-*-"$machine"-linux.tar.gz "$folder"/polytwkb_*_"$debian".deb "$folder"/polytwkb-*_"$machine".whl "$folder/SHA256SUMS"
 archive
 package
 scripts/wheel.py "$folder" > /dev/null

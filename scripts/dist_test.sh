@@ -8,8 +8,11 @@ cd "$(dirname "$0")/.." || exit 1
 PATH=$PATH:/usr/local/sbin:/usr/sbin:/sbin
 umask 022
 export LC_ALL=C DEBIAN_FRONTEND=noninteractive
-archive=$(echo dist/polytwkb-*-x86_64-linux.tar.gz)
-package=$(echo dist/polytwkb_*_amd64.deb)
+# the files for this machine
+machine=x86_64 debian=amd64
+archive=$(echo dist/polytwkb-*-"$machine"-linux.tar.gz)
+package=$(echo dist/polytwkb_*_"$debian".deb)
+wheel=$(echo dist/polytwkb-*"$machine".whl)
 work=$(mktemp -d)
 installed=
 trap '[ -z "$installed" ] || dpkg --purge polytwkb > /dev/null 2>&1; rm -rf "$work"' EXIT
@@ -56,7 +59,7 @@ depth,kind,id,precision,polyline
 1,point,7,,AC
 1,point,8,,GE
 END
-# worked by hand in README.md
+# worked by hand in docs/USING.md
 printf '\004\007\013\004\002\002\006\002\016\020\004\002\002\006' > "$work/stops.twkb"
 echo "0 0 multipoint 0 07 14 2" > "$work/stops.txt"
 
@@ -95,11 +98,25 @@ calls() {
     python3 -B examples/python/convert.py "$1$3/libpolytwkb.so"
 }
 
+# stand_alone DOCUMENTS BIN: the recipes that need nothing but Python, from there; no link of a page leads to nothing.
+stand_alone() {
+  local recipe page target
+  for recipe in cut_stream stops geojson; do
+    PATH=$2:$PATH "$1/examples/recipes/$recipe.sh" > "$work/recipe" 2>&1 && ! grep '^skipped' "$work/recipe" || { cat "$work/recipe"; return 1; }
+  done
+  for page in USING RECIPES FORMATS; do
+    while read -r target; do
+      [ -e "$1/docs/$target" ] || { echo "$page.md: nothing is at $target"; return 1; }
+    done < <(grep -o '](\(\.\./\)*[A-Za-z][^):#]*[):#]' "$1/docs/$page.md" | grep -v ':$' | sed 's/^](//; s/.$//')
+  done
+}
+
 used() { # NAME ROOT PREFIX LIBDIR
   report "$1: packs, shows and unpacks" converts inside "$2" "$3/bin/polytwkb"
   report "$1: so do programs in C and Python over its libraries" calls "$2" "$3" "$4"
   report "$1: the program is the one that was built" cmp bin/polytwkb "$2$3/bin/polytwkb"
   report "$1: the manual page" grep -q polytwkb <(zcat -f "$2$3"/share/man/man1/polytwkb.1*)
+  report "$1: pages and recipes" stand_alone "$2$3/share/doc/polytwkb" "$2$3/bin"
 }
 
 # ---- the checks
@@ -112,13 +129,30 @@ report "made again, the same bytes" made_again
 is_there pkg-config || skip "pkg-config is not there"
 
 unpacked() { empty_root "$1" && mkdir -p "$1/usr/local" && tar -xzf "$archive" -C "$1/usr/local" --strip-components=1; }
-# the commands that its README shows
+# the commands that its README shows: a first one with what it prints, and those that install for all and take away again
 as_shown() {
-  local folder command
-  mkdir "$work/shown" && tar -xzf "$archive" -C "$work/shown" && folder=$(echo "$work"/shown/*) && command=$(grep '^  printf' "$folder/README") &&
-    diff <(cd "$folder" && eval "$command") <(grep -A 1 '^  printf' "$folder/README" | tail -n 1 | sed 's/^ *//') && [ "$(wc -l < "$folder/README")" -eq 20 ]
+  local folder line
+  mkdir "$work/shown" && tar -xzf "$archive" -C "$work/shown" && folder=$(echo "$work"/shown/*) || return 1
+  line=$(grep '^  printf' "$folder/README")
+  diff <(cd "$folder" && eval "$line") <(grep -A 1 '^  printf' "$folder/README" | tail -n 1 | sed 's/^ *//')
+}
+taken_away() {
+  local folder line place=$work/local
+  folder=$(echo "$work"/shown/*)
+  # what Debian has there, and a file of another
+  mkdir -p "$place"/{bin,include,lib,share/man/man1} && touch "$place/share/man/man1/other.1"
+  (cd "$place" && find . | sort) > "$work/before"
+  for line in '^  cp -r' '^  find bin'; do
+    line=$(grep "$line" "$folder/README" | sed "s|/usr/local|$place|g; s|ldconfig|ldconfig -r $place -X|")
+    mkdir -p "$place/etc" && touch "$place/etc/ld.so.conf"
+    (cd "$folder" && eval "$line") > "$work/line" 2>&1 || true
+    [ -e "$place/bin/polytwkb" ] || [[ $line == *find* ]] || { cat "$work/line"; return 1; }
+  done
+  rm -rf "$place/etc"
+  (cd "$place" && find . | sort) | diff "$work/before" -
 }
 report "archive: what its README shows" as_shown
+report "archive: is installed and taken away as its README shows" taken_away
 report "archive: is unpacked" unpacked "$work/archive"
 used "archive" "$work/archive" /usr/local /usr/local/lib
 
@@ -139,10 +173,14 @@ else
   skip "lintian is not there"
 fi
 
-# Installs the package into a fresh environment, and uses it there outside the repository.
-by_pip() { python3 -m venv "$1" && "$1/bin/pip" install -q --disable-pip-version-check --no-index dist/polytwkb-*.whl; }
+# Installs the package into a fresh environment, by the line that both READMEs show, and uses it there outside the repository.
+by_pip() {
+  local line
+  line=$(grep -o 'python3 -m venv env[^`]*' README.md) && grep -qxF "    $line" python/README.md || { echo "the READMEs do not show one line"; return 1; }
+  mkdir "$1" && cp "$wheel" "$1" && (cd "$1" && export PIP_DISABLE_PIP_VERSION_CHECK=1 && eval "$line")
+}
 in_python() {
-  (cd "$1" && env -u PYTHONPATH -u POLYTWKB_LIBRARY bin/python - "$work/stops.csv" "$work/stops.twkb") << 'END'
+  (cd "$1" && env -u PYTHONPATH -u POLYTWKB_LIBRARY env/bin/python - "$work/stops.csv" "$work/stops.twkb") << 'END'
 import sys, polytwkb
 table, stream = (open(name, "rb").read() for name in sys.argv[1:])
 assert polytwkb.__file__.startswith(sys.prefix)
@@ -150,10 +188,24 @@ assert polytwkb.pack(table) == stream and polytwkb.unpack(stream).encode() == ta
 assert polytwkb.encode([(2, 1)]) == "AC" and polytwkb.decode("AC") == [(2, 1)]
 END
 }
+# COMMAND..: what it says of a refused table and of a cut stream, and its status, are those of the program.
+refuses() {
+  local word
+  for word in pack unpack show; do
+    "$@" "$word" < "$work/cut" > "$work/one" 2>&1; echo $? >> "$work/one"
+    bin/polytwkb "$word" < "$work/cut" > "$work/other" 2>&1; echo $? >> "$work/other"
+    cmp "$work/one" "$work/other" || return 1
+  done
+}
+head -c 10 "$work/stops.twkb" > "$work/cut"
 if python3 -c 'import ensurepip, venv' 2> /dev/null; then
-  report "wheel: is installed by pip" by_pip "$work/venv"
-  report "wheel: it packs, unpacks and encodes" in_python "$work/venv"
-  report "wheel: is removed" "$work/venv/bin/pip" uninstall -q -y polytwkb
+  report "wheel: is installed by pip" by_pip "$work/wheel"
+  report "wheel: it packs, unpacks and encodes" in_python "$work/wheel"
+  for way in "env/bin/polytwkb" "env/bin/python -m polytwkb"; do
+    report "wheel: its command packs, shows and unpacks, as ${way#env/bin/}" converts env -u PYTHONPATH -u POLYTWKB_LIBRARY "$work/wheel/"$way
+  done
+  report "wheel: its command refuses as the program does" refuses env -u PYTHONPATH -u POLYTWKB_LIBRARY "$work/wheel/env/bin/polytwkb"
+  report "wheel: is removed" "$work/wheel/env/bin/pip" uninstall -q -y polytwkb
 else
   skip "wheel: venv of python3 is not there"
 fi
@@ -178,6 +230,7 @@ else
   report "apt-get: installs" apt install "./$package"
   dpkg-query -L polytwkb > "$work/files" 2> /dev/null
   report "apt-get: it packs, shows and unpacks" converts /usr/bin/polytwkb
+  report "apt-get: pages and recipes" stand_alone /usr/share/doc/polytwkb /usr/bin
   is_there pkg-config && report "apt-get: so does a program in C" system_calls
   report "apt-get: removes" apt purge polytwkb
   report "apt-get: nothing is left" gone

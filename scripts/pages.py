@@ -1,14 +1,15 @@
 #!/usr/bin/env python3
-"""Checks of pages that need no program: their numbers of words, the targets of their links, and marks that a
-merge left.
+"""Checks of pages that need no program: the targets of their links, what README.md says to type, marks that a merge
+left, and of some pages the number of words.
 
     scripts/pages.py            reports faults; status 1 if there are any
-    scripts/pages.py --counts   the number of words of each page, and its limit
+    scripts/pages.py --counts   the number of words of each page that has a limit, and the limit
 
-Words are counted as `wc -w` does: what is between blanks, in text, tables, code, pictures and comments alike. A page
-without a limit is not counted. Not counted are
-- the tables of promises in docs/PROOFS.md, which scripts/promises.py puts between its marks;
-- a proved caller in a crate's README, which is a file of crates/examples word for word.
+Words are counted as `wc -w` does: what is between blanks, in text, tables, code, pictures and comments alike. The
+tables of promises in docs/PROOFS.md, which scripts/promises.py puts between its marks, are not counted.
+
+The first block of README.md is the lines that do all the set-up: `make demo` and `make test`. Each `make TARGET` there
+is a target of the Makefile, and beside each of the two the page names the script that it calls.
 
 A link to a file of this repository is checked: the file must exist, and so must the heading after '#'.
 """
@@ -18,31 +19,23 @@ import re
 import sys
 
 REPO = os.path.abspath(os.path.join(os.path.dirname(__file__), ".."))
+# A page for users is as long as they need.
 LIMITS = {
-    "README.md": 700,
-    "docs/USING.md": 3000,
-    "docs/RECIPES.md": 1500,
     "docs/FORMATS.md": 5000,
-    "docs/ARCHITECTURE.md": 1500,
     "docs/DECISIONS.md": 3500,
     "docs/PROOFS.md": 2500,
     "docs/PERF.md": 2500,
-    "CHANGELOG.md": 300,
     "CONTRIBUTING.md": 1500,
 }
-# The crates that programs and people outside call; all other crates are internal.
-DOORS = [
-    "polytwkb", "twkb_blob", "twkb_buffer", "twkb_c", "twkb_command", "twkb_convert", "twkb_geom", "twkb_io",
-    "twkb_num", "twkb_points", "twkb_polyline", "twkb_table",
-]
-DOOR, ROOM = 500, 250
+SET_UP = ["demo", "test"]
 
 PROMISES = re.compile(r"<!-- promises: begin -->.*?<!-- promises: end -->", re.S)
-CALLER = re.compile(r"(\(\.\./examples/src/[a-z_]+\.rt\):\n\n)```rust\n.*?\n```", re.S)
 FENCED = re.compile(r"^\s*```.*?^\s*```", re.S | re.M)
 LINK = re.compile(r"\[[^\]]*\]\(([^)\s]+)\)")
 HEADING = re.compile(r"^#+ +(.*)$", re.M)
 MERGE = re.compile(r"^(<{7}|>{7}|={7}$)")
+SHOWN = re.compile(r"(?:^    |`)make ([a-z-]+)", re.M)
+TARGET = re.compile(r"^([a-z-]+):", re.M)
 
 
 def text_of(page):
@@ -57,24 +50,15 @@ def pages():
     return sorted({os.path.relpath(path, REPO) for path in found})
 
 
-def limit_of(page):
-    """How many words a page may have; None if it has no limit."""
-    if page.startswith("crates/"):
-        crate = page.split("/")[1]
-        return DOOR if crate in DOORS else ROOM
-    return 0 if page.startswith("docs/") and page not in LIMITS else LIMITS.get(page)
-
-
 def words_of(page):
     """How many words of a page are counted."""
-    return len(PROMISES.sub(" ", CALLER.sub(r"\1", text_of(page))).split())
+    return len(PROMISES.sub(" ", text_of(page)).split())
 
 
 def long_pages():
     """The pages that have too many words."""
-    for page in pages():
-        limit = limit_of(page)
-        if limit is not None and words_of(page) > limit:
+    for page, limit in LIMITS.items():
+        if words_of(page) > limit:
             yield f"{page}: {words_of(page)} words, {limit} at most"
 
 
@@ -99,6 +83,22 @@ def lost_links():
                 yield f"{page}: no heading is at {target}"
 
 
+def front_faults():
+    """What README.md says to type, and the Makefile or a script has not."""
+    page = text_of("README.md")
+    targets = TARGET.findall(text_of("Makefile"))
+    first = re.search(r"(?:^    .*\n)+", page, re.M)
+    if not first or SHOWN.findall(first.group()) != SET_UP:
+        yield f"README.md: its first block is not {' and '.join('make ' + name for name in SET_UP)}"
+    for name in SHOWN.findall(page):
+        if name not in targets:
+            yield f"README.md: the Makefile has no {name}"
+    for name in SET_UP:
+        script = f"scripts/{name}.sh"
+        if f"`{script}`" not in page or not os.access(os.path.join(REPO, script), os.X_OK):
+            yield f"README.md: {script} is not named, or no program"
+
+
 def merge_marks():
     """The lines of pages that are marks of a merge."""
     for page in pages():
@@ -109,14 +109,13 @@ def merge_marks():
 
 def main(words):
     if "--counts" in words:
-        for page in pages():
-            if limit_of(page) is not None:
-                print(f"{words_of(page):6} of {limit_of(page):5}  {page}")
+        for page, limit in LIMITS.items():
+            print(f"{words_of(page):6} of {limit:5}  {page}")
         return 0
-    wrong = [*long_pages(), *lost_links(), *merge_marks()]
+    wrong = [*long_pages(), *lost_links(), *front_faults(), *merge_marks()]
     for fault in wrong:
         print(fault)
-    print(f"{'FAIL' if wrong else 'ok  '}  {len(pages())} pages: words, links and marks, {len(wrong)} faults")
+    print(f"{'FAIL' if wrong else 'ok  '}  {len(pages())} pages: links, set-up, words and marks, {len(wrong)} faults")
     return len(wrong)
 
 

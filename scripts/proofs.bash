@@ -3,6 +3,8 @@
 # folder, which `cleared` removes at their end.
 
 repository=$(cd "$(dirname "${BASH_SOURCE[0]}")/.." && pwd)
+# shellcheck source=scripts/kit.bash
+source "$repository/scripts/kit.bash"
 
 # with_below CRATE..: prints the lines of crates.txt of these crates and of all crates that they use.
 with_below() {
@@ -42,17 +44,24 @@ keeps_proofs() {
 }
 
 # shown COUNT: passes the lines of `rt ci` on to a log, and reports how many of COUNT crates are proved after
-# which time.
+# which time, at each crate and at least once a minute.
 shown() {
-  local line proved=0
-  while IFS= read -r line; do
+  local line status proved=0
+  while { status=0; IFS= read -r -t 60 line || status=$?; [ "$status" -ne 1 ]; }; do
+    if [ "$status" -ne 0 ]; then
+      # no whole line came for a minute
+      printf '%s' "$line"
+      told "$proved of $1 crates proved, the next are in work"
+      continue
+    fi
     printf '%s\n' "$line"
     if [[ $line =~ ^rt:\ ([a-z_]+)\ (proved$|is\ kept) ]]; then
       proved=$((proved + 1))
-      printf '%3d:%02d  %d of %d crates proved: %s\n' $((SECONDS / 60)) $((SECONDS % 60)) "$proved" "$1" "${BASH_REMATCH[1]}" >&3
+      told "$proved of $1 crates proved: ${BASH_REMATCH[1]}"
     fi
   done
 }
+told() { printf '%3d:%02d  %s\n' $((SECONDS / 60)) $((SECONDS % 60)) "$1" >&3; }
 
 # prove COPY: runs `rt ci` over the copy, which leaves the libraries and programs in its crates/*/out. If it
 # fails, all its output is shown.

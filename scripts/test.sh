@@ -7,6 +7,8 @@
 # that `make dist` makes.
 set -uo pipefail
 cd "$(dirname "$0")/.." || exit 1
+# shellcheck source=scripts/kit.bash
+source scripts/kit.bash
 exec < /dev/null
 unset MAKEFLAGS MAKELEVEL
 parts="smoke completions fuzz library machines documents dist hostile"

@@ -4,7 +4,7 @@
     scripts/wheel.py FOLDER
 
 The same build gives the same bytes: names are sorted, and each time is noon of the day of the version in
-CHANGELOG.md.
+CHANGELOG.md. HOMEPAGE, if it is set, is the address of the sources.
 """
 import base64
 import hashlib
@@ -16,6 +16,8 @@ import zipfile
 REPO = os.path.abspath(os.path.join(os.path.dirname(__file__), ".."))
 PACKAGE = os.path.join(REPO, "python", "polytwkb")
 LIBRARY = os.path.join(REPO, "out", "libpolytwkb.so")
+# The processors by their numbers in a file of ELF.
+MACHINES = {62: "x86_64", 183: "aarch64"}
 
 
 def text_of(*names):
@@ -44,11 +46,12 @@ def day_of(number):
 
 
 def tag_of(library):
-    """The platform of the wheel: the C library of 2.17, which every pip knows, or the newest that the library needs."""
+    """The platform of the wheel: its processor, and the C library of 2.17, which every pip knows, or the newest that the library needs."""
+    machine = MACHINES[int.from_bytes(library[18:20], "little")]
     versions = [tuple(map(int, found.split(b"."))) for found in re.findall(rb"GLIBC_(\d+\.\d+)", library)]
     major, minor = max(versions + [(2, 17)])
-    older = ".manylinux2014_x86_64" if (major, minor) == (2, 17) else ""
-    return f"py3-none-manylinux_{major}_{minor}_x86_64{older}"
+    older = f".manylinux2014_{machine}" if (major, minor) == (2, 17) else ""
+    return f"py3-none-manylinux_{major}_{minor}_{machine}{older}"
 
 
 def tags_of(tag):
@@ -64,9 +67,12 @@ def main(folder):
     files["polytwkb/libpolytwkb.so"] = library
     files[f"{facts}/LICENSE"] = bytes_of(os.path.join(REPO, "LICENSE"))
     files[f"{facts}/WHEEL"] = f"Wheel-Version: 1.0\nGenerator: polytwkb\nRoot-Is-Purelib: false\n{tags_of(tag)}".encode()
+    files[f"{facts}/entry_points.txt"] = b"[console_scripts]\npolytwkb = polytwkb.__main__:main\n"
+    homepage = os.environ.get("HOMEPAGE")
+    address = f"Project-URL: Source, {homepage}\n" if homepage else ""
     files[f"{facts}/METADATA"] = (
         f"Metadata-Version: 2.1\nName: polytwkb\nVersion: {number}\nSummary: Google encoded polylines to TWKB and back, exactly\nLicense: MIT\n"
-        f"Requires-Python: >=3.8\nDescription-Content-Type: text/markdown\n\n{text_of('python', 'README.md')}"
+        f"{address}Requires-Python: >=3.8\nDescription-Content-Type: text/markdown\n\n{text_of('python', 'README.md')}"
     ).encode()
     record = ""
     for name in sorted(files):
