@@ -88,4 +88,55 @@ growths() {
 }
 report "the example in C, static and shared" in_c
 report "each growth of the library refused, as here" growths
+
+# ---- archive, package and wheel
+
+# What scripts/dist.sh makes of this build; `make dist` makes the same.
+packed() { scripts/dist.sh "$work/dist" arm64 && scripts/dist.sh "$work/again" arm64 && cmp "$work/dist/SHA256SUMS" "$work/again/SHA256SUMS"; }
+
+# through COMMAND..: packs and unpacks the example.
+through() { "$@" pack < examples/collection.csv | "$@" unpack | cmp - examples/collection.csv; }
+
+# A root of this processor with the C library and nothing else.
+c_root() {
+  mkdir -p "$1/lib" "$1/tmp" && cp -L "$root"/lib/{ld-linux-aarch64.so.1,libc.so.6} "$1/lib/"
+}
+in_root() { local at=$1; shift; qemu-aarch64-static -L "$at" "$@"; }
+by_dpkg() {
+  local at=$work/package
+  c_root "$at" && mkdir -p "$at"/var/lib/dpkg/{info,updates} && touch "$at/var/lib/dpkg/status" &&
+    dpkg --root="$at" --log=/dev/null --path-include='*' --force-architecture --force-depends --force-not-root --install "$work"/dist/polytwkb_*_arm64.deb &&
+    through in_root "$at" "$at/usr/bin/polytwkb" &&
+    $cross-gcc -std=c11 -o "$at/tmp/shared" examples/c/convert.c -I"$at/usr/include" -L"$at/usr/lib/$cross" -lpolytwkb &&
+    in_root "$at" -E LD_LIBRARY_PATH="$at/usr/lib/$cross" "$at/tmp/shared"
+}
+by_archive() {
+  local at=$work/archive words
+  mkdir -p "$at" && tar -xzf "$work"/dist/polytwkb-*-aarch64-linux.tar.gz -C "$at" --strip-components=1 || return 1
+  # nothing but the command: no C library
+  through in_root /nonexistent "$at/bin/polytwkb" || return 1
+  read -ra words <<< "$(PKG_CONFIG_PATH="$at/lib/pkgconfig" pkg-config --cflags --libs polytwkb)"
+  $cross-gcc -std=c11 -o "$work/archived" examples/c/convert.c "${words[@]}" && arm -E LD_LIBRARY_PATH="$at/lib" "$work/archived"
+}
+# The wheel by the pip and the Python of ARM, in a root that debootstrap filled; then the package's tests over it.
+by_pip() {
+  local at=$1 pip package
+  debootstrap --foreign --arch=arm64 --variant=minbase --include=python3 bookworm "$at" || return 1
+  for package in "$at"/var/cache/apt/archives/*.deb; do dpkg-deb -x "$package" "$at" || return 1; done
+  starter "$(realpath "$at/usr/bin/python3")" "$work/python3" "$at" || return 1
+  pip=$(python3 -c 'import ensurepip, glob, os; print(glob.glob(os.path.join(os.path.dirname(ensurepip.__file__), "_bundled", "pip-*.whl"))[0])')
+  export PYTHONHOME=$at/usr
+  "$work/python3" -B "$pip/pip" install -q --disable-pip-version-check --root-user-action=ignore --no-index --no-compile --target "$work/wheel" "$work"/dist/polytwkb-*_aarch64.whl &&
+    cd python/tests && PYTHONPATH=$work/wheel "$work/python3" -B "$repository/tests/arm64/package_tests.py"
+}
+
+report "archive, package and wheel, twice the same bytes" packed
+report "the package in a root of its processor" by_dpkg
+if command -v lintian > /dev/null; then report "the package: lintian" lintian --allow-root --fail-on error,warning "$work"/dist/polytwkb_*_arm64.deb; fi
+if command -v pkg-config > /dev/null; then report "the archive, with no C library" by_archive; else skip "archive: pkg-config is not there"; fi
+if ! command -v debootstrap > /dev/null || [ "$(id -u)" -ne 0 ]; then
+  skip "wheel: debootstrap is not there, or this is not root"
+else
+  report "the wheel by pip, and the package's tests" by_pip "$work/python"
+fi
 exit "$failed"
