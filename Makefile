@@ -2,13 +2,16 @@
 # make test              all tests: the gate, and then the parts named below on what it built
 # make check             the short round
 # make build             the command into bin/
-# make dist              archive, Debian package and wheel of the built program and libraries into dist/
+# make dist              archive, Debian package and wheel for each processor into dist/, 64-bit ARM if its compiler is there
 # make dist-test         each of these, installed into an empty root and used there; as root also by apt-get
 # make smoke             the built program with real files and pipes
 # make completions-test  the words of the completions and of the manual page, compared with help
 # make docs-test         the commands that documents show, run and compared; the words, links and promises of the pages
 # make recipes           each recipe and the checks of parts, on many machines too, if the tools are installed
 # make lib               the library for C into out/, static and shared
+# make static            the command that asks for no C library, into out/static/
+# make arm64             command and libraries for Linux on 64-bit ARM, into out/arm64/, by Debian's cross compiler
+# make arm64-test        these under qemu
 # make lib-test          the examples in C, Python and Go (if installed) over it; in C under valgrind, if installed
 # make lib-bench         times of calls of the library and of the package for Python
 # make wheel             the package for Python with the shared library, into dist/
@@ -19,7 +22,7 @@
 # make fuzz              the program compared with a second implementation, on random inputs (CASES, SEED, PROCESSES)
 # make bench             times and memory, compared with a plain program; BENCH has words for bench/run.sh
 # make clean             removes what was built
-.PHONY: test check build lib lib-test lib-bench wheel python-test demo bench smoke completions-test docs-test recipes hostile fuzz dist dist-test install uninstall clean
+.PHONY: test check build lib static arm64 arm64-test lib-test lib-bench wheel python-test demo bench smoke completions-test docs-test recipes hostile fuzz dist dist-test install uninstall clean
 
 PREFIX ?= /usr/local
 DESTDIR ?=
@@ -63,11 +66,37 @@ out/libpolytwkb.a: $(SOURCES)
 	$(AR) rcs $@ out/objects/*.o
 
 # Its file name has the full version, and two links point to it: programs find it by one and are linked by the other.
-out/libpolytwkb.so: out/libpolytwkb.a include/polytwkb.map
-	rm -f out/libpolytwkb.so*
-	$(CC) -shared -o out/$(REAL_NAME) -Wl,-soname,$(SONAME) -Wl,--version-script=include/polytwkb.map -Wl,--whole-archive $< -Wl,--no-whole-archive
-	ln -s $(REAL_NAME) out/$(SONAME)
+%/libpolytwkb.so: %/libpolytwkb.a include/polytwkb.map
+	rm -f $*/libpolytwkb.so*
+	$(CC) -shared -o $*/$(REAL_NAME) -Wl,-soname,$(SONAME) -Wl,--version-script=include/polytwkb.map -Wl,--whole-archive $< -Wl,--no-whole-archive
+	ln -s $(REAL_NAME) $*/$(SONAME)
 	ln -s $(SONAME) $@
+
+# The program linked once more, with the C library in it: it runs on any Linux of its processor.
+static: out/static/polytwkb
+
+out/static/polytwkb: $(SOURCES) packaging/static.sh
+	@packaging/static.sh $@
+
+# 64-bit ARM, by Debian's gcc-aarch64-linux-gnu and libc6-dev-arm64-cross.
+ARM64_CC := aarch64-linux-gnu-gcc
+
+arm64: out/arm64/polytwkb out/arm64/static/polytwkb
+	@$(MAKE) -s out/arm64/libpolytwkb.so CC=$(ARM64_CC)
+
+out/arm64/polytwkb out/arm64/libpolytwkb.a &: $(SOURCES) $(wildcard packaging/arm64/*.sh packaging/arm64/shims/*)
+	@packaging/arm64/build.sh out/arm64 twkb_c polytwkb
+
+out/arm64/static/polytwkb: out/arm64/polytwkb
+	mkdir -p out/arm64/static
+	$(ARM64_CC) -static-pie -o $@ out/arm64/polytwkb.o out/arm64/shims.a
+
+# The program that reads tests/vectors, for the tests alone.
+out/arm64/vectors: $(SOURCES) $(wildcard packaging/arm64/*.sh packaging/arm64/shims/*)
+	@packaging/arm64/build.sh out/arm64 vectors
+
+arm64-test: build lib arm64 out/arm64/vectors
+	scripts/arm64_test.sh
 
 out/convert: examples/c/convert.c include/polytwkb.h out/libpolytwkb.a
 	$(CC) -std=c11 -O1 -g -Wall -Wextra -Werror -Iinclude -o $@ $< out/libpolytwkb.a
@@ -161,15 +190,19 @@ HEADER_FILE := $(INCLUDEDIR)/polytwkb.h
 PAGES := USING RECIPES FORMATS
 LINKS_OUT := s!\[([^]]*)\]\((\.\./(README|python|crates|tests)|PERF)[^)]*\)!\1!g
 
-install: build lib
-	$(INSTALL) -D -m 755 bin/polytwkb '$(DESTDIR)$(PROGRAM_FILE)'
+# The program that is installed, and the folder of the libraries.
+PROGRAM ?= bin/polytwkb
+LIBRARIES ?= out
+
+install: $(PROGRAM) $(LIBRARIES)/libpolytwkb.a $(LIBRARIES)/libpolytwkb.so
+	$(INSTALL) -D -m 755 $(PROGRAM) '$(DESTDIR)$(PROGRAM_FILE)'
 	$(INSTALL) -D -m 644 man/polytwkb.1 '$(DESTDIR)$(PAGE_FILE)'
 	$(INSTALL) -D -m 644 completions/polytwkb.bash '$(DESTDIR)$(BASH_FILE)'
 	$(INSTALL) -D -m 644 completions/_polytwkb '$(DESTDIR)$(ZSH_FILE)'
 	$(INSTALL) -D -m 644 completions/polytwkb.fish '$(DESTDIR)$(FISH_FILE)'
 	$(INSTALL) -D -m 644 LICENSE '$(DESTDIR)$(LICENCE_FILE)'
-	$(INSTALL) -D -m 644 out/libpolytwkb.a '$(DESTDIR)$(STATIC_FILE)'
-	$(INSTALL) -D -m 755 out/libpolytwkb.so '$(DESTDIR)$(SHARED_FILE)'
+	$(INSTALL) -D -m 644 $(LIBRARIES)/libpolytwkb.a '$(DESTDIR)$(STATIC_FILE)'
+	$(INSTALL) -D -m 755 $(LIBRARIES)/libpolytwkb.so '$(DESTDIR)$(SHARED_FILE)'
 	ln -sf $(REAL_NAME) '$(DESTDIR)$(SONAME_LINK)'
 	ln -sf $(SONAME) '$(DESTDIR)$(SHARED_LINK)'
 	$(INSTALL) -D -m 644 include/polytwkb.h '$(DESTDIR)$(HEADER_FILE)'
@@ -186,8 +219,9 @@ uninstall:
 	rm -rf '$(DESTDIR)$(DOC_DIR)'
 
 # Built files for users without the kit.
-dist: build lib
+dist: build lib static
 	scripts/dist.sh dist
+	@if command -v $(ARM64_CC) > /dev/null; then $(MAKE) -s arm64 && scripts/dist.sh dist arm64; else echo "left out of dist/: 64-bit ARM, as $(ARM64_CC) is not there"; fi
 
 dist-test: dist
 	scripts/dist_test.sh

@@ -2,7 +2,11 @@
 # Packs the files of `make install` into an archive and a package for Debian, and the package for Python into a
 # wheel, with their sums, for users without the kit:
 #
-#   scripts/dist.sh FOLDER
+#   scripts/dist.sh FOLDER            of this machine's processor
+#   scripts/dist.sh FOLDER arm64      of what `make arm64` built
+#
+# The archive has the program with the C library in it, which runs on any Linux of its processor; the package has
+# the one that asks for the system's.
 #
 # HOMEPAGE, if it is set, is the address of the sources, which each of them then names.
 #
@@ -15,17 +19,23 @@ umask 022
 export LC_ALL=C
 unset MAKEFLAGS MAKELEVEL
 version=$(sed -n 's/^pub const VERSION: &str = "\(.*\)";/\1/p' crates/twkb_convert/src/version.rt)
-# the processor that the program was built for: its name for Linux, for Debian and for a reader
-case $(readelf -h bin/polytwkb | sed -n 's/^ *Machine: *//p') in
+# the program, the folder of the libraries and of the static program
+program=bin/polytwkb built=out
+[ "${2:-}" != arm64 ] || { program=out/arm64/polytwkb built=out/arm64; }
+# the processor that they were built for: its name for Linux, for Debian and for a reader
+case $(readelf -h $program | sed -n 's/^ *Machine: *//p') in
   *X86-64) machine=x86_64 debian=amd64 processor=x86-64 ;;
-  *) echo "dist.sh: bin/polytwkb is of an unknown processor" >&2; exit 1 ;;
+  AArch64) machine=aarch64 debian=arm64 processor="64-bit ARM" ;;
+  *) echo "dist.sh: $program is of an unknown processor" >&2; exit 1 ;;
 esac
 day=$(sed -n "s/^## .*$version (\(.*\))$/\1/p" CHANGELOG.md | head -n 1)
 [ -n "$day" ] || { echo "CHANGELOG.md has no version $version" >&2; exit 1; }
 SOURCE_DATE_EPOCH=${SOURCE_DATE_EPOCH:-$(date -u -d "$day 12:00" +%s)}
 export SOURCE_DATE_EPOCH
-# the newest version of the C library whose symbols the program or the shared library uses
-libc=$(grep -aoh 'GLIBC_[0-9.]*' bin/polytwkb out/libpolytwkb.so | sort -Vu | tail -n 1 | cut -d _ -f 2)
+# newest FILE..: the newest version of the C library whose symbols these files use
+newest() { grep -aoh 'GLIBC_[0-9.]*' "$@" | sort -Vu | tail -n 1 | cut -d _ -f 2; }
+libc=$(newest $program $built/libpolytwkb.so)
+library_libc=$(newest $built/libpolytwkb.so)
 name=polytwkb-$version-$machine-linux
 work=$(mktemp -d)
 trap 'rm -rf "$work"' EXIT
@@ -35,13 +45,13 @@ address=/@HOMEPAGE@/d
 [ -z "${HOMEPAGE:-}" ] || address="s|@HOMEPAGE@|$HOMEPAGE|"
 filled() {
   sed -e "s|@VERSION@|$version|" -e "s|@MACHINE@|$machine|" -e "s|@DEBIAN@|$debian|" -e "s|@PROCESSOR@|$processor|" \
-    -e "s|@LIBC@|$libc|" -e "s|@SIZE@|${size:-}|" -e "$address" "$1"
+    -e "s|@LIBC@|$libc|" -e "s|@LIBRARY_LIBC@|$library_libc|" -e "s|@SIZE@|${size:-}|" -e "$address" "$1"
 }
 dated() { find "$1" -exec touch -h -d "@$SOURCE_DATE_EPOCH" {} +; }
 
 archive() {
   local tree=$work/$name
-  make -s install DESTDIR="$work" PREFIX="/$name"
+  make -s install PROGRAM=$built/static/polytwkb LIBRARIES=$built DESTDIR="$work" PREFIX="/$name"
   # it may be unpacked anywhere
   sed -i -e "s|^prefix=.*|prefix=\${pcfiledir}/../..|" -e "s|=/$name/|=\${prefix}/|" "$tree/lib/pkgconfig/polytwkb.pc"
   filled packaging/README.in > "$tree/README"
@@ -57,14 +67,14 @@ changelog() {
 # the line that the linker needs for the shared library, if its name has a version
 shlibs() {
   local soname
-  soname=$(readelf -d out/libpolytwkb.so | sed -n 's/.*Library soname: \[\(.*\)\]$/\1/p')
+  soname=$(readelf -d $built/libpolytwkb.so | sed -n 's/.*Library soname: \[\(.*\)\]$/\1/p')
   [[ $soname != *.so.* ]] || echo "${soname%%.so.*} ${soname#*.so.} polytwkb (>= $version)"
 }
 
 package() {
   local tree=$work/package size
   local documents=$tree/usr/share/doc/polytwkb
-  make -s install DESTDIR="$tree" PREFIX=/usr LIBDIR="/usr/lib/$machine-linux-gnu" ZSHDIR=/usr/share/zsh/vendor-completions
+  make -s install PROGRAM=$program LIBRARIES=$built DESTDIR="$tree" PREFIX=/usr LIBDIR="/usr/lib/$machine-linux-gnu" ZSHDIR=/usr/share/zsh/vendor-completions
   find "$tree/usr/lib" -type f -exec chmod 644 {} +
   gzip -9n "$tree/usr/share/man/man1/polytwkb.1"
   mv "$documents/LICENSE" "$documents/copyright"
@@ -85,6 +95,6 @@ mkdir -p "$folder"
 rm -f "$folder"/polytwkb-*-"$machine"-linux.tar.gz "$folder"/polytwkb_*_"$debian".deb "$folder"/polytwkb-*_"$machine".whl "$folder/SHA256SUMS"
 archive
 package
-scripts/wheel.py "$folder" > /dev/null
+scripts/wheel.py "$folder" $built/libpolytwkb.so > /dev/null
 (cd "$folder" && sha256sum ./*.tar.gz ./*.deb ./*.whl | sed 's|\./||' > SHA256SUMS)
 cat "$folder/SHA256SUMS"

@@ -111,10 +111,10 @@ stand_alone() {
   done
 }
 
-used() { # NAME ROOT PREFIX LIBDIR
+used() { # NAME ROOT PREFIX LIBDIR PROGRAM
   report "$1: packs, shows and unpacks" converts inside "$2" "$3/bin/polytwkb"
   report "$1: so do programs in C and Python over its libraries" calls "$2" "$3" "$4"
-  report "$1: the program is the one that was built" cmp bin/polytwkb "$2$3/bin/polytwkb"
+  report "$1: the program is the one that was built" cmp "$5" "$2$3/bin/polytwkb"
   report "$1: the manual page" grep -q polytwkb <(zcat -f "$2$3"/share/man/man1/polytwkb.1*)
   report "$1: pages and recipes" stand_alone "$2$3/share/doc/polytwkb" "$2$3/bin"
 }
@@ -122,7 +122,9 @@ used() { # NAME ROOT PREFIX LIBDIR
 # ---- the checks
 
 sums() { (cd dist && sha256sum -c SHA256SUMS); }
-made_again() { scripts/dist.sh "$work/again" && cmp dist/SHA256SUMS "$work/again/SHA256SUMS"; }
+made_again() {
+  scripts/dist.sh "$work/again" && { [ ! -e out/arm64/polytwkb ] || scripts/dist.sh "$work/again" arm64; } && cmp dist/SHA256SUMS "$work/again/SHA256SUMS"
+}
 report "the sums" sums
 report "made again, the same bytes" made_again
 [ -n "$enter" ] || skip "roots: this user can't enter one, so what is in them is run from outside"
@@ -154,7 +156,12 @@ taken_away() {
 report "archive: what its README shows" as_shown
 report "archive: is installed and taken away as its README shows" taken_away
 report "archive: is unpacked" unpacked "$work/archive"
-used "archive" "$work/archive" /usr/local /usr/local/lib
+used "archive" "$work/archive" /usr/local /usr/local/lib out/static/polytwkb
+# a root with the command and nothing else, no C library and no /dev
+alone() {
+  mkdir -p "$work/alone" && cp "$work/archive/usr/local/bin/polytwkb" "$work/alone/" && converts inside "$work/alone" /polytwkb
+}
+report "archive: the command runs where nothing else is" alone
 
 by_dpkg() {
   empty_root "$1" && mkdir -p "$1/var/lib/dpkg/info" "$1/var/lib/dpkg/updates" && touch "$1/var/lib/dpkg/status" &&
@@ -165,7 +172,7 @@ removed() {
   fakeroot_if_needed dpkg --root="$1" --log=/dev/null --force-not-root --purge polytwkb && [ -z "$(find "$1/usr" -name '*polytwkb*')" ]
 }
 report "package: is installed" by_dpkg "$work/package"
-used "package" "$work/package" /usr /usr/lib/x86_64-linux-gnu
+used "package" "$work/package" /usr /usr/lib/x86_64-linux-gnu bin/polytwkb
 report "package: is removed" removed "$work/package"
 if is_there lintian; then
   report "package: lintian" lintian --fail-on error,warning "$package"

@@ -7,6 +7,11 @@ the crates below.
 `rt ci` leaves no stamps with its libraries, so `rt` would prove each of them again. Here they are taken as
 built, which is right only in a copy over which `rt ci` has just passed. The crate itself is proved. A kit with
 other scripts proves everything, as `rt` does.
+
+If TARGET names another kind of machine, as aarch64-unknown-linux-gnu, the crate is proved and built for that one,
+with the tools in the folder TOOLCHAIN. A program is then linked with the archive SHIMS in place of the kit's
+functions of C, and is not run. `rt` has no word for another target, so each command of `rattle` that it would run
+gets one more.
 """
 import importlib.util
 import os
@@ -15,11 +20,40 @@ import sys
 
 sys.dont_write_bytecode = True
 kit = os.path.dirname(subprocess.run(["rt", "doc"], stdout=subprocess.PIPE, text=True, check=True).stdout.strip())
+target = os.environ.get("TARGET")
 spec = importlib.util.spec_from_file_location("rtlib", os.path.join(kit, "bin", "rtlib.py"))
 if not os.path.exists(spec.origin):
+    if target:
+        sys.exit("over_proved.py: this kit's rt cannot be led to another target")
     os.execvp("rt", ["rt", *sys.argv[1:]])
 rtlib = importlib.util.module_from_spec(spec)
 sys.modules["rtlib"] = rtlib
 spec.loader.exec_module(rtlib)
 rtlib.Crate.is_built = lambda crate: os.path.isdir(crate.rlib)
+call = rtlib.Crate.call
+
+
+def for_target(words):
+    """The words of a command of the kit, for the other target."""
+    tool = os.path.basename(words[0])
+    words = [os.environ["TOOLCHAIN"] if word == f"{kit}/toolchain" else word for word in words]
+    if tool == "rattle":
+        words[2:2] = ["--target", target]
+    elif tool == "rattle-link":
+        words[words.index("--target") + 1] = target
+        words = [word for word in words if not word.startswith(f"{kit}/c/")] + [os.environ["SHIMS"]]
+    return words
+
+
+def call_for_target(crate, *words, **more):
+    words = for_target(list(words))
+    status = call(crate, *words, **more)
+    if os.path.basename(words[0]) == "rattle-link":
+        # the program of another machine, which `rt run` would start next
+        sys.exit(status)
+    return status
+
+
+if target:
+    rtlib.Crate.call = call_for_target
 sys.exit(rtlib.main(*sys.argv[1:]))

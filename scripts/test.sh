@@ -11,7 +11,7 @@ cd "$(dirname "$0")/.." || exit 1
 source scripts/kit.bash
 exec < /dev/null
 unset MAKEFLAGS MAKELEVEL
-parts="smoke completions fuzz library machines documents dist hostile"
+parts="smoke completions fuzz library machines documents dist hostile arm64"
 work=$(mktemp -d)
 trap 'rm -rf "$work"' EXIT
 
@@ -40,6 +40,10 @@ node nodejs
 /usr/lib/python3/dist-packages/distributed python3-distributed
 pv pv
 go golang-go
+aarch64-linux-gnu-gcc gcc-aarch64-linux-gnu
+/usr/aarch64-linux-gnu/include/stdio.h libc6-dev-arm64-cross
+qemu-aarch64-static qemu-user-static
+debootstrap debootstrap
 END
 }
 
@@ -107,6 +111,11 @@ machines() {
   done
 }
 dist() { lacks dist make cc dpkg-deb || make -s dist-test; }
+arm64() {
+  lacks "64-bit ARM" make cc aarch64-linux-gnu-gcc qemu-aarch64-static && return
+  if packaging/arm64/shims/compare.sh; then echo "ok    arm64: the functions of C are the kit's"; else echo "FAIL  arm64: the functions of C are not the kit's"; fi
+  make -s arm64-test
+}
 library() {
   lacks library make cc && return
   make -s lib-test || return 1
@@ -153,8 +162,9 @@ if [ $status -eq 0 ]; then
   echo "fuzz: seed $seed"
   make -s bin/refuse.so > /dev/null 2>&1
   lane smoke completions fuzz &
-  lane library machines documents dist &
-  lane hostile &
+  lane library machines documents &
+  # one after the other, since both build for 64-bit ARM
+  lane hostile arm64 dist &
   wait
   for name in $parts; do [ -e "$work/$name.counts" ] || echo "0 passed, 1 failed" > "$work/$name.counts"; done
 else

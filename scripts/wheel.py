@@ -1,7 +1,7 @@
 #!/usr/bin/env python3
 """Packs the package python/polytwkb and the shared library into a wheel, with no tool but this Python:
 
-    scripts/wheel.py FOLDER
+    scripts/wheel.py FOLDER [LIBRARY]
 
 The same build gives the same bytes: names are sorted, and each time is noon of the day of the version in
 CHANGELOG.md. HOMEPAGE, if it is set, is the address of the sources.
@@ -15,7 +15,6 @@ import zipfile
 
 REPO = os.path.abspath(os.path.join(os.path.dirname(__file__), ".."))
 PACKAGE = os.path.join(REPO, "python", "polytwkb")
-LIBRARY = os.path.join(REPO, "out", "libpolytwkb.so")
 # The processors by their numbers in a file of ELF.
 MACHINES = {62: "x86_64", 183: "aarch64"}
 
@@ -60,8 +59,8 @@ def tags_of(tag):
     return "".join(f"Tag: {language}-{interface}-{platform}\n" for platform in platforms.split("."))
 
 
-def main(folder):
-    number, library = version(), bytes_of(LIBRARY)
+def main(folder, library_file=os.path.join(REPO, "out", "libpolytwkb.so")):
+    number, library = version(), bytes_of(library_file)
     day, tag, facts = day_of(number), tag_of(library), f"polytwkb-{number}.dist-info"
     files = {f"polytwkb/{name}": bytes_of(os.path.join(PACKAGE, name)) for name in os.listdir(PACKAGE) if name.endswith((".py", ".typed"))}
     files["polytwkb/libpolytwkb.so"] = library

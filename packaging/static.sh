@@ -1,0 +1,26 @@
+#!/usr/bin/env bash
+# Proves and compiles the program as for `make build`, and links it with the C library in it:
+#
+#   packaging/static.sh FILE
+#
+# The system's linker takes the C library's archive, so what is linked is trusted as the shared one is.
+set -euo pipefail
+# shellcheck source=scripts/proofs.bash
+source "$(dirname "$0")/../scripts/proofs.bash"
+file=$(realpath -m "$1")
+kit=$(dirname "$(rt doc)")
+work=$(mktemp -d)
+trap 'cleared "$work"' EXIT
+line=$(grep '^polytwkb:' "$repository/crates.txt")
+# shellcheck disable=SC2086 # names of crates
+libraries "$work/copy" ${line#*:}
+tar -c -C "$repository" --exclude=out --exclude=must-fail crates/polytwkb | tar -x -C "$work/copy"
+echo "$line" >> "$work/copy/crates.txt"
+# without a word the program ends with status 2, which says that it was built
+status=0
+over "$work/copy" polytwkb run < /dev/null || status=$?
+object=$work/copy/crates/polytwkb/out/polytwkb.o
+[ "$status" -eq 2 ] && [ -s "$object" ] || { cat "$work/copy.log"; exit 1; }
+mkdir -p "$(dirname "$file")"
+cc -static-pie -o "$file" "$object" "$kit/c/libos_c.a" "$kit/c/liblibc_c.a"
+echo "$1 is built"

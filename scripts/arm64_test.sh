@@ -1,0 +1,142 @@
+#!/usr/bin/env bash
+# Runs the program and the libraries for 64-bit ARM under qemu, and compares them with stored answers and with
+# those of this machine's build: one line for each check, status 1 if one failed.
+#
+#   scripts/arm64_test.sh        after `make build lib arm64 out/arm64/vectors`
+#
+# CASES is the number of cases of tests/fuzz. A program under qemu gets any limit of memory granted and keeps none,
+# so tests/hostile/sizes.py and the package's test of little memory are not run.
+set -uo pipefail
+cd "$(dirname "$0")/.." || exit 1
+repository=$PWD
+built=$repository/out/arm64
+cross=aarch64-linux-gnu
+root=/usr/$cross
+export LC_ALL=C
+unset MAKEFLAGS MAKELEVEL
+work=$(mktemp -d)
+trap 'rm -rf "$work"' EXIT
+failed=0
+
+# report NAME COMMAND..: prints the line of a check, with the end of its output if it fails.
+report() {
+  local name=$1
+  shift
+  if "$@" > "$work/said" 2>&1; then
+    echo "ok    arm64: $name"
+  else
+    failed=1
+    echo "FAIL  arm64: $name: $(tail -c 700 "$work/said" | tr '\n' '/')"
+  fi
+}
+skip() { echo "skip  arm64, $1"; }
+arm() { qemu-aarch64-static -L "$root" "$@"; }
+
+# starter PROGRAM FILE [ROOT]: makes a file that this machine can start, and that runs a program of ARM.
+starter() { cc -static -O1 -DROOT="\"${3:-$root}\"" -DPROGRAM="\"$1\"" -o "$2" tests/arm64/under_qemu.c; }
+
+# ---- the program
+
+# A copy of what the scripts read, in which bin/polytwkb starts the program of ARM.
+tree=$work/tree
+mkdir -p "$tree/bin" "$tree/out"
+cp -r scripts tests examples python include "$tree/"
+cp -a "$built"/libpolytwkb.* "$tree/out/"
+starter "$built/polytwkb" "$tree/bin/polytwkb" || exit 1
+$cross-gcc -O1 -shared -fPIC -o "$tree/bin/refuse.so" tests/hostile/refuse.c || exit 1
+
+vectors() { arm "$built/vectors" < crates/vectors/stdin | cmp - crates/vectors/stdout; }
+same() { cmp <(bin/polytwkb "$@" < "$work/input" 2>&1) <("$tree/bin/polytwkb" "$@" < "$work/input" 2>&1); }
+as_here() {
+  cp examples/collection.csv "$work/input"
+  same pack && same pack --style plain && same --help && same pack --help && same --version && same unpack || return 1
+  bin/polytwkb pack < examples/collection.csv > "$work/input"
+  same show && same unpack
+}
+smoke() { (cd "$tree" && MEGABYTES=2 scripts/smoke.sh); }
+fuzz() {
+  (cd "$tree" && python3 -B tests/fuzz/fuzz.py --cases "${CASES:-5000}" --seed "${SEED:-$(date -u +%Y%m%d)}" --processes 2 --program bin/polytwkb --library bin/refuse.so)
+}
+each_failing() { (cd "$tree" && python3 -B tests/hostile/each_failing.py bin/polytwkb bin/refuse.so); }
+
+# Segments lie at multiples of 64 kB, so that machines with pages of that size can load them.
+pages() {
+  local file
+  for file in "$built/polytwkb" "$(realpath "$built/libpolytwkb.so")"; do
+    readelf -lW "$file" | awk '$1 == "LOAD" { loads++; if (strtonum($NF) < 65536) exit 1 } END { exit loads == 0 }' || { echo "$file"; return 1; }
+  done
+}
+
+report "the stored answers of the program vectors" vectors
+report "the example and the texts of help, as here" as_here
+report "segments fit pages of 64 kB" pages
+report "each call of the program failing" each_failing
+report "smoke" smoke
+report "a second implementation, random inputs" fuzz
+
+# ---- the library
+
+compile() { $cross-gcc -std=c11 -O1 -Wall -Wextra -Werror -Iinclude -o "$work/$1" "${@:2}"; }
+in_c() {
+  compile static examples/c/convert.c "$built/libpolytwkb.a" && arm "$work/static" &&
+    compile shared examples/c/convert.c -L"$built" -lpolytwkb -Wl,-rpath,"$built" && arm "$work/shared"
+}
+growths() {
+  local wraps=(-Wl,--wrap=malloc -Wl,--wrap=realloc)
+  compile growths tests/arm64/growths.c "$built/libpolytwkb.a" "${wraps[@]}" && arm "$work/growths" < examples/collection.csv > "$work/arm" &&
+    cc -std=c11 -O1 -Iinclude -o "$work/growths_here" tests/arm64/growths.c out/libpolytwkb.a "${wraps[@]}" && "$work/growths_here" < examples/collection.csv | cmp - "$work/arm"
+}
+report "the example in C, static and shared" in_c
+report "each growth of the library refused, as here" growths
+
+# ---- archive, package and wheel
+
+# What scripts/dist.sh makes of this build; `make dist` makes the same.
+packed() { scripts/dist.sh "$work/dist" arm64 && scripts/dist.sh "$work/again" arm64 && cmp "$work/dist/SHA256SUMS" "$work/again/SHA256SUMS"; }
+
+# through COMMAND..: packs and unpacks the example.
+through() { "$@" pack < examples/collection.csv | "$@" unpack | cmp - examples/collection.csv; }
+
+# A root of this processor with the C library and nothing else.
+c_root() {
+  mkdir -p "$1/lib" "$1/tmp" && cp -L "$root"/lib/{ld-linux-aarch64.so.1,libc.so.6} "$1/lib/"
+}
+in_root() { local at=$1; shift; qemu-aarch64-static -L "$at" "$@"; }
+by_dpkg() {
+  local at=$work/package
+  c_root "$at" && mkdir -p "$at"/var/lib/dpkg/{info,updates} && touch "$at/var/lib/dpkg/status" &&
+    dpkg --root="$at" --log=/dev/null --path-include='*' --force-architecture --force-depends --force-not-root --install "$work"/dist/polytwkb_*_arm64.deb &&
+    through in_root "$at" "$at/usr/bin/polytwkb" &&
+    $cross-gcc -std=c11 -o "$at/tmp/shared" examples/c/convert.c -I"$at/usr/include" -L"$at/usr/lib/$cross" -lpolytwkb &&
+    in_root "$at" -E LD_LIBRARY_PATH="$at/usr/lib/$cross" "$at/tmp/shared"
+}
+by_archive() {
+  local at=$work/archive words
+  mkdir -p "$at" && tar -xzf "$work"/dist/polytwkb-*-aarch64-linux.tar.gz -C "$at" --strip-components=1 || return 1
+  # nothing but the command: no C library
+  through in_root /nonexistent "$at/bin/polytwkb" || return 1
+  read -ra words <<< "$(PKG_CONFIG_PATH="$at/lib/pkgconfig" pkg-config --cflags --libs polytwkb)"
+  $cross-gcc -std=c11 -o "$work/archived" examples/c/convert.c "${words[@]}" && arm -E LD_LIBRARY_PATH="$at/lib" "$work/archived"
+}
+# The wheel by the pip and the Python of ARM, in a root that debootstrap filled; then the package's tests over it.
+by_pip() {
+  local at=$1 pip package
+  debootstrap --foreign --arch=arm64 --variant=minbase --include=python3 bookworm "$at" || return 1
+  for package in "$at"/var/cache/apt/archives/*.deb; do dpkg-deb -x "$package" "$at" || return 1; done
+  starter "$(realpath "$at/usr/bin/python3")" "$work/python3" "$at" || return 1
+  pip=$(python3 -c 'import ensurepip, glob, os; print(glob.glob(os.path.join(os.path.dirname(ensurepip.__file__), "_bundled", "pip-*.whl"))[0])')
+  export PYTHONHOME=$at/usr
+  "$work/python3" -B "$pip/pip" install -q --disable-pip-version-check --root-user-action=ignore --no-index --no-compile --target "$work/wheel" "$work"/dist/polytwkb-*_aarch64.whl &&
+    cd python/tests && PYTHONPATH=$work/wheel "$work/python3" -B "$repository/tests/arm64/package_tests.py"
+}
+
+report "archive, package and wheel, twice the same bytes" packed
+report "the package in a root of its processor" by_dpkg
+if command -v lintian > /dev/null; then report "the package: lintian" lintian --allow-root --fail-on error,warning "$work"/dist/polytwkb_*_arm64.deb; fi
+if command -v pkg-config > /dev/null; then report "the archive, with no C library" by_archive; else skip "archive: pkg-config is not there"; fi
+if ! command -v debootstrap > /dev/null || [ "$(id -u)" -ne 0 ]; then
+  skip "wheel: debootstrap is not there, or this is not root"
+else
+  report "the wheel by pip, and the package's tests" by_pip "$work/python"
+fi
+exit "$failed"
