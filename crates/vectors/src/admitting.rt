@@ -33,7 +33,10 @@ fn points_of(alloc: Global, fields: &str) -> Vec<Pt> {
 
 // Whether a form admits a row with these points, which is then pushed.
 fn is_pushed(flat: &mut Flat, row: Row, points: &[Pt]) -> bool {
-    flat.admits(&row, points) && flat.push(row, points).is_ok()
+    if !flat.admits(&row, points) {
+        return false;
+    }
+    flat.push(row, points).is_ok()
 }
 
 /// Prints whether a form, which is empty at first, admits each of these rows; one that is

@@ -299,7 +299,8 @@ fn each_way_gives(
     is_given &= rows.as_slice() == blobs;
     for length in 1..bytes.len().saturating_add(1) {
         is_given &= pieces_give(alloc, limits, length, bytes, blobs, fault);
-        let halves = (&bytes[..length], &bytes[length..]);
+        let cut = length.min(bytes.len());
+        let halves = (&bytes[..cut], &bytes[cut..]);
         is_given &= halves_give(alloc, limits, halves, blobs, fault);
     }
     is_given
