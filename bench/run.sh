@@ -1,5 +1,5 @@
 #!/usr/bin/env bash
-# Measures the three commands beside the plain Rust program of bench/plain (wants `cargo`; `csv` of Debian's librust-csv-dev, or of
+# Measures the three commands beside the plain Rust program of bench/plain (needs `cargo`; `csv` of Debian's librust-csv-dev, or of
 # cargo's registry, and a loop of ours in its place where neither is there). Not part of the tests.
 #
 #   run.sh [--megabytes 40] [--points 10000000] [--rounds 9] [--cases CASE ..] [--docs]

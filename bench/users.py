@@ -273,7 +273,7 @@ def circumstances(options, read_by):
 def main():
     options = parse_words()
     if not os.path.exists("/usr/bin/time"):
-        sys.exit("/usr/bin/time, which tells the peak of memory, is not there")
+        sys.exit("/usr/bin/time, which reports the peak of memory, is not there")
     read_by = subprocess.run([options.plain, "records"], stdout=subprocess.PIPE, check=True, text=True).stdout.strip()
     line = circumstances(options, read_by)
     print(f"{line}\n\n{HEAD}", flush=True)
