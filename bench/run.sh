@@ -1,10 +1,11 @@
 #!/usr/bin/env bash
-# Measures the three commands beside the plain Rust program of bench/plain (wants `cargo`; `csv` of Debian's librust-csv-dev, or of
+# Measures the three commands beside the plain Rust program of bench/plain (needs `cargo`; `csv` of Debian's librust-csv-dev, or of
 # cargo's registry, and a loop of ours in its place where neither is there). Not part of the tests.
 #
 #   run.sh [--megabytes 40] [--points 10000000] [--rounds 9] [--cases CASE ..] [--docs]
 #           seven tables: user and system time, best of the rounds, both programs in turn; peak memory; the time over that for half as
-#           much. Both write the same bytes, which is checked by hash. --docs puts table and picture into docs/. About 10 minutes.
+#           much; and the sizes of table and stream. Both write the same bytes, which is checked by hash. --docs puts tables, picture
+#           and lines of text into the pages. About 10 minutes.
 #   run.sh instructions [CASE ..]
 #           instructions a row and a point by `valgrind --tool=callgrind` on small tables, and the functions that hold most
 #

@@ -34,7 +34,8 @@ def parse_words():
     parser.add_argument("--points", type=int, default=10_000_000, help="points of the long line (10000000)")
     parser.add_argument("--rounds", type=int, default=9, help="runs of each program, of which the best counts (9)")
     parser.add_argument("--cases", nargs="+", default=list(CASES), choices=list(CASES), help="only these tables")
-    parser.add_argument("--docs", action="store_true", help="write the tables and the picture into docs/ too, and the lines on size and speed into README.md and docs/USING.md")
+    pages = "write the tables and the picture into docs/, and the lines on size and speed into README.md and docs/USING.md"
+    parser.add_argument("--docs", action="store_true", help=pages)
     for word in ("polytwkb", "plain", "maker", "folder"):
         parser.add_argument(word, help=argparse.SUPPRESS)
     return parser.parse_args()
@@ -105,12 +106,17 @@ class Table:
         return {name: peak_of(self.programs[name], word, self.source(word)) for name in PROGRAMS}
 
     def sizes(self):
-        """The bytes of the table, of its streams in both styles and of the same geometries as WKB, and of the first two after gzip."""
+        """The bytes of the table, of its streams in both styles, of its geometries as WKB, and of the first two after gzip."""
+        plain = [self.programs["polytwkb"], "pack", "--style", "plain"]
         with open(self.table, "rb") as reads:
-            plain = subprocess.run([self.programs["polytwkb"], "pack", "--style", "plain"], stdin=reads, stdout=subprocess.PIPE, check=True)
+            plain_length = len(subprocess.run(plain, stdin=reads, stdout=subprocess.PIPE, check=True).stdout)
         return {
-            "table": os.path.getsize(self.table), "full": os.path.getsize(self.stream), "plain": len(plain.stdout), "wkb": wkb_length(self.table),
-            "table_gzip": deflated_length(self.table), "full_gzip": deflated_length(self.stream),
+            "table": os.path.getsize(self.table),
+            "full": os.path.getsize(self.stream),
+            "plain": plain_length,
+            "wkb": wkb_length(self.table),
+            "table_gzip": deflated_length(self.table),
+            "full_gzip": deflated_length(self.stream),
         }
 
     def remove(self):
@@ -187,7 +193,10 @@ PAGE_HEAD = (
     "|---|---|---|---|---|---|---|---|---|"
 )
 
-SIZES = {"table": "table", "full": "stream, full", "plain": "stream, plain", "wkb": "WKB", "table_gzip": "table, gzip", "full_gzip": "stream, gzip"}
+SIZES = {
+    "table": "table", "full": "stream, full", "plain": "stream, plain", "wkb": "WKB",
+    "table_gzip": "table, gzip", "full_gzip": "stream, gzip",
+}
 SIZES_HEAD = f"| MB of | {' | '.join(SIZES.values())} |\n|---|{'---|' * len(SIZES)}"
 
 PICTURE = "![Time of polytwkb over that of the plain program, for each table and command](benchmark.svg)"
@@ -264,7 +273,7 @@ def circumstances(options, read_by):
 def main():
     options = parse_words()
     if not os.path.exists("/usr/bin/time"):
-        sys.exit("/usr/bin/time, which tells the peak of memory, is not there")
+        sys.exit("/usr/bin/time, which reports the peak of memory, is not there")
     read_by = subprocess.run([options.plain, "records"], stdout=subprocess.PIPE, check=True, text=True).stdout.strip()
     line = circumstances(options, read_by)
     print(f"{line}\n\n{HEAD}", flush=True)

@@ -10,8 +10,8 @@
 #
 # HOMEPAGE, if it is set, is the address of the sources, which each of them then names.
 #
-# The same build gives the same bytes: names are sorted, and each time is noon of the day of the version in
-# CHANGELOG.md.
+# The same build gives the same bytes: names are sorted, and each time is the first of the day of the version in
+# CHANGELOG.md, in UTC.
 set -euo pipefail
 folder=$(realpath -m "$1")
 cd "$(dirname "$0")/.."
@@ -30,7 +30,7 @@ case $(readelf -h $program | sed -n 's/^ *Machine: *//p') in
 esac
 day=$(sed -n "s/^## .*$version (\(.*\))$/\1/p" CHANGELOG.md | head -n 1)
 [ -n "$day" ] || { echo "CHANGELOG.md has no version $version" >&2; exit 1; }
-SOURCE_DATE_EPOCH=${SOURCE_DATE_EPOCH:-$(date -u -d "$day 12:00" +%s)}
+SOURCE_DATE_EPOCH=${SOURCE_DATE_EPOCH:-$(date -u -d "$day" +%s)}
 export SOURCE_DATE_EPOCH
 # newest FILE..: the newest version of the C library whose symbols these files use
 newest() { grep -aoh 'GLIBC_[0-9.]*' "$@" | sort -Vu | tail -n 1 | cut -d _ -f 2; }

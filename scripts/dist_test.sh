@@ -125,8 +125,20 @@ sums() { (cd dist && sha256sum -c SHA256SUMS); }
 made_again() {
   scripts/dist.sh "$work/again" && { [ ! -e out/arm64/polytwkb ] || scripts/dist.sh "$work/again" arm64; } && cmp dist/SHA256SUMS "$work/again/SHA256SUMS"
 }
+# the address of the sources, in each if there is one, and else in none
+addresses() {
+  dpkg-deb -f "$1"/*_"$debian".deb Homepage
+  tar -xzOf "$1"/polytwkb-*-"$machine"-linux.tar.gz --wildcards '*/README' | sed -n 's/^Sources: //p'
+  python3 -c 'import sys, zipfile; file = zipfile.ZipFile(sys.argv[1]); print(file.read(next(name for name in file.namelist() if name.endswith("/METADATA"))).decode())' \
+    "$1"/*"$machine".whl | sed -n 's/^Project-URL: Source, //p'
+}
+addressed() {
+  HOMEPAGE=https://example.org/polytwkb scripts/dist.sh "$work/addressed" &&
+    diff <(addresses "$work/addressed") <(yes https://example.org/polytwkb | head -n 3) && { [ -n "${HOMEPAGE:-}" ] || [ -z "$(addresses dist)" ]; }
+}
 report "the sums" sums
 report "made again, the same bytes" made_again
+report "the address of the sources" addressed
 [ -n "$enter" ] || skip "roots: this user can't enter one, so what is in them is run from outside"
 is_there pkg-config || skip "pkg-config is not there"
 
@@ -171,11 +183,13 @@ fakeroot_if_needed() { if [ "$(id -u)" -eq 0 ] || ! is_there fakeroot; then "$@"
 removed() {
   fakeroot_if_needed dpkg --root="$1" --log=/dev/null --force-not-root --purge polytwkb && [ -z "$(find "$1/usr" -name '*polytwkb*')" ]
 }
+# no fault, and no override by an old name
+lints() { lintian --pedantic --fail-on error,warning "$package" > "$work/lint" 2>&1 && ! grep renamed-tag "$work/lint" || { cat "$work/lint"; return 1; }; }
 report "package: is installed" by_dpkg "$work/package"
 used "package" "$work/package" /usr /usr/lib/x86_64-linux-gnu bin/polytwkb
 report "package: is removed" removed "$work/package"
 if is_there lintian; then
-  report "package: lintian" lintian --fail-on error,warning "$package"
+  report "package: lintian" lints
 else
   skip "lintian is not there"
 fi

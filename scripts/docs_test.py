@@ -1,8 +1,8 @@
 #!/usr/bin/env python3
 """Runs the commands that documents show, and compares their output with the output shown. Compares the callers
-in the READMEs of crates with the files of the crate `examples`, which the gate proves. Then checks the words,
-links and marks of pages (scripts/pages.py), the tables of promises (scripts/promises.py), and numbers, names and
-texts of reasons (scripts/reasons.py).
+in the READMEs of crates with the files of the crate `examples`, which the gate proves. Then checks the links of
+pages and what README.md says to type (scripts/pages.py), the tables of promises (scripts/promises.py), and numbers,
+names and texts of reasons (scripts/reasons.py).
 
     scripts/docs_test.py [FILE ..]
     scripts/docs_test.py --pages      all but the commands, for which a program is needed

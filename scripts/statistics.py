@@ -206,7 +206,7 @@ class Counts:
             ("Clauses", self.clauses, CLAUSE_MOST, "characters"),
             ("Definitions of `specs/`", self.definitions, DEFINITION_MOST, "lines"),
             ("Functions", self.functions, FUNCTION_MOST, "lines"),
-            ("Functions", self.arguments, ARGUMENTS_MOST, "arguments"),
+            ("Functions, with those that have no body,", self.arguments, ARGUMENTS_MOST, "arguments"),
             ("Bodies of tests", self.tests, TEST_MOST, "lines"),
             ("Files", self.files, FILE_MOST, "lines"),
             ("Lines", self.widths, WIDTH_MOST, "columns"),

@@ -36,6 +36,7 @@ jq jq
 xxd xxd
 parallel parallel
 node nodejs
+/usr/share/python-wheels python3-venv
 /usr/lib/python3/dist-packages/polyline python3-polyline
 /usr/lib/python3/dist-packages/distributed python3-distributed
 pv pv

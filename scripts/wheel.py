@@ -3,8 +3,8 @@
 
     scripts/wheel.py FOLDER [LIBRARY]
 
-The same build gives the same bytes: names are sorted, and each time is noon of the day of the version in
-CHANGELOG.md. HOMEPAGE, if it is set, is the address of the sources.
+The same build gives the same bytes: names are sorted, and each time is the first of the day of the version in
+CHANGELOG.md, in UTC. HOMEPAGE, if it is set, is the address of the sources.
 """
 import base64
 import hashlib
@@ -41,7 +41,7 @@ def version():
 def day_of(number):
     """The day of a version."""
     year, month, day = re.search(rf"^## .*{re.escape(number)} \((\d+)-(\d+)-(\d+)\)$", text_of("CHANGELOG.md"), re.M).groups()
-    return int(year), int(month), int(day), 12, 0, 0
+    return int(year), int(month), int(day), 0, 0, 0
 
 
 def tag_of(library):

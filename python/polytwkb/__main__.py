@@ -19,10 +19,24 @@ def lines_of(headers):
 
 # Each command: what it does, its call, and the bytes of what that returns.
 COMMANDS = {
-    "pack": ("Reads a table and writes a stream of blobs, one for each geometry", lambda given, words, limits: pack(given, words.style, limits), bytes),
-    "unpack": ("Reads a stream of blobs and writes a table, the header line first", lambda given, words, limits: unpack(given, limits), str.encode),
-    "show": ("Reads a stream of blobs and writes a line for each TWKB header in it", lambda given, words, limits: show(given, limits), lines_of),
+    "pack": (
+        "Reads a table and writes a stream of blobs, one for each geometry",
+        lambda given, words, limits: pack(given, words.style, limits),
+        bytes,
+    ),
+    "unpack": (
+        "Reads a stream of blobs and writes a table, the header line first",
+        lambda given, words, limits: unpack(given, limits),
+        str.encode,
+    ),
+    "show": (
+        "Reads a stream of blobs and writes a line for each TWKB header in it",
+        lambda given, words, limits: show(given, limits),
+        lines_of,
+    ),
 }
+NEST = "how many collections a geometry may be in, 0 to 32 (16)"
+STYLE = "full: blobs with sizes and boxes; plain: without (full)"
 
 
 def parser():
@@ -34,9 +48,9 @@ def parser():
     commands = words.add_subparsers(dest="command", metavar="COMMAND", required=True)
     for name, (does, _, _) in COMMANDS.items():
         command = commands.add_parser(name, allow_abbrev=False, help=does, description=does)
-        command.add_argument("--max-nest", type=int, choices=range(33), default=16, metavar="N", help="how many collections a geometry may be in, 0 to 32 (16)")
+        command.add_argument("--max-nest", type=int, choices=range(33), default=16, metavar="N", help=NEST)
         if name == "pack":
-            command.add_argument("--style", choices=["full", "plain"], default="full", help="full: blobs with sizes and boxes; plain: without (full)")
+            command.add_argument("--style", choices=["full", "plain"], default="full", help=STYLE)
     return words
 
 

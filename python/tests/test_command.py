@@ -29,7 +29,8 @@ class Runs(unittest.TestCase):
                 words = command.parser().parse_args([name, *(f"--{option}={value}" for option, value in options)])
                 given = given.encode() if isinstance(given, str) else given
                 written = []
-                with mock.patch.object(command, "read", lambda: given), mock.patch.object(command, "write", lambda output: not written.append(output)):
+                write = mock.patch.object(command, "write", lambda output: not written.append(output))
+                with mock.patch.object(command, "read", lambda: given), write:
                     status, line = command.run(words)
                 output = written[0].hex() if name == "pack" else written[0].decode().replace("\n", "/")
                 self.assertEqual((output, line or ""), printed)
