@@ -9,6 +9,8 @@
 # make docs-test         the commands that documents show, run and compared; the words, links and promises of the pages
 # make recipes           each recipe and the checks of parts, on many machines too, if the tools are installed
 # make lib               the library for C into out/, static and shared
+# make wasm              the library for browsers and Node into js/, with its JavaScript
+# make wasm-test         its tests in Node and in browsers, if they are installed
 # make lib-test          the examples in C, Python and Go (if installed) over it; in C under valgrind, if installed
 # make lib-bench         times of calls of the library and of the package for Python
 # make wheel             the package for Python with the shared library, into dist/
@@ -19,7 +21,7 @@
 # make fuzz              the program compared with a second implementation, on random inputs (CASES, SEED, PROCESSES)
 # make bench             times and memory, compared with a plain program; BENCH has words for bench/run.sh
 # make clean             removes what was built
-.PHONY: test check build lib lib-test lib-bench wheel python-test demo bench smoke completions-test docs-test recipes hostile fuzz dist dist-test install uninstall clean
+.PHONY: test check build lib lib-test lib-bench wasm wasm-test wheel python-test demo bench smoke completions-test docs-test recipes hostile fuzz dist dist-test install uninstall clean
 
 PREFIX ?= /usr/local
 DESTDIR ?=
@@ -53,7 +55,7 @@ lib: out/libpolytwkb.a out/libpolytwkb.so
 
 # The crate's archive, and the kit's object through which it calls malloc, realloc and free.
 out/libpolytwkb.a: $(SOURCES)
-	@scripts/build.sh twkb_c crates/twkb_c/out/libtwkb_c.a
+	@scripts/build.sh twkb_c crates/twkb_c/out/libtwkb_c.a out/libpolytwkb.bc
 	rm -rf out/objects $@
 	mkdir -p out/objects
 	cd out/objects && $(AR) x ../../crates/twkb_c/out/libtwkb_c.a && $(AR) x "$$(dirname "$$(rt doc)")/c/liblibc_c.a" heap.pic.o
@@ -65,6 +67,20 @@ out/libpolytwkb.so: out/libpolytwkb.a include/polytwkb.map
 	$(CC) -shared -o out/$(REAL_NAME) -Wl,-soname,$(SONAME) -Wl,--version-script=include/polytwkb.map -Wl,--whole-archive $< -Wl,--no-whole-archive
 	ln -s $(REAL_NAME) out/$(SONAME)
 	ln -s $(SONAME) $@
+
+# The LLVM module of the library, which comes with the archive.
+out/libpolytwkb.bc: out/libpolytwkb.a
+	@[ -e $@ ] || { rm $<; $(MAKE) -s $<; }
+	@[ -e $@ ] && [ ! -e $@.many ] || { echo "the kit's compiler does not hand one LLVM module to clang" >&2; exit 1; }
+
+wasm: js/polytwkb.wasm
+
+# The library for browsers and Node, beside the JavaScript that calls it.
+js/polytwkb.wasm: out/libpolytwkb.bc $(wildcard packaging/wasm/*)
+	packaging/wasm/build.sh $< js
+
+wasm-test: js/polytwkb.wasm out/libpolytwkb.so
+	scripts/wasm_test.sh $(CASES) $(SEED)
 
 out/convert: examples/c/convert.c include/polytwkb.h out/libpolytwkb.a
 	$(CC) -std=c11 -O1 -g -Wall -Wextra -Werror -Iinclude -o $@ $< out/libpolytwkb.a
@@ -191,4 +207,4 @@ recipes: build lib
 	@for recipe in examples/recipes/*.sh examples/scale/check*.sh tests/recipes/installed.sh; do echo "$$recipe"; $$recipe || exit 1; done
 
 clean:
-	rm -rf bin out dist bench/out crates/*/out
+	rm -rf bin out dist bench/out crates/*/out js/polytwkb.wasm

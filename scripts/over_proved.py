@@ -1,6 +1,6 @@
 #!/usr/bin/env python3
 """Runs `rt lib` or `rt run` of the crate in this folder, over the libraries that `rt ci` left in the folders of
-the crates below.
+the crates below. KIT_TOOLCHAIN names a folder to be used in place of the kit's toolchain.
 
     scripts/over_proved.py lib|run
 
@@ -22,4 +22,7 @@ rtlib = importlib.util.module_from_spec(spec)
 sys.modules["rtlib"] = rtlib
 spec.loader.exec_module(rtlib)
 rtlib.Crate.is_built = lambda crate: os.path.isdir(crate.rlib)
+toolchain, kits, call = os.environ.get("KIT_TOOLCHAIN"), f"{kit}/toolchain", rtlib.Crate.call
+if toolchain:
+    rtlib.Crate.call = lambda crate, *words: call(crate, *(toolchain if word == kits else word for word in words))
 sys.exit(rtlib.main(*sys.argv[1:]))

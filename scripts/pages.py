@@ -24,7 +24,7 @@ LIMITS = {
     "docs/RECIPES.md": 1500,
     "docs/FORMATS.md": 5000,
     "docs/ARCHITECTURE.md": 1500,
-    "docs/DECISIONS.md": 3500,
+    "docs/DECISIONS.md": 3550,
     "docs/PROOFS.md": 2500,
     "docs/PERF.md": 2500,
     "CHANGELOG.md": 300,

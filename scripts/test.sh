@@ -9,7 +9,7 @@ set -uo pipefail
 cd "$(dirname "$0")/.." || exit 1
 exec < /dev/null
 unset MAKEFLAGS MAKELEVEL
-parts="smoke completions fuzz library machines documents dist hostile"
+parts="smoke completions fuzz library machines documents dist hostile javascript"
 work=$(mktemp -d)
 trap 'rm -rf "$work"' EXIT
 
@@ -34,6 +34,10 @@ jq jq
 xxd xxd
 parallel parallel
 node nodejs
+chromium chromium
+firefox-esr firefox-esr
+esbuild esbuild
+wasm-validate wabt
 /usr/lib/python3/dist-packages/polyline python3-polyline
 /usr/lib/python3/dist-packages/distributed python3-distributed
 pv pv
@@ -97,6 +101,7 @@ machines() {
     fi
   done
 }
+javascript() { lacks JavaScript make cc node || make -s wasm-test CASES="${CASES:-20000}" SEED="$seed"; }
 dist() { lacks dist make cc dpkg-deb || make -s dist-test; }
 library() {
   lacks library make cc && return
@@ -144,7 +149,7 @@ if [ $status -eq 0 ]; then
   echo "fuzz: seed $seed"
   make -s bin/refuse.so > /dev/null 2>&1
   lane smoke completions fuzz &
-  lane library machines documents dist &
+  lane library javascript machines documents dist &
   lane hostile &
   wait
   for name in $parts; do [ -e "$work/$name.counts" ] || echo "0 passed, 1 failed" > "$work/$name.counts"; done
