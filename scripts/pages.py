@@ -19,7 +19,7 @@ import sys
 
 REPO = os.path.abspath(os.path.join(os.path.dirname(__file__), ".."))
 LIMITS = {
-    "README.md": 700,
+    "README.md": 750,
     "docs/USING.md": 3000,
     "docs/RECIPES.md": 1500,
     "docs/FORMATS.md": 5000,

@@ -38,6 +38,8 @@ chromium chromium
 firefox-esr firefox-esr
 esbuild esbuild
 wasm-validate wabt
+tsc node-typescript
+/usr/share/javascript/leaflet libjs-leaflet
 /usr/lib/python3/dist-packages/polyline python3-polyline
 /usr/lib/python3/dist-packages/distributed python3-distributed
 pv pv

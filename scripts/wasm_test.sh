@@ -50,6 +50,20 @@ fuzz() {
     node --experimental-wasm-memory64 js/tests/differential.mjs "$work/cases" "$work"/{polytwkb,checked,plain,wide}.wasm
 }
 
+# Each check of the page and the package in a browser as a line.
+in_browser() {
+  is_there "$1" || { skip "the page in $1: it is not there"; return; }
+  head -c 4000000 "$work/cases" > "$work/first_cases"
+  node js/tests/browser.mjs "$work/first_cases" "$work" "$1" || failed=1
+}
+# The package as a program has it, and a bundle of that program, which finds the module beside it.
+bundled() {
+  esbuild js/tests/bundled.mjs --bundle --format=esm --platform=node --outdir="$work/bundle" --loader:.wasm=file \
+    --asset-names='[name]' --alias:polytwkb="$PWD/js/polytwkb.js" --alias:polytwkb-module="$PWD/js/polytwkb.wasm" &&
+    node "$work/bundle/bundled.js"
+}
+typed() { tsc --noEmit --strict --target es2022 --module es2022 --moduleResolution node --lib es2022,dom js/tests/types.ts && echo "strict"; }
+
 if ! is_there node || [ "$(node -p 'process.versions.node.split(".")[0]')" -lt 20 ]; then
   skip "JavaScript: node 20 is not there"
   exit 0
@@ -64,4 +78,8 @@ report "memory: the same with 20 pages" node --wasm-max-mem-pages=20 js/tests/he
 report "memory: each growth refused" node js/tests/growth.mjs js/polytwkb.wasm
 report "memory: the package with little" node --wasm-max-mem-pages=3 js/tests/little.mjs "$work/cases"
 report "memory: 300 MB" node js/tests/large.mjs 300
+if is_there esbuild; then report "bundle: by esbuild" bundled; else skip "bundle: esbuild is not there"; fi
+if is_there tsc; then report "types: by tsc" typed; else skip "types: tsc is not there"; fi
+in_browser chromium
+in_browser firefox-esr
 [ "$failed" -eq 0 ]
