@@ -1,7 +1,7 @@
 # make test              all tests: the gate, and then the parts named below on what it built
 # make check             the short round
 # make build             the command into bin/
-# make dist              archive, Debian package and wheel of the built program and libraries into dist/
+# make dist              archive, Debian package, wheel and npm archive of the program and libraries into dist/
 # make dist-test         each of these, installed into an empty root and used there; as root also by apt-get
 # make demo              the main job on an example
 # make smoke             the built program with real files and pipes
@@ -191,19 +191,19 @@ uninstall:
 	rm -f '$(DESTDIR)$(PACKAGE_FILE)' '$(DESTDIR)$(HEADER_FILE)'
 
 # Built files for users without the kit.
-dist: build lib
+dist: build lib wasm
 	scripts/dist.sh dist
 
 dist-test: dist
 	scripts/dist_test.sh
 
 # The commands that documents show, run and compared; callers, promises, links, and the words of each page.
-docs-test: build lib
+docs-test: build lib wasm
 	scripts/docs_test.py
 
 # The recipes, the check of parts, and both with an installed program. A recipe whose tools are missing says so
 # and is skipped.
-recipes: build lib
+recipes: build lib wasm
 	@for recipe in examples/recipes/*.sh examples/scale/check*.sh tests/recipes/installed.sh; do echo "$$recipe"; $$recipe || exit 1; done
 
 clean:

@@ -62,7 +62,10 @@ bundled() {
     --asset-names='[name]' --alias:polytwkb="$PWD/js/polytwkb.js" --alias:polytwkb-module="$PWD/js/polytwkb.wasm" &&
     node "$work/bundle/bundled.js"
 }
-typed() { tsc --noEmit --strict --target es2022 --module es2022 --moduleResolution node --lib es2022,dom js/tests/types.ts && echo "strict"; }
+typed() {
+  tsc --noEmit --strict --target es2022 --module es2022 --moduleResolution node --lib es2022,dom js/tests/types.ts &&
+    echo "strict"
+}
 
 if ! is_there node || [ "$(node -p 'process.versions.node.split(".")[0]')" -lt 20 ]; then
   skip "JavaScript: node 20 is not there"

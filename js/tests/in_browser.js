@@ -2,6 +2,7 @@
 // then it holds back a picture, so that the browser ends, with a screenshot, only after it.
 import * as polytwkb from '../polytwkb.js';
 import { Comparing, checking, checkingPackage, records } from './compare.js';
+import { faultsOf } from './readme.js';
 
 document.body.append(Object.assign(new Image(), { src: '/wait', hidden: true }));
 const frame = document.getElementById('page');
@@ -113,6 +114,9 @@ async function testPackage() {
     ]);
     for (const record of records(await fetched('/cases')).found) comparing.add(record);
     check(`random calls as the native library: ${comparing.line}`, comparing.count && !comparing.wrong, comparing.told);
+    const readme = await (await fetch('../README.md')).text();
+    const faults = await faultsOf(readme, new URL('../polytwkb.js', location.href).href);
+    check('it does what its README shows', faults.length === 0, faults);
     const got = [];
     for await (const part of polytwkb.stream(fetch('/stream'))) got.push(...polytwkb.geometries(part));
     check('a fetched stream comes blob by blob', got.length === 2600, got.length);

@@ -8,7 +8,8 @@ async function all(response: Response, file: ArrayBuffer): Promise<void> {
     await load();
     await load(new URL('https://example.org/polytwkb.wasm'));
     await load(fetch('polytwkb.wasm'));
-    const blobs: Uint8Array = pack('text', 'plain', { nest: 3 }), table: string = unpack(blobs, new Limits({ points: 5 }));
+    const blobs: Uint8Array = pack('text', 'plain', { nest: 3 });
+    const table: string = unpack(blobs, new Limits({ points: 5 }));
     const bytes: Uint8Array = unpackBytes(file), headers: Header[] = show(bytes), parts: Uint8Array[] = split(file);
     const points: Point[] = decode(encode([[1, 2n]]), 5), flat: BigInt64Array = decodeFlat(table);
     const again: string = encode(flat) + encode(points, 5) + version + headers[0].kind + parts.length;
