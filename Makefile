@@ -2,7 +2,8 @@
 # make test              all tests: the gate, and then the parts named below on what it built
 # make check             the short round
 # make build             the command into bin/
-# make dist              archive, Debian package and wheel for each processor into dist/, 64-bit ARM if its compiler is there
+# make dist              archive, Debian package and wheel for each processor (64-bit ARM if its compiler is there), and the
+#                        npm archive, into dist/
 # make dist-test         each of these, installed into an empty root and used there; as root also by apt-get
 # make smoke             the built program with real files and pipes
 # make completions-test  the words of the completions and of the manual page, compared with help
@@ -12,6 +13,8 @@
 # make static            the command that asks for no C library, into out/static/
 # make arm64             command and libraries for Linux on 64-bit ARM, into out/arm64/, by Debian's cross compiler
 # make arm64-test        these under qemu
+# make wasm              the library for browsers and Node into js/, with its JavaScript
+# make wasm-test         its tests in Node and in browsers, if they are installed
 # make lib-test          the examples in C, Python and Go (if installed) over it; in C under valgrind, if installed
 # make lib-bench         times of calls of the library and of the package for Python
 # make wheel             the package for Python with the shared library, into dist/
@@ -22,7 +25,7 @@
 # make fuzz              the program compared with a second implementation, on random inputs (CASES, SEED, PROCESSES)
 # make bench             times and memory, compared with a plain program; BENCH has words for bench/run.sh
 # make clean             removes what was built
-.PHONY: test check build lib static arm64 arm64-test lib-test lib-bench wheel python-test demo bench smoke completions-test docs-test recipes hostile fuzz dist dist-test install uninstall clean
+.PHONY: test check build lib static arm64 arm64-test wasm wasm-test lib-test lib-bench wheel python-test demo bench smoke completions-test docs-test recipes hostile fuzz dist dist-test install uninstall clean
 
 PREFIX ?= /usr/local
 DESTDIR ?=
@@ -59,7 +62,7 @@ lib: out/libpolytwkb.a out/libpolytwkb.so
 
 # The crate's archive, and the kit's object through which it calls malloc, realloc and free.
 out/libpolytwkb.a: $(SOURCES)
-	@scripts/build.sh twkb_c crates/twkb_c/out/libtwkb_c.a
+	@scripts/build.sh twkb_c crates/twkb_c/out/libtwkb_c.a out/libpolytwkb.bc
 	rm -rf out/objects $@
 	mkdir -p out/objects
 	cd out/objects && $(AR) x ../../crates/twkb_c/out/libtwkb_c.a && $(AR) x "$$(dirname "$$(rt doc)")/c/liblibc_c.a" heap.pic.o
@@ -97,6 +100,20 @@ out/arm64/vectors: $(SOURCES) $(wildcard packaging/arm64/*.sh packaging/arm64/sh
 
 arm64-test: build lib arm64 out/arm64/vectors
 	scripts/arm64_test.sh
+
+# The LLVM module of the library, which comes with the archive.
+out/libpolytwkb.bc: out/libpolytwkb.a
+	@[ -e $@ ] || { rm $<; $(MAKE) -s $<; }
+	@[ -e $@ ] && [ ! -e $@.many ] || { echo "the kit's compiler does not hand one LLVM module to clang" >&2; exit 1; }
+
+wasm: js/polytwkb.wasm
+
+# The library for browsers and Node, beside the JavaScript that calls it.
+js/polytwkb.wasm: out/libpolytwkb.bc $(wildcard packaging/wasm/*)
+	packaging/wasm/build.sh $< js
+
+wasm-test: js/polytwkb.wasm out/libpolytwkb.so
+	scripts/wasm_test.sh $(CASES) $(SEED)
 
 out/convert: examples/c/convert.c include/polytwkb.h out/libpolytwkb.a
 	$(CC) -std=c11 -O1 -g -Wall -Wextra -Werror -Iinclude -o $@ $< out/libpolytwkb.a
@@ -219,7 +236,7 @@ uninstall:
 	rm -rf '$(DESTDIR)$(DOC_DIR)'
 
 # Built files for users without the kit.
-dist: build lib static
+dist: build lib static wasm
 	scripts/dist.sh dist
 	@if command -v $(ARM64_CC) > /dev/null; then $(MAKE) -s arm64 && scripts/dist.sh dist arm64; else echo "left out of dist/: 64-bit ARM, as $(ARM64_CC) is not there"; fi
 
@@ -227,13 +244,13 @@ dist-test: dist
 	scripts/dist_test.sh
 
 # The commands that documents show, run and compared; callers, promises, links, and the words of each page.
-docs-test: build lib
+docs-test: build lib wasm
 	scripts/docs_test.py
 
 # The recipes, the check of parts, and both with an installed program. A recipe whose tools are missing says so
 # and is skipped.
-recipes: build lib
+recipes: build lib wasm
 	@for recipe in examples/recipes/*.sh examples/scale/check*.sh tests/recipes/installed.sh; do echo "$$recipe"; $$recipe || exit 1; done
 
 clean:
-	rm -rf bin out dist bench/out crates/*/out
+	rm -rf bin out dist bench/out crates/*/out js/polytwkb.wasm

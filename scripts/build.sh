@@ -2,7 +2,9 @@
 # Proves a crate and those below it, reporting progress, and writes its program, its static library or, of a crate
 # of tests, the program of its tests to a file:
 #
-#   scripts/build.sh CRATE FILE
+#   scripts/build.sh CRATE FILE [MODULE]
+#
+# With MODULE also the LLVM module of the library, which packaging/wasm needs.
 set -euo pipefail
 # shellcheck source=scripts/proofs.bash
 source "$(dirname "$0")/proofs.bash"
@@ -16,6 +18,10 @@ if line=$(grep "^$crate staticlib:" "$repository/crates.txt"); then
   libraries "$work/copy" ${line#*:}
   tar -c -C "$repository" --exclude=out "crates/$crate" | tar -x -C "$work/copy"
   echo "$line" >> "$work/copy/crates.txt"
+  if [ -n "${3:-}" ]; then
+    "$repository/packaging/wasm/keep_module.sh" "$work/toolchain" "$3"
+    export KIT_TOOLCHAIN=$work/toolchain
+  fi
   over "$work/copy" "$crate" lib
   install -D -m 644 "$work/copy/crates/$crate/out/lib$crate.a" "$file"
 else

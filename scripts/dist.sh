@@ -1,6 +1,6 @@
 #!/usr/bin/env bash
-# Packs the files of `make install` into an archive and a package for Debian, and the package for Python into a
-# wheel, with their sums, for users without the kit:
+# Packs the files of `make install` into an archive and a package for Debian, the package for Python into a wheel, and
+# that for JavaScript into an archive of npm, with their sums, for users without the kit:
 #
 #   scripts/dist.sh FOLDER            of this machine's processor
 #   scripts/dist.sh FOLDER arm64      of what `make arm64` built
@@ -47,6 +47,10 @@ filled() {
   sed -e "s|@VERSION@|$version|" -e "s|@MACHINE@|$machine|" -e "s|@DEBIAN@|$debian|" -e "s|@PROCESSOR@|$processor|" \
     -e "s|@LIBC@|$libc|" -e "s|@LIBRARY_LIBC@|$library_libc|" -e "s|@SIZE@|${size:-}|" -e "$address" "$1"
 }
+packed() { # FOLDER NAME FILE: an archive, the same for the same files
+  tar -c -C "$1" --sort=name --format=gnu --mtime="@$SOURCE_DATE_EPOCH" --owner=0 --group=0 --numeric-owner "$2" |
+    gzip -9n > "$3"
+}
 dated() { find "$1" -exec touch -h -d "@$SOURCE_DATE_EPOCH" {} +; }
 
 archive() {
@@ -55,8 +59,15 @@ archive() {
   # it may be unpacked anywhere
   sed -i -e "s|^prefix=.*|prefix=\${pcfiledir}/../..|" -e "s|=/$name/|=\${prefix}/|" "$tree/lib/pkgconfig/polytwkb.pc"
   filled packaging/README.in > "$tree/README"
-  tar -c -C "$work" --sort=name --format=gnu --mtime="@$SOURCE_DATE_EPOCH" --owner=0 --group=0 --numeric-owner "$name" |
-    gzip -9n > "$folder/$name.tar.gz"
+  packed "$work" "$name" "$folder/$name.tar.gz"
+}
+
+npm_archive() {
+  local tree=$work/npm/package
+  mkdir -p "$tree"
+  (cd js && cp -r package.json README.md polytwkb.js polytwkb.d.ts polytwkb.wasm src page examples "$tree")
+  cp LICENSE "$tree"
+  packed "$work/npm" package "$folder/polytwkb-$version.tgz"
 }
 
 changelog() {
@@ -92,9 +103,10 @@ package() {
 }
 
 mkdir -p "$folder"
-rm -f "$folder"/polytwkb-*-"$machine"-linux.tar.gz "$folder"/polytwkb_*_"$debian".deb "$folder"/polytwkb-*_"$machine".whl "$folder/SHA256SUMS"
+rm -f "$folder"/polytwkb-*-"$machine"-linux.tar.gz "$folder"/polytwkb_*_"$debian".deb "$folder"/polytwkb-*_"$machine".whl "$folder"/polytwkb-*.tgz "$folder/SHA256SUMS"
 archive
 package
 scripts/wheel.py "$folder" $built/libpolytwkb.so > /dev/null
-(cd "$folder" && sha256sum ./*.tar.gz ./*.deb ./*.whl | sed 's|\./||' > SHA256SUMS)
+npm_archive
+(cd "$folder" && sha256sum ./*.tar.gz ./*.deb ./*.whl ./*.tgz | sed 's|\./||' > SHA256SUMS)
 cat "$folder/SHA256SUMS"

@@ -231,6 +231,33 @@ else
   skip "wheel: venv of python3 is not there"
 fi
 
+# Installs the archive of npm into an empty folder, and uses the package there as its README shows.
+by_npm() {
+  local packed
+  packed=$(realpath dist/polytwkb-*.tgz)
+  mkdir "$1" && (cd "$1" && npm install --offline --no-audit --no-fund --cache "$work/npm" "$packed")
+}
+in_node() {
+  cp js/tests/readme.js "$1/readme.mjs" && (cd "$1" && node --input-type=module - "$work/stops.csv" "$work/stops.twkb") << 'END'
+import assert from 'node:assert/strict';
+import { readFileSync } from 'node:fs';
+import { load, pack, unpack } from 'polytwkb';
+import { faultsOf } from './readme.mjs';
+await load();
+const [table, stream] = process.argv.slice(2).map(name => readFileSync(name));
+assert.deepEqual(Buffer.from(pack(table)), stream);
+assert.equal(unpack(stream), table.toString());
+const readme = readFileSync('node_modules/polytwkb/README.md', 'utf8');
+assert.deepEqual(await faultsOf(readme, import.meta.resolve('polytwkb')), []);
+END
+}
+if is_there node && is_there npm; then
+  report "npm: is installed into an empty folder" by_npm "$work/node"
+  report "npm: it packs and unpacks, and does what its README shows" in_node "$work/node"
+else
+  skip "npm: node or npm is not there"
+fi
+
 # ---- this machine
 
 apt() { apt-get -y -q -o DPkg::Lock::Timeout=300 "$@"; }

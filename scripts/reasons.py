@@ -73,12 +73,12 @@ def numbers(rows):
 
 
 def names(rows):
-    """The names for C and Python of reasons and statuses."""
+    """The names of reasons for C, Python and JavaScript, and of statuses for C."""
     header = re.findall(r"^#define POLYTWKB_(\w+) (\d+)u", text_of("include", "polytwkb.h").split("/* Styles of packed blobs")[0], re.M)
     yield "include/polytwkb.h", sorted((row[3], row[1]) for row in rows), sorted((name, int(number)) for name, number in header)
-    found = re.findall(r'(\d+): "(\w+)"', text_of("python", "polytwkb", "_refused.py"))
     wanted = sorted((row[3], row[1]) for row in rows if row[0] != "status")
-    yield "python/polytwkb/_refused.py", wanted, sorted((name, int(number)) for number, name in found)
+    for file, line in (("python/polytwkb/_refused.py", r'(\d+): "(\w+)"'), ("js/src/refused.js", r"(\d+): '(\w+)'")):
+        yield file, wanted, sorted((name, int(number)) for number, name in re.findall(line, text_of(file)))
 
 
 def statuses(rows):

@@ -11,7 +11,7 @@ cd "$(dirname "$0")/.." || exit 1
 source scripts/kit.bash
 exec < /dev/null
 unset MAKEFLAGS MAKELEVEL
-parts="smoke completions fuzz library machines documents dist hostile arm64"
+parts="smoke completions fuzz library machines documents dist hostile arm64 javascript"
 work=$(mktemp -d)
 trap 'rm -rf "$work"' EXIT
 
@@ -37,6 +37,12 @@ xxd xxd
 parallel parallel
 node nodejs
 /usr/share/python-wheels python3-venv
+chromium chromium
+firefox-esr firefox-esr
+esbuild esbuild
+wasm-validate wabt
+tsc node-typescript
+/usr/share/javascript/leaflet libjs-leaflet
 /usr/lib/python3/dist-packages/polyline python3-polyline
 /usr/lib/python3/dist-packages/distributed python3-distributed
 pv pv
@@ -111,6 +117,7 @@ machines() {
     fi
   done
 }
+javascript() { lacks JavaScript make cc node || make -s wasm-test CASES="${CASES:-20000}" SEED="$seed"; }
 dist() { lacks dist make cc dpkg-deb || make -s dist-test; }
 arm64() {
   lacks "64-bit ARM" make cc aarch64-linux-gnu-gcc qemu-aarch64-static && return
@@ -163,9 +170,12 @@ if [ $status -eq 0 ]; then
   echo "fuzz: seed $seed"
   make -s bin/refuse.so > /dev/null 2>&1
   lane smoke completions fuzz &
+  lane hostile &
+  # what several of the parts below would build at the same time
+  make -s lib static wasm > "$work/build.log" 2>&1 || tail -n 20 "$work/build.log"
   lane library machines documents &
-  # one after the other, since both build for 64-bit ARM
-  lane hostile arm64 dist &
+  lane javascript &
+  lane arm64 dist &
   wait
   for name in $parts; do [ -e "$work/$name.counts" ] || echo "0 passed, 1 failed" > "$work/$name.counts"; done
 else

@@ -1,8 +1,10 @@
 #!/usr/bin/env bash
-# A stream read by a map client: twkb_geojson.mjs in node, all geometries, and those whose box meets a window.
+# A stream read by a map client: the package for JavaScript in node, whole, and as its bytes come up to a cut.
 source "$(dirname "$0")/common.bash"
 need node
 
+package=$here/../../js
+[ -e "$package/polytwkb.wasm" ] || { echo "skipped: needs make wasm"; exit 0; }
 polytwkb pack > shapes.twkb <<'END'
 depth,kind,id,precision,polyline
 0,linestring,,5,yop}Gysml@lAxTfChSgKhK
@@ -17,22 +19,25 @@ depth,kind,id,precision,polyline
 END
 
 cat > client.mjs <<END
-import { readFileSync } from 'node:fs';
-import { geometries } from '$here/twkb_geojson.mjs';
+import { createReadStream, readFileSync } from 'node:fs';
+import { geometries, load, stream } from '$package/polytwkb.js';
 
-const bytes = readFileSync('shapes.twkb');
-for (const geometry of geometries(bytes)) console.log(JSON.stringify(geometry));
-console.log('in the window:');
-for (const geometry of geometries(bytes, [0, 0, 10, 45])) console.log(JSON.stringify(geometry));
+await load();
+for (const geometry of geometries(readFileSync('shapes.twkb'))) console.log(JSON.stringify(geometry));
+let count = 0;
+try {
+    for await (const blobs of stream(createReadStream('shapes.twkb', { end: 79 }))) count += geometries(blobs).length;
+} catch (fault) {
+    console.log(\`\${count} geometries, and then \${fault.message}\`);
+}
 END
 node client.mjs > seen.txt
 
 cat > due.txt <<'END'
 {"type":"LineString","coordinates":[[7.44781,46.94797],[7.44432,46.94758],[7.44107,46.9469],[7.4391,46.94886]]}
 {"type":"Polygon","coordinates":[[[0,0],[60,0],[60,40],[0,40],[0,0]],[[20,10],[20,30],[40,30],[40,10],[20,10]]]}
-{"type":"GeometryCollection","ids":[1,2],"geometries":[{"type":"MultiPoint","ids":[101,102],"coordinates":[[7.44781,46.94797],[7.44107,46.9469]]},{"type":"LineString","coordinates":[]}]}
-in the window:
-{"type":"Polygon","coordinates":[[[0,0],[60,0],[60,40],[0,40],[0,0]],[[20,10],[20,30],[40,30],[40,10],[20,10]]]}
+{"type":"GeometryCollection","geometries":[{"type":"MultiPoint","coordinates":[[7.44781,46.94797],[7.44107,46.9469]],"ids":[101,102]},{"type":"LineString","coordinates":[]}],"ids":[1,2]}
+2 geometries, and then byte 80: truncated
 END
 cat seen.txt
 cmp seen.txt due.txt

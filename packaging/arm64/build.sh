@@ -43,7 +43,7 @@ proved() {
   grep "^$1[ :]" "$repository/crates.txt" >> "$work/copy/crates.txt"
   tar -c -C "$repository" --exclude=out --exclude=must-fail "crates/$1" | tar -x -C "$work/copy"
   over "$work/copy" "$1" "$2"
-  grep -q "^logic=proved .* target=$TARGET " "$work/copy.log" || { cat "$work/copy.log"; echo "$1 is not proved for $TARGET" >&2; return 1; }
+  grep -q "^logic=proved .* target=$KIT_TARGET " "$work/copy.log" || { cat "$work/copy.log"; echo "$1 is not proved for $KIT_TARGET" >&2; return 1; }
 }
 
 # library CRATE: what the Makefile makes of the static library, with the other compiler.
@@ -69,7 +69,7 @@ install -m 644 "$work/shims.a" "$folder"
 for crate in "${@:2}"; do below+=" $(sed -n "s/^$crate\( staticlib\)\?: *//p" "$repository/crates.txt")"; done
 # shellcheck disable=SC2086 # names of crates
 libraries "$work/copy" $below
-export TARGET=aarch64-unknown-linux-gnu TOOLCHAIN=$work/tools SHIMS=$work/shims.a
+export KIT_TARGET=aarch64-unknown-linux-gnu KIT_TOOLCHAIN=$work/tools KIT_SHIMS=$work/shims.a
 for crate in "${@:2}"; do
   if grep -q "^$crate staticlib:" "$repository/crates.txt"; then library "$crate"; else program "$crate"; fi
   echo "$crate is built for 64-bit ARM"

@@ -1,8 +1,10 @@
-// TWKB blobs to GeoJSON, for a browser or node, with no package. For streams that polytwkb wrote: it checks nothing
-// but what it can't go past. For coordinates and ids up to 2^52, since numbers are exact up to 2^53.
+// TWKB blobs to GeoJSON by a decoder of a page that checks nothing but what it can't go past, to compare with. For
+// coordinates and ids up to 2^52, since numbers are exact up to 2^53, and for precisions from 0 up.
 
 const BOX = 1, SIZE = 2, IDS = 4, EXTENDED = 8, EMPTY = 16;
-const TYPES = ['', 'Point', 'LineString', 'Polygon', 'MultiPoint', 'MultiLineString', 'MultiPolygon', 'GeometryCollection'];
+const TYPES = [
+    '', 'Point', 'LineString', 'Polygon', 'MultiPoint', 'MultiLineString', 'MultiPolygon', 'GeometryCollection',
+];
 
 class Reader {
     constructor(bytes) { this.bytes = bytes; this.offset = 0; }
@@ -35,22 +37,13 @@ class Reader {
 
     area() { return this.list(this.varint(), () => this.line()); }
 
-    // One geometry. Where a window [west, south, east, north] is given, null for one whose box stands outside it: its
-    // size leads past it. One without a box is read.
-    geometry(window) {
+    geometry() {
         const header = this.byte(), metadata = this.byte(), kind = header % 16, form = header >> 4;
         const precision = form % 2 ? -(form + 1) / 2 : form / 2;
         if (metadata & EXTENDED && this.byte() & 3) throw new Error('Z or M');
-        const size = metadata & SIZE ? this.varint() : null, end = this.offset + size, scale = 10 ** precision;
-        if (metadata & BOX) {
-            const [x, width, y, height] = this.list(4, () => this.signed());
-            const [west, south, east, north] = [x, y, x + width, y + height].map(number => number / scale);
-            if (window && size !== null && (west > window[2] || south > window[3] || east < window[0] || north < window[1])) {
-                this.offset = end;
-                return null;
-            }
-        }
-        [this.x, this.y, this.scale] = [0, 0, scale];
+        if (metadata & SIZE) this.varint();
+        if (metadata & BOX) this.list(4, () => this.signed());
+        [this.x, this.y, this.scale] = [0, 0, 10 ** precision];
         return this.body(kind, metadata);
     }
 
@@ -67,11 +60,9 @@ class Reader {
     }
 }
 
-// The geometries of a stream, one by one.
-export function* geometries(bytes, window) {
-    const reader = new Reader(bytes);
-    while (reader.offset < bytes.length) {
-        const geometry = reader.geometry(window);
-        if (geometry) yield geometry;
-    }
+/** The geometries of a stream. */
+export function geometries(bytes) {
+    const reader = new Reader(bytes), found = [];
+    while (reader.offset < bytes.length) found.push(reader.geometry());
+    return found;
 }

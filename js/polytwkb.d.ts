@@ -1,0 +1,149 @@
+/**
+ * Tables of Google encoded polylines to streams of TWKB blobs and back, exactly, by the proved library polytwkb,
+ * retargeted to WebAssembly in polytwkb.wasm.
+ *
+ * A table is CSV with the columns depth, kind, id, precision and polyline; a stream is blobs one after the other. A
+ * call converts any number of geometries: give it many. What is refused is the exception Refused; a wrong type is a
+ * TypeError; a limit, a style or a precision out of range, and want of memory (OutOfMemory), are RangeErrors. Before
+ * the first call, wait for load().
+ */
+
+/** The version of this package and of its module. */
+export const version: string;
+
+/** A module of WebAssembly, or where it is: a URL, a response of fetch, its bytes, or compiled. */
+export type Source = string | URL | Response | BufferSource | WebAssembly.Module;
+
+/**
+ * Loads the module, by default polytwkb.wasm beside this file. Later calls do nothing. A module of another version is
+ * refused at once. Needs WebAssembly with 128-bit SIMD: Chromium and Edge 91, Firefox 89, Safari 16.4, Node 20.
+ */
+export function load(source?: Source | Promise<Source>): Promise<void>;
+
+/** Bytes. They are copied before they are read. */
+export type Bytes = ArrayBufferView | ArrayBufferLike;
+
+/** The most that one geometry may have, its members included. */
+export class Limits {
+    /** What is left out is standard: 16, 2^20 and 2^24. */
+    constructor(limits?: Partial<Limits>);
+    /** Collections that a geometry may be in, 0 to 32. */
+    readonly nest: number;
+    /** Rows, 1 to 2^20. */
+    readonly nodes: number;
+    /** Points, 0 to 2^24. */
+    readonly points: number;
+}
+
+/** An input is refused. Its message is the line of the command, such as `byte 13: truncated`. */
+export class Refused<Output = unknown> extends Error {
+    readonly name: 'Refused';
+    /** Why, as a number of include/polytwkb.h, such as 41. */
+    readonly reason: number;
+    /** Its name there, such as `BLOB_TRUNCATED`. */
+    readonly code: string;
+    /** What it means, such as `truncated`. */
+    readonly text: string;
+    /** The record of a table, from 1; the byte of a stream or of a polyline, or the point of a list, from 0. */
+    readonly place: number;
+    /** The byte of the refused polyline, in its record or alone; else 0. */
+    readonly textOffset: number;
+    /** How many geometries came before, and are whole. */
+    readonly done: number;
+    /** What the call would have returned of these alone. */
+    readonly output: Output;
+}
+
+/** The engine gives no more memory. One call needs its input, its output and some more, at most 4 GB together. */
+export class OutOfMemory extends RangeError {
+    readonly name: 'OutOfMemory';
+}
+
+/** Packs a table to a stream of blobs: with sizes and boxes, or `'plain'`, without either. */
+export function pack(table: string | Bytes, style?: 'full' | 'plain', limits?: Partial<Limits>): Uint8Array;
+
+/** Unpacks a stream of blobs to a table. A table past the longest string of the engine (512 MB) needs unpackBytes. */
+export function unpack(blobs: Bytes, limits?: Partial<Limits>): string;
+
+/** The same, as bytes. */
+export function unpackBytes(blobs: Bytes, limits?: Partial<Limits>): Uint8Array;
+
+/** A TWKB header in a stream. */
+export interface Header {
+    /** How many collections it is in: 0 for a blob. */
+    level: number;
+    /** Where it begins, in bytes from the start of the stream. */
+    offset: number;
+    kind: 'point' | 'linestring' | 'polygon' | 'multipoint' | 'multilinestring' | 'multipolygon' | 'collection';
+    /** Decimals of the coordinates, -8 to 7. */
+    precision: number;
+    /** The metadata byte. */
+    metadata: number;
+    /** Bytes, from its first to the last of its geometry. */
+    length: number;
+    /** Points of its geometry. */
+    points: number;
+}
+
+/** The headers in a stream, in their order. */
+export function show(blobs: Bytes, limits?: Partial<Limits>): Header[];
+
+/** The blobs of a stream, each as bytes of its own. */
+export function split(blobs: Bytes, limits?: Partial<Limits>): Uint8Array[];
+
+/** A stream of blobs whose bytes come in pieces. */
+export type Pieces = Response | ReadableStream<Bytes> | AsyncIterable<Bytes> | Iterable<Bytes>;
+
+/**
+ * The blobs of a stream as far as its bytes have come: each turn gives those that are whole since the last, one after
+ * the other, as bytes. Throws Refused, with its place in the whole stream, after the blobs before it, also if the last
+ * blob is cut. Leaving the loop cancels the source.
+ */
+export function stream(
+    source: Pieces | Promise<Pieces>, limits?: Partial<Limits>,
+): AsyncGenerator<Uint8Array, void>;
+
+/** x and y: the longitude and the latitude, though the text of a polyline has the latitude first. */
+export type Point = [x: number, y: number];
+
+/**
+ * The encoded polyline of points. Without a precision coordinates are whole numbers and pass unchanged; a BigInt64Array
+ * has x, y, x, y, .. With a precision from -8 to 7 they are degrees, and each becomes the whole number nearest to it
+ * times 10^precision, of two the one farther from 0, with no error of floating point on the way. Refused, at its point,
+ * if a coordinate is outside -2^62 to 2^62 - 1.
+ */
+export function encode(points: Iterable<readonly [number | bigint, number | bigint]>, precision?: number): string;
+export function encode(points: BigInt64Array): string;
+
+/**
+ * The points of an encoded polyline: whole numbers, or with a precision from -8 to 7 degrees, each the number nearest
+ * to its whole number times 10^-precision. Without a precision, a coordinate that is no safe integer is a RangeError:
+ * decodeFlat has it.
+ */
+export function decode(text: string | Bytes, precision?: number): Point[];
+
+/** The points of an encoded polyline as whole numbers x, y, x, y, .. */
+export function decodeFlat(text: string | Bytes): BigInt64Array;
+
+/** Ids of the members: whole numbers, and BigInt past 2^53. */
+export type Ids = (number | bigint)[];
+
+/** A geometry as GeoJSON has it; an empty point has no coordinates. */
+export type Shape<P> =
+    | { type: 'Point'; coordinates: P | [] }
+    | { type: 'LineString'; coordinates: P[] }
+    | { type: 'Polygon'; coordinates: P[][] }
+    | { type: 'MultiPoint'; coordinates: (P | [])[]; ids?: Ids }
+    | { type: 'MultiLineString'; coordinates: P[][]; ids?: Ids }
+    | { type: 'MultiPolygon'; coordinates: P[][][]; ids?: Ids }
+    | { type: 'GeometryCollection'; geometries: Shape<P>[]; ids?: Ids };
+
+/** In degrees: each coordinate is the number nearest to its whole number times 10^-precision. */
+export type Geometry = Shape<Point>;
+
+/** In whole numbers, with their decimals. */
+export type ExactGeometry = Shape<[x: bigint, y: bigint]> & { precision: number };
+
+/** The geometries of a stream; with `exact` in whole numbers. */
+export function geometries(blobs: Bytes, options?: Partial<Limits> & { exact?: false }): Geometry[];
+export function geometries(blobs: Bytes, options: Partial<Limits> & { exact: true }): ExactGeometry[];

@@ -1,0 +1,12 @@
+/*
+ * Tables of Google encoded polylines to streams of TWKB blobs and back, exactly, by the proved library polytwkb,
+ * retargeted to WebAssembly in polytwkb.wasm. Call load() once, and wait for it; then every call answers at once.
+ * polytwkb.d.ts says what each does.
+ */
+export { pack, show, split, unpack, unpackBytes } from './src/conversions.js';
+export { geometries } from './src/geometries.js';
+export { Limits } from './src/inputs.js';
+export { load, version } from './src/module.js';
+export { decode, decodeFlat, encode } from './src/polylines.js';
+export { OutOfMemory, Refused } from './src/refused.js';
+export { stream } from './src/stream.js';

@@ -1,0 +1,129 @@
+/** The module of WebAssembly: loaded, called, and its memory. */
+import { OutOfMemory } from './refused.js';
+
+export const version = '0.1.0';
+
+export const [DONE, REFUSED, TOO_SMALL] = [0, 1, 5];
+export const POINT = 16; // bytes of a point
+
+// An instance whose memory has grown past this is given up after the call, since memory never shrinks.
+const KEPT = 128 * 2 ** 20;
+// What the module can reach: less than 2^32 bytes. A longer buffer is refused before anything is copied.
+const REACHED = 2 ** 32 - 2 ** 20;
+const TEXT_ROOM = 32;
+const REPORT = 48;
+
+let compiled = null;
+let wasm = null;
+// The module is at work. If that is so between two calls, it was left without an answer: the stack of the engine
+// ended inside it. That leaves the module's own stack lowered, so the next call takes a new instance. (At once there
+// may be no stack left to make one.)
+let inside = false;
+
+/** Loads the module: from the file beside the package, or from where it is said to be. */
+export async function load(source) {
+    compiled ??= await compiledOf((await source) ?? new URL('../polytwkb.wasm', import.meta.url));
+    if (!wasm || inside) {
+        wasm = (await WebAssembly.instantiate(compiled)).exports;
+        inside = false;
+    }
+    const found = wasm.version ? textAt(wasm.version()) : 'another one';
+    if (found !== version) {
+        compiled = wasm = null;
+        throw new Error(`polytwkb ${version} needs the module ${version}, and this one is ${found}`);
+    }
+}
+
+async function compiledOf(source) {
+    if (source instanceof WebAssembly.Module) return source;
+    if (source instanceof ArrayBuffer || ArrayBuffer.isView(source)) return WebAssembly.compile(source);
+    if (typeof source === 'string' || source instanceof URL) {
+        const url = new URL(source, import.meta.url);
+        if (url.protocol === 'file:' && globalThis.process?.versions?.node) {
+            const { readFile } = await import(/* webpackIgnore: true */ /* @vite-ignore */ 'node:fs/promises');
+            return WebAssembly.compile(await readFile(url));
+        }
+        source = await fetch(url);
+    }
+    if (!source.ok) throw new Error(`polytwkb: ${source.url}: status ${source.status}`);
+    if (source.headers.get('Content-Type') === 'application/wasm') return WebAssembly.compileStreaming(source);
+    return WebAssembly.compile(await source.arrayBuffer());
+}
+
+/** Runs a call, in which no code of the caller's runs. */
+export function called(work) {
+    if (!wasm) throw new Error('polytwkb: wait for load() first');
+    if (inside) {
+        wasm = new WebAssembly.Instance(compiled).exports;
+        inside = false;
+    }
+    try {
+        return work(wasm);
+    } finally {
+        if (!inside && wasm.memory.buffer.byteLength > KEPT) renew();
+    }
+}
+
+function renew() {
+    try {
+        wasm = new WebAssembly.Instance(compiled).exports;
+    } catch {
+        // an engine that makes none so large at once: this one goes on
+    }
+}
+
+/** Where the report of a conversion is. */
+export function answered(conversion) {
+    inside = true;
+    const at = conversion() >>> 0;
+    inside = false;
+    return at;
+}
+
+/** Where the module has room for so many bytes of ours; 0 if the engine gives none. What lies there stays. */
+export const tryRoom = size => (size <= REACHED ? wasm.buffers(size) >>> 0 : 0);
+
+/** The same, or OutOfMemory. */
+export function roomFor(size) {
+    const at = tryRoom(size);
+    if (!at) throw new OutOfMemory(`polytwkb: no memory for buffers of ${size} bytes`);
+    return at;
+}
+
+export const memory = () => wasm.memory.buffer;
+
+export const bytesAt = (at, length) => new Uint8Array(wasm.memory.buffer, at, length);
+
+function textAt(at) {
+    const bytes = bytesAt(at, TEXT_ROOM);
+    return String.fromCharCode(...bytes.subarray(0, bytes.indexOf(0)));
+}
+
+export const reasonText = reason => textAt(wasm.reason_text(reason));
+
+/** The report of a conversion, as include/polytwkb.h has it. */
+function reportAt(at) {
+    const view = new DataView(wasm.memory.buffer, at, REPORT);
+    const long = offset => view.getUint32(offset, true) + view.getUint32(offset + 4, true) * 2 ** 32;
+    const [status, reason] = [view.getUint32(0, true), view.getUint32(4, true)];
+    return { status, reason, place: long(8), textOffset: long(16), done: long(24), sent: long(32), needed: long(40) };
+}
+
+export const padded = size => Math.ceil(size / POINT) * POINT;
+
+/**
+ * Puts the input into memory and calls the module with room for the output after it; with more room, as much as the
+ * module names, if that was too small. Returns the report and where the output is.
+ */
+export function filled(input, room, unit, call) {
+    const output = padded(input.length);
+    let at = roomFor(output + room * unit);
+    input.put(at);
+    for (;;) {
+        const report = reportAt(answered(() => call(at, at + output, room)));
+        if (report.status === DONE || report.status === REFUSED) return { report, base: at, start: at + output };
+        if (report.status !== TOO_SMALL || report.needed <= room) throw new OutOfMemory('polytwkb: out of memory');
+        room = report.needed;
+        at = roomFor(output + room * unit);
+    }
+}

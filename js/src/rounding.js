@@ -1,0 +1,89 @@
+/** Numbers of JavaScript to and from the whole numbers of a precision, with no error of floating point on the way. */
+import { kindOf } from './inputs.js';
+
+export const LONG = 2 ** 32;
+const NEAR = 2 ** 21; // the high half of 2^53
+
+/** The two halves of a whole number as 64 bits have it, the low one first; null if they have it not. */
+export function halves(number) {
+    if (typeof number === 'bigint') {
+        if (BigInt.asIntN(64, number) !== number) return null;
+        return [Number(BigInt.asUintN(32, number)), Number(BigInt.asIntN(32, number >> 32n))];
+    }
+    if (!(number >= -(2 ** 63) && number < 2 ** 63)) return null;
+    return [number >>> 0, Math.floor(number / LONG)];
+}
+
+/** A coordinate of a call that has no precision. */
+export function whole(number) {
+    if (typeof number === 'bigint' || Number.isInteger(number)) return number;
+    if (typeof number !== 'number') throw new TypeError(`a coordinate is a number, not ${kindOf(number)}`);
+    throw new TypeError(`a coordinate is a whole number if no precision is given, not ${number}: give a precision`);
+}
+
+/** The whole number nearest to a number of degrees in units of 10^-precision; of two the one farther from 0. */
+export function scaled(number, precision) {
+    if (typeof number === 'bigint') return exactly(number, 1n, precision);
+    if (typeof number !== 'number') throw new TypeError(`a coordinate is a number, not ${kindOf(number)}`);
+    if (!Number.isFinite(number)) throw new RangeError(`a coordinate is a finite number, not ${number}`);
+    const size = Math.abs(number), near = precision >= 0 ? size * 10 ** precision : size / 10 ** -precision;
+    const below = Math.floor(near), part = near - below;
+    // near is within near * 2^-53 of the exact product, so far from a half it is on the right side
+    if (near < 2 ** 50 && Math.abs(part - 0.5) > near * 2 ** -52) {
+        const nearest = below + (part > 0.5);
+        return number < 0 ? -nearest : nearest;
+    }
+    let above = size, under = 1n;
+    while (!Number.isInteger(above)) {
+        above *= 2; // exact
+        under *= 2n;
+    }
+    return exactly(BigInt(number < 0 ? -above : above), under, precision);
+}
+
+/** The same of a fraction, above / under. */
+function exactly(above, under, precision) {
+    if (precision >= 0) above *= 10n ** BigInt(precision);
+    else under *= 10n ** BigInt(-precision);
+    const size = above < 0n ? -above : above, nearest = (2n * size + under) / (2n * under);
+    return above < 0n ? -nearest : nearest;
+}
+
+// A whole number becomes the number nearest to it times above / below.
+export const WHOLE = { above: 1, below: 1, precision: null };
+const SCALES = Array.from({ length: 16 }, (_, place) => {
+    const precision = place - 8;
+    return { above: 10 ** Math.max(-precision, 0), below: 10 ** Math.max(precision, 0), precision };
+});
+
+export const scaleOf = precision => SCALES[8 + precision];
+
+/** The coordinate in two words of 32 bits, the low one first. */
+export function numberAt(words, word, scale) {
+    const high = words[word + 1];
+    if (high < -NEAR || high >= NEAR) return farNumber((BigInt(high) << 32n) + BigInt(words[word] >>> 0), scale);
+    // below 2^53 the whole number is exact, and so is the power of ten: one of the two operations does nothing, and the
+    // other gives the nearest
+    return ((high * LONG + (words[word] >>> 0)) * scale.above) / scale.below;
+}
+
+function farNumber(number, { precision }) {
+    if (precision === null) throw new RangeError(`${number} is past 2^53: decodeFlat has such numbers`);
+    return Number(`${number}e${-precision}`);
+}
+
+/** Points in memory, from a word on. */
+export function pointsAt(words, word, count, scale) {
+    const points = new Array(count);
+    for (let place = 0; place < count; place++, word += 4) {
+        points[place] = [numberAt(words, word, scale), numberAt(words, word + 2, scale)];
+    }
+    return points;
+}
+
+/** The same points, as whole numbers without a scale. */
+export function exactPointsAt(words, word, count) {
+    const numbers = new BigInt64Array(words.buffer, 4 * word, 2 * count), points = new Array(count);
+    for (let place = 0; place < count; place++) points[place] = [numbers[2 * place], numbers[2 * place + 1]];
+    return points;
+}

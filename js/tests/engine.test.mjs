@@ -1,0 +1,151 @@
+// The module in its engine: loading, calls inside of calls, the engine's stack, memory.
+import assert from 'node:assert/strict';
+import { execFileSync } from 'node:child_process';
+import { readFileSync } from 'node:fs';
+import test from 'node:test';
+import { fileURLToPath } from 'node:url';
+import * as polytwkb from '../polytwkb.js';
+import { HEADER } from './rows.mjs';
+
+const { pack, unpack, show, encode, geometries, Refused } = polytwkb;
+const PACKAGE = new URL('../polytwkb.js', import.meta.url).href;
+const WASM = fileURLToPath(new URL('../polytwkb.wasm', import.meta.url));
+const POINT = Uint8Array.of(1, 2, 2, 4, 2);
+const ONE_POINT = `${HEADER}0,point,,0,AC\n`;
+const LONG = { timeout: 120000 };
+
+await polytwkb.load();
+
+/** What another process of node prints, in which the package is `p`. */
+function child(code, ...flags) {
+    const words = [...flags, '--input-type=module', '-e', `import * as p from '${PACKAGE}'; ${code}`];
+    return execFileSync(process.execPath, words, { encoding: 'utf8' });
+}
+
+test('before load, and a module of another version', () => {
+    const early = 'try { p.unpack(new Uint8Array()) } catch (fault) { console.log(fault.message) }';
+    assert.match(child(early), /load\(\) first/);
+    assert.match(child(`
+        import { readFileSync } from 'node:fs';
+        const bytes = readFileSync('${WASM}'), other = Buffer.from(bytes);
+        other.write('9', bytes.indexOf('${polytwkb.version}'));
+        await p.load(other).catch(fault => console.log(fault.message));
+        await p.load(Uint8Array.of(0, 97, 115, 109, 1, 0, 0, 0)).catch(fault => console.log(fault.message));
+        await Promise.all([p.load(), p.load(new WebAssembly.Module(bytes)), p.load(Promise.resolve(bytes))]);
+        console.log(p.unpack(new Uint8Array()));
+    `), /needs the module \S+, and this one is 9\.\S+\n.*and this one is another one\ndepth,kind/);
+});
+
+test('ready in 20 ms', () => {
+    const times = [1, 2, 3].map(() => Number(child(`
+        const start = performance.now();
+        await p.load();
+        p.pack(${JSON.stringify(ONE_POINT)});
+        console.log(performance.now() - start);
+    `)));
+    assert.ok(Math.min(...times) < 20, times);
+});
+
+test('the size of the module', () => {
+    assert.ok(readFileSync(WASM).length <= 180000);
+});
+
+test('calls inside of calls', () => {
+    const inner = [[-120.2, 38.5], [-120.95, 40.7]];
+    const points = { *[Symbol.iterator]() {
+        for (const point of inner) {
+            assert.equal(unpack(POINT), ONE_POINT);
+            assert.throws(() => unpack(POINT.subarray(0, 3)), Refused);
+            yield point;
+        }
+    } };
+    assert.equal(encode(points, 5), encode(inner, 5));
+    const limits = { get nest() { pack(HEADER); return 3; } };
+    assert.equal(unpack(POINT, limits), ONE_POINT);
+});
+
+// Each round ends the stack at other places: in the module, before it and after it.
+test('the stack of the engine ends in a call', LONG, () => {
+    const table = `${HEADER}${'0,linestring,,5,AAGG\n'.repeat(50)}`, blobs = pack(table);
+    const cut = () => { assert.throws(() => unpack(blobs.subarray(1)), Refused); };
+    const calls = [() => unpack(blobs), () => pack(table), () => geometries(blobs), () => show(blobs), cut];
+    let faults = 0;
+    const deep = (depth, round, ...more) => {
+        try {
+            if (depth % 7 === round % 7) calls[round % calls.length]();
+            deep(depth + 1, round, ...more);
+        } catch (fault) {
+            if (!(fault instanceof RangeError)) throw fault;
+            faults++;
+        }
+    };
+    for (let round = 0; round < 200; round++) {
+        deep(0, round, ...Array(round % 13).fill(0));
+        assert.equal(unpack(blobs), table);
+        assert.deepEqual(pack(table), blobs);
+    }
+    assert.ok(faults >= 200);
+});
+
+test('100,000 calls leak nothing', LONG, () => {
+    const said = child(`
+        await p.load();
+        const text = '_p~iF~ps|U_ulLnnqC_mqNvxq\`@';
+        const table = ${JSON.stringify(HEADER)} + ('0,linestring,,5,' + text + '\\n').repeat(20);
+        const blobs = p.pack(table), cut = blobs.subarray(0, 30);
+        const refused = call => { try { call(); } catch {} };
+        const calls = [
+            () => p.pack(table), () => p.unpack(blobs), () => p.show(blobs), () => refused(() => p.unpack(cut)),
+            () => refused(() => p.pack('x')), () => p.decode(text, 5), () => p.encode([[1, 2], [3, 4]]),
+            () => p.geometries(blobs),
+        ];
+        const round = count => { for (let i = 0; i < count; i++) calls[i % calls.length](); };
+        const used = () => { gc(); const m = process.memoryUsage(); return [m.heapUsed, m.external, m.arrayBuffers]; };
+        round(5000);
+        const before = used();
+        round(100000);
+        console.log(JSON.stringify(used().map((bytes, i) => bytes - before[i])));
+    `, '--expose-gc');
+    assert.ok(JSON.parse(said).every(bytes => bytes < 1e6), said);
+});
+
+test('memory grows and is given up again', LONG, () => {
+    const said = child(`
+        await p.load();
+        const header = ${JSON.stringify(HEADER)}, small = p.pack(header + '0,point,,0,AC\\n');
+        const table = header + '0,linestring,,5,_p~iF~ps|U_ulLnnqC_mqNvxq\`@\\n'.repeat(700000);
+        const rss = [];
+        for (let round = 0; round < 6; round++) {
+            const blobs = p.pack(table);
+            if (p.unpack(blobs) !== table || p.unpack(small).length !== 47) throw new Error('differs');
+            try { p.unpack(blobs.subarray(1)); } catch {}
+            gc();
+            rss.push(Math.round(process.memoryUsage().rss / 1e6));
+        }
+        console.log(JSON.stringify(rss));
+    `, '--expose-gc');
+    const rss = JSON.parse(said);
+    assert.ok(rss.at(-1) < 1.5 * rss[1], said);
+});
+
+// V8 gives the module at most 100 MB: each call answers, is refused, or says that memory is lacking; the next works.
+test('no memory', LONG, () => {
+    const said = child(`
+        await p.load();
+        const points = '?'.repeat(16 << 20);
+        const table = ${JSON.stringify(HEADER)} + '0,linestring,,0,' + points + '\\n';
+        let lacked = 0;
+        for (const call of [
+            () => p.decodeFlat(points), () => p.pack(table), () => p.unpack(new Uint8Array(200 << 20)),
+            () => p.pack(new Uint8Array(100 << 20)), () => p.encode(new BigInt64Array(12 << 20)),
+        ]) {
+            try { call(); } catch (fault) {
+                if (fault instanceof p.OutOfMemory && fault instanceof RangeError) lacked++;
+                else if (!(fault instanceof p.Refused)) throw fault;
+            }
+            if (p.decode('AAGG').length !== 2) throw new Error('differs');
+        }
+        console.log(lacked);
+    `, '--wasm-max-mem-pages=1600');
+    assert.ok(Number(said) >= 3, said);
+});

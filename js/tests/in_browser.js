@@ -1,0 +1,162 @@
+// The page and the package in a browser: what in_browser.html does. The server of browser.mjs gets the result. Until
+// then it holds back a picture, so that the browser ends, with a screenshot, only after it.
+import * as polytwkb from '../polytwkb.js';
+import { Comparing, checking, checkingPackage, records } from './compare.js';
+import { faultsOf } from './readme.js';
+
+document.body.append(Object.assign(new Image(), { src: '/wait', hidden: true }));
+const frame = document.getElementById('page');
+const said = [];
+const HEADER = 'depth,kind,id,precision,polyline\n';
+
+function check(name, holds, found = '') {
+    said.push(holds ? `ok    ${name}` : `FAIL  ${name}: ${found}`);
+}
+
+const fetched = async path => new Uint8Array(await (await fetch(path)).arrayBuffer());
+const next = (target, event) => new Promise(resolve => target.addEventListener(event, resolve, { once: true }));
+const within = selector => frame.contentDocument.querySelector(selector);
+const textOf = selector => within(selector).textContent;
+const marks = selector => [...frame.contentDocument.querySelectorAll(selector)].map(it => it.textContent.trim());
+
+/** Pastes a text, and waits until it is shown and drawn. */
+async function pasted(text) {
+    const page = frame.contentDocument, transfer = new frame.contentWindow.DataTransfer();
+    transfer.setData('text/plain', text);
+    const opened = next(page, 'opened');
+    const event = new frame.contentWindow.Event('paste', { bubbles: true, cancelable: true });
+    Object.defineProperty(event, 'clipboardData', { value: transfer });
+    page.dispatchEvent(event);
+    await opened;
+    await next(within('svg'), 'drawn');
+}
+
+async function dropped(bytes) {
+    const { contentDocument: page, contentWindow: window } = frame, transfer = new window.DataTransfer();
+    transfer.items.add(new window.File([bytes], 'it'));
+    const opened = next(page, 'opened');
+    const event = new window.Event('drop', { bubbles: true, cancelable: true });
+    Object.defineProperty(event, 'dataTransfer', { value: transfer });
+    page.dispatchEvent(event);
+    await opened;
+}
+
+async function started() {
+    frame.src = '../page/index.html';
+    await next(frame, 'load');
+    if (!marks('#headers div').length) await next(frame.contentDocument, 'opened');
+    await next(within('svg'), 'drawn');
+}
+
+async function testExample() {
+    const drawn = ['.lines', 'path.dots'].every(name => /^M.*/.test(within(name).getAttribute('d')));
+    check('the example is drawn', drawn && marks('.areas path').length === 3, within('svg').outerHTML.slice(0, 500));
+    check('its headers are listed', marks('#headers div').length === 8, marks('#headers div'));
+    check('kinds are told apart', /polygon 1 .*multipoint 2 /.test(textOf('#legend')), textOf('#legend'));
+    const chosen = next(frame.contentDocument, 'chosen');
+    within('#headers div[data-line="0"]').click();
+    await chosen;
+    await next(within('svg'), 'drawn');
+    check('a header leads to the picture', /Z$/.test(within('.chosen.area').getAttribute('d')));
+    check('a header leads to its bytes', marks('#bytes mark').length > 100, marks('#bytes mark').length);
+    check('a header leads to its rows', marks('#table .chosen').length === 4, marks('#table .chosen'));
+    const svg = within('svg').getBoundingClientRect(), seen = next(frame.contentDocument, 'chosen');
+    const [, x, y] = /^M(\S+) (\S+?)h0/.exec(within('path.dots').getAttribute('d'));
+    const { PointerEvent } = frame.contentWindow;
+    const words = { bubbles: true, clientX: svg.left + Number(x), clientY: svg.top + Number(y), pointerId: 1 };
+    within('svg').setPointerCapture = () => {};
+    for (const name of ['pointerdown', 'pointerup']) within('svg').dispatchEvent(new PointerEvent(name, words));
+    check('the picture leads to a header', (await seen).detail === 2);
+}
+
+async function testRefusals() {
+    await pasted(`${HEADER}0,point,,0,AC\n0,point,,0,AA\n0,pont,,0,\n`);
+    const says = (name, words) => check(name, words.test(textOf('#refused')), textOf('#refused'));
+    says('a refused record', /record 4: unknown kind \(BAD_KIND\).* 1 geometry/);
+    check('it is shown in the table', marks('#table .wrong')[0] === '0,pont,,0,', marks('#table .wrong'));
+    await pasted('04 07 0b 04 02 02 06 02 0e 10 04 02 02 06 02 00 02 02 02');
+    says('a refused byte', /byte 19: truncated \(BLOB_TRUNCATED\).* 1 geometry/);
+    check('it is shown in the bytes', marks('#bytes .wrong')[0] === '--', marks('#bytes .wrong'));
+    await pasted('\\x0407090402020602080402');
+    says('a wrong type of blob', /byte \d+: /);
+    await pasted(`${HEADER}0,multipoint,,0,\n1,point,7,,AC\n1,point,8,,GE\n`);
+    check('what is right is not refused', within('#refused').hidden);
+    check('it packs', marks('#bytes div')[0] === '0  04 07 0b 04 02 02 06 02 0e 10 04 02 02 06', marks('#bytes div'));
+    check('it tells sizes', /table 78 bytes, full 14, plain 9, 2 points/.test(textOf('#sizes')), textOf('#sizes'));
+}
+
+/** Ten megabytes of lines: how long the page's own thread does not answer. */
+async function testLarge() {
+    const places = Array.from({ length: 1000 }, (_, place) => [(place * 7919) % 1000, (place * 104729) % 997]);
+    const rows = `0,linestring,,2,${polytwkb.encode(places)}\n0,point,,2,${polytwkb.encode([[5, 7]])}\n`;
+    const blobs = polytwkb.pack(HEADER + rows.repeat(3400));
+    let longest = 0, last = performance.now(), going = true;
+    const turn = () => {
+        const now = performance.now();
+        longest = Math.max(longest, now - last);
+        last = now;
+        if (going) setTimeout(turn, 5);
+    };
+    turn();
+    const start = performance.now();
+    await dropped(blobs);
+    await next(within('svg'), 'drawn');
+    going = false;
+    const took = Math.round(performance.now() - start), megabytes = (blobs.length / 1e6).toFixed(1);
+    const name = `${megabytes} MB are shown in ${took} ms, and the page answers within ${Math.round(longest)} ms`;
+    check(name, longest < 1500 && blobs.length > 1e7);
+}
+
+async function testPackage() {
+    await polytwkb.load();
+    const comparing = new Comparing([
+        ['module', await checking(await fetched('../polytwkb.wasm'))], ['package', checkingPackage(polytwkb)],
+    ]);
+    for (const record of records(await fetched('/cases')).found) comparing.add(record);
+    check(`random calls as the native library: ${comparing.line}`, comparing.count && !comparing.wrong, comparing.told);
+    const readme = await (await fetch('../README.md')).text();
+    const faults = await faultsOf(readme, new URL('../polytwkb.js', location.href).href);
+    check('it does what its README shows', faults.length === 0, faults);
+    const got = [];
+    for await (const part of polytwkb.stream(fetch('/stream'))) got.push(...polytwkb.geometries(part));
+    check('a fetched stream comes blob by blob', got.length === 2600, got.length);
+}
+
+/** Waits until something holds, for some seconds. */
+async function until(holds) {
+    for (let tries = 0; tries < 200 && !holds(); tries++) await new Promise(resolve => setTimeout(resolve, 50));
+    return holds();
+}
+
+async function testExamples() {
+    const expected = { '/stream': /^2600 geometries in all/, '/cut': /^2 geometries, and .*: byte 13: truncated/ };
+    for (const [url, words] of Object.entries(expected)) {
+        frame.src = `../examples/worker/index.html?open=${url}`;
+        await next(frame, 'load');
+        const found = await until(() => words.test(textOf('#told')));
+        check(`the worker of the example reads ${url}`, found, textOf('#told'));
+    }
+    if (!(await fetch('/leaflet/leaflet.js')).ok) {
+        said.push('skip  Leaflet: libjs-leaflet is not there');
+        return;
+    }
+    frame.src = '../examples/leaflet/index.html?open=/shapes';
+    await next(frame, 'load');
+    const drawn = () => frame.contentDocument.querySelectorAll('path.leaflet-interactive').length;
+    check('the example draws on a map of Leaflet', await until(() => drawn() === 2), drawn());
+}
+
+async function main() {
+    await testPackage();
+    await started();
+    await testExample();
+    await testRefusals();
+    await testLarge();
+    await testExamples();
+    await started();
+    within('#headers div[data-line="3"]').click();
+    await next(within('svg'), 'drawn');
+}
+
+await main().catch(fault => check('the tests end', false, fault.stack));
+await fetch('/result', { method: 'POST', body: [...said, `# ${navigator.userAgent}`].join('\n') });

@@ -1,0 +1,38 @@
+// What callers in TypeScript write; the declarations take it, and refuse what is marked.
+import {
+    Geometry, Header, Limits, OutOfMemory, Point, Refused, decode, decodeFlat, encode, geometries, load, pack, show,
+    split, stream, unpack, unpackBytes, version,
+} from '../polytwkb.js';
+
+async function all(response: Response, file: ArrayBuffer): Promise<void> {
+    await load();
+    await load(new URL('https://example.org/polytwkb.wasm'));
+    await load(fetch('polytwkb.wasm'));
+    const blobs: Uint8Array = pack('text', 'plain', { nest: 3 });
+    const table: string = unpack(blobs, new Limits({ points: 5 }));
+    const bytes: Uint8Array = unpackBytes(file), headers: Header[] = show(bytes), parts: Uint8Array[] = split(file);
+    const points: Point[] = decode(encode([[1, 2n]]), 5), flat: BigInt64Array = decodeFlat(table);
+    const again: string = encode(flat) + encode(points, 5) + version + headers[0].kind + parts.length;
+    const found: Geometry[] = geometries(blobs);
+    for (const geometry of found) {
+        if (geometry.type === 'Polygon') geometry.coordinates[0][0][0].toFixed();
+        if (geometry.type === 'GeometryCollection') geometry.geometries[0].type.length.toFixed();
+    }
+    const exact: bigint | undefined = geometries(blobs, { exact: true }).map(it => it.precision && 1n)[0] || undefined;
+    for await (const part of stream(response)) split(part);
+    for await (const part of stream(fetch('shapes.twkb'), { nest: 2 })) unpack(part);
+    try {
+        pack(again);
+    } catch (fault) {
+        if (fault instanceof Refused) fault.place.toFixed(exact ? 1 : 2);
+        if (fault instanceof OutOfMemory) fault.message.trim();
+    }
+    // @ts-expect-error a style is full or plain
+    pack('text', 'Full');
+    // @ts-expect-error a stream is bytes
+    unpack('text');
+    // @ts-expect-error a BigInt64Array has whole numbers
+    encode(flat, 5);
+}
+
+void all;

@@ -1,0 +1,68 @@
+/*
+ * The calls of JavaScript, with numbers of 32 bits. Not proved; js/tests compares them with the native library.
+ *
+ * The functions of the library are declared as its module has them, which was made for the calls of x86-64: the report
+ * is written where the first argument points, which is returned too, and limits are where an argument points, and are
+ * the function's own. The linker refuses other types.
+ */
+typedef unsigned char byte;
+typedef unsigned int u32;
+typedef unsigned long u64; /* and a pointer */
+
+struct limits {
+    u32 nest, nodes, points;
+};
+
+struct report {
+    u32 status, reason;
+    u64 place, text_offset, done, sent, needed;
+};
+
+struct report *polytwkb_pack(struct report *, const byte *, u64, byte *, u64, struct limits *, u32);
+struct report *polytwkb_unpack(struct report *, const byte *, u64, byte *, u64, struct limits *);
+struct report *polytwkb_show(struct report *, const byte *, u64, byte *, u64, struct limits *);
+struct report *polytwkb_encode(struct report *, const byte *, u64, byte *, u64);
+struct report *polytwkb_decode(struct report *, const byte *, u64, byte *, u64);
+u64 polytwkb_reason_text(u32, byte *, u64);
+u64 polytwkb_version(byte *, u64);
+
+static struct report report;
+static byte text[32];
+
+#define AT(address) ((byte *)(u64)(address))
+#define NUMBER(pointer) ((u32)(u64)(pointer))
+
+/* Each of these answers where the report is. */
+u32 pack(u32 input, u32 length, u32 output, u32 room, u32 nest, u32 nodes, u32 points, u32 style) {
+    struct limits limits = {nest, nodes, points};
+    return NUMBER(polytwkb_pack(&report, AT(input), length, AT(output), room, &limits, style));
+}
+
+u32 unpack(u32 input, u32 length, u32 output, u32 room, u32 nest, u32 nodes, u32 points) {
+    struct limits limits = {nest, nodes, points};
+    return NUMBER(polytwkb_unpack(&report, AT(input), length, AT(output), room, &limits));
+}
+
+u32 show(u32 input, u32 length, u32 output, u32 room, u32 nest, u32 nodes, u32 points) {
+    struct limits limits = {nest, nodes, points};
+    return NUMBER(polytwkb_show(&report, AT(input), length, AT(output), room, &limits));
+}
+
+u32 encode(u32 points, u32 count, u32 output, u32 room) {
+    return NUMBER(polytwkb_encode(&report, AT(points), count, AT(output), room));
+}
+
+u32 decode(u32 input, u32 length, u32 points, u32 room) {
+    return NUMBER(polytwkb_decode(&report, AT(input), length, AT(points), room));
+}
+
+/* Each of these answers where a text is, which ends at a NUL. */
+u32 reason_text(u32 reason) {
+    polytwkb_reason_text(reason, text, sizeof text);
+    return NUMBER(text);
+}
+
+u32 version(void) {
+    polytwkb_version(text, sizeof text);
+    return NUMBER(text);
+}

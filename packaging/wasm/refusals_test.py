@@ -1,0 +1,91 @@
+#!/usr/bin/env python3
+"""What the steps that make the module of WebAssembly refuse: whatever was not seen before in a module of LLVM, and calls
+that come back to themselves, that go by a pointer, or that take more stack than there is.
+
+    packaging/wasm/refusals_test.py
+"""
+import os
+import subprocess
+import sys
+import tempfile
+
+sys.dont_write_bytecode = True
+import retarget
+
+HERE = os.path.dirname(os.path.abspath(__file__))
+CLANG = os.path.join(os.path.dirname(subprocess.check_output(["rt", "doc"], text=True).strip()), "toolchain/bin/clang")
+
+KNOWN = """source_filename = "rattle"
+@table = private unnamed_addr constant [2 x i8] c"a\\22", align 1
+define internal noundef zeroext i1 @"a::float<b>"(ptr noundef %a0, i64 %volatile) #0 {
+entry:
+  %r1 = load i8, ptr %a0, align 1, !noundef !1
+  %r2 = getelementptr inbounds nuw i8, ptr %a0, i64 3
+  br label %entry
+!1 = !{}
+attributes #0 = { nounwind cold memory(none) }
+declare void @llvm.trap() #5""".splitlines()
+STRANGE = [
+    "  %r1 = load volatile i8, ptr %a0, align 1",
+    "  %r1 = load atomic i8, ptr %a0 seq_cst, align 1",
+    "  %r1 = fadd double %a, %b",
+    "  %r1 = inttoptr i64 %a to ptr",
+    "  %r1 = getelementptr inbounds nusw i8, ptr %a0, i64 3",
+    "  %r1 = load i8, ptr addrspace(1) %a0, align 1",
+    "  call void asm sideeffect \"\", \"\"()",
+    "  fence seq_cst",
+    "  %r1 = load i8, ptr %a0, align 1, !tbaa !1",
+    "define fastcc void @f() {",
+    "@shared = global i8 0",
+    "@each = thread_local constant i8 0",
+    "declare i32 @llvm.x86.sse2.pmovmskb.128(<16 x i8>) #6",
+    "declare ptr @malloc(i64) #6",
+    "attributes #0 = { nounwind sanitize_address }",
+    'attributes #0 = { nounwind "target-cpu"="x86-64-v3" }',
+    'target triple = "x86_64-unknown-linux-musl"',
+    'module asm "nop"',
+    "!llvm.linker.options = !{}",
+]
+HEAD = "unsigned long f(unsigned long n); unsigned long g(unsigned long n); "
+CODE = {
+    "a function that calls itself": "unsigned long f(unsigned long n) { volatile char b[9]; b[n] = 0; return n ? f(n / 2) + b[0] : 1; }",
+    "two that call one another": "__attribute__((noinline)) unsigned long g(unsigned long n) { volatile char b[9]; b[0] = 0;"
+    " return f(n / 2) + b[0]; } unsigned long f(unsigned long n) { return n ? g(n) + 1 : 1; }",
+    "a frame that is too large": "unsigned long f(unsigned long n) { volatile char b[200000]; b[n] = 1; return b[n / 2]; }",
+    "a call by a pointer": "extern unsigned long (*p)(unsigned long); unsigned long (*p)(unsigned long);"
+    " unsigned long f(unsigned long n) { return p(n) + 1; }",
+    "a frame whose size is computed": "unsigned long f(unsigned long n) { volatile char b[n]; b[0] = 1; return b[n / 2]; }",
+}
+GOOD = "unsigned long f(unsigned long n) { volatile char b[3000]; b[n] = 1; return b[n / 2]; }"
+
+
+def accepted(code, folder):
+    """Whether the bound of the stack of a module is accepted."""
+    source, made = os.path.join(folder, "it.c"), os.path.join(folder, "it.wasm")
+    with open(source, "w", encoding="utf-8") as file:
+        file.write(HEAD + code)
+    linker = os.path.join(folder, "wasm-ld")
+    if not os.path.exists(linker):
+        os.symlink(CLANG, linker)
+    words = ["--target=wasm64-unknown-unknown", "-O2", "-ffreestanding", "-c", source, "-o", made + ".o"]
+    subprocess.run([CLANG, *words], check=True)
+    words = ["-mwasm64", "--no-entry", "--stack-first", "--export=f", made + ".o", "-o", made]
+    subprocess.run([linker, *words], check=True)
+    ran = subprocess.run([sys.executable, os.path.join(HERE, "stack.py"), made, "131072"], capture_output=True, check=False)
+    return ran.returncode == 0
+
+
+def main():
+    wrong = [f"refused: {line}" for line in KNOWN if retarget.strange_in(line)]
+    wrong += [f"accepted: {line}" for line in STRANGE if not retarget.strange_in(line)]
+    with tempfile.TemporaryDirectory() as folder:
+        wrong += [] if accepted(GOOD, folder) else ["refused: a small frame"]
+        wrong += [f"accepted: {name}" for name, code in CODE.items() if accepted(code, folder)]
+    for line in wrong:
+        print(line)
+    print(f"{len(STRANGE)} lines and {len(CODE)} modules are refused" if not wrong else f"{len(wrong)} are wrong")
+    return 1 if wrong else 0
+
+
+if __name__ == "__main__":
+    sys.exit(main())

@@ -1,0 +1,88 @@
+#!/usr/bin/env bash
+# The library for browsers and Node, and the package that calls it: one line for each check, status 1 if one failed.
+#
+#   scripts/wasm_test.sh [CASES [SEED]]
+#
+# compares CASES random calls with the native library (20,000). Needs js/polytwkb.wasm, out/libpolytwkb.bc and
+# out/libpolytwkb.so, which `make wasm-test` makes, and node 20.
+set -uo pipefail
+cd "$(dirname "$0")/.." || exit 1
+cases=${1:-20000}
+seed=${2:-$(date -u +%Y%m%d)}
+work=$(mktemp -d)
+trap 'rm -rf "$work"' EXIT
+failed=0
+export PYTHONDONTWRITEBYTECODE=1 REPO=$PWD
+
+is_there() { command -v "$1" > /dev/null; }
+skip() { echo "skip  $1"; }
+
+# report NAME COMMAND..: prints the line of a check, with the last line that the command says, or all if it fails.
+report() {
+  local name=$1
+  shift
+  if "$@" > "$work/said" 2>&1; then
+    echo "ok    $name: $(tail -n 1 "$work/said")"
+  else
+    failed=1
+    echo "FAIL  $name"
+    tail -n 40 "$work/said"
+  fi
+}
+
+# Each test of Node's runner as a line.
+node_tests() {
+  node --test --test-reporter=tap js/tests/*.test.mjs > "$work/tap"
+  sed -n -e 's/^ok [0-9]* - /ok    JavaScript: /p' -e 's/^not ok [0-9]* - /FAIL  JavaScript: /p' "$work/tap"
+  if ! grep -q '^# fail 0$' "$work/tap" || ! grep -q '^ok ' "$work/tap"; then
+    failed=1
+    grep -v '^ok' "$work/tap" | head -n 200
+  fi
+}
+
+made_again() {
+  packaging/wasm/build.sh out/libpolytwkb.bc "$work" all && cmp js/polytwkb.wasm "$work/polytwkb.wasm" &&
+    echo "$(wc -c < js/polytwkb.wasm) bytes, $(gzip -9 < js/polytwkb.wasm | wc -c) compressed"
+}
+valid() { wasm-validate "$work/polytwkb.wasm" && wasm-validate "$work/plain.wasm" && echo "valid"; }
+fuzz() {
+  python3 js/tests/cases.py out/libpolytwkb.so "$cases" "$seed" > "$work/cases" &&
+    node --experimental-wasm-memory64 js/tests/differential.mjs "$work/cases" "$work"/{polytwkb,checked,plain,wide}.wasm
+}
+
+# Each check of the page and the package in a browser as a line.
+in_browser() {
+  is_there "$1" || { skip "the page in $1: it is not there"; return; }
+  head -c 4000000 "$work/cases" > "$work/first_cases"
+  node js/tests/browser.mjs "$work/first_cases" "$work" "$1" || failed=1
+}
+# The package as a program has it, and a bundle of that program, which finds the module beside it.
+bundled() {
+  esbuild js/tests/bundled.mjs --bundle --format=esm --platform=node --outdir="$work/bundle" --loader:.wasm=file \
+    --asset-names='[name]' --alias:polytwkb="$PWD/js/polytwkb.js" --alias:polytwkb-module="$PWD/js/polytwkb.wasm" &&
+    node "$work/bundle/bundled.js"
+}
+typed() {
+  tsc --noEmit --strict --target es2022 --module es2022 --moduleResolution node --lib es2022,dom js/tests/types.ts &&
+    echo "strict"
+}
+
+if ! is_there node || [ "$(node -p 'process.versions.node.split(".")[0]')" -lt 20 ]; then
+  skip "JavaScript: node 20 is not there"
+  exit 0
+fi
+report "module: made again, the same bytes" made_again
+report "module: what its making refuses" packaging/wasm/refusals_test.py
+if is_there wasm-validate; then report "module: wabt takes it" valid; else skip "module: wasm-validate is not there"; fi
+node_tests
+report "module and package: random calls as the native library, seed $seed" fuzz
+report "memory: the heap beside a model" node js/tests/heap.mjs "$work/heap.wasm"
+report "memory: the same with 20 pages" node --wasm-max-mem-pages=20 js/tests/heap.mjs "$work/heap.wasm"
+report "memory: each growth refused" node js/tests/growth.mjs js/polytwkb.wasm
+report "memory: the package with little" node --wasm-max-mem-pages=3 js/tests/little.mjs "$work/cases"
+report "memory: 300 MB" node js/tests/large.mjs 300
+if is_there esbuild; then report "bundle: by esbuild" bundled; else skip "bundle: esbuild is not there"; fi
+if is_there tsc; then report "types: by tsc" typed; else skip "types: tsc is not there"; fi
+in_browser chromium
+in_browser firefox-esr
+[ "$failed" -eq 0 ]
