@@ -21,7 +21,7 @@ REPO = os.path.abspath(os.path.join(os.path.dirname(__file__), ".."))
 LIMITS = {
     "README.md": 700,
     "docs/USING.md": 3000,
-    "docs/RECIPES.md": 1500,
+    "docs/RECIPES.md": 5000,
     "docs/FORMATS.md": 5000,
     "docs/ARCHITECTURE.md": 1500,
     "docs/DECISIONS.md": 3500,

@@ -28,7 +28,7 @@ polytwkb unpack < shapes.twkb | tee shapes.csv
 
 # A stream into a table of PostGIS: each blob as a line of hexadecimal digits, its id before it.
 polytwkb pack < shapes.csv > again.twkb
-"$here/cut_stream.py" again.twkb > again.hex
+python3 "$here/cut_stream.py" again.twkb > again.hex
 [ "$(wc -l < again.hex)" = "$(wc -l < ids.txt)" ]
 paste ids.txt again.hex > again.tsv
 psql <<'SQL'

@@ -18,7 +18,7 @@ depth,kind,id,precision,polyline
 TABLE
 
 polytwkb pack < before.csv > before.twkb
-"$here/cut_stream.py" before.twkb > before.hex
+python3 "$here/cut_stream.py" before.twkb > before.hex
 psql <<'SQL'
 CREATE TABLE blobs (n bigserial, hex text);
 \copy blobs (hex) FROM 'before.hex'

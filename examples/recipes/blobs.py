@@ -1,0 +1,24 @@
+"""The blobs of a stream, one by one, by the lines of `polytwkb show`."""
+import os
+import subprocess
+import sys
+
+from tables import Fault
+
+
+def blobs_of(path):
+    """Each blob of the stream in a file, and its offset.
+
+    If the status of `polytwkb show` is not 0, the script ends with it.
+    """
+    if not os.path.isfile(path):
+        raise Fault(f"{path} is no file")
+    with open(path, "rb") as stream, open(path, "rb") as shown:
+        headers = subprocess.Popen(["polytwkb", "show"], stdin=shown, stdout=subprocess.PIPE, text=True)
+        for header in headers.stdout:
+            level, offset, _, _, _, length, _ = header.split()
+            if level == "0":
+                yield int(offset), stream.read(int(length))
+    status = headers.wait()
+    if status:
+        sys.exit(status)
