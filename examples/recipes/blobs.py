@@ -1,16 +1,12 @@
 """The blobs of a stream, one by one, by the lines of `polytwkb show`."""
 import os
 import subprocess
-import sys
 
-from tables import Fault
+from tables import Ended, Fault
 
 
 def blobs_of(path):
-    """Each blob of the stream in a file, and its offset.
-
-    If the status of `polytwkb show` is not 0, the script ends with it.
-    """
+    """Each blob of the stream in a file, and its offset; Ended, if the status of `polytwkb show` is not 0."""
     if not os.path.isfile(path):
         raise Fault(f"{path} is no file")
     with open(path, "rb") as stream, open(path, "rb") as shown:
@@ -21,4 +17,4 @@ def blobs_of(path):
                 yield int(offset), stream.read(int(length))
     status = headers.wait()
     if status:
-        sys.exit(status)
+        raise Ended(status)

@@ -31,14 +31,17 @@ def main():
         tables.PRECISION,
         ("keys", {"metavar": "KEYS", "help": "the file for the keys"}),
     )
+    records = tables.input_records()
     sys.stdout.write(tables.HEADER)
+    header, places = tables.columns_of(records, *words.columns)
     with open(words.keys, "w", encoding="utf-8") as keys:
 
-        def put(key, latitude, longitude):
+        def put(record):
+            key, latitude, longitude = (record[place].strip() for place in places)
             keys.write(tables.key_line(key))
-            sys.stdout.write(row_of(latitude.strip(), longitude.strip(), words.precision))
+            sys.stdout.write(row_of(latitude, longitude, words.precision))
 
-        tables.for_records(tables.input_text(), words.columns, put)
+        tables.for_records(records, len(header), put)
 
 
 tables.run(main, "refused\n")

@@ -14,6 +14,10 @@ class Fault(Exception):
     """What is wrong with an input, and where."""
 
 
+class Ended(Exception):
+    """A program that a script runs has ended with this status, and has said why."""
+
+
 def words_of(script, *words):
     """The words of the command line: each a name, or a name and what argparse needs to know of it."""
     parser = argparse.ArgumentParser(description=script, formatter_class=argparse.RawDescriptionHelpFormatter)
@@ -36,23 +40,28 @@ def input_text():
     return io.TextIOWrapper(sys.stdin.buffer, "utf-8-sig", newline="")
 
 
-def for_records(text, names, put):
-    """Calls put with the fields of these names, for each record of CSV with a header.
+def input_records():
+    """The records of CSV on standard input."""
+    return csv.reader(input_text())
 
-    A fault gets the record's number.
-    """
-    records = csv.reader(text)
+
+def columns_of(records, *names):
+    """The header of CSV, and the places of these names in it."""
     header = next(records, [])
     for name in names:
         if name not in header:
             raise Fault(f"no column {name} in the header {','.join(header):.200}")
-    places = [header.index(name) for name in names]
+    return header, [header.index(name) for name in names]
+
+
+def for_records(records, fields, put):
+    """Calls put with each record of CSV after its header; each has so many fields. A fault gets the record's number."""
     for number, record in enumerate(records, 2):
         try:
-            if record and len(record) != len(header):
-                raise Fault(f"{len(record)} fields, and {len(header)} in the header")
+            if record and len(record) != fields:
+                raise Fault(f"{len(record)} fields, and {fields} in the header")
             if record:
-                put(*[record[place] for place in places])
+                put(record)
         except Fault as fault:
             raise Fault(f"record {number}: {fault}") from None
 
@@ -67,8 +76,8 @@ def key_line(key):
 def run(main, last=""):
     """Runs a script. A fault in what it is given is one line and status 1.
 
-    A script that writes a table then writes a last line that `polytwkb pack` refuses, so that a pipe without
-    `pipefail` has status 1 too.
+    What is written then ends with a text that the next command refuses, so that a pipe without `pipefail` does not end
+    with status 0.
     """
     try:
         main()
@@ -78,11 +87,13 @@ def run(main, last=""):
         # What reads the output has ended, and says why.
         os.dup2(os.open(os.devnull, os.O_WRONLY), sys.stdout.fileno())
         sys.exit(3)
+    except Ended as found:
+        (fault,) = found.args
     except UnicodeDecodeError as found:
         fault = f"not UTF-8: byte {found.object[found.start]:02x} in what is read"
     except OSError as found:
         fault = f"{found.filename}: {found.strerror}"
     except (Fault, csv.Error) as found:
-        fault = found
+        fault = str(found)
     sys.stdout.write(last)
-    sys.exit(f"{os.path.basename(sys.argv[0])}: {fault}")
+    sys.exit(fault if isinstance(fault, int) else f"{os.path.basename(sys.argv[0])}: {fault}")
