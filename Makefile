@@ -205,7 +205,7 @@ PACKAGE_FILE := $(LIBDIR)/pkgconfig/polytwkb.pc
 HEADER_FILE := $(INCLUDEDIR)/polytwkb.h
 # Pages that are installed, beside the examples that they name. A link to what is not becomes its text.
 PAGES := USING RECIPES FORMATS
-LINKS_OUT := s!\[([^]]*)\]\((\.\./(README|python|crates|tests)|PERF)[^)]*\)!\1!g
+LINKS_OUT := s!\[([^]]*)\]\((\.\./(README|python|js|crates|tests)|PERF)[^)]*\)!\1!g
 
 # The program that is installed, and the folder of the libraries.
 PROGRAM ?= bin/polytwkb

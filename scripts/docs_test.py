@@ -14,8 +14,11 @@ continue it. The lines up to the next command or the end of the block are its co
 the end do not count. A command whose first line is '# needs TOOL' is skipped if the tool is missing.
 
 The commands of a file run in order in one session of bash, in a fresh folder, with bin/ of this repository
-on the path, $REPO set to the repository, and no input. A command that fails does not end the session. One that
+on the path, $REPO set to the repository and $RECIPES to its recipes, and no input. A command that fails does not end the session. One that
 prints only a line 'skipped: needs X' is not compared: recipes print that if a tool is missing.
+
+An indented line of docs/RECIPES.md is what a user types on files of his own. It must be, word for word, a line of a
+demonstration in examples/recipes, which runs it.
 
 If a line of a crate's README ends with a link to a file of crates/examples/src and a colon, a block fenced with
 ```rust follows, which must be that file, word for word. Each file there, except lib.rt and tests.rt, must be
@@ -38,6 +41,7 @@ import reasons
 REPO = os.path.abspath(os.path.join(os.path.dirname(__file__), ".."))
 FILES = ["README.md", "docs/USING.md", "docs/RECIPES.md", "crates/polytwkb/README.md"]
 EXAMPLES = os.path.join(REPO, "crates", "examples", "src")
+RECIPES = os.path.join(REPO, "examples", "recipes")
 CALLER = re.compile(r"\(\.\./examples/src/([a-z_]+\.rt)\):$")
 MARK = "--- end of the command ---"
 SECONDS = 300
@@ -117,7 +121,7 @@ def printed_by(commands):
         os.mkdir(work)
         with open(script, "w", encoding="utf-8") as file:
             file.write(script_of(commands))
-        environment = dict(os.environ, REPO=REPO, LC_ALL="C.UTF-8")
+        environment = dict(os.environ, REPO=REPO, RECIPES=RECIPES, LC_ALL="C.UTF-8")
         environment["PATH"] = os.path.join(REPO, "bin") + os.pathsep + environment["PATH"]
         run = subprocess.run(["bash", script], cwd=work, env=environment, stdin=subprocess.DEVNULL,
                              stdout=subprocess.PIPE, timeout=SECONDS)
@@ -187,9 +191,33 @@ def caller_differences():
     return wrong
 
 
+def typed_lines():
+    """The indented lines of the page of recipes that are in no fenced block, and the number of each."""
+    with open(os.path.join(REPO, "docs", "RECIPES.md"), encoding="utf-8") as file:
+        inside = False
+        for number, line in enumerate(file, 1):
+            inside ^= line.startswith("```")
+            if not inside and line.startswith("    "):
+                yield number, line.strip()
+
+
+def lines_not_run():
+    """How many lines of the page of recipes no demonstration runs, each reported on standard output."""
+    run = set()
+    for path in glob.glob(os.path.join(RECIPES, "*sh")):
+        with open(path, encoding="utf-8") as file:
+            run.update(line.strip() for line in file)
+    typed = list(typed_lines())
+    wrong = [(number, line) for number, line in typed if line not in run]
+    for number, line in wrong:
+        print(f"docs/RECIPES.md:{number}: no demonstration runs: {line}")
+    print(f"{'FAIL' if wrong else 'ok  '}  docs/RECIPES.md: {len(typed)} lines to type, {len(wrong)} not run")
+    return len(wrong)
+
+
 def page_faults():
     """How many faults pages have that can be found without a program, each reported on standard output."""
-    return caller_differences() + pages.main([]) + promises.main([]) + reasons.main()
+    return caller_differences() + lines_not_run() + pages.main([]) + promises.main([]) + reasons.main()
 
 
 def main():

@@ -15,12 +15,12 @@ parts="smoke completions fuzz library machines documents dist hostile arm64 java
 work=$(mktemp -d)
 trap 'rm -rf "$work"' EXIT
 
-# The tools that the parts need, and the package that brings each. There is no sshd among them, which would let
-# others in.
+# The tools that the parts need, and the package that brings each. A name with * stands for any file of that form.
+# There is no sshd among them, which would let others in.
 lacking() {
   local tool package
   while read -r tool package; do
-    [ -e "$tool" ] || command -v "$tool" > /dev/null || echo "$package"
+    compgen -G "$tool" > /dev/null || command -v "$tool" > /dev/null || echo "$package"
   done << 'END'
 make make
 cc gcc
@@ -46,6 +46,8 @@ tsc node-typescript
 /usr/lib/python3/dist-packages/polyline python3-polyline
 /usr/lib/python3/dist-packages/distributed python3-distributed
 pv pv
+/usr/share/postgresql/*/extension/postgis.control postgresql-postgis
+ogr2ogr gdal-bin
 go golang-go
 aarch64-linux-gnu-gcc gcc-aarch64-linux-gnu
 /usr/aarch64-linux-gnu/include/stdio.h libc6-dev-arm64-cross
@@ -54,14 +56,19 @@ debootstrap debootstrap
 END
 }
 
-# Each package by itself, so that one that a mirror lacks does not stop the others.
+# Each package by itself, so that one that a mirror lacks does not stop the others. The server that PostgreSQL's package
+# brings is not started: recipes start one of their own.
 install_lacking() {
-  local package packages apt=(apt-get -y -q -o DPkg::Lock::Timeout=300 -o Acquire::http::Timeout=20)
+  local package packages policy=/usr/sbin/policy-rc.d apt=(apt-get -y -q -o DPkg::Lock::Timeout=300 -o Acquire::http::Timeout=20)
   packages=$(lacking)
   if [ -z "$packages" ] || [ "${SYSTEM:-yes}" = no ] || [ "$(id -u)" -ne 0 ] || ! command -v apt-get > /dev/null; then return; fi
   export DEBIAN_FRONTEND=noninteractive
+  if [ ! -e "$policy" ]; then
+    trap "rm -f $policy" EXIT
+    install -m 755 /dev/stdin "$policy" <<< $'#!/bin/sh\nexit 101'
+  fi
   timeout 120 "${apt[@]}" update
-  for package in $packages; do timeout 120 "${apt[@]}" install --no-install-recommends "$package"; done
+  for package in $packages; do timeout 300 "${apt[@]}" install --no-install-recommends "$package"; done
 }
 
 # take_programs: copies what the gate built to where `make` looks for it.

@@ -3,23 +3,29 @@
 
     cut_stream.py STREAM [FOLDER]
 
-It holds one blob at a time. The status is that of 'polytwkb show', which says where blobs end: if it is not 0, the blobs
-before the refused one have been written, and no other.
+It holds one blob at a time. The status is that of 'polytwkb show', which says where blobs end: if it is not 0, the
+blobs before the refused one have been written, and no other.
 """
-import subprocess
 import sys
 
-path, folder = (sys.argv[1:] + [None])[:2]
-with open(path, "rb") as stream, open(path, "rb") as shown:
-    headers = subprocess.Popen(["polytwkb", "show"], stdin=shown, stdout=subprocess.PIPE, text=True)
-    for header in headers.stdout:
-        level, offset, _, _, _, length, _ = header.split()
-        if level != "0":
-            continue
-        blob = stream.read(int(length))
-        if folder:
-            with open(f"{folder}/blob-{int(offset):012}.twkb", "wb") as file:
+sys.dont_write_bytecode = True
+
+import tables
+from blobs import blobs_of
+
+
+def main():
+    words = tables.words_of(
+        __doc__,
+        ("stream", {"metavar": "STREAM", "help": "the file of a stream"}),
+        ("folder", {"metavar": "FOLDER", "nargs": "?", "help": "the folder for a file for each blob"}),
+    )
+    for offset, blob in blobs_of(words.stream):
+        if words.folder:
+            with open(f"{words.folder}/blob-{offset:012}.twkb", "wb") as file:
                 file.write(blob)
         else:
             print(blob.hex())
-sys.exit(headers.wait())
+
+
+tables.run(main)

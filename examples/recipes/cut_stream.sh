@@ -3,7 +3,7 @@
 source "$(dirname "$0")/common.bash"
 need python3
 
-polytwkb pack > all.twkb <<'TABLE'
+polytwkb pack > my.twkb <<'TABLE'
 depth,kind,id,precision,polyline
 0,point,,5,yop}Gysml@
 0,multipoint,,5,
@@ -13,8 +13,8 @@ depth,kind,id,precision,polyline
 1,point,,0,AC
 TABLE
 
-mkdir blobs
-"$here/cut_stream.py" all.twkb blobs
-cat blobs/* | cmp - all.twkb
+mkdir blobs && python3 $RECIPES/cut_stream.py my.twkb blobs
+cat blobs/* | cmp - my.twkb
 (cd blobs && wc -c *)
-"$here/cut_stream.py" all.twkb
+python3 $RECIPES/cut_stream.py my.twkb > my.hex
+cat my.hex

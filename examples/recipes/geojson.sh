@@ -3,24 +3,41 @@
 source "$(dirname "$0")/common.bash"
 need python3
 
-cat > map.json <<'JSON'
+cat > my.geojson <<'JSON'
 {"type": "FeatureCollection", "features": [
-  {"type": "Feature", "properties": {"name": "stop"}, "geometry": {"type": "Point", "coordinates": [7.44781, 46.94797]}},
+  {"type": "Feature", "id": 12, "properties": {"name": "stop"}, "geometry":
+    {"type": "Point", "coordinates": [7.4478125, 46.947965]}},
   {"type": "Feature", "properties": {"name": "park"}, "geometry": {"type": "Polygon", "coordinates":
     [[[0, 0], [0.6, 0], [0.6, 0.4], [0, 0.4], [0, 0]], [[0.2, 0.1], [0.2, 0.3], [0.4, 0.3], [0.4, 0.1], [0.2, 0.1]]]}},
-  {"type": "Feature", "properties": {}, "geometry": {"type": "GeometryCollection", "geometries": [
+  {"type": "Feature", "properties": {"zone": 1.50}, "geometry": {"type": "GeometryCollection", "geometries": [
     {"type": "MultiPoint", "coordinates": [[7.44781, 46.94797], [7.44107, 46.9469]]},
     {"type": "LineString", "coordinates": []}]}}]}
 JSON
 
-"$here/geojson_to_table.py" 5 < map.json > map.csv
-cat map.csv
-polytwkb pack < map.csv > map.twkb
-polytwkb unpack < map.twkb | cmp - map.csv
-polytwkb unpack < map.twkb | "$here/table_to_geojson.py"
+python3 $RECIPES/geojson_to_table.py 6 < my.geojson | polytwkb pack > my.twkb
+polytwkb unpack < my.twkb | tee my.csv
+polytwkb unpack < my.twkb | python3 $RECIPES/table_to_geojson.py > again.geojsonl
+cat again.geojsonl
+python3 $RECIPES/geojson_to_table.py 6 < again.geojsonl | cmp - my.csv
 
-# A height and a feature without a geometry are refused, and nothing is dropped.
-for geometry in '{"type": "Point", "coordinates": [7.4, 46.9, 540]}' null; do
-    if echo "{\"features\": [{\"geometry\": $geometry}]}" | "$here/geojson_to_table.py" 5 > refused.csv 2> fault.txt; then exit 1; fi
-    tail -n 1 fault.txt
-done
+# All else beside the stream, and features again.
+python3 $RECIPES/geojson_to_table.py --rest my.rest 6 < my.geojson | polytwkb pack > my.twkb
+polytwkb unpack < my.twkb | python3 $RECIPES/table_to_geojson.py --rest my.rest > again.geojsonl
+grep '"stop"' again.geojsonl
+
+# Lines of GeoJSON, with marks of a text sequence or without, are the same features.
+sed '1 s/^/\x1e/' again.geojsonl | python3 $RECIPES/geojson_to_table.py 6 | cmp - my.csv
+
+# What is refused, and by pack too.
+refused() {
+    if echo "$1" | python3 $RECIPES/geojson_to_table.py 5 2> fault.txt | polytwkb pack > refused.twkb 2> packed.txt
+    then
+        exit 1
+    fi
+    [ "$(tail -n 1 packed.txt)" = "polytwkb: record 2: not five fields" ]
+    cat fault.txt
+}
+refused '{"type": "Feature", "properties": {}, "geometry": {"type": "Point", "coordinates": [7.4, 46.9, 540]}}'
+refused '{"type": "FeatureCollection", "features": [{"type": "Feature", "properties": {}, "geometry": null}]}'
+refused '{"type": "LineString", "coordinates": [[7.4, 46.9], [null, null]]}'
+refused '{"type": "Topology", "objects": {}}'

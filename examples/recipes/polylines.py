@@ -1,28 +1,79 @@
-"""Points (x, y) in whole numbers to encoded polylines, y before x, and back."""
+"""Points to encoded polylines and back, and decimal numbers to whole numbers of units of a precision."""
+import re
+from decimal import ROUND_HALF_UP, Context, Decimal
 from itertools import accumulate
+from operator import sub
+
+NUMBER = re.compile("[_-~]*[?-^]")
+# A float of fewer units than this is off by less than 10^-5, which counts only near a half.
+LARGE = 2.0**32
+EXACT = Context(prec=100)
 
 
-def text_of(points):
-    """The encoded polyline of points."""
-    characters, last_x, last_y = [], 0, 0
-    for x, y in points:
-        for step in (y - last_y, x - last_x):
-            form = 2 * step if step >= 0 else -2 * step - 1
-            while form >= 32:
-                characters.append(chr(form % 32 + 95))
-                form //= 32
-            characters.append(chr(form + 63))
-        last_x, last_y = x, y
-    return "".join(characters)
+class Texts(dict):
+    """The text of a step, of which those of up to three characters are looked up."""
+
+    def __missing__(self, step):
+        form, text = 2 * step if step >= 0 else -2 * step - 1, ""
+        while form >= 32:
+            text += chr(form % 32 + 95)
+            form //= 32
+        return text + chr(form + 63)
 
 
-def points_of(text):
-    """The points of an encoded polyline. It checks nothing: for tables that polytwkb wrote."""
-    steps, form, unit = [], 0, 1
-    for character in text:
-        group = ord(character) - 63
-        form, unit = form + group % 32 * unit, unit * 32
-        if group < 32:
-            steps.append(-(form + 1) // 2 if form % 2 else form // 2)
-            form, unit = 0, 1
-    return list(zip(accumulate(steps[1::2]), accumulate(steps[::2])))
+class Steps(dict):
+    """The step of a text, of which those of up to three characters are looked up."""
+
+    def __missing__(self, text):
+        form = 0
+        for character in reversed(text):
+            form = 32 * form + (ord(character) - 63) % 32
+        return -(form + 1) // 2 if form % 2 else form // 2
+
+
+TEXTS, STEPS = Texts(), Steps()
+for step in range(-(1 << 14), 1 << 14):
+    TEXTS[step] = TEXTS[step]
+STEPS.update((text, step) for step, text in TEXTS.items())
+
+
+def exact_units(number, precision):
+    try:
+        rounded = Decimal(str(number)).quantize(Decimal((0, (1,), -precision)), ROUND_HALF_UP, EXACT)
+    except ArithmeticError:
+        raise ValueError(f"{number} is no coordinate") from None
+    return int(rounded.scaleb(precision, EXACT))
+
+
+def units_of(numbers, precision):
+    """For each number the nearest whole number of units of 10^-precision; halfway, the one farther from 0.
+
+    A number is a text, an int, or a float, which is taken for the shortest decimal number that reads as it. Raises
+    ValueError, TypeError or OverflowError if one is none.
+    """
+    scale, units = 10.0**precision, []
+    for number in numbers:
+        about = float(number) * scale
+        unit = round(about)
+        near = -0.49999 < unit - about < 0.49999 and -LARGE < about < LARGE
+        units.append(unit if near else exact_units(number, precision))
+    return units
+
+
+def text_of(points, precision):
+    """The encoded polyline of points (x, y) in degrees, each number rounded to so many decimals."""
+    return text_of_units(units_of([number for x, y in points for number in (y, x)], precision))
+
+
+def text_of_units(numbers):
+    """The encoded polyline of points in units: y and x of each."""
+    return "".join(map(TEXTS.__getitem__, map(sub, numbers, [0, 0] + numbers)))
+
+
+def numbers_of(text):
+    """The x and the y of the points of an encoded polyline, in units.
+
+    It checks nothing: for tables that polytwkb wrote.
+    """
+    steps = list(map(STEPS.__getitem__, NUMBER.findall(text)))
+    return accumulate(steps[1::2]), accumulate(steps[::2])

@@ -1,12 +1,12 @@
 #!/usr/bin/env bash
-# Geometries of PostGIS to a stream with their ids beside it, and the stream back into PostGIS, by psql.
+# Geometries of PostGIS to a stream with their keys beside it, and the stream back into PostGIS, by COPY in binary.
 source "$(dirname "$0")/postgres.bash"
-need python3 xxd
+need python3
 need_postgis
 
 psql <<'SQL'
-CREATE TABLE shapes (id bigint PRIMARY KEY, geom geometry);
-INSERT INTO shapes VALUES
+CREATE TABLE my_table (id bigint PRIMARY KEY, geom geometry);
+INSERT INTO my_table VALUES
     (1, 'SRID=4326;POINT(7.44781 46.94797)'),
     (2, NULL),
     (3, 'SRID=4326;LINESTRING(7.44781 46.94797, 7.44432 46.94758, 7.44107 46.9469, 7.4391 46.94886)'),
@@ -14,35 +14,36 @@ INSERT INTO shapes VALUES
     (7, 'SRID=4326;GEOMETRYCOLLECTION(POINT(2 1), MULTIPOINT((0 0), (1 1)))');
 SQL
 
-# One query gives ids and blobs: line N of ids.txt belongs to blob N. A row that is NULL has no blob, so it has no line.
-# ST_AsTWKB(geometry, precision, precision of z, of m, with sizes, with boxes).
-psql -c "COPY (SELECT id, encode(ST_AsTWKB(geom, 5, 0, 0, true, true), 'hex') FROM shapes WHERE geom IS NOT NULL ORDER BY id)
-    TO STDOUT" > shapes.tsv
-cut -f 1 shapes.tsv > ids.txt
-cut -f 2 shapes.tsv | tr -d '\\x' | xxd -r -p > shapes.twkb
-echo "from PostGIS:"
-polytwkb show < shapes.twkb > headers.txt
-[ "$(grep -c '^0 ' headers.txt)" = "$(wc -l < ids.txt)" ]
-cat headers.txt
-polytwkb unpack < shapes.twkb | tee shapes.csv
+psql -c "COPY (SELECT id::text, ST_AsTWKB(ST_Force2D(geom), 5, 0, 0, true, true) FROM my_table ORDER BY id)
+    TO STDOUT (FORMAT binary)" | python3 $RECIPES/copy_to_stream.py my.keys > my.twkb
 
-# A stream into a table of PostGIS: each blob as a line of hexadecimal digits, its id before it.
-polytwkb pack < shapes.csv > again.twkb
-"$here/cut_stream.py" again.twkb > again.hex
-[ "$(wc -l < again.hex)" = "$(wc -l < ids.txt)" ]
-paste ids.txt again.hex > again.tsv
-psql <<'SQL'
-CREATE TABLE blobs (id bigint, hex text);
-\copy blobs FROM 'again.tsv'
-CREATE TABLE again AS SELECT id, ST_SetSRID(ST_GeomFromTWKB(decode(hex, 'hex')), 4326) AS geom FROM blobs;
-SQL
+echo "from PostGIS:"
+polytwkb show < my.twkb
+polytwkb unpack < my.twkb | tee my.csv
+
+# What is packed by polytwkb goes back.
+polytwkb pack < my.csv > my.twkb
+psql -c 'CREATE TABLE my_blobs (key text, twkb bytea)'
+python3 $RECIPES/stream_to_copy.py my.twkb my.keys | psql -c 'COPY my_blobs FROM STDIN (FORMAT binary)'
+psql -c 'CREATE TABLE again AS
+    SELECT key::bigint AS id, ST_SetSRID(ST_GeomFromTWKB(twkb), 4326) AS geom FROM my_blobs'
+
 echo "back in PostGIS:"
 psql -At -c 'SELECT id, ST_AsEWKT(geom) FROM again ORDER BY id'
-differ=$(psql -At -c "SELECT count(*) FROM shapes FULL JOIN again USING (id)
-    WHERE ST_AsEWKT(shapes.geom, 5) IS DISTINCT FROM ST_AsEWKT(again.geom, 5)")
+differ=$(psql -At -c "SELECT count(*) FROM my_table FULL JOIN again USING (id)
+    WHERE ST_AsEWKT(my_table.geom, 5) IS DISTINCT FROM ST_AsEWKT(again.geom, 5)")
 [ "$differ" = 0 ]
 
-# A column of bytes is printed as \xa2.., and written by COPY as \\xa2..: 'tr' takes that away, which xxd does not read.
-bytes="SELECT ST_AsTWKB(geom, 5, 0, 0, true, true) FROM shapes WHERE geom IS NOT NULL ORDER BY id"
-psql -At -c "$bytes" | tr -d '\\x' | xxd -r -p | cmp - shapes.twkb
-psql -c "COPY ($bytes) TO STDOUT" | tr -d '\\x' | xxd -r -p | cmp - shapes.twkb
+# Keys that are not one for each blob, and a stream that is refused, load no row.
+psql -c 'TRUNCATE my_blobs'
+tail -n +2 my.keys > fewer.keys
+head -c 100 my.twkb > cut.twkb
+for input in 'my.twkb fewer.keys' 'cut.twkb my.keys'; do
+    if python3 $RECIPES/stream_to_copy.py $input 2>> fault.txt |
+        psql -c 'COPY my_blobs FROM STDIN (FORMAT binary)' 2> psql.txt
+    then
+        exit 1
+    fi
+done
+echo "refused, and $(psql -At -c 'SELECT count(*) FROM my_blobs') rows:"
+cat fault.txt

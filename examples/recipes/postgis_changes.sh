@@ -1,7 +1,7 @@
 #!/usr/bin/env bash
 # What PostGIS makes of a stream: a table packed by polytwkb, read and written again by PostGIS, and unpacked.
 source "$(dirname "$0")/postgres.bash"
-need python3 xxd
+need python3
 need_postgis
 
 cat > before.csv <<'TABLE'
@@ -18,12 +18,9 @@ depth,kind,id,precision,polyline
 TABLE
 
 polytwkb pack < before.csv > before.twkb
-"$here/cut_stream.py" before.twkb > before.hex
-psql <<'SQL'
-CREATE TABLE blobs (n bigserial, hex text);
-\copy blobs (hex) FROM 'before.hex'
-SQL
-psql -At -c "SELECT encode(ST_AsTWKB(ST_GeomFromTWKB(decode(hex, 'hex')), 0, 0, 0, true, true), 'hex') FROM blobs ORDER BY n" |
-    xxd -r -p > after.twkb
+psql -c 'CREATE TABLE my_blobs (key text, twkb bytea)'
+python3 $RECIPES/stream_to_copy.py before.twkb | psql -c 'COPY my_blobs FROM STDIN (FORMAT binary)'
+psql -c "COPY (SELECT key, ST_AsTWKB(ST_GeomFromTWKB(twkb), 0, 0, 0, true, true) FROM my_blobs ORDER BY key::int)
+    TO STDOUT (FORMAT binary)" | python3 $RECIPES/copy_to_stream.py after.keys > after.twkb
 polytwkb unpack < after.twkb > after.csv
 diff before.csv after.csv || true

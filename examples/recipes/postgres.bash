@@ -1,4 +1,4 @@
-# A PostgreSQL server of the recipe's own, on a socket in its folder, as an unprivileged user; it ends with the recipe.
+# A PostgreSQL server of the demonstration's own, on a socket in its folder, as an unprivileged user; it ends with the recipe.
 # After 'source': psql is connected to it, and as_server runs a command as the server's user.
 source "$(dirname "${BASH_SOURCE[0]}")/common.bash"
 need psql
@@ -18,8 +18,10 @@ else
     as_server() { "$@"; }
 fi
 
-as_server initdb -D "$folder/data" -U recipe -A trust -E UTF8 --locale=C > initdb.log
-as_server pg_ctl -D "$folder/data" -o "-k $folder -c listen_addresses=''" -w -l "$folder/server.log" start > /dev/null
+# What is written need not outlast the machine, so nothing waits for the disk.
+as_server initdb -D "$folder/data" -U recipe -A trust -E UTF8 --locale=C --no-sync > initdb.log
+as_server pg_ctl -D "$folder/data" -o "-k $folder -c listen_addresses='' -c fsync=off" -w \
+    -l "$folder/server.log" start > /dev/null
 trap 'as_server pg_ctl -D "$folder/data" -m immediate -w stop > /dev/null; rm -rf "$folder"' EXIT
 export PGHOST=$folder PGUSER=recipe PGDATABASE=postgres PGOPTIONS='-c client_min_messages=warning'
 
@@ -27,5 +29,6 @@ export PGHOST=$folder PGUSER=recipe PGDATABASE=postgres PGOPTIONS='-c client_min
 psql() { command psql -X -q -v ON_ERROR_STOP=1 "$@"; }
 
 need_postgis() {
-    psql -c 'CREATE EXTENSION postgis' 2> fault.txt || { echo "skipped: needs postgis ($(head -n 1 fault.txt))"; exit 0; }
+    psql -c 'CREATE EXTENSION postgis' 2> fault.txt ||
+        { echo "skipped: needs postgis ($(head -n 1 fault.txt))"; exit 0; }
 }

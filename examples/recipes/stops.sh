@@ -1,5 +1,5 @@
 #!/usr/bin/env bash
-# Stops with latitude and longitude to a stream of points with their ids beside it, and back to coordinates to look at.
+# Stops with latitude and longitude to a stream of points with their keys beside it, and back to coordinates to look at.
 source "$(dirname "$0")/common.bash"
 need python3
 
@@ -7,13 +7,23 @@ printf '\xef\xbb\xbf' > stops.txt
 cat >> stops.txt <<'STOPS'
 stop_id,stop_name,stop_lat,stop_lon
 101,"Bern, Bahnhof",46.947966,7.447812
-102,Hirschengraben,46.9469,7.44107
-8507000:0:3,Loryplatz,46.945,-0.000004
+102,Hirschengraben,46.946905,7.44107
+8507000:0:3,Loryplatz,46.945,-0.000005
+entrance,without a place,,
 STOPS
 
-"$here/stops_to_table.py" 5 ids.txt < stops.txt > stops.csv
+python3 $RECIPES/stops_to_table.py 5 stops.keys < stops.txt > stops.csv
 polytwkb pack < stops.csv > stops.twkb
-polytwkb show < stops.twkb > headers.txt
-[ "$(grep -c '^0 ' headers.txt)" = "$(wc -l < ids.txt)" ]
 cat stops.csv
-polytwkb unpack < stops.twkb | "$here/table_to_geojson.py" | paste ids.txt -
+polytwkb unpack < stops.twkb | python3 $RECIPES/table_to_geojson.py | paste stops.keys -
+
+cat > places.csv <<'PLACES'
+name,lon,lat,note
+"Bern, Bahnhof",7.447812,46.947966,
+PLACES
+python3 $RECIPES/stops_to_table.py --columns name lat lon 5 places.keys < places.csv > places.table
+head -n 2 stops.csv | cmp - places.table
+
+sed 's/46.946905,/north,/' stops.txt > refused.txt
+python3 $RECIPES/stops_to_table.py 5 refused.keys < refused.txt 2> fault.txt |
+    polytwkb pack 2>&1 > refused.twkb || cat fault.txt

@@ -1,22 +1,47 @@
 #!/usr/bin/env python3
-"""Stops with latitude and longitude to a table of points, and their ids to a file beside it, a line for each row.
+"""Points with latitude and longitude to a table of points, and their keys to a file beside it, a line for each point.
 
-    stops_to_table.py PRECISION IDS < STOPS > TABLE
+    stops_to_table.py [--columns KEY LATITUDE LONGITUDE] PRECISION KEYS < STOPS > TABLE
 
-STOPS is CSV with columns stop_id, stop_lat and stop_lon, as in GTFS. Coordinates are rounded to PRECISION decimals.
+STOPS is CSV with a header; without --columns its columns are those of stops.txt in GTFS: stop_id, stop_lat, stop_lon.
+Coordinates are rounded to PRECISION decimals; halfway, away from zero. A stop without coordinates is an empty point.
 """
-import csv
-import io
 import sys
-from decimal import Decimal
 
+sys.dont_write_bytecode = True
+
+import tables
 from polylines import text_of
 
-precision = int(sys.argv[1])
-stops = csv.DictReader(io.TextIOWrapper(sys.stdin.buffer, "utf-8-sig", newline=""))
-print("depth,kind,id,precision,polyline")
-with open(sys.argv[2], "w", encoding="utf-8") as ids:
-    for stop in stops:
-        x, y = (round(Decimal(stop[name]).scaleb(precision)) for name in ("stop_lon", "stop_lat"))
-        print(f"0,point,,{precision},{text_of([(x, y)])}")
-        print(stop["stop_id"], file=ids)
+
+def row_of(latitude, longitude, precision):
+    """The row of a point."""
+    points = [(longitude, latitude)] if latitude or longitude else []
+    try:
+        return f"0,point,,{precision},{text_of(points, precision)}\n"
+    except (ValueError, OverflowError):
+        raise tables.Fault(f"{latitude!r}, {longitude!r} are no latitude and longitude") from None
+
+
+def main():
+    words = tables.words_of(
+        __doc__,
+        ("--columns", {"nargs": 3, "metavar": ("KEY", "LATITUDE", "LONGITUDE"),
+                       "default": ["stop_id", "stop_lat", "stop_lon"], "help": "the columns to read"}),
+        tables.PRECISION,
+        ("keys", {"metavar": "KEYS", "help": "the file for the keys"}),
+    )
+    records = tables.input_records()
+    sys.stdout.write(tables.HEADER)
+    header, places = tables.columns_of(records, *words.columns)
+    with open(words.keys, "w", encoding="utf-8") as keys:
+
+        def put(record):
+            key, latitude, longitude = (record[place].strip() for place in places)
+            keys.write(tables.key_line(key))
+            sys.stdout.write(row_of(latitude, longitude, words.precision))
+
+        tables.for_records(records, len(header), put)
+
+
+tables.run(main, "refused\n")

@@ -1,46 +1,79 @@
 #!/usr/bin/env python3
-"""A table to GeoJSON, a line for each geometry, with coordinates to look at. table_to_geojson.py < TABLE > LINES
+"""A table to GeoJSON, a line for each geometry.
 
-Ids of parts stand in a member "ids". It is for coordinates up to 2^53, since numbers are exact up to there.
+    table_to_geojson.py [--rest FILE] < TABLE > LINES
+
+With the FILE of `geojson_to_table.py --rest` each line is the feature again. Ids of parts are in a member "ids" of the
+geometry. It is for coordinates up to 2^53, since numbers are exact up to there.
 """
 import csv
 import itertools
-import json
 import sys
 from collections import deque
 
-from polylines import points_of
+sys.dont_write_bytecode = True
+
+import tables
+from polylines import numbers_of
 
 NAMES = {"point": "Point", "linestring": "LineString", "polygon": "Polygon", "multipoint": "MultiPoint",
          "multilinestring": "MultiLineString", "multipolygon": "MultiPolygon", "collection": "GeometryCollection"}
 
 
-def degrees(number, precision):
-    return number / 10**precision if precision > 0 else number * 10**-precision
+def listed(texts):
+    return f"[{','.join(texts)}]"
+
+
+def points_of(text, precision):
+    """The points of an encoded polyline, each as the text of its coordinates in degrees."""
+    unit, scale = 10 ** max(-precision, 0), 10 ** max(precision, 0)
+    divided = [map(repr, [number * unit / scale for number in numbers]) for numbers in numbers_of(text)]
+    return ["[%s,%s]" % point for point in zip(*divided)]
 
 
 def shape(rows, precision):
-    """Takes a row and those of its parts from the front of rows."""
+    """Takes a row and those of its parts from the start of rows: the text of the geometry, and of its coordinates."""
     depth, kind, _, decimals, text = rows.popleft()
     precision = int(decimals or precision)
     ids, parts = [], []
     while rows and int(rows[0][0]) > int(depth):
         ids.append(rows[0][2])
         parts.append(shape(rows, precision))
-    made = {"type": NAMES.get(kind)} | ({"ids": [int(number) for number in ids]} if any(ids) else {})
+    places, name = listed(places for _, places in parts), "coordinates"
     if kind == "collection":
-        return made | {"geometries": parts}
-    if kind in ("point", "linestring", "ring"):
-        points = [[degrees(x, precision), degrees(y, precision)] for x, y in points_of(text)]
-        return made | {"coordinates": points[0] if kind == "point" and points else points}
-    return made | {"coordinates": [part["coordinates"] for part in parts]}
+        places, name = listed(whole for whole, _ in parts), "geometries"
+    elif kind == "point":
+        places = "".join(points_of(text, precision)) or "[]"
+    elif kind in ("linestring", "ring"):
+        places = listed(points_of(text, precision))
+    ids = f'"ids":{listed(ids)},' if any(ids) else ""
+    return f'{{"type":"{NAMES.get(kind)}",{ids}"{name}":{places}}}', places
 
 
-table = csv.reader(sys.stdin)
-next(table)
-rows = deque()
-for row in itertools.chain(table, [None]):
-    if rows and (row is None or row[0] == "0"):
-        print(json.dumps(shape(rows, 0), separators=(",", ":")))
-    if row:
+def shapes():
+    """The geometries of the table, one by one."""
+    table = csv.reader(sys.stdin)
+    if ",".join(next(table, [])) + "\n" != tables.HEADER:
+        raise tables.Fault(f"no table: the first line of one is {tables.HEADER.strip()}")
+    rows = deque()
+    for row in itertools.chain(table, [["0"]]):
+        if row[0] == "0" and rows:
+            yield shape(rows, 0)[0]
         rows.append(row)
+
+
+def features(file):
+    """The geometries as features, with the rest of each from a line of a file."""
+    for geometry, line in itertools.zip_longest(shapes(), file):
+        if geometry is None or line is None:
+            raise tables.Fault(f"{file.name} has {'fewer' if line is None else 'more'} lines than there are geometries")
+        yield f'{line.rstrip()[:-1]},"geometry":{geometry}}}'
+
+
+def main():
+    words = tables.words_of(__doc__, ("--rest", {"metavar": "FILE", "help": "all else of the features, line by line"}))
+    for line in features(open(words.rest, encoding="utf-8")) if words.rest else shapes():
+        sys.stdout.write(line + "\n")
+
+
+tables.run(main)

@@ -1,22 +1,30 @@
 #!/usr/bin/env bash
-# Runs the recipes and the check of parts as with an installed program: from a copy of examples without bin/ beside it, with
-# polytwkb on the path, in another folder.
+# Runs the recipes as those of an archive, from share/doc with bin/ above it, and as files that are not executable; and
+# the check of parts with an installed program, from a copy of examples without bin/ beside it. Both are called from
+# another folder.
 set -euo pipefail
 repository=$(cd "$(dirname "$0")/../.." && pwd)
 program=$(PATH=$repository/bin:$PATH command -v polytwkb) || { echo "skipped: needs polytwkb"; exit 0; }
 folder=$(mktemp -d)
 trap 'rm -rf "$folder"' EXIT
-mkdir "$folder/installed" "$folder/copy" "$folder/elsewhere"
-cp "$program" "$folder/installed/polytwkb"
+mkdir -p "$folder/archive/bin" "$folder/archive/share/doc/polytwkb" "$folder/copy" "$folder/elsewhere"
+cp "$program" "$folder/archive/bin/polytwkb"
+cp -r "$repository/examples/recipes" "$folder/archive/share/doc/polytwkb"
 cp -r "$repository/examples" "$repository/docs" "$folder/copy"
-PATH=$folder/installed:$PATH
+chmod 755 "$folder"
+recipes=../archive/share/doc/polytwkb/recipes
 cd "$folder/elsewhere"
+rm -rf $recipes/__pycache__
+chmod 644 $recipes/*
 
-for recipe in ../copy/examples/recipes/*.sh ../copy/examples/scale/check.sh; do
-    if ! "$recipe" > out.txt 2>&1 || grep 'needs polytwkb' out.txt; then
+runs() {
+    if ! "$@" > out.txt 2>&1 || grep 'needs polytwkb' out.txt; then
         tail -n 5 out.txt
-        echo "not with an installed program: $(basename "$recipe")"
+        echo "not with an installed program: $*"
         exit 1
     fi
-done
+}
+for recipe in $recipes/*.sh; do runs bash "$recipe"; done
+if [ -e $recipes/__pycache__ ]; then echo "the recipes write beside themselves"; exit 1; fi
+PATH=$folder/archive/bin:$PATH runs ../copy/examples/scale/check.sh
 echo "with an installed program: the same"

@@ -1,0 +1,27 @@
+#!/usr/bin/env bash
+# Files of a GIS to a stream, with their attributes beside it, and back into a file, by ogr2ogr.
+source "$(dirname "$0")/common.bash"
+need python3 ogr2ogr ogrinfo
+
+cat > lines.geojson <<'JSON'
+{"type": "FeatureCollection", "features": [
+  {"type": "Feature", "properties": {"name": "Bahnhof", "lines": 12}, "geometry":
+    {"type": "LineString", "coordinates": [[7.44781, 46.94797, 540], [7.44432, 46.94758, 537]]}},
+  {"type": "Feature", "properties": {"name": "Loryplatz", "lines": 3}, "geometry":
+    {"type": "LineString", "coordinates": [[7.44107, 46.9469, 536], [7.4391, 46.94886, 538]]}}]}
+JSON
+ogr2ogr my.gpkg lines.geojson -nln my_layer -t_srs EPSG:2056
+ogr2ogr -f 'ESRI Shapefile' my.shp my.gpkg
+
+ogr2ogr -f GeoJSONSeq -t_srs EPSG:4326 -dim XY /vsistdout/ my.gpkg my_layer |
+    python3 $RECIPES/geojson_to_table.py --rest my.rest 6 | polytwkb pack > my.twkb
+polytwkb unpack < my.twkb | python3 $RECIPES/table_to_geojson.py --rest my.rest |
+    ogr2ogr again.gpkg /vsistdin/ -nln my_layer
+
+polytwkb unpack < my.twkb
+ogrinfo -q again.gpkg my_layer | grep -v '^$'
+
+# A shapefile gives the same stream.
+ogr2ogr -f GeoJSONSeq -t_srs EPSG:4326 -dim XY /vsistdout/ my.shp |
+    python3 $RECIPES/geojson_to_table.py 6 | polytwkb pack > shapefile.twkb
+cmp shapefile.twkb my.twkb
