@@ -35,6 +35,7 @@ xxd xxd
 parallel parallel
 node nodejs
 /usr/lib/python3/dist-packages/polyline python3-polyline
+/usr/lib/python3/dist-packages/numpy python3-numpy
 /usr/lib/python3/dist-packages/distributed python3-distributed
 pv pv
 go golang-go

@@ -5,7 +5,10 @@ of geometries: give it many. What the library refuses is the exception `Refused`
 """
 from ._conversions import Header, Limits, pack, show, split, unpack
 from ._library import VERSION as __version__
+from ._points import in_degrees, in_units
 from ._polylines import decode, decode_flat, encode
 from ._refused import Refused
 
-__all__ = ["Header", "Limits", "Refused", "decode", "decode_flat", "encode", "pack", "show", "split", "unpack"]
+__all__ = [
+    "Header", "Limits", "Refused", "decode", "decode_flat", "encode", "in_degrees", "in_units", "pack", "show", "split", "unpack",
+]
