@@ -49,6 +49,8 @@ def _loaded(path):
         call = getattr(library, "polytwkb_" + name)
         call.argtypes, call.restype = buffers + more, Report
     library.polytwkb_encode.argtypes = [ctypes.c_void_p, *buffers[1:]]
+    measure = library.polytwkb_measure
+    measure.argtypes, measure.restype = [ctypes.c_uint32, ctypes.c_void_p, ctypes.c_size_t, CLimits, ctypes.c_uint32], Report
     return library
 
 
