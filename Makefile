@@ -149,7 +149,7 @@ wheel: lib
 	scripts/wheel.py dist
 
 python-test: lib
-	cd python/tests && POLYTWKB_LIBRARY=../../out/libpolytwkb.so PYTHONPATH=.. python3 -B -m unittest -q
+	python/tests/run.sh out/libpolytwkb.so
 
 demo:
 	@scripts/demo.sh

@@ -44,6 +44,7 @@ wasm-validate wabt
 tsc node-typescript
 /usr/share/javascript/leaflet libjs-leaflet
 /usr/lib/python3/dist-packages/polyline python3-polyline
+/usr/lib/python3/dist-packages/numpy python3-numpy
 /usr/lib/python3/dist-packages/distributed python3-distributed
 pv pv
 /usr/share/postgresql/*/extension/postgis.control postgresql-postgis

@@ -3,9 +3,13 @@
 A table is CSV with the columns depth, kind, id, precision and polyline; a stream is blobs one after the other. A call converts any number
 of geometries: give it many. What the library refuses is the exception `Refused`, with the reason and the place.
 """
+from ._check import check
 from ._conversions import Header, Limits, pack, show, split, unpack
 from ._library import VERSION as __version__
+from ._points import in_degrees, in_units
 from ._polylines import decode, decode_flat, encode
 from ._refused import Refused
 
-__all__ = ["Header", "Limits", "Refused", "decode", "decode_flat", "encode", "pack", "show", "split", "unpack"]
+__all__ = [
+    "Header", "Limits", "Refused", "check", "decode", "decode_flat", "encode", "in_degrees", "in_units", "pack", "show", "split", "unpack",
+]

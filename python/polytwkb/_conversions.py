@@ -65,6 +65,20 @@ def _bytes(given, what):
         raise TypeError(f"{what}, not {type(given).__name__}") from None
 
 
+def style_of(style):
+    """The number of a style."""
+    if not isinstance(style, str):
+        raise TypeError(f"a style is a str, not {type(style).__name__}")
+    if style not in _STYLES:
+        raise ValueError(f"a style is 'full' or 'plain', not {style!r}")
+    return _STYLES[style]
+
+
+def table_bytes(table):
+    """The bytes of a table."""
+    return table.encode("utf-8", "surrogatepass") if isinstance(table, str) else _bytes(table, "a table is a str or bytes")
+
+
 def _converted(call, given, room, result, limits, *more):
     """What `result` makes of the bytes that a conversion writes."""
     report, output = filled(call, given, len(given), room, some_bytes, _limits(limits), *more)
@@ -91,12 +105,9 @@ def pack(table: Union[str, Buffer], style: str = "full", limits: Optional[Limits
 
     Raises Refused at the first record that is wrong; its `output` has the blobs of the geometries before.
     """
-    if not isinstance(style, str):
-        raise TypeError(f"a style is a str, not {type(style).__name__}")
-    if style not in _STYLES:
-        raise ValueError(f"a style is 'full' or 'plain', not {style!r}")
-    given = table.encode("utf-8", "surrogatepass") if isinstance(table, str) else _bytes(table, "a table is a str or bytes")
-    return _converted(library.polytwkb_pack, given, len(given) + 64, bytes, limits, _STYLES[style])
+    style = style_of(style)
+    given = table_bytes(table)
+    return _converted(library.polytwkb_pack, given, len(given) + 64, bytes, limits, style)
 
 
 def unpack(blobs: Buffer, limits: Optional[Limits] = None) -> str:

@@ -48,6 +48,9 @@ def _loaded(path):
     for name, more in calls.items():
         call = getattr(library, "polytwkb_" + name)
         call.argtypes, call.restype = buffers + more, Report
+    library.polytwkb_encode.argtypes = [ctypes.c_void_p, *buffers[1:]]
+    measure = library.polytwkb_measure
+    measure.argtypes, measure.restype = [ctypes.c_uint32, ctypes.c_void_p, ctypes.c_size_t, CLimits, ctypes.c_uint32], Report
     return library
 
 
@@ -58,8 +61,7 @@ except (OSError, AttributeError) as fault:
 
 # The same call while no other thread of Python runs, so that it may read a buffer that could change meanwhile.
 encode_in_place = ctypes.PyDLL(library._name).polytwkb_encode
-encode_in_place.argtypes = [ctypes.c_void_p, *library.polytwkb_encode.argtypes[1:]]
-encode_in_place.restype = Report
+encode_in_place.argtypes, encode_in_place.restype = library.polytwkb_encode.argtypes, Report
 
 
 def reason_text(reason):
