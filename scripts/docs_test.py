@@ -13,7 +13,7 @@ continue it. The lines up to the next command or the end of the block are its co
 the end do not count. A command whose first line is '# needs TOOL' is skipped if the tool is missing.
 
 The commands of a file run in order in one session of bash, in a fresh folder, with bin/ of this repository
-on the path, $REPO set to the repository, $SCALE to its scripts for parts, and no input. A command that fails does not end the session. One that
+on the path, $REPO set to the repository, and no input. A command that fails does not end the session. One that
 prints only a line 'skipped: needs X' is not compared: recipes print that if a tool is missing.
 
 If a line of a crate's README ends with a link to a file of crates/examples/src and a colon, a block fenced with
@@ -117,6 +117,7 @@ def printed_by(commands):
             file.write(script_of(commands))
         environment = dict(os.environ, REPO=REPO, LC_ALL="C.UTF-8")
         environment["PATH"] = os.path.join(REPO, "bin") + os.pathsep + environment["PATH"]
+        # the folder of scripts that docs/USING.md names
         environment["SCALE"] = os.path.join(REPO, "examples", "scale")
         run = subprocess.run(["bash", script], cwd=work, env=environment, stdin=subprocess.DEVNULL,
                              stdout=subprocess.PIPE, timeout=SECONDS)
