@@ -203,8 +203,9 @@ SONAME_LINK := $(LIBDIR)/$(SONAME)
 SHARED_LINK := $(LIBDIR)/libpolytwkb.so
 PACKAGE_FILE := $(LIBDIR)/pkgconfig/polytwkb.pc
 HEADER_FILE := $(INCLUDEDIR)/polytwkb.h
-# Pages that are installed, beside the examples that they name. A link to what is not becomes its text.
+# Pages that are installed, beside the folders of examples/ that they name. A link to what is not installed becomes its text.
 PAGES := USING RECIPES FORMATS
+EXAMPLES := $(notdir $(wildcard examples/*))
 LINKS_OUT := s!\[([^]]*)\]\((\.\./(README|python|js|crates|tests)|PERF)[^)]*\)!\1!g
 
 # The program that is installed, and the folder of the libraries.
@@ -225,8 +226,8 @@ install: $(PROGRAM) $(LIBRARIES)/libpolytwkb.a $(LIBRARIES)/libpolytwkb.so
 	$(INSTALL) -D -m 644 include/polytwkb.h '$(DESTDIR)$(HEADER_FILE)'
 	sed -e 's|@VERSION@|$(VERSION)|' -e 's|@PREFIX@|$(PREFIX)|' -e 's|@LIBDIR@|$(LIBDIR)|' -e 's|@INCLUDEDIR@|$(INCLUDEDIR)|' include/polytwkb.pc.in > out/polytwkb.pc
 	$(INSTALL) -D -m 644 out/polytwkb.pc '$(DESTDIR)$(PACKAGE_FILE)'
-	@for page in $(PAGES); do sed -E '$(LINKS_OUT)' docs/$$page.md | $(INSTALL) -D -m 644 /dev/stdin "$(DESTDIR)$(DOC_DIR)/docs/$$page.md" || exit 1; done
-	tar -c --exclude=__pycache__ --mode=u=rwX,go=rX examples | tar -x --no-same-owner -C '$(DESTDIR)$(DOC_DIR)'
+	@for page in $(PAGES); do sed -E -e '$(LINKS_OUT)' -e 's!\.\./examples/!../!g' docs/$$page.md | $(INSTALL) -D -m 644 /dev/stdin "$(DESTDIR)$(DOC_DIR)/docs/$$page.md" || exit 1; done
+	tar -c --exclude=__pycache__ --mode=u=rwX,go=rX -C examples $(EXAMPLES) | tar -x --no-same-owner -C '$(DESTDIR)$(DOC_DIR)'
 
 uninstall:
 	rm -f '$(DESTDIR)$(PROGRAM_FILE)' '$(DESTDIR)$(PAGE_FILE)' '$(DESTDIR)$(BASH_FILE)'

@@ -102,7 +102,7 @@ calls() {
 stand_alone() {
   local recipe page target
   for recipe in cut_stream stops geojson; do
-    PATH=$2:$PATH "$1/examples/recipes/$recipe.sh" > "$work/recipe" 2>&1 && ! grep '^skipped' "$work/recipe" || { cat "$work/recipe"; return 1; }
+    PATH=$2:$PATH "$1/recipes/$recipe.sh" > "$work/recipe" 2>&1 && ! grep '^skipped' "$work/recipe" || { cat "$work/recipe"; return 1; }
   done
   for page in USING RECIPES FORMATS; do
     while read -r target; do

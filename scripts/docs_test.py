@@ -123,6 +123,8 @@ def printed_by(commands):
             file.write(script_of(commands))
         environment = dict(os.environ, REPO=REPO, RECIPES=RECIPES, LC_ALL="C.UTF-8")
         environment["PATH"] = os.path.join(REPO, "bin") + os.pathsep + environment["PATH"]
+        # the folder of scripts that docs/USING.md names
+        environment["SCALE"] = os.path.join(REPO, "examples", "scale")
         run = subprocess.run(["bash", script], cwd=work, env=environment, stdin=subprocess.DEVNULL,
                              stdout=subprocess.PIPE, timeout=SECONDS)
     parts = run.stdout.decode("utf-8", "backslashreplace").split(f"\n{MARK}\n")

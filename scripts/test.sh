@@ -29,6 +29,7 @@ pkg-config pkg-config
 dpkg-deb dpkg
 lintian lintian
 valgrind valgrind
+/usr/share/python-wheels python3-venv
 zsh zsh
 fish fish
 sqlite3 sqlite3
@@ -36,7 +37,6 @@ jq jq
 xxd xxd
 parallel parallel
 node nodejs
-/usr/share/python-wheels python3-venv
 chromium chromium
 firefox-esr firefox-esr
 esbuild esbuild

@@ -5,7 +5,9 @@ source "$(dirname "$0")/scratch.bash" polytwkb parallel python3
 jobs=${2:-2}
 
 # The line that docs/USING.md shows, for a pipe: it packs table.csv into all.twkb.
-line=$(sed -n 's/^    \(parallel .*\)--block 10M/\1--block 100k/p' "$here/../../docs/USING.md")
+page=$here/../../docs/USING.md
+[ -e "$page" ] || page=$here/../docs/USING.md # of an installation
+line=$(sed -n 's/^    \(parallel .*\)--block 10M/\1--block 100k/p' "$page")
 
 python3 "$here/make_table.py" "${1:-5000}" > table.csv
 for style in full plain; do

@@ -58,10 +58,9 @@ class Processes(unittest.TestCase):
                 self.assertIn("usage: polytwkb", said)
 
     def test_standard_streams_that_fail(self):
-        folder = os.open("/", os.O_RDONLY)
-        self.addCleanup(os.close, folder)
-        self.assertEqual(run("unpack", stdin=folder), (3, HEADER, "polytwkb: read failed\n"))
-        self.assertEqual(run("pack", stdin=folder), (3, b"", "polytwkb: read failed\n"))
+        with open(os.devnull, "wb") as unreadable:
+            self.assertEqual(run("unpack", stdin=unreadable), (3, HEADER, "polytwkb: read failed\n"))
+            self.assertEqual(run("pack", stdin=unreadable), (3, b"", "polytwkb: read failed\n"))
         with open("/dev/full", "wb") as full:
             self.assertEqual(run("unpack", input=b"", stdout=full), (3, None, "polytwkb: write failed\n"))
 
