@@ -4,6 +4,11 @@
 const BOX = 1, SIZE = 2, IDS = 4, EXTENDED = 8, EMPTY = 16;
 const TYPES = ['', 'Point', 'LineString', 'Polygon', 'MultiPoint', 'MultiLineString', 'MultiPolygon', 'GeometryCollection'];
 
+// Whether a box [west, south, east, north] and a window have no place in common.
+function apart(box, window) {
+    return box[0] > window[2] || box[1] > window[3] || box[2] < window[0] || box[3] < window[1];
+}
+
 class Reader {
     constructor(bytes) { this.bytes = bytes; this.offset = 0; }
 
@@ -28,15 +33,22 @@ class Reader {
     point() {
         this.x += this.signed();
         this.y += this.signed();
-        return [this.x / this.scale, this.y / this.scale];
+        const x = this.x / this.scale, y = this.y / this.scale;
+        if (this.seen) this.see(x, y);
+        return [x, y];
+    }
+
+    // Widens the box of what is read by a point.
+    see(x, y) {
+        const [west, south, east, north] = this.seen;
+        this.seen = [Math.min(west, x), Math.min(south, y), Math.max(east, x), Math.max(north, y)];
     }
 
     line() { return this.list(this.varint(), () => this.point()); }
 
     area() { return this.list(this.varint(), () => this.line()); }
 
-    // One geometry. Where a window [west, south, east, north] is given, null for one whose box stands outside it: its
-    // size leads past it. One without a box is read.
+    // One geometry. If a window is given and the geometry has a box outside it, null: its size leads past it.
     geometry(window) {
         const header = this.byte(), metadata = this.byte(), kind = header % 16, form = header >> 4;
         const precision = form % 2 ? -(form + 1) / 2 : form / 2;
@@ -44,8 +56,8 @@ class Reader {
         const size = metadata & SIZE ? this.varint() : null, end = this.offset + size, scale = 10 ** precision;
         if (metadata & BOX) {
             const [x, width, y, height] = this.list(4, () => this.signed());
-            const [west, south, east, north] = [x, y, x + width, y + height].map(number => number / scale);
-            if (window && size !== null && (west > window[2] || south > window[3] || east < window[0] || north < window[1])) {
+            const box = [x, y, x + width, y + height].map(number => number / scale);
+            if (window && size !== null && apart(box, window)) {
                 this.offset = end;
                 return null;
             }
@@ -67,11 +79,13 @@ class Reader {
     }
 }
 
-// The geometries of a stream, one by one.
+// The geometries of a stream, one by one. With a window [west, south, east, north], those whose box meets it: one
+// without a box, such as a point, is read before that is known.
 export function* geometries(bytes, window) {
     const reader = new Reader(bytes);
     while (reader.offset < bytes.length) {
+        reader.seen = window && [Infinity, Infinity, -Infinity, -Infinity];
         const geometry = reader.geometry(window);
-        if (geometry) yield geometry;
+        if (geometry && !(window && apart(reader.seen, window))) yield geometry;
     }
 }
