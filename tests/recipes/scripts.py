@@ -39,7 +39,8 @@ class Rounding(unittest.TestCase):
         for precision in range(-8, 8):
             texts = [f"{source.uniform(-180, 180):.{source.randrange(10)}f}" for _ in range(2000)]
             texts += [text + "5" for text in texts if "." in text]
-            self.assertEqual(polylines.units_of(map(float, texts), precision), [nearest(text, precision) for text in texts])
+            units = polylines.units_of(map(float, texts), precision)
+            self.assertEqual(units, [nearest(text, precision) for text in texts])
 
     def test_what_is_no_number(self):
         for number in (float("nan"), float("inf"), "7.4", None, [1]):
@@ -64,7 +65,8 @@ class Polylines(unittest.TestCase):
 class GeoJson(unittest.TestCase):
     features = [
         {"type": "Feature", "properties": {"features": [1, -2.5e-07, True]}, "geometry": None},
-        {"type": "Feature", "properties": {"é\"\\": "\u2028}]"}, "geometry": {"type": "Point", "coordinates": [1.5, -2]}},
+        {"type": "Feature", "properties": {"é\"\\": "\u2028}]"}, "geometry":
+         {"type": "Point", "coordinates": [1.5, -2]}},
     ]
 
     def read(self, text, piece):
@@ -86,7 +88,9 @@ class GeoJson(unittest.TestCase):
                 self.assertRaises(tables.Fault, self.read, text[:length], piece)
 
     def test_what_is_no_object(self):
-        for text in ("[1]", "null", '{"a" 1}', '{"a":1,}', "{1:2}", '{"a":NaN}', '{"features":[1,]}', "<html>", "[" * 5000):
+        texts = ["[1]", "null", "<html>", "[" * 5000, '{"a":' + "[" * 5000]
+        texts += ['{"a" 1}', '{"a":1,}', "{1:2}", '{"a":NaN}', '{"features":[1,]}']
+        for text in texts:
             self.assertRaises(tables.Fault, self.read, text, 1000)
 
 
