@@ -248,10 +248,10 @@ dist-test: dist
 docs-test: build lib wasm
 	scripts/docs_test.py
 
-# The recipes, the check of parts, and both with an installed program. A recipe whose tools are missing says so
-# and is skipped.
+# The recipes and what their scripts share, the check of parts, and the recipes and this check with an installed
+# program. A recipe whose tools are missing says so and is skipped.
 recipes: build lib wasm
-	@for recipe in examples/recipes/*.sh examples/scale/check*.sh tests/recipes/installed.sh; do echo "$$recipe"; $$recipe || exit 1; done
+	@for recipe in tests/recipes/scripts.py examples/recipes/*.sh examples/scale/check*.sh tests/recipes/installed.sh; do echo "$$recipe"; $$recipe || exit 1; done
 
 clean:
 	rm -rf bin out dist bench/out crates/*/out js/polytwkb.wasm

@@ -114,7 +114,11 @@ fuzz() {
 hostile() {
   if lacks "calls that fail in turn" make cc; then tests/hostile/sizes.py bin/polytwkb; else make -s hostile; fi
 }
-documents() { python3 tests/vectors/make.py --check && scripts/docs_test.py && tests/recipes/installed.sh; }
+documents() {
+  python3 tests/vectors/make.py --check && scripts/docs_test.py || return 1
+  tests/recipes/scripts.py && echo "ok    the scripts of the recipes" || return 1
+  tests/recipes/installed.sh && echo "ok    the recipes of an archive"
+}
 machines() {
   local check said
   for check in dask ssh; do

@@ -47,12 +47,14 @@ def rows():
 
 def main():
     words = tables.words_of(__doc__, ("keys", {"metavar": "KEYS", "help": "the file for the keys"}))
-    with open(words.keys, "w", encoding="utf-8") as keys:
+    with open(words.keys, "wb") as keys:
         for count, (key, blob) in enumerate(rows(), 1):
             if key is None or b"\0" in key:
                 raise tables.Fault(f"row {count}: the key is no text: cast it, as in id::text")
+            if b"\n" in key or b"\r" in key:
+                raise tables.Fault(f"row {count}: the key has a line end")
             if blob is not None:
-                keys.write(tables.key_line(key.decode()))
+                keys.write(key + b"\n")
                 sys.stdout.buffer.write(blob)
 
 

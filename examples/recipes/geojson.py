@@ -6,7 +6,8 @@ from tables import Fault
 
 PIECE = 1 << 18
 BLANKS = re.compile("[ \t\r\n\x1e]*")
-# How far from the end of what is held a fault is that more text may mend, if it is not in a string.
+# How near to the end of what is held a value or a fault may be another one with more text: a number cut before its
+# exponent, or a word. A string may be cut anywhere.
 CUT = 16
 
 
@@ -46,12 +47,12 @@ class Values:
         return found
 
     def value(self):
-        """Takes the next value. If what is held ends with it or cuts it, it is read again with more."""
+        """Takes the next value. If what is held may cut it, it is read again with more."""
         while True:
             self.next()
             try:
                 value, end = DECODE(self.held, self.place)
-                if end < len(self.held) or self.ended:
+                if end + CUT < len(self.held) or self.ended:
                     self.place = end
                     return value
             except json.JSONDecodeError as fault:
@@ -62,31 +63,30 @@ class Values:
                 raise Fault("nested too deep") from None
             self.read_more()
 
-    def members(self):
-        """Takes an array, and gives its values one by one."""
-        self.take("[")
-        if self.next() == "]":
-            return self.take("]")
+    def items(self, first, last):
+        """Takes an array or an object: goes on at each of its items, which the caller takes."""
+        self.take(first)
+        if self.next() == last:
+            return self.take(last)
         while True:
-            yield self.value()
-            if self.take(",]") == "]":
+            yield
+            if self.take("," + last) == last:
                 return
 
     def features(self):
         """Takes an object: the features of a FeatureCollection one by one, or else the object itself."""
         whole, streamed = {}, False
-        self.take("{")
-        while self.next() != "}":
+        for _ in self.items("{", "}"):
+            if self.next() != '"':
+                self.take('"')
             name = self.value()
             self.take(":")
             if name == "features" and self.next() == "[":
                 streamed = True
-                yield from self.members()
+                for _ in self.items("[", "]"):
+                    yield self.value()
             else:
                 whole[name] = self.value()
-            if self.next() != "}":
-                self.take(",}")
-        self.take("}")
         if not streamed:
             yield whole
 

@@ -18,7 +18,7 @@ from polylines import text_of, units_of
 
 PARTS = {"Polygon": "Ring", "MultiPoint": "Point", "MultiLineString": "LineString", "MultiPolygon": "Polygon"}
 LINE_OF = json.JSONEncoder(separators=(",", ":")).encode
-WRONG = (TypeError, ValueError, OverflowError)
+WRONG = (TypeError, ValueError, ArithmeticError)
 
 
 def is_point(place):
@@ -45,8 +45,6 @@ class Rows:
     def polyline(self, points):
         """The encoded polyline of points in degrees."""
         try:
-            if set(map(type, points)) - {list}:
-                raise TypeError
             if self.xy:
                 points = [place[:2] for place in points]
             return text_of(points, self.precision)

@@ -38,22 +38,20 @@ STEPS.update((text, step) for step, text in TEXTS.items())
 
 
 def exact_units(number, precision):
-    try:
-        rounded = Decimal(str(number)).quantize(Decimal((0, (1,), -precision)), ROUND_HALF_UP, EXACT)
-    except ArithmeticError:
-        raise ValueError(f"{number} is no coordinate") from None
+    """The same of one number, by its decimal digits."""
+    rounded = Decimal(repr(number)).quantize(Decimal((0, (1,), -precision)), ROUND_HALF_UP, EXACT)
     return int(rounded.scaleb(precision, EXACT))
 
 
 def units_of(numbers, precision):
-    """For each number the nearest whole number of units of 10^-precision; halfway, the one farther from 0.
+    """For each int or float the nearest whole number of units of 10^-precision; halfway, the one farther from 0.
 
-    A number is a text, an int, or a float, which is taken for the shortest decimal number that reads as it. Raises
-    ValueError, TypeError or OverflowError if one is none.
+    A float counts as the shortest decimal number that reads as it, so one of up to 15 digits as it was written. Raises
+    TypeError, ValueError, OverflowError or ArithmeticError if one is no number, or none that is finite.
     """
     scale, units = 10.0**precision, []
     for number in numbers:
-        about = float(number) * scale
+        about = number * scale
         unit = round(about)
         near = -0.49999 < unit - about < 0.49999 and -LARGE < about < LARGE
         units.append(unit if near else exact_units(number, precision))
@@ -61,7 +59,7 @@ def units_of(numbers, precision):
 
 
 def text_of(points, precision):
-    """The encoded polyline of points (x, y) in degrees, each number rounded to so many decimals."""
+    """The encoded polyline of points (x, y) in degrees, each number rounded as by units_of."""
     return text_of_units(units_of([number for x, y in points for number in (y, x)], precision))
 
 

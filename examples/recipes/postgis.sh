@@ -11,10 +11,10 @@ INSERT INTO my_table VALUES
     (2, NULL),
     (3, 'SRID=4326;LINESTRING(7.44781 46.94797, 7.44432 46.94758, 7.44107 46.9469, 7.4391 46.94886)'),
     (4, 'SRID=4326;POLYGON((0 0, 60 0, 60 40, 0 40, 0 0), (20 10, 20 30, 40 30, 40 10, 20 10))'),
-    (7, 'SRID=4326;GEOMETRYCOLLECTION(POINT(2 1), MULTIPOINT((0 0), (1 1)))');
+    (10, 'SRID=4326;GEOMETRYCOLLECTION(POINT(2 1), MULTIPOINT((0 0), (1 1)))');
 SQL
 
-psql -c "COPY (SELECT id::text, ST_AsTWKB(ST_Force2D(geom), 5, 0, 0, true, true) FROM my_table ORDER BY id)
+psql -c "COPY (SELECT id::text AS key, ST_AsTWKB(ST_Force2D(geom), 5, 0, 0, true, true) FROM my_table ORDER BY id)
     TO STDOUT (FORMAT binary)" | python3 $RECIPES/copy_to_stream.py my.keys > my.twkb
 
 echo "from PostGIS:"

@@ -1,5 +1,5 @@
-# A PostgreSQL server of the demonstration's own, on a socket in its folder, as an unprivileged user; it ends with the recipe.
-# After 'source': psql is connected to it, and as_server runs a command as the server's user.
+# A PostgreSQL server of the demonstration's own, on a socket in its folder, as an unprivileged user; it ends with the
+# demonstration. After 'source': psql is connected to it, and as_server runs a command as the server's user.
 source "$(dirname "${BASH_SOURCE[0]}")/common.bash"
 need psql
 

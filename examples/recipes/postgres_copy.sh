@@ -1,6 +1,25 @@
 #!/usr/bin/env bash
-# Rows in PostgreSQL to a stream by COPY .. TO PROGRAM, and back by COPY .. FROM PROGRAM, on the server and on the client.
+# A column of polylines in PostgreSQL to a column of blobs; and rows to a stream by COPY .. TO PROGRAM, and back by
+# COPY .. FROM PROGRAM, on the server and on the client.
 source "$(dirname "$0")/postgres.bash"
+need python3
+
+psql <<'END'
+CREATE TABLE my_table (key text PRIMARY KEY, polyline text);
+INSERT INTO my_table VALUES ('12', 'yop}Gysml@lAxTfChSgKhK'), ('14', NULL), ('N3, at night', 'cip}Guill@\E~@vD');
+END
+
+psql -c "COPY (SELECT 0 AS depth, 'linestring' AS kind, NULL AS id, 5 AS precision, polyline FROM my_table ORDER BY key)
+    TO STDOUT (FORMAT csv, HEADER)" | polytwkb pack > my.twkb
+psql -At -c 'SELECT key FROM my_table ORDER BY key' > my.keys
+psql -c 'CREATE TABLE my_blobs (key text, twkb bytea)'
+python3 $RECIPES/stream_to_copy.py my.twkb my.keys | psql -c 'COPY my_blobs FROM STDIN (FORMAT binary)'
+
+psql -c "COPY (SELECT key, twkb FROM my_blobs ORDER BY key) TO STDOUT (FORMAT binary)" |
+    python3 $RECIPES/copy_to_stream.py again.keys > again.twkb
+
+polytwkb unpack < again.twkb | tail -n +2 | paste again.keys -
+
 # Where the server's user may run it.
 cp "$(command -v polytwkb)" "$folder/polytwkb"
 

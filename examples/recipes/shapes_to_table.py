@@ -20,8 +20,8 @@ from polylines import text_of_units, units_of
 def add(shapes, precision, key, sequence, *place):
     """Adds a point to the line of its key: sequence, latitude, longitude."""
     try:
-        shapes.setdefault(key, array("q")).extend([int(sequence), *units_of(place, precision)])
-    except (ValueError, OverflowError):
+        shapes.setdefault(key, array("q")).extend([int(sequence), *units_of(map(float, place), precision)])
+    except (ValueError, ArithmeticError):
         raise tables.Fault(f"{', '.join((sequence, *place))} are no sequence, latitude and longitude") from None
 
 

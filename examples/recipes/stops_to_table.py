@@ -16,10 +16,10 @@ from polylines import text_of
 
 def row_of(latitude, longitude, precision):
     """The row of a point."""
-    points = [(longitude, latitude)] if latitude or longitude else []
     try:
+        points = [(float(longitude), float(latitude))] if latitude or longitude else []
         return f"0,point,,{precision},{text_of(points, precision)}\n"
-    except (ValueError, OverflowError):
+    except (ValueError, ArithmeticError):
         raise tables.Fault(f"{latitude!r}, {longitude!r} are no latitude and longitude") from None
 
 
