@@ -1,6 +1,6 @@
 #!/usr/bin/env python3
-"""What the steps that make the module of WebAssembly refuse: whatever was not seen before in a module of LLVM, and calls
-that come back to themselves, that go by a pointer, or that take more stack than there is.
+"""What the steps that make the module of WebAssembly refuse: whatever was not seen before in a module of LLVM, and
+calls that come back to themselves, that go by a pointer, or that take more stack than there is.
 
     packaging/wasm/refusals_test.py
 """
@@ -46,17 +46,16 @@ STRANGE = [
     'module asm "nop"',
     "!llvm.linker.options = !{}",
 ]
-HEAD = "unsigned long f(unsigned long n); unsigned long g(unsigned long n); "
+HEAD = "typedef unsigned long u; u f(u n); u g(u n); "
+FAR = "__attribute__((noinline)) u g(u n) { volatile char b[9]; b[0] = 0; return f(n / 2) + b[0]; } "
 CODE = {
-    "a function that calls itself": "unsigned long f(unsigned long n) { volatile char b[9]; b[n] = 0; return n ? f(n / 2) + b[0] : 1; }",
-    "two that call one another": "__attribute__((noinline)) unsigned long g(unsigned long n) { volatile char b[9]; b[0] = 0;"
-    " return f(n / 2) + b[0]; } unsigned long f(unsigned long n) { return n ? g(n) + 1 : 1; }",
-    "a frame that is too large": "unsigned long f(unsigned long n) { volatile char b[200000]; b[n] = 1; return b[n / 2]; }",
-    "a call by a pointer": "extern unsigned long (*p)(unsigned long); unsigned long (*p)(unsigned long);"
-    " unsigned long f(unsigned long n) { return p(n) + 1; }",
-    "a frame whose size is computed": "unsigned long f(unsigned long n) { volatile char b[n]; b[0] = 1; return b[n / 2]; }",
+    "a function that calls itself": "u f(u n) { volatile char b[9]; b[n] = 0; return n ? f(n / 2) + b[0] : 1; }",
+    "two that call one another": FAR + "u f(u n) { return n ? g(n) + 1 : 1; }",
+    "a frame that is too large": "u f(u n) { volatile char b[200000]; b[n] = 1; return b[n / 2]; }",
+    "a call by a pointer": "extern u (*p)(u); u (*p)(u); u f(u n) { return p(n) + 1; }",
+    "a frame whose size is computed": "u f(u n) { volatile char b[n]; b[0] = 1; return b[n / 2]; }",
 }
-GOOD = "unsigned long f(unsigned long n) { volatile char b[3000]; b[n] = 1; return b[n / 2]; }"
+GOOD = "u f(u n) { volatile char b[3000]; b[n] = 1; return b[n / 2]; }"
 
 
 def accepted(code, folder):
@@ -71,8 +70,8 @@ def accepted(code, folder):
     subprocess.run([CLANG, *words], check=True)
     words = ["-mwasm64", "--no-entry", "--stack-first", "--export=f", made + ".o", "-o", made]
     subprocess.run([linker, *words], check=True)
-    ran = subprocess.run([sys.executable, os.path.join(HERE, "stack.py"), made, "131072"], capture_output=True, check=False)
-    return ran.returncode == 0
+    words = [sys.executable, os.path.join(HERE, "stack.py"), made, "131072"]
+    return subprocess.run(words, capture_output=True, check=False).returncode == 0
 
 
 def main():
