@@ -1,8 +1,9 @@
 #!/usr/bin/env python3
-"""What the steps that make the module of WebAssembly refuse: whatever was not seen before in a module of LLVM, and
-calls that come back to themselves, that go by a pointer, or that take more stack than there is.
+"""What the steps that make the module of WebAssembly do alone. They refuse whatever was not seen before in a module of
+LLVM, and calls that come back to themselves, that go by a pointer, or that take more stack than there is. What stands
+for pshufb does the same at each index, with SIMD and without.
 
-    packaging/wasm/refusals_test.py
+    packaging/wasm/steps_test.py
 """
 import os
 import subprocess
@@ -10,6 +11,7 @@ import sys
 import tempfile
 
 sys.dont_write_bytecode = True
+import lower
 import retarget
 
 HERE = os.path.dirname(os.path.abspath(__file__))
@@ -55,23 +57,70 @@ CODE = {
     "a call by a pointer": "extern u (*p)(u); u (*p)(u); u f(u n) { return p(n) + 1; }",
     "a frame whose size is computed": "u f(u n) { volatile char b[n]; b[0] = 1; return b[n / 2]; }",
 }
+# Shuffles the bytes at a place by those after them, to the next ones.
+SHUFFLE = """{}
+define void @f(ptr %at) #0 {{
+  %after = getelementptr i8, ptr %at, i64 16
+  %next = getelementptr i8, ptr %at, i64 32
+  %bytes = load <16 x i8>, ptr %at, align 16
+  %places = load <16 x i8>, ptr %after, align 16
+  %to = call <16 x i8> @llvm.x86.ssse3.pshuf.b.128(<16 x i8> %bytes, <16 x i8> %places)
+  store <16 x i8> %to, ptr %next, align 16
+  ret void
+}}
+declare <16 x i8> @llvm.x86.ssse3.pshuf.b.128(<16 x i8>, <16 x i8>)
+attributes #0 = {{ nounwind{} }}
+"""
+RUN = """
+const { instance: { exports } } = await WebAssembly.instantiate(require('node:fs').readFileSync(process.argv[1]));
+const memory = new Uint8Array(exports.memory.buffer);
+for (let index = 0; index < 256; index++) {
+    for (let place = 0; place < 16; place++) memory[1024 + place] = 100 + place;
+    memory.fill(index, 1040, 1056);
+    exports.f(1024n);
+    const expected = index & 128 ? 0 : 100 + (index & 15);
+    if (memory.subarray(1056, 1072).some(byte => byte !== expected)) throw new Error(`index ${index}`);
+}
+"""
 GOOD = "u f(u n) { volatile char b[3000]; b[n] = 1; return b[n / 2]; }"
+
+
+def linked(folder, source, *words):
+    """The module of a file of C or of LLVM."""
+    made, linker = os.path.join(folder, "it.wasm"), os.path.join(folder, "wasm-ld")
+    if not os.path.exists(linker):
+        os.symlink(CLANG, linker)
+    words = ["--target=wasm64-unknown-unknown", "-O2", *words, "-c", source, "-o", made + ".o"]
+    subprocess.run([CLANG, *words], check=True)
+    words = ["-mwasm64", "--no-entry", "--stack-first", "--export=f", made + ".o", "-o", made]
+    subprocess.run([linker, *words], check=True)
+    return made
+
+
+def written(folder, name, text):
+    path = os.path.join(folder, name)
+    with open(path, "w", encoding="utf-8") as file:
+        file.write(text)
+    return path
 
 
 def accepted(code, folder):
     """Whether the bound of the stack of a module is accepted."""
-    source, made = os.path.join(folder, "it.c"), os.path.join(folder, "it.wasm")
-    with open(source, "w", encoding="utf-8") as file:
-        file.write(HEAD + code)
-    linker = os.path.join(folder, "wasm-ld")
-    if not os.path.exists(linker):
-        os.symlink(CLANG, linker)
-    words = ["--target=wasm64-unknown-unknown", "-O2", "-ffreestanding", "-c", source, "-o", made + ".o"]
-    subprocess.run([CLANG, *words], check=True)
-    words = ["-mwasm64", "--no-entry", "--stack-first", "--export=f", made + ".o", "-o", made]
-    subprocess.run([linker, *words], check=True)
+    made = linked(folder, written(folder, "it.c", HEAD + code), "-ffreestanding")
     words = [sys.executable, os.path.join(HERE, "stack.py"), made, "131072"]
     return subprocess.run(words, capture_output=True, check=False).returncode == 0
+
+
+def shuffles(simd, folder):
+    """Whether a shuffle that is retargeted does what pshufb does."""
+    text = retarget.retargeted(SHUFFLE.format("\n".join(retarget.X86), retarget.PROCESSOR), simd)
+    made = linked(folder, written(folder, "it.ll", text))
+    with open(made, "rb") as file:
+        module = lower.lowered(file.read())
+    with open(made, "wb") as file:
+        file.write(module)
+    run = f"(async () => {{{RUN}}})().catch(fault => {{ console.error(fault.message); process.exit(1); }})"
+    return subprocess.run(["node", "-e", run, made], check=False).returncode == 0
 
 
 def main():
@@ -80,6 +129,7 @@ def main():
     with tempfile.TemporaryDirectory() as folder:
         wrong += [] if accepted(GOOD, folder) else ["refused: a small frame"]
         wrong += [f"accepted: {name}" for name, code in CODE.items() if accepted(code, folder)]
+        wrong += [f"another shuffle, SIMD {simd}" for simd in (True, False) if not shuffles(simd, folder)]
     for line in wrong:
         print(line)
     print(f"{len(STRANGE)} lines and {len(CODE)} modules are refused" if not wrong else f"{len(wrong)} are wrong")
