@@ -72,7 +72,7 @@ if ! is_there node || [ "$(node -p 'process.versions.node.split(".")[0]')" -lt 2
   exit 0
 fi
 report "module: made again, the same bytes" made_again
-report "module: what its making refuses" packaging/wasm/refusals_test.py
+report "module: the steps that make it" packaging/wasm/steps_test.py
 if is_there wasm-validate; then report "module: wabt takes it" valid; else skip "module: wasm-validate is not there"; fi
 node_tests
 report "module and package: random calls as the native library, seed $seed" fuzz
