@@ -85,15 +85,20 @@ def run(main, last=""):
         return
     except BrokenPipeError:
         # What reads the output has ended, and says why.
-        os.dup2(os.open(os.devnull, os.O_WRONLY), sys.stdout.fileno())
-        sys.exit(3)
+        fault = 3
+    except KeyboardInterrupt:
+        fault = 130
     except Ended as found:
         (fault,) = found.args
     except UnicodeDecodeError as found:
         fault = f"not UTF-8: byte {found.object[found.start]:02x} in what is read"
     except OSError as found:
-        fault = f"{found.filename}: {found.strerror}"
+        fault = f"{found.filename}: {found.strerror}" if found.filename else found.strerror
     except (Fault, csv.Error) as found:
         fault = str(found)
-    sys.stdout.write(last)
+    try:
+        sys.stdout.write(last)
+        sys.stdout.flush()
+    except OSError:
+        os.dup2(os.open(os.devnull, os.O_WRONLY), sys.stdout.fileno())
     sys.exit(fault if isinstance(fault, int) else f"{os.path.basename(sys.argv[0])}: {fault}")
