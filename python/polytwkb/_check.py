@@ -11,7 +11,7 @@ _PACK, _UNPACK, _FULL, _TRUNCATED, _LONGEST_OF_RECORDS = 0, 1, 0, 41, 60
 _HEADER = b"depth,kind,id,precision,polyline\n"
 _FIELD = rb'(?:"[^"]*(?:""[^"]*)*(?:"[^,\r\n]*)?|[^,\r\n]*)'
 # A record after line ends, and whether its first field is 0. An empty line is no record.
-_RECORD = re.compile(rb'[\r\n]*(?:((?:0|"0")(?=[,\r\n]|\Z))|(?=[^\r\n]))' + _FIELD + rb"(?:," + _FIELD + rb")*")
+_RECORD = re.compile(rb'[\r\n]*(?:((?:0|"0"|""0)(?=[,\r\n]|\Z))|(?=[^\r\n]))' + _FIELD + rb"(?:," + _FIELD + rb")*")
 
 
 class _Records:
