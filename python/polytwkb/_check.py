@@ -7,11 +7,11 @@ from ._conversions import Buffer, Limits, _bytes, _limits, table_bytes
 from ._library import DONE, REFUSED, library
 from ._refused import Refused, of_report
 
-_PACK, _UNPACK, _FULL, _TRUNCATED, _LONGEST_OF_RECORDS = 0, 1, 0, 41, 60
+_PACK, _UNPACK, _FULL, _TRUNCATED, _LAST_OF_RECORDS = 0, 1, 0, 41, 60
 _HEADER = b"depth,kind,id,precision,polyline\n"
 _FIELD = rb'(?:"[^"]*(?:""[^"]*)*(?:"[^,\r\n]*)?|[^,\r\n]*)'
-# A record after line ends, and whether its first field is 0. An empty line is no record.
-_RECORD = re.compile(rb'[\r\n]*(?:((?:0|"0")(?=[,\r\n]|\Z))|(?=[^\r\n]))' + _FIELD + rb"(?:," + _FIELD + rb")*")
+# A record after line ends, and whether its first field is 0, which may be quoted in three ways. An empty line is no record.
+_RECORD = re.compile(rb'[\r\n]*(?:((?:0|"0"|""0|"0\Z)(?=[,\r\n]|\Z))|(?=[^\r\n]))' + _FIELD + rb"(?:," + _FIELD + rb")*")
 
 
 class _Records:
@@ -62,7 +62,7 @@ def _of_table(given, limits):
         report = _measured(_PACK, address + start if table else given, len(table) - start, limits)
         if report.status == DONE:
             return refusals
-        if report.reason <= _LONGEST_OF_RECORDS:
+        if report.reason <= _LAST_OF_RECORDS:
             report.place += before
             records.go_to(report.place)
         report.done = max(records.geometries - 1, 0)

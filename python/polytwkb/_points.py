@@ -25,11 +25,11 @@ def outside(place):
     return Refused(_RANGE, f"point {place}", place, 0, 0, "")
 
 
-def _view(points):
-    """A view of a buffer, or None if it is none."""
+def view_of(given):
+    """A view of a buffer, or None if it is none, as is an array of objects."""
     try:
-        return memoryview(points)
-    except TypeError:
+        return memoryview(given)
+    except (TypeError, ValueError):
         return None
 
 
@@ -46,7 +46,7 @@ def _checked(view):
 
 def whole_view(points):
     """A view of a buffer of signed 64-bit integers; None if it is no buffer."""
-    view = _view(points)
+    view = view_of(points)
     if view is None:
         return None
     if _is_of(view, ("d", "f"), view.itemsize):
@@ -60,7 +60,9 @@ def _flat(view):
     """The items of a view in their order, in one dimension."""
     if view.ndim == 1 and view.c_contiguous and view.format in "qdfl":
         return view
-    flat = view if view.c_contiguous and view.nbytes else memoryview(view.tobytes())
+    if not view.nbytes:
+        return memoryview(array(view.format[-1]))
+    flat = view if view.c_contiguous else memoryview(view.tobytes())
     return flat.cast("B").cast(view.format[-1])
 
 
@@ -125,7 +127,7 @@ def _pieces_of_pairs(points):
 
 def _pieces(points, precision):
     """Lists or views of coordinates."""
-    view = _view(points)
+    view = view_of(points)
     if view is None:
         return _pieces_of_pairs(points)
     if precision is not None and (_is_of(view, "d", 8) or _is_of(view, "f", 4)):

@@ -60,6 +60,31 @@ def _scale(precision):
     return (operator.mul, factor, _EXACT / factor) if precision >= 0 else (operator.truediv, factor, _EXACT)
 
 
+def _product_error(numbers, factor, products):
+    """The numbers times a power of ten, whose odd part is below 2^26, less the floats next to that: exact, by two parts of each number (Dekker)."""
+    high = numbers * _PARTING
+    high = high - (high - numbers)
+    return (high * factor - products) + (numbers - high) * factor
+
+
+def _halves(numbers, scaled, factor, precision):
+    """The units of numbers that are halfway as floats, by the side on which they are exactly: of one number, or of an array of numpy."""
+    error = _product_error(numbers, factor, scaled) if precision >= 0 else -_product_error(scaled, factor, numbers)
+    away = scaled / abs(scaled) / 2
+    return scaled + away * (2 * (error * away >= 0) - 1)
+
+
+def _places(numbers, number):
+    """Where a number is in a list."""
+    place = -1
+    try:
+        while True:
+            place = numbers.index(number, place + 1)
+            yield place
+    except ValueError:
+        return
+
+
 def _by_floats(numbers, precision):
     """The units of a list of floats that is not empty, or None if one of them is too large or not finite."""
     scale, factor, limit = _scale(precision)
@@ -71,18 +96,10 @@ def _by_floats(numbers, precision):
     except (ValueError, OverflowError):
         return None
     beside = list(map(operator.sub, scaled, units))
-    if 0.5 in beside or -0.5 in beside:
-        for place, part in enumerate(beside):
-            if part == 0.5 or part == -0.5:
-                units[place] = nearest(numbers[place], precision)
+    for half in (0.5, -0.5):
+        for place in _places(beside, half):
+            units[place] = int(_halves(numbers[place], scaled[place], factor, precision))
     return array("q", units)
-
-
-def _product_error(numbers, factor, products):
-    """The numbers times a factor below 2^24, less the floats that are next to it: exact, by two parts of each number (Dekker)."""
-    high = numbers * _PARTING
-    high = high - (high - numbers)
-    return (high * factor - products) + (numbers - high) * factor
 
 
 def _by_numpy(numpy, numbers, precision):
@@ -94,30 +111,26 @@ def _by_numpy(numpy, numbers, precision):
     units = numpy.rint(scaled)
     halves = (numpy.abs(scaled - units) == 0.5).nonzero()[0]
     if halves.size:
-        numbers, scaled = numbers[halves], scaled[halves]
-        error = _product_error(numbers, factor, scaled) if precision >= 0 else -_product_error(scaled, factor, numbers)
-        away = numpy.copysign(0.5, scaled)
-        units[halves] = scaled + numpy.where(error * away >= 0, away, -away)
+        units[halves] = _halves(numbers[halves], scaled[halves], factor, precision)
     return units.astype(numpy.int64)
 
 
-def _as_floats(numbers):
-    """The numbers of a list as an array of floats, which are equal to them if they are not too large; None if they are of other kinds."""
-    for kind in set(map(type, numbers)) - {float, int}:
-        if not issubclass(kind, float) or kind.__module__ != "numpy":
-            return None
-    try:
-        return array("d", numbers)
-    except OverflowError:
-        return None
+def _are_floats(kinds):
+    """Whether floats are equal to all numbers of these kinds that are not too large."""
+    return all(kind is int or issubclass(kind, float) and kind.__module__ == "numpy" for kind in kinds)
 
 
 def rounded(numbers, precision):
     """The units of a list of numbers or a view of floats, or None if they are not rounded as floats, but have to be one by one."""
-    floats = _as_floats(numbers) if isinstance(numbers, list) else numbers
-    if not floats:
-        return None
-    numpy = numpy_of()
-    if numpy is None or len(floats) < _FEW:
-        return _by_floats(floats.tolist(), precision)
-    return _by_numpy(numpy, numpy.asarray(memoryview(floats), dtype=numpy.float64), precision)
+    numpy = numpy_of() if len(numbers) >= _FEW else None
+    if isinstance(numbers, list):
+        others = set(map(type, numbers)) - {float}
+        if not numbers or not _are_floats(others):
+            return None
+        try:
+            numbers = memoryview(array("d", numbers)) if numpy or others else numbers
+        except OverflowError:
+            return None
+    if numpy:
+        return _by_numpy(numpy, numpy.asarray(numbers, dtype=numpy.float64), precision)
+    return _by_floats(numbers if isinstance(numbers, list) else numbers.tolist(), precision)

@@ -35,6 +35,8 @@ class Tables(unittest.TestCase):
             (vectors.table_of(WRONG_KIND + "//" + RIGHT + "/" + WRONG_KIND).replace("\n", "\r\n"), [2, 4]),
             (vectors.table_of(WRONG_KIND + RIGHT + WRONG_KIND).replace("\n", "\r"), [2, 4]),
             (vectors.table_of('"0","pont",,0,/"0",point,,0,"AC"/"0","po""nt",,0,AC'), [2, 4]),
+            (vectors.table_of('""0,pont,,0,/"0"0,point,,0,AC/0"",point,,0,AC/""0,"po""nt",,0,AC'), [2, 5]),
+            (vectors.table_of(WRONG_KIND + '"0'), [2, 3]),
             (vectors.table_of('0,"po/0,point,,0,AC/nt",,0,/0,point,,0,AC/0,pont,,0,/'), [2, 4]),
             (vectors.table_of('0,"pont/' + RIGHT + WRONG_KIND), [2]),
             (vectors.table_of('0,po"nt,,0,/' + WRONG_KIND + RIGHT), [2, 3]),

@@ -173,6 +173,11 @@ class Rounding(unittest.TestCase):
         self.assertEqual(polytwkb.encode(rows[:, 1:3], 0), polytwkb.encode([(1, 2), (5, 6), (9, 10)]))
         self.assertEqual(polytwkb.encode(rows[:, 1:3].astype(numpy.int64), 0), polytwkb.encode([(1, 2), (5, 6), (9, 10)]))
         self.assertEqual(polytwkb.encode(rows[:, 1:3].astype(">f8"), 0), polytwkb.encode([(1, 2), (5, 6), (9, 10)]))
+        objects = numpy.array([[1, Decimal(2)], [5.25, Fraction(6)]], dtype=object)
+        self.assertEqual(polytwkb.encode(objects, 0), polytwkb.encode([(1, 2), (5, 6)]))
+        for empty in (rows[:0, :2], rows[:0, :2].astype(numpy.int64)):
+            self.assertEqual((polytwkb.encode(empty, 5), polytwkb.in_units(empty, 5).shape), ("", (0, 2)))
+        self.assertEqual(polytwkb.in_degrees(rows[:0, :2].astype(numpy.int64), 5).shape, (0, 2))
         self.assertEqual(polytwkb.encode(list(map(tuple, rows[:, 1:3])), 0), polytwkb.encode([(1, 2), (5, 6), (9, 10)]))
 
 
