@@ -30,14 +30,14 @@ WASM = (
 PROCESSOR = ' "probe-stack"="inline-asm" "stack-probe-size"="3072" "target-cpu"="x86-64-v2"'
 FEATURES = "+bulk-memory,+sign-ext,+mutable-globals,+nontrapping-fptoint"
 
-# Whatever a module may hold: its words but for names, numbers, texts and metadata. Of the attributes of parameters,
-# limits are passed by byval, and a report by sret; packaging/wasm/calls.c declares the calls accordingly.
+# Whatever a module may hold: its words but for names, numbers, texts and metadata. Limits are passed by byval, and a
+# report is written where the first argument points: packaging/wasm/calls.c declares the calls accordingly.
 WORDS = set("""
-    private internal constant unnamed_addr zeroinitializer define align noundef zeroext signext sret byval
+    private internal constant unnamed_addr zeroinitializer define align noundef zeroext byval
     alloca load store getelementptr inbounds call ret br switch label unreachable select icmp
     add sub mul udiv urem and or xor shl lshr trunc zext sext bitcast ptrtoaddr to
-    extractvalue insertvalue extractelement insertelement shufflevector splat poison true false
-    eq ne slt sle sge sgt ult ule uge ugt nuw void ptr i1 i8 i16 i32 i64 i128 x
+    extractvalue extractelement insertelement shufflevector splat true false null
+    eq ne slt sle sge ult ule uge nuw void ptr i1 i8 i16 i32 i64 i128 x
 """.split())
 MARKS = {"!noundef", "!range", "!llvm.ident"}
 DECLARED = """
