@@ -66,12 +66,13 @@ count_of None = 0
 count_of (Some n) = n
 
 -- A call filled the start of a slice as its report states. If the slice is too small, the report
--- gives the length of the whole output, or 0.
+-- gives the length of the whole output, and the slice is full; or it gives 0.
 pub record FillsSlice (Ended : Ends) (Halted : Stops) (HasLength : ℕ → Type 0) (slice : List ℕ)
     (report : BufferReport) : Type 0 where
   pub fits : report.sent ≤ length slice
   pub finished : report.status ≡ 0 → Ended (take report.sent slice) report.done
   pub stopped : report.status ≢ 0 → (why : Cause) × Tells report why × Halted (take report.sent slice) report.done why
+  pub full : report.status ≡ 5 → report.needed ≢ 0 → report.sent ≡ length slice
   pub needed : report.status ≡ 5 → report.needed ≢ 0 → (length slice < report.needed) × HasLength report.needed
   pub no_more : report.status ≢ 5 → report.needed ≡ report.sent
 

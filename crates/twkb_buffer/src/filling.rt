@@ -47,14 +47,15 @@ fn fill_front(
     run_into(alloc, what, input, &mut filler, limits)
 }
 
-// Sets `needed` to the length of the whole output if that is known and more than the room, else
-// to 0.
+// Sets `needed` to the length of the whole output if the room is full and that length is known
+// and more, else to 0.
 fn with_needed(report: BufferReport, whole: Option<u64>, room: usize) -> BufferReport
     ensures same { result ≡ record report { needed = result.needed } }
+    ensures full { result.needed ≢ 0 → report.sent ≡ room }
     ensures needed { result.needed ≢ 0 → (room < result.needed) × (whole ≡ Some result.needed) }
 {
     let needed = match whole {
-        Some(length) if length > room as u64 => length,
+        Some(length) if report.sent == room as u64 && length > room as u64 => length,
         _ => 0,
     };
     BufferReport { needed, ..report }

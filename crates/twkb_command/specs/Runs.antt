@@ -9,7 +9,7 @@ use Rattle.twkb_command.specs.declared.request.Request.{Request}
 use Rattle.twkb_command.specs.Carrying.{CarriesOut}
 use Rattle.twkb_command.specs.Lines.{line_of}
 use Rattle.twkb_command.specs.Printing.{IsPrinted}
-use Rattle.twkb_command.specs.Words.{AsksFor}
+use Rattle.twkb_command.specs.Words.{AsksFor, IsOneRequest}
 
 -- Memory was refused while the words were read: nothing is converted, and standard error gets the
 -- line that says so.
@@ -30,23 +30,17 @@ pub record Answers {R W E : Type 0} (kind : ErrorKind) (reader : Tap R) (writer 
   pub told : (kind ≡ DisplayHelp) ⊎ (kind ≡ DisplayVersion) → (status ≡ 0) × (errors_after ≡ errors)
   pub refused : kind ≢ DisplayHelp → kind ≢ DisplayVersion → (status ≡ 2) × (writer_after ≡ writer)
 
--- ---- the effect of a command line's words, with a fault or without
-
-module _ {R W E : Type 0} (remaining : R → Option (List ℕ)) (contents : W → Option (List ℕ))
-    (told : E → Option (List ℕ)) (line : App) (words : List Text)
-    (reader : Tap R) (writer : Tap W) (errors : Tap E) (reader_after : Tap R) (writer_after : Tap W)
-    (errors_after : Tap E) (status : ℕ) where
-  -- words without a fault: the request is carried out, or memory was refused
-  abbrev pub RunsAccepted : Type 0
-  RunsAccepted = fault_of line words ≡ []
-      → ((request : Request) × AsksFor line words request
-      × CarriesOut remaining contents told request reader writer errors reader_after writer_after
-      errors_after status)
+-- The effect of a run with these words of a command line. Words without a fault: their request is
+-- carried out, or memory was refused. Words with a fault: one of its kinds is answered, or memory
+-- was refused. The fault asks only for help, only for the version, or for neither.
+pub record Runs {R W E : Type 0} (remaining : R → Option (List ℕ)) (contents : W → Option (List ℕ))
+    (told : E → Option (List ℕ)) (line : App) (words : List Text) (reader : Tap R) (writer : Tap W)
+    (errors : Tap E) (reader_after : Tap R) (writer_after : Tap W) (errors_after : Tap E)
+    (status : ℕ) : Type 0 where
+  pub accepted : fault_of line words ≡ [] → ((request : Request) × AsksFor line words request
+      × CarriesOut remaining contents told request reader writer errors reader_after writer_after errors_after status)
       ⊎ LacksMemory told reader writer errors reader_after writer_after errors_after status
-
-  -- words with a fault: one of its kinds is answered, or memory was refused
-  abbrev pub RunsRefused : Type 0
-  RunsRefused = fault_of line words ≢ []
-      → ((kind : ErrorKind) × IsAmong kind (fault_of line words)
+  pub refused : fault_of line words ≢ [] → ((kind : ErrorKind) × IsAmong kind (fault_of line words)
       × Answers kind reader writer errors reader_after writer_after errors_after status)
       ⊎ LacksMemory told reader writer errors reader_after writer_after errors_after status
+  pub one_request : IsOneRequest (fault_of line words)

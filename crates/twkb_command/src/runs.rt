@@ -1,9 +1,8 @@
 //! A run of the command.
 ghost use Rattle.std.specs.Prelude.{map, string_bytes};
-ghost use Rattle.clap.specs.Words.{App, fault_of};
+ghost use Rattle.clap.specs.Words.{App};
 ghost use Rattle.twkb_command.specs.CommandLine.{IsCommandLine};
-ghost use Rattle.twkb_command.specs.Runs.{RunsAccepted, RunsRefused};
-ghost use Rattle.twkb_command.specs.Words.{IsOneRequest};
+ghost use Rattle.twkb_command.specs.Runs.{Runs};
 
 use crate::carrying::{carry_out, refuse};
 use crate::words::read_words;
@@ -22,14 +21,9 @@ pub fn run<R: Read, W: Write, E: Write>(
     writer: &mut Tap<W>,
     errors: &mut Tap<E>,
 ) -> u8
-    ensures accepted { (line : App) × IsCommandLine line
-        × RunsAccepted R.remaining W.contents E.contents line (map string_bytes words.now)
-        reader.old writer.old errors.old reader.new writer.new errors.new result }
-    ensures refused { (line : App) × IsCommandLine line
-        × RunsRefused R.remaining W.contents E.contents line (map string_bytes words.now) reader.old
+    ensures { (line : App) × IsCommandLine line
+        × Runs R.remaining W.contents E.contents line (map string_bytes words.now) reader.old
         writer.old errors.old reader.new writer.new errors.new result }
-    ensures one_request { (line : App) × IsCommandLine line
-        × IsOneRequest (fault_of line (map string_bytes words.now)) }
 {
     match read_words(alloc, words) {
         Ok(request) => carry_out(alloc, request, reader, writer, errors),
