@@ -18,7 +18,7 @@ from polylines import text_of, units_of
 
 PARTS = {"Polygon": "Ring", "MultiPoint": "Point", "MultiLineString": "LineString", "MultiPolygon": "Polygon"}
 LINE_OF = json.JSONEncoder(separators=(",", ":")).encode
-WRONG = (TypeError, ValueError, ArithmeticError)
+WRONG = (TypeError, ValueError, ArithmeticError, LookupError)
 
 
 def is_point(place):
@@ -31,7 +31,7 @@ def is_point(place):
 
 def point_fault(points):
     """What is wrong with points of which one is wrong."""
-    place = next(place for place in points if not is_point(place))
+    place = next((place for place in points if not is_point(place)), points)
     more = type(place) is list and len(place) > 2
     return f"{json.dumps(place):.100} is no point" + (" of two numbers; --xy takes the first two" if more else "")
 

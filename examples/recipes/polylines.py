@@ -47,7 +47,7 @@ def units_of(numbers, precision):
     """For each int or float the nearest whole number of units of 10^-precision; halfway, the one farther from 0.
 
     A float counts as the shortest decimal number that reads as it, so one of up to 15 digits as it was written. Raises
-    TypeError, ValueError, OverflowError or ArithmeticError if one is no number, or none that is finite.
+    TypeError, ValueError or ArithmeticError if one is no number, or none that is finite.
     """
     scale, units = 10.0**precision, []
     for number in numbers:

@@ -13,10 +13,12 @@ INSERT INTO my_table VALUES
     (104, 'SRID=4326;MULTIPOINT((0 0), (1 1))');
 SQL
 
-psql -c "COPY (SELECT 'all', ST_AsTWKB(array_agg(geom ORDER BY id), array_agg(id ORDER BY id), 5, 0, 0, true, true)
+psql -c "COPY (SELECT 'all', ST_AsTWKB(array_agg(ST_Force2D(geom) ORDER BY id), array_agg(id ORDER BY id),
+    5, 0, 0, true, true)
     FROM my_table WHERE geom IS NOT NULL) TO STDOUT (FORMAT binary)" |
     python3 $RECIPES/copy_to_stream.py all.keys > all.twkb
-polytwkb unpack < all.twkb | tee all.csv
+polytwkb unpack < all.twkb > all.csv
+cat all.csv
 
 polytwkb unpack < all.twkb | awk -F, -v OFS=, 'NR == 1 { print; next } $1 == 0 { precision = $4; next }
     $1 == 1 { print $3 > "my.keys"; $3 = ""; if ($4 == "") $4 = precision }
