@@ -3,3 +3,4 @@ pub mod Reading
 pub mod Rows
 pub mod SliceSinks
 pub mod Taking
+pub mod Texts

@@ -6,6 +6,7 @@ mod judging;
 mod placing;
 mod reading;
 mod reason;
+mod reason_texts;
 mod row;
 mod slice_sink;
 mod taking;
@@ -13,5 +14,6 @@ mod writing;
 
 pub use reading::{BufferCounts, read_arrays};
 pub use reason::ArrayReason;
+pub use reason_texts::put_array_reason;
 pub use row::{BufferRow, NO_PRECISION};
 pub use writing::write_arrays;

@@ -16,6 +16,6 @@ pub use measuring::measure;
 pub use point::BufferPoint;
 pub use polylines::{as_coordinates, fill_points, fill_polyline};
 pub use reason_numbers::blob_number;
-pub use reason_texts::{put_reason, put_version};
+pub use reason_texts::{put_reason, put_version, put_words};
 pub use report::BufferReport;
 pub use twkb_convert::Conversion;
