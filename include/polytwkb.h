@@ -79,10 +79,6 @@ extern "C" {
 #define POLYTWKB_BLOB_RANGE 48u
 #define POLYTWKB_BLOB_SIZE_MISMATCH 49u
 
-/* Why rows and points are refused by polytwkb_write, besides reasons of records and polylines: place is the row, from 0. */
-#define POLYTWKB_POINTS_MISSING 71u /* the row has more points than are left */
-#define POLYTWKB_POINTS_LEFT 72u    /* points are left after the last row: place is the number of rows */
-
 /* The whole input or output: place is 0. */
 #define POLYTWKB_TOO_LONG 61u         /* more than 2^62 bytes */
 #define POLYTWKB_TOO_MANY_RECORDS 62u /* 2^32 records */
@@ -218,22 +214,6 @@ polytwkb_counts polytwkb_read(const uint8_t *blobs, size_t length, polytwkb_row 
                               polytwkb_point *points, size_t point_room, polytwkb_limits limits);
 
 /*
- * Writes the canonical stream of the geometries of rows and points, as polytwkb_pack does of a table with these
- * rows. A row that polytwkb_read gave is taken as it is. Status 1: place is the refused row, counted from 0, or the
- * number of rows if points are left over, and the output has the blobs of the geometries before the one that the
- * row belongs to. 5: the output has a prefix of the stream, and needed is the length of all that would be written,
- * which ends before the geometry of a refused row if there is one. Takes memory for one geometry with its sizes.
- *
- * Reasons: POLYTWKB_BAD_KIND; POLYTWKB_BAD_ID, if has_id is neither 0 nor 1, or is 0 and id is not 0;
- * POLYTWKB_POINTS_MISSING; POLYTWKB_BAD_PLACE to POLYTWKB_POINT_COUNT of a record; POLYTWKB_POLYLINE_RANGE, if a
- * coordinate is out of range; POLYTWKB_POLYLINE_TOO_MANY, if the geometry has more points than allowed; and
- * POLYTWKB_POINTS_LEFT.
- */
-polytwkb_report polytwkb_write(const polytwkb_row *rows, size_t row_count, const polytwkb_point *points,
-                               size_t point_count, uint8_t *output, size_t output_length, polytwkb_limits limits,
-                               uint32_t style);
-
-/*
  * Writes what a reason means in English, as the command says it on standard error: "bad header" for
  * POLYTWKB_BAD_HEADER, without the place. The text of a number that is no reason is empty, and so is
  * that of 0. If the room is too small, the text is cut; in any room but 0 a NUL follows it. Bytes after
@@ -293,21 +273,13 @@ static inline polytwkb_report polytwkb_decode_any(const uint8_t *text, size_t le
     return polytwkb_decode(polytwkb_input(text, length), length, room == 0 ? &none : points, room);
 }
 
-static inline polytwkb_counts polytwkb_read_any(const uint8_t *blobs, size_t length, polytwkb_row *rows, size_t row_room,
-                                                polytwkb_point *points, size_t point_room, polytwkb_limits limits) {
+static inline polytwkb_counts polytwkb_read_any(const uint8_t *blobs, size_t length, polytwkb_row *rows,
+                                                size_t row_room, polytwkb_point *points, size_t point_room,
+                                                polytwkb_limits limits) {
     static polytwkb_row no_row;
     static polytwkb_point no_point;
     return polytwkb_read(polytwkb_input(blobs, length), length, row_room == 0 ? &no_row : rows, row_room,
                          point_room == 0 ? &no_point : points, point_room, limits);
-}
-
-static inline polytwkb_report polytwkb_write_any(const polytwkb_row *rows, size_t row_count,
-                                                 const polytwkb_point *points, size_t point_count, uint8_t *output,
-                                                 size_t output_length, polytwkb_limits limits, uint32_t style) {
-    static const polytwkb_row no_row = {0, 0, 0, 0, 0, 0};
-    static const polytwkb_point no_point = {0, 0};
-    return polytwkb_write(row_count == 0 ? &no_row : rows, row_count, point_count == 0 ? &no_point : points, point_count,
-                          polytwkb_output(output, output_length), output_length, limits, style);
 }
 
 static inline size_t polytwkb_reason_text_any(uint32_t reason, char *text, size_t room) {
@@ -325,7 +297,6 @@ static inline size_t polytwkb_version_any(char *text, size_t room) {
 #define polytwkb_encode polytwkb_encode_any
 #define polytwkb_decode polytwkb_decode_any
 #define polytwkb_read polytwkb_read_any
-#define polytwkb_write polytwkb_write_any
 #define polytwkb_reason_text polytwkb_reason_text_any
 #define polytwkb_version polytwkb_version_any
 

@@ -1,0 +1,3 @@
+pub mod ArrayLemmas
+pub mod ReadingLemmas
+pub mod TakingLemmas

@@ -1,5 +1,5 @@
 -- The effect of a call that reads a stream into arrays.
-use Rattle.std.specs.Prelude.{◌≡◌, ℕ, ◌<◌, ◌^◌, List, [], ◌∷◌, ◌++◌, length, Result, Ok, Err, ⊤}
+use Rattle.std.specs.Prelude.{◌≡◌, ℕ, ◌<◌, ◌^◌, List, ◌++◌, length, Bool, true, false, Result, Ok, Err}
 use Rattle.twkb_tree.specs.Tree.{Tree, saturated}
 use Rattle.twkb_tree.specs.Limits.{Allowance}
 use Rattle.twkb_tree.specs.Rows.{rows_of, row_points}
@@ -10,7 +10,9 @@ use Rattle.twkb_blob.specs.declared.fault.BlobFault.{BlobFault}
 use Rattle.twkb_blob.specs.declared.fault.BlobFault.TheVariants as fault
 use Rattle.twkb_buffer.specs.Numbers.{blob_number_of}
 use Rattle.twkb_buffer.specs.declared.point.BufferPoint.{BufferPoint}
-use Rattle.twkb_arrays.specs.Taking.{HasTaken, IsFilled, StopsBefore}
+use Rattle.twkb_blob.specs.Sessions.{Stands}
+use Rattle.twkb_blob.specs.declared.session.Session.{Session}
+use Rattle.twkb_arrays.specs.Taking.{HasTaken, IsFilled, StopsBefore, are_more}
 use Rattle.twkb_arrays.specs.declared.row.BufferRow.{BufferRow}
 use Rattle.twkb_arrays.specs.declared.taking.Taken.{Taken}
 use Rattle.twkb_arrays.specs.declared.reading.BufferCounts.{BufferCounts}
@@ -28,33 +30,40 @@ EndsReading l bytes gs (Err (fault.Device why)) = (2 ^ 62 < length bytes) × Beg
 EndsReading l bytes gs (Err fault.Memory) = BeginsWithBlobs l bytes gs
 EndsReading l bytes gs (Err fault.Spent) = ⊥
 
--- the status of a reading that ended like this, given the geometries for which there was no room:
--- 4 without memory, 5 without room, 1 for a refusal, and 0
-abbrev pub reading_status : {A : Type 0} → List Tree → Result A BlobFault → ℕ
-reading_status later (Err fault.Memory) = 4
-reading_status later (Err fault.Spent) = 4
-reading_status (g ∷ later) _ = 5
-reading_status [] (Ok done) = 0
-reading_status [] (Err (fault.At offset reason)) = 1
-reading_status [] (Err (fault.Device why)) = 1
+-- The session stands after these bytes, and of their geometries the first were taken.
+abbrev pub IsReading : List BufferRow → List BufferPoint → List ℕ → List BufferRow
+    → List BufferPoint → Session → Taken → Type 0
+IsReading start_rows start_points bytes in_rows in_points session taken =
+    (given later : List Tree) × Stands bytes (given ++ later) session
+    × HasTaken start_rows start_points given later in_rows in_points taken
 
--- the number of the reason of a refusal, if there was room for all geometries before it; 0 otherwise
-abbrev pub reading_reason : {A : Type 0} → List Tree → Result A BlobFault → ℕ
-reading_reason [] (Err (fault.At offset reason)) = blob_number_of reason
-reading_reason [] (Err (fault.Device why)) = 61
-reading_reason _ _ = 0
+-- The reading of bytes stopped after geometries of which the first were taken.
+abbrev pub StopsReading : Allowance → List BufferRow → List BufferPoint → List ℕ → List BufferRow
+    → List BufferPoint → Taken → BlobFault → Type 0
+StopsReading l start_rows start_points bytes in_rows in_points taken why =
+    (given later : List Tree) × HasTaken start_rows start_points given later in_rows in_points taken
+    × EndsReading {A = ℕ} l bytes (given ++ later) (Err why)
 
--- the offset of the refused item, if there was room for all geometries before it; 0 otherwise
-abbrev pub reading_place : {A : Type 0} → List Tree → Result A BlobFault → ℕ
-reading_place [] (Err (fault.At offset reason)) = offset
-reading_place _ _ = 0
+-- the status, the reason and the place: 5 and none if there was too little room
+abbrev pub unless_full : Bool → ℕ × ℕ × ℕ → ℕ × ℕ × ℕ
+unless_full true outcome = (5, 0, 0)
+unless_full false outcome = outcome
+
+-- the status, the reason and the place of a reading that ended like this, given whether there was
+-- too little room for a geometry: 4 without memory, 5 without room, 1 for a refusal, and 0
+abbrev pub outcome_of : {A : Type 0} → Bool → Result A BlobFault → ℕ × ℕ × ℕ
+outcome_of full (Ok done) = unless_full full (0, 0, 0)
+outcome_of full (Err fault.Memory) = (4, 0, 0)
+outcome_of full (Err fault.Spent) = (4, 0, 0)
+outcome_of full (Err (fault.Device why)) = unless_full full (1, 61, 0)
+outcome_of full (Err (fault.At offset reason)) = unless_full full (1, blob_number_of reason, offset)
 
 -- What the counts of a call state: how it ended, the geometries in the arrays with their rows and
 -- points, and the rows and points of all geometries that were read.
 pub record CountsAs {A : Type 0} (given later : List Tree) (answer : Result A BlobFault) (counts : BufferCounts) : Type 0 where
-  pub status_is : counts.status ≡ reading_status later answer
-  pub reason_is : counts.reason ≡ reading_reason later answer
-  pub place_is : counts.place ≡ reading_place later answer
+  pub status_is : counts.status ≡ (outcome_of (are_more later) answer).0
+  pub reason_is : counts.reason ≡ (outcome_of (are_more later) answer).1
+  pub place_is : counts.place ≡ (outcome_of (are_more later) answer).2
   pub done_is : counts.done ≡ length given
   pub rows_is : counts.rows ≡ length (rows_of given)
   pub points_is : counts.points ≡ length (row_points (rows_of given))
@@ -71,6 +80,6 @@ pub record ReadsArrays (l : Allowance) (bytes : List ℕ) (old_rows : List Buffe
   pub later : List Tree
   pub filled : IsFilled old_rows old_points given new_rows new_points
   pub stops : StopsBefore old_rows old_points given later
-  pub answer : Result Unit BlobFault
+  pub answer : Result (Unit {0}) BlobFault
   pub ended : EndsReading l bytes (given ++ later) answer
   pub counted : CountsAs given later answer counts

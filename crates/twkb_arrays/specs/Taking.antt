@@ -1,5 +1,5 @@
 -- The geometries that were taken into two arrays.
-use Rattle.std.specs.Prelude.{◌≡◌, ◌≢◌, ◌⊎◌, List, [], ◌∷◌, ◌++◌, length, drop, Bool, true, false, ⊤}
+use Rattle.std.specs.Prelude.{◌≡◌, ◌≤◌, ◌⊎◌, List, [], ◌∷◌, ◌++◌, length, drop, Bool, true, false, ⊤}
 use Rattle.twkb_tree.specs.Tree.{Tree, saturated}
 use Rattle.twkb_tree.specs.Rows.{rows_of, row_points}
 use Rattle.twkb_buffer.specs.declared.point.BufferPoint.{BufferPoint}
@@ -38,6 +38,12 @@ pub record HasTaken (old_rows : List BufferRow) (old_points : List BufferPoint)
   pub points_is : taken.points ≡ length (row_points (rows_of given))
   pub needed_rows_is : taken.needed_rows ≡ saturated (length (rows_of (given ++ later)))
   pub needed_points_is : taken.needed_points ≡ saturated (length (row_points (rows_of (given ++ later))))
+
+-- What was taken is in two arrays: they have as many places, and each geometry has a row.
+pub record IsWithin (in_rows : List BufferRow) (in_points : List BufferPoint) (taken : Taken) : Type 0 where
+  pub rows_fit : taken.rows ≤ length in_rows
+  pub points_fit : taken.points ≤ length in_points
+  pub few : taken.done ≤ taken.rows
 
 -- One more geometry was read, and was taken, or counted among those that were not.
 abbrev pub TakesOne : List BufferRow → List BufferPoint → List Tree → List Tree → Tree

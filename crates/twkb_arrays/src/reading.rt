@@ -1,6 +1,12 @@
 //! Streams of blobs as rows and points in arrays.
-ghost use Rattle.std.specs.Prelude.{◌≡◌};
-ghost use Rattle.twkb_arrays.specs.Reading.{CountsAs, ReadsArrays, ReadsOn};
+ghost use Rattle.std.specs.Prelude.{◌≡◌, ◌<◌, ◌≤◌, List, ℕ, [], ◌++◌, length, take, IfOk, IfErr};
+ghost use Rattle.twkb_tree.specs.Tree.{Tree};
+ghost use Rattle.twkb_buffer.specs.declared.point.BufferPoint.{BufferPoint as InPoint};
+ghost use Rattle.twkb_blob.specs.Sessions.{Stands, session_limits};
+ghost use Rattle.twkb_arrays.specs.declared.row.BufferRow.{BufferRow as InRow};
+ghost use Rattle.twkb_arrays.specs.Taking.{HasTaken, IsWithin};
+ghost use Rattle.twkb_arrays.specs.Reading.{CountsAs, EndsReading, IsReading, ReadsArrays, StopsReading};
+ghost use Rattle.twkb_arrays.specs.Reading.{outcome_of, unless_full};
 
 use crate::row::BufferRow;
 use crate::taking::{Taken, take_geometry};
@@ -32,19 +38,34 @@ pub struct BufferCounts {
     pub needed_points: u64,
 }
 
+// The status, the reason and the place: 5 and none if there was too little room.
+fn unless_full(full: bool, outcome: (u32, u32, u64)) -> (u32, u32, u64)
+    ensures { result ≡ unless_full full outcome }
+{
+    if full { (5, 0, 0) } else { outcome }
+}
+
 // The status, the reason and the place of a reading that ended like this.
-fn outcome(full: bool, answer: Result<(), BlobFault>) -> (u32, u32, u64) {
+fn outcome(full: bool, answer: Result<(), BlobFault>) -> (u32, u32, u64)
+    ensures { result ≡ outcome_of full answer }
+{
     match answer {
-        Err(BlobFault::Memory | BlobFault::Spent) => (4, 0, 0),
-        _ if full => (5, 0, 0),
-        Ok(()) => (0, 0, 0),
-        Err(BlobFault::At { offset, reason }) => (1, blob_number(reason), offset),
-        Err(BlobFault::Device(_)) => (1, 61, 0),
+        Ok(()) => unless_full(full, (0, 0, 0)),
+        Err(BlobFault::Memory) => (4, 0, 0),
+        Err(BlobFault::Spent) => (4, 0, 0),
+        Err(BlobFault::Device(_)) => unless_full(full, (1, 61, 0)),
+        Err(BlobFault::At { offset, reason }) => {
+            unless_full(full, (1, blob_number(reason), offset))
+        }
     }
 }
 
 // The counts of a reading that ended like this.
-fn counted(taken: &Taken, answer: Result<(), BlobFault>) -> BufferCounts {
+fn counted(taken: &Taken, answer: Result<(), BlobFault>) -> BufferCounts
+    ensures { (start_rows new_rows : List InRow) (start_points new_points : List InPoint)
+        (given later : List Tree) → HasTaken start_rows start_points given later new_rows new_points
+        taken.now → CountsAs given later answer result }
+{
     let (status, reason, place) = outcome(taken.full, answer);
     BufferCounts {
         status,
@@ -58,22 +79,58 @@ fn counted(taken: &Taken, answer: Result<(), BlobFault>) -> BufferCounts {
     }
 }
 
+// Reads up to the end of a geometry and takes that, or to the end of the bytes; returns how many
+// bytes were read then.
+#[inline(always)]
+fn read_next(
+    blobs: &[u8],
+    used: usize,
+    session: &mut Session,
+    row_array: &mut [BufferRow],
+    point_array: &mut [BufferPoint],
+    taken: &mut Taken,
+) -> Result<usize, BlobFault>
+    requires left { used < length blobs.now }
+    requires within { IsWithin row_array.old point_array.old taken.old }
+    requires stands { (gs : List Tree) × Stands (take used blobs.now) gs session.old }
+    ensures more { IfOk result (λ next. (used < next) × (next ≤ length blobs.now)) }
+    ensures reads { IfOk result (λ next. (start_rows : List InRow) (start_points : List InPoint)
+        → IsReading start_rows start_points (take used blobs.now) row_array.old point_array.old
+        session.old taken.old → IsReading start_rows start_points (take next blobs.now) row_array.new
+        point_array.new session.new taken.new) }
+    ensures stops { IfErr result (λ why. (start_rows : List InRow) (start_points : List InPoint)
+        → IsReading start_rows start_points (take used blobs.now) row_array.old point_array.old
+        session.old taken.old → StopsReading (session_limits session.old) start_rows start_points
+        blobs.now row_array.new point_array.new taken.new why) }
+    ensures limits { session_limits session.new ≡ session_limits session.old }
+{
+    match session.feed_flat(&blobs[used..]) {
+        Ok((more, true)) => {
+            take_geometry(session.rows(), row_array, point_array, taken);
+            Ok(used + more)
+        }
+        Ok((more, false)) => Ok(used + more),
+        Err(fault) => Err(fault),
+    }
+}
+
 // Reads the blobs through a new session to their end or to a fault, and takes each geometry.
 fn read_all(
     blobs: &[u8],
     session: &mut Session,
-    rows: &mut [BufferRow],
-    points: &mut [BufferPoint],
+    row_array: &mut [BufferRow],
+    point_array: &mut [BufferPoint],
     taken: &mut Taken,
-) -> Result<(), BlobFault> {
+) -> Result<(), BlobFault>
+    requires { IsReading row_array.old point_array.old [] row_array.old point_array.old session.old taken.old }
+    ensures { (given later : List Tree) × HasTaken row_array.old point_array.old given later
+        row_array.new point_array.new taken.new
+        × EndsReading (session_limits session.old) blobs.now (given ++ later) result }
+{
     let mut used = 0;
     while used < blobs.len() {
-        match session.feed_flat(&blobs[used..]) {
-            Ok((more, true)) => {
-                used += more;
-                take_geometry(session.rows(), rows, points, taken);
-            }
-            Ok((more, false)) => used += more,
+        match read_next(blobs, used, session, row_array, point_array, taken) {
+            Ok(next) => used = next,
             Err(fault) => return Err(fault),
         }
     }

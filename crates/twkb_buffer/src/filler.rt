@@ -27,9 +27,8 @@ impl<'a> Filler<'a> {
     }
 }
 
-/// Copies bytes into a slice from a place on, as many as fit, and returns their number. Takes no
-/// memory.
-pub fn copy_at(start: usize, from: &[u8], to: &mut [u8]) -> usize
+// Copies bytes into a slice from a place on, as many as fit, and returns their number.
+fn copy_at(start: usize, from: &[u8], to: &mut [u8]) -> usize
     requires { start ≤ length to.old }
     ensures given { result ≤ length from.now }
     ensures fits { start + result ≤ length to.old }

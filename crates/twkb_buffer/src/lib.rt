@@ -10,12 +10,11 @@ mod reason_numbers;
 mod reason_texts;
 mod report;
 
-pub use filler::copy_at;
 pub use filling::fill;
 pub use measuring::measure;
 pub use point::BufferPoint;
 pub use polylines::{as_coordinates, fill_points, fill_polyline};
 pub use reason_numbers::blob_number;
-pub use reason_texts::{put_reason, put_version, put_words};
+pub use reason_texts::{put_reason, put_version};
 pub use report::BufferReport;
 pub use twkb_convert::Conversion;

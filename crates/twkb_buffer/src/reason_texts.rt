@@ -116,23 +116,15 @@ fn put(words: &[u8], text: &mut [u8])
     text[..count].copy_from_slice(&words[..count]);
 }
 
-/// Copies words of at most 31 bytes and a zero byte into a buffer, cut if there is too little
-/// room, and returns their length. Takes no memory.
-pub fn put_words(words: &[u8], text: &mut [u8]) -> usize
-    requires { length words.now ≤ 31 }
-    ensures { PutsText (λ put. put ≡ words.now) text.old text.new result }
-{
-    put(words, text);
-    words.len()
-}
-
 /// Copies the text of a reason and a zero byte into a buffer, cut if there is too little room,
 /// and returns its full length without that byte. A number that no reason has gives the empty
 /// text.
 pub fn put_reason(reason: u32, text: &mut [u8]) -> usize
     ensures { PutsText (AreWordsOf reason) text.old text.new result }
 {
-    put_words(words_of(reason).as_bytes(), text)
+    let words = words_of(reason).as_bytes();
+    put(words, text);
+    words.len()
 }
 
 /// Copies the version of the command and of the library, and a zero byte, into a buffer, cut if
@@ -140,5 +132,7 @@ pub fn put_reason(reason: u32, text: &mut [u8]) -> usize
 pub fn put_version(text: &mut [u8]) -> usize
     ensures { PutsText (λ words. words ≡ version_text) text.old text.new result }
 {
-    put_words(VERSION.as_bytes(), text)
+    let words = VERSION.as_bytes();
+    put(words, text);
+    words.len()
 }

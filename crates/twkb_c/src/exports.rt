@@ -5,16 +5,15 @@ ghost use Rattle.twkb_grammar.specs.declared.style.Style.{Style};
 ghost use Rattle.twkb_convert.specs.Version.{version_text};
 ghost use Rattle.twkb_buffer.specs.Conversions.{MeasuresOutput, PacksSlice, ShowsSlice, UnpacksSlice};
 ghost use Rattle.twkb_buffer.specs.Polylines.{DecodesSlice, EncodesSlice};
-ghost use Rattle.twkb_buffer.specs.Texts.{PutsText};
-ghost use Rattle.twkb_arrays.specs.Texts.{AreArrayWordsOf};
+ghost use Rattle.twkb_buffer.specs.Texts.{AreWordsOf, PutsText};
 ghost use Rattle.twkb_convert.specs.declared.conversion.Conversion.{Conversion};
 ghost use Rattle.twkb_c.specs.Arguments.{IsConversionNumber, IsStyleNumber, allowance_of, arguments_report};
 
 use crate::arguments::{BufferLimits, conversion_of, refused_arguments, style_of};
 use std::alloc::Global;
-use twkb_arrays::put_array_reason;
 use twkb_buffer::{
-    BufferPoint, BufferReport, Conversion, fill, fill_points, fill_polyline, measure, put_version,
+    BufferPoint, BufferReport, Conversion, fill, fill_points, fill_polyline, measure, put_reason,
+    put_version,
 };
 use twkb_tree::{NEST_STANDARD, NODES_CAP, POINTS_CAP};
 
@@ -147,9 +146,9 @@ pub extern "C" fn polytwkb_decode(
 /// Writes the text of a reason, with a zero byte after it. Takes no memory.
 #[unsafe(no_mangle)]
 pub extern "C" fn polytwkb_reason_text(reason: u32, text: &mut [u8]) -> usize
-    ensures { PutsText (AreArrayWordsOf reason) text.old text.new result }
+    ensures { PutsText (AreWordsOf reason) text.old text.new result }
 {
-    put_array_reason(reason, text)
+    put_reason(reason, text)
 }
 
 /// Writes the version of the library, with a zero byte after it. Takes no memory.
