@@ -32,8 +32,8 @@ LIMITS = {
 }
 # The crates that programs and people outside call; all other crates are internal.
 DOORS = [
-    "polytwkb", "twkb_blob", "twkb_buffer", "twkb_c", "twkb_command", "twkb_convert", "twkb_geom", "twkb_io",
-    "twkb_num", "twkb_points", "twkb_polyline", "twkb_table",
+    "polytwkb", "twkb_arrays", "twkb_blob", "twkb_buffer", "twkb_c", "twkb_command", "twkb_convert", "twkb_geom",
+    "twkb_io", "twkb_num", "twkb_points", "twkb_polyline", "twkb_table",
 ]
 DOOR, ROOM = 500, 250
 

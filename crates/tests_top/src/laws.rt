@@ -1,4 +1,5 @@
 //! Each law can be called.
+use twkb_arrays::laws as arrays;
 use twkb_convert::laws as conversions;
 use twkb_table::laws as tables;
 
@@ -18,6 +19,8 @@ fn laws_are_called() {
     conversions::packed_parts();
     conversions::unpacked_parts();
     conversions::shown_parts();
+    arrays::one_answer();
+    arrays::same_rows();
     tables::one_reading();
     tables::fronts();
     tables::parts();

@@ -1,8 +1,8 @@
 -- Rows and points that are written into arrays one after another.
-use Rattle.std.proofs.Common.{◌≡◌, ℕ, ◌+◌, ◌-◌, ◌<◌, ◌≤◌, List, [], ◌∷◌, ◌++◌, length, take, drop, map}
-use Rattle.std.proofs.Common.{refl, sym, ap, ◌∙◌, subst, arith, length-append, append_assoc}
-use Rattle.std.specs.Prelude.{slice_get, Some, flat_map, slice_set}
-use Rattle.std.proofs.lemmas.List.{take-append-drop, length-map, map-append, append-nil, take_more, take_more_set}
+use Rattle.std.proofs.Common.{◌≡◌, ℕ, ◌+◌, ◌<◌, ◌≤◌, List, [], ◌∷◌, ◌++◌, length, take, drop}
+use Rattle.std.proofs.Common.{refl, sym, ap, ◌∙◌, arith, length-append, append_assoc}
+use Rattle.std.specs.Prelude.{slice_get, Some, slice_set}
+use Rattle.std.proofs.lemmas.List.{take-append-drop, map-append, append-nil, take_more, take_more_set}
 use Rattle.std.proofs.lemmas.List.{length-set, take_at, drop-drop, drop_at, length-take-le, length-drop, take_all}
 use Rattle.std.proofs.lemmas.Option.{slice_get_within, get_or_from_slice_get}
 use Rattle.std.proofs.lemmas.Slice.{take-put_mid}
@@ -39,7 +39,8 @@ point_written own i p in_points within as_many so_far next =
 
 -- The first rows, with all their points, are at the start of two arrays as long as all rows and all
 -- points.
-pub record IsWritten (rs : List Row) (count first : ℕ) (in_rows : List BufferRow) (in_points : List BufferPoint) : Type 0 where
+pub record IsWritten (rs : List Row) (count first : ℕ) (in_rows : List BufferRow)
+    (in_points : List BufferPoint) : Type 0 where
   pub as_many_rows : length in_rows ≡ length rs
   pub as_many_points : length in_points ≡ length (row_points rs)
   pub rows_are : take count in_rows ≡ rows_in_c (take count rs)

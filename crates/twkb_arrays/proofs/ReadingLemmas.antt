@@ -1,6 +1,6 @@
 -- Streams that are read into arrays.
-use Rattle.std.proofs.Common.{◌≡◌, ℕ, ◌+◌, ◌-◌, ◌<◌, ◌≤◌, ◌^◌, ◌⊎◌, inl, inr, List, [], ◌∷◌, ◌++◌, length, take, drop}
-use Rattle.std.proofs.Common.{refl, sym, ap, ◌∙◌, subst, arith, length-append, append_assoc, Bool, true, false}
+use Rattle.std.proofs.Common.{◌≡◌, ℕ, ◌+◌, ◌-◌, ◌≤◌, inl, inr, List, [], ◌∷◌, ◌++◌, length, take, drop}
+use Rattle.std.proofs.Common.{sym, ap, ◌∙◌, subst, arith, length-append, append_assoc, Bool, true, false}
 use Rattle.std.specs.Prelude.{Result, Ok, Err, Some}
 use Rattle.std.proofs.lemmas.Bool.{false≢true}
 use Rattle.std.proofs.lemmas.List.{take-append-drop, take_rest, take_all, append-nil, length-drop}
@@ -8,17 +8,15 @@ use Rattle.std.proofs.Math.Seq.{take-add}
 use Rattle.twkb_tree.specs.Tree.{Tree}
 use Rattle.twkb_tree.specs.Limits.{Allowance}
 use Rattle.twkb_tree.specs.Rows.{rows}
-use Rattle.twkb_grammar.specs.Blob.{Stream}
 use Rattle.twkb_grammar.specs.Fault.{StreamFault}
 use Rattle.twkb_engine.specs.Stops.{reason_of}
-use Rattle.twkb_blob.specs.Faults.{RefusedAt}
 use Rattle.twkb_blob.specs.Sessions.{FedFlat, FedSession, Finished, Stands, session_limits, session_rows}
 use Rattle.twkb_blob.specs.declared.session.Session.{Session}
 use Rattle.twkb_blob.specs.declared.fault.BlobFault.{BlobFault}
 use Rattle.twkb_blob.specs.declared.fault.BlobFault.TheVariants as fault
 use Rattle.twkb_buffer.specs.declared.point.BufferPoint.{BufferPoint}
 use Rattle.twkb_arrays.specs.Taking.{HasTaken, TakesOne}
-use Rattle.twkb_arrays.specs.Reading.{BeginsWithBlobs, EndsReading, IsReading, StopsReading}
+use Rattle.twkb_arrays.specs.Reading.{BeginsWithBlobs, EndsReading, IsReading}
 use Rattle.twkb_arrays.specs.declared.row.BufferRow.{BufferRow}
 use Rattle.twkb_arrays.specs.declared.taking.Taken.{Taken}
 
@@ -35,7 +33,8 @@ begins bytes rest gs s at = (
 -- the bytes up to a place, and those after it
 both : (blobs piece : List ℕ) (used : ℕ) → piece ≡ take (length blobs - used) (drop used blobs)
     → take used blobs ++ piece ≡ blobs
-both blobs piece used is = ap (λ (b : List ℕ). take used blobs ++ b) (is ∙ take_rest blobs used) ∙ take-append-drop used blobs
+both blobs piece used is = ap (λ (b : List ℕ). take used blobs ++ b) (is ∙ take_rest blobs used)
+    ∙ take-append-drop used blobs
 
 -- the bytes up to a place, and the first of those after it
 some_more : (blobs piece : List ℕ) (used more : ℕ) → piece ≡ take (length blobs - used) (drop used blobs)
@@ -54,7 +53,12 @@ stopped l blobs piece used gs old new fault.Memory is at limits kept fed =
     (subst (λ (a : Allowance). BeginsWithBlobs a (take used blobs ++ piece) gs) (sym limits)
     (begins (take used blobs) piece gs old at))
 stopped l blobs piece used gs old new (fault.Device why) is at limits kept fed = (
-  omega (arith, fed.1.past, length-append (take used blobs) piece, ap (λ (b : List ℕ). length b) (both blobs piece used is)),
+  omega (
+    arith,
+    fed.1.past,
+    length-append (take used blobs) piece,
+    ap (λ (b : List ℕ). length b) (both blobs piece used is),
+  ),
   subst (λ (b : List ℕ). BeginsWithBlobs l b gs) (both blobs piece used is)
       (subst (λ (a : Allowance). BeginsWithBlobs a (take used blobs ++ piece) gs) (sym limits)
       (begins (take used blobs) piece gs old at)),
@@ -111,7 +115,8 @@ pub went_on : (start_rows : List BufferRow) (start_points : List BufferPoint) (b
     → IsReading start_rows start_points (take (used + more) blobs) in_rows in_points new taken
 went_on start_rows start_points blobs piece used more given later in_rows in_points new taken is all at h =
     let whole : take used blobs ++ piece ≡ take (used + more) blobs =
-    ap (λ (b : List ℕ). take used blobs ++ b) (sym (take_all more piece (omega arith))) ∙ some_more blobs piece used more is
+    ap (λ (b : List ℕ). take used blobs ++ b) (sym (take_all more piece (omega arith)))
+    ∙ some_more blobs piece used more is
     in (given, later, subst (λ (b : List ℕ). Stands b (given ++ later) new) whole at, h)
 
 -- a feed with which a geometry ended

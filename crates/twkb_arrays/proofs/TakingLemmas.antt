@@ -1,7 +1,6 @@
 -- Geometries that are taken into arrays.
 use Rattle.std.proofs.Common.{◌≡◌, ℕ, ◌+◌, ◌-◌, ◌<◌, ◌≤◌, ◌⊎◌, inl, inr, List, [], ◌∷◌, ◌++◌, length, take, drop}
-use Rattle.std.proofs.Common.{Bool, true, false, refl, sym, ap, ◌∙◌, subst, arith, length-append, append_assoc}
-use Rattle.std.specs.Prelude.{flat_map}
+use Rattle.std.proofs.Common.{Bool, true, false, refl, sym, ap, ◌∙◌, arith, length-append, append_assoc}
 use Rattle.std.proofs.lemmas.Bool.{false≢true}
 use Rattle.std.proofs.lemmas.List.{length-map, map-append, append-nil, length-drop}
 use Rattle.std.proofs.lemmas.Grind.{flat_map-append}
@@ -20,7 +19,8 @@ use Rattle.twkb_arrays.proofs.ArrayLemmas.{coordinates_of-append, laid_more, len
 -- ---- the rows and points of one more geometry
 
 pub rows_of-more : (gs : List Tree) (g : Tree) → rows_of (gs ++ g ∷ []) ≡ rows_of gs ++ rows 0 g
-rows_of-more gs g = flat_map-append (rows 0) gs (g ∷ []) ∙ ap (λ (xs : List Row). rows_of gs ++ xs) (append-nil (rows 0 g))
+rows_of-more gs g = flat_map-append (rows 0) gs (g ∷ [])
+    ∙ ap (λ (xs : List Row). rows_of gs ++ xs) (append-nil (rows 0 g))
 
 array_rows-more : (gs : List Tree) (g : Tree) → array_rows (gs ++ g ∷ []) ≡ array_rows gs ++ rows_in_c (rows 0 g)
 array_rows-more gs g = ap rows_in_c (rows_of-more gs g) ∙ map-append row_in_c (rows_of gs) (rows 0 g)
@@ -118,9 +118,11 @@ filled_more : (start_rows : List BufferRow) (start_points : List BufferPoint) (g
     → r ≡ length (rows_of given) → p ≡ length (row_points (rows_of given))
     → r + length form ≤ length in_rows → p + length (row_points form) ≤ length in_points
     → new_rows ≡ take r in_rows ++ (rows_in_c form ++ drop (r + length form) in_rows)
-    → new_points ≡ take p in_points ++ (coordinates_of (row_points form) ++ drop (p + length (row_points form)) in_points)
+    → new_points ≡ take p in_points
+    ++ (coordinates_of (row_points form) ++ drop (p + length (row_points form)) in_points)
     → IsFilled start_rows start_points (given ++ g ∷ []) new_rows new_points
-filled_more start_rows start_points given g form in_rows new_rows in_points new_points r p f same r_is p_is rows_fit points_fit rows_new points_new =
+filled_more start_rows start_points given g form in_rows new_rows in_points new_points r p f same r_is p_is
+    rows_fit points_fit rows_new points_new =
     let lengths = filled_lengths start_rows start_points given in_rows in_points f in
     let count : length (rows_of (given ++ g ∷ [])) ≡ r + length form =
     count_more given g form same ∙ ap (λ (n : ℕ). n + length form) (sym r_is) in
@@ -177,7 +179,7 @@ stops_here : (start_rows : List BufferRow) (start_points : List BufferPoint) (gi
 stops_here start_rows start_points given [] g more stops = stops
 stops_here start_rows start_points given (x ∷ xs) g more stops = absurd (false≢true (sym more))
 
-no_more : (later : List Tree) → are_more later ≡ false → later ≡ []
+pub no_more : (later : List Tree) → are_more later ≡ false → later ≡ []
 no_more [] e = refl
 no_more (x ∷ xs) e = absurd (false≢true (sym e))
 
@@ -227,7 +229,8 @@ pub lacking : (start_rows : List BufferRow) (start_points : List BufferPoint) (g
     → row_room ≡ length in_rows - mid.rows → point_room ≡ length in_points - mid.points
     → (row_room < n) ⊎ (point_room < m)
     → TakesOne start_rows start_points given later g in_rows in_points (record mid { full = true })
-lacking start_rows start_points given later g form in_rows in_points old mid n m row_room point_room h same n_is m_is is empty row_room_is point_room_is lacks =
+lacking start_rows start_points given later g form in_rows in_points old mid n m row_room point_room h same n_is
+    m_is is empty row_room_is point_room_is lacks =
     let lengths = filled_lengths start_rows start_points given in_rows in_points h.filled in
     let was : old.full ≡ false = sym (ap (λ (t : Taken). t.full) is) ∙ empty in
     let rows_are : mid.rows ≡ length (rows_of given) = ap (λ (t : Taken). t.rows) is ∙ h.rows_is in
@@ -255,7 +258,8 @@ pub taken_one : (start_rows : List BufferRow) (start_points : List BufferPoint) 
     ++ (coordinates_of (row_points form) ++ drop (mid.points + length (row_points form)) in_points)
     → new ≡ record mid { done = mid.done + 1; rows = mid.rows + n; points = mid.points + m }
     → TakesOne start_rows start_points given later g new_rows new_points new
-taken_one start_rows start_points given later g form in_rows new_rows in_points new_points old mid new n m h same n_is m_is is empty rows_fit points_fit rows_new points_new new_is =
+taken_one start_rows start_points given later g form in_rows new_rows in_points new_points old mid new n m h same
+    n_is m_is is empty rows_fit points_fit rows_new points_new new_is =
     let was : old.full ≡ false = sym (ap (λ (t : Taken). t.full) is) ∙ empty in
     let none : later ≡ [] = no_more later (sym h.full_is ∙ was) in
     let rows_are : mid.rows ≡ length (rows_of given) = ap (λ (t : Taken). t.rows) is ∙ h.rows_is in
@@ -266,7 +270,8 @@ taken_one start_rows start_points given later g form in_rows new_rows in_points 
     inl (
       none,
       record {
-        filled = filled_more start_rows start_points given g form in_rows new_rows in_points new_points mid.rows mid.points
+        filled = filled_more start_rows start_points given g form in_rows new_rows in_points new_points mid.rows
+            mid.points
             h.filled same rows_are points_are (omega arith) (omega arith) rows_new points_new;
         stops = tt;
         full_is = ap (λ (t : Taken). t.full) new_is ∙ empty;
@@ -285,7 +290,8 @@ taken_one start_rows start_points given later g form in_rows new_rows in_points 
           m_is,
           point_count_more given g form same,
         );
-        needed_rows_is = needed_more (given ++ later) g form old.needed_rows new.needed_rows n same h.needed_rows_is n_is
+        needed_rows_is = needed_more (given ++ later) g form old.needed_rows new.needed_rows n same
+            h.needed_rows_is n_is
             (ap (λ (t : Taken). t.needed_rows) new_is ∙ ap (λ (t : Taken). t.needed_rows) is)
             ∙ ap (λ (gs : List Tree). saturated (length (rows_of gs))) joined;
         needed_points_is = needed_points_more (given ++ later) g form old.needed_points new.needed_points m same

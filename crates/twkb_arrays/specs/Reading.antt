@@ -60,7 +60,8 @@ outcome_of full (Err (fault.At offset reason)) = unless_full full (1, blob_numbe
 
 -- What the counts of a call state: how it ended, the geometries in the arrays with their rows and
 -- points, and the rows and points of all geometries that were read.
-pub record CountsAs {A : Type 0} (given later : List Tree) (answer : Result A BlobFault) (counts : BufferCounts) : Type 0 where
+pub record CountsAs {A : Type 0} (given later : List Tree) (answer : Result A BlobFault)
+    (counts : BufferCounts) : Type 0 where
   pub status_is : counts.status ≡ (outcome_of (are_more later) answer).0
   pub reason_is : counts.reason ≡ (outcome_of (are_more later) answer).1
   pub place_is : counts.place ≡ (outcome_of (are_more later) answer).2

@@ -1,6 +1,7 @@
 //! Rows and points in arrays: read from blobs, and written as blobs, with no text between.
 #![tactic(auto)]
 
+pub mod laws;
 mod placing;
 mod reading;
 mod row;

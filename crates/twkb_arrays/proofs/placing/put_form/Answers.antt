@@ -1,5 +1,5 @@
-use Rattle.std.proofs.Common.{arith, rules, refl}
-use Rattle.twkb_arrays.proofs.ArrayLemmas.{points_left, written_all, written_more}
+use Rattle.std.proofs.Common.{arith, refl}
+use Rattle.twkb_arrays.proofs.ArrayLemmas.{points_left, written_more}
 use Rattle.twkb_flat.specs.Rows.{row_with}
 use Rattle.twkb_arrays.proofs.placing.put_form.Goals as goal
 

@@ -1,8 +1,4 @@
 -- The rows so far and their points are written at the start of the arrays.
-use Rattle.std.proofs.Common.{◌≡◌, length, take}
-use Rattle.twkb_tree.specs.Rows.{row_points}
-use Rattle.twkb_buffer.specs.Polylines.{coordinates_of}
-use Rattle.twkb_arrays.specs.Rows.{rows_in_c}
 use Rattle.twkb_arrays.proofs.ArrayLemmas.{IsWritten}
 use Rattle.twkb_arrays.proofs.placing.put_form.Given as goal
 

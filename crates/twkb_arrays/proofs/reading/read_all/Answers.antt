@@ -1,4 +1,4 @@
-use Rattle.std.proofs.Common.{ℕ, ◌++◌, arith, subst, take}
+use Rattle.std.proofs.Common.{ℕ, ◌++◌, subst, take}
 use Rattle.std.specs.Prelude.{Err}
 use Rattle.twkb_blob.specs.Sessions.{session_limits}
 use Rattle.twkb_tree.specs.Limits.{Allowance}

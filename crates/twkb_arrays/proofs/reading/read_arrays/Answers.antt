@@ -4,7 +4,12 @@ use Rattle.twkb_arrays.specs.Reading.{EndsReading}
 use Rattle.twkb_arrays.proofs.reading.read_arrays.Goals as goal
 
 pub read_all-answer-requires : goal.read_all-answer-requires
-read_all-answer-requires c = ([], [], c.new-session.ensures.stands, c.nothing-taken.ensures c.args.rows.now c.args.points.now)
+read_all-answer-requires c = (
+  [],
+  [],
+  c.new-session.ensures.stands,
+  c.nothing-taken.ensures c.args.rows.now c.args.points.now,
+)
 
 pub returns : goal.returns
 returns c =
