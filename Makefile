@@ -118,6 +118,9 @@ wasm-test: js/polytwkb.wasm out/libpolytwkb.so
 out/convert: examples/c/convert.c include/polytwkb.h out/libpolytwkb.a
 	$(CC) -std=c11 -O1 -g -Wall -Wextra -Werror -Iinclude -o $@ $< out/libpolytwkb.a
 
+out/arrays: examples/c/arrays.c include/polytwkb.h out/libpolytwkb.a
+	$(CC) -std=c11 -O1 -g -Wall -Wextra -Werror -Iinclude -o $@ $< out/libpolytwkb.a
+
 # The example in C, linked to the shared library.
 out/convert_shared: examples/c/convert.c include/polytwkb.h out/libpolytwkb.so
 	$(CC) -std=c11 -O1 -g -Wall -Wextra -Werror -Iinclude -o $@ $< -Lout -lpolytwkb -Wl,-rpath,'$$ORIGIN'
@@ -136,12 +139,13 @@ lib-bench: out/times out/libpolytwkb.so
 	out/times
 	POLYTWKB_LIBRARY=out/libpolytwkb.so PYTHONPATH=python python3 -B bench/library/times.py
 
-lib-test: lib out/convert out/convert_shared
+lib-test: lib out/convert out/convert_shared out/arrays
 	grep -qx '#define POLYTWKB_VERSION "$(VERSION)"' include/polytwkb.h || { echo "the header is not of version $(VERSION)" >&2; exit 1; }
 	if command -v $(CXX) > /dev/null; then $(CXX) -std=c++11 -Wall -Wextra -Werror -fsyntax-only -x c++ include/polytwkb.h; fi
 	out/convert
 	out/convert_shared
-	if command -v valgrind > /dev/null; then valgrind -q --error-exitcode=1 --leak-check=full out/convert; fi
+	out/arrays
+	if command -v valgrind > /dev/null; then valgrind -q --error-exitcode=1 --leak-check=full out/convert && valgrind -q --error-exitcode=1 --leak-check=full out/arrays; fi
 	examples/python/convert.py out/libpolytwkb.so
 	if command -v go > /dev/null; then $(MAKE) -s out/convert_go && LD_LIBRARY_PATH=out out/convert_go; else echo "skip  the library in Go: go is not there"; fi
 

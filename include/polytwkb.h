@@ -160,6 +160,58 @@ polytwkb_report polytwkb_encode(const polytwkb_point *points, size_t count, uint
  */
 polytwkb_report polytwkb_decode(const uint8_t *text, size_t length, polytwkb_point *points, size_t room);
 
+/* Kinds of rows: the numbers of TWKB and WKB, and one for the rings of polygons. */
+#define POLYTWKB_KIND_POINT 1u
+#define POLYTWKB_KIND_LINESTRING 2u
+#define POLYTWKB_KIND_POLYGON 3u
+#define POLYTWKB_KIND_MULTIPOINT 4u
+#define POLYTWKB_KIND_MULTILINESTRING 5u
+#define POLYTWKB_KIND_MULTIPOLYGON 6u
+#define POLYTWKB_KIND_COLLECTION 7u
+#define POLYTWKB_KIND_RING 8u
+
+/* The precision of a row that has none: of a ring, and of a member of a multi kind. */
+#define POLYTWKB_NO_PRECISION (-128)
+
+/*
+ * A row of a table, with the number of its points in place of their polyline. The rows of a geometry are in
+ * preorder, and the points of all rows are in one list, in the order of the rows. All 24 bytes have a meaning.
+ */
+typedef struct polytwkb_row {
+    int64_t id;       /* the id if has_id is 1, and 0 if it is 0 */
+    uint64_t points;  /* how many points are the row's own: the next ones of the list */
+    uint32_t depth;   /* 0: a geometry begins */
+    uint16_t kind;    /* POLYTWKB_KIND_POINT to POLYTWKB_KIND_RING */
+    uint8_t has_id;   /* 1 if the row has an id, 0 if it has none */
+    int8_t precision; /* -8 to 7 of a geometry and of a member of a collection, else POLYTWKB_NO_PRECISION */
+} polytwkb_row;
+
+/* What polytwkb_read did. */
+typedef struct polytwkb_counts {
+    uint32_t status;        /* POLYTWKB_DONE, _REFUSED, _ARGUMENTS, _MEMORY or _TOO_SMALL */
+    uint32_t reason;        /* why the stream is refused, 41 to 49 or 61; 0 if it is not */
+    uint64_t place;         /* the offset of the refused item; else 0 */
+    uint64_t done;          /* geometries in the arrays */
+    uint64_t rows;          /* rows at the start of their array */
+    uint64_t points;        /* points at the start of their array */
+    uint64_t needed_rows;   /* rows and points of all geometries that were read: for POLYTWKB_TOO_SMALL */
+    uint64_t needed_points; /* those that would do, and for 0 and 1 as many as rows and points */
+} polytwkb_counts;
+
+/*
+ * Reads a stream of blobs into an array of rows and one of points. Status 0: the arrays have all rows that
+ * polytwkb_unpack prints, and their points. 1: they have those of the geometries before the refused blob; reason
+ * and place are those of polytwkb_unpack. 5: an array is too small for a geometry: the arrays have the geometries
+ * before it, nothing of it and of those after it, and the counts say how many rows and points would do; they are
+ * those of the geometries before the refused blob if there is one further on. 4: memory was refused; the arrays
+ * have the geometries before that for which there was room. Places after those written stay as they were.
+ *
+ * Arrays of length rows and length / 2 points always do. To count first, give rooms of 0. Takes memory for one
+ * geometry.
+ */
+polytwkb_counts polytwkb_read(const uint8_t *blobs, size_t length, polytwkb_row *rows, size_t row_room,
+                              polytwkb_point *points, size_t point_room, polytwkb_limits limits);
+
 /*
  * Writes what a reason means in English, as the command says it on standard error: "bad header" for
  * POLYTWKB_BAD_HEADER, without the place. The text of a number that is no reason is empty, and so is
@@ -220,6 +272,15 @@ static inline polytwkb_report polytwkb_decode_any(const uint8_t *text, size_t le
     return polytwkb_decode(polytwkb_input(text, length), length, room == 0 ? &none : points, room);
 }
 
+static inline polytwkb_counts polytwkb_read_any(const uint8_t *blobs, size_t length, polytwkb_row *rows,
+                                                size_t row_room, polytwkb_point *points, size_t point_room,
+                                                polytwkb_limits limits) {
+    static polytwkb_row no_row;
+    static polytwkb_point no_point;
+    return polytwkb_read(polytwkb_input(blobs, length), length, row_room == 0 ? &no_row : rows, row_room,
+                         point_room == 0 ? &no_point : points, point_room, limits);
+}
+
 static inline size_t polytwkb_reason_text_any(uint32_t reason, char *text, size_t room) {
     return polytwkb_reason_text(reason, (char *)polytwkb_output((uint8_t *)text, room), room);
 }
@@ -234,6 +295,7 @@ static inline size_t polytwkb_version_any(char *text, size_t room) {
 #define polytwkb_measure polytwkb_measure_any
 #define polytwkb_encode polytwkb_encode_any
 #define polytwkb_decode polytwkb_decode_any
+#define polytwkb_read polytwkb_read_any
 #define polytwkb_reason_text polytwkb_reason_text_any
 #define polytwkb_version polytwkb_version_any
 

@@ -3,6 +3,8 @@
 #![tactic(auto)]
 
 #[cfg(test)]
+mod arrays;
+#[cfg(test)]
 mod buffers;
 #[cfg(test)]
 mod callers;

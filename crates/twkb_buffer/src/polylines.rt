@@ -38,8 +38,9 @@ fn points_at(alloc: Global, given: &[BufferPoint]) -> Result<Vec<Pt>, PolyFault>
     Ok(points)
 }
 
-// The coordinates of a point.
-fn as_coordinates(point: Pt) -> BufferPoint
+/// The coordinates of a point. Takes no memory.
+#[inline(always)]
+pub fn as_coordinates(point: Pt) -> BufferPoint
     ensures { result ≡ coordinates_at point }
 {
     BufferPoint {

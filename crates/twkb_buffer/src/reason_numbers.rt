@@ -60,8 +60,8 @@ fn row_number(reason: RowReason) -> u32
     }
 }
 
-// The reasons for which a blob is refused are numbered from 41 to 49.
-fn blob_number(reason: BlobReason) -> u32
+/// The number of the reason for which a blob is refused, 41 to 49. Takes no memory.
+pub fn blob_number(reason: BlobReason) -> u32
     ensures { result ≡ blob_number_of reason }
 {
     match reason {

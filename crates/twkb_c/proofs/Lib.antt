@@ -1,1 +1,2 @@
+pub mod ArrayExports
 pub mod ExportLemmas

@@ -6,6 +6,7 @@ use Rattle.twkb_grammar.specs.declared.style.Style.TheVariants.{Full, Plain}
 use Rattle.twkb_convert.specs.declared.conversion.Conversion.{Conversion}
 use Rattle.twkb_convert.specs.declared.conversion.Conversion.TheVariants as conversion
 use Rattle.twkb_buffer.specs.declared.report.BufferReport.{BufferReport}
+use Rattle.twkb_arrays.specs.declared.reading.BufferCounts.{BufferCounts}
 use Rattle.twkb_c.specs.declared.arguments.BufferLimits.{BufferLimits}
 
 -- the number of a style
@@ -26,3 +27,16 @@ allowance_of limits = record { nest = limits.nest; nodes = limits.nodes; points 
 -- the report of arguments that are out of range
 abbrev pub arguments_report : BufferReport
 arguments_report = record { status = 2; reason = 0; place = 0; text_offset = 0; done = 0; sent = 0; needed = 0 }
+
+-- the counts of arguments that are out of range
+abbrev pub arguments_counts : BufferCounts
+arguments_counts = record {
+  status = 2;
+  reason = 0;
+  place = 0;
+  done = 0;
+  rows = 0;
+  points = 0;
+  needed_rows = 0;
+  needed_points = 0;
+}

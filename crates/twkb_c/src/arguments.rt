@@ -1,8 +1,10 @@
 //! Limits, styles and conversions, as C passes them.
 ghost use Rattle.std.specs.Prelude.{◌≡◌, ◌≢◌, ◌↔◌, IsSome, IfSome, IsNone};
 ghost use Rattle.twkb_tree.specs.Limits.{IsAllowance};
-ghost use Rattle.twkb_c.specs.Arguments.{IsConversionNumber, IsStyleNumber, allowance_of, arguments_report};
+ghost use Rattle.twkb_c.specs.Arguments.{IsConversionNumber, IsStyleNumber, allowance_of, arguments_counts};
+ghost use Rattle.twkb_c.specs.Arguments.{arguments_report};
 
+use twkb_arrays::BufferCounts;
 use twkb_buffer::{BufferReport, Conversion};
 use twkb_convert::{Limits, Style};
 
@@ -68,5 +70,21 @@ pub(crate) fn refused_arguments() -> BufferReport
         done: 0,
         sent: 0,
         needed: 0,
+    }
+}
+
+// The counts of refused arguments.
+pub(crate) fn refused_counts() -> BufferCounts
+    ensures { result ≡ arguments_counts }
+{
+    BufferCounts {
+        status: ARGUMENTS,
+        reason: 0,
+        place: 0,
+        done: 0,
+        rows: 0,
+        points: 0,
+        needed_rows: 0,
+        needed_points: 0,
     }
 }

@@ -2,4 +2,5 @@
 #![tactic(auto)]
 
 mod arguments;
+pub mod arrays;
 pub mod exports;

@@ -1,0 +1,4 @@
+pub mod ArrayLemmas
+pub mod ReadingLaws
+pub mod ReadingLemmas
+pub mod TakingLemmas

@@ -1,0 +1,80 @@
+-- Streams have one reading into arrays, which has the rows of the text that they are unpacked to.
+use Rattle.std.proofs.Common.{◌≡◌, ◌∙◌, ℕ, ◌≤◌, ◌^◌, ◌⊎◌, inl, inr, List, [], ◌++◌, length, Bool, true, false}
+use Rattle.std.proofs.Common.{refl, sym, ap, subst, arith}
+use Rattle.std.specs.Prelude.{Result, Ok, Err, ◌≢◌}
+use Rattle.std.proofs.lemmas.List.{append-nil}
+use Rattle.twkb_tree.specs.Tree.{Tree}
+use Rattle.twkb_tree.specs.Limits.{Allowance}
+use Rattle.twkb_tree.specs.Rows.{rows_of}
+use Rattle.twkb_grammar.specs.Blob.{Stream}
+use Rattle.twkb_grammar.proofs.Streams.{no_stream, one_stream}
+use Rattle.twkb_engine.specs.Stops.{reason_of}
+use Rattle.twkb_blob.specs.declared.fault.BlobFault.{BlobFault}
+use Rattle.twkb_blob.specs.declared.fault.BlobFault.TheVariants as fault
+use Rattle.twkb_convert.specs.Outputs.{table_text}
+use Rattle.twkb_buffer.specs.Slices.{UnpackedSlice}
+use Rattle.twkb_buffer.specs.declared.point.BufferPoint.{BufferPoint}
+use Rattle.twkb_arrays.specs.Reading.{EndsReading, ReadsArrays, outcome_of}
+use Rattle.twkb_arrays.specs.SameRows.{AreSameRows}
+use Rattle.twkb_arrays.specs.Taking.{are_more}
+use Rattle.twkb_arrays.specs.declared.reading.BufferCounts.{BufferCounts}
+use Rattle.twkb_arrays.specs.declared.row.BufferRow.{BufferRow}
+use Rattle.twkb_arrays.proofs.TakingLemmas.{no_more}
+
+-- how the reading of a stream may end
+by_answer : (l : Allowance) (bytes : List ℕ) (hs gs : List Tree) (full : Bool)
+    (answer : Result (Unit {0}) BlobFault) (status : ℕ) → status ≡ (outcome_of full answer).0
+    → EndsReading l bytes hs answer → Stream l bytes gs → length bytes ≤ 2 ^ 62
+    → (status ≡ 4) ⊎ ((hs ≡ gs) × (status ≢ 1))
+by_answer l bytes hs gs false (Ok done) status is ends s few = inr
+    (one_stream l bytes hs gs ends s, λ e. omega (arith, is, e))
+by_answer l bytes hs gs true (Ok done) status is ends s few = inr
+    (one_stream l bytes hs gs ends s, λ e. omega (arith, is, e))
+by_answer l bytes hs gs full (Err fault.Memory) status is ends s few = inl is
+by_answer l bytes hs gs full (Err fault.Spent) status is ends s few = inl is
+by_answer l bytes hs gs full (Err (fault.Device why)) status is ends s few =
+    let long = ends.0 in
+    absurd (omega (arith, long, few))
+by_answer l bytes hs gs full (Err (fault.At offset reason)) status is ends s few =
+    absurd (no_stream l ends.front ends.rest hs gs ends.within (reason_of reason) ends.blobs ends.first.fault
+    (subst (λ (b : List ℕ). Stream l b gs) ends.whole s))
+
+pub all_read : (l : Allowance) (bytes : List ℕ) (old_rows new_rows : List BufferRow)
+    (old_points new_points : List BufferPoint) (counts : BufferCounts) (gs : List Tree)
+    (read : ReadsArrays l bytes old_rows old_points new_rows new_points counts)
+    → Stream l bytes gs → length bytes ≤ 2 ^ 62
+    → (counts.status ≡ 4) ⊎ ((read.given ++ read.later ≡ gs) × (counts.status ≢ 1))
+all_read l bytes old_rows new_rows old_points new_points counts gs read s few =
+    by_answer l bytes (read.given ++ read.later) gs (are_more read.later) read.answer counts.status
+    read.counted.status_is read.ended s few
+
+-- a reading with status 0 had room for all, and came to the end of a stream
+status_zero : (l : Allowance) (bytes : List ℕ) (gs : List Tree) (full : Bool)
+    (answer : Result (Unit {0}) BlobFault) → (outcome_of full answer).0 ≡ 0 → EndsReading l bytes gs answer
+    → (full ≡ false) × Stream l bytes gs
+status_zero l bytes gs false (Ok done) e ends = (refl, ends)
+status_zero l bytes gs true (Ok done) e ends = absurd (omega (arith, e))
+status_zero l bytes gs full (Err fault.Memory) e ends = absurd (omega (arith, e))
+status_zero l bytes gs full (Err fault.Spent) e ends = absurd (omega (arith, e))
+status_zero l bytes gs false (Err (fault.Device why)) e ends = absurd (omega (arith, e))
+status_zero l bytes gs true (Err (fault.Device why)) e ends = absurd (omega (arith, e))
+status_zero l bytes gs false (Err (fault.At offset reason)) e ends = absurd (omega (arith, e))
+status_zero l bytes gs true (Err (fault.At offset reason)) e ends = absurd (omega (arith, e))
+
+pub rows_of_text : (l : Allowance) (bytes : List ℕ) (old_rows new_rows : List BufferRow)
+    (old_points new_points : List BufferPoint) (counts : BufferCounts) (text : List ℕ) (done : ℕ)
+    → ReadsArrays l bytes old_rows old_points new_rows new_points counts → counts.status ≡ 0
+    → UnpackedSlice l bytes text done → AreSameRows text old_rows old_points new_rows new_points
+rows_of_text l bytes old_rows new_rows old_points new_points counts text done read zero unpacked =
+    let end = status_zero l bytes (read.given ++ read.later) (are_more read.later) read.answer
+    (sym read.counted.status_is ∙ zero) read.ended in
+    let none : read.later ≡ [] = no_more read.later end.0 in
+    let whole : Stream l bytes read.given = subst (λ (gs : List Tree). Stream l bytes gs)
+    (ap (λ (gs : List Tree). read.given ++ gs) none ∙ append-nil read.given) end.1 in
+    let same : unpacked.found ≡ read.given = one_stream l bytes unpacked.found read.given unpacked.stream_is whole in
+    record {
+      rs = rows_of read.given;
+      text_is = unpacked.written_is ∙ ap table_text same;
+      rows_are = read.filled.rows_are;
+      points_are = read.filled.points_are;
+    }

@@ -1,0 +1,302 @@
+-- Geometries that are taken into arrays.
+use Rattle.std.proofs.Common.{◌≡◌, ℕ, ◌+◌, ◌-◌, ◌<◌, ◌≤◌, ◌⊎◌, inl, inr, List, [], ◌∷◌, ◌++◌, length, take, drop}
+use Rattle.std.proofs.Common.{Bool, true, false, refl, sym, ap, ◌∙◌, arith, length-append, append_assoc}
+use Rattle.std.proofs.lemmas.Bool.{false≢true}
+use Rattle.std.proofs.lemmas.List.{length-map, map-append, append-nil, length-drop}
+use Rattle.std.proofs.lemmas.Grind.{flat_map-append}
+use Rattle.twkb_points.specs.Point.{Point}
+use Rattle.twkb_tree.specs.Tree.{Tree, simple, collection, saturated}
+use Rattle.twkb_tree.specs.Rows.{Row, rows, rows_of, row_points}
+use Rattle.twkb_flat.proofs.FlatLaws.{reads_join}
+use Rattle.twkb_buffer.specs.Polylines.{coordinates_of}
+use Rattle.twkb_buffer.specs.declared.point.BufferPoint.{BufferPoint}
+use Rattle.twkb_arrays.specs.Rows.{array_points, array_rows, row_in_c, rows_in_c}
+use Rattle.twkb_arrays.specs.Taking.{HasTaken, IsFilled, IsWithin, StopsBefore, TakesOne, are_more}
+use Rattle.twkb_arrays.specs.declared.row.BufferRow.{BufferRow}
+use Rattle.twkb_arrays.specs.declared.taking.Taken.{Taken}
+use Rattle.twkb_arrays.proofs.ArrayLemmas.{coordinates_of-append, laid_more, length-coordinates_of, row_points-append}
+
+-- ---- the rows and points of one more geometry
+
+pub rows_of-more : (gs : List Tree) (g : Tree) → rows_of (gs ++ g ∷ []) ≡ rows_of gs ++ rows 0 g
+rows_of-more gs g = flat_map-append (rows 0) gs (g ∷ [])
+    ∙ ap (λ (xs : List Row). rows_of gs ++ xs) (append-nil (rows 0 g))
+
+array_rows-more : (gs : List Tree) (g : Tree) → array_rows (gs ++ g ∷ []) ≡ array_rows gs ++ rows_in_c (rows 0 g)
+array_rows-more gs g = ap rows_in_c (rows_of-more gs g) ∙ map-append row_in_c (rows_of gs) (rows 0 g)
+
+points_of-more : (gs : List Tree) (g : Tree)
+    → row_points (rows_of (gs ++ g ∷ [])) ≡ row_points (rows_of gs) ++ row_points (rows 0 g)
+points_of-more gs g = ap row_points (rows_of-more gs g) ∙ row_points-append (rows_of gs) (rows 0 g)
+
+array_points-more : (gs : List Tree) (g : Tree)
+    → array_points (gs ++ g ∷ []) ≡ array_points gs ++ coordinates_of (row_points (rows 0 g))
+array_points-more gs g = ap coordinates_of (points_of-more gs g)
+    ∙ coordinates_of-append (row_points (rows_of gs)) (row_points (rows 0 g))
+
+-- a geometry has a row
+pub some_rows : (g : Tree) → 0 < length (rows 0 g)
+some_rows (simple p s) = omega arith
+some_rows (collection p ids gs) = omega arith
+
+-- there are no more geometries than rows
+few_geometries : (gs : List Tree) → length gs ≤ length (rows_of gs)
+few_geometries [] = omega arith
+few_geometries (g ∷ gs) = omega (arith, length-append (rows 0 g) (rows_of gs), some_rows g, few_geometries gs)
+
+count_more : (gs : List Tree) (g : Tree) (form : List Row) → rows 0 g ≡ form
+    → length (rows_of (gs ++ g ∷ [])) ≡ length (rows_of gs) + length form
+count_more gs g form same = ap (λ (xs : List Row). length xs) (rows_of-more gs g)
+    ∙ length-append (rows_of gs) (rows 0 g) ∙ ap (λ (xs : List Row). length (rows_of gs) + length xs) same
+
+point_count_more : (gs : List Tree) (g : Tree) (form : List Row) → rows 0 g ≡ form
+    → length (row_points (rows_of (gs ++ g ∷ []))) ≡ length (row_points (rows_of gs)) + length (row_points form)
+point_count_more gs g form same = ap (λ (xs : List Point). length xs) (points_of-more gs g)
+    ∙ length-append (row_points (rows_of gs)) (row_points (rows 0 g))
+    ∙ ap (λ (xs : List Row). length (row_points (rows_of gs)) + length (row_points xs)) same
+
+-- the number of rows that are needed
+needed_more : (gs : List Tree) (g : Tree) (form : List Row) (n m k : ℕ) → rows 0 g ≡ form
+    → n ≡ saturated (length (rows_of gs)) → k ≡ length form → m ≡ saturated (n + k)
+    → m ≡ saturated (length (rows_of (gs ++ g ∷ [])))
+needed_more gs g form n m k same was count is =
+    is ∙ ap (λ (j : ℕ). saturated (n + j)) count
+    ∙ ap (λ (j : ℕ). saturated (j + length form)) was
+    ∙ reads_join (length (rows_of gs)) (length form)
+    ∙ ap saturated (sym (count_more gs g form same))
+
+-- the number of points that are needed
+needed_points_more : (gs : List Tree) (g : Tree) (form : List Row) (n m k : ℕ) → rows 0 g ≡ form
+    → n ≡ saturated (length (row_points (rows_of gs))) → k ≡ length (row_points form) → m ≡ saturated (n + k)
+    → m ≡ saturated (length (row_points (rows_of (gs ++ g ∷ []))))
+needed_points_more gs g form n m k same was count is =
+    is ∙ ap (λ (j : ℕ). saturated (n + j)) count
+    ∙ ap (λ (j : ℕ). saturated (j + length (row_points form))) was
+    ∙ reads_join (length (row_points (rows_of gs))) (length (row_points form))
+    ∙ ap saturated (sym (point_count_more gs g form same))
+
+-- ---- the arrays
+
+-- arrays that are filled are as long as they were
+filled_lengths : (start_rows : List BufferRow) (start_points : List BufferPoint) (gs : List Tree)
+    (in_rows : List BufferRow) (in_points : List BufferPoint) → IsFilled start_rows start_points gs in_rows in_points
+    → (length in_rows ≡ length start_rows) × (length in_points ≡ length start_points)
+filled_lengths start_rows start_points gs in_rows in_points f = (
+  omega (
+    arith,
+    f.room,
+    ap (λ (xs : List BufferRow). length xs) f.rows_are,
+    length-append (array_rows gs) (drop (length (rows_of gs)) start_rows),
+    length-map (rows_of gs) row_in_c,
+    length-drop (length (rows_of gs)) start_rows,
+  ),
+  omega (
+    arith,
+    f.room,
+    ap (λ (xs : List BufferPoint). length xs) f.points_are,
+    length-append (array_points gs) (drop (length (row_points (rows_of gs))) start_points),
+    length-coordinates_of (row_points (rows_of gs)),
+    length-drop (length (row_points (rows_of gs))) start_points,
+  ),
+)
+
+pub within : (start_rows : List BufferRow) (start_points : List BufferPoint) (given later : List Tree)
+    (in_rows : List BufferRow) (in_points : List BufferPoint) (taken : Taken)
+    → HasTaken start_rows start_points given later in_rows in_points taken → IsWithin in_rows in_points taken
+within start_rows start_points given later in_rows in_points taken h =
+    let lengths = filled_lengths start_rows start_points given in_rows in_points h.filled in
+    record {
+      rows_fit = omega (arith, h.filled.room, h.rows_is, lengths);
+      points_fit = omega (arith, h.filled.room, h.points_is, lengths);
+      few = omega (arith, h.done_is, h.rows_is, few_geometries given);
+    }
+
+-- one more geometry is written after those before it
+filled_more : (start_rows : List BufferRow) (start_points : List BufferPoint) (given : List Tree) (g : Tree)
+    (form : List Row) (in_rows new_rows : List BufferRow) (in_points new_points : List BufferPoint) (r p : ℕ)
+    → IsFilled start_rows start_points given in_rows in_points → rows 0 g ≡ form
+    → r ≡ length (rows_of given) → p ≡ length (row_points (rows_of given))
+    → r + length form ≤ length in_rows → p + length (row_points form) ≤ length in_points
+    → new_rows ≡ take r in_rows ++ (rows_in_c form ++ drop (r + length form) in_rows)
+    → new_points ≡ take p in_points
+    ++ (coordinates_of (row_points form) ++ drop (p + length (row_points form)) in_points)
+    → IsFilled start_rows start_points (given ++ g ∷ []) new_rows new_points
+filled_more start_rows start_points given g form in_rows new_rows in_points new_points r p f same r_is p_is
+    rows_fit points_fit rows_new points_new =
+    let lengths = filled_lengths start_rows start_points given in_rows in_points f in
+    let count : length (rows_of (given ++ g ∷ [])) ≡ r + length form =
+    count_more given g form same ∙ ap (λ (n : ℕ). n + length form) (sym r_is) in
+    let point_count : length (row_points (rows_of (given ++ g ∷ []))) ≡ p + length (row_points form) =
+    point_count_more given g form same ∙ ap (λ (n : ℕ). n + length (row_points form)) (sym p_is) in
+    record {
+      rows_are = rows_new
+          ∙ laid_more start_rows (array_rows given) (rows_in_c form) in_rows r (length form)
+          (r_is ∙ sym (length-map (rows_of given) row_in_c)) (sym (length-map form row_in_c))
+          (f.rows_are ∙ ap (λ (n : ℕ). array_rows given ++ drop n start_rows) (sym r_is))
+          ∙ ap (λ (xs : List Row). (array_rows given ++ rows_in_c xs) ++ drop (r + length form) start_rows) (sym same)
+          ∙ ap (λ (xs : List BufferRow). xs ++ drop (r + length form) start_rows) (sym (array_rows-more given g))
+          ∙ ap (λ (n : ℕ). array_rows (given ++ g ∷ []) ++ drop n start_rows) (sym count);
+      points_are = points_new
+          ∙ laid_more start_points (array_points given) (coordinates_of (row_points form)) in_points p
+          (length (row_points form))
+          (p_is ∙ sym (length-coordinates_of (row_points (rows_of given))))
+          (sym (length-coordinates_of (row_points form)))
+          (f.points_are ∙ ap (λ (n : ℕ). array_points given ++ drop n start_points) (sym p_is))
+          ∙ ap (λ (xs : List Row). (array_points given ++ coordinates_of (row_points xs))
+          ++ drop (p + length (row_points form)) start_points) (sym same)
+          ∙ ap (λ (xs : List BufferPoint). xs ++ drop (p + length (row_points form)) start_points)
+          (sym (array_points-more given g))
+          ∙ ap (λ (n : ℕ). array_points (given ++ g ∷ []) ++ drop n start_points) (sym point_count);
+      room = (omega (arith, count, lengths), omega (arith, point_count, lengths));
+    }
+
+-- ---- what was taken
+
+-- a geometry was read that has this many rows and points
+abbrev pub counted_with : Taken → ℕ → ℕ → Taken
+counted_with t n m = record {
+  done = t.done;
+  rows = t.rows;
+  points = t.points;
+  needed_rows = saturated (t.needed_rows + n);
+  needed_points = saturated (t.needed_points + m);
+  full = t.full;
+}
+
+more_stay : (later : List Tree) (g : Tree) → are_more (later ++ g ∷ []) ≡ true
+more_stay [] g = refl
+more_stay (x ∷ xs) g = refl
+
+stops_as_before : (start_rows : List BufferRow) (start_points : List BufferPoint) (given later : List Tree)
+    (g : Tree) → are_more later ≡ true → StopsBefore start_rows start_points given later
+    → StopsBefore start_rows start_points given (later ++ g ∷ [])
+stops_as_before start_rows start_points given [] g more stops = absurd (false≢true more)
+stops_as_before start_rows start_points given (x ∷ xs) g more stops = stops
+
+stops_here : (start_rows : List BufferRow) (start_points : List BufferPoint) (given later : List Tree)
+    (g : Tree) → are_more later ≡ false → StopsBefore start_rows start_points given (g ∷ [])
+    → StopsBefore start_rows start_points given (later ++ g ∷ [])
+stops_here start_rows start_points given [] g more stops = stops
+stops_here start_rows start_points given (x ∷ xs) g more stops = absurd (false≢true (sym more))
+
+pub no_more : (later : List Tree) → are_more later ≡ false → later ≡ []
+no_more [] e = refl
+no_more (x ∷ xs) e = absurd (false≢true (sym e))
+
+-- one more geometry was counted, and not taken
+not_taken : (start_rows : List BufferRow) (start_points : List BufferPoint) (given later : List Tree)
+    (g : Tree) (form : List Row) (in_rows : List BufferRow) (in_points : List BufferPoint) (old new : Taken) (n m : ℕ)
+    → HasTaken start_rows start_points given later in_rows in_points old → rows 0 g ≡ form
+    → n ≡ length form → m ≡ length (row_points form)
+    → StopsBefore start_rows start_points given (later ++ g ∷ [])
+    → new ≡ record (counted_with old n m) { full = true }
+    → HasTaken start_rows start_points given (later ++ g ∷ []) in_rows in_points new
+not_taken start_rows start_points given later g form in_rows in_points old new n m h same n_is m_is stops is =
+    let joined : (given ++ later) ++ g ∷ [] ≡ given ++ (later ++ g ∷ []) = append_assoc given later (g ∷ []) in
+    record {
+      filled = h.filled;
+      stops = stops;
+      full_is = ap (λ (t : Taken). t.full) is ∙ sym (more_stay later g);
+      done_is = ap (λ (t : Taken). t.done) is ∙ h.done_is;
+      rows_is = ap (λ (t : Taken). t.rows) is ∙ h.rows_is;
+      points_is = ap (λ (t : Taken). t.points) is ∙ h.points_is;
+      needed_rows_is = needed_more (given ++ later) g form old.needed_rows new.needed_rows n same h.needed_rows_is n_is
+          (ap (λ (t : Taken). t.needed_rows) is)
+          ∙ ap (λ (gs : List Tree). saturated (length (rows_of gs))) joined;
+      needed_points_is = needed_points_more (given ++ later) g form old.needed_points new.needed_points m same
+          h.needed_points_is m_is (ap (λ (t : Taken). t.needed_points) is)
+          ∙ ap (λ (gs : List Tree). saturated (length (row_points (rows_of gs)))) joined;
+    }
+
+-- one more geometry was counted, after others that were not taken
+pub passed : (start_rows : List BufferRow) (start_points : List BufferPoint) (given later : List Tree)
+    (g : Tree) (form : List Row) (in_rows : List BufferRow) (in_points : List BufferPoint) (old new : Taken) (n m : ℕ)
+    → HasTaken start_rows start_points given later in_rows in_points old → rows 0 g ≡ form
+    → n ≡ length form → m ≡ length (row_points form) → new ≡ counted_with old n m → new.full ≡ true
+    → TakesOne start_rows start_points given later g in_rows in_points new
+passed start_rows start_points given later g form in_rows in_points old new n m h same n_is m_is is full =
+    let was : old.full ≡ true = sym (ap (λ (t : Taken). t.full) is) ∙ full in
+    inr (not_taken start_rows start_points given later g form in_rows in_points old new n m h same n_is m_is
+    (stops_as_before start_rows start_points given later g (sym h.full_is ∙ was) h.stops)
+    (is ∙ ap (λ (b : Bool). record (counted_with old n m) { full = b }) was))
+
+-- one more geometry was counted, and there is no room for it
+pub lacking : (start_rows : List BufferRow) (start_points : List BufferPoint) (given later : List Tree)
+    (g : Tree) (form : List Row) (in_rows : List BufferRow) (in_points : List BufferPoint) (old mid : Taken)
+    (n m row_room point_room : ℕ)
+    → HasTaken start_rows start_points given later in_rows in_points old → rows 0 g ≡ form
+    → n ≡ length form → m ≡ length (row_points form) → mid ≡ counted_with old n m → mid.full ≡ false
+    → row_room ≡ length in_rows - mid.rows → point_room ≡ length in_points - mid.points
+    → (row_room < n) ⊎ (point_room < m)
+    → TakesOne start_rows start_points given later g in_rows in_points (record mid { full = true })
+lacking start_rows start_points given later g form in_rows in_points old mid n m row_room point_room h same n_is
+    m_is is empty row_room_is point_room_is lacks =
+    let lengths = filled_lengths start_rows start_points given in_rows in_points h.filled in
+    let was : old.full ≡ false = sym (ap (λ (t : Taken). t.full) is) ∙ empty in
+    let rows_are : mid.rows ≡ length (rows_of given) = ap (λ (t : Taken). t.rows) is ∙ h.rows_is in
+    let points_are : mid.points ≡ length (row_points (rows_of given)) = ap (λ (t : Taken). t.points) is ∙ h.points_is in
+    let count = count_more given g form same in
+    let point_count = point_count_more given g form same in
+    let stops : StopsBefore start_rows start_points given (g ∷ []) = elim lacks [
+      | inl few ↦ inl (omega (arith, few, count, lengths, rows_are, n_is, row_room_is, h.filled.room))
+      | inr few ↦ inr (omega (arith, few, point_count, lengths, points_are, m_is, point_room_is, h.filled.room))
+    ] in
+    inr (not_taken start_rows start_points given later g form in_rows in_points old (record mid { full = true }) n m h
+    same n_is m_is
+    (stops_here start_rows start_points given later g (sym h.full_is ∙ was) stops)
+    (ap (λ (t : Taken). record t { full = true }) is))
+
+-- one more geometry was taken
+pub taken_one : (start_rows : List BufferRow) (start_points : List BufferPoint) (given later : List Tree)
+    (g : Tree) (form : List Row) (in_rows new_rows : List BufferRow) (in_points new_points : List BufferPoint)
+    (old mid new : Taken) (n m : ℕ)
+    → HasTaken start_rows start_points given later in_rows in_points old → rows 0 g ≡ form
+    → n ≡ length form → m ≡ length (row_points form) → mid ≡ counted_with old n m → mid.full ≡ false
+    → mid.rows + n ≤ length in_rows → mid.points + m ≤ length in_points
+    → new_rows ≡ take mid.rows in_rows ++ (rows_in_c form ++ drop (mid.rows + length form) in_rows)
+    → new_points ≡ take mid.points in_points
+    ++ (coordinates_of (row_points form) ++ drop (mid.points + length (row_points form)) in_points)
+    → new ≡ record mid { done = mid.done + 1; rows = mid.rows + n; points = mid.points + m }
+    → TakesOne start_rows start_points given later g new_rows new_points new
+taken_one start_rows start_points given later g form in_rows new_rows in_points new_points old mid new n m h same
+    n_is m_is is empty rows_fit points_fit rows_new points_new new_is =
+    let was : old.full ≡ false = sym (ap (λ (t : Taken). t.full) is) ∙ empty in
+    let none : later ≡ [] = no_more later (sym h.full_is ∙ was) in
+    let rows_are : mid.rows ≡ length (rows_of given) = ap (λ (t : Taken). t.rows) is ∙ h.rows_is in
+    let points_are : mid.points ≡ length (row_points (rows_of given)) = ap (λ (t : Taken). t.points) is ∙ h.points_is in
+    let joined : (given ++ later) ++ g ∷ [] ≡ (given ++ g ∷ []) ++ [] =
+    ap (λ (gs : List Tree). (given ++ gs) ++ g ∷ []) none
+    ∙ ap (λ (gs : List Tree). gs ++ g ∷ []) (append-nil given) ∙ sym (append-nil (given ++ g ∷ [])) in
+    inl (
+      none,
+      record {
+        filled = filled_more start_rows start_points given g form in_rows new_rows in_points new_points mid.rows
+            mid.points
+            h.filled same rows_are points_are (omega arith) (omega arith) rows_new points_new;
+        stops = tt;
+        full_is = ap (λ (t : Taken). t.full) new_is ∙ empty;
+        done_is = omega (
+          arith,
+          ap (λ (t : Taken). t.done) new_is,
+          ap (λ (t : Taken). t.done) is,
+          h.done_is,
+          length-append given (g ∷ []),
+        );
+        rows_is = omega (arith, ap (λ (t : Taken). t.rows) new_is, rows_are, n_is, count_more given g form same);
+        points_is = omega (
+          arith,
+          ap (λ (t : Taken). t.points) new_is,
+          points_are,
+          m_is,
+          point_count_more given g form same,
+        );
+        needed_rows_is = needed_more (given ++ later) g form old.needed_rows new.needed_rows n same
+            h.needed_rows_is n_is
+            (ap (λ (t : Taken). t.needed_rows) new_is ∙ ap (λ (t : Taken). t.needed_rows) is)
+            ∙ ap (λ (gs : List Tree). saturated (length (rows_of gs))) joined;
+        needed_points_is = needed_points_more (given ++ later) g form old.needed_points new.needed_points m same
+            h.needed_points_is m_is
+            (ap (λ (t : Taken). t.needed_points) new_is ∙ ap (λ (t : Taken). t.needed_points) is)
+            ∙ ap (λ (gs : List Tree). saturated (length (row_points (rows_of gs)))) joined;
+      },
+    )

@@ -1,0 +1,77 @@
+-- The rows and points of geometries in C's layout (profile).
+use Rattle.std.specs.Prelude.{ℕ, ℤ, pos, negsuc, ◌<◌, ◌≤◌, ◌⊎◌, List, length, map, Option, Some, None}
+use Rattle.twkb_points.specs.Point.{Point, point_at}
+use Rattle.twkb_tree.specs.declared.kind.Kind.{Kind}
+use Rattle.twkb_tree.specs.declared.kind.Kind.TheVariants as kind
+use Rattle.twkb_tree.specs.Tree.{Tree}
+use Rattle.twkb_tree.specs.Rows.{Row, rows_of, row_points}
+use Rattle.twkb_buffer.specs.Polylines.{coordinates_of}
+use Rattle.twkb_buffer.specs.declared.point.BufferPoint.{BufferPoint}
+use Rattle.twkb_arrays.specs.declared.row.BufferRow.{BufferRow}
+
+-- the number of a kind: that of its type (TWKB, type and precision), and 8 for a ring
+abbrev pub kind_number : Kind → ℕ
+kind_number kind.Point = 1
+kind_number kind.Linestring = 2
+kind_number kind.Polygon = 3
+kind_number kind.MultiPoint = 4
+kind_number kind.MultiLinestring = 5
+kind_number kind.MultiPolygon = 6
+kind_number kind.Collection = 7
+kind_number kind.Ring = 8
+
+-- 1 if there is an id, and 0 if there is none
+abbrev pub id_flag : Option ℤ → ℕ
+id_flag None = 0
+id_flag (Some id) = 1
+
+-- the id, or 0
+abbrev pub id_number : Option ℤ → ℤ
+id_number None = pos 0
+id_number (Some id) = id
+
+-- the precision, or -128
+abbrev pub precision_number : Option ℤ → ℤ
+precision_number None = negsuc 127
+precision_number (Some precision) = precision
+
+-- a row in C's layout
+abbrev pub row_in_c : Row → BufferRow
+row_in_c r = record {
+  id = id_number r.id;
+  points = length r.points;
+  depth = r.depth;
+  kind = kind_number r.kind;
+  has_id = id_flag r.id;
+  precision = precision_number r.precision;
+}
+
+-- rows in C's layout
+abbrev pub rows_in_c : List Row → List BufferRow
+rows_in_c rs = map row_in_c rs
+
+-- the rows of geometries in C's layout
+abbrev pub array_rows : List Tree → List BufferRow
+array_rows gs = rows_in_c (rows_of gs)
+
+-- the points of their rows in C's layout
+abbrev pub array_points : List Tree → List BufferPoint
+array_points gs = coordinates_of (row_points (rows_of gs))
+
+-- two arrays have room for the rows and points of these geometries
+abbrev pub HasRoom : List BufferRow → List BufferPoint → List Tree → Type 0
+HasRoom in_rows in_points gs = (length (rows_of gs) ≤ length in_rows)
+    × (length (row_points (rows_of gs)) ≤ length in_points)
+
+-- one of two arrays has too little room for the rows or points of these geometries
+abbrev pub LacksRoom : List BufferRow → List BufferPoint → List Tree → Type 0
+LacksRoom in_rows in_points gs = (length in_rows < length (rows_of gs))
+    ⊎ (length in_points < length (row_points (rows_of gs)))
+
+-- the point with these coordinates
+abbrev pub point_of : BufferPoint → Point
+point_of coordinates = point_at coordinates.x coordinates.y
+
+-- the points with these coordinates
+abbrev pub points_of : List BufferPoint → List Point
+points_of coordinates = map point_of coordinates

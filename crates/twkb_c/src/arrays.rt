@@ -1,0 +1,31 @@
+//! The function for C that reads a stream into arrays, as declared in `include/polytwkb.h`.
+ghost use Rattle.std.specs.Prelude.{◌≡◌};
+ghost use Rattle.twkb_tree.specs.Limits.{IsAllowance};
+ghost use Rattle.twkb_arrays.specs.Reading.{ReadsArrays};
+ghost use Rattle.twkb_c.specs.Arguments.{allowance_of, arguments_counts};
+
+use crate::arguments::{BufferLimits, refused_counts};
+use std::alloc::Global;
+use twkb_arrays::{BufferCounts, BufferRow, read_arrays};
+use twkb_buffer::BufferPoint;
+
+/// Reads a stream into arrays of rows and points.
+#[unsafe(no_mangle)]
+pub extern "C" fn polytwkb_read(
+    alloc: Global,
+    blobs: &[u8],
+    rows: &mut [BufferRow],
+    points: &mut [BufferPoint],
+    limits: BufferLimits,
+) -> BufferCounts
+    ensures reads { IsAllowance (allowance_of limits)
+        → ReadsArrays (allowance_of limits) blobs.now rows.old points.old rows.new points.new
+        result }
+    ensures limits_out_of_range { (IsAllowance (allowance_of limits) → ⊥) → result ≡ arguments_counts }
+    ensures refused { result.status ≡ 2 → (rows.new ≡ rows.old) × (points.new ≡ points.old) }
+{
+    let Some(limits) = limits.limits() else {
+        return refused_counts();
+    };
+    read_arrays(alloc, blobs, rows, points, limits)
+}

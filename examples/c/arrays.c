@@ -1,0 +1,86 @@
+// Reads a stream into arrays of rows and points, into each room, with guard bytes round each array; then the rows of a refused stream.
+#include <polytwkb.h>
+
+#include <stdio.h>
+#include <stdlib.h>
+#include <string.h>
+
+enum { GUARD = 32, GUARD_BYTE = 0xA5, ROWS = 4, POINTS = 3 };
+
+// A collection of the point (1, 1) with the id 7 and an empty linestring with the id -1, and the linestring from (1, 1) to (5, 5).
+static const uint8_t blobs[] = {0x07, 0x04, 0x02, 0x0e, 0x01, 0x01, 0x00, 0x02, 0x02, 0x02, 0x10, 0x02, 0x00, 0x02, 0x02, 0x02, 0x08, 0x08};
+
+static const polytwkb_row rows[ROWS] = {
+    {0, 0, 0, POLYTWKB_KIND_COLLECTION, 0, 0},
+    {7, 1, 1, POLYTWKB_KIND_POINT, 1, 0},
+    {-1, 0, 1, POLYTWKB_KIND_LINESTRING, 1, 0},
+    {0, 2, 0, POLYTWKB_KIND_LINESTRING, 0, 0},
+};
+
+static const polytwkb_point points[POINTS] = {{1, 1}, {1, 1}, {5, 5}};
+
+static void check(int holds, const char *what) {
+    if (!holds) {
+        fprintf(stderr, "wrong: %s\n", what);
+        exit(1);
+    }
+}
+
+// An array of this many bytes between two guards.
+static void *guarded(size_t bytes) {
+    uint8_t *whole = malloc(bytes + 2 * GUARD);
+    check(whole != NULL, "no memory");
+    memset(whole, GUARD_BYTE, bytes + 2 * GUARD);
+    return whole + GUARD;
+}
+
+// Frees an array, whose guards and whose bytes after the first `written` are as they were.
+static void release(void *array, size_t bytes, size_t written) {
+    uint8_t *first = array;
+    for (size_t i = 1; i <= GUARD; i++) check(first[-(ptrdiff_t)i] == GUARD_BYTE, "the guard before an array");
+    for (size_t i = written; i < bytes + GUARD; i++) check(first[i] == GUARD_BYTE, "bytes after the rows or points");
+    free(first - GUARD);
+}
+
+// Reads the first bytes of the stream into this much room, and checks all that was written.
+static polytwkb_counts read_into(size_t length, size_t row_room, size_t point_room) {
+    polytwkb_row *to_rows = guarded(row_room * sizeof *to_rows);
+    polytwkb_point *to_points = guarded(point_room * sizeof *to_points);
+    polytwkb_counts counts = polytwkb_read(blobs, length, to_rows, row_room, to_points, point_room, polytwkb_standard_limits());
+    check(counts.rows <= row_room && counts.points <= point_room, "no more than there is room for");
+    check(memcmp(to_rows, rows, counts.rows * sizeof *rows) == 0, "the rows");
+    check(memcmp(to_points, points, counts.points * sizeof *points) == 0, "the points");
+    release(to_rows, row_room * sizeof *to_rows, counts.rows * sizeof *rows);
+    release(to_points, point_room * sizeof *to_points, counts.points * sizeof *points);
+    return counts;
+}
+
+// Room for all, for the first geometry alone, or for none.
+static void each_room(void) {
+    for (size_t row_room = 0; row_room <= ROWS + 1; row_room++) {
+        for (size_t point_room = 0; point_room <= POINTS + 1; point_room++) {
+            polytwkb_counts counts = read_into(sizeof blobs, row_room, point_room);
+            unsigned done = row_room < 3 || point_room < 1 ? 0 : row_room < ROWS || point_room < POINTS ? 1 : 2;
+            check(counts.status == (done == 2 ? POLYTWKB_DONE : POLYTWKB_TOO_SMALL) && counts.done == done, "the status");
+            check(counts.rows == (done == 2 ? ROWS : done == 1 ? 3 : 0), "whole geometries");
+            check(counts.needed_rows == ROWS && counts.needed_points == POINTS, "what would do");
+        }
+    }
+}
+
+int main(void) {
+    check(sizeof(polytwkb_row) == 24 && sizeof(polytwkb_counts) == 56, "the layouts");
+    each_room();
+
+    polytwkb_counts cut = read_into(sizeof blobs - 1, ROWS, POINTS);
+    check(cut.status == POLYTWKB_REFUSED && cut.reason == POLYTWKB_BLOB_TRUNCATED && cut.place == sizeof blobs - 1, "a cut blob");
+    check(cut.done == 1 && cut.rows == 3 && cut.points == 1, "the geometry before it");
+
+    polytwkb_counts none = polytwkb_read(NULL, 0, NULL, 0, NULL, 0, polytwkb_standard_limits());
+    check(none.status == POLYTWKB_DONE && none.done == 0, "no bytes, no arrays");
+    polytwkb_limits wrong = {33, 1, 0};
+    check(polytwkb_read(blobs, sizeof blobs, NULL, 0, NULL, 0, wrong).status == POLYTWKB_ARGUMENTS, "a limit out of range");
+
+    printf("%zu bytes of blobs are %d rows and %d points\n", sizeof blobs, ROWS, POINTS);
+    return 0;
+}
