@@ -36,6 +36,7 @@ parallel parallel
 node nodejs
 /usr/lib/python3/dist-packages/polyline python3-polyline
 /usr/lib/python3/dist-packages/numpy python3-numpy
+/usr/lib/python3/dist-packages/shapely python3-shapely
 /usr/lib/python3/dist-packages/distributed python3-distributed
 pv pv
 go golang-go
@@ -106,6 +107,7 @@ library() {
   if command -v go > /dev/null; then echo "ok    the library in Go"; fi
   make -s python-test || return 1
   echo "ok    the package for Python"
+  make -s fuzz-library CASES="${CASES:-20000}" SEED="$seed" || return 1
   lacks "memory of the library" valgrind || return 0
 }
 
