@@ -23,9 +23,10 @@
 # make uninstall         removes these files
 # make hostile           the built program with little memory, failing devices and hostile inputs
 # make fuzz              the program compared with a second implementation, on random inputs (CASES, SEED, PROCESSES)
+# make fuzz-library      the library and the package for Python likewise: arrays of rows and points, checks of tables
 # make bench             times and memory, compared with a plain program; BENCH has words for bench/run.sh
 # make clean             removes what was built
-.PHONY: test check build lib static arm64 arm64-test wasm wasm-test lib-test lib-bench wheel python-test demo bench smoke completions-test docs-test recipes hostile fuzz dist dist-test install uninstall clean
+.PHONY: test check build lib static arm64 arm64-test wasm wasm-test lib-test lib-bench wheel python-test demo bench smoke completions-test docs-test recipes hostile fuzz fuzz-library dist dist-test install uninstall clean
 
 PREFIX ?= /usr/local
 DESTDIR ?=
@@ -179,6 +180,9 @@ PROCESSES ?= 2
 
 fuzz: build bin/refuse.so
 	nice -n 10 tests/fuzz/fuzz.py --cases $(CASES) --processes $(PROCESSES) $(if $(SEED),--seed $(SEED)) --library bin/refuse.so
+
+fuzz-library: lib
+	nice -n 10 tests/fuzz/fuzz_library.py --cases $(CASES) $(if $(SEED),--seed $(SEED)) out/libpolytwkb.so
 
 # The library that makes a call of the program fail.
 bin/refuse.so: tests/hostile/refuse.c

@@ -45,6 +45,7 @@ tsc node-typescript
 /usr/share/javascript/leaflet libjs-leaflet
 /usr/lib/python3/dist-packages/polyline python3-polyline
 /usr/lib/python3/dist-packages/numpy python3-numpy
+/usr/lib/python3/dist-packages/shapely python3-shapely
 /usr/lib/python3/dist-packages/distributed python3-distributed
 pv pv
 /usr/share/postgresql/*/extension/postgis.control postgresql-postgis
@@ -143,6 +144,7 @@ library() {
   if command -v go > /dev/null; then echo "ok    the library in Go"; fi
   make -s python-test || return 1
   echo "ok    the package for Python"
+  make -s fuzz-library CASES="${CASES:-20000}" SEED="$seed" || return 1
   lacks "memory of the library" valgrind || return 0
 }
 

@@ -4,18 +4,33 @@
     POLYTWKB_LIBRARY=out/libpolytwkb.so PYTHONPATH=python bench/library/times.py
 
 10,000 linestrings of 50 points, and a polyline of a million points, each at most 1,000 units from the one before. The best of 20 rounds, by
-turns, in processor seconds.
+turns, in processor seconds. Arrays of rows and points are read of a stream of 10 MB, 50,000 such linestrings; beside that the same
+points by way of a table and of polylines, by python3-polyline and by PostGIS, if these are there. Floats are rounded with numpy, if it is there.
 """
+import csv
 import ctypes
+import os
 import random
+import subprocess
 import time
 from array import array
+
+try:
+    import numpy
+except ImportError:
+    numpy = None
+try:
+    import polyline
+except ImportError:
+    polyline = None
 
 import polytwkb
 from polytwkb._conversions import _limits
 from polytwkb._library import library
+from polytwkb._memory import address_of, memory_of
 
 LINES, POINTS, MANY, ROUNDS = 10_000, 50, 1_000_000, 20
+LONG, FEW_ROUNDS = 50_000, 7
 LIMITS = _limits(None)
 
 
@@ -27,10 +42,10 @@ def walk(chance, count):
     return numbers
 
 
-def best(calls):
+def best(calls, rounds=ROUNDS):
     """The least time of each call."""
     least = [float("inf")] * len(calls)
-    for _ in range(ROUNDS):
+    for _ in range(rounds):
         for place, call in enumerate(calls):
             began = time.process_time()
             call()
@@ -50,6 +65,68 @@ def compare(name, package, call, given, count, room, size, *more):
     print(f"{name}: {1e3 * ours:.2f} ms, the library alone {1e3 * own:.2f} ms, {ours / own:.2f} times as long")
 
 
+def told(name, calls, points, rounds=FEW_ROUNDS):
+    """Times of several ways, in nanoseconds a point and as many times the first."""
+    times = best(list(calls.values()), rounds)
+    print(f"{name}:", ", ".join(f"{way} {1e9 * own / points:.1f} ns a point ({own / times[0]:.2f})" for way, own in zip(calls, times)))
+
+
+def read_by_text(stream):
+    rows, flat = csv.DictReader(polytwkb.unpack(stream).splitlines()), array("q")
+    for row in rows:
+        flat.extend(polytwkb.decode_flat(row["polyline"]))
+    return flat
+
+
+def compare_arrays(chance):
+    """Reading arrays: the package, the library into memory that is new and that was used before, and other ways."""
+    flat = array("q")
+    lines = [walk(chance, POINTS) for _ in range(LONG // 10)] * 10
+    for line in lines:
+        flat.extend(line)
+    count = len(flat) // 2
+    stream = polytwkb.pack("depth,kind,id,precision,polyline\n" + "".join(f"0,linestring,,5,{polytwkb.encode(line)}\n" for line in lines))
+    memories = [memory_of(size) for size in (24 * LONG, 16 * count)]
+    for memory in memories:
+        ctypes.memset(address_of(memory), 0, len(memory))
+
+    def read(rows, points):
+        assert library.polytwkb_read(stream, len(stream), address_of(rows), LONG, address_of(points), count, LIMITS).status == 0
+
+    print(f"arrays: {len(stream) / 1e6:.1f} MB, {count} points")
+    told("read", {
+        "the library into used memory": lambda: read(*memories), "into new memory": lambda: read(memory_of(24 * LONG), memory_of(16 * count)),
+        "the package": lambda: polytwkb.read(stream),
+    }, count)
+    told("read otherwise", {"the package": lambda: polytwkb.read(stream), "by table and decode_flat": lambda: read_by_text(stream)}, count, 3)
+    compare_others(stream, lines[: LONG // 10])
+
+
+def compare_others(stream, lines):
+    """python3-polyline and PostGIS, on the same points."""
+    count = len(lines) * POINTS
+    if polyline:
+        pairs = [list(zip(*[iter(line)] * 2)) for line in lines]
+        texts = [polyline.encode(line, 0) for line in pairs]
+        told("python3-polyline", {
+            "decode": lambda: [polyline.decode(text, 0) for text in texts], "encode": lambda: [polyline.encode(line, 0) for line in pairs],
+        }, count, 3)
+    script = os.path.join(os.path.dirname(os.path.abspath(__file__)), "dump_points.sh")
+    blobs = "".join(blob.hex() + "\n" for blob in polytwkb.split(stream))
+    said = subprocess.run([script], input=blobs, stdout=subprocess.PIPE, text=True, check=False).stdout.strip()
+    print(f"PostGIS, ST_DumpPoints: {float(said) * 1e6 / (LONG * POINTS):.1f} ns a point" if said[:1].isdigit() else said)
+
+
+def compare_floats(chance):
+    """Rounding of floats."""
+    flat = array("d", [chance.uniform(-180, 180) for _ in range(400_000)])
+    pairs = list(zip(flat[::2], flat[1::2]))
+    told(f"encode {'with' if numpy else 'without'} numpy", {
+        "an array of floats": lambda: polytwkb.encode(flat, 5), "pairs of floats": lambda: polytwkb.encode(pairs, 5),
+        "pairs of whole numbers": lambda: polytwkb.encode(((1, 2),) * len(pairs)),
+    }, len(pairs))
+
+
 def main():
     chance = random.Random(1)
     table = "depth,kind,id,precision,polyline\n"
@@ -63,6 +140,8 @@ def main():
     compare("encode", lambda: polytwkb.encode(points), library.polytwkb_encode, flat, MANY, len(letters), 1)
     compare("decode_flat", lambda: polytwkb.decode_flat(text), library.polytwkb_decode, letters, len(letters), MANY, 16)
     compare("decode", lambda: polytwkb.decode(text), library.polytwkb_decode, letters, len(letters), MANY, 16)
+    compare_floats(chance)
+    compare_arrays(chance)
 
 
 main()

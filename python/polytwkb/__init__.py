@@ -3,13 +3,16 @@
 A table is CSV with the columns depth, kind, id, precision and polyline; a stream is blobs one after the other. A call converts any number
 of geometries: give it many. What the library refuses is the exception `Refused`, with the reason and the place.
 """
+from ._arrays import NO_PRECISION, Arrays, Kind, Rows, read
 from ._check import check
 from ._conversions import Header, Limits, pack, show, split, unpack
+from ._geometries import geometries
 from ._library import VERSION as __version__
 from ._points import in_degrees, in_units
 from ._polylines import decode, decode_flat, encode
 from ._refused import Refused
 
 __all__ = [
-    "Header", "Limits", "Refused", "check", "decode", "decode_flat", "encode", "in_degrees", "in_units", "pack", "show", "split", "unpack",
+    "NO_PRECISION", "Arrays", "Header", "Kind", "Limits", "Refused", "Rows", "check", "decode", "decode_flat", "encode", "geometries",
+    "in_degrees", "in_units", "pack", "read", "show", "split", "unpack",
 ]

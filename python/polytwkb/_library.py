@@ -18,6 +18,12 @@ class Report(ctypes.Structure):
     ]
 
 
+class Counts(ctypes.Structure):
+    _fields_ = [("status", ctypes.c_uint32), ("reason", ctypes.c_uint32)] + [
+        (name, ctypes.c_uint64) for name in ("place", "done", "rows", "points", "needed_rows", "needed_points")
+    ]
+
+
 def _path():
     """The file that POLYTWKB_LIBRARY names, else the one beside this module, else the one that the system finds."""
     named = os.environ.get("POLYTWKB_LIBRARY")
@@ -51,6 +57,8 @@ def _loaded(path):
     library.polytwkb_encode.argtypes = [ctypes.c_void_p, *buffers[1:]]
     measure = library.polytwkb_measure
     measure.argtypes, measure.restype = [ctypes.c_uint32, ctypes.c_void_p, ctypes.c_size_t, CLimits, ctypes.c_uint32], Report
+    arrays = [ctypes.c_void_p, ctypes.c_size_t] * 2
+    library.polytwkb_read.argtypes, library.polytwkb_read.restype = [*buffers[:2], *arrays, CLimits], Counts
     return library
 
 

@@ -1,5 +1,5 @@
 #!/usr/bin/env bash
-# Tests of the package over a built library, and once more with a Python that has numpy, if python3 has none:
+# Tests of the package over a built library, and with numpy and Shapely by another Python, if python3 has no numpy:
 #
 #   python/tests/run.sh LIBRARY
 set -euo pipefail
@@ -10,9 +10,13 @@ export POLYTWKB_LIBRARY PYTHONPATH=..
 has_numpy() { "$1" -c 'import numpy' 2> /dev/null; }
 
 if has_numpy python3 || ! has_numpy /usr/bin/python3; then
+  python=python3
   python3 -B -m unittest -q
-  has_numpy python3 || echo "skip  the package with numpy: python3-numpy is not there"
 else
+  python=/usr/bin/python3
   ROUNDINGS=${ROUNDINGS:-100000} python3 -B -m unittest -q
-  /usr/bin/python3 -B -m unittest -q test_rounding
+  "$python" -B -W ignore -m unittest -q test_rounding test_arrays test_geometries test_hostile
 fi
+for module in numpy shapely; do
+  "$python" -W ignore -c "import $module" 2> /dev/null || echo "skip  the package with $module: python3-$module is not there"
+done

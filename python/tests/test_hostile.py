@@ -14,10 +14,20 @@ from array import array
 import polytwkb
 import vectors
 
-CASES = int(os.environ.get("CASES", "5000"))
+try:
+    import numpy
+except ImportError:
+    numpy = None
+
+CASES = int(os.environ.get("CASES", "20000"))
 SEED = int(os.environ.get("SEED", time.strftime("%Y%m%d", time.gmtime())))
 ALLOWED = (polytwkb.Refused, TypeError, ValueError, MemoryError)
-CALLS = (polytwkb.pack, polytwkb.unpack, polytwkb.show, polytwkb.split, polytwkb.encode, polytwkb.decode, polytwkb.decode_flat)
+CALLS = (
+    polytwkb.pack, polytwkb.unpack, polytwkb.show, polytwkb.split, polytwkb.encode, polytwkb.decode, polytwkb.decode_flat, polytwkb.check,
+    polytwkb.read, polytwkb.geometries, polytwkb.in_units, polytwkb.in_degrees,
+)
+# How many arguments a call takes at least, where that is not one.
+ARGUMENTS = {"in_units": 2, "in_degrees": 2}
 BLOBS = [bytes.fromhex(vector["hex"]) for vector in vectors.postgis()]
 TABLES = ["".join(row + "\n" for row in vector["rows"]) for vector in vectors.postgis()]
 TEXTS = [text for text, _, _ in vectors.polylines()]
@@ -37,9 +47,24 @@ def number(chance):
     return chance.choice([0, 1, -1, 5, 1.5, -180.0, 1 << 62, -(1 << 62), 1 << 63, 10**40, float("nan"), float("inf"), None, "7", chance.random() * 360])
 
 
+def buffer(chance):
+    """An array of any type, any shape and any order."""
+    kind = chance.choice("bBhHiIqQfd")
+    flat = array(kind, [chance.randrange(100) for _ in range(2 * chance.randrange(12))])
+    if numpy and chance.randrange(2):
+        kinds = ["i1", "i4", "i8", "u8", ">i8", "f2", "f4", "f8", ">f8", "?", "O", "U3", "c16", "M8[s]", "i8,i8"]
+        made = numpy.array(flat).astype(chance.choice(kinds))
+        shape = chance.choice([(-1,), (-1, 2), (2, -1), (-1, 1), (1, -1, 2), (-1, 2)])
+        made = made.reshape(shape) if made.size or -1 not in shape else made
+        return chance.choice([made, made.T, made[::-1], made[::2], numpy.asfortranarray(made)])
+    view = memoryview(flat)
+    columns = view.cast("B").cast(kind, [len(flat) // 2, 2]) if flat else view
+    return chance.choice([flat, view, view[::-1], view[::2], view.toreadonly(), view.cast("B"), columns])
+
+
 def value(chance):
     """Something that a call may be given: mostly of its type, and mostly not as it should be."""
-    kind = chance.randrange(9)
+    kind = chance.randrange(11)
     if kind < 2:
         return changed(chance, b"".join(chance.choices(BLOBS, k=chance.randrange(4))))
     if kind < 4:
@@ -52,12 +77,25 @@ def value(chance):
         return array("q", [chance.randrange(-(1 << 63), 1 << 63) >> chance.randrange(64) for _ in range(chance.randrange(9))])
     if kind == 7:
         return chance.choice([bytearray, memoryview])(chance.choice(BLOBS))
+    if kind == 8:
+        return buffer(chance)
+    if kind == 9:
+        return [changed(chance, blob) for blob in chance.choices(BLOBS, k=chance.randrange(4))]
     return chance.choice([None, 7, "", b"", [], {}, object(), "\ud800", "\x00", "ä", array("d", [1, 2]), memoryview(b"12345678")[::3], range(3)])
+
+
+def arguments(chance, call):
+    """What a call is given."""
+    given = [value(chance)]
+    if ARGUMENTS.get(call.__name__) == 2:
+        given.append(chance.choice([5, 0, -8, 7, 8, None, 1.5, value(chance)]))
+    return given
 
 
 def one(chance):
     """One random call; what it must not raise goes on."""
-    call, given = chance.choice(CALLS), [value(chance)]
+    call = chance.choice(CALLS)
+    given = arguments(chance, call)
     if chance.randrange(4) == 0:
         given.append(chance.choice(["full", "plain", "", None, 5, -8, 8, polytwkb.Limits(), polytwkb.Limits(0, 1, 0), (0, 2, 3), polytwkb.Limits(nest=99)]))
     try:
@@ -67,7 +105,7 @@ def one(chance):
     except ALLOWED:
         pass
     else:
-        assert type(answer) in (bytes, str, list, array)
+        assert type(answer) in (bytes, str, list, array, memoryview, polytwkb.Arrays)
 
 
 class Hostile(unittest.TestCase):
@@ -79,7 +117,8 @@ class Hostile(unittest.TestCase):
                 one(chance)
             except Exception as fault:
                 chance.setstate(state)
-                raise AssertionError(f"seed {SEED}: {chance.choice(CALLS).__name__}({value(chance)!r})") from fault
+                call = chance.choice(CALLS)
+                raise AssertionError(f"seed {SEED}: {call.__name__}{arguments(chance, call)!r}") from fault
 
     def test_little_memory(self):
         """A child with 40 MB more than it has when it begins: what needs more is a MemoryError, and calls go on."""

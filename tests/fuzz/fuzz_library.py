@@ -1,0 +1,194 @@
+#!/usr/bin/env python3
+"""Compares calls of the library and of the package for Python with the second implementation: rows and points in arrays are read from random
+streams, by the library into rooms of all sizes, and random tables are checked.
+
+fuzz_library.py [--cases N] [--seed S] [--only CASE] LIBRARY
+
+Case K of seed S is always the same. Status 1 where a case differs.
+"""
+import argparse
+import ctypes
+import os
+import random
+import sys
+import time
+
+HERE = os.path.dirname(os.path.abspath(__file__))
+sys.path[:0] = [HERE, os.path.join(HERE, "../../python")]
+
+import blob
+import table
+from arrays import arrays_of, bytes_of_points, bytes_of_rows
+from fuzz import some_stream, some_table
+from geometry import NODES, POINTS
+
+GUARD = 0xA7
+REASONS = {
+    "unknown kind": 4, "bad depth": 3, "kind not allowed there": 5, "nested too deep": 6, "too many rows in one geometry": 7, "bad id": 8,
+    "id not allowed": 9, "id on some children only": 10, "bad precision": 11, "precision missing": 12, "precision not allowed": 13,
+    "polyline not allowed": 14, "wrong number of points": 16, "coordinate out of range": 26, "too many points": 27, "points missing": 71,
+    "points left over": 72, "bad header": 1, "not five fields": 2,
+}
+TEXT_REASONS = {
+    "bad character": 21, "number cut short": 22, "number too long": 23, "padded number": 24, "latitude without longitude": 25,
+    "coordinate out of range": 26, "too many points": 27,
+}
+BLOB_REASONS = {
+    "truncated": 41, "unknown type": 42, "extra dimensions": 43, "bad varint": 44, "nested too deep": 45, "too many nodes": 46,
+    "too many points": 47, "coordinate out of range": 48, "size mismatch": 49,
+}
+
+
+class Limits(ctypes.Structure):
+    _fields_ = [(name, ctypes.c_uint32) for name in ("nest", "nodes", "points")]
+
+
+def numbers(*names):
+    """The fields of a result: two numbers of 32 bits, and these of 64."""
+    return [("status", ctypes.c_uint32), ("reason", ctypes.c_uint32)] + [(name, ctypes.c_uint64) for name in names]
+
+
+class Counts(ctypes.Structure):
+    _fields_ = numbers("place", "done", "rows", "points", "needed_rows", "needed_points")
+
+
+def fields_of(structure):
+    return tuple(getattr(structure, name) for name, _ in structure._fields_)
+
+
+class Library:
+    """The call over guarded memory."""
+
+    def __init__(self, path):
+        self.library = ctypes.CDLL(path)
+        self.library.polytwkb_read.restype = Counts
+
+    @staticmethod
+    def guarded(size):
+        return ctypes.create_string_buffer(bytes([GUARD]) * (size + 64), size + 64)
+
+    def read(self, stream, row_room, point_room, limits):
+        """The counts, and the bytes of both arrays up to what is as it was."""
+        rows, points = self.guarded(24 * row_room), self.guarded(16 * point_room)
+        size = ctypes.c_size_t
+        counts = self.library.polytwkb_read(stream, size(len(stream)), rows, size(row_room), points, size(point_room), Limits(*limits))
+        for memory, used in ((rows, 24 * counts.rows), (points, 16 * counts.points)):
+            assert memory.raw[used:] == bytes([GUARD]) * (len(memory) - used), "what was not written has changed"
+        return fields_of(counts), rows.raw[: 24 * counts.rows], points.raw[: 16 * counts.points]
+
+
+def some_limits(chance):
+    """Limits of a case; the second implementation has those of nodes and points as constants of its modules."""
+    nest = chance.choice((16, 16, 16, 0, 1, 2, 32))
+    nodes = chance.choice((NODES, NODES, NODES, 1, 2, 3, 7))
+    points = chance.choice((POINTS, POINTS, POINTS, 0, 1, 2, 5))
+    table.NODES = blob.NODES = nodes
+    table.POINTS = blob.POINTS = points
+    return nest, nodes, points
+
+
+def refusal_of(number, text):
+    """The record, the reason and the byte of a polyline of what the second implementation says of a record."""
+    words, _, reason = text.rpartition(": ")
+    return (number, TEXT_REASONS[reason], int(words.split()[-1])) if words else (number, REASONS[text], 0)
+
+
+def refusals_of(text, nest):
+    """The first refusal of each geometry: records up to one of depth 0 are judged by themselves."""
+    records = table.records_of(text)
+    if not records or records[0] != table.HEADER:
+        return [(1, 1, 0)]
+    refusals, rows = [], []
+    for number, record in enumerate(records[1:], 2):
+        if record[0] == b"0":
+            rows = []
+        if rows is not None:
+            row = table.judged(rows, record, nest)
+            if isinstance(row, str):
+                refusals.append(refusal_of(number, row))
+                rows = None
+            else:
+                rows.append(row)
+    return refusals
+
+
+class Comparing:
+    def __init__(self, path):
+        self.library, self.ends = Library(path), {}
+
+    def met(self, end):
+        self.ends[end] = self.ends.get(end, 0) + 1
+
+    def read(self, chance, limits):
+        """A stream is read as the second implementation reads it, into any room."""
+        stream = some_stream(chance, limits[0])
+        geometries, _, fault = blob.spelled_in(stream, limits[0])
+        arrays = list(map(arrays_of, geometries))
+        needed = [sum(len(pair[column]) for pair in arrays) for column in (0, 1)]
+        rooms = [max(count + chance.choice((0, 0, 0, 1, -1, -2, -count, 5)), 0) for count in needed]
+        whole, sizes = 0, [0, 0]
+        for pair in arrays:
+            if any(size + len(part) > room for size, part, room in zip(sizes, pair, rooms)):
+                break
+            whole, sizes = whole + 1, [size + len(part) for size, part in zip(sizes, pair)]
+        status = 5 if whole < len(arrays) else 1 if fault else 0
+        place, reason = (fault[0], BLOB_REASONS[fault[1]]) if status == 1 else (0, 0)
+        rows, points = ([part for pair in arrays[:whole] for part in pair[column]] for column in (0, 1))
+        wanted = (status, reason, place, whole, *sizes, *needed), bytes_of_rows(rows), bytes_of_points(points)
+        found = self.library.read(stream, *rooms, limits)
+        assert found == wanted, f"read {stream.hex()} into {rooms}, limits {limits}: {found}, not {wanted}"
+        self.met("read " + ("room too small" if status == 5 else fault[1] if fault else "ok"))
+        self.read_by_package(stream, limits, arrays, fault)
+
+    def read_by_package(self, stream, limits, arrays, fault):
+        rows, points = (b"".join(bytes_of(pair[column]) for pair in arrays) for column, bytes_of in ((0, bytes_of_rows), (1, bytes_of_points)))
+        refused = None
+        try:
+            found = polytwkb.read(stream, polytwkb.Limits(*limits))
+        except polytwkb.Refused as caught:
+            refused, found = caught, caught.output
+        assert (bytes(found.rows.records), found.points.tobytes()) == (rows, points), f"the package reads {stream.hex()} otherwise"
+        assert (refused and (refused.place, refused.text)) == fault, f"the package refuses {stream.hex()} otherwise: {refused}"
+
+    def check(self, chance, limits):
+        """All refusals of a table are those of its geometries, each by itself."""
+        text = b"\n".join(some_table(chance) for _ in range(chance.choice((1, 1, 2, 3))))
+        wanted = refusals_of(text, limits[0])
+        found = [(refused.place, refused.reason, refused.text_offset) for refused in polytwkb.check(text, polytwkb.Limits(*limits))]
+        assert found == wanted, f"check {text}, limits {limits}: {found}, not {wanted}"
+        self.met(f"check {min(len(wanted), 3)} refusals")
+
+    def compare(self, seed, number):
+        chance = random.Random(f"{seed}:{number}")
+        limits = some_limits(chance)
+        chance.choice((self.read, self.read, self.read, self.read, self.check))(chance, limits)
+
+
+def main():
+    words = argparse.ArgumentParser(description=__doc__.split("\n")[0])
+    words.add_argument("--cases", type=int, default=20000)
+    words.add_argument("--seed", default=str(int(time.time())))
+    words.add_argument("--only", type=int, help="the number of one case")
+    words.add_argument("library")
+    given = words.parse_args()
+    os.environ["POLYTWKB_LIBRARY"] = path = os.path.abspath(given.library)
+    global polytwkb
+    import polytwkb
+
+    comparing, found, start = Comparing(path), 0, time.monotonic()
+    for number in range(given.cases) if given.only is None else [given.only]:
+        try:
+            comparing.compare(given.seed, number)
+        except AssertionError as fault:
+            found += 1
+            if found <= 5:
+                print(f"case {number} differs: {fault}", flush=True)
+    for end, times in sorted(comparing.ends.items()):
+        print(f"{times:8} {end}")
+    seconds = time.monotonic() - start
+    print(f"{'FAIL' if found else 'ok  '}  fuzz of the library: {given.cases} cases in {seconds:.0f} s, {found} differ (seed {given.seed})")
+    return found > 0
+
+
+if __name__ == "__main__":
+    sys.exit(main())
