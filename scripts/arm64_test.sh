@@ -41,6 +41,7 @@ starter() { cc -static -O1 -DROOT="\"${3:-$root}\"" -DPROGRAM="\"$1\"" -o "$2" t
 tree=$work/tree
 mkdir -p "$tree/bin" "$tree/out"
 cp -r scripts tests examples python include "$tree/"
+cp --parents crates/twkb_convert/src/version.rt "$tree/"
 cp -a "$built"/libpolytwkb.* "$tree/out/"
 starter "$built/polytwkb" "$tree/bin/polytwkb" || exit 1
 $cross-gcc -O1 -shared -fPIC -o "$tree/bin/refuse.so" tests/hostile/refuse.c || exit 1
@@ -59,12 +60,16 @@ fuzz() {
 }
 each_failing() { (cd "$tree" && python3 -B tests/hostile/each_failing.py bin/polytwkb bin/refuse.so); }
 
-# Segments lie at multiples of 64 kB, so that machines with pages of that size can load them.
+# Segments lie at multiples of 64 kB or more, so that machines with pages of that size can load them.
 pages() {
-  local file
-  for file in "$built/polytwkb" "$(realpath "$built/libpolytwkb.so")"; do
-    readelf -lW "$file" | awk '$1 == "LOAD" { loads++; if (strtonum($NF) < 65536) exit 1 } END { exit loads == 0 }' || { echo "$file"; return 1; }
+  local file align loads=0
+  for file in "$built/polytwkb" "$built/static/polytwkb" "$(realpath "$built/libpolytwkb.so")"; do
+    for align in $(readelf -lW "$file" | awk '$1 == "LOAD" { print $NF }'); do
+      loads=$((loads + 1))
+      [ $((align)) -ge 65536 ] || { echo "$file: $align"; return 1; }
+    done
   done
+  [ $loads -gt 0 ]
 }
 
 report "the stored answers of the program vectors" vectors

@@ -103,10 +103,11 @@ package() {
 }
 
 mkdir -p "$folder"
-rm -f "$folder"/polytwkb-*-"$machine"-linux.tar.gz "$folder"/polytwkb_*_"$debian".deb "$folder"/polytwkb-*_"$machine".whl "$folder"/polytwkb-*.tgz "$folder/SHA256SUMS"
+rm -f "$folder"/polytwkb-*-"$machine"-linux.tar.gz "$folder"/polytwkb_*_"$debian".deb "$folder"/polytwkb-*_"$machine".whl "$folder/SHA256SUMS"
 archive
 package
 scripts/wheel.py "$folder" $built/libpolytwkb.so > /dev/null
-npm_archive
-(cd "$folder" && sha256sum ./*.tar.gz ./*.deb ./*.whl ./*.tgz | sed 's|\./||' > SHA256SUMS)
+# one for all processors
+[ "${2:-}" = arm64 ] || npm_archive
+(cd "$folder" && find . -type f | sed 's|^\./||' | sort | xargs sha256sum > "$work/sums" && mv "$work/sums" SHA256SUMS)
 cat "$folder/SHA256SUMS"
