@@ -38,7 +38,7 @@ class Report(ctypes.Structure):
 
 def loaded(path):
     library = ctypes.CDLL(os.path.abspath(path))
-    buffers = [ctypes.c_char_p, ctypes.c_size_t, ctypes.c_void_p, ctypes.c_size_t]
+    buffers = [ctypes.c_void_p, ctypes.c_size_t, ctypes.c_void_p, ctypes.c_size_t]
     for name, more in zip(NAMES, ([Limits, ctypes.c_uint32], [Limits], [Limits], [], [])):
         call = getattr(library, "polytwkb_" + name)
         call.argtypes, call.restype = buffers + more, Report
