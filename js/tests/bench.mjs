@@ -2,7 +2,7 @@
 //
 //     node bench.mjs LIBRARY.so [MEGABYTES [ROUNDS]]
 //
-// Tables of lines, of single points and of collections; the least time of each call.
+// Tables of lines, of single points and of collections; the least processor time of each call.
 import { execFileSync } from 'node:child_process';
 import { mkdtempSync, readFileSync, rmSync, writeFileSync } from 'node:fs';
 import { tmpdir } from 'node:os';
@@ -12,7 +12,7 @@ import { gzipSync } from 'node:zlib';
 import * as polytwkb from '../polytwkb.js';
 import * as plain from './plain_decoder.mjs';
 
-const [library, megabytes = 4, rounds = 15] = process.argv.slice(2);
+const [library, megabytes = 1, rounds = 60] = process.argv.slice(2);
 const WASM = new URL('../polytwkb.wasm', import.meta.url);
 let state = 7;
 const random = most => (state = (state * 1103515245 + 12345) % 2 ** 31) % most;
@@ -38,14 +38,18 @@ function tableOf(row) {
     return Buffer.from(parts.join(''));
 }
 
-function least(call) {
-    const times = [];
+/** The least processor times of calls by turns, in milliseconds. */
+function leastOf(calls) {
+    const least = {};
     for (let round = 0; round < rounds; round++) {
-        const start = performance.now();
-        call();
-        times.push(performance.now() - start);
+        for (const [name, call] of Object.entries(calls)) {
+            const start = process.cpuUsage();
+            call();
+            const { user, system } = process.cpuUsage(start), time = (user + system) / 1000;
+            least[name] = Math.min(least[name] ?? time, time);
+        }
     }
-    return Math.min(...times);
+    return least;
 }
 
 function nativeTimes(table, blobs) {
@@ -66,9 +70,8 @@ async function moduleOf() {
         const from = exports.buffers(input.length + room + 16) >>> 0, to = from + Math.ceil(input.length / 16) * 16;
         new Uint8Array(exports.memory.buffer).set(input, from);
         const at = exports[name](from, input.length, to, room, 16, 2 ** 20, 2 ** 24, ...more) >>> 0;
-        const view = new DataView(exports.memory.buffer, at, 48);
-        if (view.getUint32(0, true)) throw new Error(`status ${view.getUint32(0, true)}`);
-        return new Uint8Array(exports.memory.buffer, to, Number(view.getBigUint64(32, true))).slice();
+        const status = new DataView(exports.memory.buffer, at, 48).getUint32(0, true);
+        if (status) throw new Error(`status ${status}`);
     };
 }
 
@@ -83,16 +86,14 @@ for (const [name, row] of Object.entries(ROWS)) {
         pack: () => module('pack', table, table.length + 64, 0), unpack: () => module('unpack', blobs, room),
         show: () => module('show', blobs, room),
     };
-    const told = Object.entries(calls).map(([call, run]) => {
-        const time = least(run);
-        return `${call} ${(table.length / time / 1000).toFixed(0)} MB/s, ${(time / native[call]).toFixed(2)} of native`;
-    });
-    const each = run => ((least(run) * 1e6) / points).toFixed(0);
+    const told = Object.entries(leastOf(calls)).map(([call, time]) =>
+        `${call} ${(table.length / time / 1000).toFixed(0)} MB/s, ${(time / native[call]).toFixed(2)} of native`);
     console.log(`${name}: ${table.length} bytes of table, ${points} points; ${told.join('; ')}`);
     const times = {
         'pack of a string': () => polytwkb.pack(table.toString()), unpack: () => polytwkb.unpack(blobs),
         show: () => polytwkb.show(blobs), geometries: () => polytwkb.geometries(blobs),
-        'read of degrees': () => polytwkb.read?.(blobs), 'plain decoder': () => plain.geometries(blobs),
+        'plain decoder': () => plain.geometries(blobs),
     };
-    console.log(`  ns a point: ${Object.entries(times).map(([call, run]) => `${call} ${each(run)}`).join(', ')}`);
+    const each = Object.entries(leastOf(times)).map(([call, time]) => `${call} ${((time * 1e6) / points).toFixed(0)}`);
+    console.log(`  ns a point: ${each.join(', ')}`);
 }
