@@ -103,6 +103,31 @@ export function stream(
     source: Pieces | Promise<Pieces>, limits?: Partial<Limits>,
 ): AsyncGenerator<Uint8Array, void>;
 
+/**
+ * Geometries as arrays, with a row for each row of their table: a geometry, a member, a part of a multi geometry, or a
+ * ring, in preorder.
+ */
+export interface Arrays<Coordinates extends Float64Array | BigInt64Array = Float64Array | BigInt64Array> {
+    /** Of each row how many rows it is under: 0 begins a geometry. */
+    depths: Uint8Array;
+    /** 1 point, 2 linestring, 3 polygon, 4 multipoint, 5 multilinestring, 6 multipolygon, 7 collection, 8 ring. */
+    kinds: Uint8Array;
+    /** Decimals, -8 to 7, of geometries and members of collections; -128 of other rows. */
+    precisions: Int8Array;
+    /** 1 if the row has an id, else 0. */
+    hasIds: Uint8Array;
+    /** The id; 0 if it has none. */
+    ids: BigInt64Array;
+    /** Where its points begin, counted in points, and after the last row how many points there are. */
+    starts: Uint32Array;
+    /** x, y, x, y, .. of all points: degrees, or whole numbers. */
+    xy: Coordinates;
+}
+
+/** Reads a stream of blobs into arrays, in degrees; with `exact` in whole numbers. */
+export function read(blobs: Bytes, options?: Partial<Limits> & { exact?: false }): Arrays<Float64Array>;
+export function read(blobs: Bytes, options: Partial<Limits> & { exact: true }): Arrays<BigInt64Array>;
+
 /** x and y: the longitude and the latitude, though the text of a polyline has the latitude first. */
 export type Point = [x: number, y: number];
 

@@ -3,6 +3,7 @@
  * retargeted to WebAssembly in polytwkb.wasm. Call load() once, and wait for it; then every call answers at once.
  * polytwkb.d.ts says what each does.
  */
+export { read } from './src/arrays.js';
 export { pack, show, split, unpack, unpackBytes } from './src/conversions.js';
 export { geometries } from './src/geometries.js';
 export { Limits } from './src/inputs.js';

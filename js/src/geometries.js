@@ -1,125 +1,61 @@
-/** Geometries for maps, in the form of GeoJSON: a stream is unpacked, and each row of the table read. */
-import { converted, kindAt, roomOf } from './conversions.js';
-import { bytesOf, checkObject, kindOf, limitsOf } from './inputs.js';
-import { DONE, POINT, answered, bytesAt, memory, padded, roomFor } from './module.js';
-import { OutOfMemory } from './refused.js';
-import { exactPointsAt, pointsAt, scaleOf } from './rounding.js';
+/** Geometries for maps, in the form of GeoJSON. */
+import { NO_PRECISION, POINT_WORDS, ROW_WORDS, exactOf, found } from './arrays.js';
+import { exactPointsAt, numberAt, pointsAt, scaleOf } from './rounding.js';
 
-const TYPES = {
-    point: 'Point', linestring: 'LineString', polygon: 'Polygon', multipoint: 'MultiPoint',
-    multilinestring: 'MultiLineString', multipolygon: 'MultiPolygon', collection: 'GeometryCollection',
-};
-const SHORT = 64; // over so few bytes a loop of our own is faster than indexOf
-const SENT = 8; // of a report, the word that has the number of points
-const [LINE_FEED, COMMA, MINUS, ZERO] = [...'\n,-0'].map(character => character.charCodeAt());
+const TYPES = [
+    '', 'Point', 'LineString', 'Polygon', 'MultiPoint', 'MultiLineString', 'MultiPolygon', 'GeometryCollection',
+];
+const [POINT, COLLECTION] = [1, 7];
+const HAS_POINTS = [false, true, true, false, false, false, false, false, true]; // by kind, up to a ring
 
-/** Decodes polylines of a table in memory into room after all buffers. */
-class Decoder {
-    constructor(wasm, table, base, from, exact) {
-        Object.assign(this, { wasm, base, exact, start: table.byteOffset, points: padded(from), room: 0, words: null });
-    }
-
-    /** The points of the polyline in some bytes of the table. */
-    read(from, to, precision) {
-        if ((to - from) / 2 > this.room) {
-            this.room = to - from;
-            roomFor(this.points - this.base + this.room * POINT);
-        }
-        const call = () => this.wasm.decode(this.start + from, to - from, this.points, this.room);
-        const report = answered(call) / 4;
-        if (this.words?.buffer !== memory()) this.words = new Int32Array(memory());
-        if (this.words[report] !== DONE) throw new OutOfMemory('polytwkb: out of memory');
-        const count = this.words[report + SENT], word = this.points / 4;
-        if (this.exact) return exactPointsAt(this.words, word, count);
-        return pointsAt(this.words, word, count, scaleOf(precision));
-    }
-}
-
-/** Reads the rows of a table, one after the other. */
-class Rows {
-    constructor(table) {
-        Object.assign(this, { table, length: table.length, at: table.indexOf(LINE_FEED) + 1, precision: 0 });
-        this.start = table.byteOffset;
-    }
-
-    /** The bytes of the table, which move to another buffer if memory has grown. */
-    get bytes() {
-        if (this.table.buffer !== memory()) this.table = bytesAt(this.start, this.length);
-        return this.table;
-    }
-
-    get more() { return this.at < this.length; }
-
-    next() {
-        const { bytes } = this, row = { depth: 0, kind: '', id: null, from: 0, to: 0 };
-        let { at } = this;
-        for (; bytes[at] !== COMMA; at++) row.depth = 10 * row.depth + bytes[at] - ZERO;
-        const kind = ++at;
-        while (bytes[at] !== COMMA) at++;
-        row.kind = kindAt(bytes, kind, at - kind);
-        const id = ++at;
-        while (bytes[at] !== COMMA) at++;
-        if (at > id) row.id = idOf(bytes, id, at);
-        if (bytes[++at] !== COMMA) {
-            const negative = bytes[at] === MINUS;
-            if (negative) at++;
-            this.precision = (negative ? -1 : 1) * (bytes[at++] - ZERO);
-        }
-        row.from = ++at;
-        while (bytes[at] !== LINE_FEED && at < row.from + SHORT) at++;
-        row.to = bytes[at] === LINE_FEED ? at : bytes.indexOf(LINE_FEED, at);
-        this.at = row.to + 1;
-        return row;
-    }
-}
-
-function idOf(bytes, from, to) {
-    const text = String.fromCharCode(...bytes.subarray(from, to)), id = Number(text);
-    return Number.isSafeInteger(id) ? id : BigInt(text);
-}
-
-/** Puts rows under those that they are in. */
+/** The lists that members are put into, by depth, and what they are put under. */
 class Tree {
-    constructor(exact) {
-        Object.assign(this, { exact, found: [], open: [] });
+    constructor(rows, exact) {
+        Object.assign(this, { rows, exact, found: [], above: [], lists: [] });
+        Object.assign(this, { word: rows.point, precision: 0, scale: null });
     }
 
-    put({ depth, kind, id }, coordinates, precision) {
-        const above = depth ? this.open[depth - 1] : null;
-        if (above && id !== null) (above.ids ??= []).push(id);
-        if (above && above.type !== 'GeometryCollection') {
-            above.coordinates.push(coordinates);
-            this.open[depth] = { coordinates };
-            return;
+    /** The coordinates of a row: its points, or the list that its members are put into. */
+    coordinates(kind, count) {
+        if (!HAS_POINTS[kind] || count === 0) return [];
+        const { rows: { words }, word, scale } = this;
+        this.word += POINT_WORDS * count;
+        if (this.exact) return kind === POINT ? exactPointsAt(words, word, 1)[0] : exactPointsAt(words, word, count);
+        if (kind === POINT) return [numberAt(words, word, scale), numberAt(words, word + 2, scale)];
+        return pointsAt(words, word, count, scale);
+    }
+
+    geometry(type, coordinates) {
+        const geometry = type === TYPES[COLLECTION] ? { type, geometries: coordinates } : { type, coordinates };
+        if (this.exact) geometry.precision = this.precision;
+        return geometry;
+    }
+
+    put(row) {
+        const { rows, above, lists } = this, { words } = rows, word = rows.row + ROW_WORDS * row;
+        const count = words[word + 2], depth = words[word + 4], last = words[word + 5];
+        const kind = last & 0xffff, own = last >> 24;
+        if (own !== NO_PRECISION) {
+            this.precision = own;
+            this.scale = scaleOf(own);
         }
-        const type = TYPES[kind];
-        const geometry = type === 'GeometryCollection' ? { type, geometries: [] } : { type, coordinates };
-        if (this.exact) geometry.precision = precision;
-        (above ? above.geometries : this.found).push(geometry);
-        this.open[depth] = geometry;
+        const coordinates = this.coordinates(kind, count);
+        if (depth && (last >> 16) & 0xff) (above[depth - 1].ids ??= []).push(rows.id(row));
+        // parts of multi geometries and rings have no precision of their own, and are put as coordinates
+        const it = own === NO_PRECISION ? null : this.geometry(TYPES[kind], coordinates);
+        (depth ? lists[depth - 1] : this.found).push(it ?? coordinates);
+        above[depth] = it;
+        lists[depth] = coordinates;
     }
 }
 
-/** The geometries of a table in memory. */
-function geometriesOf(wasm, table, base, end, exact) {
-    const rows = new Rows(table), tree = new Tree(exact), decoder = new Decoder(wasm, table, base, end, exact);
-    while (rows.more) {
-        const row = rows.next(), { kind, from, to } = row, { precision } = rows;
-        const points = from === to ? [] : decoder.read(from, to, precision);
-        tree.put(row, kind === 'point' && points.length ? points[0] : points, precision);
-    }
+function geometriesOf(rows, exact) {
+    const tree = new Tree(rows, exact);
+    for (let row = 0; row < rows.rows; row++) tree.put(row);
     return tree.found;
 }
 
 export function geometries(blobs, options = {}) {
-    checkObject(options, 'options');
-    const { exact = false } = options;
-    const input = bytesOf(blobs, 'a stream of blobs is bytes'), most = limitsOf(options);
-    if (typeof exact !== 'boolean') throw new TypeError(`exact is true or false, not ${kindOf(exact)}`);
-    let module, end;
-    const call = (wasm, from, to, room) => {
-        [module, end] = [wasm, to + room];
-        return wasm.unpack(from, input.length, to, room, ...most);
-    };
-    return converted(input, roomOf(input), call, (table, base) => geometriesOf(module, table, base, end, exact));
+    const exact = exactOf(options);
+    return found(blobs, options, rows => geometriesOf(rows, exact));
 }

@@ -11,7 +11,6 @@ const KEPT = 128 * 2 ** 20;
 // What the module can reach: less than 2^32 bytes. A longer buffer is refused before anything is copied.
 const REACHED = 2 ** 32 - 2 ** 20;
 const TEXT_ROOM = 32;
-const REPORT = 48;
 
 let compiled = null;
 let wasm = null;
@@ -101,13 +100,23 @@ function textAt(at) {
 
 export const reasonText = reason => textAt(wasm.reason_text(reason));
 
-/** The report of a conversion, as include/polytwkb.h has it. */
-function reportAt(at) {
-    const view = new DataView(wasm.memory.buffer, at, REPORT);
-    const long = offset => view.getUint32(offset, true) + view.getUint32(offset + 4, true) * 2 ** 32;
-    const [status, reason] = [view.getUint32(0, true), view.getUint32(4, true)];
-    return { status, reason, place: long(8), textOffset: long(16), done: long(24), sent: long(32), needed: long(40) };
+/** Reads the numbers of 32 and of 64 bits of a struct of include/polytwkb.h. */
+function fieldsAt(at, longs) {
+    const view = new DataView(wasm.memory.buffer, at, 8 + 8 * longs.length);
+    const fields = { status: view.getUint32(0, true), reason: view.getUint32(4, true) };
+    for (const [place, name] of longs.entries()) {
+        fields[name] = view.getUint32(8 + 8 * place, true) + view.getUint32(12 + 8 * place, true) * 2 ** 32;
+    }
+    return fields;
 }
+
+const REPORT = ['place', 'textOffset', 'done', 'sent', 'needed'];
+const COUNTS = ['place', 'done', 'rows', 'points', 'neededRows', 'neededPoints'];
+
+const reportAt = at => fieldsAt(at, REPORT);
+
+/** What a reading into arrays reports. */
+export const countsAt = at => fieldsAt(at, COUNTS);
 
 export const padded = size => Math.ceil(size / POINT) * POINT;
 

@@ -60,11 +60,12 @@ export const scaleOf = precision => SCALES[8 + precision];
 
 /** The coordinate in two words of 32 bits, the low one first. */
 export function numberAt(words, word, scale) {
-    const high = words[word + 1];
-    if (high < -NEAR || high >= NEAR) return farNumber((BigInt(high) << 32n) + BigInt(words[word] >>> 0), scale);
+    const low = words[word], high = words[word + 1];
+    if (high === low >> 31) return (low * scale.above) / scale.below;
+    if (high < -NEAR || high >= NEAR) return farNumber((BigInt(high) << 32n) + BigInt(low >>> 0), scale);
     // below 2^53 the whole number is exact, and so is the power of ten: one of the two operations does nothing, and the
     // other gives the nearest
-    return ((high * LONG + (words[word] >>> 0)) * scale.above) / scale.below;
+    return ((high * LONG + (low >>> 0)) * scale.above) / scale.below;
 }
 
 function farNumber(number, { precision }) {

@@ -3,9 +3,9 @@
     cases.py LIBRARY.so CASES SEED > FILE
 
 Streams and tables come from the generators of tests/fuzz (random trees with every freedom of the formats, and slips),
-with other limits than those have; polylines and points are made here. The room of the output is enough, or any other.
-A record: the call, its numbers, the input, the report, and the whole room of the output afterwards, which was full of
-0xA5 before.
+with other limits than those have; polylines and points are made here. The room of the output is enough, or any
+other. A record: the call, its numbers, the input, the report, and the whole room of the output afterwards, which was
+full of 0xA5 before. Arrays are points and then rows.
 """
 import ctypes
 import os
@@ -18,10 +18,11 @@ sys.path.insert(0, os.path.join(os.path.dirname(os.path.abspath(__file__)), ".."
 import fuzz
 from polyline import spelled
 
-PACK, UNPACK, SHOW, ENCODE, DECODE = range(5)
-NAMES = ("pack", "unpack", "show", "encode", "decode")
+PACK, UNPACK, SHOW, ENCODE, DECODE, READ = range(6)
+NAMES = ("pack", "unpack", "show", "encode", "decode", "read")
 TOO_SMALL = 5
 FILL = 0xA5
+POINT, ROW = 16, 24
 WILD = (2**62 - 1, 2**62, -(2**62), -(2**62) - 1, 2**63 - 1, -(2**63))
 STEPS = (1, 15, 16, 500, 16384, 2**19, 2**20, 10**7)
 
@@ -36,12 +37,19 @@ class Report(ctypes.Structure):
     ]
 
 
+class Counts(ctypes.Structure):
+    _fields_ = [("status", ctypes.c_uint32), ("reason", ctypes.c_uint32)] + [
+        (name, ctypes.c_uint64) for name in ("place", "done", "rows", "points", "needed_rows", "needed_points")
+    ]
+
+
 def loaded(path):
     library = ctypes.CDLL(os.path.abspath(path))
-    buffers = [ctypes.c_void_p, ctypes.c_size_t, ctypes.c_void_p, ctypes.c_size_t]
-    for name, more in zip(NAMES, ([Limits, ctypes.c_uint32], [Limits], [Limits], [], [])):
+    buffer = [ctypes.c_void_p, ctypes.c_size_t]
+    kinds = (2, [Limits, ctypes.c_uint32]), (2, [Limits]), (2, [Limits]), (2, []), (2, []), (3, [Limits])
+    for name, (buffers, more) in zip(NAMES, kinds):
         call = getattr(library, "polytwkb_" + name)
-        call.argtypes, call.restype = buffers + more, Report
+        call.argtypes, call.restype = buffers * buffer + more, Counts if name == "read" else Report
     return library
 
 
@@ -87,7 +95,8 @@ def limits_of(chance, nest):
 class Call:
     """A random call: what, with which limits, style and input."""
 
-    def __init__(self, seed, number):
+    def __init__(self, library, seed, number):
+        self.library = library
         self.chance = chance = random.Random(f"{seed}/{number}")
         self.limits, self.style = (0, 0, 0), 0
         kind = chance.random()
@@ -97,6 +106,8 @@ class Call:
             self.what, self.source = ENCODE, some_points(chance)
         else:
             self.of_case(fuzz.Case(seed, number))
+            if self.what == UNPACK and kind < 0.5:
+                self.what = READ
 
     def of_case(self, case):
         chance = self.chance
@@ -110,41 +121,56 @@ class Call:
         self.limits = limits_of(chance, case.nest)
 
     @property
-    def count(self):
-        """How many items the input has."""
-        return len(self.source) // (16 if self.what == ENCODE else 1)
-
-    @property
     def enough(self):
-        """Room that does, or nearly."""
-        count = self.count
-        return {PACK: len(self.source), ENCODE: 26 * count, DECODE: count // 2}.get(self.what, 20 * count) + 64
+        """Rooms that do, or nearly."""
+        size = len(self.source)
+        sizes = {PACK: size, ENCODE: 2 * size, DECODE: size // 2, READ: size}
+        return sizes.get(self.what, 20 * size) + 64, size // 2 + 8 if self.what == READ else 0
 
-    def answer(self, library, room):
+    def answer(self, rooms):
         """The report and the output."""
-        unit = 16 if self.what == DECODE else 1
-        output = (ctypes.c_ubyte * max(room * unit, 1)).from_buffer(bytearray([FILL]) * max(room * unit, 1))
-        more = [Limits(*self.limits)] + ([self.style] if self.what == PACK else []) if self.what < ENCODE else []
-        call = getattr(library, "polytwkb_" + NAMES[self.what])
-        report = call(self.source, self.count, ctypes.addressof(output), room, *more)
-        return report, bytes(output)[: room * unit]
+        first, second = rooms
+        size = {DECODE: POINT * first, READ: POINT * second + ROW * first}.get(self.what, first)
+        given = ctypes.create_string_buffer(self.source, len(self.source) + 16)
+        output = (ctypes.c_ubyte * max(size, 1)).from_buffer(bytearray([FILL]) * max(size, 1))
+        call = getattr(self.library, "polytwkb_" + NAMES[self.what])
+        report = call(*self.arguments(ctypes.addressof(given), ctypes.addressof(output), first, second))
+        return report, bytes(output)[:size]
+
+    def arguments(self, given, output, first, second):
+        size, limits = len(self.source), Limits(*self.limits)
+        if self.what == READ:
+            return given, size, output + POINT * second, first, output, second, limits
+        more = {PACK: [limits, self.style], UNPACK: [limits], SHOW: [limits]}.get(self.what, [])
+        return given, size // (POINT if self.what == ENCODE else 1), output, first, *more
 
 
-def recorded(call, library):
-    room = call.enough
-    report, output = call.answer(library, room)
-    if report.status != TOO_SMALL:  # enough: exactly what is needed, one more or less, or any other room
-        more = call.chance.choice((0, 0, 1, 1, 40, -1, -call.chance.randrange(report.sent + 1)))
-        room = max(0, report.sent + more)
-        report, output = call.answer(library, room)
-    head = struct.pack("<BBxxIIIII", call.what, call.style, *call.limits, room, len(call.source))
-    return head + call.source + bytes(report) + output
+def exactly(call, report):
+    """Rooms that are as large as is needed, one more or less, or any others."""
+
+    def near(size):
+        return max(0, size + call.chance.choice((0, 0, 1, 1, 40, -1, -call.chance.randrange(size + 1))))
+
+    if call.what == READ:
+        return near(report.rows), near(report.points)
+    return near(report.sent), 0
+
+
+def recorded(call):
+    rooms = call.enough
+    report, output = call.answer(rooms)
+    if report.status != TOO_SMALL:
+        rooms = exactly(call, report)
+        report, output = call.answer(rooms)
+    report = bytes(report)
+    numbers = *call.limits, *rooms, 0, len(call.source), len(report), len(output)
+    return struct.pack("<BBxx9I", call.what, call.style, *numbers) + call.source + report + output
 
 
 def main():
     library, cases, seed = loaded(sys.argv[1]), int(sys.argv[2]), sys.argv[3]
     for number in range(cases):
-        sys.stdout.buffer.write(recorded(Call(seed, number), library))
+        sys.stdout.buffer.write(recorded(Call(library, seed, number)))
 
 
 if __name__ == "__main__":

@@ -1,7 +1,7 @@
 // Compares modules and the package with what the native library answered (cases.py). For node and for browsers.
-const NAMES = ['pack', 'unpack', 'show', 'encode', 'decode'];
-const [PACK, , , ENCODE, DECODE] = [0, 1, 2, 3, 4];
-const [HEAD, REPORT, POINT, FILL, BEHIND] = [24, 48, 16, 0xa5, 64];
+const NAMES = ['pack', 'unpack', 'show', 'encode', 'decode', 'read'];
+const [PACK, , , ENCODE, DECODE, READ] = NAMES.keys();
+const [HEAD, POINT, ROW, FILL, BEHIND] = [40, 16, 24, 0xa5, 64];
 const MOST_TOLD = 10;
 
 const padded = size => (size + 15) & ~15;
@@ -14,36 +14,43 @@ export function records(bytes) {
     const view = viewOf(bytes), found = [];
     for (let at = 0; ;) {
         if (at + HEAD > bytes.length) return { found, used: at };
-        const call = bytes[at], style = bytes[at + 1];
-        const [nest, nodes, points, room, length] = [4, 8, 12, 16, 20].map(offset => view.getUint32(at + offset, true));
-        const source = at + HEAD, report = source + length, output = report + REPORT;
-        const end = output + room * (call === DECODE ? POINT : 1);
+        const numbers = Array.from({ length: 9 }, (_, place) => view.getUint32(at + 4 + 4 * place, true));
+        const [nest, nodes, points, first, second, , ...lengths] = numbers;
+        const [source, report, output, end] = [0, ...lengths].map((sum => length => (sum += length))(at + HEAD));
         if (end > bytes.length) return { found, used: at };
         found.push({
-            call, style, limits: [nest, nodes, points], room, source: bytes.subarray(source, report),
-            report: bytes.subarray(report, output), output: bytes.subarray(output, end),
+            call: bytes[at], style: bytes[at + 1], limits: [nest, nodes, points], rooms: [first, second],
+            source: bytes.subarray(source, report), report: bytes.subarray(report, output),
+            output: bytes.subarray(output, end),
         });
         at = end;
     }
 }
 
+/** The arguments of a record's call, whose input and output are at places of the module's memory. */
+function argumentsOf({ call, style, limits, rooms: [first, second], source }, from, to) {
+    const { length } = source;
+    if (call === READ) return [from, length, to + POINT * second, first, to, second, ...limits];
+    const more = call >= ENCODE ? [] : call === PACK ? [...limits, style] : limits;
+    return [from, call === ENCODE ? length / POINT : length, to, first, ...more];
+}
+
 /** What a record finds wrong with a module, or an empty text. */
 export async function checking(bytes) {
     const { exports } = await WebAssembly.instantiate(await WebAssembly.compile(bytes));
-    return ({ call, style, limits, room, source, report, output }) => {
-        const size = output.length, at = Number(exports.buffers(padded(source.length) + size + BEHIND)) >>> 0;
-        const to = at + padded(source.length);
+    return record => {
+        const { call, source, report, output } = record, size = output.length;
+        const from = exports.buffers(padded(source.length) + size + BEHIND) >>> 0, to = from + padded(source.length);
         const memory = (start, length) => new Uint8Array(exports.memory.buffer, start, length);
         memory(to, size + BEHIND).fill(FILL);
-        memory(at, source.length).set(source);
-        const more = call >= ENCODE ? [] : call === PACK ? [...limits, style] : limits;
-        const count = call === ENCODE ? source.length / POINT : source.length;
-        const where = exports[NAMES[call]](at, count, to, room, ...more) >>> 0;
+        memory(from, source.length).set(source);
+        const where = exports[NAMES[call]](...argumentsOf(record, from, to)) >>> 0;
         if (exports.kept()) return 'keeps memory';
-        if (!same(memory(where, REPORT), report)) return `report ${memory(where, REPORT)}, not ${report}`;
+        const said = memory(where, report.length);
+        if (!same(said, report)) return `report ${said}, not ${report}`;
         if (!same(memory(to, size), output)) return 'output';
         if (memory(to + size, BEHIND).some(byte => byte !== FILL)) return 'bytes after the output';
-        return same(memory(at, source.length), source) ? '' : 'input';
+        return same(memory(from, source.length), source) ? '' : 'input';
     };
 }
 
@@ -51,38 +58,71 @@ const metadataOf = number => number.toString(16).toUpperCase().padStart(2, '0');
 const lineOf = ({ level, offset, kind, precision, metadata, length, points }) =>
     `${[level, offset, kind, precision, metadataOf(metadata), length, points].join(' ')}\n`;
 
+/** Arrays of the package as the bytes of points and rows. */
+function bytesOfArrays({ depths, kinds, precisions, hasIds, ids, starts, xy }) {
+    const start = 8 * xy.length, bytes = new Uint8Array(start + ROW * depths.length), view = viewOf(bytes);
+    new BigInt64Array(bytes.buffer, 0, xy.length).set(xy);
+    for (let row = 0, at = start; row < depths.length; row++, at += ROW) {
+        view.setBigInt64(at, ids[row], true);
+        view.setUint32(at + 8, starts[row + 1] - starts[row], true);
+        view.setUint32(at + 16, depths[row], true);
+        view.setUint16(at + 20, kinds[row], true);
+        bytes[at + 22] = hasIds[row];
+        view.setInt8(at + 23, precisions[row]);
+    }
+    return bytes;
+}
+
 /** The call of a record by the package, and the form in which its output is compared. */
 function calling(polytwkb, { call, style, limits: [nest, nodes, points], source }) {
-    const limits = { nest, nodes, points };
+    const limits = { nest, nodes, points }, form = style ? 'plain' : 'full';
     return [
-        [() => polytwkb.pack(source, style ? 'plain' : 'full', limits), latin],
+        [() => polytwkb.pack(source, form, limits), latin],
         [() => polytwkb.unpack(source, limits), text => text],
         [() => polytwkb.show(source, limits), headers => headers.map(lineOf).join('')],
         [() => polytwkb.encode(new BigInt64Array(new Uint8Array(source).buffer)), text => text],
         [() => polytwkb.decodeFlat(source), numbers => latin(new Uint8Array(numbers.buffer))],
+        [() => polytwkb.read(source, { ...limits, exact: true }), found => latin(bytesOfArrays(found))],
     ][call];
+}
+
+/** The part of a record's output that is written, as its report says. */
+function writtenOf({ call, rooms, report, output }) {
+    const long = at => Number(viewOf(report).getBigUint64(at, true));
+    if (call !== READ) return output.subarray(0, long(32) * (call === DECODE ? POINT : 1));
+    const start = POINT * rooms[1], points = output.subarray(0, POINT * long(32));
+    const rows = output.subarray(start, start + ROW * long(24)), bytes = new Uint8Array(points.length + rows.length);
+    bytes.set(points);
+    bytes.set(rows, points.length);
+    return bytes;
+}
+
+/** Why, where and after how many geometries a record's input is refused; an empty text if it is not. */
+function refusalOf({ call, report }) {
+    const view = viewOf(report), long = at => Number(view.getBigUint64(at, true));
+    if (!view.getUint32(0, true)) return '';
+    const reason = view.getUint32(4, true);
+    if (call === READ) return [reason, long(8), 0, long(16)];
+    return [reason, call === DECODE ? long(16) : long(8), long(16), long(24)];
 }
 
 /** The same of the package, if the room was enough, since the package finds its room. */
 export function checkingPackage(polytwkb) {
     return record => {
-        const { call, report, output } = record, view = viewOf(report);
-        const long = at => Number(view.getBigUint64(at, true)), status = view.getUint32(0, true);
-        if (status > 1) return '';
-        const [run, form] = calling(polytwkb, record);
+        const made = viewOf(record.report).getUint32(0, true) > 1 ? null : calling(polytwkb, record);
+        if (!made) return '';
+        const [run, form] = made;
         let got, found = '';
         try {
             got = run();
         } catch (fault) {
             if (!(fault instanceof polytwkb.Refused)) return String(fault.stack);
-            const { reason, place, textOffset, done } = fault;
+            const { reason, place, textOffset = 0, done } = fault;
             [got, found] = [fault.output, [reason, place, textOffset, done]];
         }
-        const sent = long(32) * (call === DECODE ? POINT : 1);
-        if (form(got) !== latin(output.subarray(0, sent))) return 'output of the package';
-        const place = call === DECODE ? long(16) : long(8);
-        const expected = status ? [view.getUint32(4, true), place, long(16), long(24)] : '';
-        return String(found) === String(expected) ? '' : `${found} of the package, not ${expected}`;
+        if (form(got) !== latin(writtenOf(record))) return 'output of the package';
+        const expected = String(refusalOf(record));
+        return String(found) === expected ? '' : `${found} of the package, not ${expected}`;
     };
 }
 

@@ -1,7 +1,7 @@
 // What callers in TypeScript write; the declarations take it, and refuse what is marked.
 import {
-    Geometry, Header, Limits, OutOfMemory, Point, Refused, decode, decodeFlat, encode, geometries, load, pack, show,
-    split, stream, unpack, unpackBytes, version,
+    Arrays, Geometry, Header, Limits, OutOfMemory, Point, Refused, decode, decodeFlat, encode, geometries, load, pack,
+    read, show, split, stream, unpack, unpackBytes, version,
 } from '../polytwkb.js';
 
 async function all(response: Response, file: ArrayBuffer): Promise<void> {
@@ -19,6 +19,8 @@ async function all(response: Response, file: ArrayBuffer): Promise<void> {
         if (geometry.type === 'GeometryCollection') geometry.geometries[0].type.length.toFixed();
     }
     const exact: bigint | undefined = geometries(blobs, { exact: true }).map(it => it.precision && 1n)[0] || undefined;
+    const degrees: Float64Array = read(blobs).xy, whole: Arrays<BigInt64Array> = read(blobs, { exact: true });
+    degrees.fill(whole.starts[0]);
     for await (const part of stream(response)) split(part);
     for await (const part of stream(fetch('shapes.twkb'), { nest: 2 })) unpack(part);
     try {

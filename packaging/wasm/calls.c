@@ -18,15 +18,22 @@ struct report {
     u64 place, text_offset, done, sent, needed;
 };
 
+struct counts {
+    u32 status, reason;
+    u64 place, done, rows, points, needed_rows, needed_points;
+};
+
 struct report *polytwkb_pack(struct report *, const byte *, u64, byte *, u64, struct limits *, u32);
 struct report *polytwkb_unpack(struct report *, const byte *, u64, byte *, u64, struct limits *);
 struct report *polytwkb_show(struct report *, const byte *, u64, byte *, u64, struct limits *);
 struct report *polytwkb_encode(struct report *, const byte *, u64, byte *, u64);
 struct report *polytwkb_decode(struct report *, const byte *, u64, byte *, u64);
+struct counts *polytwkb_read(struct counts *, const byte *, u64, byte *, u64, byte *, u64, struct limits *);
 u64 polytwkb_reason_text(u32, byte *, u64);
 u64 polytwkb_version(byte *, u64);
 
 static struct report report;
+static struct counts counts;
 static byte text[32];
 
 #define AT(address) ((byte *)(u64)(address))
@@ -54,6 +61,12 @@ u32 encode(u32 points, u32 count, u32 output, u32 room) {
 
 u32 decode(u32 input, u32 length, u32 points, u32 room) {
     return NUMBER(polytwkb_decode(&report, AT(input), length, AT(points), room));
+}
+
+/* This answers where the counts are. */
+u32 read(u32 input, u32 length, u32 rows, u32 row_room, u32 points, u32 point_room, u32 nest, u32 nodes, u32 most) {
+    struct limits limits = {nest, nodes, most};
+    return NUMBER(polytwkb_read(&counts, AT(input), length, AT(rows), row_room, AT(points), point_room, &limits));
 }
 
 /* Each of these answers where a text is, which ends at a NUL. */

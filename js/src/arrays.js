@@ -1,0 +1,116 @@
+/** The geometries of a stream as typed arrays, a row for each row of its table. */
+import { bytesOf, checkObject, kindOf, limitsOf } from './inputs.js';
+import {
+    DONE, POINT, REFUSED, TOO_SMALL, answered, called, countsAt, memory, padded, reasonText, roomFor,
+} from './module.js';
+import { OutOfMemory, Refused, whereOf } from './refused.js';
+import { numberAt, scaleOf } from './rounding.js';
+
+export const ROW = 24; // bytes of a row
+export const ROW_WORDS = 6; // of 32 bits: id and points, two each, depth, and kind, has_id and precision in one
+export const POINT_WORDS = 4;
+export const NO_PRECISION = -128;
+const LARGE = 2 ** 24;
+
+/** Rows and points in the module's memory. */
+class Found {
+    constructor(rowsAt, rows, pointsAt, points) {
+        Object.assign(this, { row: rowsAt / 4, rows, point: pointsAt / 4, points, words: new Int32Array(memory()) });
+    }
+
+    depth(row) { return this.words[this.row + ROW_WORDS * row + 4]; }
+
+    kind(row) { return this.words[this.row + ROW_WORDS * row + 5] & 0xffff; }
+
+    hasId(row) { return (this.words[this.row + ROW_WORDS * row + 5] >> 16) & 0xff; }
+
+    precision(row) { return this.words[this.row + ROW_WORDS * row + 5] >> 24; }
+
+    count(row) { return this.words[this.row + ROW_WORDS * row + 2]; }
+
+    id(row) {
+        const word = this.row + ROW_WORDS * row, high = this.words[word + 1], low = this.words[word] >>> 0;
+        const near = high >= -(2 ** 21) && high < 2 ** 21;
+        return near ? high * 2 ** 32 + low : (BigInt(high) << 32n) + BigInt(low);
+    }
+}
+
+/** A first guess at rows and points of a stream: for a large one none, since to count first takes less than memory. */
+function roomsOf({ length }) {
+    return length < LARGE ? { rows: (length >> 2) + 64, points: (length >> 1) + 8 } : { rows: 0, points: 0 };
+}
+
+/** Reads a stream into rows and points; with more room, as much as the module names, if that was too small. */
+function readInto(wasm, input, most) {
+    let rooms = roomsOf(input), isPut = false;
+    for (;;) {
+        const points = padded(input.length), rows = points + rooms.points * POINT;
+        const base = roomFor(rows + rooms.rows * ROW);
+        if (!isPut) input.put(base);
+        isPut = true;
+        const given = [base, input.length, base + rows, rooms.rows, base + points, rooms.points, ...most];
+        const counts = countsAt(answered(() => wasm.read(...given)));
+        if (counts.status === DONE || counts.status === REFUSED) {
+            return { counts, found: new Found(base + rows, counts.rows, base + points, counts.points) };
+        }
+        const more = counts.neededRows > rooms.rows || counts.neededPoints > rooms.points;
+        if (counts.status !== TOO_SMALL || !more) throw new OutOfMemory('polytwkb: out of memory');
+        rooms = { rows: counts.neededRows, points: counts.neededPoints };
+    }
+}
+
+/** What `result` makes of the rows and points of a stream; if it is refused, of those before the fault. */
+export function found(blobs, limits, result) {
+    const input = bytesOf(blobs, 'a stream of blobs is bytes'), most = limitsOf(limits);
+    return called(wasm => {
+        const { counts, found: rows } = readInto(wasm, input, most), output = result(rows);
+        if (counts.status === REFUSED) {
+            throw new Refused(counts.reason, reasonText(counts.reason), whereOf(counts), counts, output);
+        }
+        return output;
+    });
+}
+
+/** Whether whole numbers are asked for. */
+export function exactOf(options) {
+    checkObject(options, 'options');
+    const { exact = false } = options;
+    if (typeof exact !== 'boolean') throw new TypeError(`exact is true or false, not ${kindOf(exact)}`);
+    return exact;
+}
+
+/** The coordinates of all points in degrees, each by the precision of the geometry that it is in. */
+function degreesOf(rows) {
+    const xy = new Float64Array(2 * rows.points);
+    let scale = null, word = rows.point, place = 0;
+    for (let row = 0; row < rows.rows; row++) {
+        const precision = rows.precision(row);
+        if (precision !== NO_PRECISION) scale = scaleOf(precision);
+        const end = place + 2 * rows.count(row);
+        for (; place < end; word += 2) xy[place++] = numberAt(rows.words, word, scale);
+    }
+    return xy;
+}
+
+function arraysOf(rows, exact) {
+    const count = rows.rows, arrays = {
+        depths: new Uint8Array(count), kinds: new Uint8Array(count), precisions: new Int8Array(count),
+        hasIds: new Uint8Array(count), ids: new BigInt64Array(count), starts: new Uint32Array(count + 1), xy: null,
+    };
+    const ids = new BigInt64Array(memory(), 4 * rows.row, (ROW / 8) * count);
+    for (let row = 0; row < count; row++) {
+        arrays.depths[row] = rows.depth(row);
+        arrays.kinds[row] = rows.kind(row);
+        arrays.precisions[row] = rows.precision(row);
+        arrays.hasIds[row] = rows.hasId(row);
+        arrays.ids[row] = ids[(ROW / 8) * row];
+        arrays.starts[row + 1] = arrays.starts[row] + rows.count(row);
+    }
+    arrays.xy = exact ? new BigInt64Array(memory(), 4 * rows.point, 2 * rows.points).slice() : degreesOf(rows);
+    return arrays;
+}
+
+export function read(blobs, options = {}) {
+    const exact = exactOf(options);
+    return found(blobs, options, rows => arraysOf(rows, exact));
+}
