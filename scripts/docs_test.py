@@ -18,7 +18,11 @@ on the path, $REPO set to the repository and $RECIPES to its recipes, and no inp
 prints only a line 'skipped: needs X' is not compared: recipes print that if a tool is missing.
 
 An indented line of docs/RECIPES.md is what a user types on files of his own. It must be, word for word, a line of a
-demonstration in examples/recipes, which runs it.
+demonstration in examples/recipes, which runs it. Each command there, which a line with four blanks begins, must end
+with a status other than 0 in an empty folder, without `pipefail`.
+
+The line of `awk` for a CSV of one's own is the same in README.md and in docs/USING.md. What it makes of files that it is
+not for, `pack` must refuse by `bad header`.
 
 If a line of a crate's README ends with a link to a file of crates/examples/src and a colon, a block fenced with
 ```rust follows, which must be that file, word for word. Each file there, except lib.rt and tests.rt, must be
@@ -42,6 +46,10 @@ REPO = os.path.abspath(os.path.join(os.path.dirname(__file__), ".."))
 FILES = ["README.md", "docs/USING.md", "docs/RECIPES.md", "crates/polytwkb/README.md"]
 EXAMPLES = os.path.join(REPO, "crates", "examples", "src")
 RECIPES = os.path.join(REPO, "examples", "recipes")
+AWK = re.compile(r"^awk -F,.*? routes\.csv > table\.csv$", re.S | re.M)
+OWN_FILE = "route_id,name,polyline\n12,Bern,yop}Gysml@lAxTfChSgKhK\n14,,\n"
+# Commands that make files of it that the line of awk is not for.
+WRONG_FILES = ["sed 1d", "tr , ';'", "gzip -nc", r"tr '\n' '\r'", "cut -d , -f 1,2", "iconv -t UTF-16", "true"]
 CALLER = re.compile(r"\(\.\./examples/src/([a-z_]+\.rt)\):$")
 MARK = "--- end of the command ---"
 SECONDS = 300
@@ -200,7 +208,7 @@ def typed_lines():
         for number, line in enumerate(file, 1):
             inside ^= line.startswith("```")
             if not inside and line.startswith("    "):
-                yield number, line.strip()
+                yield number, line.rstrip("\n")
 
 
 def lines_not_run():
@@ -210,11 +218,53 @@ def lines_not_run():
         with open(path, encoding="utf-8") as file:
             run.update(line.strip() for line in file)
     typed = list(typed_lines())
-    wrong = [(number, line) for number, line in typed if line not in run]
+    wrong = [(number, line) for number, line in typed if line.strip() not in run]
     for number, line in wrong:
         print(f"docs/RECIPES.md:{number}: no demonstration runs: {line}")
     print(f"{'FAIL' if wrong else 'ok  '}  docs/RECIPES.md: {len(typed)} lines to type, {len(wrong)} not run")
     return len(wrong)
+
+
+def in_new_folder(text):
+    """Runs a text by bash in an empty folder, with the program on the path and no server of PostgreSQL."""
+    environment = {name: value for name, value in os.environ.items() if not name.startswith("PG")}
+    environment.update(RECIPES=RECIPES, PGHOST="/nonexistent", PATH=f"{REPO}/bin:{os.environ['PATH']}")
+    with tempfile.TemporaryDirectory(prefix="docs_test.") as folder:
+        return subprocess.run(["bash", "-c", text], cwd=folder, env=environment, stdin=subprocess.DEVNULL,
+                              capture_output=True, text=True, timeout=SECONDS)
+
+
+def commands_on_nothing():
+    """How many commands of the page of recipes end with status 0 if all files are missing, each reported."""
+    commands = []
+    for number, line in typed_lines():
+        if line.startswith("     "):
+            commands[-1][1] += "\n" + line
+        else:
+            commands.append([number, line])
+    wrong = [number for number, text in commands if in_new_folder(text).returncode == 0]
+    for number in wrong:
+        print(f"docs/RECIPES.md:{number}: status 0 without its files")
+    mark = "FAIL" if wrong else "ok  "
+    print(f"{mark}  docs/RECIPES.md: {len(commands)} commands without files, {len(wrong)} with status 0")
+    return len(wrong)
+
+
+def wrong_files():
+    """How many faults the line of awk in README.md and docs/USING.md has, each reported on standard output."""
+    lines = {line for page in ("README.md", "docs/USING.md") for line in AWK.findall(pages.text_of(page))}
+    faults = [] if len(lines) == 1 else [f"{len(lines)} lines of awk in README.md and docs/USING.md"]
+    line = min(lines, default="false")
+    for command in ["cat", *WRONG_FILES]:
+        made = f"printf '{OWN_FILE}' | {command} > routes.csv"
+        run = in_new_folder(f"{made}\n{line}\npolytwkb pack < table.csv > routes.twkb")
+        said = "" if command == "cat" else "polytwkb: record 1: bad header\n"
+        if run.returncode != bool(said) or not run.stderr.endswith(said):
+            faults.append(f"awk after {command}: status {run.returncode}, {run.stderr}")
+    print("".join(fault + "\n" for fault in faults), end="")
+    mark = "FAIL" if faults else "ok  "
+    print(f"{mark}  README.md: {len(WRONG_FILES)} wrong files through awk, {len(faults)} faults")
+    return len(faults)
 
 
 def page_faults():
@@ -228,7 +278,7 @@ def main():
     if not os.access(os.path.join(REPO, "bin", "polytwkb"), os.X_OK):
         print("docs_test: no bin/polytwkb; 'make build' makes it", file=sys.stderr)
         return 2
-    wrong = 0 if sys.argv[1:] else page_faults()
+    wrong = 0 if sys.argv[1:] else page_faults() + commands_on_nothing() + wrong_files()
     for path in sys.argv[1:] or [os.path.join(REPO, name) for name in FILES]:
         if not sys.argv[1:] and not os.path.exists(path):
             continue

@@ -13,8 +13,8 @@ JSON
 ogr2ogr my.gpkg lines.geojson -nln my_layer -t_srs EPSG:2056
 ogr2ogr -f 'ESRI Shapefile' my.shp my.gpkg
 
-ogr2ogr -f GeoJSONSeq -lco COORDINATE_PRECISION=9 -t_srs EPSG:4326 -dim XY /vsistdout/ my.gpkg my_layer |
-    python3 $RECIPES/geojson_to_table.py --rest my.rest 6 | polytwkb pack > my.twkb
+(ogr2ogr -f GeoJSONSeq -lco COORDINATE_PRECISION=9 -t_srs EPSG:4326 -dim XY /vsistdout/ my.gpkg my_layer ||
+    echo refused) | python3 $RECIPES/geojson_to_table.py --rest my.rest 6 | polytwkb pack > my.twkb
 polytwkb unpack < my.twkb | python3 $RECIPES/table_to_geojson.py --rest my.rest > again.geojsonl
 ogr2ogr again.gpkg again.geojsonl -nln my_layer
 
@@ -22,8 +22,8 @@ polytwkb unpack < my.twkb
 ogrinfo -q again.gpkg my_layer | grep -v '^$'
 
 # A shapefile gives the same stream.
-ogr2ogr -f GeoJSONSeq -lco COORDINATE_PRECISION=9 -t_srs EPSG:4326 -dim XY /vsistdout/ my.shp |
-    python3 $RECIPES/geojson_to_table.py 6 | polytwkb pack > shapefile.twkb
+(ogr2ogr -f GeoJSONSeq -lco COORDINATE_PRECISION=9 -t_srs EPSG:4326 -dim XY /vsistdout/ my.shp ||
+    echo refused) | python3 $RECIPES/geojson_to_table.py 6 | polytwkb pack > shapefile.twkb
 cmp shapefile.twkb my.twkb
 
 # With the decimals that are its default ogr2ogr writes -26.4 here.

@@ -20,9 +20,9 @@ psql -c "COPY (SELECT 'all', ST_AsTWKB(array_agg(ST_Force2D(geom) ORDER BY id), 
 polytwkb unpack < all.twkb > all.csv
 cat all.csv
 
-polytwkb unpack < all.twkb | awk -F, -v OFS=, 'NR == 1 { print; next } $1 == 0 { precision = $4; next }
+awk -F, -v OFS=, 'NR == 1 { print; next } $1 == 0 { precision = $4; next }
     $1 == 1 { print $3 > "my.keys"; $3 = ""; if ($4 == "") $4 = precision }
-    { $1--; print }' | polytwkb pack > my.twkb
+    { $1--; print }' all.csv | polytwkb pack > my.twkb
 psql -c 'CREATE TABLE my_blobs (key text, twkb bytea)'
 python3 $RECIPES/stream_to_copy.py my.twkb my.keys | psql -c 'COPY my_blobs FROM STDIN (FORMAT binary)'
 psql -At -c 'SELECT key::bigint, ST_AsText(ST_GeomFromTWKB(twkb)) FROM my_blobs'

@@ -13,12 +13,13 @@ sqlite3 -csv -header my.db "SELECT 0 AS depth, 'linestring' AS kind, NULL AS id,
 
 sqlite3 my.db 'ALTER TABLE routes ADD COLUMN twkb BLOB'
 sqlite3 my.db 'SELECT rowid FROM routes ORDER BY rowid' > my.rows
-python3 $RECIPES/cut_stream.py my.twkb | paste -d ' ' my.rows - |
+python3 $RECIPES/cut_stream.py my.twkb > my.hex && paste -d ' ' my.rows my.hex |
     awk 'BEGIN { print "BEGIN;" }
         { print "UPDATE routes SET twkb = x\047" $2 "\047 WHERE rowid = " $1 ";" }
         END { print "COMMIT;" }' | sqlite3 -bail my.db
 
-sqlite3 my.db 'SELECT hex(twkb) FROM routes ORDER BY rowid' | xxd -r -p | polytwkb unpack > again.csv
+sqlite3 my.db 'SELECT hex(twkb) FROM routes ORDER BY rowid' > again.hex && xxd -r -p again.hex |
+    polytwkb unpack > again.csv
 
 sqlite3 my.db 'SELECT id, hex(twkb) FROM routes ORDER BY rowid'
 cat again.csv
