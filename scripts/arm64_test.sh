@@ -41,7 +41,7 @@ starter() { cc -static -O1 -DROOT="\"${3:-$root}\"" -DPROGRAM="\"$1\"" -o "$2" t
 tree=$work/tree
 mkdir -p "$tree/bin" "$tree/out"
 cp -r scripts tests examples python include "$tree/"
-cp --parents crates/twkb_convert/src/version.rt "$tree/"
+cp --parents crates/twkb_convert/src/version.rt crates/vectors/stdin crates/vectors/stdout "$tree/"
 cp -a "$built"/libpolytwkb.* "$tree/out/"
 starter "$built/polytwkb" "$tree/bin/polytwkb" || exit 1
 $cross-gcc -O1 -shared -fPIC -o "$tree/bin/refuse.so" tests/hostile/refuse.c || exit 1
