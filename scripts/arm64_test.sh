@@ -123,7 +123,8 @@ by_archive() {
   read -ra words <<< "$(PKG_CONFIG_PATH="$at/lib/pkgconfig" pkg-config --cflags --libs polytwkb)"
   $cross-gcc -std=c11 -o "$work/archived" examples/c/convert.c "${words[@]}" && arm -E LD_LIBRARY_PATH="$at/lib" "$work/archived"
 }
-# The wheel by the pip and the Python of ARM, in a root that debootstrap filled; then the package's tests over it.
+# The wheel by the pip and the Python of ARM, in a root that debootstrap filled; then the package's tests over it, with
+# fewer random values.
 by_pip() {
   local at=$1 pip package
   debootstrap --foreign --arch=arm64 --variant=minbase --include=python3 bookworm "$at" || return 1
@@ -132,7 +133,7 @@ by_pip() {
   pip=$(python3 -c 'import ensurepip, glob, os; print(glob.glob(os.path.join(os.path.dirname(ensurepip.__file__), "_bundled", "pip-*.whl"))[0])')
   export PYTHONHOME=$at/usr
   "$work/python3" -B "$pip/pip" install -q --disable-pip-version-check --root-user-action=ignore --no-index --no-compile --target "$work/wheel" "$work"/dist/polytwkb-*_aarch64.whl &&
-    cd python/tests && PYTHONPATH=$work/wheel "$work/python3" -B "$repository/tests/arm64/package_tests.py"
+    cd python/tests && ROUNDINGS=2000 CASES=500 PYTHONPATH=$work/wheel "$work/python3" -B "$repository/tests/arm64/package_tests.py"
 }
 
 report "archive, package and wheel, twice the same bytes" packed
