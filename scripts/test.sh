@@ -185,10 +185,16 @@ if [ $status -eq 0 ]; then
   make -s bin/refuse.so > /dev/null 2>&1
   lane smoke completions fuzz &
   lane hostile &
-  # what several of the parts below would build at the same time
+  # what takes longest to build, beside what several of the parts below would build at the same time
+  arm64_build=
+  if command -v aarch64-linux-gnu-gcc > /dev/null; then
+    make -s arm64 out/arm64/vectors > "$work/arm64_build.log" 2>&1 &
+    arm64_build=$!
+  fi
   make -s lib static wasm > "$work/build.log" 2>&1 || tail -n 20 "$work/build.log"
   lane library machines documents &
   lane javascript &
+  [ -z "$arm64_build" ] || wait "$arm64_build"
   lane arm64 dist &
   wait
   for name in $parts; do [ -e "$work/$name.counts" ] || echo "0 passed, 1 failed" > "$work/$name.counts"; done
