@@ -25,6 +25,11 @@ python3 $RECIPES/geojson_to_table.py --rest my.rest 6 < my.geojson | polytwkb pa
 polytwkb unpack < my.twkb | python3 $RECIPES/table_to_geojson.py --rest my.rest > again.geojsonl
 grep '"stop"' again.geojsonl
 
+# Polylines alone, a line for each feature: halfway is away from zero, and a geometry of parts has none of its own.
+python3 $RECIPES/geojson_to_table.py 5 < my.geojson > my.table &&
+    awk -F, '$1 == 0 { print $5 }' my.table > my.polylines
+printf 'yop}Gysml@\n\n\n' | cmp - my.polylines
+
 # Lines of GeoJSON, with marks of a text sequence or without, are the same features.
 sed '1 s/^/\x1e/' again.geojsonl | python3 $RECIPES/geojson_to_table.py 6 | cmp - my.csv
 
