@@ -4,9 +4,7 @@ use Rattle.std.specs.Prelude.{nat_lt, Ok, Err}
 use Rattle.std.proofs.lemmas.Bool.{cond_both, ltb-true, ltb-false}
 use Rattle.twkb_num.specs.Varint.{HasMarks, seven_bit_sum, IsVarint}
 use Rattle.twkb_grammar.specs.Bits.{AreBytes}
-use Rattle.twkb_grammar.specs.Fault.{Truncated, BadType, ExtraDimensions, BadVarint, TooDeep}
-use Rattle.twkb_grammar.specs.Fault.{TooManyNodes, TooManyPoints, CoordinateRange, SizeMismatch}
-use Rattle.twkb_grammar.specs.Fault.{GoOn, IsTooLong}
+use Rattle.twkb_grammar.specs.Fault.{Truncated, BadVarint, GoOn, IsTooLong}
 use Rattle.twkb_grammar.specs.PlainReader.{Cut, with_byte, varint_at}
 
 -- one more than the greatest number that k + 1 bytes can spell
@@ -37,13 +35,7 @@ abbrev pub CutSays : ℕ → List ℕ → Cut → Type 0
 CutSays k bytes (Ok r) = Whole k bytes r.0 r.1 r.2
 CutSays k bytes (Err Truncated) = (length bytes < suc k) × GoOn bytes
 CutSays k bytes (Err BadVarint) = Long k bytes
-CutSays k bytes (Err BadType) = ⊥
-CutSays k bytes (Err ExtraDimensions) = ⊥
-CutSays k bytes (Err TooDeep) = ⊥
-CutSays k bytes (Err TooManyNodes) = ⊥
-CutSays k bytes (Err TooManyPoints) = ⊥
-CutSays k bytes (Err CoordinateRange) = ⊥
-CutSays k bytes (Err SizeMismatch) = ⊥
+CutSays k bytes (Err reason) = ⊥
 
 top_some : (k : ℕ) → 2 ≤ top_number k
 top_some zero = omega arith
@@ -73,13 +65,7 @@ with_byte_says k b bytes (Err BadVarint) h l s =
       go_on = (h, s.go_on);
       above = s.above;
     }
-with_byte_says k b bytes (Err BadType) h l s = absurd s
-with_byte_says k b bytes (Err ExtraDimensions) h l s = absurd s
-with_byte_says k b bytes (Err TooDeep) h l s = absurd s
-with_byte_says k b bytes (Err TooManyNodes) h l s = absurd s
-with_byte_says k b bytes (Err TooManyPoints) h l s = absurd s
-with_byte_says k b bytes (Err CoordinateRange) h l s = absurd s
-with_byte_says k b bytes (Err SizeMismatch) h l s = absurd s
+with_byte_says k b bytes (Err reason) h l s = absurd s
 
 -- a cut says what is at the start of the bytes
 pub cut_says : (k : ℕ) (bytes : List ℕ) → AreBytes bytes → CutSays k bytes (varint_at (suc k) bytes)

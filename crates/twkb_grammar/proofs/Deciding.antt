@@ -5,9 +5,7 @@ use Rattle.twkb_num.specs.Varint.{IsVarint}
 use Rattle.twkb_tree.specs.Limits.{Allowance}
 use Rattle.twkb_grammar.specs.Roles.{Role, Header, Metadata, Extended, Size, Box, Count, Id, X, Y, End, Spells}
 use Rattle.twkb_grammar.specs.Blob.{IsExact}
-use Rattle.twkb_grammar.specs.Fault.{Reason, Truncated, BadType, ExtraDimensions, BadVarint}
-use Rattle.twkb_grammar.specs.Fault.{TooDeep, TooManyNodes, TooManyPoints, CoordinateRange}
-use Rattle.twkb_grammar.specs.Fault.{SizeMismatch, Refused, IsCut, IsTooLong}
+use Rattle.twkb_grammar.specs.Fault.{Reason, Truncated, BadVarint, Refused, IsCut, IsTooLong}
 use Rattle.twkb_grammar.specs.Machine.{Sums}
 use Rattle.twkb_grammar.specs.PlainReader.{Cut, varint_at, cut, objection, Answer, RefusedAt}
 use Rattle.twkb_grammar.specs.PlainReader.{after_objection, after_cut}
@@ -73,13 +71,7 @@ module _ (limits : Allowance) (before : List Rattle.twkb_grammar.specs.Roles.Ite
       (record { reason = Truncated; refused = cut says; answer_is = refl })
   number_step rest r (Err BadVarint) says spell objects cut long = inr
       (record { reason = BadVarint; refused = long (long_bytes rest says); answer_is = refl })
-  number_step rest r (Err BadType) says spell objects cut long = absurd says
-  number_step rest r (Err ExtraDimensions) says spell objects cut long = absurd says
-  number_step rest r (Err TooDeep) says spell objects cut long = absurd says
-  number_step rest r (Err TooManyNodes) says spell objects cut long = absurd says
-  number_step rest r (Err TooManyPoints) says spell objects cut long = absurd says
-  number_step rest r (Err CoordinateRange) says spell objects cut long = absurd says
-  number_step rest r (Err SizeMismatch) says spell objects cut long = absurd says
+  number_step rest r (Err reason) says spell objects cut long = absurd says
 
   -- the step of any role
   pub step : (rest : List ℕ) (r : Role) → Agree s before → AreBytes rest → (rest ≡ [] → before ≢ [])

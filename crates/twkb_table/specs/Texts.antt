@@ -13,8 +13,8 @@ value_words row.BadPrecision = codes "bad precision"
 value_words row.PrecisionMissing = codes "precision missing"
 value_words row.PrecisionNotAllowed = codes "precision not allowed"
 value_words row.PolylineNotAllowed = codes "polyline not allowed"
-value_words row.PointCount = codes "wrong number of points"
 value_words (row.Polyline offset reason) = point_text_words reason
+value_words row.PointCount = codes "wrong number of points"
 value_words reason = []
 
 -- what is wrong with a record, in words: its form or its place, or a value in it
