@@ -34,7 +34,7 @@ def parse_words():
     parser.add_argument("--points", type=int, default=10_000_000, help="points of the long line (10000000)")
     parser.add_argument("--rounds", type=int, default=9, help="runs of each program, of which the best counts (9)")
     parser.add_argument("--cases", nargs="+", default=list(CASES), choices=list(CASES), help="only these tables")
-    pages = "write the tables and the picture into docs/, and the lines on size and speed into README.md and docs/USING.md"
+    pages = "write the tables and the picture into docs/, and the lines on size and speed into README.md"
     parser.add_argument("--docs", action="store_true", help=pages)
     for word in ("polytwkb", "plain", "maker", "folder"):
         parser.add_argument(word, help=argparse.SUPPRESS)
@@ -293,8 +293,7 @@ def write_pages(line, rows, sizes):
     put_into("docs/PERF.md", "", "\n" + "\n".join(tables) + "\n")
     with open("docs/benchmark.svg", "w", encoding="utf-8") as file:
         file.write(picture(rows))
-    for page in ("README.md", "docs/USING.md"):
-        put_into(page, "speed ", speed_text(rows))
+    put_into("README.md", "speed ", speed_text(rows))
     put_into("README.md", "size ", size_text(sizes))
 
 

@@ -33,14 +33,22 @@ export async function load(source) {
     }
 }
 
+async function fileOf(url) {
+    const { readFile } = await import(/* webpackIgnore: true */ /* @vite-ignore */ 'node:fs/promises');
+    try {
+        return await readFile(url);
+    } catch (cause) {
+        throw new Error(`polytwkb: ${url.pathname} cannot be read (in a clone, make wasm makes it)`, { cause });
+    }
+}
+
 async function compiledOf(source) {
     if (source instanceof WebAssembly.Module) return source;
     if (source instanceof ArrayBuffer || ArrayBuffer.isView(source)) return WebAssembly.compile(source);
     if (typeof source === 'string' || source instanceof URL) {
         const url = new URL(source, import.meta.url);
         if (url.protocol === 'file:' && globalThis.process?.versions?.node) {
-            const { readFile } = await import(/* webpackIgnore: true */ /* @vite-ignore */ 'node:fs/promises');
-            return WebAssembly.compile(await readFile(url));
+            return WebAssembly.compile(await fileOf(url));
         }
         source = await fetch(url);
     }
