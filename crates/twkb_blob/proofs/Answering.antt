@@ -2,6 +2,8 @@
 use Rattle.std.proofs.Common.{◌≡◌, ℕ, ◌<◌, inl, inr, List, [], length, length-append, sym, ap, ◌∙◌, refl, subst, Bool}
 use Rattle.std.proofs.Common.{Option, Some, None, Result, Ok, Err, true, false, arith}
 use Rattle.std.proofs.KnownBytes.{Consumes-whole}
+use Rattle.std.proofs.Math.Logic.{∥∥₁_elim}
+use Rattle.std.proofs.Props.{props}
 use Rattle.std.proofs.Math.Seq.{take-append_seam}
 use Rattle.std.proofs.lemmas.List.{nil_from_length}
 use Rattle.std.proofs.lemmas.Option.{IfSome_then}
@@ -20,7 +22,7 @@ use Rattle.twkb_io.specs.declared.input.Input.{Input}
 use Rattle.twkb_io.specs.declared.input.InFault.{InFault}
 use Rattle.twkb_io.specs.declared.input.InFault.TheVariants.{Read, TooLong, Spent}
 use Rattle.twkb_io.specs.Inputs.{given, rest_of}
-use Rattle.twkb_engine.specs.Standing.{StandsAt, count_of, held_in, notes_at}
+use Rattle.twkb_engine.specs.Standing.{IsAlive, StandsAt, count_of, held_in, notes_at}
 use Rattle.twkb_engine.specs.declared.engine.Engine.{Engine}
 use Rattle.twkb_engine.proofs.Feeds.{count_is}
 use Rattle.twkb_engine.proofs.RootPoints.{blob_judged, noted_none}
@@ -80,6 +82,13 @@ module _ {R : Type 0} {read : Ghosts R} (limits : Allowance) (a c : Input R read
       (let ahead = h.1 in omega (arith, ahead))
   answered holds told e rs qs v (Err fault.Spent) known kept h = absurd h
 
+-- a blob that was read has rows
+pub some_read : {S : Type 0} {holds : S → Notes → Type 0} {R : Type 0} {read : Ghosts R} {a c : Input R read}
+    {d e : Engine} {rs more : List Row} {told v : S}
+    → Reads holds d rs told a c (Ok true) e more v → IsAlive rs d → 0 < length more
+some_read {more = more} run alive = ∥∥₁_elim alive (Prim.hlevel props) (λ s.
+    let at = run.blob s.0 s.1 in some_row more at.0 at.3)
+
 module _ {R : Type 0} {read : Ghosts R} {limits : Allowance} {a c : Input R read} where
   module _ {S : Type 0} {holds : S → Notes → Type 0} {rs : List Row} {v : S} where
     pub read_next : {d e : Engine} {none held qs : List Row} {told : S} (answer : Result Bool BlobFault)
@@ -104,13 +113,23 @@ module _ {R : Type 0} {read : Ghosts R} {limits : Allowance} {a c : Input R read
     flat_next (Err fault.Memory) h = tt
     flat_next (Err why) h = h.is
 
-    pub same_answer : {answer other : Result Bool BlobFault} → answer ≡ other
+    same_answer : {answer other : Result Bool BlobFault} → answer ≡ other
         → ReadsInto holds limits a c answer rs v → ReadsInto holds limits a c other rs v
     same_answer is h = subst (λ r. ReadsInto holds limits a c r rs v) is h
 
     pub some_rows : {answer : Result Bool BlobFault} → answer ≡ Ok true
         → ReadsInto holds limits a c answer rs v → 0 < length rs
     some_rows found h = let at = same_answer found h in some_row rs at.is.0 at.is.3
+
+    -- there is no memory for a part that is ahead
+    pub part_ahead : {answer : Result Bool BlobFault} → answer ≡ Err fault.Memory
+        → ReadsInto holds limits a c answer rs v → PartAhead limits [] a
+    part_ahead missing h = (same_answer missing h).is
+
+    -- it is not refused for what was before
+    pub not_spent : {answer : Result Bool BlobFault} → answer ≡ Err fault.Spent
+        → ReadsInto holds limits a c answer rs v → ⊥
+    not_spent spent h = (same_answer spent h).is
 
   -- its rows and its spans
   pub spanned_next : {rs : List Row} {v : Notes} {spans : List Span}

@@ -1,5 +1,5 @@
 -- The bytes say how many of them are held and how many geometries are begun.
-use Rattle.std.proofs.Common.{◌≡◌, ℕ, zero, suc, ◌+◌, ◌<◌, inl, inr, List, [], ◌∷◌, ◌++◌, length, length-append, refl}
+use Rattle.std.proofs.Common.{◌≡◌, ℕ, zero, suc, ◌+◌, ◌<◌, ◌≤◌, inl, inr, List, [], ◌∷◌, ◌++◌, length, length-append, refl}
 use Rattle.std.proofs.Common.{sym, ap, ◌∙◌, subst, append_assoc, append-nil, Option, Bool, true, false, Some, arith}
 use Rattle.std.specs.Prelude.{sum_by}
 use Rattle.std.proofs.lemmas.List.{nil_from_length}
@@ -25,14 +25,19 @@ use Rattle.twkb_grammar.proofs.Frames.{reached_frames}
 use Rattle.twkb_grammar.proofs.Standing.{none_longer}
 use Rattle.twkb_body.specs.Reading.{open_count}
 use Rattle.twkb_body.proofs.Notings.{same_count}
-use Rattle.twkb_engine.specs.State.{allowance_of, sums_of}
+use Rattle.twkb_engine.specs.State.{allowance_of, step_at, sums_of}
+use Rattle.twkb_engine.specs.Collections.{groups_of}
 use Rattle.twkb_engine.specs.Notes.{open_in}
 use Rattle.twkb_engine.specs.Standing.{StandsAt, IsEnd, held_in, offset_in}
+use Rattle.twkb_engine.proofs.Between.{few_open}
 use Rattle.twkb_engine.proofs.Steps.{next_role, next_no_end, next_number}
-use Rattle.twkb_body.specs.Outline.{outline_role}
+use Rattle.twkb_body.specs.Outline.{Group, outline_role}
 use Rattle.twkb_body.proofs.Outlined.{same_role}
+use Rattle.twkb_engine.proofs.Collections.{groups_length}
 use Rattle.twkb_engine.proofs.Feeds.{count_is}
 use Rattle.twkb_engine.specs.declared.engine.Engine.{Engine}
+use Rattle.twkb_engine.specs.declared.next_item.NextItem.{NextItem}
+use Rattle.twkb_engine.specs.declared.next_item.NextItem.TheVariants as next
 use Rattle.twkb_blob.specs.Sessions.{Stands, HeldOf, FramesOf, AreOpen, begun_by, ended_by, begun_rows, session_limits}
 use Rattle.twkb_blob.specs.declared.session.Session.{Session}
 use Rattle.twkb_blob.proofs.Standing.{fault_at, none_at, so_many}
@@ -109,6 +114,11 @@ frames_are bs rs d s =
     sym (same_count s.outlined.stack.0 s.outlined.stack.1 ∙ ap open_count s.outlined.outline)
     ∙ reached_frames (allowance_of d) s.front (sums_of d) s.outlined.stack s.outlined.reached
 
+-- they are the collections, and at most one geometry more
+open_few : (n : NextItem) (e : Engine) (groups : List Group) → open_count (groups, step_at n e) ≤ length groups + 1
+open_few next.TypeByte e groups = omega arith
+open_few n e groups = omega arith
+
 -- the items before a missing one, of the same bytes as the items of a part, are the items of that
 -- part if they do not go on beyond it
 same_items : (limits : Allowance) (bytes : List ℕ) (offset : ℕ)
@@ -166,10 +176,10 @@ module _ {bytes : List ℕ} {gs : List Tree} {old : Session} (s : Stands bytes g
   held_told false first = inr (d.start + offset_in d, fault_at s s.whole refl first, omega (arith, so_many s))
 
   -- the geometries that are begun
-  pub frames_told : IsOpenVarint (held_in d) → (between : Bool)
+  frames_at : IsOpenVarint (held_in d) → (between : Bool)
       → IsEnd own s.rest (offset_in d) between → FramesOf own bytes gs (open_in d)
   unfolding stands_of
-  frames_told o true none =
+  frames_at o true none =
       let r = s.begun.outlined.reached in
       let front : s.begun.front ≡ [] =
       nil_from_length s.begun.front
@@ -185,7 +195,7 @@ module _ {bytes : List ℕ} {gs : List Tree} {old : Session} (s : Stands bytes g
             ∙ ap (open_after 0) (no_items r.items s.begun.outlined.stack r.ran.runs
             (r.spelled ∙ front)),
       )
-  frames_told o false first =
+  frames_at o false first =
       let r = s.begun.outlined.reached in
       let stands = stands_of s.rest (begun_rows old) d o s.begun in
       let at : join r.items ++ held_in d ≡ s.rest = ap (λ l. l ++ held_in d) r.spelled ∙ sym s.begun.whole in
@@ -204,6 +214,23 @@ module _ {bytes : List ℕ} {gs : List Tree} {old : Session} (s : Stands bytes g
         subst (λ n. AreOpen first.fault.before n) many
             (part_open own first.fault.before first.alive),
       )
+
+  -- as many as the engine has begun
+  pub frames_told : (n : ℕ) → n ≡ open_in old.engine → IsOpenVarint (held_in old.engine) → (between : Bool)
+      → ((bs : List ℕ) (rs : List Row) → StandsAt bs rs old.engine
+      → IsEnd (session_limits old) bs (offset_in old.engine) between)
+      → FramesOf (session_limits old) bytes gs n
+  frames_told n is o between ends = subst (λ m. FramesOf own bytes gs m) (sym is)
+      (frames_at o between (ends s.rest (begun_rows old) s.begun))
+
+  -- no more than may be nested
+  pub frames_few : open_in old.engine ≤ (session_limits old).nest + 1
+  frames_few = omega (
+    arith,
+    open_few d.next d (groups_of d.collections),
+    groups_length [] d.collections,
+    few_open s.rest (begun_rows old) d s.begun,
+  )
 
 -- ---- the bytes tell both
 

@@ -113,10 +113,13 @@ module _ {bytes : List ℕ} {gs : List Tree} {old : Session} (s : Stands bytes g
 
   -- what the end of a stream is answered
   pub finished : {A : Type 0} (answer : Result A BlobFault)
-      → EndsAt own old.engine.start s.rest answer → Finished own bytes gs answer
-  finished (Ok done) none = none_at s.whole none
-  finished (Err (fault.At offset reason)) h = fault_at s.whole h.2 h.1
-  finished (Err why) h = absurd h
+      → ((bs : List ℕ) (rs : List Row) → StandsAt bs rs old.engine
+      → EndsAt (session_limits old) old.engine.start bs answer)
+      → Finished (session_limits old) bytes gs answer
+  finished (Ok done) ends = none_at s.whole (ends s.rest (begun_rows old) s.begun)
+  finished (Err (fault.At offset reason)) ends =
+      let h = ends s.rest (begun_rows old) s.begun in fault_at s.whole h.2 h.1
+  finished (Err why) ends = absurd (ends s.rest (begun_rows old) s.begun)
 
   -- ---- a piece was fed
 

@@ -7,12 +7,12 @@ ghost use Rattle.twkb_tree.specs.Limits.{IsValid, largest_limits};
 ghost use Rattle.twkb_grammar.specs.Noting.{no_notes};
 
 use crate::fault::BlobFault;
-use crate::input_blobs::read_blob;
+use crate::input_blobs::read_anew;
 use crate::session::Session;
 use crate::spans::{Located, Spans, keep_spans};
 use std::alloc::Global;
 use std::io::Read;
-use twkb_engine::{Engine, NoSpans, SpanNotes};
+use twkb_engine::{NoSpans, SpanNotes};
 use twkb_flat::Flat;
 use twkb_io::Input;
 use twkb_tree::{Geometry, Limits};
@@ -260,10 +260,8 @@ impl<'a, R: Read> Reader<'a, R> {
         if !self.is_ready()? {
             return Ok(false);
         }
-        let mut engine = Engine::new(alloc, self.limits, self.input.offset());
-        let found = read_blob(&mut self.input, &mut engine, flat, spans);
+        let found = read_anew(alloc, self.limits, &mut self.input, flat, spans);
         self.state = State::after(found);
-        keep_rows(found, flat);
         found
     }
 
@@ -328,16 +326,4 @@ impl<'a, R: Read> Reader<'a, R> {
             }
         }
     }
-}
-
-// Leaves rows in a form only if a geometry was read.
-#[inline(always)]
-fn keep_rows(found: Result<bool, BlobFault>, flat: &mut Flat)
-    ensures made { found ≡ Ok true → flat.new ≡ flat.old }
-    ensures cleared { (found ≡ Ok true) ⊎ (flat.new ≡ []) }
-{
-    if let Ok(true) = found {
-        return;
-    }
-    flat.clear();
 }

@@ -8,7 +8,7 @@ ghost use Rattle.twkb_io.specs.Taps.{count_failure};
 ghost use Rattle.twkb_io.specs.Inputs.{input_failures, input_tap};
 ghost use Rattle.twkb_grammar.specs.Noting.{no_notes};
 ghost use Rattle.twkb_engine.specs.Standing.{IsAlive, count_of};
-ghost use Rattle.twkb_blob.specs.Readers.{failed_by_read};
+ghost use Rattle.twkb_blob.specs.Readers.{IsNextFlat, PartAhead, failed_by_read};
 
 use crate::fault::BlobFault;
 use crate::input_blobs::{at_end, feed_one, feed_piece, read_blob};
@@ -238,6 +238,13 @@ impl Session {
         ensures read { (limits : Allowance) → IsAbreast limits input.old self.old
             → ReadsInto S.holds limits input.old input.new result (session_rows self.new)
             spans.new }
+        ensures next { (limits : Allowance) → IsAbreast limits input.old self.old
+            → IsNextFlat limits input.old input.new result (session_rows self.new) }
+        ensures memory { (limits : Allowance) → IsAbreast limits input.old self.old
+            → result ≡ Err BlobFault.Memory → PartAhead limits [] input.old }
+        ensures some { result ≡ Ok true → 0 < length (session_rows self.new) }
+        ensures abreast { (limits : Allowance) → IsAbreast limits input.old self.old
+            → result ≡ Ok true → IsAbreast limits input.new self.new }
     {
         if self.spent {
             self.give_up();
@@ -288,6 +295,7 @@ impl Session {
 
     /// Ends the stream: `Ok` if no blob is begun, else `Truncated`; `Spent` after an `Err` or an
     /// earlier end. Afterwards each feed and `finish` return `Spent`. Takes no memory.
+    #[tactic(auto, using(crate::proofs::Standing::finished))]
     pub fn finish(&mut self) -> Result<(), BlobFault>
         ensures unread { failed_by_read result ≡ false }
         ensures limits { session_limits self.new ≡ session_limits self.old }

@@ -1,12 +1,11 @@
-use Rattle.twkb_blob.specs.Sessions.{begun_rows}
-use Rattle.twkb_blob.proofs.Counts.{frames_told}
+use Rattle.std.proofs.Common.{arith}
+use Rattle.twkb_blob.proofs.Counts.{frames_few, frames_told}
 use Rattle.twkb_blob.proofs.session.Session.frames.Goals as goal
 
 pub returns-clause-open : goal.returns-clause-open
 returns-clause-open c = λ bytes gs s.
-    let learnt = c.is_between-learnt in
-    rw c.open_geometries.ensures.open (frames_told s c.held-learnt.ensures.begun learnt.result
-    (learnt.ensures.ended s.rest (begun_rows c.args.self.now) s.begun))
+    let between = c.is_between-learnt in
+    frames_told s _ (omega arith) c.held-learnt.ensures.begun between.result between.ensures.ended
 
 pub returns-clause-few : goal.returns-clause-few
-returns-clause-few c = λ bytes gs s. c.open_geometries.ensures.few s.rest (begun_rows c.args.self.now) s.begun
+returns-clause-few c = λ bytes gs s. omega (arith, frames_few s)

@@ -1,6 +1,7 @@
 use Rattle.std.proofs.Common.{◌∙◌, ◌≡◌, Ok, true, ap, refl, rules}
 use Rattle.twkb_engine.specs.State.{allowance_of}
-use Rattle.twkb_blob.proofs.Abreast.{read_abreast}
+use Rattle.twkb_blob.proofs.Abreast.{read_abreast, still_abreast}
+use Rattle.twkb_blob.proofs.Answering.{flat_next, part_ahead, some_read}
 use Rattle.twkb_blob.proofs.Alive.{of_begun}
 use Rattle.twkb_blob.proofs.Standing.{read_none, read_ok}
 use Rattle.twkb_blob.proofs.session.Session.read_from.Goals as goal
@@ -34,3 +35,22 @@ returns-clause-read g c = λ limits k.
     let other : c.read_blob-found.result ≡ Ok true → ⊥ = search rules in
     rw same (read_abreast k c.begin.new.self c.read_blob-found.result c.begin.ensures.engine c.begin.ensures.rows
     c.requires.no_notes (λ e. absurd (other e)) c.read_blob-found.ensures.read)
+
+pub returns-in-Ok-true-clause-next : goal.returns-in-Ok-true-clause-next
+returns-in-Ok-true-clause-next g c = λ limits k. flat_next (Ok true) (returns-in-Ok-true-clause-read g c limits k)
+
+pub returns-clause-next : goal.returns-clause-next
+returns-clause-next g c = λ limits k. flat_next c.match-found.found (returns-clause-read g c limits k)
+
+pub returns-clause-memory : goal.returns-clause-memory
+returns-clause-memory g c = λ limits k missing. part_ahead missing (returns-clause-read g c limits k)
+
+pub returns-in-Ok-true-clause-some : goal.returns-in-Ok-true-clause-some
+returns-in-Ok-true-clause-some g c = λ found.
+    let t = c.begin.new.self in
+    some_read (rw c.in-Ok-true.field-0-test at c.in-Ok-true.ensures.read) (of_begun t.rows.flat t.engine t.is_whole
+    c.begin.ensures.open (t.alive (c.begin.ensures.spent ∙ c.if-self.false)))
+
+pub returns-in-Ok-true-clause-abreast : goal.returns-in-Ok-true-clause-abreast
+returns-in-Ok-true-clause-abreast g c = λ limits k is. still_abreast k _ _ (Ok true) is
+    (search rules) (returns-in-Ok-true-clause-through g c k.bytes k.gs k.stands)
