@@ -23,5 +23,6 @@ pub mod TwoLemmas
 pub mod UnzigzagLemmas
 pub mod VarintLemmas
 pub mod VarintOutLemmas
+pub mod WholeTextLemmas
 pub mod WordLemmas
 pub mod ZigzagLemmas
