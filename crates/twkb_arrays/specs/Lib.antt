@@ -1,4 +1,8 @@
+pub mod Blobs
+pub mod Judging
 pub mod Reading
 pub mod Rows
 pub mod SameRows
+pub mod Sending
+pub mod Status
 pub mod Taking
