@@ -1,8 +1,10 @@
 pub mod Blobs
 pub mod Judging
 pub mod Reading
+pub mod Rooms
 pub mod Rows
 pub mod SameRows
 pub mod Sending
 pub mod Status
 pub mod Taking
+pub mod Writing

@@ -13,7 +13,9 @@ use Rattle.twkb_buffer.specs.declared.point.BufferPoint.{BufferPoint}
 use Rattle.twkb_blob.specs.Sessions.{Stands}
 use Rattle.twkb_blob.specs.declared.session.Session.{Session}
 use Rattle.twkb_arrays.specs.Status.{unless_full}
-use Rattle.twkb_arrays.specs.Taking.{HasTaken, IsFilled, StopsBefore, are_more}
+use Rattle.twkb_arrays.specs.Rooms.{StopsBefore, are_more}
+use Rattle.twkb_arrays.specs.Rows.{LacksRoom}
+use Rattle.twkb_arrays.specs.Taking.{HasTaken, IsFilled}
 use Rattle.twkb_arrays.specs.declared.row.BufferRow.{BufferRow}
 use Rattle.twkb_arrays.specs.declared.taking.Taken.{Taken}
 use Rattle.twkb_arrays.specs.declared.reading.BufferCounts.{BufferCounts}
@@ -76,7 +78,7 @@ pub record ReadsArrays (l : Allowance) (bytes : List ℕ) (old_rows : List Buffe
   pub given : List Tree
   pub later : List Tree
   pub filled : IsFilled old_rows old_points given new_rows new_points
-  pub stops : StopsBefore old_rows old_points given later
+  pub stops : StopsBefore (LacksRoom old_rows old_points) given later
   pub answer : Result (Unit {0}) BlobFault
   pub ended : EndsReading l bytes (given ++ later) answer
   pub counted : CountsAs given later answer counts

@@ -1,5 +1,5 @@
 //! Blobs written into a slice one after another, each whole.
-ghost use Rattle.std.specs.Prelude.{◌≡◌, ◌<◌, ◌≤◌, List, ℕ, [], length};
+ghost use Rattle.std.specs.Prelude.{◌≡◌, ◌+◌, ◌++◌, ◌<◌, ◌≤◌, List, ℕ, [], length, take, drop};
 ghost use Rattle.twkb_tree.specs.Tree.{Tree};
 ghost use Rattle.twkb_grammar.specs.Written.{canonical_blob};
 ghost use Rattle.twkb_grammar.specs.declared.style.Style.{Style};
@@ -36,6 +36,7 @@ impl Sent {
 #[inline(always)]
 fn put_from(blob: &[u8], output: &mut [u8], first: usize)
     requires { first + length blob.now ≤ length output.old }
+    ensures { output.new ≡ take first output.old ++ (blob.now ++ drop (first + length blob.now) output.old) }
 {
     let last = first + blob.len();
     output[first..last].copy_from_slice(blob);

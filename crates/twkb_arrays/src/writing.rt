@@ -1,5 +1,14 @@
 //! Rows and points in arrays as streams of blobs.
-ghost use Rattle.std.specs.Prelude.{◌≡◌, ◌<◌, ◌≤◌, List, ℕ, [], ◌++◌, length, take, IfOk, IfErr};
+ghost use Rattle.std.specs.Prelude.{◌≡◌, ◌≤◌, List, ℕ, [], ◌∷◌, ◌++◌, length, take, IfOk, IfErr, OnOk, OnErr};
+ghost use Rattle.twkb_tree.specs.Limits.{Allowance};
+ghost use Rattle.twkb_tree.specs.Tree.{Tree};
+ghost use Rattle.twkb_grammar.specs.declared.style.Style.{Style as InStyle};
+ghost use Rattle.twkb_tree.specs.RowLists.{AreValidRowsOfOne};
+ghost use Rattle.twkb_buffer.specs.declared.point.BufferPoint.{BufferPoint as InPoint};
+ghost use Rattle.twkb_arrays.specs.declared.row.BufferRow.{BufferRow as InRow};
+ghost use Rattle.twkb_arrays.specs.Sending.{HasSent, IsSentWithin};
+ghost use Rattle.twkb_arrays.specs.Writing.{EndsWriting, IsWriting, ReportsAs, StopsAtRow, StopsWriting};
+ghost use Rattle.twkb_arrays.specs.Writing.{WritesArrays, fault_at, write_outcome_of};
 
 use crate::blob_room::BlobRoom;
 use crate::gathering::{Stop, push_row};
@@ -24,11 +33,9 @@ pub(crate) enum WriteFault {
     At { place: u64, number: u32 },
 }
 
-// The geometry whose rows are being read, and the blobs of those before it.
+// The open geometry, whose rows are being read, and the blobs of the geometries before it.
 #[derive(Drop)]
 pub(crate) struct Writer {
-    limits: Limits,
-    style: Style,
     form: Flat,
     room: BlobRoom,
     sent: Sent,
@@ -36,10 +43,11 @@ pub(crate) struct Writer {
 
 impl Writer {
     // Makes a writer that has read no row and written nothing. Takes no memory.
-    fn new(alloc: Global, limits: Limits, style: Style) -> Writer {
+    fn new(alloc: Global) -> Writer
+        ensures { (l : Allowance) (style : InStyle) (output : List ℕ)
+            → IsWriting l style output [] [] output result }
+    {
         Writer {
-            limits,
-            style,
             form: Flat::new(alloc),
             room: BlobRoom::new(alloc),
             sent: Sent::nothing(),
@@ -47,13 +55,22 @@ impl Writer {
     }
 
     // Ends the open geometry, if there is one: makes its blob, writes that if there is room, and
-    // drops the rows.
+    // drops the rows. An `Err` changes nothing but the room.
     #[inline(always)]
-    fn end_geometry(&mut self, output: &mut [u8]) -> Result<(), AllocError> {
+    fn end_geometry(&mut self, style: Style, output: &mut [u8]) -> Result<(), AllocError>
+        requires { IsSentWithin output.old self.old.sent }
+        ensures closed { OnOk result (self.new.form ≡ []) }
+        ensures ended { OnOk result ((l : Allowance) (start : List ℕ) (in_rows : List InRow)
+            (in_points : List InPoint)
+            → IsWriting l style start in_rows in_points output.old self.old
+            → IsWriting l style start in_rows in_points output.new self.new) }
+        ensures same_output { OnErr result (output.new ≡ output.old) }
+        ensures same { OnErr result (self.new ≡ record self.old { room = self.new.room }) }
+    {
         if self.form.is_empty() {
             return Ok(());
         }
-        self.room.make(&self.form, self.style)?;
+        self.room.make(&self.form, style)?;
         send_blob(self.room.blob(), output, &mut self.sent);
         self.form.clear();
         Ok(())
@@ -64,36 +81,55 @@ impl Writer {
     #[inline(always)]
     fn write_row(
         &mut self,
+        limits: &Limits,
+        style: Style,
         row: &BufferRow,
         ahead: &[BufferPoint],
         output: &mut [u8],
-    ) -> Result<usize, Stop> {
+    ) -> Result<usize, Stop>
+        requires within { IsSentWithin output.old self.old.sent }
+        requires valid { AreValidRowsOfOne limits.now self.old.form }
+        ensures few { IfOk result (λ count. count ≤ length ahead.now) }
+        ensures reads { IfOk result (λ count. (start : List ℕ) (in_rows : List InRow)
+            (in_points : List InPoint)
+            → IsWriting limits.now style start in_rows in_points output.old self.old
+            → IsWriting limits.now style start (in_rows ++ row.now ∷ [])
+            (in_points ++ take count ahead.now) output.new self.new) }
+        ensures stops { IfErr result (λ why. (start : List ℕ) (in_rows : List InRow)
+            (in_points : List InPoint)
+            → IsWriting limits.now style start in_rows in_points output.old self.old
+            → StopsAtRow limits.now style start in_rows in_points row.now ahead.now output.new
+            self.new why) }
+    {
         if row.depth == 0 {
-            let Ok(()) = self.end_geometry(output) else {
+            let Ok(()) = self.end_geometry(style, output) else {
                 return Err(Stop::Memory);
             };
         }
-        push_row(&self.limits, &mut self.form, row, ahead)
+        push_row(limits, &mut self.form, row, ahead)
     }
 
     // Reads the rows, each with its points; returns how many points they have.
     fn write_rows(
         &mut self,
+        limits: &Limits,
+        style: Style,
         rows: &[BufferRow],
         points: &[BufferPoint],
         output: &mut [u8],
-    ) -> Result<usize, WriteFault> {
+    ) -> Result<usize, WriteFault>
+        requires { IsWriting limits.now style output.old [] [] output.old self.old }
+        ensures few { IfOk result (λ used. used ≤ length points.now) }
+        ensures reads { IfOk result (λ used. IsWriting limits.now style output.old rows.now
+            (take used points.now) output.new self.new) }
+        ensures stops { IfErr result (λ why. StopsWriting limits.now style output.old rows.now
+            points.now output.new self.new why) }
+    {
         let mut used = 0;
         for at in 0..rows.len() {
-            match self.write_row(&rows[at], &points[used..], output) {
+            match self.write_row(limits, style, &rows[at], &points[used..], output) {
                 Ok(count) => used += count,
-                Err(Stop::Memory) => return Err(WriteFault::Memory),
-                Err(Stop::Row(number)) => {
-                    return Err(WriteFault::At {
-                        place: at as u64,
-                        number,
-                    });
-                }
+                Err(stop) => return Err(at_row(at, stop)),
             }
         }
         Ok(used)
@@ -102,11 +138,18 @@ impl Writer {
     // Reads the rows, each with its points, and ends the last geometry if no points are left.
     fn write_all(
         &mut self,
+        limits: &Limits,
+        style: Style,
         rows: &[BufferRow],
         points: &[BufferPoint],
         output: &mut [u8],
-    ) -> Result<(), WriteFault> {
-        let used = match self.write_rows(rows, points, output) {
+    ) -> Result<(), WriteFault>
+        requires { IsWriting limits.now style output.old [] [] output.old self.old }
+        ensures { (given later : List Tree)
+            × HasSent style output.old given later output.new self.new.sent
+            × EndsWriting limits.now (given ++ later) rows.now points.now result }
+    {
+        let used = match self.write_rows(limits, style, rows, points, output) {
             Ok(used) => used,
             Err(fault) => return Err(fault),
         };
@@ -116,15 +159,30 @@ impl Writer {
                 number: POINTS_LEFT,
             });
         }
-        match self.end_geometry(output) {
+        match self.end_geometry(style, output) {
             Ok(()) => Ok(()),
             Err(_) => Err(WriteFault::Memory),
         }
     }
 }
 
+// Why arrays were not written past the row at a place.
+fn at_row(place: usize, stop: Stop) -> WriteFault
+    ensures { result ≡ fault_at place stop }
+{
+    match stop {
+        Stop::Memory => WriteFault::Memory,
+        Stop::Row(number) => WriteFault::At {
+            place: place as u64,
+            number,
+        },
+    }
+}
+
 // The status, the reason and the place of a writing that ended like this.
-fn outcome(full: bool, answer: Result<(), WriteFault>) -> (u32, u32, u64) {
+fn outcome(full: bool, answer: Result<(), WriteFault>) -> (u32, u32, u64)
+    ensures { result ≡ write_outcome_of full answer }
+{
     match answer {
         Ok(()) => unless_full(full, (0, 0, 0)),
         Err(WriteFault::Memory) => (4, 0, 0),
@@ -133,7 +191,11 @@ fn outcome(full: bool, answer: Result<(), WriteFault>) -> (u32, u32, u64) {
 }
 
 // The report of a writing that ended like this.
-fn reported(sent: &Sent, answer: Result<(), WriteFault>) -> BufferReport {
+fn reported(sent: &Sent, answer: Result<(), WriteFault>) -> BufferReport
+    ensures { (style : InStyle) (start output : List ℕ) (given later : List Tree)
+        → HasSent style start given later output sent.now
+        → ReportsAs style given later answer result }
+{
     let (status, reason, place) = outcome(sent.full, answer);
     BufferReport {
         status,
@@ -161,8 +223,10 @@ pub fn write_arrays(
     output: &mut [u8],
     limits: Limits,
     style: Style,
-) -> BufferReport {
-    let mut writer = Writer::new(alloc, limits, style);
-    let answer = writer.write_all(rows, points, output);
+) -> BufferReport
+    ensures { WritesArrays limits style rows.now points.now output.old output.new result }
+{
+    let mut writer = Writer::new(alloc);
+    let answer = writer.write_all(&limits, style, rows, points, output);
     reported(&writer.sent, answer)
 }
