@@ -1,7 +1,10 @@
 //! Rows and points in arrays: read from blobs, and written as blobs, with no text between.
 #![tactic(auto)]
 
+mod gathering;
+mod judging;
 pub mod laws;
+mod own_points;
 mod placing;
 mod reading;
 mod row;
