@@ -1,3 +1,4 @@
+pub mod Blobs
 pub mod Gathering
 pub mod Judging
 pub mod OwnPoints
@@ -5,4 +6,6 @@ pub mod Reading
 pub mod RowTests
 pub mod Rows
 pub mod SameRows
+pub mod Sending
+pub mod Status
 pub mod Taking

@@ -12,6 +12,7 @@ use Rattle.twkb_buffer.specs.Numbers.{blob_number_of}
 use Rattle.twkb_buffer.specs.declared.point.BufferPoint.{BufferPoint}
 use Rattle.twkb_blob.specs.Sessions.{Stands}
 use Rattle.twkb_blob.specs.declared.session.Session.{Session}
+use Rattle.twkb_arrays.specs.Status.{unless_full}
 use Rattle.twkb_arrays.specs.Taking.{HasTaken, IsFilled, StopsBefore, are_more}
 use Rattle.twkb_arrays.specs.declared.row.BufferRow.{BufferRow}
 use Rattle.twkb_arrays.specs.declared.taking.Taken.{Taken}
@@ -43,11 +44,6 @@ abbrev pub StopsReading : Allowance → List BufferRow → List BufferPoint → 
 StopsReading l start_rows start_points bytes in_rows in_points taken why =
     (given later : List Tree) × HasTaken start_rows start_points given later in_rows in_points taken
     × EndsReading {A = ℕ} l bytes (given ++ later) (Err why)
-
--- the status, the reason and the place: 5 and none if there was too little room
-abbrev pub unless_full : Bool → ℕ × ℕ × ℕ → ℕ × ℕ × ℕ
-unless_full true outcome = (5, 0, 0)
-unless_full false outcome = outcome
 
 -- the status, the reason and the place of a reading that ended like this, given whether there was
 -- too little room for a geometry: 4 without memory, 5 without room, 1 for a refusal, and 0
