@@ -1,6 +1,6 @@
 -- The row of a geometry that a row of an array stands for, and the reason to refuse it (profile).
 use Rattle.std.specs.Prelude.{◌≡◌, ℕ, ◌<◌, ◌≤◌, ◌==◌, ◌⊎◌, ℤ, pos, negsuc, List, length, take, reverse}
-use Rattle.std.specs.Prelude.{Option, Some, None, Bool, false, if◌then◌else◌, ⊥}
+use Rattle.std.specs.Prelude.{Option, Some, None, Bool, false, if◌then◌else◌}
 use Rattle.twkb_tree.specs.declared.kind.Kind.{Kind}
 use Rattle.twkb_tree.specs.Accepted.{Accepts}
 use Rattle.twkb_tree.specs.Limits.{Allowance}

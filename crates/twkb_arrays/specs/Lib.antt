@@ -1,7 +1,10 @@
 pub mod Blobs
+pub mod Gathering
 pub mod Judging
+pub mod OwnPoints
 pub mod Reading
 pub mod Rooms
+pub mod RowTests
 pub mod Rows
 pub mod SameRows
 pub mod Sending

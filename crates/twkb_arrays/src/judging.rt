@@ -1,12 +1,59 @@
-//! (for a trial: LEAF writes this)
-use crate::row::{BufferRow, NO_PRECISION};
-use std::alloc::AllocError;
-use twkb_buffer::BufferPoint;
-use twkb_flat::{PointSource, Row};
-use twkb_points::{PointTail, Pt};
-use twkb_tree::{Kind, Limits, Standing, row_rules};
+//! The row of a geometry that a row of an array stands for, and the reason to refuse it.
+ghost use Rattle.std.specs.Prelude.{◌≡◌, ◌↔◌, ◌+◌, [], List, IsTrue, MatchOption, true, nat_le};
+ghost use Rattle.twkb_tree.specs.declared.kind.Kind.{Kind};
+ghost use Rattle.twkb_tree.specs.Admits.{id_in_range, precision_in_range};
+ghost use Rattle.twkb_tree.specs.Open.{row_of, child_of};
+ghost use Rattle.twkb_tree.specs.Refusal.{are_in_range, id_checks, point_checks, precision_checks};
+ghost use Rattle.twkb_flat.specs.Rows.{row_with};
+ghost use Rattle.twkb_buffer.specs.declared.point.BufferPoint.{BufferPoint as InPoint};
+ghost use Rattle.twkb_arrays.specs.Rows.{kind_number, points_of};
+ghost use Rattle.twkb_arrays.specs.Judging.{HasRightId, row_from_c};
+ghost use Rattle.twkb_arrays.specs.RowTests.{IsFirstNumber, IsFirstNumberButRange};
+ghost use Rattle.twkb_arrays.specs.RowTests.{checks_there, place_checks};
 
-pub(crate) fn kind_of(number: u16) -> Option<Kind> {
+use crate::row::{BufferRow, NO_PRECISION};
+use twkb_buffer::BufferPoint;
+use twkb_flat::Row;
+use twkb_points::Pt;
+use twkb_tree::row_rules::{
+    count_fits, has_place, has_points, has_same_ids, id_allowed, is_whole, nest_kept,
+};
+use twkb_tree::{GREATEST_PRECISION, Kind, LEAST_PRECISION, Limits, OpenRow, Standing};
+
+// The number of the reason for which a row of no kind is refused.
+pub(crate) const BAD_KIND: u32 = 4;
+// The number of a kind that has no place there, or of a depth.
+pub(crate) const BAD_PLACE: u32 = 5;
+
+const TOO_DEEP: u32 = 6;
+
+const TOO_MANY_NODES: u32 = 7;
+
+pub(crate) const BAD_ID: u32 = 8;
+
+const ID_NOT_ALLOWED: u32 = 9;
+
+const MIXED_IDS: u32 = 10;
+
+const BAD_PRECISION: u32 = 11;
+
+const PRECISION_MISSING: u32 = 12;
+
+const PRECISION_NOT_ALLOWED: u32 = 13;
+
+const POINTS_NOT_ALLOWED: u32 = 14;
+
+const POINT_COUNT: u32 = 16;
+
+pub(crate) const COORDINATE_RANGE: u32 = 26;
+
+const TOO_MANY_POINTS: u32 = 27;
+
+// The kind with this number.
+#[inline(always)]
+pub(crate) fn kind_of(number: u16) -> Option<Kind>
+    ensures { MatchOption result ((k : Kind) → ¬ (kind_number k ≡ number)) (λ k. kind_number k ≡ number) }
+{
     match number {
         1 => Some(Kind::Point),
         2 => Some(Kind::Linestring),
@@ -20,11 +67,25 @@ pub(crate) fn kind_of(number: u16) -> Option<Kind> {
     }
 }
 
-pub(crate) fn has_right_id(row: &BufferRow) -> bool {
-    row.has_id == 1 || (row.has_id == 0 && row.id == 0)
+// Whether the row has an id and says so, or has none and a 0 in its place.
+#[inline(always)]
+pub(crate) fn has_right_id(row: &BufferRow) -> bool
+    ensures { IsTrue result ↔ HasRightId row.now }
+{
+    if row.has_id == 1 {
+        return true;
+    }
+    if row.has_id > 1 {
+        return false;
+    }
+    row.id == 0
 }
 
-pub(crate) fn row_of(row: &BufferRow, kind: Kind) -> Row {
+// The row of a geometry that this row stands for, without its points.
+#[inline(always)]
+pub(crate) fn bare_row(row: &BufferRow, kind: Kind) -> Row
+    ensures { (own : List InPoint) → row_with result (points_of own) ≡ row_from_c kind row.now own }
+{
     let id = if row.has_id == 0 { None } else { Some(row.id) };
     let precision = if row.precision == NO_PRECISION {
         None
@@ -39,7 +100,87 @@ pub(crate) fn row_of(row: &BufferRow, kind: Kind) -> Row {
     }
 }
 
-fn in_range(own: &[BufferPoint]) -> bool {
+// The number of the reason why a row of this kind and depth may not come at this place.
+#[inline(always)]
+fn refused_place(limits: &Limits, standing: &Standing, row: &Row) -> Option<u32>
+    ensures { IsFirstNumber (place_checks limits.now standing.now (row_with row.now [])) result }
+{
+    if !has_place(standing.parent, row.kind) {
+        return Some(BAD_PLACE);
+    }
+    if !nest_kept(limits, standing.parent, row.depth) {
+        return Some(TOO_DEEP);
+    }
+    if limits.nodes() <= standing.nodes {
+        return Some(TOO_MANY_NODES);
+    }
+    None
+}
+
+// Lets a proof know that an id is in range. Changes nothing.
+#[inline(always)]
+fn look_at_id(id: Option<i64>)
+    ensures { id_in_range id ≡ true }
+{
+    if let Some(number) = id {
+        // lets proofs know that the number fits 64 bits
+        let _learnt = number;
+    }
+}
+
+// The number of the reason why the row's id is refused under this parent.
+#[inline(always)]
+fn refused_id(parent: Option<OpenRow>, row: &Row) -> Option<u32>
+    ensures { IsFirstNumber (id_checks (row_of parent) (child_of parent) (row_with row.now [])) result }
+{
+    look_at_id(row.id);
+    let has_id = row.id.is_some();
+    if !id_allowed(parent, row.kind, has_id) {
+        return Some(ID_NOT_ALLOWED);
+    }
+    if !has_same_ids(parent, has_id) {
+        return Some(MIXED_IDS);
+    }
+    None
+}
+
+// Whether the precision is in range, if there is one.
+#[inline(always)]
+fn is_right_precision(precision: Option<i8>) -> bool
+    ensures { result ≡ precision_in_range precision }
+{
+    match precision {
+        None => true,
+        Some(decimals) => LEAST_PRECISION <= decimals && decimals <= GREATEST_PRECISION,
+    }
+}
+
+// The number of the reason why the row's precision is refused under this parent.
+#[inline(always)]
+fn refused_precision(parent: Option<OpenRow>, row: &Row) -> Option<u32>
+    ensures { IsFirstNumber (precision_checks (row_of parent) (row_with row.now [])) result }
+{
+    if !is_right_precision(row.precision) {
+        return Some(BAD_PRECISION);
+    }
+    let has_precision = row.precision.is_some();
+    if is_whole(parent) {
+        if has_precision {
+            None
+        } else {
+            Some(PRECISION_MISSING)
+        }
+    } else if has_precision {
+        Some(PRECISION_NOT_ALLOWED)
+    } else {
+        None
+    }
+}
+
+// Whether the coordinates of each point are in range.
+fn are_in_range(own: &[BufferPoint]) -> bool
+    ensures { result ≡ are_in_range (points_of own.now) }
+{
     for point in own {
         if Pt::try_new(point.x, point.y).is_none() {
             return false;
@@ -48,95 +189,64 @@ fn in_range(own: &[BufferPoint]) -> bool {
     true
 }
 
+// Whether the limits leave room for `count` points at this place.
+#[inline(always)]
+fn has_room(limits: &Limits, standing: &Standing, count: usize) -> bool
+    ensures { result ≡ nat_le (standing.now.points + count) limits.now.points }
+{
+    standing.points <= limits.points() && count <= (limits.points() - standing.points) as usize
+}
+
+// The number of the reason why the row's points are refused at this place. The points themselves
+// are only looked at if their number is wrong.
+#[inline(always)]
+fn refused_points(
+    limits: &Limits,
+    standing: &Standing,
+    row: &Row,
+    own: &[BufferPoint],
+) -> Option<u32>
+    ensures { IsFirstNumberButRange (point_checks limits.now (row_of standing.now.parent)
+        standing.now.points (row_with row.now (points_of own.now))) (points_of own.now) result }
+{
+    if !own.is_empty() && !has_points(row.kind) {
+        return Some(POINTS_NOT_ALLOWED);
+    }
+    let room = has_room(limits, standing, own.len());
+    let fits = count_fits(row.kind, is_whole(standing.parent), own.len());
+    if room && fits {
+        return None;
+    }
+    if !are_in_range(own) {
+        return Some(COORDINATE_RANGE);
+    }
+    if room {
+        Some(POINT_COUNT)
+    } else {
+        Some(TOO_MANY_POINTS)
+    }
+}
+
+// The number of the reason why the row with these points may not come at this place. `None` if
+// there is none, unless a coordinate is out of range.
+#[inline(always)]
 pub(crate) fn refused_number(
     limits: &Limits,
     standing: &Standing,
     row: &Row,
     own: &[BufferPoint],
-) -> Option<u32> {
-    let parent = standing.parent;
-    if !row_rules::has_place(parent, row.kind) {
-        return Some(5);
+) -> Option<u32>
+    ensures { IsFirstNumberButRange (checks_there limits.now standing.now
+        (row_with row.now (points_of own.now))) (points_of own.now) result }
+{
+    if let Some(number) = refused_place(limits, standing, row) {
+        return Some(number);
     }
-    if !row_rules::nest_kept(limits, parent, standing.depth) {
-        return Some(6);
+    if let Some(number) = refused_id(standing.parent, row) {
+        return Some(number);
     }
-    if standing.nodes >= limits.nodes() {
-        return Some(7);
+    if let Some(number) = refused_precision(standing.parent, row) {
+        return Some(number);
     }
-    let has_id = row.id.is_some();
-    if !row_rules::id_allowed(parent, row.kind, has_id) {
-        return Some(9);
-    }
-    if !row_rules::has_same_ids(parent, has_id) {
-        return Some(10);
-    }
-    let whole = row_rules::is_whole(parent);
-    match row.precision {
-        None => {
-            if whole {
-                return Some(12);
-            }
-        }
-        Some(precision) => {
-            if precision < -8 || precision > 7 {
-                return Some(11);
-            }
-            if !whole {
-                return Some(13);
-            }
-        }
-    }
-    if !own.is_empty() && !row_rules::has_points(row.kind) {
-        return Some(14);
-    }
-    let left = limits.points().saturating_sub(standing.points) as usize;
-    if own.len() > left {
-        return Some(if in_range(own) { 27 } else { 26 });
-    }
-    if !row_rules::count_fits(row.kind, whole, own.len()) {
-        return Some(if in_range(own) { 16 } else { 26 });
-    }
-    None
-}
-
-#[derive(Clone, Copy)]
-pub(crate) struct OwnPoints<'a> {
-    pub(crate) own: &'a [BufferPoint],
-}
-
-pub(crate) enum PointFault {
-    Memory,
-    Range,
-}
-
-impl PointSource for OwnPoints<'_> {
-    ghost use Rattle.std.specs.Prelude.{⊤};
-
-    type Fault = PointFault;
-
-    ghost gives = { λ source own. ⊤ };
-
-    ghost refuses = { λ source fault. ⊤ };
-
-    #[inline(always)]
-    fn append_to<L: PointTail>(&self, points: &mut L) -> Result<(), PointFault> {
-        let held = points.count();
-        for point in self.own {
-            let Some(point) = Pt::try_new(point.x, point.y) else {
-                points.cut(held);
-                return Err(PointFault::Range);
-            };
-            let Ok(()) = points.put(point) else {
-                points.cut(held);
-                return Err(PointFault::Memory);
-            };
-        }
-        Ok(())
-    }
-
-    #[inline(always)]
-    fn want_of_memory(&self) -> PointFault {
-        PointFault::Memory
-    }
+    refused_points(limits, standing, row, own)
 }
