@@ -16,10 +16,10 @@ use Rattle.twkb_buffer.specs.Slices.{UnpackedSlice}
 use Rattle.twkb_buffer.specs.declared.point.BufferPoint.{BufferPoint}
 use Rattle.twkb_arrays.specs.Reading.{EndsReading, ReadsArrays, outcome_of}
 use Rattle.twkb_arrays.specs.SameRows.{AreSameRows}
-use Rattle.twkb_arrays.specs.Taking.{are_more}
+use Rattle.twkb_arrays.specs.Rooms.{are_more}
 use Rattle.twkb_arrays.specs.declared.reading.BufferCounts.{BufferCounts}
 use Rattle.twkb_arrays.specs.declared.row.BufferRow.{BufferRow}
-use Rattle.twkb_arrays.proofs.TakingLemmas.{no_more}
+use Rattle.twkb_arrays.proofs.RoomLemmas.{no_more}
 
 -- how the reading of a stream may end
 by_answer : (l : Allowance) (bytes : List ℕ) (hs gs : List Tree) (full : Bool)

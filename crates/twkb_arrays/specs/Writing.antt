@@ -30,30 +30,30 @@ pub record AreArrays (l : Allowance) (gs : List Tree) (in_rows : List BufferRow)
 
 -- The arrays are those of complete geometries, and of one more, the open one, as far as it was
 -- read. All keep the limits.
-pub record AreRead (l : Allowance) (gs : List Tree) (open : List Row) (in_rows : List BufferRow)
+pub record AreRead (l : Allowance) (gs : List Tree) (begun : List Row) (in_rows : List BufferRow)
     (in_points : List BufferPoint) : Type 0 where
   pub valid : AreValid l gs
-  pub open_valid : AreValidRowsOfOne l open
-  pub rows_are : in_rows ≡ rows_in_c (rows_of gs ++ open)
-  pub points_are : in_points ≡ coordinates_of (row_points (rows_of gs ++ open))
+  pub begun_valid : AreValidRowsOfOne l begun
+  pub rows_are : in_rows ≡ rows_in_c (rows_of gs ++ begun)
+  pub points_are : in_points ≡ coordinates_of (row_points (rows_of gs ++ begun))
 
 -- The arrays begin with those of complete geometries and of the open one.
 pub record BeginArrays (l : Allowance) (gs : List Tree) (in_rows : List BufferRow)
     (in_points : List BufferPoint) : Type 0 where
-  pub open : List Row
+  pub begun : List Row
   pub front_rows : List BufferRow
   pub more : List BufferRow
   pub front_points : List BufferPoint
   pub ahead : List BufferPoint
   pub rows_are : in_rows ≡ front_rows ++ more
   pub points_are : in_points ≡ front_points ++ ahead
-  pub read : AreRead l gs open front_rows front_points
+  pub read : AreRead l gs begun front_rows front_points
 
 -- After the rows of complete geometries and of the open one comes a row that is refused, at this
 -- place and for the reason with this number. If it is a root, no geometry is open.
 pub record IsRefusedRow (l : Allowance) (gs : List Tree) (in_rows : List BufferRow)
     (in_points : List BufferPoint) (place number : ℕ) : Type 0 where
-  pub open : List Row
+  pub begun : List Row
   pub front_rows : List BufferRow
   pub row : BufferRow
   pub more : List BufferRow
@@ -61,20 +61,20 @@ pub record IsRefusedRow (l : Allowance) (gs : List Tree) (in_rows : List BufferR
   pub ahead : List BufferPoint
   pub rows_are : in_rows ≡ front_rows ++ row ∷ more
   pub points_are : in_points ≡ front_points ++ ahead
-  pub read : AreRead l gs open front_rows front_points
-  pub root : row.depth ≡ 0 → open ≡ []
-  pub refused : RefusedAfter l open row ahead number
+  pub read : AreRead l gs begun front_rows front_points
+  pub root : row.depth ≡ 0 → begun ≡ []
+  pub refused : RefusedAfter l begun row ahead number
   pub place_is : place ≡ length front_rows
 
 -- All rows are those of complete geometries and of the open one, and points are left over. The
 -- place is the number of rows.
 pub record ArePointsLeft (l : Allowance) (gs : List Tree) (in_rows : List BufferRow)
     (in_points : List BufferPoint) (place number : ℕ) : Type 0 where
-  pub open : List Row
+  pub begun : List Row
   pub front_points : List BufferPoint
   pub left : List BufferPoint
   pub points_are : in_points ≡ front_points ++ left
-  pub read : AreRead l gs open in_rows front_points
+  pub read : AreRead l gs begun in_rows front_points
   pub some : 0 < length left
   pub place_is : place ≡ length in_rows
   pub number_is : number ≡ 72
@@ -101,8 +101,8 @@ pub record IsWriting (l : Allowance) (style : Style) (start : List ℕ) (in_rows
 
 -- why the next row, with the points ahead, is not read after the rows of the open geometry
 abbrev pub StopsRow : Allowance → List Row → BufferRow → List BufferPoint → Stop → Type 0
-StopsRow l open row ahead stop.Memory = ⊤
-StopsRow l open row ahead (stop.Row number) = (row.depth ≡ 0 → open ≡ []) × RefusedAfter l open row ahead number
+StopsRow l begun row ahead stop.Memory = ⊤
+StopsRow l begun row ahead (stop.Row number) = (row.depth ≡ 0 → begun ≡ []) × RefusedAfter l begun row ahead number
 
 -- The next row is not read after these arrays.
 pub record StopsAtRow (l : Allowance) (style : Style) (start : List ℕ) (in_rows : List BufferRow)
@@ -110,10 +110,10 @@ pub record StopsAtRow (l : Allowance) (style : Style) (start : List ℕ) (in_row
     (writer : Writer) (why : Stop) : Type 0 where
   pub given : List Tree
   pub later : List Tree
-  pub open : List Row
-  pub read : AreRead l (given ++ later) open in_rows in_points
+  pub begun : List Row
+  pub read : AreRead l (given ++ later) begun in_rows in_points
   pub sent : HasSent style start given later in_output writer.sent
-  pub stops : StopsRow l open row ahead why
+  pub stops : StopsRow l begun row ahead why
 
 -- why arrays are not written past the row at a place
 abbrev pub fault_at : ℕ → Stop → WriteFault

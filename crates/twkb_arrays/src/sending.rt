@@ -1,6 +1,6 @@
 //! Blobs written into a slice one after another, each whole.
 ghost use Rattle.std.specs.Prelude.{◌≡◌, ◌+◌, ◌++◌, ◌<◌, ◌≤◌, List, ℕ, [], length, take, drop};
-ghost use Rattle.twkb_tree.specs.Tree.{Tree};
+ghost use Rattle.twkb_tree.specs.Tree.{Tree, saturated};
 ghost use Rattle.twkb_grammar.specs.Written.{canonical_blob};
 ghost use Rattle.twkb_grammar.specs.declared.style.Style.{Style};
 ghost use Rattle.twkb_arrays.specs.Sending.{HasSent, IsSentWithin, SendsOne};
@@ -30,6 +30,14 @@ impl Sent {
             full: false,
         }
     }
+
+    // Counts the bytes of a blob that was made.
+    #[inline(always)]
+    fn count(&mut self, bytes: usize)
+        ensures { self.new ≡ record self.old { needed = saturated (self.old.needed + bytes) } }
+    {
+        self.needed = self.needed.saturating_add(bytes as u64);
+    }
 }
 
 // Writes a blob into a slice, from this place on.
@@ -51,7 +59,7 @@ pub(crate) fn send_blob(blob: &[u8], output: &mut [u8], sent: &mut Sent)
         → HasSent style start given later output.old sent.old → blob.now ≡ canonical_blob style g
         → SendsOne style start given later g output.new sent.new }
 {
-    sent.needed = sent.needed.saturating_add(blob.len() as u64);
+    sent.count(blob.len());
     if sent.full {
         return;
     }

@@ -76,8 +76,33 @@ impl Writer {
         Ok(())
     }
 
-    // Reads a row, with the first of the points ahead, and ends the open geometry if the row is a
-    // root. Returns the number of points that the row has.
+    // Ends the open geometry if the row is a root, which then begins the next one. An `Err` changes
+    // nothing but the room.
+    #[inline(always)]
+    fn end_before(
+        &mut self,
+        style: Style,
+        row: &BufferRow,
+        output: &mut [u8],
+    ) -> Result<(), AllocError>
+        requires { IsSentWithin output.old self.old.sent }
+        ensures closed { OnOk result (row.now.depth ≡ 0 → self.new.form ≡ []) }
+        ensures valid { OnOk result ((l : Allowance) → AreValidRowsOfOne l self.old.form
+            → AreValidRowsOfOne l self.new.form) }
+        ensures ended { OnOk result ((l : Allowance) (start : List ℕ) (in_rows : List InRow)
+            (in_points : List InPoint)
+            → IsWriting l style start in_rows in_points output.old self.old
+            → IsWriting l style start in_rows in_points output.new self.new) }
+        ensures same_output { OnErr result (output.new ≡ output.old) }
+        ensures same { OnErr result (self.new ≡ record self.old { room = self.new.room }) }
+    {
+        if row.depth > 0 {
+            return Ok(());
+        }
+        self.end_geometry(style, output)
+    }
+
+    // Reads a row, with the first of the points ahead. Returns the number of points that it has.
     #[inline(always)]
     fn write_row(
         &mut self,
@@ -101,11 +126,9 @@ impl Writer {
             → StopsAtRow limits.now style start in_rows in_points row.now ahead.now output.new
             self.new why) }
     {
-        if row.depth == 0 {
-            let Ok(()) = self.end_geometry(style, output) else {
-                return Err(Stop::Memory);
-            };
-        }
+        let Ok(()) = self.end_before(style, row, output) else {
+            return Err(Stop::Memory);
+        };
         push_row(limits, &mut self.form, row, ahead)
     }
 
