@@ -1,4 +1,5 @@
-use Rattle.std.proofs.Common.{◌≤◌, arith, refl}
+use Rattle.std.proofs.Common.{ap, arith, refl}
+use Rattle.twkb_arrays.specs.declared.sending.Sent.{Sent}
 use Rattle.twkb_arrays.proofs.SendingLemmas.{lacking_room, not_sent_after, sent_one}
 use Rattle.twkb_arrays.proofs.sending.send_blob.Goals as goal
 
@@ -15,4 +16,6 @@ returns-then-blob-output c = λ style start given later g h same.
 pub returns : goal.returns
 returns c = λ style start given later g h same.
     sent_one style start given later g c.args.blob.now c.args.output.now c.put_from.new.output c.args.sent.now
-    c.count.new.self _ h same c.count.ensures c.if-sent.false ? c.put_from.ensures refl
+    c.count.new.self _ h same c.count.ensures c.if-sent.false
+    (omega (arith, c.if-blob-output.false, c.requires.within.bytes_fit, ap (λ (t : Sent). t.bytes) c.count.ensures))
+    c.put_from.ensures refl
