@@ -1,8 +1,7 @@
 -- The tests of a row at its place, and the number of the reason for the first that fails.
-use Rattle.std.specs.Prelude.{◌≡◌, ℕ, Bool, true, ◌&&◌, nat_lt, List, [], ◌∷◌, Option, Some, None}
+use Rattle.std.specs.Prelude.{◌≡◌, ℕ, true, ◌&&◌, nat_lt, List, [], ◌∷◌, Option, Some, None}
 use Rattle.std.specs.Prelude.{MatchOption, if◌then◌else◌}
 use Rattle.twkb_points.specs.Point.{Point}
-use Rattle.twkb_tree.specs.declared.kind.Kind.{Kind}
 use Rattle.twkb_tree.specs.declared.standing.Standing.{Standing}
 use Rattle.twkb_tree.specs.Accepted.{nest_kept}
 use Rattle.twkb_tree.specs.Admits.{has_place}

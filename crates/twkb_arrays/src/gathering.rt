@@ -42,6 +42,8 @@ pub(crate) fn push_row(
     ensures refused { IfErr result (IfRow (RefusedAfter limits.now form.old row.now ahead.now)) }
     ensures same { OnErr result (form.new ≡ form.old) }
 {
+    // lets proofs know that the limits are allowed
+    let _learnt = limits.nest();
     let Some(kind) = kind_of(row.kind) else {
         return Err(Stop::Row(BAD_KIND));
     };

@@ -1,9 +1,10 @@
 //! The row of a geometry that a row of an array stands for, and the reason to refuse it.
-ghost use Rattle.std.specs.Prelude.{◌≡◌, ◌↔◌, ◌+◌, [], List, IsTrue, MatchOption, true, nat_le};
+ghost use Rattle.std.specs.Prelude.{◌≡◌, ◌↔◌, ◌+◌, ◌||◌, [], List, IsTrue, MatchOption, true, nat_le};
 ghost use Rattle.twkb_tree.specs.declared.kind.Kind.{Kind};
-ghost use Rattle.twkb_tree.specs.Admits.{id_in_range, precision_in_range};
+ghost use Rattle.twkb_tree.specs.Admits.{has_points, id_in_range, precision_in_range};
 ghost use Rattle.twkb_tree.specs.Open.{row_of, child_of};
-ghost use Rattle.twkb_tree.specs.Refusal.{are_in_range, id_checks, point_checks, precision_checks};
+ghost use Rattle.twkb_tree.specs.Refusal.{are_in_range, has_none};
+ghost use Rattle.twkb_tree.specs.Refusal.{id_checks, point_checks, precision_checks};
 ghost use Rattle.twkb_flat.specs.Rows.{row_with};
 ghost use Rattle.twkb_buffer.specs.declared.point.BufferPoint.{BufferPoint as InPoint};
 ghost use Rattle.twkb_arrays.specs.Rows.{kind_number, points_of};
@@ -12,42 +13,28 @@ ghost use Rattle.twkb_arrays.specs.RowTests.{IsFirstNumber, IsFirstNumberButRang
 ghost use Rattle.twkb_arrays.specs.RowTests.{checks_there, place_checks};
 
 use crate::row::{BufferRow, NO_PRECISION};
-use twkb_buffer::BufferPoint;
+use twkb_buffer::{BufferPoint, as_point};
 use twkb_flat::Row;
-use twkb_points::Pt;
 use twkb_tree::row_rules::{
     count_fits, has_place, has_points, has_same_ids, id_allowed, is_whole, nest_kept,
 };
 use twkb_tree::{GREATEST_PRECISION, Kind, LEAST_PRECISION, Limits, OpenRow, Standing};
 
-// The number of the reason for which a row of no kind is refused.
+// The numbers of the reasons to refuse a row, in the order of its tests.
 pub(crate) const BAD_KIND: u32 = 4;
-// The number of a kind that has no place there, or of a depth.
-pub(crate) const BAD_PLACE: u32 = 5;
-
-const TOO_DEEP: u32 = 6;
-
-const TOO_MANY_NODES: u32 = 7;
-
 pub(crate) const BAD_ID: u32 = 8;
-
+pub(crate) const BAD_PLACE: u32 = 5;
+const TOO_DEEP: u32 = 6;
+const TOO_MANY_NODES: u32 = 7;
 const ID_NOT_ALLOWED: u32 = 9;
-
 const MIXED_IDS: u32 = 10;
-
 const BAD_PRECISION: u32 = 11;
-
 const PRECISION_MISSING: u32 = 12;
-
 const PRECISION_NOT_ALLOWED: u32 = 13;
-
 const POINTS_NOT_ALLOWED: u32 = 14;
-
-const POINT_COUNT: u32 = 16;
-
 pub(crate) const COORDINATE_RANGE: u32 = 26;
-
 const TOO_MANY_POINTS: u32 = 27;
+const POINT_COUNT: u32 = 16;
 
 // The kind with this number.
 #[inline(always)]
@@ -182,11 +169,19 @@ fn are_in_range(own: &[BufferPoint]) -> bool
     ensures { result ≡ are_in_range (points_of own.now) }
 {
     for point in own {
-        if Pt::try_new(point.x, point.y).is_none() {
+        if as_point(point).is_none() {
             return false;
         }
     }
     true
+}
+
+// Whether a row of this kind may have these points of its own.
+#[inline(always)]
+fn may_have_points(kind: Kind, own: &[BufferPoint]) -> bool
+    ensures { result ≡ (has_points kind || has_none (points_of own.now)) }
+{
+    own.is_empty() || has_points(kind)
 }
 
 // Whether the limits leave room for `count` points at this place.
@@ -209,7 +204,7 @@ fn refused_points(
     ensures { IsFirstNumberButRange (point_checks limits.now (row_of standing.now.parent)
         standing.now.points (row_with row.now (points_of own.now))) (points_of own.now) result }
 {
-    if !own.is_empty() && !has_points(row.kind) {
+    if !may_have_points(row.kind, own) {
         return Some(POINTS_NOT_ALLOWED);
     }
     let room = has_room(limits, standing, own.len());

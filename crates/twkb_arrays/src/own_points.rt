@@ -1,8 +1,8 @@
 //! The points of a row of an array, appended to those of a form.
 use std::alloc::AllocError;
-use twkb_buffer::BufferPoint;
+use twkb_buffer::{BufferPoint, as_point};
 use twkb_flat::PointSource;
-use twkb_points::{PointTail, Pt};
+use twkb_points::PointTail;
 
 // A row's own points.
 #[derive(Clone, Copy)]
@@ -34,7 +34,7 @@ impl PointSource for OwnPoints<'_> {
     fn append_to<L: PointTail>(&self, points: &mut L) -> Result<(), PointFault> {
         let held = points.count();
         for coordinates in self.own {
-            let Some(point) = Pt::try_new(coordinates.x, coordinates.y) else {
+            let Some(point) = as_point(coordinates) else {
                 points.cut(held);
                 return Err(PointFault::Range);
             };
