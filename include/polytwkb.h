@@ -82,6 +82,10 @@ extern "C" {
 #define POLYTWKB_TOO_LONG 61u         /* more than 2^62 bytes */
 #define POLYTWKB_TOO_MANY_RECORDS 62u /* 2^32 records */
 
+/* Why the points of polytwkb_write are refused: place is the row, counted from 0. */
+#define POLYTWKB_POINTS_MISSING 71u /* the row has more points than are left in the list */
+#define POLYTWKB_POINTS_LEFT 72u    /* points are left after the last row: place is the number of rows */
+
 /* Each text that polytwkb_reason_text or polytwkb_version writes fits this room, its NUL included. */
 #define POLYTWKB_TEXT_ROOM 32
 
@@ -104,15 +108,16 @@ typedef struct polytwkb_limits {
 /* What a call did. */
 typedef struct polytwkb_report {
     uint32_t status;      /* POLYTWKB_DONE to POLYTWKB_TOO_SMALL */
-    uint32_t reason;      /* why the input is refused, 1 to 62; 0 if it is not */
-    uint64_t place;       /* the refused record, from 1, or the offset of the refused item or the refused point of
-                             polytwkb_encode, from 0; else 0 */
+    uint32_t reason;      /* why the input is refused, 1 to 72; 0 if it is not */
+    uint64_t place;       /* the refused record, from 1, or the offset of the refused item, the refused point of
+                             polytwkb_encode or the refused row of polytwkb_write, from 0; else 0 */
     uint64_t text_offset; /* where the polyline of the refused record or of polytwkb_decode is refused, in bytes; else 0 */
     uint64_t done;        /* geometries whose whole output is in the buffer */
     uint64_t sent;        /* bytes at the start of the buffer: a prefix of the right output; of
                              polytwkb_decode points */
     uint64_t needed;      /* POLYTWKB_TOO_SMALL: bytes of the whole output, more than the buffer has, or 0
-                             if they are not known (no memory); else as many as sent */
+                             if they are not known (no memory); else as many as sent. polytwkb_write says
+                             below what it counts */
 } polytwkb_report;
 
 /* Sixteen collections, 2^20 rows and 2^24 points. */
@@ -213,6 +218,26 @@ polytwkb_counts polytwkb_read(const uint8_t *blobs, size_t length, polytwkb_row 
                               polytwkb_point *points, size_t point_room, polytwkb_limits limits);
 
 /*
+ * Writes an array of rows and one of points as a stream of canonical blobs. Status 0: each row belongs to a
+ * geometry, all points are those of the rows, and the output has the blobs of all geometries, as polytwkb_pack
+ * writes them. 1: place is the first refused row, counted from 0, after the blobs of the complete geometries
+ * before it; nothing is written of the geometry that it would belong to. reason is the one that the same row of a
+ * table would have, but for POLYTWKB_BAD_ID: has_id is neither 0 nor 1, or it is 0 and id is not; and
+ * POLYTWKB_POINTS_MISSING. Points that are left over are refused with POLYTWKB_POINTS_LEFT, and place is then
+ * row_count; the last geometry is not written. 5: the output is too small for a blob: it has the blobs before it,
+ * nothing of it and of those after it, and needed says how many bytes would do; they are those of the complete
+ * geometries before the refused row if there is one further on. 4: memory was refused; the output has the blobs
+ * before that for which there was room.
+ *
+ * done is the number of blobs in the output, sent the number of its bytes that were written, and needed the number
+ * of bytes of the blobs of all complete geometries. Bytes after those written stay as they were. To count first,
+ * give a room of 0. Takes memory for one geometry and its blob.
+ */
+polytwkb_report polytwkb_write(const polytwkb_row *rows, size_t row_count, const polytwkb_point *points,
+                               size_t point_count, uint8_t *output, size_t output_length, polytwkb_limits limits,
+                               uint32_t style);
+
+/*
  * Writes what a reason means in English, as the command says it on standard error: "bad header" for
  * POLYTWKB_BAD_HEADER, without the place. The text of a number that is no reason is empty, and so is
  * that of 0. If the room is too small, the text is cut; in any room but 0 a NUL follows it. Bytes after
@@ -281,6 +306,15 @@ static inline polytwkb_counts polytwkb_read_any(const uint8_t *blobs, size_t len
                          point_room == 0 ? &no_point : points, point_room, limits);
 }
 
+static inline polytwkb_report polytwkb_write_any(const polytwkb_row *rows, size_t row_count,
+                                                 const polytwkb_point *points, size_t point_count, uint8_t *output,
+                                                 size_t output_length, polytwkb_limits limits, uint32_t style) {
+    static const polytwkb_row no_row = {0, 0, 0, 0, 0, 0};
+    static const polytwkb_point no_point = {0, 0};
+    return polytwkb_write(row_count == 0 ? &no_row : rows, row_count, point_count == 0 ? &no_point : points,
+                          point_count, polytwkb_output(output, output_length), output_length, limits, style);
+}
+
 static inline size_t polytwkb_reason_text_any(uint32_t reason, char *text, size_t room) {
     return polytwkb_reason_text(reason, (char *)polytwkb_output((uint8_t *)text, room), room);
 }
@@ -296,6 +330,7 @@ static inline size_t polytwkb_version_any(char *text, size_t room) {
 #define polytwkb_encode polytwkb_encode_any
 #define polytwkb_decode polytwkb_decode_any
 #define polytwkb_read polytwkb_read_any
+#define polytwkb_write polytwkb_write_any
 #define polytwkb_reason_text polytwkb_reason_text_any
 #define polytwkb_version polytwkb_version_any
 

@@ -209,6 +209,14 @@ def whole_input(rows):
         yield f"{file}, Cause", pairs, [pair for pair in re.findall(line, text_of(file), re.M) if pair in pairs]
 
 
+def array_texts(rows):
+    """The numbers and texts of the reasons for which arrays are refused: of the code and of its definition."""
+    wanted = [(row[1], row[4]) for row in of_kind(rows, "array")]
+    for file, line in (("src/reason_texts.rt", r'^ *(\d+) => "(.*)",$'), ("specs/Texts.antt", r'if number == (\d+) then codes "(.*?)"')):
+        found = re.findall(line, text_of(f"{BUFFER}/{file}"), re.M)
+        yield f"{BUFFER}/{file}", wanted, [(int(number), text) for number, text in found]
+
+
 def c_names(rows):
     """The numbers of all reasons and statuses in the header for C."""
     header = re.findall(r"^#define POLYTWKB_(\w+) (\d+)u", text_of("include/polytwkb.h").split("/* Styles of packed blobs")[0], re.M)
@@ -229,7 +237,7 @@ def statuses(rows):
 
 def compare(rows):
     """Reports each place that differs, and returns how many do."""
-    compared = [place for part in (made, pages, whole_input, c_names, statuses) for place in part(rows)]
+    compared = [place for part in (made, pages, whole_input, array_texts, c_names, statuses) for place in part(rows)]
     wrong = [place for place in compared if place[1] != place[2]]
     for place, wanted, found in wrong:
         print(f"FAIL  {place}: {found} in place of {wanted}")

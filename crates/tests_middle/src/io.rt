@@ -2,7 +2,7 @@
 //! is called. Inputs, outputs and sinks are tested by the program `vectors`.
 use std::alloc::Global;
 use std::io::{Read, Write};
-use twkb_io::{Bytes, Ending, Fuse, FuseEnd, Input, Tap, copy};
+use twkb_io::{Bytes, Ending, Fuse, FuseEnd, Input, Sink, Tap, copy};
 
 // Whether a read gives `count` bytes.
 fn reads<R: Read>(reader: &mut R, count: usize) -> bool {
@@ -66,4 +66,18 @@ fn copies(alloc: Global, left: u64, end: FuseEnd) -> bool {
 #[test]
 fn a_copy_moves_what_a_device_gives(rt: HostRuntime) {
     assert!(rt; copies(rt.alloc(), 9999, FuseEnd::Zero) & copies(rt.alloc(), 5, FuseEnd::Fail));
+}
+
+// Whether a sink takes these bytes and holds them alone.
+fn holds_alone(bytes: &mut Bytes, put: &[u8]) -> bool {
+    bytes.put(put).is_ok() & (bytes.as_slice() == put)
+}
+
+#[test]
+fn a_cleared_sink_holds_what_is_put_after(rt: HostRuntime) {
+    let mut bytes = Bytes::new(rt.alloc());
+    let is_held = holds_alone(&mut bytes, &[1, 2, 3]);
+    bytes.clear();
+    let is_empty = bytes.as_slice().is_empty();
+    assert!(rt; is_held & is_empty & holds_alone(&mut bytes, &[4]));
 }

@@ -1,9 +1,10 @@
 -- Rows and points that are written into arrays one after another.
-use Rattle.std.proofs.Common.{◌≡◌, ℕ, ◌+◌, ◌<◌, ◌≤◌, List, [], ◌∷◌, ◌++◌, length, take, drop}
+use Rattle.std.proofs.Common.{◌≡◌, ℕ, ◌+◌, ◌-◌, ◌<◌, ◌≤◌, List, [], ◌∷◌, ◌++◌, length, take, drop}
 use Rattle.std.proofs.Common.{refl, sym, ap, ◌∙◌, arith, length-append, append_assoc}
 use Rattle.std.specs.Prelude.{slice_get, Some, slice_set}
 use Rattle.std.proofs.lemmas.List.{take-append-drop, map-append, append-nil, take_more, take_more_set}
-use Rattle.std.proofs.lemmas.List.{length-set, take_at, drop-drop, drop_at, length-take-le, length-drop, take_all}
+use Rattle.std.proofs.lemmas.List.{length-set, take_at, drop-drop, drop_at, length-take-le, length-drop, take_all, take_rest}
+use Rattle.std.proofs.Math.Seq.{take-add}
 use Rattle.std.proofs.lemmas.Option.{slice_get_within, get_or_from_slice_get}
 use Rattle.std.proofs.lemmas.Slice.{take-put_mid}
 use Rattle.std.proofs.lemmas.Grind.{flat_map-append}
@@ -155,3 +156,23 @@ laid_more old done more now n m done_len more_len is =
     ap (λ l. l ++ (more ++ drop (n + m) now)) front
     ∙ ap (λ l. done ++ (more ++ l)) after
     ∙ sym (append_assoc done more (drop (n + m) old))
+
+-- ---- the parts of a list
+
+-- a list up to a place, and what is after it
+pub parts_join : {X : Type 0} (xs part : List X) (used : ℕ) → part ≡ take (length xs - used) (drop used xs)
+    → take used xs ++ part ≡ xs
+parts_join xs part used is = ap (λ l. take used xs ++ l) (is ∙ take_rest xs used) ∙ take-append-drop used xs
+
+-- a list up to a place, and the first of what is after it
+pub some_more : {X : Type 0} (xs part : List X) (used more : ℕ) → part ≡ take (length xs - used) (drop used xs)
+    → take used xs ++ take more part ≡ take (used + more) xs
+some_more xs part used more is =
+    ap (λ l. take used xs ++ take more l) (is ∙ take_rest xs used) ∙ sym (take-add used more xs)
+
+-- what is after a place, as the code cuts it
+abbrev pub rest_of : {X : Type 0} → List X → ℕ → List X
+rest_of xs used = take (length xs - used) (drop used xs)
+
+pub length-rest_of : {X : Type 0} (xs : List X) (used : ℕ) → length (rest_of xs used) ≡ length xs - used
+length-rest_of xs used = ap (λ l. length l) (take_rest xs used) ∙ length-drop used xs

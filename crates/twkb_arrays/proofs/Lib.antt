@@ -1,4 +1,14 @@
 pub mod ArrayLemmas
+pub mod ArrayRows
+pub mod ArraysRefused
+pub mod GatheringLemmas
+pub mod JudgingLemmas
+pub mod OwnPointsLemmas
 pub mod ReadingLaws
 pub mod ReadingLemmas
+pub mod RoomLemmas
+pub mod RowLemmas
+pub mod SendingLemmas
 pub mod TakingLemmas
+pub mod WritingLaws
+pub mod WritingLemmas

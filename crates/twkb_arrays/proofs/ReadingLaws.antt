@@ -16,10 +16,10 @@ use Rattle.twkb_buffer.specs.Slices.{UnpackedSlice}
 use Rattle.twkb_buffer.specs.declared.point.BufferPoint.{BufferPoint}
 use Rattle.twkb_arrays.specs.Reading.{EndsReading, ReadsArrays, outcome_of}
 use Rattle.twkb_arrays.specs.SameRows.{AreSameRows}
-use Rattle.twkb_arrays.specs.Taking.{are_more}
+use Rattle.twkb_arrays.specs.Rooms.{are_more}
 use Rattle.twkb_arrays.specs.declared.reading.BufferCounts.{BufferCounts}
 use Rattle.twkb_arrays.specs.declared.row.BufferRow.{BufferRow}
-use Rattle.twkb_arrays.proofs.TakingLemmas.{no_more}
+use Rattle.twkb_arrays.proofs.RoomLemmas.{no_more}
 
 -- how the reading of a stream may end
 by_answer : (l : Allowance) (bytes : List ℕ) (hs gs : List Tree) (full : Bool)
@@ -49,7 +49,7 @@ all_read l bytes old_rows new_rows old_points new_points counts gs read s few =
     read.counted.status_is read.ended s few
 
 -- a reading with status 0 had room for all, and came to the end of a stream
-status_zero : (l : Allowance) (bytes : List ℕ) (gs : List Tree) (full : Bool)
+pub status_zero : (l : Allowance) (bytes : List ℕ) (gs : List Tree) (full : Bool)
     (answer : Result (Unit {0}) BlobFault) → (outcome_of full answer).0 ≡ 0 → EndsReading l bytes gs answer
     → (full ≡ false) × Stream l bytes gs
 status_zero l bytes gs false (Ok done) e ends = (refl, ends)

@@ -3,8 +3,7 @@ use Rattle.std.proofs.Common.{◌≡◌, ℕ, ◌+◌, ◌-◌, ◌≤◌, inl, 
 use Rattle.std.proofs.Common.{sym, ap, ◌∙◌, subst, arith, length-append, append_assoc, Bool, true, false}
 use Rattle.std.specs.Prelude.{Result, Ok, Err, Some}
 use Rattle.std.proofs.lemmas.Bool.{false≢true}
-use Rattle.std.proofs.lemmas.List.{take-append-drop, take_rest, take_all, append-nil, length-drop}
-use Rattle.std.proofs.Math.Seq.{take-add}
+use Rattle.std.proofs.lemmas.List.{take-append-drop, take_all, append-nil}
 use Rattle.twkb_tree.specs.Tree.{Tree}
 use Rattle.twkb_tree.specs.Limits.{Allowance}
 use Rattle.twkb_tree.specs.Rows.{rows}
@@ -19,6 +18,7 @@ use Rattle.twkb_arrays.specs.Taking.{HasTaken, TakesOne}
 use Rattle.twkb_arrays.specs.Reading.{BeginsWithBlobs, EndsReading, IsReading}
 use Rattle.twkb_arrays.specs.declared.row.BufferRow.{BufferRow}
 use Rattle.twkb_arrays.specs.declared.taking.Taken.{Taken}
+use Rattle.twkb_arrays.proofs.ArrayLemmas.{parts_join, some_more}
 
 -- the bytes after those that a session stands after
 begins : (bytes rest : List ℕ) (gs : List Tree) (s : Session) → Stands bytes gs s
@@ -30,18 +30,6 @@ begins bytes rest gs s at = (
   at.blobs,
 )
 
--- the bytes up to a place, and those after it
-both : (blobs piece : List ℕ) (used : ℕ) → piece ≡ take (length blobs - used) (drop used blobs)
-    → take used blobs ++ piece ≡ blobs
-both blobs piece used is = ap (λ (b : List ℕ). take used blobs ++ b) (is ∙ take_rest blobs used)
-    ∙ take-append-drop used blobs
-
--- the bytes up to a place, and the first of those after it
-some_more : (blobs piece : List ℕ) (used more : ℕ) → piece ≡ take (length blobs - used) (drop used blobs)
-    → take used blobs ++ take more piece ≡ take (used + more) blobs
-some_more blobs piece used more is =
-    ap (λ (b : List ℕ). take used blobs ++ take more b) (is ∙ take_rest blobs used) ∙ sym (take-add used more blobs)
-
 -- why a feed refused the rest of the bytes is how their reading ends
 pub stopped : (l : Allowance) (blobs piece : List ℕ) (used : ℕ) (gs : List Tree) (old new : Session) (why : BlobFault)
     → piece ≡ take (length blobs - used) (drop used blobs) → Stands (take used blobs) gs old
@@ -49,7 +37,7 @@ pub stopped : (l : Allowance) (blobs piece : List ℕ) (used : ℕ) (gs : List T
     → FedSession (take used blobs) gs piece (Err why) new
     → EndsReading {A = ℕ} l blobs gs (Err why)
 stopped l blobs piece used gs old new fault.Memory is at limits kept fed =
-    subst (λ (b : List ℕ). BeginsWithBlobs l b gs) (both blobs piece used is)
+    subst (λ (b : List ℕ). BeginsWithBlobs l b gs) (parts_join blobs piece used is)
     (subst (λ (a : Allowance). BeginsWithBlobs a (take used blobs ++ piece) gs) (sym limits)
     (begins (take used blobs) piece gs old at))
 stopped l blobs piece used gs old new (fault.Device why) is at limits kept fed = (
@@ -57,9 +45,9 @@ stopped l blobs piece used gs old new (fault.Device why) is at limits kept fed =
     arith,
     fed.1.past,
     length-append (take used blobs) piece,
-    ap (λ (b : List ℕ). length b) (both blobs piece used is),
+    ap (λ (b : List ℕ). length b) (parts_join blobs piece used is),
   ),
-  subst (λ (b : List ℕ). BeginsWithBlobs l b gs) (both blobs piece used is)
+  subst (λ (b : List ℕ). BeginsWithBlobs l b gs) (parts_join blobs piece used is)
       (subst (λ (a : Allowance). BeginsWithBlobs a (take used blobs ++ piece) gs) (sym limits)
       (begins (take used blobs) piece gs old at)),
 )
@@ -67,7 +55,7 @@ stopped l blobs piece used gs old new fault.Spent is at limits kept fed = absurd
 stopped l blobs piece used gs old new (fault.At offset reason) is at limits kept fed =
     let all : (take used blobs ++ take fed.used piece) ++ drop fed.used piece ≡ blobs =
     append_assoc (take used blobs) (take fed.used piece) (drop fed.used piece)
-    ∙ ap (λ (b : List ℕ). take used blobs ++ b) (take-append-drop fed.used piece) ∙ both blobs piece used is in
+    ∙ ap (λ (b : List ℕ). take used blobs ++ b) (take-append-drop fed.used piece) ∙ parts_join blobs piece used is in
     subst (λ (b : List ℕ). StreamFault l b gs offset (reason_of reason)) all
     (subst (λ (a : Allowance). StreamFault a ((take used blobs ++ take fed.used piece) ++ drop fed.used piece) gs offset
     (reason_of reason)) (kept ∙ sym limits) (fed.fault (drop fed.used piece)))
@@ -131,13 +119,6 @@ pub fed_all : (bytes : List ℕ) (gs : List Tree) (piece : List ℕ) (n : ℕ) (
     → FedFlat bytes gs piece (Ok (n, ends)) s → ends ≡ false → (n ≡ length piece) × Stands (bytes ++ piece) gs s
 fed_all bytes gs piece n false s fed e = fed
 fed_all bytes gs piece n true s fed e = absurd (false≢true (sym e))
-
--- the part of a slice from a place on
-abbrev pub rest_of : List ℕ → ℕ → List ℕ
-rest_of blobs used = take (length blobs - used) (drop used blobs)
-
-pub length-rest_of : (blobs : List ℕ) (used : ℕ) → length (rest_of blobs used) ≡ length blobs - used
-length-rest_of blobs used = ap (λ (b : List ℕ). length b) (take_rest blobs used) ∙ length-drop used blobs
 
 -- a fault of a step ends the whole reading
 pub same_end : (l : Allowance) (bytes : List ℕ) (gs : List Tree) (why : BlobFault)

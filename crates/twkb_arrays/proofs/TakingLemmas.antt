@@ -1,7 +1,6 @@
 -- Geometries that are taken into arrays.
 use Rattle.std.proofs.Common.{◌≡◌, ℕ, ◌+◌, ◌-◌, ◌<◌, ◌≤◌, ◌⊎◌, inl, inr, List, [], ◌∷◌, ◌++◌, length, take, drop}
 use Rattle.std.proofs.Common.{Bool, true, false, refl, sym, ap, ◌∙◌, arith, length-append, append_assoc}
-use Rattle.std.proofs.lemmas.Bool.{false≢true}
 use Rattle.std.proofs.lemmas.List.{length-map, map-append, append-nil, length-drop}
 use Rattle.std.proofs.lemmas.Grind.{flat_map-append}
 use Rattle.twkb_points.specs.Point.{Point}
@@ -10,11 +9,13 @@ use Rattle.twkb_tree.specs.Rows.{Row, rows, rows_of, row_points}
 use Rattle.twkb_flat.proofs.FlatLaws.{reads_join}
 use Rattle.twkb_buffer.specs.Polylines.{coordinates_of}
 use Rattle.twkb_buffer.specs.declared.point.BufferPoint.{BufferPoint}
-use Rattle.twkb_arrays.specs.Rows.{array_points, array_rows, row_in_c, rows_in_c}
-use Rattle.twkb_arrays.specs.Taking.{HasTaken, IsFilled, IsWithin, StopsBefore, TakesOne, are_more}
+use Rattle.twkb_arrays.specs.Rooms.{StopsBefore}
+use Rattle.twkb_arrays.specs.Rows.{LacksRoom, array_points, array_rows, row_in_c, rows_in_c}
+use Rattle.twkb_arrays.specs.Taking.{HasTaken, IsFilled, IsWithin, TakesOne}
 use Rattle.twkb_arrays.specs.declared.row.BufferRow.{BufferRow}
 use Rattle.twkb_arrays.specs.declared.taking.Taken.{Taken}
 use Rattle.twkb_arrays.proofs.ArrayLemmas.{coordinates_of-append, laid_more, length-coordinates_of, row_points-append}
+use Rattle.twkb_arrays.proofs.RoomLemmas.{more_stay, no_more, stops_as_before, stops_here}
 
 -- ---- the rows and points of one more geometry
 
@@ -163,32 +164,12 @@ counted_with t n m = record {
   full = t.full;
 }
 
-more_stay : (later : List Tree) (g : Tree) → are_more (later ++ g ∷ []) ≡ true
-more_stay [] g = refl
-more_stay (x ∷ xs) g = refl
-
-stops_as_before : (start_rows : List BufferRow) (start_points : List BufferPoint) (given later : List Tree)
-    (g : Tree) → are_more later ≡ true → StopsBefore start_rows start_points given later
-    → StopsBefore start_rows start_points given (later ++ g ∷ [])
-stops_as_before start_rows start_points given [] g more stops = absurd (false≢true more)
-stops_as_before start_rows start_points given (x ∷ xs) g more stops = stops
-
-stops_here : (start_rows : List BufferRow) (start_points : List BufferPoint) (given later : List Tree)
-    (g : Tree) → are_more later ≡ false → StopsBefore start_rows start_points given (g ∷ [])
-    → StopsBefore start_rows start_points given (later ++ g ∷ [])
-stops_here start_rows start_points given [] g more stops = stops
-stops_here start_rows start_points given (x ∷ xs) g more stops = absurd (false≢true (sym more))
-
-pub no_more : (later : List Tree) → are_more later ≡ false → later ≡ []
-no_more [] e = refl
-no_more (x ∷ xs) e = absurd (false≢true (sym e))
-
 -- one more geometry was counted, and not taken
 not_taken : (start_rows : List BufferRow) (start_points : List BufferPoint) (given later : List Tree)
     (g : Tree) (form : List Row) (in_rows : List BufferRow) (in_points : List BufferPoint) (old new : Taken) (n m : ℕ)
     → HasTaken start_rows start_points given later in_rows in_points old → rows 0 g ≡ form
     → n ≡ length form → m ≡ length (row_points form)
-    → StopsBefore start_rows start_points given (later ++ g ∷ [])
+    → StopsBefore (LacksRoom start_rows start_points) given (later ++ g ∷ [])
     → new ≡ record (counted_with old n m) { full = true }
     → HasTaken start_rows start_points given (later ++ g ∷ []) in_rows in_points new
 not_taken start_rows start_points given later g form in_rows in_points old new n m h same n_is m_is stops is =
@@ -217,7 +198,7 @@ pub passed : (start_rows : List BufferRow) (start_points : List BufferPoint) (gi
 passed start_rows start_points given later g form in_rows in_points old new n m h same n_is m_is is full =
     let was : old.full ≡ true = sym (ap (λ (t : Taken). t.full) is) ∙ full in
     inr (not_taken start_rows start_points given later g form in_rows in_points old new n m h same n_is m_is
-    (stops_as_before start_rows start_points given later g (sym h.full_is ∙ was) h.stops)
+    (stops_as_before (LacksRoom start_rows start_points) given later g (sym h.full_is ∙ was) h.stops)
     (is ∙ ap (λ (b : Bool). record (counted_with old n m) { full = b }) was))
 
 -- one more geometry was counted, and there is no room for it
@@ -237,13 +218,13 @@ lacking start_rows start_points given later g form in_rows in_points old mid n m
     let points_are : mid.points ≡ length (row_points (rows_of given)) = ap (λ (t : Taken). t.points) is ∙ h.points_is in
     let count = count_more given g form same in
     let point_count = point_count_more given g form same in
-    let stops : StopsBefore start_rows start_points given (g ∷ []) = elim lacks [
+    let stops : StopsBefore (LacksRoom start_rows start_points) given (g ∷ []) = elim lacks [
       | inl few ↦ inl (omega (arith, few, count, lengths, rows_are, n_is, row_room_is, h.filled.room))
       | inr few ↦ inr (omega (arith, few, point_count, lengths, points_are, m_is, point_room_is, h.filled.room))
     ] in
     inr (not_taken start_rows start_points given later g form in_rows in_points old (record mid { full = true }) n m h
     same n_is m_is
-    (stops_here start_rows start_points given later g (sym h.full_is ∙ was) stops)
+    (stops_here (LacksRoom start_rows start_points) given later g (sym h.full_is ∙ was) stops)
     (ap (λ (t : Taken). record t { full = true }) is))
 
 -- one more geometry was taken

@@ -1,4 +1,13 @@
+pub mod Blobs
+pub mod Gathering
+pub mod Judging
+pub mod OwnPoints
 pub mod Reading
+pub mod Rooms
+pub mod RowTests
 pub mod Rows
 pub mod SameRows
+pub mod Sending
+pub mod Status
 pub mod Taking
+pub mod Writing

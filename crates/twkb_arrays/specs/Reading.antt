@@ -12,7 +12,10 @@ use Rattle.twkb_buffer.specs.Numbers.{blob_number_of}
 use Rattle.twkb_buffer.specs.declared.point.BufferPoint.{BufferPoint}
 use Rattle.twkb_blob.specs.Sessions.{Stands}
 use Rattle.twkb_blob.specs.declared.session.Session.{Session}
-use Rattle.twkb_arrays.specs.Taking.{HasTaken, IsFilled, StopsBefore, are_more}
+use Rattle.twkb_arrays.specs.Status.{unless_full}
+use Rattle.twkb_arrays.specs.Rooms.{StopsBefore, are_more}
+use Rattle.twkb_arrays.specs.Rows.{LacksRoom}
+use Rattle.twkb_arrays.specs.Taking.{HasTaken, IsFilled}
 use Rattle.twkb_arrays.specs.declared.row.BufferRow.{BufferRow}
 use Rattle.twkb_arrays.specs.declared.taking.Taken.{Taken}
 use Rattle.twkb_arrays.specs.declared.reading.BufferCounts.{BufferCounts}
@@ -43,11 +46,6 @@ abbrev pub StopsReading : Allowance → List BufferRow → List BufferPoint → 
 StopsReading l start_rows start_points bytes in_rows in_points taken why =
     (given later : List Tree) × HasTaken start_rows start_points given later in_rows in_points taken
     × EndsReading {A = ℕ} l bytes (given ++ later) (Err why)
-
--- the status, the reason and the place: 5 and none if there was too little room
-abbrev pub unless_full : Bool → ℕ × ℕ × ℕ → ℕ × ℕ × ℕ
-unless_full true outcome = (5, 0, 0)
-unless_full false outcome = outcome
 
 -- the status, the reason and the place of a reading that ended like this, given whether there was
 -- too little room for a geometry: 4 without memory, 5 without room, 1 for a refusal, and 0
@@ -80,7 +78,7 @@ pub record ReadsArrays (l : Allowance) (bytes : List ℕ) (old_rows : List Buffe
   pub given : List Tree
   pub later : List Tree
   pub filled : IsFilled old_rows old_points given new_rows new_points
-  pub stops : StopsBefore old_rows old_points given later
+  pub stops : StopsBefore (LacksRoom old_rows old_points) given later
   pub answer : Result (Unit {0}) BlobFault
   pub ended : EndsReading l bytes (given ++ later) answer
   pub counted : CountsAs given later answer counts

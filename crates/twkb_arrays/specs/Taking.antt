@@ -1,8 +1,9 @@
 -- The geometries that were taken into two arrays.
-use Rattle.std.specs.Prelude.{◌≡◌, ◌≤◌, ◌⊎◌, List, [], ◌∷◌, ◌++◌, length, drop, Bool, true, false, ⊤}
+use Rattle.std.specs.Prelude.{◌≡◌, ◌≤◌, ◌⊎◌, List, [], ◌∷◌, ◌++◌, length, drop}
 use Rattle.twkb_tree.specs.Tree.{Tree, saturated}
 use Rattle.twkb_tree.specs.Rows.{rows_of, row_points}
 use Rattle.twkb_buffer.specs.declared.point.BufferPoint.{BufferPoint}
+use Rattle.twkb_arrays.specs.Rooms.{StopsBefore, are_more}
 use Rattle.twkb_arrays.specs.Rows.{HasRoom, LacksRoom, array_points, array_rows}
 use Rattle.twkb_arrays.specs.declared.row.BufferRow.{BufferRow}
 use Rattle.twkb_arrays.specs.declared.taking.Taken.{Taken}
@@ -15,23 +16,13 @@ pub record IsFilled (old_rows : List BufferRow) (old_points : List BufferPoint) 
   pub points_are : new_points ≡ array_points gs ++ drop (length (row_points (rows_of gs))) old_points
   pub room : HasRoom old_rows old_points gs
 
--- the arrays have no room for the first of some more geometries, if there are more
-abbrev pub StopsBefore : List BufferRow → List BufferPoint → List Tree → List Tree → Type 0
-StopsBefore old_rows old_points given [] = ⊤
-StopsBefore old_rows old_points given (g ∷ later) = LacksRoom old_rows old_points (given ++ g ∷ [])
-
--- whether there are more geometries
-abbrev pub are_more : List Tree → Bool
-are_more [] = false
-are_more (g ∷ later) = true
-
 -- Of the geometries read so far the first ones were taken into the arrays, and the others were
 -- counted, since the first of these has no room.
 pub record HasTaken (old_rows : List BufferRow) (old_points : List BufferPoint)
     (given later : List Tree) (new_rows : List BufferRow) (new_points : List BufferPoint)
     (taken : Taken) : Type 0 where
   pub filled : IsFilled old_rows old_points given new_rows new_points
-  pub stops : StopsBefore old_rows old_points given later
+  pub stops : StopsBefore (LacksRoom old_rows old_points) given later
   pub full_is : taken.full ≡ are_more later
   pub done_is : taken.done ≡ length given
   pub rows_is : taken.rows ≡ length (rows_of given)

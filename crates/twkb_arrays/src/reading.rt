@@ -6,9 +6,10 @@ ghost use Rattle.twkb_blob.specs.Sessions.{Stands, session_limits};
 ghost use Rattle.twkb_arrays.specs.declared.row.BufferRow.{BufferRow as InRow};
 ghost use Rattle.twkb_arrays.specs.Taking.{HasTaken, IsWithin};
 ghost use Rattle.twkb_arrays.specs.Reading.{CountsAs, EndsReading, IsReading, ReadsArrays, StopsReading};
-ghost use Rattle.twkb_arrays.specs.Reading.{outcome_of, unless_full};
+ghost use Rattle.twkb_arrays.specs.Reading.{outcome_of};
 
 use crate::row::BufferRow;
+use crate::status::unless_full;
 use crate::taking::{Taken, take_geometry};
 use std::alloc::Global;
 use twkb_blob::{BlobFault, Session};
@@ -36,13 +37,6 @@ pub struct BufferCounts {
     pub needed_rows: u64,
     /// The number of points of all geometries that were read.
     pub needed_points: u64,
-}
-
-// The status, the reason and the place: 5 and none if there was too little room.
-fn unless_full(full: bool, outcome: (u32, u32, u64)) -> (u32, u32, u64)
-    ensures { result ≡ unless_full full outcome }
-{
-    if full { (5, 0, 0) } else { outcome }
 }
 
 // The status, the reason and the place of a reading that ended like this.

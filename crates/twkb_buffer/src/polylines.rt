@@ -11,8 +11,9 @@ use std::alloc::{AllocError, Global};
 use twkb_points::{PointTail, Pt};
 use twkb_polyline::{PolyFault, PolyReason, decode, encode};
 
-// The point with these coordinates; `None` if they are out of range.
-fn as_point(coordinates: &BufferPoint) -> Option<Pt>
+/// The point with these coordinates; `None` if they are out of range. Takes no memory.
+#[inline(always)]
+pub fn as_point(coordinates: &BufferPoint) -> Option<Pt>
     ensures range { IsSome result ↔ IsInRange (point_at coordinates.now.x coordinates.now.y) }
     ensures in_range { IfSome result IsInRange }
     ensures value { IfSome result (λ point. coordinates_at point ≡ coordinates.now) }

@@ -1,13 +1,16 @@
-//! The function for C that reads a stream into arrays, as declared in `include/polytwkb.h`.
-ghost use Rattle.std.specs.Prelude.{◌≡◌};
+//! The functions for C that read a stream into arrays and write one from arrays, as declared in
+//! `include/polytwkb.h`.
+ghost use Rattle.std.specs.Prelude.{◌≡◌, ◌<◌};
 ghost use Rattle.twkb_tree.specs.Limits.{IsAllowance};
+ghost use Rattle.twkb_grammar.specs.declared.style.Style.{Style};
 ghost use Rattle.twkb_arrays.specs.Reading.{ReadsArrays};
-ghost use Rattle.twkb_c.specs.Arguments.{allowance_of, arguments_counts};
+ghost use Rattle.twkb_arrays.specs.Writing.{WritesArrays};
+ghost use Rattle.twkb_c.specs.Arguments.{IsStyleNumber, allowance_of, arguments_counts, arguments_report};
 
-use crate::arguments::{BufferLimits, refused_counts};
+use crate::arguments::{BufferLimits, refused_arguments, refused_counts, style_of};
 use std::alloc::Global;
-use twkb_arrays::{BufferCounts, BufferRow, read_arrays};
-use twkb_buffer::BufferPoint;
+use twkb_arrays::{BufferCounts, BufferRow, read_arrays, write_arrays};
+use twkb_buffer::{BufferPoint, BufferReport};
 
 /// Reads a stream into arrays of rows and points.
 #[unsafe(no_mangle)]
@@ -28,4 +31,29 @@ pub extern "C" fn polytwkb_read(
         return refused_counts();
     };
     read_arrays(alloc, blobs, rows, points, limits)
+}
+
+/// Writes arrays of rows and points as a stream.
+#[unsafe(no_mangle)]
+pub extern "C" fn polytwkb_write(
+    alloc: Global,
+    rows: &[BufferRow],
+    points: &[BufferPoint],
+    output: &mut [u8],
+    limits: BufferLimits,
+    style: u32,
+) -> BufferReport
+    ensures writes { IsAllowance (allowance_of limits) → (s : Style) → IsStyleNumber s style
+        → WritesArrays (allowance_of limits) s rows.now points.now output.old output.new result }
+    ensures limits_out_of_range { (IsAllowance (allowance_of limits) → ⊥) → result ≡ arguments_report }
+    ensures style_out_of_range { 1 < style → result ≡ arguments_report }
+    ensures refused { result.status ≡ 2 → output.new ≡ output.old }
+{
+    let Some(limits) = limits.limits() else {
+        return refused_arguments();
+    };
+    let Some(style) = style_of(style) else {
+        return refused_arguments();
+    };
+    write_arrays(alloc, rows, points, output, limits, style)
 }

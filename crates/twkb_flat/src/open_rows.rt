@@ -1,5 +1,5 @@
 //! The open rows of a form, found by the links of its nodes.
-ghost use Rattle.std.specs.Prelude.{◌≡◌, ◌<◌, ◌≤◌, true, List, length, reverse};
+ghost use Rattle.std.specs.Prelude.{◌≡◌, ◌<◌, ◌≤◌, true, List, length, reverse, MatchOption};
 ghost use Rattle.twkb_tree.specs.declared.open_rows.OpenRow.{OpenRow};
 ghost use Rattle.twkb_tree.specs.Limits.{largest_limits};
 ghost use Rattle.twkb_tree.specs.RowLists.{AreValidRowsOfOne};
@@ -57,6 +57,19 @@ impl Flat {
             nodes: self.node_count(),
             points: self.point_count(),
         }
+    }
+
+    /// The place of a row at this depth after the rows; `None` if the depth is more than one below
+    /// the last row. Takes no memory.
+    pub fn place(&self, depth: u32) -> Option<Standing>
+        ensures { MatchOption result (open_count (reverse self.now) < depth)
+            (λ standing. (os : List OpenRow) → AreOpen (reverse self.now) os → (depth ≤ length os)
+            × (standing ≡ standing_at depth os (length self.now) (length (row_points self.now)))) }
+    {
+        if depth > self.levels() {
+            return None;
+        }
+        Some(self.standing(depth))
     }
 
     // Whether the last row is at this depth and is a member of a multipoint, whose members all

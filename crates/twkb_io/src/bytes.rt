@@ -23,6 +23,20 @@ impl Bytes {
         }
     }
 
+    /// Drops all bytes, and keeps their memory for others. Takes no memory.
+    pub fn clear(&mut self)
+        ensures { bytes_of self.new ≡ [] }
+    {
+        self.kept.clear();
+    }
+
+    /// The bytes of all accepted puts, in order. Takes no memory.
+    pub fn as_slice(&self) -> &[u8]
+        ensures { result.now ≡ bytes_of self.now }
+    {
+        &self.kept
+    }
+
     /// The bytes of all accepted puts, in order. Takes no memory.
     pub fn into_vec(self) -> Vec<u8>
         ensures { result.items ≡ bytes_of self }

@@ -1,5 +1,6 @@
 //! What a row's place allows, each rule once for each answer; and limits. Rows after others are
 //! rows of the program `vectors`.
+use crate::fixtures::{POINT_AND_LINE, form};
 use twkb_tree::row_rules::{
     count_fits, has_place, has_points, has_same_ids, id_allowed, is_whole, may_have, nest_kept,
 };
@@ -53,6 +54,28 @@ fn a_row_stands_under_the_last_row_above_its_depth(rt: HostRuntime) {
     };
     let is_below = Standing::at(2, &rows, 5, 3) == Some(below);
     assert!(rt; is_below & Standing::at(3, &rows, 5, 3).is_none());
+}
+
+// The rows of the form are a collection, a point with an id, and a linestring with an id.
+#[test]
+fn places_after_the_rows_of_a_form(rt: HostRuntime) {
+    let flat = form(rt.alloc(), POINT_AND_LINE);
+    let member = Standing {
+        depth: 1,
+        parent: under(Kind::Collection, Some(true)),
+        nodes: 3,
+        points: 1,
+    };
+    let below = Standing {
+        depth: 2,
+        parent: under(Kind::Linestring, None),
+        nodes: 3,
+        points: 1,
+    };
+    let are_members = (flat.place(1) == Some(member)) & (flat.place(2) == Some(below));
+    assert!(rt;
+        are_members & (flat.place(0) == Standing::at(0, &[], 0, 0)) & flat.place(3).is_none()
+    );
 }
 
 // Whether limits have these numbers.

@@ -1,6 +1,7 @@
 use Rattle.std.proofs.Common.{◌∙◌, ◌++◌, List, ap, arith, length, refl, sym, take}
 use Rattle.twkb_tree.specs.Rows.{Row}
-use Rattle.twkb_arrays.proofs.ReadingLemmas.{fed_all, fed_whole, length-rest_of, rest_of, stopped, took, went_on}
+use Rattle.twkb_arrays.proofs.ArrayLemmas.{length-rest_of, rest_of}
+use Rattle.twkb_arrays.proofs.ReadingLemmas.{fed_all, fed_whole, stopped, took, went_on}
 use Rattle.twkb_arrays.proofs.TakingLemmas.{some_rows}
 use Rattle.twkb_arrays.proofs.reading.read_next.Goals as goal
 

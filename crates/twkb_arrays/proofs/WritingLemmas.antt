@@ -1,0 +1,383 @@
+-- Arrays that are written as streams.
+use Rattle.std.proofs.Common.{◌≡◌, ℕ, ◌+◌, ◌-◌, ◌<◌, ◌≤◌, ◌⊎◌, inl, inr, List, [], ◌∷◌, ◌++◌, length, take, drop}
+use Rattle.std.proofs.Common.{Bool, true, false, refl, sym, ap, ◌∙◌, subst, arith, append_assoc, slice_index_or}
+use Rattle.std.specs.Prelude.{Result, Ok, Err, IfOk, IfErr, IsTrue, ◌↔◌}
+use Rattle.std.proofs.lemmas.Bool.{false≢true}
+use Rattle.std.proofs.lemmas.List.{append-nil, map-append, length-drop, length-take-le, take-append-drop, take_all, take_more}
+use Rattle.twkb_points.specs.Point.{Point}
+use Rattle.twkb_tree.specs.Tree.{Tree, IsTree}
+use Rattle.twkb_tree.specs.Limits.{Allowance, IsValid}
+use Rattle.twkb_tree.specs.Rows.{Row, rows, rows_of, row_points}
+use Rattle.twkb_tree.specs.RowLists.{AreValidRowsOfOne}
+use Rattle.twkb_tree.proofs.Forest.{all_push}
+use Rattle.twkb_grammar.specs.Written.{canonical_blob}
+use Rattle.twkb_grammar.specs.declared.style.Style.{Style}
+use Rattle.twkb_buffer.specs.Polylines.{coordinates_of}
+use Rattle.twkb_buffer.specs.declared.point.BufferPoint.{BufferPoint}
+use Rattle.twkb_arrays.specs.Gathering.{IfRow}
+use Rattle.twkb_arrays.specs.Judging.{AcceptedAfter, RefusedAfter}
+use Rattle.twkb_arrays.specs.Rows.{row_in_c, rows_in_c}
+use Rattle.twkb_arrays.specs.Sending.{HasSent, IsSentWithin, SendsOne}
+use Rattle.twkb_arrays.specs.Writing.{AreArrays, AreRead, EndsWriting, IsWriting, StopsAtRow, StopsRow, StopsWriting}
+use Rattle.twkb_arrays.specs.Writing.{fault_at}
+use Rattle.twkb_arrays.specs.declared.gathering.Stop.{Stop}
+use Rattle.twkb_arrays.specs.declared.gathering.Stop.TheVariants as stop
+use Rattle.twkb_arrays.specs.declared.row.BufferRow.{BufferRow}
+use Rattle.twkb_arrays.specs.declared.sending.Sent.{Sent}
+use Rattle.twkb_arrays.specs.declared.writing.Writer.{Writer}
+use Rattle.twkb_arrays.specs.declared.writing.WriteFault.{WriteFault}
+use Rattle.twkb_arrays.specs.declared.writing.WriteFault.TheVariants as fault
+use Rattle.twkb_arrays.proofs.ArrayLemmas.{coordinates_of-append, parts_join, rest_of, row_points-append, some_more}
+use Rattle.twkb_arrays.proofs.RowLemmas.{points_back, row_back}
+use Rattle.twkb_arrays.proofs.SendingLemmas.{sent_within}
+use Rattle.twkb_arrays.proofs.TakingLemmas.{rows_of-more}
+
+-- ---- the open geometry
+
+-- a test for rows that found some
+pub not_empty : (form : List Row) (found : Bool) → found ≡ false → IsTrue found ↔ (form ≡ []) → form ≡ [] → ⊥
+not_empty form found some same none = false≢true (sym some ∙ same.1 none)
+
+-- before the first row
+pub none_read : (l : Allowance) (style : Style) (start : List ℕ) (writer : Writer) → writer.form ≡ []
+    → HasSent style start [] [] start writer.sent → IsWriting l style start [] [] start writer
+none_read l style start writer none sent = record {
+  given = [];
+  later = [];
+  read = record {
+    valid = tt;
+    begun_valid = subst (λ (rs : List Row). AreValidRowsOfOne l rs) (sym none) tt;
+    rows_are = ap rows_in_c (sym none);
+    points_are = ap (λ (rs : List Row). coordinates_of (row_points rs)) (sym none);
+  };
+  sent = sent;
+}
+
+-- what was written is in the output
+pub writing_within : (l : Allowance) (style : Style) (start : List ℕ) (in_rows : List BufferRow)
+    (in_points : List BufferPoint) (out : List ℕ) (writer : Writer)
+    → IsWriting l style start in_rows in_points out writer → IsSentWithin out writer.sent
+writing_within l style start in_rows in_points out writer w =
+    sent_within style start w.given w.later out writer.sent w.sent
+
+-- rows of one valid geometry, of which there are some, are all rows of it
+pub one_of : (l : Allowance) (form : List Row) → (form ≡ [] → ⊥) → AreValidRowsOfOne l form
+    → (g : Tree) × IsValid l g × (rows 0 g ≡ form)
+one_of l [] some valid = absurd (some refl)
+one_of l (r ∷ rs) some valid = valid
+
+-- the open geometry is complete
+read_whole : (l : Allowance) (gs : List Tree) (g : Tree) (form : List Row) (in_rows : List BufferRow)
+    (in_points : List BufferPoint) → AreRead l gs form in_rows in_points → IsValid l g → rows 0 g ≡ form
+    → AreRead l (gs ++ g ∷ []) [] in_rows in_points
+read_whole l gs g form in_rows in_points a valid same =
+    let all : rows_of gs ++ form ≡ rows_of (gs ++ g ∷ []) ++ [] =
+    ap (λ (rs : List Row). rows_of gs ++ rs) (sym same) ∙ sym (rows_of-more gs g)
+    ∙ sym (append-nil (rows_of (gs ++ g ∷ []))) in
+    record {
+      valid = all_push (IsValid l) gs g a.valid valid;
+      begun_valid = tt;
+      rows_are = a.rows_are ∙ ap rows_in_c all;
+      points_are = a.points_are ∙ ap (λ (rs : List Row). coordinates_of (row_points rs)) all;
+    }
+
+-- the open geometry is complete, and its blob was written or counted
+pub ended_one : (l : Allowance) (style : Style) (start : List ℕ) (in_rows : List BufferRow)
+    (in_points : List BufferPoint) (in_output out blob : List ℕ) (old new : Writer)
+    → (old.form ≡ [] → ⊥) → ((g : Tree) → IsTree g → rows 0 g ≡ old.form → blob ≡ canonical_blob style g)
+    → ((s : Style) (start : List ℕ) (given later : List Tree) (g : Tree) → HasSent s start given later in_output old.sent
+    → blob ≡ canonical_blob s g → SendsOne s start given later g out new.sent)
+    → new.form ≡ [] → IsWriting l style start in_rows in_points in_output old
+    → IsWriting l style start in_rows in_points out new
+ended_one l style start in_rows in_points in_output out blob old new some made sends closed w =
+    let given = w.given in
+    let later = w.later in
+    let one = one_of l old.form some w.read.begun_valid in
+    let g = one.0 in
+    let whole = read_whole l (given ++ later) g old.form in_rows in_points w.read one.1 one.2 in
+    let read : AreRead l ((given ++ later) ++ g ∷ []) new.form in_rows in_points =
+    subst (λ (rs : List Row). AreRead l ((given ++ later) ++ g ∷ []) rs in_rows in_points) (sym closed) whole in
+    elim (sends style start given later g w.sent (made g one.1.tree one.2)) [
+      | inl sent ↦ record {
+        given = given ++ g ∷ [];
+        later = [];
+        read = subst (λ (gs : List Tree). AreRead l gs new.form in_rows in_points)
+            (ap (λ (gs : List Tree). (given ++ gs) ++ g ∷ []) sent.0
+            ∙ ap (λ (gs : List Tree). gs ++ g ∷ []) (append-nil given)
+            ∙ sym (append-nil (given ++ g ∷ []))) read;
+        sent = sent.1;
+      }
+      | inr sent ↦ record {
+        given = given;
+        later = later ++ g ∷ [];
+        read = subst (λ (gs : List Tree). AreRead l gs new.form in_rows in_points)
+            (append_assoc given later (g ∷ [])) read;
+        sent = sent;
+      }
+    ]
+
+-- ---- one more row
+
+-- one more row is read, and belongs to the open geometry
+pub read_more : (l : Allowance) (gs : List Tree) (form new_form : List Row) (in_rows : List BufferRow)
+    (in_points : List BufferPoint) (row : BufferRow) (ahead : List BufferPoint) (r : Row) (count : ℕ)
+    → AreRead l gs form in_rows in_points → new_form ≡ form ++ r ∷ [] → AcceptedAfter l form row ahead r
+    → AreValidRowsOfOne l new_form → count ≡ row.points
+    → AreRead l gs new_form (in_rows ++ row ∷ []) (in_points ++ take count ahead)
+read_more l gs form new_form in_rows in_points row ahead r count a is accepted valid count_is =
+    let all : (rows_of gs ++ form) ++ r ∷ [] ≡ rows_of gs ++ new_form =
+    append_assoc (rows_of gs) form (r ∷ []) ∙ ap (λ (rs : List Row). rows_of gs ++ rs) (sym is) in
+    record {
+      valid = a.valid;
+      begun_valid = valid;
+      rows_are = ap (λ (xs : List BufferRow). xs ++ row ∷ []) a.rows_are
+          ∙ ap (λ (x : BufferRow). rows_in_c (rows_of gs ++ form) ++ x ∷ []) (sym (row_back l form row ahead r accepted))
+          ∙ sym (map-append row_in_c (rows_of gs ++ form) (r ∷ []))
+          ∙ ap rows_in_c all;
+      points_are = ap (λ (xs : List BufferPoint). xs ++ take count ahead) a.points_are
+          ∙ ap (λ (n : ℕ). coordinates_of (row_points (rows_of gs ++ form)) ++ take n ahead) count_is
+          ∙ ap (λ (xs : List BufferPoint). coordinates_of (row_points (rows_of gs ++ form)) ++ xs)
+          (sym (points_back l form row ahead r accepted))
+          ∙ sym (coordinates_of-append (row_points (rows_of gs ++ form)) r.points)
+          ∙ ap coordinates_of (ap (λ (xs : List Point). row_points (rows_of gs ++ form) ++ xs)
+          (sym (append-nil r.points))
+          ∙ sym (row_points-append (rows_of gs ++ form) (r ∷ [])))
+          ∙ ap (λ (rs : List Row). coordinates_of (row_points rs)) all;
+    }
+
+-- one more row is read
+pub writes_more : (l : Allowance) (style : Style) (start : List ℕ) (in_rows : List BufferRow)
+    (in_points : List BufferPoint) (out : List ℕ) (mid : Writer) (new_form : List Row)
+    (row : BufferRow) (ahead : List BufferPoint) (r : Row) (count : ℕ)
+    → IsWriting l style start in_rows in_points out mid → new_form ≡ mid.form ++ r ∷ []
+    → AcceptedAfter l mid.form row ahead r → AreValidRowsOfOne l new_form → count ≡ row.points
+    → IsWriting l style start (in_rows ++ row ∷ []) (in_points ++ take count ahead) out (record mid { form = new_form })
+writes_more l style start in_rows in_points out mid new_form row ahead r count w is accepted valid count_is = record {
+  given = w.given;
+  later = w.later;
+  read = read_more l (w.given ++ w.later) mid.form new_form in_rows in_points row ahead r count w.read is accepted
+      valid count_is;
+  sent = w.sent;
+}
+
+-- the next row is not read
+pub stops_at_row : (l : Allowance) (style : Style) (start : List ℕ) (in_rows : List BufferRow)
+    (in_points : List BufferPoint) (out : List ℕ) (mid new : Writer) (row : BufferRow) (ahead : List BufferPoint)
+    (why : Stop) → IsWriting l style start in_rows in_points out mid → new.sent ≡ mid.sent
+    → StopsRow l in_rows mid.form row ahead why → StopsAtRow l style start in_rows in_points row ahead out new why
+stops_at_row l style start in_rows in_points out mid new row ahead why w same stops = record {
+  given = w.given;
+  later = w.later;
+  begun = mid.form;
+  read = w.read;
+  sent = subst (λ (s : Sent). HasSent style start w.given w.later out s) (sym same) w.sent;
+  stops = stops;
+}
+
+-- what is known of a row that is read
+pub row_read : (l : Allowance) (style : Style) (in_output out : List ℕ) (old mid : Writer) (new_form : List Row)
+    (row : BufferRow) (ahead : List BufferPoint) (result : Result ℕ Stop)
+    → ((l : Allowance) (start : List ℕ) (in_rows : List BufferRow) (in_points : List BufferPoint)
+    → IsWriting l style start in_rows in_points in_output old → IsWriting l style start in_rows in_points out mid)
+    → IfOk result (λ count. (count ≤ length ahead) × (count ≡ row.points))
+    → IfOk result (λ count. (r : Row) × (new_form ≡ mid.form ++ r ∷ []) × AcceptedAfter l mid.form row ahead r
+    × AreValidRowsOfOne l new_form)
+    → IfOk result (λ count. (start : List ℕ) (in_rows : List BufferRow) (in_points : List BufferPoint)
+    → IsWriting l style start in_rows in_points in_output old
+    → IsWriting l style start (in_rows ++ row ∷ []) (in_points ++ take count ahead) out (record mid { form = new_form }))
+row_read l style in_output out old mid new_form row ahead (Ok count) begun counted pushed =
+    λ start in_rows in_points w. writes_more l style start in_rows in_points out mid new_form row ahead pushed.0 count
+    (begun l start in_rows in_points w) pushed.1 pushed.2 pushed.3 counted.1
+row_read l style in_output out old mid new_form row ahead (Err why) begun counted pushed = tt
+
+-- after a row that is read a geometry is open
+pub row_some : (l : Allowance) (form new_form : List Row) (row : BufferRow) (ahead : List BufferPoint)
+    (result : Result ℕ Stop)
+    → IfOk result (λ count. (r : Row) × (new_form ≡ form ++ r ∷ []) × AcceptedAfter l form row ahead r
+    × AreValidRowsOfOne l new_form)
+    → IfOk result (λ count. new_form ≡ [] → ⊥)
+row_some l form new_form row ahead (Ok count) pushed = λ none. one_more form pushed.0 (sym pushed.1 ∙ none)
+  where
+    one_more : (rs : List Row) (r : Row) → rs ++ r ∷ [] ≡ [] → ⊥
+    one_more [] r e = cc e
+    one_more (s ∷ rs) r e = cc e
+row_some l form new_form row ahead (Err why) pushed = tt
+
+-- what is known of a row that is not read
+pub row_not_read : (l : Allowance) (style : Style) (in_output out : List ℕ) (old mid new : Writer)
+    (row : BufferRow) (ahead : List BufferPoint) (result : Result ℕ Stop)
+    → ((l : Allowance) (start : List ℕ) (in_rows : List BufferRow) (in_points : List BufferPoint)
+    → IsWriting l style start in_rows in_points in_output old → IsWriting l style start in_rows in_points out mid)
+    → new.sent ≡ mid.sent → (row.depth ≡ 0 → mid.form ≡ [])
+    → (mid.form ≡ [] → (row.depth ≡ 0) ⊎ (old.form ≡ []))
+    → IfErr result (IfRow (RefusedAfter l mid.form row ahead))
+    → IfErr result (λ why. (start : List ℕ) (in_rows : List BufferRow) (in_points : List BufferPoint)
+    → IsWriting l style start in_rows in_points in_output old → (old.form ≡ [] → in_rows ≡ [])
+    → StopsAtRow l style start in_rows in_points row ahead out new why)
+row_not_read l style in_output out old mid new row ahead (Ok count) begun same root kept refused = tt
+row_not_read l style in_output out old mid new row ahead (Err stop.Memory) begun same root kept refused =
+    λ start in_rows in_points w some. stops_at_row l style start in_rows in_points out mid new row ahead stop.Memory
+    (begun l start in_rows in_points w) same tt
+row_not_read l style in_output out old mid new row ahead (Err (stop.Row number)) begun same root kept refused =
+    λ start in_rows in_points w some. stops_at_row l style start in_rows in_points out mid new row ahead (stop.Row number)
+    (begun l start in_rows in_points w) same
+    (root, λ none. elim (kept none) [ | inl zero ↦ inl zero | inr was ↦ inr (some was) ], refused)
+
+-- ---- the end
+
+-- a row that is not read ends the writing
+pub stops_writing : (l : Allowance) (style : Style) (start : List ℕ) (in_rows front_rows more : List BufferRow)
+    (in_points front_points ahead : List BufferPoint) (place : ℕ) (row : BufferRow) (out : List ℕ)
+    (writer : Writer) (why : Stop)
+    → StopsAtRow l style start front_rows front_points row ahead out writer why
+    → in_rows ≡ front_rows ++ row ∷ more → in_points ≡ front_points ++ ahead → place ≡ length front_rows
+    → StopsWriting l style start in_rows in_points out writer (fault_at place why)
+stops_writing l style start in_rows front_rows more in_points front_points ahead place row out writer stop.Memory s
+    rows_are points_are place_is = (
+  s.given,
+  s.later,
+  s.sent,
+  record {
+    begun = s.begun;
+    front_rows = front_rows;
+    more = row ∷ more;
+    front_points = front_points;
+    ahead = ahead;
+    rows_are = rows_are;
+    points_are = points_are;
+    read = s.read;
+  },
+)
+stops_writing l style start in_rows front_rows more in_points front_points ahead place row out writer
+    (stop.Row number) s rows_are points_are place_is = (
+  s.given,
+  s.later,
+  s.sent,
+  inl (record {
+    begun = s.begun;
+    front_rows = front_rows;
+    row = row;
+    more = more;
+    front_points = front_points;
+    ahead = ahead;
+    rows_are = rows_are;
+    points_are = points_are;
+    read = s.read;
+    root = s.stops.0;
+    first = s.stops.1;
+    refused = s.stops.2;
+    place_is = place_is;
+  }),
+)
+
+-- the rows up to a place and the row there
+with_next : (in_rows : List BufferRow) (i : ℕ) (row none : BufferRow) → i < length in_rows
+    → row ≡ slice_index_or in_rows i none
+    → take (i + 1) in_rows ≡ take i in_rows ++ row ∷ []
+with_next in_rows i row none within is = take_more in_rows i none within
+    ∙ ap (λ (x : BufferRow). take i in_rows ++ x ∷ []) (sym is)
+
+-- the row at a place is not read
+pub row_stops : (l : Allowance) (style : Style) (start : List ℕ) (in_rows : List BufferRow)
+    (in_points : List BufferPoint) (i used : ℕ) (row none : BufferRow) (out : List ℕ) (writer : Writer) (why : Stop)
+    (answer : WriteFault)
+    → StopsAtRow l style start (take i in_rows) (take used in_points) row (rest_of in_points used) out writer why
+    → i < length in_rows → row ≡ slice_index_or in_rows i none → answer ≡ fault_at i why
+    → StopsWriting l style start in_rows in_points out writer answer
+row_stops l style start in_rows in_points i used row none out writer why answer s within is answer_is =
+    subst (λ (f : WriteFault). StopsWriting l style start in_rows in_points out writer f) (sym answer_is)
+    (stops_writing l style start in_rows (take i in_rows) (drop (i + 1) in_rows) in_points (take used in_points)
+    (rest_of in_points used) i row out writer why s
+    (sym (take-append-drop (i + 1) in_rows)
+    ∙ ap (λ (xs : List BufferRow). xs ++ drop (i + 1) in_rows) (with_next in_rows i row none within is)
+    ∙ append_assoc (take i in_rows) (row ∷ []) (drop (i + 1) in_rows))
+    (sym (parts_join in_points (rest_of in_points used) used refl))
+    (sym (length-take-le i in_rows (omega (arith, within)))))
+
+-- the row at a place is read
+pub next_read : (l : Allowance) (style : Style) (start : List ℕ) (in_rows : List BufferRow)
+    (in_points : List BufferPoint) (i used count : ℕ) (row none : BufferRow) (out : List ℕ) (writer : Writer)
+    → IsWriting l style start (take i in_rows ++ row ∷ []) (take used in_points ++ take count (rest_of in_points used))
+    out writer
+    → i < length in_rows → row ≡ slice_index_or in_rows i none
+    → IsWriting l style start (take (i + 1) in_rows) (take (used + count) in_points) out writer
+next_read l style start in_rows in_points i used count row none out writer w within is =
+    subst (λ (xs : List BufferRow). IsWriting l style start xs (take (used + count) in_points) out writer)
+    (sym (with_next in_rows i row none within is))
+    (subst (λ (xs : List BufferPoint). IsWriting l style start (take i in_rows ++ row ∷ []) xs out writer)
+    (some_more in_points (rest_of in_points used) used count refl) w)
+
+-- points that are left over end the writing
+pub points_left_over : (l : Allowance) (style : Style) (start : List ℕ) (in_rows : List BufferRow)
+    (in_points : List BufferPoint) (used : ℕ) (out : List ℕ) (writer : Writer)
+    → IsWriting l style start in_rows (take used in_points) out writer → used < length in_points
+    → (writer.form ≡ [] → in_rows ≡ [])
+    → (given later : List Tree) × HasSent style start given later out writer.sent
+    × EndsWriting {A = Unit {0}} l (given ++ later) in_rows in_points (Err (fault.At (length in_rows) 72))
+points_left_over l style start in_rows in_points used out writer w some last = (
+  w.given,
+  w.later,
+  w.sent,
+  inr (record {
+    begun = writer.form;
+    front_points = take used in_points;
+    left = drop used in_points;
+    points_are = sym (take-append-drop used in_points);
+    read = w.read;
+    last = last;
+    some = omega (arith, length-drop used in_points, some);
+    place_is = refl;
+    number_is = refl;
+  }),
+)
+
+-- all rows and points are those of complete geometries
+pub all_written : (l : Allowance) (style : Style) (start : List ℕ) (in_rows : List BufferRow)
+    (in_points : List BufferPoint) (used : ℕ) (out : List ℕ) (writer : Writer) (done : Unit {0})
+    → IsWriting l style start in_rows (take used in_points) out writer → length in_points ≤ used → writer.form ≡ []
+    → (given later : List Tree) × HasSent style start given later out writer.sent
+    × EndsWriting l (given ++ later) in_rows in_points (Ok done)
+all_written l style start in_rows in_points used out writer done w whole closed =
+    let gs = w.given ++ w.later in
+    let all : rows_of gs ++ writer.form ≡ rows_of gs = ap (λ (rs : List Row). rows_of gs ++ rs) closed
+    ∙ append-nil (rows_of gs) in (
+      w.given,
+      w.later,
+      w.sent,
+      record {
+        valid = w.read.valid;
+        rows_are = w.read.rows_are ∙ ap rows_in_c all;
+        points_are = sym (take_all used in_points whole) ∙ w.read.points_are
+            ∙ ap (λ (rs : List Row). coordinates_of (row_points rs)) all;
+      },
+    )
+
+-- memory was refused for the blob of the last geometry
+pub no_memory : (l : Allowance) (style : Style) (start : List ℕ) (in_rows : List BufferRow)
+    (in_points : List BufferPoint) (used : ℕ) (in_output out : List ℕ) (old new : Writer)
+    → IsWriting l style start in_rows (take used in_points) in_output old → new.sent ≡ old.sent → out ≡ in_output
+    → (given later : List Tree) × HasSent style start given later out new.sent
+    × EndsWriting {A = Unit {0}} l (given ++ later) in_rows in_points (Err fault.Memory)
+no_memory l style start in_rows in_points used in_output out old new w same same_output = (
+  w.given,
+  w.later,
+  subst (λ (xs : List ℕ). HasSent style start w.given w.later xs new.sent) (sym same_output)
+      (subst (λ (s : Sent). HasSent style start w.given w.later in_output s) (sym same) w.sent),
+  record {
+    begun = old.form;
+    front_rows = in_rows;
+    more = [];
+    front_points = take used in_points;
+    ahead = drop used in_points;
+    rows_are = sym (append-nil in_rows);
+    points_are = sym (take-append-drop used in_points);
+    read = w.read;
+  },
+)
+
+-- a fault of a step ends the whole writing
+pub same_end : (l : Allowance) (gs : List Tree) (in_rows : List BufferRow) (in_points : List BufferPoint)
+    (why : WriteFault) → EndsWriting {A = ℕ} l gs in_rows in_points (Err why)
+    → EndsWriting {A = Unit {0}} l gs in_rows in_points (Err why)
+same_end l gs in_rows in_points fault.Memory e = e
+same_end l gs in_rows in_points (fault.At place number) e = e

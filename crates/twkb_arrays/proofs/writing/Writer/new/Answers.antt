@@ -1,0 +1,7 @@
+use Rattle.std.proofs.Common.{◌≡◌, [], List, ap, refl, sym, subst}
+use Rattle.twkb_tree.specs.Rows.{Row}
+use Rattle.twkb_arrays.proofs.WritingLemmas.{none_read}
+use Rattle.twkb_arrays.proofs.writing.Writer.new.Goals as goal
+
+pub returns : goal.returns
+returns c = λ l style output. none_read l style output _ c.new.ensures (c.nothing.ensures style output)

@@ -1,0 +1,60 @@
+//! The canonical blob of a flat form, made in memory that is reused from one form to the next.
+ghost use Rattle.std.specs.Prelude.{◌≡◌, OnOk};
+ghost use Rattle.twkb_tree.specs.Tree.{Tree, IsTree};
+ghost use Rattle.twkb_tree.specs.Rows.{rows};
+ghost use Rattle.twkb_grammar.specs.Written.{canonical_blob};
+
+use std::alloc::{AllocError, Global};
+use twkb_flat::{Flat, Work};
+use twkb_io::Bytes;
+use twkb_writer::{Depths, Piece, Sizes, Style, measure_into, write_through};
+
+// Memory for one blob and for the sizes of its form.
+#[derive(Drop)]
+pub(crate) struct BlobRoom {
+    depths: Depths,
+    sizes: Sizes,
+    piece: Piece,
+    bytes: Bytes,
+}
+
+impl BlobRoom {
+    ghost use Rattle.twkb_arrays.specs.Blobs.{blob_in};
+
+    // Makes a room without a blob. Takes no memory.
+    pub(crate) fn new(alloc: Global) -> BlobRoom {
+        BlobRoom {
+            depths: Depths::new(),
+            sizes: Sizes::new(alloc),
+            piece: Piece::new(),
+            bytes: Bytes::new(alloc),
+        }
+    }
+
+    // Makes the canonical blob of a flat form in a style, in place of the blob before it.
+    #[inline(always)]
+    pub(crate) fn make(&mut self, form: &Flat, style: Style) -> Result<(), AllocError>
+        ensures { OnOk result ((g : Tree) → IsTree g → rows 0 g ≡ form.now
+            → blob_in self.new ≡ canonical_blob style g) }
+    {
+        let mut work = Work::new();
+        measure_into(form, style, &mut self.depths, &mut self.sizes, &mut work)?;
+        self.bytes.clear();
+        write_through(
+            form,
+            style,
+            &self.sizes,
+            &mut self.piece,
+            &mut self.bytes,
+            &mut work,
+        )
+    }
+
+    // The blob that was made last.
+    #[inline(always)]
+    pub(crate) fn blob(&self) -> &[u8]
+        ensures { result.now ≡ blob_in self.now }
+    {
+        self.bytes.as_slice()
+    }
+}

@@ -1,0 +1,10 @@
+//! The status of a call that had too little room.
+ghost use Rattle.std.specs.Prelude.{◌≡◌};
+ghost use Rattle.twkb_arrays.specs.Status.{unless_full};
+
+// The status, the reason and the place: 5 and none if there was too little room.
+pub(crate) fn unless_full(full: bool, outcome: (u32, u32, u64)) -> (u32, u32, u64)
+    ensures { result ≡ unless_full full outcome }
+{
+    if full { (5, 0, 0) } else { outcome }
+}
