@@ -3,6 +3,7 @@ pub mod ArrayRows
 pub mod ArraysRefused
 pub mod GatheringLemmas
 pub mod JudgingLemmas
+pub mod LoneLemmas
 pub mod OwnPointsLemmas
 pub mod ReadingLaws
 pub mod ReadingLemmas

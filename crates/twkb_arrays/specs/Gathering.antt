@@ -1,9 +1,33 @@
--- A row that is not appended to a form.
-use Rattle.std.specs.Prelude.{ℕ, ⊤}
+-- A row that is appended to a form, or is not.
+use Rattle.std.specs.Prelude.{◌≡◌, ℕ, ◌<◌, pos, List, [], ◌∷◌, length, take, ⊤}
+use Rattle.twkb_points.specs.Point.{Point, IsInRange}
+use Rattle.twkb_tree.specs.Limits.{Allowance}
+use Rattle.twkb_tree.specs.Tree.{IsPrecision}
+use Rattle.twkb_buffer.specs.Polylines.{coordinates_at}
+use Rattle.twkb_buffer.specs.declared.point.BufferPoint.{BufferPoint}
 use Rattle.twkb_arrays.specs.declared.gathering.Stop.{Stop}
 use Rattle.twkb_arrays.specs.declared.gathering.Stop.TheVariants as stop
+use Rattle.twkb_arrays.specs.declared.row.BufferRow.{BufferRow}
 
 -- a refusal is for a reason with this number; a lack of memory says nothing about the row
 abbrev pub IfRow : (ℕ → Type 0) → Stop → Type 0
 IfRow Holds stop.Memory = ⊤
 IfRow Holds (stop.Row number) = Holds number
+
+-- The row is that of a point which is a geometry itself: a root with one point, a precision and no id.
+pub record IsLone (row : BufferRow) : Type 0 where
+  pub is_point : row.kind ≡ 1
+  pub is_root : row.depth ≡ 0
+  pub has_one : row.points ≡ 1
+  pub has_no_id : row.has_id ≡ 0
+  pub id_is : row.id ≡ pos 0
+  pub has_precision : IsPrecision row.precision
+
+-- The row is such a row, its point is this one, the first of those ahead, and the limits allow it.
+pub record BeginsAlone (l : Allowance) (row : BufferRow) (ahead : List BufferPoint) (p : Point) : Type 0 where
+  pub lone : IsLone row
+  pub nodes_left : 0 < l.nodes
+  pub points_left : 0 < l.points
+  pub some : 0 < length ahead
+  pub first : take 1 ahead ≡ coordinates_at p ∷ []
+  pub in_range : IsInRange p

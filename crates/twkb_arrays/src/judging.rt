@@ -22,18 +22,31 @@ use twkb_tree::{GREATEST_PRECISION, Kind, LEAST_PRECISION, Limits, OpenRow, Stan
 
 // The numbers of the reasons to refuse a row, in the order of its tests.
 pub(crate) const BAD_KIND: u32 = 4;
+
 pub(crate) const BAD_ID: u32 = 8;
+
 pub(crate) const BAD_PLACE: u32 = 5;
+
 const TOO_DEEP: u32 = 6;
+
 const TOO_MANY_NODES: u32 = 7;
+
 const ID_NOT_ALLOWED: u32 = 9;
+
 const MIXED_IDS: u32 = 10;
+
 const BAD_PRECISION: u32 = 11;
+
 const PRECISION_MISSING: u32 = 12;
+
 const PRECISION_NOT_ALLOWED: u32 = 13;
+
 const POINTS_NOT_ALLOWED: u32 = 14;
+
 pub(crate) const COORDINATE_RANGE: u32 = 26;
+
 const TOO_MANY_POINTS: u32 = 27;
+
 const POINT_COUNT: u32 = 16;
 
 // The kind with this number.
