@@ -7,7 +7,7 @@ from typing import Any, Iterable, Optional, Union
 from ._arrays import NO_PRECISION, Kind
 from ._conversions import Limits
 from ._geometries import NAMES, PARTS
-from ._points import clipped, placed, unit
+from ._points import clipped, listed, placed, unit
 from ._refused import Refused
 from ._rounding import power, rounded
 from ._writing import CODES, rows_of, write
@@ -41,7 +41,7 @@ def mapping_of(given):
     return mapping_of(given.get("geometry")) if given.get("type") == "Feature" else given
 
 
-def listed(given):
+def _geometries_of(given):
     """The geometries of a column of GeoPandas, of a mapping, of an object with a geo interface, or of a list."""
     column = None if isinstance(given, Mapping) else getattr(given, "geometry", None)
     if hasattr(column, "__iter__"):
@@ -54,11 +54,17 @@ def listed(given):
     return given
 
 
-def _field(mapping, name):
-    found = mapping.get(name)
+def _items(found, what):
+    """The items of a list, or of a view."""
+    if isinstance(found, memoryview):
+        return listed(found)
     if isinstance(found, (str, bytes)) or not hasattr(found, "__iter__"):
-        raise TypeError(f"the {name} of a {mapping.get('type')} are a list, not {type(found).__name__}")
+        raise TypeError(f"the {what} are a list, not {type(found).__name__}")
     return found
+
+
+def _field(mapping, name):
+    return _items(mapping.get(name), f"{name} of a {mapping.get('type')}")
 
 
 def _kind_of(mapping):
@@ -124,17 +130,15 @@ class _Gathered:
 
     def add_points(self, kind, points, depth, identifier, precision):
         """A row of a kind that has points; the coordinates of a point are not in a list."""
-        points = list(points)
+        points = list(_items(points, "coordinates"))
         self.put(kind, depth, identifier, precision, [points] if points and kind == Kind.POINT else points)
 
     def add_parts(self, kind, parts, depth):
         """The parts of a geometry, from their coordinates."""
         for points, identifier in parts:
-            if not hasattr(points, "__iter__"):
-                raise TypeError(f"coordinates are in lists, not {type(points).__name__}")
             if kind in PARTS:
                 self.put(kind, depth, identifier, NO_PRECISION)
-                self.add_parts(PARTS[kind], ((part, None) for part in points), depth + 1)
+                self.add_parts(PARTS[kind], ((part, None) for part in _items(points, "coordinates")), depth + 1)
             else:
                 self.add_points(kind, points, depth, identifier, NO_PRECISION)
 
@@ -176,7 +180,7 @@ def pack_geometries(geometries: Union[Any, Iterable[Any]], precision: int, style
     Raises Refused, with the geometry from 0 as its place, if one is against the rules of a table; its `output` has the blobs before.
     """
     gathered = _Gathered(power(precision), ids)
-    gathered.add_all(listed(geometries))
+    gathered.add_all(_geometries_of(geometries))
     try:
         return write(rows_of(gathered.columns), gathered.units(), style, limits)
     except Refused as refused:

@@ -143,11 +143,11 @@ def _pieces(points, precision):
         flat = _flat(_checked(view))
         return (flat[start : start + _PIECE] for start in range(0, len(flat), _PIECE))
     if isinstance(points, memoryview):
-        return _pieces_of_pairs(_listed(view))
+        return _pieces_of_pairs(listed(view))
     return _pieces_of_pairs(points)
 
 
-def _listed(view):
+def listed(view):
     """The points of a view as lists: a view of two columns has no rows to give."""
     try:
         return view.tolist()

@@ -47,6 +47,12 @@ class Mappings(unittest.TestCase):
         self.assertEqual(polytwkb.geometries(polytwkb.split(stream)), mappings)
         self.assertEqual((polytwkb.pack_geometries([], 5), polytwkb.pack_geometries({"type": "FeatureCollection", "features": []}, 5)), (b"", b""))
 
+    def test_coordinates_in_buffers(self):
+        line = {"type": "LineString", "coordinates": polytwkb.in_degrees([(1, 1), (5, 5)], 5)}
+        self.assertEqual(polytwkb.pack_geometries(line, 5), table_of("0,linestring,,5,AAGG/"))
+        park = {"type": "Polygon", "coordinates": [line["coordinates"]]}
+        self.assertEqual(polytwkb.pack_geometries(park, 5), table_of("0,polygon,,5,/1,ring,,,AAGG/"))
+
     def test_objects_with_an_interface(self):
         class Place:
             __geo_interface__ = {"type": "Feature", "geometry": RIGHT}
