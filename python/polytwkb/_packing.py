@@ -49,9 +49,7 @@ def _geometries_of(given):
     if isinstance(given, Mapping) or hasattr(given, "geom_type") or hasattr(given, "__geo_interface__"):
         given = mapping_of(given)
         return _field(given, "features") if given.get("type") == "FeatureCollection" else [given]
-    if isinstance(given, (str, bytes)) or not hasattr(given, "__iter__"):
-        raise TypeError(f"geometries are mappings or objects with a __geo_interface__, not {type(given).__name__}")
-    return given
+    return _items(given, "geometries")
 
 
 def _items(found, what):

@@ -130,8 +130,8 @@ def slip(chance, rows, points):
     elif kind == 6 and rows:
         place = chance.randrange(len(rows))
         identifier, count, *rest = rows[place]
-        rows[place] = identifier, count + 1, *rest
-        points.insert(sum(row[1] for row in rows[:place]), (chance.randint(-9, 9), 0))
+        rows[place] = identifier, min(count + 1, 2**64 - 1), *rest
+        points.insert(min(sum(row[1] for row in rows[:place]), len(points)), (chance.randint(-9, 9), 0))
     elif kind == 7:
         points.insert(chance.randrange(len(points) + 1), (chance.randint(-9, 9), 0))
     elif points:
