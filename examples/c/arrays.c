@@ -1,11 +1,12 @@
-// Reads a stream into arrays of rows and points, into each room, with guard bytes round each array; then the rows of a refused stream.
+// Reads a stream into arrays of rows and points, and writes these as the stream again, into each room, with guard bytes round each array; then
+// a refused stream, and refused rows and points.
 #include <polytwkb.h>
 
 #include <stdio.h>
 #include <stdlib.h>
 #include <string.h>
 
-enum { GUARD = 32, GUARD_BYTE = 0xA5, ROWS = 4, POINTS = 3 };
+enum { GUARD = 32, GUARD_BYTE = 0xA5, ROWS = 4, POINTS = 3, FIRST_BLOB = 11 };
 
 // A collection of the point (1, 1) with the id 7 and an empty linestring with the id -1, and the linestring from (1, 1) to (5, 5).
 static const uint8_t blobs[] = {0x07, 0x04, 0x02, 0x0e, 0x01, 0x01, 0x00, 0x02, 0x02, 0x02, 0x10, 0x02, 0x00, 0x02, 0x02, 0x02, 0x08, 0x08};
@@ -38,7 +39,7 @@ static void *guarded(size_t bytes) {
 static void release(void *array, size_t bytes, size_t written) {
     uint8_t *first = array;
     for (size_t i = 1; i <= GUARD; i++) check(first[-(ptrdiff_t)i] == GUARD_BYTE, "the guard before an array");
-    for (size_t i = written; i < bytes + GUARD; i++) check(first[i] == GUARD_BYTE, "bytes after the rows or points");
+    for (size_t i = written; i < bytes + GUARD; i++) check(first[i] == GUARD_BYTE, "bytes after what was written");
     free(first - GUARD);
 }
 
@@ -68,9 +69,41 @@ static void each_room(void) {
     }
 }
 
+// Writes the first rows and points into this much room, and checks all that was written.
+static polytwkb_report write_into(size_t row_count, size_t point_count, size_t room) {
+    uint8_t *output = guarded(room);
+    polytwkb_report report = polytwkb_write(rows, row_count, points, point_count, output, room, polytwkb_standard_limits(), POLYTWKB_PLAIN);
+    check(report.sent <= room && memcmp(output, blobs, report.sent) == 0, "the blobs");
+    release(output, room, report.sent);
+    return report;
+}
+
+// Room for both blobs, for the first alone, or for none.
+static void each_output(void) {
+    for (size_t room = 0; room <= sizeof blobs + 1; room++) {
+        polytwkb_report report = write_into(ROWS, POINTS, room);
+        unsigned done = room < FIRST_BLOB ? 0 : room < sizeof blobs ? 1 : 2;
+        check(report.status == (done == 2 ? POLYTWKB_DONE : POLYTWKB_TOO_SMALL) && report.done == done, "the status");
+        check(report.sent == (done == 2 ? sizeof blobs : done == 1 ? FIRST_BLOB : 0), "whole blobs");
+        check(report.needed == sizeof blobs, "what would do");
+    }
+}
+
+// A point is missing, or points are left over.
+static void refused_points(void) {
+    polytwkb_report missing = write_into(ROWS, POINTS - 1, sizeof blobs);
+    check(missing.status == POLYTWKB_REFUSED && missing.reason == POLYTWKB_POINTS_MISSING && missing.place == 3, "the row");
+    check(missing.done == 1 && missing.sent == FIRST_BLOB, "the blob before it");
+    polytwkb_report left = write_into(ROWS - 1, POINTS, sizeof blobs);
+    check(left.status == POLYTWKB_REFUSED && left.reason == POLYTWKB_POINTS_LEFT && left.place == 3, "after the rows");
+    check(left.done == 0 && left.sent == 0, "the last geometry is not written");
+}
+
 int main(void) {
     check(sizeof(polytwkb_row) == 24 && sizeof(polytwkb_counts) == 56, "the layouts");
     each_room();
+    each_output();
+    refused_points();
 
     polytwkb_counts cut = read_into(sizeof blobs - 1, ROWS, POINTS);
     check(cut.status == POLYTWKB_REFUSED && cut.reason == POLYTWKB_BLOB_TRUNCATED && cut.place == sizeof blobs - 1, "a cut blob");
@@ -80,7 +113,10 @@ int main(void) {
     check(none.status == POLYTWKB_DONE && none.done == 0, "no bytes, no arrays");
     polytwkb_limits wrong = {33, 1, 0};
     check(polytwkb_read(blobs, sizeof blobs, NULL, 0, NULL, 0, wrong).status == POLYTWKB_ARGUMENTS, "a limit out of range");
+    polytwkb_report empty = polytwkb_write(NULL, 0, NULL, 0, NULL, 0, polytwkb_standard_limits(), POLYTWKB_FULL);
+    check(empty.status == POLYTWKB_DONE && empty.done == 0, "no rows, no points");
+    check(polytwkb_write(NULL, 0, NULL, 0, NULL, 0, polytwkb_standard_limits(), 2).status == POLYTWKB_ARGUMENTS, "a style out of range");
 
-    printf("%zu bytes of blobs are %d rows and %d points\n", sizeof blobs, ROWS, POINTS);
+    printf("%zu bytes of blobs are %d rows and %d points, and these the same bytes\n", sizeof blobs, ROWS, POINTS);
     return 0;
 }
