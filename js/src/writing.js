@@ -55,7 +55,9 @@ function put(words, word, number) {
 function putDegrees(words, { starts, precisions, xy }) {
     let precision = 0;
     for (let row = 0; row < precisions.length; row++) {
-        if (precisions[row] !== NO_PRECISION) precision = precisions[row];
+        const own = precisions[row];
+        // one that is out of range is refused at its row
+        if (own !== NO_PRECISION) precision = own >= -8 && own <= 7 ? own : 0;
         const end = Math.min(2 * starts[row + 1], xy.length);
         for (let place = 2 * starts[row]; place < end; place++) put(words, 2 * place, scaled(xy[place], precision));
     }
