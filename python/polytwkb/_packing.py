@@ -10,7 +10,7 @@ from ._geometries import NAMES, PARTS
 from ._points import clipped, listed, placed, unit
 from ._refused import Refused
 from ._rounding import power, rounded
-from ._writing import CODES, rows_of, write
+from ._writing import rows_of, write
 
 _KINDS = {**{name: kind for kind, name in NAMES.items()}, "LinearRing": Kind.LINESTRING}
 _MOST_NEST = 32
@@ -32,13 +32,19 @@ def _interface_of(given):
     return getattr(given, "__geo_interface__", given)
 
 
-def mapping_of(given):
-    """The mapping of an object with a geo interface; the geometry of a feature."""
-    if not isinstance(given, Mapping):
+def _mapping_of(given):
+    """The mapping of an object with a geo interface."""
+    if type(given) is not dict and not isinstance(given, Mapping):
         given = _interface_of(given)
-    if not isinstance(given, Mapping):
-        raise TypeError(f"a geometry is a mapping or has a __geo_interface__: {type(given).__name__} is neither")
-    return mapping_of(given.get("geometry")) if given.get("type") == "Feature" else given
+        if not isinstance(given, Mapping):
+            raise TypeError(f"a geometry is a mapping or has a __geo_interface__: {type(given).__name__} is neither")
+    return given
+
+
+def mapping_of(given):
+    """The same, or the geometry of a feature."""
+    mapping = _mapping_of(given)
+    return _mapping_of(mapping.get("geometry")) if mapping.get("type") == "Feature" else mapping
 
 
 def _geometries_of(given):
@@ -85,20 +91,13 @@ class _Gathered:
 
     def __init__(self, precision, with_ids):
         self.precision, self.with_ids = precision, with_ids
-        self.columns = {name: array(code) for name, code in CODES.items()}
-        self.numbers, self.starts = [], []
+        self.rows, self.numbers, self.starts = [], [], []
 
     def put(self, kind, depth, identifier, precision, points=()):
         """A row with its points."""
         numbers = _pairs(points)
         self.numbers += numbers
-        row = {"kind": kind, "depth": depth, "points": len(numbers) // 2, "precision": precision, "has_id": identifier is not None}
-        for name, number in row.items():
-            self.columns[name].append(number)
-        try:
-            self.columns["id"].append(0 if identifier is None else identifier)
-        except (TypeError, OverflowError):
-            raise ValueError(f"an id is a whole number of 64 bits, not {identifier!r}") from None
+        self.rows.append((kind, depth, len(numbers) // 2, precision, identifier))
         if depth > _MOST_NEST:
             raise _DeepEnough
 
@@ -111,6 +110,10 @@ class _Gathered:
         members, ids = list(members), list(_field(mapping, "ids"))
         if len(members) != len(ids):
             raise ValueError(f"there are {len(ids)} ids for {len(members)} members")
+        try:
+            array("q", [number for number in ids if number is not None])
+        except (TypeError, OverflowError):
+            raise ValueError("ids are whole numbers of 64 bits") from None
         return zip(members, ids)
 
     def add(self, mapping, depth=0, identifier=None):
@@ -150,6 +153,10 @@ class _Gathered:
             except _DeepEnough:
                 return
 
+    def columns(self):
+        """All rows in columns."""
+        return dict(zip(("kind", "depth", "points", "precision", "id"), zip(*self.rows))) if self.rows else {"kind": 0, "points": []}
+
     def units(self):
         """The coordinates of all points, rounded."""
         units = array("q")
@@ -180,6 +187,6 @@ def pack_geometries(geometries: Union[Any, Iterable[Any]], precision: int, style
     gathered = _Gathered(power(precision), ids)
     gathered.add_all(_geometries_of(geometries))
     try:
-        return write(rows_of(gathered.columns), gathered.units(), style, limits)
+        return write(rows_of(gathered.columns()), gathered.units(), style, limits)
     except Refused as refused:
         raise Refused(refused.reason, f"geometry {refused.done}", refused.done, 0, refused.done, refused.output) from None

@@ -4,7 +4,7 @@ import re
 from array import array
 from collections.abc import Mapping
 from numbers import Integral
-from typing import Iterable, Optional, Tuple, Union
+from typing import Optional, Union
 
 from ._arrays import NO_PRECISION, ROW, Rows
 from ._conversions import Buffer, Limits, _limits, style_of
@@ -19,13 +19,18 @@ _MOST_OF_ROW, _MOST_OF_POINT = 72, 20
 _FORMAT = re.compile(r"T\{[=<]?[ql]:id:[=<]?[QL]:points:[=<]?I:depth:[=<]?H:kind:[=<]?\?:has_id:[=<]?b:precision:\}")
 CODES = {"id": "q", "points": "Q", "depth": "I", "kind": "H", "has_id": "B", "precision": "b"}
 _LEFT_OUT = {"depth": 0, "precision": NO_PRECISION, "id": 0, "has_id": 0}
+# Formats of buffers that have the items of another code.
+_SAME = {"l": "q", "L": "Q", "?": "B"}
 
 
 def _numbers(name, values):
     """The numbers of a column in an array."""
-    view = view_of(values)
+    view, code = view_of(values), CODES[name]
+    form = view.format.lstrip("@=<") if view is not None and view.ndim == 1 else ""
+    if _SAME.get(form, form) == code:
+        return array(code, view.tobytes())
     try:
-        return array(CODES[name], values if view is None else view.tolist())
+        return array(code, values if view is None else view.tolist())
     except OverflowError:
         raise ValueError(f"the column {name!r} has a number that is out of range") from None
     except (TypeError, NotImplementedError):
