@@ -1,4 +1,5 @@
 pub mod ArrayLemmas
+pub mod ArrayRows
 pub mod GatheringLemmas
 pub mod JudgingLemmas
 pub mod OwnPointsLemmas
@@ -8,4 +9,5 @@ pub mod RoomLemmas
 pub mod RowLemmas
 pub mod SendingLemmas
 pub mod TakingLemmas
+pub mod WritingLaws
 pub mod WritingLemmas

@@ -164,7 +164,7 @@ writes_more l style start in_rows in_points out mid new_form row ahead r count w
 pub stops_at_row : (l : Allowance) (style : Style) (start : List ℕ) (in_rows : List BufferRow)
     (in_points : List BufferPoint) (out : List ℕ) (mid new : Writer) (row : BufferRow) (ahead : List BufferPoint)
     (why : Stop) → IsWriting l style start in_rows in_points out mid → new.sent ≡ mid.sent
-    → StopsRow l mid.form row ahead why → StopsAtRow l style start in_rows in_points row ahead out new why
+    → StopsRow l in_rows mid.form row ahead why → StopsAtRow l style start in_rows in_points row ahead out new why
 stops_at_row l style start in_rows in_points out mid new row ahead why w same stops = record {
   given = w.given;
   later = w.later;
@@ -190,23 +190,38 @@ row_read l style in_output out old mid new_form row ahead (Ok count) begun count
     (begun l start in_rows in_points w) pushed.1 pushed.2 pushed.3 counted.1
 row_read l style in_output out old mid new_form row ahead (Err why) begun counted pushed = tt
 
+-- after a row that is read a geometry is open
+pub row_some : (l : Allowance) (form new_form : List Row) (row : BufferRow) (ahead : List BufferPoint)
+    (result : Result ℕ Stop)
+    → IfOk result (λ count. (r : Row) × (new_form ≡ form ++ r ∷ []) × AcceptedAfter l form row ahead r
+    × AreValidRowsOfOne l new_form)
+    → IfOk result (λ count. new_form ≡ [] → ⊥)
+row_some l form new_form row ahead (Ok count) pushed = λ none. one_more form pushed.0 (sym pushed.1 ∙ none)
+  where
+    one_more : (rs : List Row) (r : Row) → rs ++ r ∷ [] ≡ [] → ⊥
+    one_more [] r e = cc e
+    one_more (s ∷ rs) r e = cc e
+row_some l form new_form row ahead (Err why) pushed = tt
+
 -- what is known of a row that is not read
 pub row_not_read : (l : Allowance) (style : Style) (in_output out : List ℕ) (old mid new : Writer)
     (row : BufferRow) (ahead : List BufferPoint) (result : Result ℕ Stop)
     → ((l : Allowance) (start : List ℕ) (in_rows : List BufferRow) (in_points : List BufferPoint)
     → IsWriting l style start in_rows in_points in_output old → IsWriting l style start in_rows in_points out mid)
     → new.sent ≡ mid.sent → (row.depth ≡ 0 → mid.form ≡ [])
+    → (mid.form ≡ [] → (row.depth ≡ 0) ⊎ (old.form ≡ []))
     → IfErr result (IfRow (RefusedAfter l mid.form row ahead))
     → IfErr result (λ why. (start : List ℕ) (in_rows : List BufferRow) (in_points : List BufferPoint)
-    → IsWriting l style start in_rows in_points in_output old
+    → IsWriting l style start in_rows in_points in_output old → (old.form ≡ [] → in_rows ≡ [])
     → StopsAtRow l style start in_rows in_points row ahead out new why)
-row_not_read l style in_output out old mid new row ahead (Ok count) begun same root refused = tt
-row_not_read l style in_output out old mid new row ahead (Err stop.Memory) begun same root refused =
-    λ start in_rows in_points w. stops_at_row l style start in_rows in_points out mid new row ahead stop.Memory
+row_not_read l style in_output out old mid new row ahead (Ok count) begun same root kept refused = tt
+row_not_read l style in_output out old mid new row ahead (Err stop.Memory) begun same root kept refused =
+    λ start in_rows in_points w some. stops_at_row l style start in_rows in_points out mid new row ahead stop.Memory
     (begun l start in_rows in_points w) same tt
-row_not_read l style in_output out old mid new row ahead (Err (stop.Row number)) begun same root refused =
-    λ start in_rows in_points w. stops_at_row l style start in_rows in_points out mid new row ahead (stop.Row number)
-    (begun l start in_rows in_points w) same (root, refused)
+row_not_read l style in_output out old mid new row ahead (Err (stop.Row number)) begun same root kept refused =
+    λ start in_rows in_points w some. stops_at_row l style start in_rows in_points out mid new row ahead (stop.Row number)
+    (begun l start in_rows in_points w) same
+    (root, λ none. elim (kept none) [ | inl zero ↦ inl zero | inr was ↦ inr (some was) ], refused)
 
 -- ---- the end
 
@@ -249,7 +264,8 @@ stops_writing l style start in_rows front_rows more in_points front_points ahead
     points_are = points_are;
     read = s.read;
     root = s.stops.0;
-    refused = s.stops.1;
+    first = s.stops.1;
+    refused = s.stops.2;
     place_is = place_is;
   }),
 )
@@ -295,9 +311,10 @@ next_read l style start in_rows in_points i used count row none out writer w wit
 pub points_left_over : (l : Allowance) (style : Style) (start : List ℕ) (in_rows : List BufferRow)
     (in_points : List BufferPoint) (used : ℕ) (out : List ℕ) (writer : Writer)
     → IsWriting l style start in_rows (take used in_points) out writer → used < length in_points
+    → (writer.form ≡ [] → in_rows ≡ [])
     → (given later : List Tree) × HasSent style start given later out writer.sent
     × EndsWriting {A = Unit {0}} l (given ++ later) in_rows in_points (Err (fault.At (length in_rows) 72))
-points_left_over l style start in_rows in_points used out writer w some = (
+points_left_over l style start in_rows in_points used out writer w some last = (
   w.given,
   w.later,
   w.sent,
@@ -307,6 +324,7 @@ points_left_over l style start in_rows in_points used out writer w some = (
     left = drop used in_points;
     points_are = sym (take-append-drop used in_points);
     read = w.read;
+    last = last;
     some = omega (arith, length-drop used in_points, some);
     place_is = refl;
     number_is = refl;

@@ -50,7 +50,8 @@ pub record BeginArrays (l : Allowance) (gs : List Tree) (in_rows : List BufferRo
   pub read : AreRead l gs begun front_rows front_points
 
 -- After the rows of complete geometries and of the open one comes a row that is refused, at this
--- place and for the reason with this number. If it is a root, no geometry is open.
+-- place and for the reason with this number. No geometry is open if it is a root, and only then, but
+-- for the first row.
 pub record IsRefusedRow (l : Allowance) (gs : List Tree) (in_rows : List BufferRow)
     (in_points : List BufferPoint) (place number : ℕ) : Type 0 where
   pub begun : List Row
@@ -63,11 +64,12 @@ pub record IsRefusedRow (l : Allowance) (gs : List Tree) (in_rows : List BufferR
   pub points_are : in_points ≡ front_points ++ ahead
   pub read : AreRead l gs begun front_rows front_points
   pub root : row.depth ≡ 0 → begun ≡ []
+  pub first : begun ≡ [] → (row.depth ≡ 0) ⊎ (front_rows ≡ [])
   pub refused : RefusedAfter l begun row ahead number
   pub place_is : place ≡ length front_rows
 
--- All rows are those of complete geometries and of the open one, and points are left over. The
--- place is the number of rows.
+-- All rows are those of complete geometries and of the open one, which is the last, and points are
+-- left over. The place is the number of rows.
 pub record ArePointsLeft (l : Allowance) (gs : List Tree) (in_rows : List BufferRow)
     (in_points : List BufferPoint) (place number : ℕ) : Type 0 where
   pub begun : List Row
@@ -75,6 +77,7 @@ pub record ArePointsLeft (l : Allowance) (gs : List Tree) (in_rows : List Buffer
   pub left : List BufferPoint
   pub points_are : in_points ≡ front_points ++ left
   pub read : AreRead l gs begun in_rows front_points
+  pub last : begun ≡ [] → in_rows ≡ []
   pub some : 0 < length left
   pub place_is : place ≡ length in_rows
   pub number_is : number ≡ 72
@@ -99,10 +102,13 @@ pub record IsWriting (l : Allowance) (style : Style) (start : List ℕ) (in_rows
   pub read : AreRead l (given ++ later) writer.form in_rows in_points
   pub sent : HasSent style start given later in_output writer.sent
 
--- why the next row, with the points ahead, is not read after the rows of the open geometry
-abbrev pub StopsRow : Allowance → List Row → BufferRow → List BufferPoint → Stop → Type 0
-StopsRow l begun row ahead stop.Memory = ⊤
-StopsRow l begun row ahead (stop.Row number) = (row.depth ≡ 0 → begun ≡ []) × RefusedAfter l begun row ahead number
+-- why the next row, with the points ahead, is not read after these rows, the last of which are
+-- those of the open geometry
+abbrev pub StopsRow : Allowance → List BufferRow → List Row → BufferRow → List BufferPoint → Stop → Type 0
+StopsRow l front_rows begun row ahead stop.Memory = ⊤
+StopsRow l front_rows begun row ahead (stop.Row number) =
+    (row.depth ≡ 0 → begun ≡ []) × (begun ≡ [] → (row.depth ≡ 0) ⊎ (front_rows ≡ []))
+    × RefusedAfter l begun row ahead number
 
 -- The next row is not read after these arrays.
 pub record StopsAtRow (l : Allowance) (style : Style) (start : List ℕ) (in_rows : List BufferRow)
@@ -113,7 +119,7 @@ pub record StopsAtRow (l : Allowance) (style : Style) (start : List ℕ) (in_row
   pub begun : List Row
   pub read : AreRead l (given ++ later) begun in_rows in_points
   pub sent : HasSent style start given later in_output writer.sent
-  pub stops : StopsRow l begun row ahead why
+  pub stops : StopsRow l in_rows begun row ahead why
 
 -- why arrays are not written past the row at a place
 abbrev pub fault_at : ℕ → Stop → WriteFault

@@ -1,5 +1,5 @@
 //! Rows and points in arrays as streams of blobs.
-ghost use Rattle.std.specs.Prelude.{◌≡◌, ◌≤◌, List, ℕ, [], ◌∷◌, ◌++◌, length, take, IfOk, IfErr, OnOk, OnErr};
+ghost use Rattle.std.specs.Prelude.{◌≡◌, ◌≢◌, ◌⊎◌, ◌≤◌, List, ℕ, [], ◌∷◌, ◌++◌, length, take, IfOk, IfErr, OnOk, OnErr};
 ghost use Rattle.twkb_tree.specs.Limits.{Allowance};
 ghost use Rattle.twkb_tree.specs.Tree.{Tree};
 ghost use Rattle.twkb_grammar.specs.declared.style.Style.{Style as InStyle};
@@ -87,6 +87,7 @@ impl Writer {
     ) -> Result<(), AllocError>
         requires { IsSentWithin output.old self.old.sent }
         ensures closed { OnOk result (row.now.depth ≡ 0 → self.new.form ≡ []) }
+        ensures kept { OnOk result (self.new.form ≡ [] → (row.now.depth ≡ 0) ⊎ (self.old.form ≡ [])) }
         ensures valid { OnOk result ((l : Allowance) → AreValidRowsOfOne l self.old.form
             → AreValidRowsOfOne l self.new.form) }
         ensures ended { OnOk result ((l : Allowance) (start : List ℕ) (in_rows : List InRow)
@@ -115,6 +116,7 @@ impl Writer {
         requires within { IsSentWithin output.old self.old.sent }
         requires valid { AreValidRowsOfOne limits.now self.old.form }
         ensures few { IfOk result (λ count. count ≤ length ahead.now) }
+        ensures some { IfOk result (λ count. self.new.form ≢ []) }
         ensures reads { IfOk result (λ count. (start : List ℕ) (in_rows : List InRow)
             (in_points : List InPoint)
             → IsWriting limits.now style start in_rows in_points output.old self.old
@@ -123,6 +125,7 @@ impl Writer {
         ensures stops { IfErr result (λ why. (start : List ℕ) (in_rows : List InRow)
             (in_points : List InPoint)
             → IsWriting limits.now style start in_rows in_points output.old self.old
+            → (self.old.form ≡ [] → in_rows ≡ [])
             → StopsAtRow limits.now style start in_rows in_points row.now ahead.now output.new
             self.new why) }
     {
@@ -145,6 +148,7 @@ impl Writer {
         ensures few { IfOk result (λ used. used ≤ length points.now) }
         ensures reads { IfOk result (λ used. IsWriting limits.now style output.old rows.now
             (take used points.now) output.new self.new) }
+        ensures last { IfOk result (λ used. self.new.form ≡ [] → rows.now ≡ []) }
         ensures stops { IfErr result (λ why. StopsWriting limits.now style output.old rows.now
             points.now output.new self.new why) }
     {

@@ -7,6 +7,7 @@ pub returns-then-used-points : goal.returns-then-used-points
 returns-then-used-points c =
     points_left_over c.args.limits.now c.args.style c.args.output.now c.args.rows.now c.args.points.now c.in-Ok.used
     c.write_rows.new.output c.write_rows.new.self c.in-Ok.ensures.reads c.if-used-points.true
+    c.in-Ok.ensures.last
 
 pub end_geometry-requires : goal.end_geometry-requires
 end_geometry-requires c =

@@ -16,7 +16,7 @@ returns-in-Err-clause-stops c =
     let n = c.loop-at.used in
     row_stops c.args.limits.now c.args.style c.args.output.now rows points i n _ _
     c.write_row.new.output c.write_row.new.self c.in-Err.stop c.at_row.result
-    (c.in-Err.ensures.stops c.args.output.now (take i rows) (take n points) c.loop-at.invariant.0)
+    (c.in-Err.ensures.stops c.args.output.now (take i rows) (take n points) c.loop-at.invariant.0 c.loop-at.invariant.2)
     c.loop-at-test.true refl c.at_row.ensures
 
 pub loop-at-preserved : goal.loop-at-preserved
@@ -32,4 +32,5 @@ loop-at-preserved c =
           (c.in-Ok.ensures.reads c.args.output.now (take i rows) (take n points) c.loop-at.invariant.0)
           c.loop-at-test.true refl,
       omega (arith, few, left, c.loop-at.invariant.1),
+      λ none. absurd (c.in-Ok.ensures.some none),
     )
