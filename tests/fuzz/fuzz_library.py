@@ -1,6 +1,6 @@
 #!/usr/bin/env python3
 """Compares calls of the library and of the package for Python with the second implementation: rows and points in arrays are read from random
-streams, and written as streams, by the library into rooms of all sizes, and random tables are checked.
+streams, and written as streams, by the library into rooms of all sizes, and random shapes are packed and tables checked.
 
 fuzz_library.py [--cases N] [--seed S] [--only CASE] LIBRARY
 
@@ -20,7 +20,7 @@ import blob
 import table
 from arrays import arrays_of, bytes_of_points, bytes_of_rows, named_by, some_arrays
 from fuzz import some_stream, some_table
-from geometry import NODES, POINTS
+from geometry import NODES, POINTS, mapping_of, with_precision
 from trees import nested, some_tree
 
 GUARD = 0xA7
@@ -199,6 +199,24 @@ class Comparing:
         assert found == output, f"the package writes {rows} and {points} otherwise"
         assert (refused and (refused.place, refused.text, refused.done)) == fault, f"the package refuses {rows} and {points} otherwise: {refused}"
 
+    def shapes(self, chance, limits):
+        """Mappings of the geo interface are packed as the second implementation packs them."""
+        precision = chance.randint(-8, 7)
+        trees = [with_precision(some_tree(chance), precision) for _ in range(chance.choice((0, 1, 2, 3)))]
+        arrays = list(map(arrays_of, trees))
+        rows, points = ([part for pair in arrays for part in pair[column]] for column in (0, 1))
+        geometries, fault = named_by(rows, points, limits[0])
+        output = b"".join(blob.canonical(geometry, True) for geometry in geometries)
+        refused = None
+        try:
+            found = polytwkb.pack_geometries(list(map(mapping_of, trees)), precision, limits=polytwkb.Limits(*limits))
+        except polytwkb.Refused as caught:
+            refused, found = caught, caught.output
+        wanted = fault and (len(geometries), fault[1], len(geometries))
+        assert found == output, f"the package packs {trees} otherwise, limits {limits}"
+        assert (refused and (refused.place, refused.text, refused.done)) == wanted, f"the package refuses {trees} otherwise: {refused}"
+        self.met("shapes " + (fault[1] if fault else "ok"))
+
     def check(self, chance, limits):
         """All refusals of a table are those of its geometries, each by itself."""
         text = b"\n".join(some_table(chance) for _ in range(chance.choice((1, 1, 2, 3))))
@@ -210,7 +228,7 @@ class Comparing:
     def compare(self, seed, number):
         chance = random.Random(f"{seed}:{number}")
         limits = some_limits(chance)
-        chance.choice((self.read, self.read, self.write, self.write, self.check))(chance, limits)
+        chance.choice((self.read, self.read, self.write, self.write, self.shapes, self.check))(chance, limits)
 
 
 def main():
