@@ -133,7 +133,8 @@ def compare_writing(name, stream):
         "the library into used memory": lambda: written(used), "into new memory": lambda: written(memory_of(room)),
         "the package": lambda: polytwkb.write(rows, points),
     }, len(points))
-    told("write otherwise", {"the package": lambda: polytwkb.write(rows, points), "by table and encode": lambda: write_by_text(*columns, numbers)}, len(points), 3)
+    ways = {"the package": lambda: polytwkb.write(rows, points), "by table and encode": lambda: write_by_text(*columns, numbers)}
+    told("write otherwise", ways, len(points), 3)
 
 
 def compare_others(stream, lines):

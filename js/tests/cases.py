@@ -5,7 +5,8 @@
 Streams and tables come from the generators of tests/fuzz (random trees with every freedom of the formats, and slips),
 with other limits than those have; polylines and points are made here. The room of the output is enough, or any
 other. A record: the call, its numbers, the input, the report, and the whole room of the output afterwards, which was
-full of 0xA5 before. Arrays are points and then rows; of those that are written, the second room is the number of points.
+full of 0xA5 before. Arrays are points and then rows; of those that are written, the second room is the number of
+points.
 """
 import ctypes
 import os
@@ -48,7 +49,8 @@ class Counts(ctypes.Structure):
 def loaded(path):
     library = ctypes.CDLL(os.path.abspath(path))
     buffer = [ctypes.c_void_p, ctypes.c_size_t]
-    kinds = (2, [Limits, ctypes.c_uint32]), (2, [Limits]), (2, [Limits]), (2, []), (2, []), (3, [Limits]), (3, [Limits, ctypes.c_uint32])
+    styled = [Limits, ctypes.c_uint32]
+    kinds = (2, styled), (2, [Limits]), (2, [Limits]), (2, []), (2, []), (3, [Limits]), (3, styled)
     for name, (buffers, more) in zip(NAMES, kinds):
         call = getattr(library, "polytwkb_" + name)
         call.argtypes, call.restype = buffers * buffer + more, Counts if name == "read" else Report

@@ -49,7 +49,8 @@ test('lines without ids, in whole numbers and in degrees', () => {
     const whole = linesOf([[1n, 1n, 5n, 5n], [2n, 1n]], 5), lines = table('0,linestring,,5,AAGG/0,linestring,,5,AC/');
     assert.deepEqual(write(whole), pack(lines));
     assert.deepEqual(write(whole, { style: 'plain' }), pack(lines, 'plain'));
-    assert.deepEqual(write(linesOf([[0.00001, 0.00001, 0.00005, 0.00005], [0.00002, 0.00001]], 5, Float64Array)), pack(lines));
+    const degrees = linesOf([[0.00001, 0.00001, 0.00005, 0.00005], [0.00002, 0.00001]], 5, Float64Array);
+    assert.deepEqual(write(degrees), pack(lines));
     assert.deepEqual(write(linesOf([], 5)), new Uint8Array(0));
 });
 
@@ -64,7 +65,8 @@ test('degrees are rounded as encode rounds them', () => {
 
 test('a refusal has its row, and the blobs before it', () => {
     const stream = pack(COLLECTION), [first] = split(stream), arrays = read(stream, { exact: true });
-    const { kinds, starts, xy } = arrays, changed = (column, place, value) => column.with(place, value);
+    const { kinds, precisions, hasIds, starts, xy } = arrays;
+    const changed = (column, place, value) => column.with(place, value);
     for (const [change, message, code, place, done] of [
         [{ kinds: changed(kinds, 4, 9) }, 'row 4: unknown kind', 'BAD_KIND', 4, 1],
         [{ kinds: changed(kinds, 3, MULTIPOINT) }, 'row 3: polyline not allowed', 'POLYLINE_NOT_ALLOWED', 3, 0],
@@ -73,13 +75,14 @@ test('a refusal has its row, and the blobs before it', () => {
         [{ xy: BigInt64Array.of(...xy, 1n, 1n) }, 'points left over', 'POINTS_LEFT', 5, 1],
         [{ xy: changed(xy, 6, 2n ** 62n) }, 'row 4: coordinate out of range', 'POLYLINE_RANGE', 4, 1],
         [{ xy: Float64Array.from(xy, Number).fill(1e30, 6) }, 'row 4: coordinate out of range', 'POLYLINE_RANGE', 4, 1],
-        [{ precisions: changed(arrays.precisions, 4, NO_PRECISION) }, 'row 4: precision missing', 'PRECISION_MISSING', 4, 1],
-        [{ hasIds: changed(arrays.hasIds, 4, 2) }, 'row 4: bad id', 'BAD_ID', 4, 1],
+        [{ precisions: changed(precisions, 4, NO_PRECISION) }, 'row 4: precision missing', 'PRECISION_MISSING', 4, 1],
+        [{ hasIds: changed(hasIds, 4, 2) }, 'row 4: bad id', 'BAD_ID', 4, 1],
     ]) {
         assert.throws(() => write({ ...arrays, ...change }), fault => {
             assert.ok(fault instanceof Refused);
             assert.deepEqual([fault.message, fault.code, fault.place, fault.done], [message, code, place, done]);
-            if (!change.xy || change.xy instanceof BigInt64Array) assert.deepEqual(fault.output, done ? first : new Uint8Array(0));
+            const blobs = done ? first : new Uint8Array(0);
+            if (!(change.xy instanceof Float64Array)) assert.deepEqual(fault.output, blobs);
             return true;
         });
     }
@@ -91,13 +94,18 @@ test('wrong arrays', () => {
     for (const given of [
         null, undefined, 7, 'text', [], new Uint8Array(3), { ...right, kinds: [2] }, { ...right, kinds: undefined },
         { ...right, depths: Uint16Array.of(0) }, { ...right, precisions: Uint8Array.of(0) }, { ...right, xy: [1, 1] },
-        { ...right, starts: [0, 1] }, { ...right, ids: Int32Array.of(0) }, { ...right, ids: null }, { ...right, xy: new Float32Array(2) },
+        { ...right, starts: [0, 1] }, { ...right, ids: Int32Array.of(0) }, { ...right, ids: null },
+        { ...right, xy: new Float32Array(2) },
     ]) assert.throws(() => write(given), TypeError);
     for (const change of [
-        { depths: new Uint8Array(2) }, { kinds: new Uint8Array(0) }, { ids: new BigInt64Array(2) }, { hasIds: new Uint8Array(0) },
-        { starts: Uint32Array.of(0) }, { starts: Uint32Array.of(1, 1) }, { starts: Uint32Array.of(0, 1, 1) }, { xy: xy.slice(1) },
-        { xy: Float64Array.of(NaN, 1) }, { xy: Float64Array.of(1, Infinity) },
-    ]) assert.throws(() => write({ ...right, ...change }), fault => fault instanceof RangeError && !(fault instanceof OutOfMemory));
+        { depths: new Uint8Array(2) }, { kinds: new Uint8Array(0) }, { ids: new BigInt64Array(2) },
+        { hasIds: new Uint8Array(0) }, { starts: Uint32Array.of(0) }, { starts: Uint32Array.of(1, 1) },
+        { starts: Uint32Array.of(0, 1, 1) }, { xy: xy.slice(1) }, { xy: Float64Array.of(NaN, 1) },
+        { xy: Float64Array.of(1, Infinity) },
+    ]) {
+        const isRange = fault => fault instanceof RangeError && !(fault instanceof OutOfMemory);
+        assert.throws(() => write({ ...right, ...change }), isRange);
+    }
     assert.throws(() => write({ ...right, kinds: Uint8Array.of(kinds[0], LINE), depths: new Uint8Array(2) }), RangeError);
     const two = linesOf([[1n, 1n], [2n, 2n]], 0);
     assert.throws(() => write({ ...two, starts: Uint32Array.of(0, 2, 1) }), RangeError);

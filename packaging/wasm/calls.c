@@ -67,7 +67,9 @@ u32 decode(u32 input, u32 length, u32 points, u32 room) {
 u32 write(u32 rows, u32 row_count, u32 points, u32 point_count, u32 output, u32 room, u32 nest, u32 nodes, u32 most,
           u32 style) {
     struct limits limits = {nest, nodes, most};
-    return NUMBER(polytwkb_write(&report, AT(rows), row_count, AT(points), point_count, AT(output), room, &limits, style));
+    const byte *from_rows = AT(rows), *from_points = AT(points);
+    return NUMBER(
+        polytwkb_write(&report, from_rows, row_count, from_points, point_count, AT(output), room, &limits, style));
 }
 
 /* This answers where the counts are. */

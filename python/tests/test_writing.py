@@ -51,11 +51,12 @@ class Writing(unittest.TestCase):
                 self.assertEqual(polytwkb.write(given, form), BLOBS)
 
     def test_columns_that_are_left_out(self):
+        parts = {"kind": [4, 1], "points": [0, 1], "precision": [0, -128], "depth": [0, 1]}
         for columns, points, rows in [
             ({"kind": Kind.POINT, "points": [1, 0], "precision": 0}, [(2, 1)], "0,point,,0,AC/0,point,,0,/"),
             ({"kind": [2, 3], "points": [2, 0], "precision": array("b", [-1, 7])}, [(1, 1), (5, 5)], "0,linestring,,-1,AAGG/0,polygon,,7,/"),
-            ({"kind": [4, 1], "points": [0, 1], "precision": [0, -128], "depth": [0, 1], "id": [None, 7]}, [(2, 1)], "0,multipoint,,0,/1,point,7,,AC/"),
-            ({"kind": [4, 1], "points": [0, 1], "precision": [0, -128], "depth": [0, 1], "id": array("q", [0, 7]), "has_id": b"\0\1"}, [(2, 1)], "0,multipoint,,0,/1,point,7,,AC/"),
+            ({**parts, "id": [None, 7]}, [(2, 1)], "0,multipoint,,0,/1,point,7,,AC/"),
+            ({**parts, "id": array("q", [0, 7]), "has_id": b"\0\1"}, [(2, 1)], "0,multipoint,,0,/1,point,7,,AC/"),
             ({"kind": [], "points": []}, [], ""),
         ]:
             with self.subTest(rows=rows):
