@@ -106,7 +106,8 @@ test('wrong arrays', () => {
         const isRange = fault => fault instanceof RangeError && !(fault instanceof OutOfMemory);
         assert.throws(() => write({ ...right, ...change }), isRange);
     }
-    assert.throws(() => write({ ...right, kinds: Uint8Array.of(kinds[0], LINE), depths: new Uint8Array(2) }), RangeError);
+    const kind = kinds[0];
+    assert.throws(() => write({ ...right, kinds: Uint8Array.of(kind, kind), depths: new Uint8Array(2) }), RangeError);
     const two = linesOf([[1n, 1n], [2n, 2n]], 0);
     assert.throws(() => write({ ...two, starts: Uint32Array.of(0, 2, 1) }), RangeError);
     assert.throws(() => write(right, null), TypeError);

@@ -19,8 +19,10 @@ except ImportError:
 
 WRONG = [
     (None, TypeError), (7, TypeError), ("Point", TypeError), ({"type": "Point"}, TypeError), ({"type": "Point", "coordinates": (1,)}, TypeError),
-    ({"type": "Point", "coordinates": (1, 2, 3)}, TypeError), ({"type": "Point", "coordinates": ("1", 2)}, TypeError), ({"type": "Point", "coordinates": (None, 2)}, TypeError),
-    ({"type": "LineString", "coordinates": (1, 2)}, TypeError), ({"type": "LineString", "coordinates": "ab"}, TypeError), ({"type": "Polygon", "coordinates": [1]}, TypeError),
+    ({"type": "Point", "coordinates": (1, 2, 3)}, TypeError), ({"type": "Point", "coordinates": ("1", 2)}, TypeError),
+    ({"type": "Point", "coordinates": (None, 2)}, TypeError),
+    ({"type": "LineString", "coordinates": (1, 2)}, TypeError), ({"type": "LineString", "coordinates": "ab"}, TypeError),
+    ({"type": "Polygon", "coordinates": [1]}, TypeError),
     ({"type": "GeometryCollection", "coordinates": []}, TypeError), ({"type": "GeometryCollection", "geometries": [5]}, TypeError),
     ({"type": "Feature", "geometry": None}, TypeError), ({"type": "MultiPoint", "coordinates": [(1, 2)], "ids": 5}, TypeError),
     ({}, ValueError), ({"type": "point"}, ValueError), ({"type": ["Point"]}, ValueError), ({"type": "Point", "coordinates": (float("nan"), 2)}, ValueError),
@@ -42,7 +44,8 @@ class Mappings(unittest.TestCase):
         mappings = [mapping for rows, mapping in SHAPES if rows.split("/")[0].split(",")[3] == "0"]
         stream = b"".join(polytwkb.pack_geometries(mapping, 0, "plain") for mapping in mappings)
         self.assertEqual(polytwkb.geometries(stream), mappings)
-        for given in (mappings, iter(mappings), tuple(mappings), {"type": "FeatureCollection", "features": [{"type": "Feature", "geometry": it} for it in mappings]}):
+        features = {"type": "FeatureCollection", "features": [{"type": "Feature", "geometry": mapping} for mapping in mappings]}
+        for given in (mappings, iter(mappings), tuple(mappings), features):
             self.assertEqual(polytwkb.pack_geometries(given, 0, "plain"), stream)
         self.assertEqual(polytwkb.geometries(polytwkb.split(stream)), mappings)
         self.assertEqual((polytwkb.pack_geometries([], 5), polytwkb.pack_geometries({"type": "FeatureCollection", "features": []}, 5)), (b"", b""))
@@ -79,8 +82,10 @@ class Mappings(unittest.TestCase):
         circle["geometries"] = [circle, circle]
         many = {"type": "LineString", "coordinates": [(0, 0)] * 6}
         for given, text in [
-            (deep, "nested too deep"), (circle, "nested too deep"), (many, "too many points"), ({"type": "MultiPoint", "coordinates": [(1, 2), ()]}, "wrong number of points"),
-            ({"type": "Point", "coordinates": (1, 1e30)}, "coordinate out of range"), ({"type": "Point", "coordinates": (1 << 62, 1)}, "coordinate out of range"),
+            (deep, "nested too deep"), (circle, "nested too deep"), (many, "too many points"),
+            ({"type": "MultiPoint", "coordinates": [(1, 2), ()]}, "wrong number of points"),
+            ({"type": "Point", "coordinates": (1, 1e30)}, "coordinate out of range"),
+            ({"type": "Point", "coordinates": (1 << 62, 1)}, "coordinate out of range"),
             ({"type": "Polygon", "coordinates": [[(1, 2)]], "ids": [1]}, "id not allowed"),
             ({"type": "MultiPoint", "coordinates": [(1, 2), (1, 2)], "ids": [1, None]}, "id on some children only"),
         ]:
@@ -94,7 +99,10 @@ class Mappings(unittest.TestCase):
         for given, raised in WRONG:
             with self.subTest(given=given), self.assertRaisesRegex(raised, "^geometry 1: "):
                 polytwkb.pack_geometries([RIGHT, given], 5)
-        for given in [(None, 5), (7, 5), ("ab", 5), (b"ab", 5), (RIGHT, None), (RIGHT, 1.5), (RIGHT, 5, 0), (RIGHT, 5, "full", True, 5), ({"type": "FeatureCollection"}, 5)]:
+        for given in [
+            (None, 5), (7, 5), ("ab", 5), (b"ab", 5), (RIGHT, None), (RIGHT, 1.5), (RIGHT, 5, 0), (RIGHT, 5, "full", True, 5),
+            ({"type": "FeatureCollection"}, 5),
+        ]:
             with self.subTest(given=given), self.assertRaises(TypeError):
                 polytwkb.pack_geometries(*given)
         for given in [(RIGHT, 8), (RIGHT, -9), (RIGHT, 5, "Full"), ({"type": "Line"}, 5)]:
@@ -103,7 +111,8 @@ class Mappings(unittest.TestCase):
 
 
 WKT = [
-    ("POINT (7.44781 46.94797)", "0,point,,5,yop}Gysml@/"), ("POINT EMPTY", "0,point,,5,/"), ("LINESTRING (0.00001 0.00001, 0.00005 0.00005)", "0,linestring,,5,AAGG/"),
+    ("POINT (7.44781 46.94797)", "0,point,,5,yop}Gysml@/"), ("POINT EMPTY", "0,point,,5,/"),
+    ("LINESTRING (0.00001 0.00001, 0.00005 0.00005)", "0,linestring,,5,AAGG/"),
     ("POLYGON EMPTY", "0,polygon,,5,/"), ("MULTIPOINT (0.00002 0.00001, 0.00003 0.00004)", "0,multipoint,,5,/1,point,,,AC/1,point,,,GE/"),
     ("MULTILINESTRING ((0 0, 0.00005 0.00005))", "0,multilinestring,,5,/1,linestring,,,??II/"),
     ("POLYGON ((0 0, 0.0006 0, 0.0006 0.0004, 0 0.0004, 0 0), (0.0002 0.0001, 0.0002 0.0003, 0.0004 0.0003, 0.0004 0.0001, 0.0002 0.0001))",
