@@ -1,17 +1,22 @@
 -- Rows and points in C's layout determine the rows of geometries.
 use Rattle.std.proofs.Common.{◌≡◌, ◌∙◌, ℕ, ℤ, pos, negsuc, List, [], ◌∷◌, ◌++◌, length, take, drop, map}
 use Rattle.std.proofs.Common.{refl, sym, ap, arith, length-append, append_assoc, eqb, if◌then◌else◌, Bool, true, false}
-use Rattle.std.specs.Prelude.{Option, Some, None, IfSome}
+use Rattle.std.proofs.Common.{inl, inr}
+use Rattle.std.proofs.lemmas.Bool.{eqb-true}
+use Rattle.std.specs.Prelude.{Option, Some, None, IfSome, ◌==◌}
 use Rattle.std.proofs.lemmas.Int.{ints}
 use Rattle.std.proofs.lemmas.List.{append-nil, take_at, drop_at}
 use Rattle.twkb_points.specs.Point.{Point}
 use Rattle.twkb_tree.specs.Tree.{Tree, IsPrecision}
+use Rattle.twkb_tree.specs.Limits.{Allowance}
+use Rattle.twkb_tree.specs.Refusal.{Refusal, refusal}
 use Rattle.twkb_tree.specs.Rows.{Row, row_points}
 use Rattle.twkb_tree.specs.declared.kind.Kind.{Kind}
 use Rattle.twkb_tree.specs.declared.kind.Kind.TheVariants as kind
 use Rattle.twkb_table.proofs.FieldLemmas.{ArePlain, IsPlain, head_same, tail_same}
 use Rattle.twkb_buffer.specs.Polylines.{coordinates_of}
 use Rattle.twkb_buffer.specs.declared.point.BufferPoint.{BufferPoint}
+use Rattle.twkb_arrays.specs.Judging.{HasRightId, RefusedAfter, is_no_precision, row_from_c}
 use Rattle.twkb_arrays.specs.Rows.{id_flag, id_number, kind_number, points_of, precision_number, row_in_c, rows_in_c}
 use Rattle.twkb_arrays.specs.declared.row.BufferRow.{BufferRow}
 use Rattle.twkb_arrays.proofs.ArrayLemmas.{coordinates_of-append, length-coordinates_of}
@@ -57,19 +62,71 @@ one_precision None (Some b) p q e = absurd (never b q (sym e))
 one_precision (Some a) None p q e = absurd (never a p e)
 one_precision (Some a) (Some b) p q e = ap (λ (n : ℤ). Some n) e
 
-one_row : (r s : Row) → IsPlain r → IsPlain s → row_in_c r ≡ row_in_c s → r.points ≡ s.points → r ≡ s
-one_row r s p q e same_points =
-    ap (λ (x : ℕ). with x r.kind r.id r.precision r.points) (ap (λ (x : BufferRow). x.depth) e)
-    ∙ ap (λ (x : Kind). with s.depth x r.id r.precision r.points)
-    (one_kind r.kind s.kind (ap (λ (x : BufferRow). x.kind) e))
-    ∙ ap (λ (x : Option ℤ). with s.depth s.kind x r.precision r.points)
-    (one_id r.id s.id (ap (λ (x : BufferRow). x.has_id) e) (ap (λ (x : BufferRow). x.id) e))
-    ∙ ap (λ (x : Option ℤ). with s.depth s.kind s.id x r.points)
-    (one_precision r.precision s.precision p.precision q.precision (ap (λ (x : BufferRow). x.precision) e))
-    ∙ ap (λ (x : List Point). with s.depth s.kind s.id s.precision x) same_points
+-- rows with the same fields are equal
+same_row : (r s : Row) → r.depth ≡ s.depth → r.kind ≡ s.kind → r.id ≡ s.id → r.precision ≡ s.precision
+    → r.points ≡ s.points → r ≡ s
+same_row r s depths kinds ids precisions points =
+    ap (λ (x : ℕ). with x r.kind r.id r.precision r.points) depths
+    ∙ ap (λ (x : Kind). with s.depth x r.id r.precision r.points) kinds
+    ∙ ap (λ (x : Option ℤ). with s.depth s.kind x r.precision r.points) ids
+    ∙ ap (λ (x : Option ℤ). with s.depth s.kind s.id x r.points) precisions
+    ∙ ap (λ (x : List Point). with s.depth s.kind s.id s.precision x) points
   where
     with : ℕ → Kind → Option ℤ → Option ℤ → List Point → Row
     with d k i f ps = record { depth = d; kind = k; id = i; precision = f; points = ps }
+
+one_row : (r s : Row) → IsPlain r → IsPlain s → row_in_c r ≡ row_in_c s → r.points ≡ s.points → r ≡ s
+one_row r s p q e same_points =
+    same_row r s (ap (λ (x : BufferRow). x.depth) e) (one_kind r.kind s.kind (ap (λ (x : BufferRow). x.kind) e))
+    (one_id r.id s.id (ap (λ (x : BufferRow). x.has_id) e) (ap (λ (x : BufferRow). x.id) e))
+    (one_precision r.precision s.precision p.precision q.precision (ap (λ (x : BufferRow). x.precision) e))
+    same_points
+
+-- ---- a row of an array that is a row in C's layout
+
+id_in : (o : Option ℤ) → (if id_flag o == 0 then None else Some (id_number o)) ≡ o
+id_in None = refl
+id_in (Some id) = refl
+
+right_in : (r : Row) (o : Option ℤ) → o ≡ r.id → HasRightId (row_in_c r)
+right_in r None is = inr (ap id_flag (sym is), ap id_number (sym is))
+right_in r (Some id) is = inl (ap id_flag (sym is))
+
+precision_in : (o : Option ℤ) → IfSome o IsPrecision
+    → (if is_no_precision (precision_number o) then None else Some (precision_number o)) ≡ o
+precision_in None p = refl
+precision_in (Some (pos n)) p = refl
+precision_in (Some (negsuc n)) p = by_test n (n == 127) refl p
+  where
+    by_test : (n : ℕ) (b : Bool) → (n == 127) ≡ b → IsPrecision (negsuc n)
+        → (if b then None else Some (negsuc n)) ≡ Some (negsuc n)
+    by_test n true is p = absurd (never (negsuc n) p (ap negsuc (eqb-true n 127 is)))
+    by_test n false is p = refl
+
+-- a row in C's layout stands for the row itself
+row_from : (r : Row) (k : Kind) (own : List BufferPoint) → IsPlain r → kind_number k ≡ kind_number r.kind
+    → own ≡ coordinates_of r.points → row_from_c k (row_in_c r) own ≡ r
+row_from r k own p kinds is =
+    same_row (row_from_c k (row_in_c r) own) r refl (one_kind k r.kind kinds) (id_in r.id)
+    (precision_in r.precision p.precision) (ap points_of is ∙ points_of-coordinates_of r.points)
+
+-- if a row in C's layout is refused, with its points ahead, so is the row
+pub refused_row : (l : Allowance) (begun : List Row) (r : Row) (points : List BufferPoint) (number : ℕ) → IsPlain r
+    → RefusedAfter l begun (row_in_c r) (coordinates_of r.points ++ points) number
+    → (why : Refusal) × (refusal l begun r ≡ Some why)
+refused_row l begun r points number p (inl none) = absurd (none.0 r.kind refl)
+refused_row l begun r points number p (inr (k, kinds, inl wrong)) = absurd (wrong.0 (right_in r r.id refl))
+refused_row l begun r points number p (inr (k, kinds, inr (right, inl few))) = absurd (
+  let lacks = few.0 in
+  omega (arith, lacks, length-append (coordinates_of r.points) points, length-coordinates_of r.points)
+)
+refused_row l begun r points number p (inr (k, kinds, inr (right, inr (enough, (why, refuses, is))))) = (
+  why,
+  ap (λ (x : Row). refusal l begun x) (sym (row_from r k
+      (take (length r.points) (coordinates_of r.points ++ points)) p kinds
+      (take_at (coordinates_of r.points) points (length r.points) (length-coordinates_of r.points))))
+      ∙ refuses,
+)
 
 -- ---- lists
 

@@ -1,5 +1,6 @@
 pub mod ArrayLemmas
 pub mod ArrayRows
+pub mod ArraysRefused
 pub mod GatheringLemmas
 pub mod JudgingLemmas
 pub mod OwnPointsLemmas

@@ -49,7 +49,7 @@ all_read l bytes old_rows new_rows old_points new_points counts gs read s few =
     read.counted.status_is read.ended s few
 
 -- a reading with status 0 had room for all, and came to the end of a stream
-status_zero : (l : Allowance) (bytes : List ℕ) (gs : List Tree) (full : Bool)
+pub status_zero : (l : Allowance) (bytes : List ℕ) (gs : List Tree) (full : Bool)
     (answer : Result (Unit {0}) BlobFault) → (outcome_of full answer).0 ≡ 0 → EndsReading l bytes gs answer
     → (full ≡ false) × Stream l bytes gs
 status_zero l bytes gs false (Ok done) e ends = (refl, ends)

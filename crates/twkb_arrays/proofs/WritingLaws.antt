@@ -1,66 +1,197 @@
 -- Arrays are written in one way, and read back as they are.
-use Rattle.std.proofs.Common.{◌≡◌, ◌∙◌, ℕ, ◌<◌, ◌≤◌, ◌^◌, ◌⊎◌, inl, inr, List, [], ◌∷◌, ◌++◌, length, take, drop}
+use Rattle.std.proofs.Common.{◌≡◌, ◌∙◌, ℕ, ◌≤◌, ◌^◌, ◌⊎◌, inl, inr, List, [], ◌∷◌, ◌++◌, length, take, drop}
 use Rattle.std.proofs.Common.{refl, sym, ap, subst, arith, append_assoc, length-append, Bool, true, false}
-use Rattle.std.specs.Prelude.{Result, Ok, Err, ◌≢◌, Option, Some, None, reverse}
-use Rattle.std.proofs.lemmas.List.{append-nil, length-map, length-take-le, take_at}
+use Rattle.std.specs.Prelude.{Result, Ok, Err, ◌≢◌}
+use Rattle.std.proofs.lemmas.List.{append-nil, length-map, take_at}
+use Rattle.std.proofs.lemmas.Grind.{flat_map-append}
 use Rattle.twkb_points.specs.Point.{Point}
-use Rattle.twkb_tree.specs.Tree.{Tree, IsTree}
-use Rattle.twkb_tree.specs.Limits.{Allowance, IsAllowance, IsValid}
+use Rattle.twkb_tree.specs.Tree.{Tree}
+use Rattle.twkb_tree.specs.Limits.{Allowance, IsAllowance}
 use Rattle.twkb_tree.specs.Rows.{Row, rows, rows_of, row_points}
-use Rattle.twkb_tree.specs.RowLists.{AreGeometries, AreRowsOfOne, AreValid, AreValidRows, AreValidRowsOfOne}
-use Rattle.twkb_tree.specs.Accepted.{Accepts}
-use Rattle.twkb_tree.specs.Refusal.{Refusal, refusal}
-use Rattle.twkb_tree.specs.declared.kind.Kind.{Kind}
-use Rattle.twkb_tree.proofs.Forest.{all_push}
-use Rattle.twkb_tree.proofs.RowLaws.{one_reading}
-use Rattle.twkb_tree.proofs.RefusalLaws.{accepted_unrefused}
-use Rattle.twkb_tree.proofs.LimitLaws.{accepts_row}
-use Rattle.twkb_table.proofs.FieldLemmas.{ArePlain}
-use Rattle.twkb_table.proofs.Tables.{plain_rows, geometries}
-use Rattle.twkb_buffer.specs.Polylines.{coordinates_of}
+use Rattle.twkb_tree.specs.RowLists.{AreValid}
+use Rattle.twkb_grammar.specs.Blob.{Stream}
+use Rattle.twkb_grammar.specs.Written.{canonical_stream}
+use Rattle.twkb_grammar.specs.declared.style.Style.{Style}
+use Rattle.twkb_grammar.proofs.Streams.{one_stream, written_stream}
+use Rattle.twkb_blob.specs.declared.fault.BlobFault.{BlobFault}
+use Rattle.twkb_blob.specs.declared.fault.BlobFault.TheVariants as reading
 use Rattle.twkb_buffer.specs.declared.point.BufferPoint.{BufferPoint}
-use Rattle.twkb_arrays.specs.Judging.{RefusedAfter, row_from_c}
-use Rattle.twkb_arrays.specs.Rows.{array_points, array_rows, row_in_c, rows_in_c}
-use Rattle.twkb_arrays.specs.Writing.{AreArrays, AreRead, ArePointsLeft, IsRefusedRow}
+use Rattle.twkb_buffer.specs.declared.report.BufferReport.{BufferReport}
+use Rattle.twkb_arrays.specs.Reading.{EndsReading, ReadsArrays, outcome_of}
+use Rattle.twkb_arrays.specs.Rooms.{StopsBefore, are_more}
+use Rattle.twkb_arrays.specs.Rows.{HasRoom, LacksRoom, array_points, array_rows, row_in_c}
+use Rattle.twkb_arrays.specs.Writing.{AreArrays, EndsWriting, WritesArrays, write_outcome_of}
+use Rattle.twkb_arrays.specs.declared.reading.BufferCounts.{BufferCounts}
 use Rattle.twkb_arrays.specs.declared.row.BufferRow.{BufferRow}
-use Rattle.twkb_arrays.proofs.ArrayRows.{BeginsWith, begins_with}
-use Rattle.twkb_arrays.proofs.TakingLemmas.{rows_of-more}
+use Rattle.twkb_arrays.specs.declared.writing.WriteFault.{WriteFault}
+use Rattle.twkb_arrays.specs.declared.writing.WriteFault.TheVariants as fault
+use Rattle.twkb_arrays.proofs.ArrayLemmas.{length-coordinates_of, row_points-append}
+use Rattle.twkb_arrays.proofs.ArraysRefused.{none_left, none_refused, one_arrays}
+use Rattle.twkb_arrays.proofs.ReadingLaws.{all_read, status_zero}
+use Rattle.twkb_arrays.proofs.RoomLemmas.{no_more}
 
--- the geometries that have the rows that were read
-read_trees : (l : Allowance) (gs : List Tree) (begun : List Row) → AreValid l gs → AreValidRowsOfOne l begun
-    → (hs : List Tree) × AreValid l hs × (rows_of hs ≡ rows_of gs ++ begun)
-read_trees l gs [] valid one = (gs, valid, sym (append-nil (rows_of gs)))
-read_trees l gs (r ∷ rs) valid one = (
-  gs ++ one.0 ∷ [],
-  all_push (IsValid l) gs one.0 valid one.1,
-  rows_of-more gs one.0 ∙ ap (λ (xs : List Row). rows_of gs ++ xs) one.2,
-)
+-- how the writing of the arrays of geometries may end
+by_answer : (l : Allowance) (gs hs : List Tree) (in_rows : List BufferRow) (in_points : List BufferPoint)
+    (full : Bool) (answer : Result (Unit {0}) WriteFault) (status : ℕ) → status ≡ (write_outcome_of full answer).0
+    → EndsWriting l hs in_rows in_points answer → IsAllowance l → AreArrays l gs in_rows in_points
+    → (status ≡ 4) ⊎ ((hs ≡ gs) × (status ≢ 1))
+by_answer l gs hs in_rows in_points false (Ok done) status is ends cap a = inr
+    (one_arrays l gs hs in_rows in_points cap a ends, λ e. omega (arith, is, e))
+by_answer l gs hs in_rows in_points true (Ok done) status is ends cap a = inr
+    (one_arrays l gs hs in_rows in_points cap a ends, λ e. omega (arith, is, e))
+by_answer l gs hs in_rows in_points full (Err fault.Memory) status is ends cap a = inl is
+by_answer l gs hs in_rows in_points full (Err (fault.At place number)) status is (inl row) cap a =
+    absurd (none_refused l gs hs in_rows in_points place number cap a row)
+by_answer l gs hs in_rows in_points full (Err (fault.At place number)) status is (inr left) cap a =
+    absurd (none_left l gs hs in_rows in_points place number cap a left)
 
--- arrays that begin with those that were read
-begins_read : (l : Allowance) (gs hs : List Tree) (begun : List Row) (front_rows more : List BufferRow)
-    (front_points ahead : List BufferPoint) → IsAllowance l → AreValid l gs
-    → AreRead l hs begun front_rows front_points → array_rows gs ≡ front_rows ++ more
-    → array_points gs ≡ front_points ++ ahead → BeginsWith (rows_of gs) (rows_of hs ++ begun) more ahead
-begins_read l gs hs begun front_rows more front_points ahead cap valid read rows_are points_are =
-    let ks = read_trees l hs begun read.valid read.begun_valid in
-    begins_with (rows_of gs) (rows_of hs ++ begun) more ahead (plain_rows l gs cap valid)
-    (subst ArePlain ks.2 (plain_rows l ks.0 cap ks.1))
-    (rows_are ∙ ap (λ (xs : List BufferRow). xs ++ more) read.rows_are)
-    (points_are ∙ ap (λ (xs : List BufferPoint). xs ++ ahead) read.points_are)
+pub all_written_as : (l : Allowance) (style : Style) (in_rows : List BufferRow) (in_points : List BufferPoint)
+    (old new : List ℕ) (report : BufferReport) (gs : List Tree)
+    (wrote : WritesArrays l style in_rows in_points old new report) → IsAllowance l
+    → AreArrays l gs in_rows in_points
+    → (report.status ≡ 4) ⊎ ((wrote.given ++ wrote.later ≡ gs) × (report.status ≢ 1))
+all_written_as l style in_rows in_points old new report gs wrote cap a =
+    by_answer l gs (wrote.given ++ wrote.later) in_rows in_points (are_more wrote.later) wrote.answer report.status
+    wrote.reported.status_is wrote.ended cap a
 
--- arrays are those of one list of geometries
-pub one_arrays : (l : Allowance) (gs hs : List Tree) (in_rows : List BufferRow) (in_points : List BufferPoint)
-    → IsAllowance l → AreArrays l gs in_rows in_points → AreArrays l hs in_rows in_points → hs ≡ gs
-one_arrays l gs hs in_rows in_points cap a b = ?
+-- a writing with status 0 had room for all, and came to the end of the arrays
+written_zero : (l : Allowance) (gs : List Tree) (in_rows : List BufferRow) (in_points : List BufferPoint)
+    (full : Bool) (answer : Result (Unit {0}) WriteFault) → (write_outcome_of full answer).0 ≡ 0
+    → EndsWriting l gs in_rows in_points answer → (full ≡ false) × AreArrays l gs in_rows in_points
+written_zero l gs in_rows in_points false (Ok done) e ends = (refl, ends)
+written_zero l gs in_rows in_points true (Ok done) e ends = absurd (omega (arith, e))
+written_zero l gs in_rows in_points full (Err fault.Memory) e ends = absurd (omega (arith, e))
+written_zero l gs in_rows in_points false (Err (fault.At place number)) e ends = absurd (omega (arith, e))
+written_zero l gs in_rows in_points true (Err (fault.At place number)) e ends = absurd (omega (arith, e))
 
--- no arrays of geometries have a row that is refused
-pub none_refused : (l : Allowance) (gs hs : List Tree) (in_rows : List BufferRow) (in_points : List BufferPoint)
-    (place number : ℕ) → IsAllowance l → AreArrays l gs in_rows in_points
-    → IsRefusedRow l hs in_rows in_points place number → ⊥
-none_refused l gs hs in_rows in_points place number cap a b = ?
+-- what a call that succeeded wrote
+record Wrote (l : Allowance) (style : Style) (in_rows : List BufferRow) (in_points : List BufferPoint)
+    (bytes : List ℕ) : Type 0 where
+  gs : List Tree
+  are : AreArrays l gs in_rows in_points
+  bytes_are : bytes ≡ canonical_stream style gs
 
--- no arrays of geometries have points that are left over
-pub none_left : (l : Allowance) (gs hs : List Tree) (in_rows : List BufferRow) (in_points : List BufferPoint)
-    (place number : ℕ) → IsAllowance l → AreArrays l gs in_rows in_points
-    → ArePointsLeft l hs in_rows in_points place number → ⊥
-none_left l gs hs in_rows in_points place number cap a b = ?
+all_wrote : (l : Allowance) (style : Style) (in_rows : List BufferRow) (in_points : List BufferPoint)
+    (old new : List ℕ) (report : BufferReport) → WritesArrays l style in_rows in_points old new report
+    → report.status ≡ 0 → Wrote l style in_rows in_points (take report.sent new)
+all_wrote l style in_rows in_points old new report w zero =
+    let end = written_zero l (w.given ++ w.later) in_rows in_points (are_more w.later) w.answer
+    (sym w.reported.status_is ∙ zero) w.ended in
+    let stream = canonical_stream style w.given in
+    record {
+      gs = w.given;
+      are = subst (λ (gs : List Tree). AreArrays l gs in_rows in_points)
+          (ap (λ (gs : List Tree). w.given ++ gs) (no_more w.later end.0) ∙ append-nil w.given) end.1;
+      bytes_are = ap (λ (xs : List ℕ). take report.sent xs) w.written.bytes_are
+          ∙ take_at stream (drop (length stream) old) report.sent (sym w.reported.sent_is);
+    }
+
+-- the status of a reading that had room for all
+by_status : (l : Allowance) (bytes : List ℕ) (gs : List Tree) (answer : Result (Unit {0}) BlobFault) (status : ℕ)
+    → status ≡ (outcome_of false answer).0 → EndsReading l bytes gs answer → status ≢ 1
+    → (status ≡ 4) ⊎ (status ≡ 0)
+by_status l bytes gs (Ok done) status is ends not = inr is
+by_status l bytes gs (Err reading.Memory) status is ends not = inl is
+by_status l bytes gs (Err reading.Spent) status is ends not = inl is
+by_status l bytes gs (Err (reading.Device why)) status is ends not = absurd (not is)
+by_status l bytes gs (Err (reading.At offset reason)) status is ends not = absurd (not is)
+
+-- the first of geometries have no more rows and points than all
+room_for_first : (in_rows : List BufferRow) (in_points : List BufferPoint) (given later : List Tree) (g : Tree)
+    → HasRoom in_rows in_points (given ++ g ∷ later) → LacksRoom in_rows in_points (given ++ g ∷ []) → ⊥
+room_for_first in_rows in_points given later g room lacks =
+    let joined : (given ++ g ∷ []) ++ later ≡ given ++ g ∷ later = append_assoc given (g ∷ []) later in
+    let all : rows_of (given ++ g ∷ later) ≡ rows_of (given ++ g ∷ []) ++ rows_of later =
+    ap rows_of (sym joined) ∙ flat_map-append (rows 0) (given ++ g ∷ []) later in
+    let points : row_points (rows_of (given ++ g ∷ later))
+    ≡ row_points (rows_of (given ++ g ∷ [])) ++ row_points (rows_of later) =
+    ap row_points all ∙ row_points-append (rows_of (given ++ g ∷ [])) (rows_of later) in
+    elim lacks [
+      | inl few ↦ omega (arith, few, room.0, ap (λ (xs : List Row). length xs) all,
+          length-append (rows_of (given ++ g ∷ [])) (rows_of later))
+      | inr few ↦ omega (arith, few, room.1, ap (λ (xs : List Point). length xs) points,
+          length-append (row_points (rows_of (given ++ g ∷ []))) (row_points (rows_of later)))
+    ]
+
+-- with room for all, all is taken
+all_taken : (in_rows : List BufferRow) (in_points : List BufferPoint) (given later : List Tree)
+    → HasRoom in_rows in_points (given ++ later) → StopsBefore (LacksRoom in_rows in_points) given later → later ≡ []
+all_taken in_rows in_points given [] room stops = refl
+all_taken in_rows in_points given (g ∷ later) room stops =
+    absurd (room_for_first in_rows in_points given later g room stops)
+
+pub read_back : (l : Allowance) (style : Style) (in_rows : List BufferRow) (in_points : List BufferPoint)
+    (old new : List ℕ) (report : BufferReport) (old_rows new_rows : List BufferRow)
+    (old_points new_points : List BufferPoint) (counts : BufferCounts) → IsAllowance l
+    → WritesArrays l style in_rows in_points old new report → report.status ≡ 0
+    → ReadsArrays l (take report.sent new) old_rows old_points new_rows new_points counts
+    → length (take report.sent new) ≤ 2 ^ 62 → length in_rows ≤ length old_rows
+    → length in_points ≤ length old_points
+    → (counts.status ≡ 4) ⊎ ((counts.status ≡ 0) × (new_rows ≡ in_rows ++ drop (length in_rows) old_rows)
+    × (new_points ≡ in_points ++ drop (length in_points) old_points))
+read_back l style in_rows in_points old new report old_rows new_rows old_points new_points counts cap wrote zero read
+    few row_room point_room =
+    let bytes = take report.sent new in
+    let w = all_wrote l style in_rows in_points old new report wrote zero in
+    let gs = w.gs in
+    let stream : Stream l bytes gs = subst (λ (b : List ℕ). Stream l b gs) (sym w.bytes_are)
+    (written_stream l style gs cap w.are.valid) in
+    let row_count : length in_rows ≡ length (rows_of gs) = ap (λ (xs : List BufferRow). length xs) w.are.rows_are
+    ∙ length-map (rows_of gs) row_in_c in
+    let point_count : length in_points ≡ length (row_points (rows_of gs)) =
+    ap (λ (xs : List BufferPoint). length xs) w.are.points_are ∙ length-coordinates_of (row_points (rows_of gs)) in
+    let room : HasRoom old_rows old_points gs =
+    (omega (arith, row_count, row_room), omega (arith, point_count, point_room)) in
+    elim (all_read l bytes old_rows new_rows old_points new_points counts gs read stream few) [
+      | inl memory ↦ inl memory
+      | inr all ↦
+        let none : read.later ≡ [] = all_taken old_rows old_points read.given read.later
+        (subst (λ (hs : List Tree). HasRoom old_rows old_points hs) (sym all.0) room) read.stops in
+        let same : read.given ≡ gs = sym (append-nil read.given)
+        ∙ ap (λ (hs : List Tree). read.given ++ hs) (sym none) ∙ all.0 in
+        let status : counts.status ≡ (outcome_of false read.answer).0 = read.counted.status_is
+        ∙ ap (λ (hs : List Tree). (outcome_of (are_more hs) read.answer).0) none in
+        let rows_are : new_rows ≡ in_rows ++ drop (length in_rows) old_rows = read.filled.rows_are
+        ∙ ap (λ (hs : List Tree). array_rows hs ++ drop (length (rows_of hs)) old_rows) same
+        ∙ ap (λ (n : ℕ). array_rows gs ++ drop n old_rows) (sym row_count)
+        ∙ ap (λ (xs : List BufferRow). xs ++ drop (length in_rows) old_rows) (sym w.are.rows_are) in
+        let points_are : new_points ≡ in_points ++ drop (length in_points) old_points = read.filled.points_are
+        ∙ ap (λ (hs : List Tree). array_points hs ++ drop (length (row_points (rows_of hs))) old_points) same
+        ∙ ap (λ (n : ℕ). array_points gs ++ drop n old_points) (sym point_count)
+        ∙ ap (λ (xs : List BufferPoint). xs ++ drop (length in_points) old_points) (sym w.are.points_are) in
+        elim (by_status l bytes (read.given ++ read.later) read.answer counts.status status read.ended all.1) [
+          | inl memory ↦ inl memory
+          | inr done ↦ inr (done, rows_are, points_are)
+        ]
+    ]
+
+-- the geometries of a stream are valid
+stream_valid : (l : Allowance) (bytes : List ℕ) (gs : List Tree) → Stream l bytes gs → AreValid l gs
+stream_valid l bytes [] s = tt
+stream_valid l bytes (g ∷ gs) s = (s.3.valid, stream_valid l s.1 gs s.4)
+
+pub written_canonical : (l : Allowance) (style : Style) (bytes : List ℕ) (old_rows new_rows : List BufferRow)
+    (old_points new_points : List BufferPoint) (counts : BufferCounts) (gs : List Tree) (old new : List ℕ)
+    (report : BufferReport) → IsAllowance l
+    → ReadsArrays l bytes old_rows old_points new_rows new_points counts → counts.status ≡ 0 → Stream l bytes gs
+    → (wrote : WritesArrays l style (take counts.rows new_rows) (take counts.points new_points) old new report)
+    → (report.status ≡ 4) ⊎ ((wrote.given ++ wrote.later ≡ gs) × (report.status ≢ 1))
+written_canonical l style bytes old_rows new_rows old_points new_points counts gs old new report cap read zero stream
+    wrote =
+    let end = status_zero l bytes (read.given ++ read.later) (are_more read.later) read.answer
+    (sym read.counted.status_is ∙ zero) read.ended in
+    let same : read.given ≡ gs = sym (append-nil read.given)
+    ∙ ap (λ (hs : List Tree). read.given ++ hs) (sym (no_more read.later end.0))
+    ∙ one_stream l bytes (read.given ++ read.later) gs end.1 stream in
+    all_written_as l style (take counts.rows new_rows) (take counts.points new_points) old new report gs wrote cap
+    (record {
+      valid = stream_valid l bytes gs stream;
+      rows_are = ap (λ (xs : List BufferRow). take counts.rows xs) read.filled.rows_are
+          ∙ take_at (array_rows read.given) (drop (length (rows_of read.given)) old_rows) counts.rows
+          (length-map (rows_of read.given) row_in_c ∙ sym read.counted.rows_is)
+          ∙ ap array_rows same;
+      points_are = ap (λ (xs : List BufferPoint). take counts.points xs) read.filled.points_are
+          ∙ take_at (array_points read.given) (drop (length (row_points (rows_of read.given))) old_points) counts.points
+          (length-coordinates_of (row_points (rows_of read.given)) ∙ sym read.counted.points_is)
+          ∙ ap array_points same;
+    })

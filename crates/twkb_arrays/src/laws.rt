@@ -1,14 +1,18 @@
-//! Laws of streams that are read into arrays, each stated as the contract of an empty function.
-ghost use Rattle.std.specs.Prelude.{◌≡◌, ◌≢◌, ◌≤◌, ◌^◌, ◌⊎◌, ℕ, List, ◌++◌, length};
+//! Laws of streams that are read into arrays and written from them, each stated as the contract of an
+//! empty function.
+ghost use Rattle.std.specs.Prelude.{◌≡◌, ◌≢◌, ◌≤◌, ◌^◌, ◌⊎◌, ℕ, List, ◌++◌, length, take, drop};
 ghost use Rattle.twkb_tree.specs.Tree.{Tree};
-ghost use Rattle.twkb_tree.specs.Limits.{Allowance};
+ghost use Rattle.twkb_tree.specs.Limits.{Allowance, IsAllowance};
 ghost use Rattle.twkb_grammar.specs.Blob.{Stream};
+ghost use Rattle.twkb_grammar.specs.declared.style.Style.{Style};
 ghost use Rattle.twkb_buffer.specs.Slices.{UnpackedSlice};
 ghost use Rattle.twkb_buffer.specs.declared.point.BufferPoint.{BufferPoint as InPoint};
+ghost use Rattle.twkb_buffer.specs.declared.report.BufferReport.{BufferReport as InReport};
 ghost use Rattle.twkb_arrays.specs.declared.row.BufferRow.{BufferRow as InRow};
 ghost use Rattle.twkb_arrays.specs.declared.reading.BufferCounts.{BufferCounts as InCounts};
 ghost use Rattle.twkb_arrays.specs.Reading.{ReadsArrays};
 ghost use Rattle.twkb_arrays.specs.SameRows.{AreSameRows};
+ghost use Rattle.twkb_arrays.specs.Writing.{AreArrays, WritesArrays};
 
 /// If at most 2^62 bytes are a stream, the geometries that a call reads are those of the stream, and
 /// it refuses nothing, unless memory is refused.
@@ -27,4 +31,41 @@ pub fn same_rows()
         → ReadsArrays l bytes old_rows old_points new_rows new_points counts → counts.status ≡ 0
         → UnpackedSlice l bytes text done
         → AreSameRows text old_rows old_points new_rows new_points }
+{}
+
+/// If arrays are those of valid geometries, the geometries that a call writes or counts are these,
+/// and it refuses nothing, unless memory is refused.
+pub fn one_writing()
+    ensures { (l : Allowance) (style : Style) (in_rows : List InRow) (in_points : List InPoint)
+        (old new : List ℕ) (report : InReport) (gs : List Tree)
+        (wrote : WritesArrays l style in_rows in_points old new report) → IsAllowance l
+        → AreArrays l gs in_rows in_points
+        → (report.status ≡ 4) ⊎ ((wrote.given ++ wrote.later ≡ gs) × (report.status ≢ 1)) }
+{}
+
+/// At most 2^62 bytes that a call with status 0 wrote are read back to the same arrays, if there is
+/// room for them, unless memory is refused.
+pub fn read_back()
+    ensures { (l : Allowance) (style : Style) (in_rows : List InRow) (in_points : List InPoint)
+        (old new : List ℕ) (report : InReport) (old_rows new_rows : List InRow)
+        (old_points new_points : List InPoint) (counts : InCounts) → IsAllowance l
+        → WritesArrays l style in_rows in_points old new report → report.status ≡ 0
+        → ReadsArrays l (take report.sent new) old_rows old_points new_rows new_points counts
+        → length (take report.sent new) ≤ 2 ^ 62 → length in_rows ≤ length old_rows
+        → length in_points ≤ length old_points
+        → (counts.status ≡ 4) ⊎ ((counts.status ≡ 0)
+        × (new_rows ≡ in_rows ++ drop (length in_rows) old_rows)
+        × (new_points ≡ in_points ++ drop (length in_points) old_points)) }
+{}
+
+/// If the arrays that a call with status 0 read from a stream are written, these are the blobs of
+/// the stream's geometries, and nothing is refused, unless memory is.
+pub fn written_again()
+    ensures { (l : Allowance) (style : Style) (bytes : List ℕ) (old_rows new_rows : List InRow)
+        (old_points new_points : List InPoint) (counts : InCounts) (gs : List Tree)
+        (old new : List ℕ) (report : InReport) → IsAllowance l
+        → ReadsArrays l bytes old_rows old_points new_rows new_points counts → counts.status ≡ 0
+        → Stream l bytes gs → (wrote : WritesArrays l style (take counts.rows new_rows)
+        (take counts.points new_points) old new report)
+        → (report.status ≡ 4) ⊎ ((wrote.given ++ wrote.later ≡ gs) × (report.status ≢ 1)) }
 {}

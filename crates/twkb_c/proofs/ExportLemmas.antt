@@ -11,7 +11,7 @@ apart : (n : ℕ) → n ≡ 0 → n ≡ 1 → ⊥
 apart n a b = omega (arith, a, b)
 
 -- each number is that of at most one style
-one_style : (s t : Style) (n : ℕ) → IsStyleNumber s n → IsStyleNumber t n → s ≡ t
+pub one_style : (s t : Style) (n : ℕ) → IsStyleNumber s n → IsStyleNumber t n → s ≡ t
 one_style Full Full n a b = refl
 one_style Full Plain n a b = absurd (apart n a b)
 one_style Plain Full n a b = absurd (apart n b a)

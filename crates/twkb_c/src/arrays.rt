@@ -1,9 +1,11 @@
 //! The functions for C that read a stream into arrays and write one from arrays, as declared in
 //! `include/polytwkb.h`.
-ghost use Rattle.std.specs.Prelude.{◌≡◌};
+ghost use Rattle.std.specs.Prelude.{◌≡◌, ◌<◌};
 ghost use Rattle.twkb_tree.specs.Limits.{IsAllowance};
+ghost use Rattle.twkb_grammar.specs.declared.style.Style.{Style};
 ghost use Rattle.twkb_arrays.specs.Reading.{ReadsArrays};
-ghost use Rattle.twkb_c.specs.Arguments.{allowance_of, arguments_counts};
+ghost use Rattle.twkb_arrays.specs.Writing.{WritesArrays};
+ghost use Rattle.twkb_c.specs.Arguments.{IsStyleNumber, allowance_of, arguments_counts, arguments_report};
 
 use crate::arguments::{BufferLimits, refused_arguments, refused_counts, style_of};
 use std::alloc::Global;
@@ -40,7 +42,13 @@ pub extern "C" fn polytwkb_write(
     output: &mut [u8],
     limits: BufferLimits,
     style: u32,
-) -> BufferReport {
+) -> BufferReport
+    ensures writes { IsAllowance (allowance_of limits) → (s : Style) → IsStyleNumber s style
+        → WritesArrays (allowance_of limits) s rows.now points.now output.old output.new result }
+    ensures limits_out_of_range { (IsAllowance (allowance_of limits) → ⊥) → result ≡ arguments_report }
+    ensures style_out_of_range { 1 < style → result ≡ arguments_report }
+    ensures refused { result.status ≡ 2 → output.new ≡ output.old }
+{
     let Some(limits) = limits.limits() else {
         return refused_arguments();
     };
