@@ -44,7 +44,10 @@ export class Refused<Output = unknown> extends Error {
     readonly code: string;
     /** What it means, such as `truncated`. */
     readonly text: string;
-    /** The record of a table, from 1; the byte of a stream or of a polyline, or the point of a list, from 0. */
+    /**
+     * The record of a table, from 1; the byte of a stream or of a polyline, the row of arrays, or the point of a list,
+     * from 0.
+     */
     readonly place: number;
     /** The byte of the refused polyline, in its record or alone; else 0. */
     readonly textOffset: number;
@@ -127,6 +130,18 @@ export interface Arrays<Coordinates extends Float64Array | BigInt64Array = Float
 /** Reads a stream of blobs into arrays, in degrees; with `exact` in whole numbers. */
 export function read(blobs: Bytes, options?: Partial<Limits> & { exact?: false }): Arrays<Float64Array>;
 export function read(blobs: Bytes, options: Partial<Limits> & { exact: true }): Arrays<BigInt64Array>;
+
+/** Arrays that are written. Without `hasIds` and `ids` no row has an id. */
+export type Writable = Omit<Arrays, 'hasIds' | 'ids'> & Partial<Pick<Arrays, 'hasIds' | 'ids'>>;
+
+/**
+ * Writes arrays, as `read` gives them, to a stream of blobs: with sizes and boxes, or `'plain'`, without either.
+ * Degrees are rounded as `encode` rounds them, each by the precision of the geometry that it is in. Refused, at its row
+ * from 0, if a row is against the rules of a table, and if points are missing or left over; `output` has the blobs of
+ * the complete geometries before. Arrays of other types are a TypeError; of other lengths, and degrees that are not
+ * finite, a RangeError.
+ */
+export function write(arrays: Writable, options?: Partial<Limits> & { style?: 'full' | 'plain' }): Uint8Array;
 
 /** x and y: the longitude and the latitude, though the text of a polyline has the latitude first. */
 export type Point = [x: number, y: number];

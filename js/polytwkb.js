@@ -11,3 +11,4 @@ export { load, version } from './src/module.js';
 export { decode, decodeFlat, encode } from './src/polylines.js';
 export { OutOfMemory, Refused } from './src/refused.js';
 export { stream } from './src/stream.js';
+export { write } from './src/writing.js';

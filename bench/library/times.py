@@ -4,8 +4,9 @@
     POLYTWKB_LIBRARY=out/libpolytwkb.so PYTHONPATH=python bench/library/times.py
 
 10,000 linestrings of 50 points, and a polyline of a million points, each at most 1,000 units from the one before. The best of 20 rounds, by
-turns, in processor seconds. Arrays of rows and points are read of a stream of 10 MB, 50,000 such linestrings; beside that the same
-points by way of a table and of polylines, by python3-polyline and by PostGIS, if these are there. Floats are rounded with numpy, if it is there.
+turns, in processor seconds. Arrays of rows and points are read of a stream of 10 MB, 50,000 such linestrings, and written to it, also of
+single points; beside that the same points by way of a table and of polylines, by python3-polyline and by PostGIS, if these are there. Floats
+are rounded with numpy, if it is there.
 """
 import csv
 import ctypes
@@ -100,6 +101,40 @@ def compare_arrays(chance):
     }, count)
     told("read otherwise", {"the package": lambda: polytwkb.read(stream), "by table and decode_flat": lambda: read_by_text(stream)}, count, 3)
     compare_others(stream, lines[: LONG // 10])
+    compare_writing("lines", stream)
+    corners = walk(chance, LONG)
+    points = "".join(f"0,point,,5,{polytwkb.encode(corners[place : place + 2])}\n" for place in range(0, 2 * LONG, 2))
+    compare_writing("points", polytwkb.pack("depth,kind,id,precision,polyline\n" + points * 32))
+
+
+def write_by_text(kinds, precisions, counts, points):
+    """Rows of depth 0 by way of a table."""
+    names, lines, start = ["", "point", "linestring"], ["depth,kind,id,precision,polyline\n"], 0
+    for kind, precision, count in zip(kinds, precisions, counts):
+        lines.append(f"0,{names[kind]},,{precision},{polytwkb.encode(points[2 * start : 2 * (start + count)])}\n")
+        start += count
+    return polytwkb.pack("".join(lines))
+
+
+def compare_writing(name, stream):
+    """Writing arrays: the package, the library into memory that is new and that was used before, and by way of a table."""
+    rows, points = polytwkb.read(stream)
+    records, flat, room = rows.records.tobytes(), points.tobytes(), len(stream)
+    used, numbers = memory_of(room), array("q", flat)
+    ctypes.memset(address_of(used), 0, room)
+    columns = rows.kind.tolist(), rows.precision.tolist(), rows.points.tolist()
+
+    def written(memory):
+        assert library.polytwkb_write(records, len(rows), flat, len(points), address_of(memory), room, LIMITS, 0).status == 0
+
+    assert polytwkb.write(rows, points) == write_by_text(*columns, numbers) == stream
+    print(f"arrays of {name}: {room / 1e6:.1f} MB, {len(rows)} rows, {len(points)} points")
+    told("write", {
+        "the library into used memory": lambda: written(used), "into new memory": lambda: written(memory_of(room)),
+        "the package": lambda: polytwkb.write(rows, points),
+    }, len(points))
+    ways = {"the package": lambda: polytwkb.write(rows, points), "by table and encode": lambda: write_by_text(*columns, numbers)}
+    told("write otherwise", ways, len(points), 3)
 
 
 def compare_others(stream, lines):

@@ -1,4 +1,4 @@
-"""The lines of a stream of blobs in arrays of numpy."""
+"""The lines of a stream of blobs in arrays of numpy, and such arrays as a stream again."""
 import numpy
 import polytwkb
 
@@ -13,10 +13,19 @@ rows, points = polytwkb.read(blobs)
 table = numpy.frombuffer(rows.records, rows.dtype)
 print(table[["kind", "points", "precision"]])
 degrees = numpy.asarray(polytwkb.in_degrees(points, 5))
-for line in numpy.split(degrees, numpy.cumsum(table["points"])[:-1]):
+lines = numpy.split(degrees, numpy.cumsum(table["points"])[:-1])
+for line in lines:
     print(line.shape, line.min(axis=0), line.max(axis=0))
+
+columns = {"kind": polytwkb.Kind.LINESTRING, "points": [len(line) for line in lines], "precision": 5}
+written = polytwkb.write(columns, polytwkb.in_units(numpy.concatenate(lines), 5))
+print("back:", "the same bytes" if written == blobs else "other bytes")
 
 try:
     polytwkb.read(blobs[:-1])
+except polytwkb.Refused as refused:
+    print(refused)
+try:
+    polytwkb.write(columns, points[:-1])
 except polytwkb.Refused as refused:
     print(refused)

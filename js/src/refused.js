@@ -8,10 +8,11 @@ const CODES = {
     25: 'POLYLINE_HALF', 26: 'POLYLINE_RANGE', 27: 'POLYLINE_TOO_MANY',
     41: 'BLOB_TRUNCATED', 42: 'BLOB_BAD_TYPE', 43: 'BLOB_EXTRA_DIMENSIONS', 44: 'BLOB_BAD_VARINT', 45: 'BLOB_TOO_DEEP',
     46: 'BLOB_TOO_MANY_NODES', 47: 'BLOB_TOO_MANY_POINTS', 48: 'BLOB_RANGE', 49: 'BLOB_SIZE_MISMATCH',
-    61: 'TOO_LONG', 62: 'TOO_MANY_RECORDS',
+    61: 'TOO_LONG', 62: 'TOO_MANY_RECORDS', 71: 'POINTS_MISSING', 72: 'POINTS_LEFT',
 };
 export const TRUNCATED = 41;
 export const OUT_OF_RANGE = 26;
+export const POINTS_LEFT = 72;
 
 /** An input is refused. */
 export class Refused extends Error {

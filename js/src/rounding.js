@@ -26,7 +26,7 @@ export function scaled(number, precision) {
     if (typeof number === 'bigint') return exactly(number, 1n, precision);
     if (typeof number !== 'number') throw new TypeError(`a coordinate is a number, not ${kindOf(number)}`);
     if (!Number.isFinite(number)) throw new RangeError(`a coordinate is a finite number, not ${number}`);
-    const size = Math.abs(number), near = precision >= 0 ? size * 10 ** precision : size / 10 ** -precision;
+    const size = Math.abs(number), scale = scaleOf(precision), near = (size * scale.below) / scale.above;
     const below = Math.floor(near), part = near - below;
     // near is within near * 2^-53 of the exact product, so far from a half it is on the right side
     if (near < 2 ** 50 && Math.abs(part - 0.5) > near * 2 ** -52) {

@@ -5,7 +5,8 @@
 Streams and tables come from the generators of tests/fuzz (random trees with every freedom of the formats, and slips),
 with other limits than those have; polylines and points are made here. The room of the output is enough, or any
 other. A record: the call, its numbers, the input, the report, and the whole room of the output afterwards, which was
-full of 0xA5 before. Arrays are points and then rows.
+full of 0xA5 before. Arrays are points and then rows; of those that are written, the second room is the number of
+points.
 """
 import ctypes
 import os
@@ -16,10 +17,12 @@ import sys
 sys.dont_write_bytecode = True
 sys.path.insert(0, os.path.join(os.path.dirname(os.path.abspath(__file__)), "..", "..", "tests", "fuzz"))
 import fuzz
+from arrays import bytes_of_points, bytes_of_rows, some_arrays
 from polyline import spelled
+from trees import some_tree
 
-PACK, UNPACK, SHOW, ENCODE, DECODE, READ = range(6)
-NAMES = ("pack", "unpack", "show", "encode", "decode", "read")
+PACK, UNPACK, SHOW, ENCODE, DECODE, READ, WRITE = range(7)
+NAMES = ("pack", "unpack", "show", "encode", "decode", "read", "write")
 TOO_SMALL = 5
 FILL = 0xA5
 POINT, ROW = 16, 24
@@ -46,7 +49,8 @@ class Counts(ctypes.Structure):
 def loaded(path):
     library = ctypes.CDLL(os.path.abspath(path))
     buffer = [ctypes.c_void_p, ctypes.c_size_t]
-    kinds = (2, [Limits, ctypes.c_uint32]), (2, [Limits]), (2, [Limits]), (2, []), (2, []), (3, [Limits])
+    styled = [Limits, ctypes.c_uint32]
+    kinds = (2, styled), (2, [Limits]), (2, [Limits]), (2, []), (2, []), (3, [Limits]), (3, styled)
     for name, (buffers, more) in zip(NAMES, kinds):
         call = getattr(library, "polytwkb_" + name)
         call.argtypes, call.restype = buffers * buffer + more, Counts if name == "read" else Report
@@ -98,16 +102,26 @@ class Call:
     def __init__(self, library, seed, number):
         self.library = library
         self.chance = chance = random.Random(f"{seed}/{number}")
-        self.limits, self.style = (0, 0, 0), 0
+        self.limits, self.style, self.points = (0, 0, 0), 0, 0
         kind = chance.random()
         if kind < 0.1:
             self.what, self.source = DECODE, some_polyline(chance)
         elif kind < 0.2:
             self.what, self.source = ENCODE, some_points(chance)
+        elif kind < 0.35:
+            self.of_arrays()
         else:
             self.of_case(fuzz.Case(seed, number))
-            if self.what == UNPACK and kind < 0.5:
+            if self.what == UNPACK and kind < 0.6:
                 self.what = READ
+
+    def of_arrays(self):
+        """Rows and points of trees, with slips: those that JavaScript's arrays can have."""
+        chance = self.chance
+        rows, points = some_arrays(chance, [some_tree(chance) for _ in range(chance.choice((0, 1, 1, 2, 3)))])
+        rows = [(row[0], row[1] % 2**32, row[2] % 256, row[3] % 256, *row[4:]) for row in rows]
+        self.what, self.style, self.points = WRITE, chance.randrange(2), len(points)
+        self.source, self.limits = bytes_of_points(points) + bytes_of_rows(rows), limits_of(chance, 16)
 
     def of_case(self, case):
         chance = self.chance
@@ -125,7 +139,7 @@ class Call:
         """Rooms that do, or nearly."""
         size = len(self.source)
         sizes = {PACK: size, ENCODE: 2 * size, DECODE: size // 2, READ: size}
-        return sizes.get(self.what, 20 * size) + 64, size // 2 + 8 if self.what == READ else 0
+        return sizes.get(self.what, 20 * size) + 64, size // 2 + 8 if self.what == READ else self.points
 
     def answer(self, rooms):
         """The report and the output."""
@@ -141,6 +155,9 @@ class Call:
         size, limits = len(self.source), Limits(*self.limits)
         if self.what == READ:
             return given, size, output + POINT * second, first, output, second, limits
+        if self.what == WRITE:
+            rows = POINT * second
+            return given + rows, (size - rows) // ROW, given, second, output, first, limits, self.style
         more = {PACK: [limits, self.style], UNPACK: [limits], SHOW: [limits]}.get(self.what, [])
         return given, size // (POINT if self.what == ENCODE else 1), output, first, *more
 
@@ -153,7 +170,7 @@ def exactly(call, report):
 
     if call.what == READ:
         return near(report.rows), near(report.points)
-    return near(report.sent), 0
+    return near(report.sent), call.points
 
 
 def recorded(call):

@@ -1,6 +1,6 @@
 // Compares modules and the package with what the native library answered (cases.py). For node and for browsers.
-const NAMES = ['pack', 'unpack', 'show', 'encode', 'decode', 'read'];
-const [PACK, , , ENCODE, DECODE, READ] = NAMES.keys();
+const NAMES = ['pack', 'unpack', 'show', 'encode', 'decode', 'read', 'write'];
+const [PACK, , , ENCODE, DECODE, READ, WRITE] = NAMES.keys();
 const [HEAD, POINT, ROW, FILL, BEHIND] = [40, 16, 24, 0xa5, 64];
 const MOST_TOLD = 10;
 
@@ -31,6 +31,10 @@ export function records(bytes) {
 function argumentsOf({ call, style, limits, rooms: [first, second], source }, from, to) {
     const { length } = source;
     if (call === READ) return [from, length, to + POINT * second, first, to, second, ...limits];
+    if (call === WRITE) {
+        const rows = POINT * second;
+        return [from + rows, (length - rows) / ROW, from, second, to, first, ...limits, style];
+    }
     const more = call >= ENCODE ? [] : call === PACK ? [...limits, style] : limits;
     return [from, call === ENCODE ? length / POINT : length, to, first, ...more];
 }
@@ -59,7 +63,7 @@ const lineOf = ({ level, offset, kind, precision, metadata, length, points }) =>
     `${[level, offset, kind, precision, metadataOf(metadata), length, points].join(' ')}\n`;
 
 /** Arrays of the package as the bytes of points and rows. */
-function bytesOfArrays({ depths, kinds, precisions, hasIds, ids, starts, xy }) {
+export function bytesOfArrays({ depths, kinds, precisions, hasIds, ids, starts, xy }) {
     const start = 8 * xy.length, bytes = new Uint8Array(start + ROW * depths.length), view = viewOf(bytes);
     new BigInt64Array(bytes.buffer, 0, xy.length).set(xy);
     for (let row = 0, at = start; row < depths.length; row++, at += ROW) {
@@ -73,9 +77,31 @@ function bytesOfArrays({ depths, kinds, precisions, hasIds, ids, starts, xy }) {
     return bytes;
 }
 
+/** The arrays of the package that points and rows are; null if a row has a point more than a start can count. */
+function arraysOfBytes(source, points) {
+    const view = viewOf(source), first = POINT * points, count = (source.length - first) / ROW;
+    const arrays = {
+        depths: new Uint8Array(count), kinds: new Uint8Array(count), precisions: new Int8Array(count),
+        hasIds: new Uint8Array(count), ids: new BigInt64Array(count), starts: new Uint32Array(count + 1),
+        xy: new BigInt64Array(new Uint8Array(source.subarray(0, first)).buffer),
+    };
+    for (let row = 0, at = first, start = 0; row < count; row++, at += ROW) {
+        arrays.ids[row] = view.getBigInt64(at, true);
+        arrays.starts[row + 1] = start += view.getUint32(at + 8, true);
+        if (start >= 2 ** 32) return null;
+        arrays.depths[row] = view.getUint32(at + 16, true);
+        arrays.kinds[row] = view.getUint16(at + 20, true);
+        arrays.hasIds[row] = source[at + 22];
+        arrays.precisions[row] = view.getInt8(at + 23);
+    }
+    return arrays;
+}
+
 /** The call of a record by the package, and the form in which its output is compared. */
-function calling(polytwkb, { call, style, limits: [nest, nodes, points], source }) {
+function calling(polytwkb, { call, style, limits: [nest, nodes, points], rooms, source }) {
     const limits = { nest, nodes, points }, form = style ? 'plain' : 'full';
+    const arrays = call === WRITE ? arraysOfBytes(source, rooms[1]) : null;
+    if (call === WRITE && !arrays) return null;
     return [
         [() => polytwkb.pack(source, form, limits), latin],
         [() => polytwkb.unpack(source, limits), text => text],
@@ -83,6 +109,7 @@ function calling(polytwkb, { call, style, limits: [nest, nodes, points], source 
         [() => polytwkb.encode(new BigInt64Array(new Uint8Array(source).buffer)), text => text],
         [() => polytwkb.decodeFlat(source), numbers => latin(new Uint8Array(numbers.buffer))],
         [() => polytwkb.read(source, { ...limits, exact: true }), found => latin(bytesOfArrays(found))],
+        [() => polytwkb.write(arrays, { ...limits, style: form }), latin],
     ][call];
 }
 

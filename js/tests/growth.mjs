@@ -5,6 +5,7 @@
 import assert from 'node:assert/strict';
 import { readFileSync } from 'node:fs';
 import * as polytwkb from '../polytwkb.js';
+import { bytesOfArrays } from './compare.js';
 import { HEADER, lineOf } from './rows.mjs';
 
 const [DONE, MEMORY] = [0, 4];
@@ -35,30 +36,37 @@ function limited(bytes, most) {
     }
 }
 
+/** The arguments of a conversion. */
+const converting = (...more) => (from, length, to, room) => [from, length, to, room, ...LIMITS, ...more];
+
+/** The arguments of writing so many points and the rows after them. */
+const writing = points => (from, length, to, room) =>
+    [from + 16 * points, (length - 16 * points) / 24, from, points, to, room, ...LIMITS, 0];
+
 /** What a call answers, if there is memory for its buffers. */
-function answered({ exports }, name, input, room, ...more) {
+function answered({ exports }, name, input, room, given) {
     const from = exports.buffers(input.length + room + 16) >>> 0, to = from + Math.ceil(input.length / 16) * 16;
     if (!from) return null;
     new Uint8Array(exports.memory.buffer).set(input, from);
-    const at = exports[name](from, input.length, to, room, ...LIMITS, ...more) >>> 0;
+    const at = exports[name](...given(from, input.length, to, room)) >>> 0;
     assert.equal(exports.kept(), 0);
     const view = new DataView(exports.memory.buffer, at, REPORT), sent = Number(view.getBigUint64(32, true));
     return { status: view.getUint32(0, true), output: Buffer.from(exports.memory.buffer, to, sent) };
 }
 
 /** Tries a call with each limit; how many were refused. */
-function refusals(bytes, name, input, expected, ...more) {
+function refusals(bytes, name, input, expected, given) {
     let refused = 0;
     for (let most = limited(bytes, 9).first; ; most++) {
         const module = new WebAssembly.Module(limited(bytes, most).bytes), instance = new WebAssembly.Instance(module);
-        const found = answered(instance, name, input, expected.length, ...more);
+        const found = answered(instance, name, input, expected.length, given);
         if (found?.status === DONE) {
             assert.deepEqual(found.output, expected);
             return refused;
         }
         if (found) assert.equal(found.status, MEMORY);
         if (found) assert.deepEqual(found.output, expected.subarray(0, found.output.length));
-        assert.equal(answered(instance, 'pack', Buffer.from('x'), 1, 0)?.status, 1);
+        assert.equal(answered(instance, 'pack', Buffer.from('x'), 1, converting(0))?.status, 1);
         refused += found ? 1 : 0;
     }
 }
@@ -69,10 +77,12 @@ const line = polytwkb.encode(Array.from({ length: 40000 }, (_, place) => [place 
 const parts = '1,point,,5,_p~iF~ps|U\n1,multipoint,,5,\n2,point,,,AC\n'.repeat(3000);
 const table = Buffer.from(`${HEADER}0,point,,0,AC\n0,linestring,,5,${line}\n0,collection,,5,\n${parts}`);
 const blobs = Buffer.from(polytwkb.pack(table)), lines = Buffer.from(polytwkb.show(blobs).map(lineOf).join(''));
+const found = polytwkb.read(blobs, { exact: true }), { xy } = found, arrays = Buffer.from(bytesOfArrays(found));
 const counts = [
-    refusals(bytes, 'pack', table, blobs, 0),
-    refusals(bytes, 'unpack', blobs, table),
-    refusals(bytes, 'show', blobs, lines),
+    refusals(bytes, 'pack', table, blobs, converting(0)),
+    refusals(bytes, 'unpack', blobs, table, converting()),
+    refusals(bytes, 'show', blobs, lines, converting()),
+    refusals(bytes, 'write', arrays, blobs, writing(xy.length / 2)),
 ];
 assert.ok(counts.every(count => count > 3), counts);
-console.log(`memory refused ${counts.join(', ')} times in pack, unpack, show`);
+console.log(`memory refused ${counts.join(', ')} times in pack, unpack, show, write`);

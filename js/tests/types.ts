@@ -1,7 +1,7 @@
 // What callers in TypeScript write; the declarations take it, and refuse what is marked.
 import {
     Arrays, Geometry, Header, Limits, OutOfMemory, Point, Refused, decode, decodeFlat, encode, geometries, load, pack,
-    read, show, split, stream, unpack, unpackBytes, version,
+    read, show, split, stream, unpack, unpackBytes, version, write,
 } from '../polytwkb.js';
 
 async function all(response: Response, file: ArrayBuffer): Promise<void> {
@@ -21,6 +21,8 @@ async function all(response: Response, file: ArrayBuffer): Promise<void> {
     const exact: bigint | undefined = geometries(blobs, { exact: true }).map(it => it.precision && 1n)[0] || undefined;
     const degrees: Float64Array = read(blobs).xy, whole: Arrays<BigInt64Array> = read(blobs, { exact: true });
     degrees.fill(whole.starts[0]);
+    const { depths, kinds, precisions, starts, xy } = whole, lines = { depths, kinds, precisions, starts, xy };
+    unpack(write(whole, { style: 'plain', nest: 2 })) + unpack(write(read(blobs))) + unpack(write(lines));
     for await (const part of stream(response)) split(part);
     for await (const part of stream(fetch('shapes.twkb'), { nest: 2 })) unpack(part);
     try {
@@ -33,6 +35,8 @@ async function all(response: Response, file: ArrayBuffer): Promise<void> {
     pack('text', 'Full');
     // @ts-expect-error a stream is bytes
     unpack('text');
+    // @ts-expect-error an array of numbers is no typed array
+    write({ ...whole, kinds: [1] });
     // @ts-expect-error a BigInt64Array has whole numbers
     encode(flat, 5);
 }

@@ -12,7 +12,7 @@ kit=$(dirname "$(rt doc)")
 module=$(realpath "$1")
 folder=$(realpath -m "$2")
 stack=131072
-exports="buffers kept pack unpack show encode decode read reason_text version"
+exports="buffers kept pack unpack show encode decode read write reason_text version"
 heap="rattle_alloc rattle_realloc rattle_dealloc"
 work=$(mktemp -d)
 trap 'rm -rf "$work"' EXIT

@@ -8,11 +8,13 @@ from ._check import check
 from ._conversions import Header, Limits, pack, show, split, unpack
 from ._geometries import geometries
 from ._library import VERSION as __version__
+from ._packing import pack_geometries
 from ._points import in_degrees, in_units
 from ._polylines import decode, decode_flat, encode
 from ._refused import Refused
+from ._writing import write
 
 __all__ = [
     "NO_PRECISION", "Arrays", "Header", "Kind", "Limits", "Refused", "Rows", "check", "decode", "decode_flat", "encode", "geometries",
-    "in_degrees", "in_units", "pack", "read", "show", "split", "unpack",
+    "in_degrees", "in_units", "pack", "pack_geometries", "read", "show", "split", "unpack", "write",
 ]

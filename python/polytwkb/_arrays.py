@@ -8,7 +8,7 @@ from ._memory import address_of, memory_of, shortened
 from ._points import POINT
 from ._refused import Refused
 
-_ROW = 24
+ROW = 24
 
 
 class Kind(IntEnum):
@@ -47,32 +47,32 @@ class Rows:
 
     dtype = [("id", "<i8"), ("points", "<u8"), ("depth", "<u4"), ("kind", "<u2"), ("has_id", "?"), ("precision", "i1")]
     # The code of each column's items, and how many of them are before it in a row and in a whole row.
-    _places = {
+    places = {
         "id": ("q", 0, 3), "points": ("Q", 1, 3), "depth": ("I", 4, 6), "kind": ("H", 10, 12), "has_id": ("?", 22, 24), "precision": ("b", 23, 24),
     }
 
     def __init__(self, records, count=None):
         """Rows of their bytes, as `records` has them: of so many rows, or of all."""
         memory = memoryview(records).cast("B")
-        count = len(memory) // _ROW if count is None and len(memory) % _ROW == 0 else count
-        if count is None or not 0 <= count <= len(memory) // _ROW:
-            raise ValueError(f"rows have {_ROW} bytes each, and {len(memory)} are given")
+        count = len(memory) // ROW if count is None and len(memory) % ROW == 0 else count
+        if count is None or not 0 <= count <= len(memory) // ROW:
+            raise ValueError(f"rows have {ROW} bytes each, and {len(memory)} are given")
         # No column could be made of nothing.
-        self._memory, self._count = memory if count else memoryview(bytes(_ROW)), count
+        self._memory, self._count = memory if count else memoryview(bytes(ROW)), count
 
     def _column(self, name, code):
-        _, first, step = self._places[name]
+        _, first, step = self.places[name]
         return self._memory.cast(code)[first : first + step * self._count : step]
 
     def __getattr__(self, name):
-        if name not in self._places:
+        if name not in self.places:
             raise AttributeError(name)
-        return self._column(name, self._places[name][0])
+        return self._column(name, self.places[name][0])
 
     @property
     def records(self):
         """All rows as bytes, 24 for each."""
-        return self._memory[: _ROW * self._count]
+        return self._memory[: ROW * self._count]
 
     def __len__(self):
         return self._count
@@ -97,14 +97,14 @@ class Arrays(NamedTuple):
 def _arrays(memories, counts):
     """What a reading made in memory, without a copy."""
     rows, points = memories
-    rows, points = shortened(rows, _ROW * counts.rows), shortened(points, POINT * counts.points)
+    rows, points = shortened(rows, ROW * counts.rows), shortened(points, POINT * counts.points)
     view = memoryview(points)[: max(counts.points, 1) * POINT].cast("q", [max(counts.points, 1), 2])
-    return Arrays(Rows(memoryview(rows)[: _ROW * counts.rows]), view[: counts.points])
+    return Arrays(Rows(memoryview(rows)[: ROW * counts.rows]), view[: counts.points])
 
 
 def _read(given, rooms, limits):
     """One reading into memory for so many rows and points."""
-    memories = [memory_of(max(room, 1) * size) for room, size in zip(rooms, (_ROW, POINT))]
+    memories = [memory_of(max(room, 1) * size) for room, size in zip(rooms, (ROW, POINT))]
     rows, points = map(address_of, memories)
     return library.polytwkb_read(given, len(given), rows, rooms[0], points, rooms[1], limits), memories
 

@@ -8,12 +8,12 @@ from ._points import degrees_of, view_of
 from ._refused import Refused
 
 _POINT, _COLLECTION = Kind.POINT, Kind.COLLECTION
-_NAMES = {
+NAMES = {
     Kind.POINT: "Point", Kind.LINESTRING: "LineString", Kind.POLYGON: "Polygon", Kind.MULTIPOINT: "MultiPoint",
     Kind.MULTILINESTRING: "MultiLineString", Kind.MULTIPOLYGON: "MultiPolygon", Kind.COLLECTION: "GeometryCollection",
 }
 # The kind of the parts of a kind that has parts.
-_PARTS = {
+PARTS = {
     Kind.POLYGON: Kind.RING, Kind.MULTIPOINT: Kind.POINT, Kind.MULTILINESTRING: Kind.LINESTRING, Kind.MULTIPOLYGON: Kind.POLYGON,
 }
 
@@ -50,7 +50,7 @@ class _Rows:
         """The coordinates of the next row and its parts."""
         row, kind = self.row, self.kinds[self.row]
         self.row += 1
-        if kind in _PARTS:
+        if kind in PARTS:
             parts = []
             while self.depths[self.row] > self.depths[row]:
                 parts.append(self.coordinates())
@@ -68,7 +68,7 @@ class _Rows:
 
     def mapping(self):
         """The mapping of the next row and its parts."""
-        row, made = self.row, {"type": _NAMES[self.kinds[self.row]]}
+        row, made = self.row, {"type": NAMES[self.kinds[self.row]]}
         if self.kinds[row] == _COLLECTION:
             self.row += 1
             made["geometries"] = members = []

@@ -59,6 +59,7 @@ def _loaded(path):
     measure.argtypes, measure.restype = [ctypes.c_uint32, ctypes.c_void_p, ctypes.c_size_t, CLimits, ctypes.c_uint32], Report
     arrays = [ctypes.c_void_p, ctypes.c_size_t] * 2
     library.polytwkb_read.argtypes, library.polytwkb_read.restype = [*buffers[:2], *arrays, CLimits], Counts
+    library.polytwkb_write.argtypes, library.polytwkb_write.restype = [*arrays, *buffers[2:], CLimits, ctypes.c_uint32], Report
     return library
 
 
@@ -67,9 +68,16 @@ try:
 except (OSError, AttributeError) as fault:
     raise ImportError(f"polytwkb {VERSION} finds no library of its version: {fault}") from None
 
-# The same call while no other thread of Python runs, so that it may read a buffer that could change meanwhile.
-encode_in_place = ctypes.PyDLL(library._name).polytwkb_encode
-encode_in_place.argtypes, encode_in_place.restype = library.polytwkb_encode.argtypes, Report
+
+
+def _in_place(name):
+    """The same call while no other thread of Python runs, so that it may read a buffer that could change meanwhile."""
+    call = getattr(ctypes.PyDLL(library._name), name)
+    call.argtypes, call.restype = getattr(library, name).argtypes, Report
+    return call
+
+
+encode_in_place, write_in_place = _in_place("polytwkb_encode"), _in_place("polytwkb_write")
 
 
 def reason_text(reason):

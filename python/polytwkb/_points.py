@@ -73,24 +73,33 @@ def in_columns(flat):
     return memoryview(flat).cast("B").cast(flat.typecode, [count + 1, 2])[:count]
 
 
-def _unit(number, precision, place):
-    """The units of a coordinate of the point with this place."""
+def unit(number, precision):
+    """The units of a coordinate."""
     try:
         return operator.index(number) if precision is None else nearest(number, precision)
     except TypeError:
         known = "is no whole number: give a precision" if isinstance(number, (float, Decimal)) else f"is a number, not {type(number).__name__}"
-        raise TypeError(f"point {place}: a coordinate {known}") from None
-    except ValueError as fault:
-        raise ValueError(f"point {place}: {fault}") from None
+        raise TypeError(f"a coordinate {known}") from None
+
+
+def placed(fault, where):
+    """The TypeError or ValueError that says where it is."""
+    return (TypeError if isinstance(fault, TypeError) else ValueError)(f"{where}: {fault}")
+
+
+def clipped(number):
+    """The number; if 64 bits cannot hold it, one that is out of the range of coordinates too."""
+    return min(max(number, LEAST - 1), MOST + 1)
 
 
 def _one_by_one(numbers, precision, first):
     """The units of coordinates, up to the first point that has one of more than 64 bits; `first` is the place of the first point."""
     units = array("q")
     for place, pair in enumerate(zip(numbers[::2], numbers[1::2]), first):
-        whole = [_unit(number, precision, place) for number in pair]
         try:
-            units.extend(array("q", whole))
+            units.extend(array("q", [unit(number, precision) for number in pair]))
+        except (TypeError, ValueError) as fault:
+            raise placed(fault, f"point {place}") from None
         except OverflowError:
             break
     return units
@@ -134,11 +143,11 @@ def _pieces(points, precision):
         flat = _flat(_checked(view))
         return (flat[start : start + _PIECE] for start in range(0, len(flat), _PIECE))
     if isinstance(points, memoryview):
-        return _pieces_of_pairs(_listed(view))
+        return _pieces_of_pairs(listed(view))
     return _pieces_of_pairs(points)
 
 
-def _listed(view):
+def listed(view):
     """The points of a view as lists: a view of two columns has no rows to give."""
     try:
         return view.tolist()
@@ -158,6 +167,19 @@ def units_of(points, precision):
         if len(some) < len(numbers):
             return units, True
     return units, False
+
+
+def clipped_of(points):
+    """The coordinates of pairs of whole numbers, flat and clipped."""
+    if isinstance(points, str) or not hasattr(points, "__iter__"):
+        raise TypeError(f"points are pairs of whole numbers, not {type(points).__name__}")
+    flat = array("q")
+    for numbers in _pieces_of_pairs(points):
+        some = _units(numbers, None, len(flat) // 2)
+        flat.extend(some)
+        if len(some) < len(numbers):
+            flat.extend([clipped(unit(number, None)) for number in numbers[len(some) :]])
+    return flat
 
 
 def in_units(points: Points, precision: int) -> memoryview:

@@ -9,7 +9,7 @@ _NAMES = {
     26: "POLYLINE_RANGE", 27: "POLYLINE_TOO_MANY",
     41: "BLOB_TRUNCATED", 42: "BLOB_BAD_TYPE", 43: "BLOB_EXTRA_DIMENSIONS", 44: "BLOB_BAD_VARINT", 45: "BLOB_TOO_DEEP",
     46: "BLOB_TOO_MANY_NODES", 47: "BLOB_TOO_MANY_POINTS", 48: "BLOB_RANGE", 49: "BLOB_SIZE_MISMATCH",
-    61: "TOO_LONG", 62: "TOO_MANY_RECORDS",
+    61: "TOO_LONG", 62: "TOO_MANY_RECORDS", 71: "POINTS_MISSING", 72: "POINTS_LEFT",
 }
 
 
@@ -18,7 +18,8 @@ class Refused(Exception):
 
     * ``reason``: the number, as include/polytwkb.h has it; ``name``: its name there, such as ``"BLOB_TRUNCATED"``;
     * ``text``: what it means, such as ``"truncated"``;
-    * ``place``: the record of a table, from 1; the byte of a stream or of the text of a polyline, from 0; the point of a list, from 0;
+    * ``place``: the record of a table, from 1; the byte of a stream or of the text of a polyline, the row of arrays, the geometry or the
+      point of a list, from 0;
     * ``text_offset``: the byte of the refused polyline, in its record or alone; else 0;
     * ``done``: how many geometries came before, and are whole;
     * ``output``: what the call would have returned of these alone.

@@ -1,5 +1,5 @@
 #!/usr/bin/env bash
-# Tests of the package over a built library, and with numpy and Shapely by another Python, if python3 has no numpy:
+# Tests of the package over a built library, and with numpy, Shapely and GeoPandas by another Python, if python3 has no numpy:
 #
 #   python/tests/run.sh LIBRARY
 set -euo pipefail
@@ -15,8 +15,8 @@ if has_numpy python3 || ! has_numpy /usr/bin/python3; then
 else
   python=/usr/bin/python3
   ROUNDINGS=${ROUNDINGS:-100000} python3 -B -m unittest -q
-  "$python" -B -W ignore -m unittest -q test_rounding test_arrays test_geometries test_hostile
+  "$python" -B -W ignore -m unittest -q test_rounding test_arrays test_writing test_geometries test_packing test_hostile
 fi
-for module in numpy shapely; do
+for module in numpy shapely geopandas; do
   "$python" -W ignore -c "import $module" 2> /dev/null || echo "skip  the package with $module: python3-$module is not there"
 done

@@ -122,7 +122,7 @@ class Reasons(unittest.TestCase):
         kinds = {"KIND_" + kind.name: f"{kind.value}u" for kind in polytwkb.Kind}
         self.assertEqual({name: number for name, number in named.items() if name.startswith("KIND_")}, kinds)
         self.assertEqual(named["NO_PRECISION"], f"({polytwkb.NO_PRECISION})")
-        others = {"DONE", "REFUSED", "ARGUMENTS", "DEVICE", "MEMORY", "TOO_SMALL", "FULL", "PLAIN", "PACK", "UNPACK", "SHOW", "POINTS_MISSING", "POINTS_LEFT", *kinds}
+        others = {"DONE", "REFUSED", "ARGUMENTS", "DEVICE", "MEMORY", "TOO_SMALL", "FULL", "PLAIN", "PACK", "UNPACK", "SHOW", *kinds}
         self.assertEqual({name for name, number in named.items() if number.endswith("u")} - others, set(_refused._NAMES.values()))
         self.assertEqual(named["VERSION"], f'"{polytwkb.__version__}"')
 

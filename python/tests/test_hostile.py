@@ -24,10 +24,10 @@ SEED = int(os.environ.get("SEED", time.strftime("%Y%m%d", time.gmtime())))
 ALLOWED = (polytwkb.Refused, TypeError, ValueError, MemoryError)
 CALLS = (
     polytwkb.pack, polytwkb.unpack, polytwkb.show, polytwkb.split, polytwkb.encode, polytwkb.decode, polytwkb.decode_flat, polytwkb.check,
-    polytwkb.read, polytwkb.geometries, polytwkb.in_units, polytwkb.in_degrees,
+    polytwkb.read, polytwkb.geometries, polytwkb.in_units, polytwkb.in_degrees, polytwkb.write, polytwkb.write, polytwkb.pack_geometries,
 )
 # How many arguments a call takes at least, where that is not one.
-ARGUMENTS = {"in_units": 2, "in_degrees": 2}
+ARGUMENTS = {"in_units": 2, "in_degrees": 2, "pack_geometries": 2}
 BLOBS = [bytes.fromhex(vector["hex"]) for vector in vectors.postgis()]
 TABLES = ["".join(row + "\n" for row in vector["rows"]) for vector in vectors.postgis()]
 TEXTS = [text for text, _, _ in vectors.polylines()]
@@ -84,9 +84,48 @@ def value(chance):
     return chance.choice([None, 7, "", b"", [], {}, object(), "\ud800", "\x00", "ä", array("d", [1, 2]), memoryview(b"12345678")[::3], range(3)])
 
 
+def column(chance, count):
+    """A column of rows, of any type, mostly of so many numbers."""
+    count = chance.choice([count, count, count, count + 1, 0])
+    numbers = [chance.choice([0, 0, 1, 1, 2, 3, 4, 8, -128, -1, 9, 1 << 16, 1 << 63, None, 1.5, "7"][: chance.choice([8, 8, 9, 16])]) for _ in range(count)]
+    return chance.choice([numbers, numbers, chance.choice([0, 1, 2, 4, -128, 5]), buffer(chance)])
+
+
+def rows(chance):
+    """Rows in each form: as bytes, in columns, those that were read, with some of their bytes changed."""
+    found = polytwkb.read(b"".join(chance.choices(BLOBS, k=chance.randrange(4)))).rows
+    names = ["kind", "points", "depth", "precision", "id", "has_id"]
+    if chance.randrange(2):
+        records = changed(chance, found.records)
+        return chance.choice([bytes, bytearray, memoryview])(records[: chance.choice([len(records), len(records) // 24 * 24])])
+    if chance.randrange(2):
+        return {name: column(chance, len(found)) for name in names[: chance.choice([2, 4, 6, 6])]}
+    made = {name: chance.choice([getattr(found, name)] * 5 + [column(chance, len(found))]) for name in names}
+    return chance.choice([found, made, numpy.frombuffer(found.records, found.dtype)[:: chance.choice([1, 1, 2, -1])] if numpy else found])
+
+
+def mapping(chance, depth=0):
+    """A mapping of the geo interface, mostly as it should be."""
+    kind = chance.choice(["Point", "LineString", "Polygon", "MultiPoint", "MultiLineString", "MultiPolygon", "GeometryCollection", "Feature", "X", None])
+    made = {"type": kind, "coordinates": chance.choice([(), (1, 2.5), [(1, 2.5), (3, 4)], [[(1, 2)]], [[[(1, 2), (3, 4)]], []], value(chance)])}
+    members = [mapping(chance, depth + 1) for _ in range(chance.randrange(3 if depth < 3 else 1))]
+    made["geometries"], made["geometry"] = chance.choice([members, members, value(chance)]), members[0] if members else None
+    if chance.randrange(4) == 0:
+        made["ids"] = chance.choice([[1], [1, 2], [1, None], value(chance)])
+    return chance.choice([made, made, [made, made], members])
+
+
 def arguments(chance, call):
     """What a call is given."""
     given = [value(chance)]
+    if call is polytwkb.write and chance.randrange(4):
+        count = chance.randrange(6)
+        points = chance.choice([[tuple(chance.choices([0, 1, 5, 1 << 62, 1 << 64], [9, 9, 9, 1, 1], k=2)) for _ in range(count)], array("q", [1, 2] * count)])
+        given = [rows(chance), chance.choice([points, points, points, buffer(chance), value(chance)])]
+    elif call is polytwkb.write:
+        given.append(value(chance))
+    if call is polytwkb.pack_geometries and chance.randrange(4):
+        given = [mapping(chance)]
     if ARGUMENTS.get(call.__name__) == 2:
         given.append(chance.choice([5, 0, -8, 7, 8, None, 1.5, value(chance)]))
     return given

@@ -1,7 +1,9 @@
-"""Rows and points in arrays."""
+"""Rows and points in arrays: those of geometries, the geometries of rows and points, and slips of both."""
 import ctypes
 
-from geometry import KINDS
+import table
+from geometry import KINDS, LEAST, MOST
+from table import POINTED, Row as Accepted, place_fault, split_at, tree_of
 
 KIND_NAMES = ("", *KINDS, "ring")
 PART_OF = {"polygon": "ring", "multilinestring": "linestring", "multipoint": "point", "multipolygon": "polygon"}
@@ -42,4 +44,109 @@ def arrays_of(geometry, depth=0, identifier=None, is_whole=True):
         else:
             more = arrays_of(member, depth + 1, identifier)
         rows, points = rows + more[0], points + list(more[1])
+    return rows, points
+
+
+def has_rule(rows, parent, depth, kind, identifier, precision):
+    """The first rule of ids and precisions that a row breaks, given its parent's place, as a reason."""
+    siblings = [] if parent is None else [row for row in rows[parent + 1 :] if row.depth == depth]
+    is_whole = parent is None or rows[parent].kind == "collection"
+    rules = [
+        ("id not allowed", identifier is not None and (depth == 0 or kind == "ring")),
+        ("id on some children only", siblings and (siblings[0].identifier is None) != (identifier is None)),
+        ("bad precision", precision is not None and not -8 <= precision <= 7),
+        ("precision missing", is_whole and precision is None),
+        ("precision not allowed", not is_whole and precision is not None),
+    ]
+    return next((reason for reason, is_broken in rules if is_broken), None)
+
+
+def points_fault(rows, parent, kind, points):
+    """The first rule of points that a row breaks."""
+    root = len(rows) if parent is None else max(place for place, row in enumerate(rows) if row.depth == 0)
+    is_part = parent is not None and rows[parent].kind == "multipoint"
+    rules = [
+        ("polyline not allowed", points and kind not in POINTED),
+        ("coordinate out of range", not all(LEAST <= number <= MOST for point in points for number in point)),
+        ("too many points", sum(len(row.points) for row in rows[root:]) + len(points) > table.POINTS),
+        ("wrong number of points", kind == "point" and (len(points) != 1 if is_part else len(points) > 1)),
+    ]
+    return next((reason for reason, is_broken in rules if is_broken), None)
+
+
+def judged(rows, row, ahead, nest):
+    """The row of a table that a row of an array stands for after these, with the first of the points ahead; or the first reason against it."""
+    identifier, count, depth, kind, has_id, precision = row
+    if not 1 <= kind < len(KIND_NAMES):
+        return "unknown kind"
+    if has_id > 1 or not has_id and identifier:
+        return "bad id"
+    if count > len(ahead):
+        return "points missing"
+    kind, identifier, points = KIND_NAMES[kind], identifier if has_id else None, ahead[:count]
+    precision = None if precision == NO_PRECISION else precision
+    fault, parent = place_fault(rows, depth, kind, nest)
+    fault = fault or has_rule(rows, parent, depth, kind, identifier, precision) or points_fault(rows, parent, kind, points)
+    return fault or Accepted(depth, kind, identifier, precision, points)
+
+
+def named_by(rows, points, nest):
+    """The geometries that are complete, and the fault: the row from 0 and the reason, or None."""
+    accepted, used, fault = [], 0, None
+    for place, row in enumerate(rows):
+        found = judged(accepted, row, points[used:], nest)
+        if isinstance(found, str):
+            fault = place, found
+            break
+        accepted.append(found)
+        used += len(found.points)
+    if not fault and used < len(points):
+        fault = len(rows), "points left over"
+    geometries = [tree_of(part) for part in split_at(accepted, 0)]
+    # a row of depth 0 ends the geometry before it, whatever is wrong with it
+    is_open = fault and (fault[0] == len(rows) or rows[fault[0]][2] > 0)
+    return (geometries[:-1] if is_open else geometries), fault
+
+
+# Values of each field of a row for slips.
+FIELDS = {
+    0: (0, 1, -1, 7, 2**63 - 1, -(2**63)), 1: (0, 1, 1, 2, 3, 2**32, 2**63, 2**64 - 1), 2: (0, 0, 1, 1, 2, 3, 9, 2**32 - 1),
+    3: (0, 1, 2, 3, 4, 5, 6, 7, 8, 9, 2**16 - 1), 4: (0, 0, 1, 1, 2, 255), 5: (NO_PRECISION, NO_PRECISION, 0, 5, -8, 7, 8, -9, 127, -127),
+}
+
+
+def slip(chance, rows, points):
+    """Rows and points with a field changed, a row left out, moved or given twice, points left out or added, also to a row, or one out of range."""
+    rows, points = list(rows), list(points)
+    kind = chance.randrange(10)
+    if kind < 3 and rows:
+        place, field = chance.randrange(len(rows)), chance.randrange(6)
+        rows[place] = (*rows[place][:field], chance.choice(FIELDS[field]), *rows[place][field + 1 :])
+    elif kind == 3 and rows:
+        del rows[chance.randrange(len(rows))]
+    elif kind == 4 and rows:
+        rows.insert(chance.randrange(len(rows) + 1), chance.choice(rows))
+    elif kind == 5 and points:
+        del points[chance.randrange(len(points))]
+    elif kind == 6 and rows:
+        place = chance.randrange(len(rows))
+        identifier, count, *rest = rows[place]
+        rows[place] = identifier, min(count + 1, 2**64 - 1), *rest
+        points.insert(min(sum(row[1] for row in rows[:place]), len(points)), (chance.randint(-9, 9), 0))
+    elif kind == 7:
+        points.insert(chance.randrange(len(points) + 1), (chance.randint(-9, 9), 0))
+    elif points:
+        place = chance.randrange(len(points))
+        points[place] = chance.choice(((2**62, 0), (0, -(2**62) - 1), (2**63 - 1, -(2**63)), (MOST, LEAST)))
+    return rows, points
+
+
+def some_arrays(chance, trees):
+    """Rows and points of trees, most of them with slips."""
+    rows, points = [], []
+    for tree in trees:
+        more = arrays_of(tree)
+        rows, points = rows + more[0], points + more[1]
+    for _ in range(chance.choice((0, 0, 1, 1, 1, 2, 4))):
+        rows, points = slip(chance, rows, points)
     return rows, points

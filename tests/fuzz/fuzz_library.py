@@ -1,6 +1,6 @@
 #!/usr/bin/env python3
 """Compares calls of the library and of the package for Python with the second implementation: rows and points in arrays are read from random
-streams, by the library into rooms of all sizes, and random tables are checked.
+streams, and written as streams, by the library into rooms of all sizes, and random shapes are packed and tables checked.
 
 fuzz_library.py [--cases N] [--seed S] [--only CASE] LIBRARY
 
@@ -18,9 +18,10 @@ sys.path[:0] = [HERE, os.path.join(HERE, "../../python")]
 
 import blob
 import table
-from arrays import arrays_of, bytes_of_points, bytes_of_rows
+from arrays import arrays_of, bytes_of_points, bytes_of_rows, named_by, some_arrays
 from fuzz import some_stream, some_table
-from geometry import NODES, POINTS
+from geometry import NODES, POINTS, mapping_of, with_precision
+from trees import nested, some_tree
 
 GUARD = 0xA7
 REASONS = {
@@ -39,6 +40,9 @@ BLOB_REASONS = {
 }
 
 
+STYLES = ("full", "plain")
+
+
 class Limits(ctypes.Structure):
     _fields_ = [(name, ctypes.c_uint32) for name in ("nest", "nodes", "points")]
 
@@ -52,16 +56,20 @@ class Counts(ctypes.Structure):
     _fields_ = numbers("place", "done", "rows", "points", "needed_rows", "needed_points")
 
 
+class Report(ctypes.Structure):
+    _fields_ = numbers("place", "text_offset", "done", "sent", "needed")
+
+
 def fields_of(structure):
     return tuple(getattr(structure, name) for name, _ in structure._fields_)
 
 
 class Library:
-    """The call over guarded memory."""
+    """The calls over guarded memory."""
 
     def __init__(self, path):
         self.library = ctypes.CDLL(path)
-        self.library.polytwkb_read.restype = Counts
+        self.library.polytwkb_read.restype, self.library.polytwkb_write.restype = Counts, Report
 
     @staticmethod
     def guarded(size):
@@ -75,6 +83,14 @@ class Library:
         for memory, used in ((rows, 24 * counts.rows), (points, 16 * counts.points)):
             assert memory.raw[used:] == bytes([GUARD]) * (len(memory) - used), "what was not written has changed"
         return fields_of(counts), rows.raw[: 24 * counts.rows], points.raw[: 16 * counts.points]
+
+    def write(self, rows, points, room, limits, style):
+        """The report, and the bytes that were sent."""
+        output, size = self.guarded(room), ctypes.c_size_t
+        counts = size(len(rows) // 24), size(len(points) // 16)
+        report = self.library.polytwkb_write(rows, counts[0], points, counts[1], output, size(room), Limits(*limits), style)
+        assert output.raw[report.sent :] == bytes([GUARD]) * (len(output) - report.sent), "what was not written has changed"
+        return fields_of(report), output.raw[: report.sent]
 
 
 def some_limits(chance):
@@ -150,6 +166,57 @@ class Comparing:
         assert (bytes(found.rows.records), found.points.tobytes()) == (rows, points), f"the package reads {stream.hex()} otherwise"
         assert (refused and (refused.place, refused.text)) == fault, f"the package refuses {stream.hex()} otherwise: {refused}"
 
+    def write(self, chance, limits):
+        """Arrays are written as the second implementation writes them, into any room."""
+        trees = [some_tree(chance) for _ in range(chance.choice((0, 1, 1, 2, 3)))]
+        trees = [nested(chance, tree) if chance.random() < 0.2 else tree for tree in trees]
+        rows, points = some_arrays(chance, trees)
+        geometries, fault = named_by(rows, points, limits[0])
+        style = chance.randrange(2)
+        blobs = [blob.canonical(geometry, style == 0) for geometry in geometries]
+        needed = sum(map(len, blobs))
+        room = max(needed + chance.choice((0, 0, 0, 1, -1, -2, -needed, 5)), 0)
+        fits = [sum(map(len, blobs[: count + 1])) <= room for count in range(len(blobs))]
+        done = fits.index(False) if False in fits else len(blobs)
+        status = 5 if done < len(blobs) else 1 if fault else 0
+        place, reason = (fault[0], REASONS[fault[1]]) if status == 1 else (0, 0)
+        output = b"".join(blobs[:done])
+        given = bytes_of_rows(rows), bytes_of_points(points)
+        wanted = (status, reason, place, 0, done, len(output), needed), output
+        found = self.library.write(*given, room, limits, style)
+        assert found == wanted, f"write {rows} and {points} into {room}, limits {limits}, style {style}: {found}, not {wanted}"
+        self.met("write " + ("room too small" if status == 5 else fault[1] if fault else "ok"))
+        self.write_by_package(chance, rows, points, limits, style, b"".join(blobs), fault and (*fault, len(blobs)))
+
+    def write_by_package(self, chance, rows, points, limits, style, output, fault):
+        columns = dict(zip(("id", "points", "depth", "kind", "has_id", "precision"), map(list, zip(*rows)))) if rows else {"kind": [], "points": []}
+        form = chance.choice((bytes_of_rows(rows), polytwkb.Rows(bytearray(bytes_of_rows(rows))), columns))
+        refused = None
+        try:
+            found = polytwkb.write(form, points, STYLES[style], polytwkb.Limits(*limits))
+        except polytwkb.Refused as caught:
+            refused, found = caught, caught.output
+        assert found == output, f"the package writes {rows} and {points} otherwise"
+        assert (refused and (refused.place, refused.text, refused.done)) == fault, f"the package refuses {rows} and {points} otherwise: {refused}"
+
+    def shapes(self, chance, limits):
+        """Mappings of the geo interface are packed as the second implementation packs them."""
+        precision = chance.randint(-8, 7)
+        trees = [with_precision(some_tree(chance), precision) for _ in range(chance.choice((0, 1, 2, 3)))]
+        arrays = list(map(arrays_of, trees))
+        rows, points = ([part for pair in arrays for part in pair[column]] for column in (0, 1))
+        geometries, fault = named_by(rows, points, limits[0])
+        output = b"".join(blob.canonical(geometry, True) for geometry in geometries)
+        refused = None
+        try:
+            found = polytwkb.pack_geometries(list(map(mapping_of, trees)), precision, limits=polytwkb.Limits(*limits))
+        except polytwkb.Refused as caught:
+            refused, found = caught, caught.output
+        wanted = fault and (len(geometries), fault[1], len(geometries))
+        assert found == output, f"the package packs {trees} otherwise, limits {limits}"
+        assert (refused and (refused.place, refused.text, refused.done)) == wanted, f"the package refuses {trees} otherwise: {refused}"
+        self.met("shapes " + (fault[1] if fault else "ok"))
+
     def check(self, chance, limits):
         """All refusals of a table are those of its geometries, each by itself."""
         text = b"\n".join(some_table(chance) for _ in range(chance.choice((1, 1, 2, 3))))
@@ -161,7 +228,7 @@ class Comparing:
     def compare(self, seed, number):
         chance = random.Random(f"{seed}:{number}")
         limits = some_limits(chance)
-        chance.choice((self.read, self.read, self.read, self.read, self.check))(chance, limits)
+        chance.choice((self.read, self.read, self.write, self.write, self.shapes, self.check))(chance, limits)
 
 
 def main():

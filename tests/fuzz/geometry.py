@@ -1,5 +1,6 @@
 """Geometries as whole trees with absolute points, and what is asked of a whole tree."""
 from collections import namedtuple
+from fractions import Fraction
 from itertools import chain
 
 # members: points as (x, y) for point, linestring and multipoint; lists of points for polygon and multilinestring;
@@ -38,6 +39,34 @@ def precisions_of(geometry):
     if geometry.kind != "collection":
         return {geometry.precision}
     return {geometry.precision}.union(*(precisions_of(member) for member in geometry.members))
+
+
+NAMES = dict(zip(KINDS, ("Point", "LineString", "Polygon", "MultiPoint", "MultiLineString", "MultiPolygon", "GeometryCollection")))
+
+
+def with_precision(geometry, precision):
+    """The geometry with this precision, and its members too."""
+    members = geometry.members
+    if geometry.kind == "collection":
+        members = [with_precision(member, precision) for member in members]
+    return geometry._replace(precision=precision, members=members)
+
+
+def in_degrees(members, precision):
+    """Points, or lists of them, with exact coordinates."""
+    if isinstance(members, tuple):
+        return tuple(number / Fraction(10) ** precision for number in members)
+    return [in_degrees(member, precision) for member in members]
+
+
+def mapping_of(geometry):
+    """The mapping of the geo interface, as GeoJSON has it, with exact coordinates."""
+    kind, precision, ids, members = geometry
+    mapping = {"type": NAMES[kind], **({"ids": ids} if ids else {})}
+    if kind == "collection":
+        return {**mapping, "geometries": list(map(mapping_of, members))}
+    coordinates = in_degrees(members, precision)
+    return {**mapping, "coordinates": (coordinates or [()])[0] if kind == "point" else coordinates}
 
 
 def differences(points):
