@@ -85,19 +85,21 @@ out/static/polytwkb: $(SOURCES) packaging/static.sh
 # 64-bit ARM, by Debian's gcc-aarch64-linux-gnu and libc6-dev-arm64-cross.
 ARM64_CC := aarch64-linux-gnu-gcc
 
-arm64: out/arm64/polytwkb out/arm64/static/polytwkb
+ARM64_SOURCES := $(SOURCES) $(wildcard packaging/arm64/*.sh packaging/arm64/shims/*)
+
+arm64: out/arm64/libpolytwkb.a out/arm64/polytwkb out/arm64/static/polytwkb
 	@$(MAKE) -s out/arm64/libpolytwkb.so CC=$(ARM64_CC)
 
-out/arm64/polytwkb out/arm64/libpolytwkb.a &: $(SOURCES) $(wildcard packaging/arm64/*.sh packaging/arm64/shims/*)
-	@packaging/arm64/build.sh out/arm64 twkb_c polytwkb
+out/arm64/libpolytwkb.a: $(ARM64_SOURCES)
+	@packaging/arm64/build.sh out/arm64 twkb_c
+
+# vectors reads tests/vectors, for the tests alone.
+out/arm64/polytwkb out/arm64/vectors: $(ARM64_SOURCES)
+	@packaging/arm64/build.sh out/arm64 $(@F)
 
 out/arm64/static/polytwkb: out/arm64/polytwkb
 	mkdir -p out/arm64/static
 	$(ARM64_CC) -static-pie -o $@ out/arm64/polytwkb.o out/arm64/shims.a
-
-# The program that reads tests/vectors, for the tests alone.
-out/arm64/vectors: $(SOURCES) $(wildcard packaging/arm64/*.sh packaging/arm64/shims/*)
-	@packaging/arm64/build.sh out/arm64 vectors
 
 arm64-test: build lib arm64 out/arm64/vectors
 	scripts/arm64_test.sh

@@ -11,16 +11,23 @@ file=$(realpath -m "$1")
 kit=$(dirname "$(rt doc)")
 work=$(mktemp -d)
 trap 'cleared "$work"' EXIT
-line=$(grep '^polytwkb:' "$repository/crates.txt")
-# shellcheck disable=SC2086 # names of crates
-libraries "$work/copy" ${line#*:}
-tar -c -C "$repository" --exclude=out --exclude=must-fail crates/polytwkb | tar -x -C "$work/copy"
-echo "$line" >> "$work/copy/crates.txt"
-# without a word the program ends with status 2, which says that it was built
-status=0
-over "$work/copy" polytwkb run < /dev/null || status=$?
-object=$work/copy/crates/polytwkb/out/polytwkb.o
-[ "$status" -eq 2 ] && [ -s "$object" ] || { cat "$work/copy.log"; exit 1; }
+
+# What the gate linked the program of, if it has just built it; else it is built as there, and `object` names it.
+object=${PROVED:-/nowhere}/crates/polytwkb/out/polytwkb.o
+built() {
+  local line status=0
+  line=$(grep '^polytwkb:' "$repository/crates.txt")
+  # shellcheck disable=SC2086 # names of crates
+  libraries "$work/copy" ${line#*:}
+  tar -c -C "$repository" --exclude=out --exclude=must-fail crates/polytwkb | tar -x -C "$work/copy"
+  echo "$line" >> "$work/copy/crates.txt"
+  # without a word the program ends with status 2, which says that it was built
+  over "$work/copy" polytwkb run < /dev/null || status=$?
+  object=$work/copy/crates/polytwkb/out/polytwkb.o
+  [ "$status" -eq 2 ] && [ -s "$object" ] || { cat "$work/copy.log"; exit 1; }
+}
+
+[ -s "$object" ] || built
 mkdir -p "$(dirname "$file")"
 cc -static-pie -o "$file" "$object" "$kit/c/libos_c.a" "$kit/c/liblibc_c.a"
 echo "$1 is built"

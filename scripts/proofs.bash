@@ -102,10 +102,21 @@ take() {
   done
 }
 
-# over COPY CRATE VERB: runs `rt lib` or `rt run` of one more crate over these libraries. If it fails, all its
-# output is shown.
+# over COPY CRATE VERB: runs `rt lib` or `rt run` of one more crate over these libraries. What it checks stays in out/checked, so
+# that the next build of the crate, as for another kind of machine, checks only what differs. If it fails, all its output is shown.
 over() {
-  (cd "$1/crates/$2" && "$repository/scripts/over_proved.py" "$3") > "$1.log" 2>&1 || { local status=$?; [ "$3" = run ] || cat "$1.log"; return $status; }
+  local status=0 kept=$repository/out/checked/$2 own=$1/crates/$2/out
+  mkdir -p "$own"
+  # renamed first, so that no two builds take the same
+  if mv "$kept" "$kept.$$" 2> /dev/null; then mv "$kept.$$" "$own/incremental"; fi
+  (cd "$1/crates/$2" && "$repository/scripts/over_proved.py" "$3") > "$1.log" 2>&1 || status=$?
+  if [ -d "$own/incremental" ]; then
+    rm -rf "$kept"
+    mkdir -p "$(dirname "$kept")"
+    mv "$own/incremental" "$kept.$$" && mv -T "$kept.$$" "$kept" 2> /dev/null || rm -rf "$kept.$$"
+  fi
+  [ $status -eq 0 ] || [ "$3" = run ] || cat "$1.log"
+  return $status
 }
 
 # cleared FOLDER: ends the processes that the script still runs, and removes its folder.

@@ -17,6 +17,7 @@ from geojson import features_of
 from polylines import text_of, units_of
 
 PARTS = {"Polygon": "Ring", "MultiPoint": "Point", "MultiLineString": "LineString", "MultiPolygon": "Polygon"}
+KINDS = ("Point", "LineString", *PARTS)
 LINE_OF = json.JSONEncoder(separators=(",", ":")).encode
 WRONG = (TypeError, ValueError, ArithmeticError, LookupError)
 
@@ -66,7 +67,7 @@ class Rows:
     def shape(self, depth, shape):
         """Writes the rows of a geometry of GeoJSON."""
         kind = shape.get("type") if type(shape) is dict else None
-        if kind in ("Point", "LineString", *PARTS):
+        if kind in KINDS:
             self.part(depth, kind, shape.get("coordinates"), self.precision)
         elif kind == "GeometryCollection" and type(shape.get("geometries")) is list:
             self.write(f"{depth},collection,,{self.precision},\n")

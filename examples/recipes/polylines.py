@@ -8,6 +8,11 @@ NUMBER = re.compile("[_-~]*[?-^]")
 # A float of fewer units than this is off by less than 10^-5, which counts only near a half.
 LARGE = 2.0**32
 EXACT = Context(prec=100)
+# The characters of five bits of a number, least first: those that go on, and those that end it.
+GO_ON, END = ([chr(63 + more + bits) for bits in range(32)] for more in (32, 0))
+# Three characters that go on, and the texts of numbers of up to three.
+HEADS = [a + b + c for c in GO_ON for b in GO_ON for a in GO_ON]
+TAILS = END + [a + b for b in END[1:] for a in GO_ON] + [a + b + c for c in END[1:] for b in GO_ON for a in GO_ON]
 
 
 class Texts(dict):
@@ -15,10 +20,10 @@ class Texts(dict):
 
     def __missing__(self, step):
         form, text = 2 * step if step >= 0 else -2 * step - 1, ""
-        while form >= 32:
-            text += chr(form % 32 + 95)
-            form //= 32
-        return text + chr(form + 63)
+        while form >= len(TAILS):
+            text += HEADS[form % len(HEADS)]
+            form //= len(HEADS)
+        return text + TAILS[form]
 
 
 class Steps(dict):
@@ -31,10 +36,8 @@ class Steps(dict):
         return -(form + 1) // 2 if form % 2 else form // 2
 
 
-TEXTS, STEPS = Texts(), Steps()
-for step in range(-(1 << 14), 1 << 14):
-    TEXTS[step] = TEXTS[step]
-STEPS.update((text, step) for step, text in TEXTS.items())
+STEPS = Steps((text, -(form + 1) // 2 if form % 2 else form // 2) for form, text in enumerate(TAILS))
+TEXTS = Texts((step, text) for text, step in STEPS.items())
 
 
 def exact_units(number, precision):
@@ -60,7 +63,16 @@ def units_of(numbers, precision):
 
 def text_of(points, precision):
     """The encoded polyline of points (x, y) in degrees, each number rounded as by units_of."""
-    return text_of_units(units_of([number for x, y in points for number in (y, x)], precision))
+    scale = 10.0**precision
+    units = [
+        unit
+        for x, y in points
+        for about in (y * scale, x * scale)
+        if -0.49999 < (unit := round(about)) - about < 0.49999 and -LARGE < about < LARGE
+    ]
+    if len(units) < 2 * len(points):
+        units = units_of([number for x, y in points for number in (y, x)], precision)
+    return text_of_units(units)
 
 
 def text_of_units(numbers):

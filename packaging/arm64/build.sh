@@ -64,7 +64,8 @@ program() {
 tools "$work/tools"
 shims
 mkdir -p "$folder"
-install -m 644 "$work/shims.a" "$folder"
+# whole at once, since other crates may be built beside these
+install -m 644 "$work/shims.a" "$folder/shims.a.$$" && mv "$folder/shims.a.$$" "$folder/shims.a"
 # the crates that these use
 for crate in "${@:2}"; do below+=" $(sed -n "s/^$crate\( staticlib\)\?: *//p" "$repository/crates.txt")"; done
 # shellcheck disable=SC2086 # names of crates

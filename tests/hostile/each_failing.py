@@ -1,14 +1,15 @@
 #!/usr/bin/env python3
 """Runs the built command with each growth, each read and each write failing in turn, and compares every answer.
 
-each_failing.py PROGRAM REFUSE.SO
+each_failing.py PROGRAM REFUSE.SO [few]
 
-What the command is given, and what it must answer, stands in rows.py.
+What the command is given, and what it must answer, stands in rows.py. The word few is for a program that starts slowly:
+the rows that reach every place, and of calls that move one byte each fifteenth.
 """
 import sys
 
 from refusing import Refusing
-from rows import HEADER, ROWS, whole_before
+from rows import FEW, HEADER, ROWS, whole_before
 
 OUT_OF_MEMORY = 4, b"polytwkb: out of memory\n"
 READ_FAILED = 3, b"polytwkb: read failed\n"
@@ -36,11 +37,11 @@ class Comparing:
 
     def in_turn(self, row, kind, behind, beside, is_right):
         """How many calls of a kind were refused; the run behind them must answer as if nothing had been."""
-        whole, last = (row.status, row.output, row.errors), 0
+        whole, count = (row.status, row.output, row.errors), 0
         for number, refused, answer in self.refusing.in_turn(row.words, row.source, kind, behind, beside):
             self.look(row.name, refused, answer, answer == whole if number is None else is_right(number, *answer))
-            last = number or last
-        return last
+            count += number is not None
+        return count
 
     def undisturbed(self, row):
         for refused in ("", "short_read=1+", "short_write=1+ short_errors=1+", "short_read=1+ short_write=1+"):
@@ -99,8 +100,6 @@ class Comparing:
             self.look(words, refused, answer, answer == wanted)
         for number, refused, answer in self.refusing.in_turn(words, HEADER, "growth"):
             self.look(words, refused, answer, answer in (whole, (4, b"", b"polytwkb: out of memory\n")))
-            last = number or 0
-        return last
 
 
 def compared(comparing, row):
@@ -117,8 +116,9 @@ def compared(comparing, row):
 
 
 def main():
-    comparing = Comparing(Refusing(*sys.argv[1:3]))
-    for row in ROWS:
+    is_few = sys.argv[3:] == ["few"]
+    comparing = Comparing(Refusing(*sys.argv[1:3], stride=15 if is_few else 1))
+    for row in (row for row in ROWS if not is_few or row.name in FEW):
         before, counts = len(comparing.wrong), compared(comparing, row)
         print(f"{'ok  ' if len(comparing.wrong) == before else 'FAIL'}  {row.name}: {counts}", flush=True)
     for words, status in TEXTS:

@@ -14,7 +14,8 @@ MOST_CALLS = 100000
 class Refusing:
     """A program, and the library that lets its calls fail."""
 
-    def __init__(self, program, library):
+    def __init__(self, program, library, stride=1):
+        self.stride = stride
         self.command = Command(os.path.abspath(program))
         self.library = os.path.abspath(library)
         self.counts = os.memfd_create("counts")
@@ -31,8 +32,9 @@ class Refusing:
     def in_turn(self, words, source, kind, behind="", beside=""):
         """Call after call of a kind fails: the number of the call, what was refused, the answer, until none fails.
 
-        `behind` is "+" where all calls behind it fail too. The last number is None: no call of the kind failed."""
-        for number in range(1, MOST_CALLS):
+        `behind` is "+" where all calls behind it fail too, and `beside` what all calls are held to, such as one byte: of so
+        many only each of a stride fails. The last number is None: no call of the kind failed."""
+        for number in range(1, MOST_CALLS, self.stride if beside else 1):
             refused = f"{kind}={number}{behind} {beside}".strip()
             answer, counts = self.run(words, source, refused)
             was_made = counts[kind] >= number

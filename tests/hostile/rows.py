@@ -38,6 +38,15 @@ ROWS = [
     Row("show nine collections", ["show", "--max-nest", "8"], NINE_BLOB, NINE_LINES, b"", 0, {0, len(NINE_LINES)}),
 ]
 
+# Rows that with the texts of help reach every place of the program from which any row grows, reads or writes.
+FEW = [
+    "pack a collection",
+    "pack a table whose last row is refused",
+    "unpack a stream that is cut",
+    "unpack nine collections",
+    "show nine collections",
+]
+
 
 def whole_before(row, count):
     """How long the output is of what stands whole in the first `count` bytes of a stream."""
