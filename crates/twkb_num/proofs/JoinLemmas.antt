@@ -94,12 +94,12 @@ lowest_word radix square x =
 -- ---- words of bytes
 
 -- the word of the first four bytes
-first_word : (a b c d : ℕ) (us : List ℕ) → a < 256 → b < 256 → c < 256 → d < 256
+pub first_word : (a b c d : ℕ) (us : List ℕ) → a < 256 → b < 256 → c < 256 → d < 256
     → number_l 256 (a ∷ b ∷ c ∷ d ∷ us) % 4294967296 ≡ word_of a b c d
 first_word a b c d us p q r s = omega arith
 
 -- the words after the first four bytes
-later_words : (a b c d : ℕ) (us : List ℕ) → a < 256 → b < 256 → c < 256 → d < 256
+pub later_words : (a b c d : ℕ) (us : List ℕ) → a < 256 → b < 256 → c < 256 → d < 256
     → number_l 256 (a ∷ b ∷ c ∷ d ∷ us) / 4294967296 ≡ number_l 256 us
 later_words a b c d us p q r s = omega arith
 

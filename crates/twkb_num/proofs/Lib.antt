@@ -2,6 +2,7 @@
 pub mod AnswerLemmas
 pub mod BlockLemmas
 pub mod BufferLemmas
+pub mod ByteLemmas
 pub mod DigitLemmas
 pub mod FoundLemmas
 pub mod FourLemmas
@@ -23,5 +24,6 @@ pub mod TwoLemmas
 pub mod UnzigzagLemmas
 pub mod VarintLemmas
 pub mod VarintOutLemmas
+pub mod WholeTextLemmas
 pub mod WordLemmas
 pub mod ZigzagLemmas

@@ -124,7 +124,7 @@ fn four_by(bytes: &[u8], ends: u64, alphabet: Alphabet) -> Option<Four>
 
 // Joins the groups of each four bytes into a number: first in pairs, then the pairs.
 #[inline(always)]
-fn joined(units: u8x16, radix: u8) -> u32x4
+pub(crate) fn joined(units: u8x16, radix: u8) -> u32x4
     requires alphabet { (radix ≡ 128) ⊎ (radix ≡ 32) }
     ensures { result ≡ map (joined_groups radix) (digits_l (2 ^ 32) 4 (number_l 256 units)) }
 {

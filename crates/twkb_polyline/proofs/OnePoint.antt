@@ -1,6 +1,8 @@
 -- Texts that are the polyline of one point, and texts that are not.
-use Rattle.std.proofs.Common.{◌≡◌, ℕ, ◌<◌, ◌≤◌, ◌-ℤ◌, List, [], ◌∷◌, ◌++◌, length, refl, ap, arith, length-append}
-use Rattle.twkb_points.specs.Point.{Point, IsInRange, origin}
+use Rattle.std.proofs.Common.{◌≡◌, ℕ, ℤ, ◌<◌, ◌≤◌, ◌-ℤ◌, List, [], ◌∷◌, ◌++◌, length, refl, sym, ◌∙◌, ap, arith}
+use Rattle.std.proofs.Common.{append-nil, length-append}
+use Rattle.std.proofs.lemmas.List.{drop_all}
+use Rattle.twkb_points.specs.Point.{Point, IsInRange, origin, moved_by}
 use Rattle.twkb_polyline.specs.Polyline.{number_text, DecodesTo}
 use Rattle.twkb_polyline.specs.Fault.{IsPointFault}
 use Rattle.twkb_polyline.specs.Reading.{IsPointAt, IsRefusedFrom}
@@ -10,6 +12,7 @@ use Rattle.twkb_polyline.specs.declared.fault.PolyReason.TheVariants.{TooMany}
 use Rattle.twkb_polyline.proofs.DecodeLemmas.{HasRead, has_read_none, has_read_more, has_read_all}
 use Rattle.twkb_polyline.proofs.DecodeLemmas.{one_too_many, read_count, text_refused}
 use Rattle.twkb_polyline.proofs.OneFault.{behind_none, number_text_length, text_fault_none}
+use Rattle.twkb_polyline.proofs.PointLemmas.{back}
 
 nothing_read : (text : List ℕ) → length (has_read_none text 1 []).ps ≡ 0
 nothing_read text = omega (arith, read_count text 1 0 origin [] [] (has_read_none text 1 []))
@@ -24,6 +27,18 @@ pub one_point : (text : List ℕ) (q : Point) (end : ℕ) → IsPointAt text 0 o
     → length text ≤ end → DecodesTo text 1 (q ∷ [])
 one_point text q end point inside done = behind_none text 1 [] (q ∷ []) refl
     (has_read_all text 1 end q [] (q ∷ []) (first_read text q end point inside) done)
+
+-- two numbers that are a whole text are a point
+pub point_of_text : (text : List ℕ) (dx dy : ℤ) (p q : Point) → text ≡ number_text dy ++ number_text dx
+    → q ≡ moved_by p dx dy → IsPointAt text 0 p q (length text)
+point_of_text text dx dy p q spelled to_q = record {
+  split =
+      rw (back q.x p.x dx (ap (λ (s : Point). s.x) to_q), back q.y p.y dy (ap (λ (s : Point). s.y) to_q))
+      (spelled ∙ ap (λ t. number_text dy ++ t) (sym (append-nil (number_text dx))
+      ∙ ap (λ t. number_text dx ++ t) (sym (drop_all (length text) text (omega arith)))));
+  further = omega (arith, ap length spelled, length-append (number_text dy) (number_text dx), number_text_length dy);
+  within = omega arith;
+}
 
 -- an empty text is not the polyline of one point
 pub one_of_none : (text : List ℕ) → length text ≡ 0 → (p : Point) → DecodesTo text 1 (p ∷ []) → ⊥

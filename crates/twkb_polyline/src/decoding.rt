@@ -8,7 +8,7 @@ ghost use Rattle.twkb_polyline.specs.Reading.{HasPutOn, IsNumberAt, IsPointAt, I
 
 use crate::fault::{PolyFault, PolyReason};
 use crate::pairs::{eight_points, two_points};
-use crate::whole::whole_point;
+use crate::whole::{only_point, whole_point};
 use std::alloc::{AllocError, Global};
 use twkb_num::{BLOCK, Five, Partial, Step, character_ends, unzigzag};
 use twkb_points::{Cursor, PointTail, Pt};
@@ -49,6 +49,19 @@ pub fn decode_into<L: PointTail>(text: &[u8], max: u32, points: &mut L) -> Resul
 /// Decodes a polyline of exactly one point; `None` for any other text. Takes no memory.
 #[inline(always)]
 pub fn decode_one(text: &[u8]) -> Option<Pt>
+    ensures point { IfSome result (λ point. DecodesTo text.now 1 (point ∷ [])) }
+    ensures no_other { IfNone result ((point : Point) → ¬ DecodesTo text.now 1 (point ∷ [])) }
+{
+    if let Some(point) = only_point(text) {
+        return Some(point);
+    }
+    one_by_one(text)
+}
+
+// Decodes a polyline of exactly one point, number by number. Out of line: most texts of one point
+// have at least eight characters.
+#[inline(never)]
+fn one_by_one(text: &[u8]) -> Option<Pt>
     ensures point { IfSome result (λ point. DecodesTo text.now 1 (point ∷ [])) }
     ensures no_other { IfNone result ((point : Point) → ¬ DecodesTo text.now 1 (point ∷ [])) }
 {

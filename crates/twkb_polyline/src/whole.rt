@@ -1,10 +1,10 @@
-//! Fast path: points whose numbers are complete in the text.
+//! Fast paths: points whose numbers are complete in the text.
 ghost use Rattle.std.specs.Prelude.{◌≡◌, ◌+◌, ◌<◌, true, false, Some, IfSome, IfNone, get_or, length};
 ghost use Rattle.twkb_num.specs.Alphabet.{five_group};
-ghost use Rattle.twkb_points.specs.Point.{IsInRange};
+ghost use Rattle.twkb_points.specs.Point.{IsInRange, origin};
 ghost use Rattle.twkb_polyline.specs.Reading.{IsNumberAt, IsPointAt, IsBegun};
 
-use twkb_num::unzigzag;
+use twkb_num::{two_in_text, unzigzag};
 use twkb_points::{Cursor, Pt};
 
 // The number of bits in a group.
@@ -26,6 +26,17 @@ pub(crate) fn whole_point(text: &[u8], start: usize, cursor: &mut Cursor) -> Opt
     let (dx, end) = whole_number(text, middle)?;
     let point = cursor.add(dx, dy)?;
     Some((point, end))
+}
+
+// Reads the point whose two numbers are the whole text. `None` proves nothing about the text.
+#[inline(always)]
+pub(crate) fn only_point(text: &[u8]) -> Option<Pt>
+    ensures read { IfSome result (λ point. IsPointAt text.now 0 origin point (length text.now)) }
+    ensures in_range { IfSome result IsInRange }
+{
+    let (dy, dx) = two_in_text(text)?;
+    let point = Cursor::origin().add(dx, dy)?;
+    Some(point)
 }
 
 // The group of a character that says that more follow; `None` for any other.

@@ -1,0 +1,105 @@
+//! Two numbers that are a whole text, read at once.
+ghost use Rattle.std.specs.Prelude.{IfSome, ◌≡◌, ◌+◌, ◌*◌, ◌/◌, ◌%◌, ◌^◌, ◌≤◌, ◌<◌, ◌++◌, length, Bool, List};
+ghost use lib.Lanes.{mask_l};
+ghost use Rattle.twkb_num.specs.Alphabet.{five_unit};
+ghost use Rattle.twkb_num.specs.Block.{units_in};
+ghost use Rattle.twkb_num.specs.Spelling.{shortest};
+ghost use Rattle.twkb_num.specs.WholeText.{both_ends, eight_groups, AreMarked, AreTwoRuns};
+ghost use Rattle.twkb_num.specs.Zigzag.{zigzag_of};
+
+use crate::alphabet::POLYLINES;
+use crate::four::joined;
+use crate::signed::unzigzag;
+use crate::word::eight_bytes;
+use std::simd::{u8x16, u64x2};
+
+// The number of characters in a word.
+const WORD: usize = 8;
+
+/// Fast path: reads the two signed numbers that are a whole text of a polyline, if each has a
+/// shortest spelling of at most eight characters and neither is 0 (Encoded Polyline Algorithm
+/// Format). `None` proves nothing about the text. Takes no memory.
+#[inline(always)]
+pub fn two_in_text(text: &[u8]) -> Option<(i64, i64)>
+    ensures { IfSome result (λ r. text.now
+        ≡ shortest five_unit 32 (zigzag_of r.0) ++ shortest five_unit 32 (zigzag_of r.1)) }
+{
+    let count = text.len();
+    if count < WORD || 2 * WORD < count {
+        return None;
+    }
+    let units = end_units(text);
+    let ends = ends_of(units)?;
+    let used = first_len(ends, count as u32)?;
+    let rest = count as u32 - used;
+    let [front, back] = u64x2::from_le_bytes(units).to_array();
+    let (first, second) = numbers(
+        front & (u64::MAX >> (64 - 8 * used)),
+        back >> (64 - 8 * rest),
+    );
+    Some((unzigzag(first), unzigzag(second)))
+}
+
+// The units of the first eight characters, and then those of the last eight.
+#[inline(always)]
+fn end_units(text: &[u8]) -> u8x16
+    requires { 8 ≤ length text.now }
+    ensures { result ≡ units_in 63 (both_ends text.now) }
+{
+    let front = eight_bytes(text);
+    let back = eight_bytes(&text[text.len() - WORD..]);
+    u64x2::from_array([front, back]).to_le_bytes() - u8x16::splat(POLYLINES.base)
+}
+
+// A bit for each unit that ends a number; `None` if a unit is 0, which pads a number unless it is
+// one alone, or outside the alphabet.
+#[inline(always)]
+fn ends_of(units: u8x16) -> Option<u64>
+    ensures { IfSome result (AreMarked units) }
+{
+    let outside = (units - u8x16::splat(1))
+        .simd_gt(u8x16::splat(62))
+        .to_bitmask();
+    if outside != 0 {
+        return None;
+    }
+    Some(units.simd_lt(u8x16::splat(POLYLINES.radix)).to_bitmask())
+}
+
+// The number of characters of the first number of a text of `count`, by a bit for each of the first
+// and the last eight that ends a number; `None` if the text is not two numbers of at most eight.
+#[inline(always)]
+fn first_len(ends: u64, count: u32) -> Option<u32>
+    requires long { 8 ≤ count }
+    requires short { count ≤ 16 }
+    ensures some { IfSome result (λ used. 1 ≤ used) }
+    ensures first_short { IfSome result (λ used. used ≤ 8) }
+    ensures within { IfSome result (λ used. used < count) }
+    ensures second_short { IfSome result (λ used. count ≤ used + 8) }
+    ensures runs { IfSome result (λ used. (marks : List Bool) → length marks ≡ 16 → ends ≡ mask_l marks
+        → AreTwoRuns marks used count) }
+{
+    let used = ends.trailing_zeros() + 1;
+    if 8 < used || count <= used || used + 8 < count {
+        return None;
+    }
+    let rest = count - used;
+    if ends >> (16 - rest) != 1 << (rest - 1) {
+        return None;
+    }
+    Some(used)
+}
+
+// The numbers whose groups are in the bytes of two words, low group first.
+#[inline(always)]
+fn numbers(first: u64, second: u64) -> (u64, u64)
+    ensures first { result.0 ≡ eight_groups first }
+    ensures second { result.1 ≡ eight_groups second }
+{
+    let units = u64x2::from_array([first, second]).to_le_bytes();
+    let [low, high, next_low, next_high] = joined(units, POLYLINES.radix).to_array();
+    (
+        u64::from(low) + (u64::from(high) << 20),
+        u64::from(next_low) + (u64::from(next_high) << 20),
+    )
+}
