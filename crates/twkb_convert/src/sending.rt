@@ -72,6 +72,7 @@ fn send_all<R: Read, W: Write>(
 }
 
 // Sends the next geometry, and returns whether there was one.
+#[inline(always)]
 fn send_next<R: Read, W: Write>(
     table: &mut TableReader<'_, R>,
     flat: &mut Flat,

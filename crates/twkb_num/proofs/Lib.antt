@@ -2,6 +2,7 @@
 pub mod AnswerLemmas
 pub mod BlockLemmas
 pub mod BufferLemmas
+pub mod ByteLemmas
 pub mod DigitLemmas
 pub mod FoundLemmas
 pub mod FourLemmas

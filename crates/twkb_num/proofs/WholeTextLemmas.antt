@@ -30,37 +30,8 @@ use Rattle.twkb_num.proofs.FourLemmas.{marks_of, number_spelled}
 use Rattle.twkb_num.proofs.JoinLemmas.{first_word, later_words}
 use Rattle.twkb_num.proofs.LaneLemmas.{wrapped_sub}
 use Rattle.twkb_num.proofs.MarkLemmas.{mask_l-drop}
+use Rattle.twkb_num.proofs.ByteLemmas.{number_l-append, number_l-drop, number_l-take, later_below}
 use Rattle.twkb_num.proofs.WordLemmas.{word_of, groups_are, digits-number}
-
--- ---- the bytes of a word
-
--- the number of two lists of bytes: the second counts from its place on
-pub number_l-append : (p : ℕ) (xs ys : List ℕ) → number_l p (xs ++ ys) ≡ number_l p xs + p ^ length xs * number_l p ys
-number_l-append p [] ys = rw (pow-zero p) (omega arith)
-number_l-append p (x ∷ xs) ys = rw (number_l-append p xs ys, pow-suc p (length xs)) (omega arith)
-
--- a quotient by a power drops the low bytes
-pub number_l-drop : (p k : ℕ) (xs : List ℕ) → Each1 (λ x. x < p) xs → number_l p xs / p ^ k ≡ number_l p (drop k xs)
-number_l-drop p zero xs below = rw (pow-zero p) (omega arith)
-number_l-drop p (suc k) [] below = zero-div (p ^ suc k)
-number_l-drop p (suc k) (x ∷ xs) below =
-    let all = number_l p (x ∷ xs) in
-    ap (λ n. all / n) (pow-suc p k ∙ mul_comm (p ^ k) p) ∙ sym (div-div-eq-div-mul all p (p ^ k))
-    ∙ ap (λ n. n / p ^ k) (high_digits p x (number_l p xs) below.0) ∙ number_l-drop p k xs below.1
-
--- a remainder by a power keeps the low bytes
-pub number_l-take : (p k : ℕ) (xs : List ℕ) → Each1 (λ x. x < p) xs → number_l p xs % p ^ k ≡ number_l p (take k xs)
-number_l-take p zero xs below = rw (pow-zero p) (omega arith)
-number_l-take p (suc k) [] below = zero-mod (p ^ suc k)
-number_l-take p (suc k) (x ∷ xs) below =
-    let all = number_l p (x ∷ xs) in
-    let some : 0 < p = omega (arith, below.0) in
-    let power : 0 < p ^ k = omega (arith, one-le-pow k p some) in
-    ap (λ n. all % n) (pow-suc p k) ∙ mod-mul all {m = p ^ k} {c = p} power some
-    ∙ ap (λ n. n % p ^ k * p + all % p) (high_digits p x (number_l p xs) below.0)
-    ∙ ap (λ n. n * p + all % p) (number_l-take p k xs below.1)
-    ∙ ap (λ n. number_l p (take k xs) * p + n) (low_digit p x (number_l p xs) below.0)
-    ∙ omega (arith, mul_comm p (number_l p (take k xs)))
 
 -- ---- the groups of a word
 
@@ -118,26 +89,10 @@ groups_found us more fit long few = absurd (omega arith)
 
 -- ---- a text by its two ends
 
--- the bytes of a text
-pub bytes_of : (text : List ℕ) → ((k : ℕ) → Fits w8 (get_or text k 0)) → Each1 (λ b. b < 256) text
-bytes_of text fit = Each1-from_get_or (λ b. b < 256) text 0 (λ k _. (fit k).fits)
-
--- the first eight bytes as a word have 64 bits
-pub word_is : (bytes : List ℕ) → ((k : ℕ) → Fits w8 (get_or bytes k 0))
-    → number_l 256 (take 8 bytes) % 256 ^ 8 ≡ number_l 256 (take 8 bytes)
-word_is bytes fit = number_l-take 256 8 (take 8 bytes) (Each1-chunk (λ b. b < 256) 0 8 bytes (bytes_of bytes fit))
-    ∙ ap (number_l 256) (take-take 8 8 bytes (omega arith))
-
 -- two lists of bytes
 both_below : (xs ys : List ℕ) → Each1 (λ b. b < 256) xs → Each1 (λ b. b < 256) ys → Each1 (λ b. b < 256) (xs ++ ys)
 both_below [] ys p q = q
 both_below (x ∷ xs) ys p q = (p.0, both_below xs ys p.1 q)
-
--- bytes after a place
-later_below : (k : ℕ) (xs : List ℕ) → Each1 (λ b. b < 256) xs → Each1 (λ b. b < 256) (drop k xs)
-later_below zero xs p = p
-later_below (suc k) [] p = p
-later_below (suc k) (x ∷ xs) p = later_below k xs p.1
 
 module _ (text : List ℕ) (long : 8 ≤ length text) where
   front_long : length (take 8 text) ≡ 8

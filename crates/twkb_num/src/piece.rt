@@ -120,6 +120,18 @@ impl<const ROOM: usize> Piece<ROOM> {
         self.push_eight(four.units.extract::<8, 8>(), four.high);
     }
 
+    // Appends the shortest varints of two numbers, with no branch on their lengths.
+    #[inline(always)]
+    pub(crate) fn push_pair(&mut self, first: u32, second: u32)
+        requires first_small { first < 2 ^ 28 }
+        requires second_small { second < 2 ^ 28 }
+        requires room { length self.old + 8 ≤ ROOM }
+        ensures { self.new ≡ self.old ++ (varint_of first ++ varint_of second) }
+    {
+        let four = as_varints(first, second, 0, 0);
+        self.push_eight(four.units.extract::<0, 8>(), four.low);
+    }
+
     /// Appends the characters of four numbers of a polyline, with no branch on their lengths
     /// (Encoded Polyline Algorithm Format). Takes no memory.
     #[inline(always)]

@@ -87,6 +87,22 @@ impl<const ROOM: usize> Piece<ROOM> {
         }
     }
 
+    /// Appends two numbers as their shortest varints (TWKB specification; LEB128). If both have at
+    /// most four bytes, there is no branch on their lengths. Takes no memory.
+    #[inline(always)]
+    #[tactic(auto, using(std::proofs::lemmas::Nat::le_or_l, std::proofs::lemmas::Nat::le_or_r))]
+    pub fn push_two_varints(&mut self, first: u64, second: u64)
+        requires { length self.old + 20 ≤ ROOM }
+        ensures { self.new ≡ self.old ++ (varint_of first ++ varint_of second) }
+    {
+        if first | second < FIVE_BYTES {
+            self.push_pair(first as u32, second as u32);
+            return;
+        }
+        self.push_varint(first);
+        self.push_varint(second);
+    }
+
     /// Appends four numbers as their shortest varints (TWKB specification; LEB128). If all have at
     /// most four bytes, as in nearly all tracks, there is no branch on their lengths. Takes no
     /// memory.

@@ -1,6 +1,6 @@
 //! Two numbers that are a whole text, read at once.
-ghost use Rattle.std.specs.Prelude.{IfSome, ◌≡◌, ◌+◌, ◌*◌, ◌/◌, ◌%◌, ◌^◌, ◌≤◌, ◌<◌, ◌++◌, length, take, Bool, List};
-ghost use lib.Lanes.{mask_l, number_l};
+ghost use Rattle.std.specs.Prelude.{IfSome, ◌≡◌, ◌+◌, ◌*◌, ◌/◌, ◌%◌, ◌^◌, ◌≤◌, ◌<◌, ◌++◌, length, Bool, List};
+ghost use lib.Lanes.{mask_l};
 ghost use Rattle.twkb_num.specs.Alphabet.{five_unit};
 ghost use Rattle.twkb_num.specs.Block.{units_in};
 ghost use Rattle.twkb_num.specs.Spelling.{shortest};
@@ -10,7 +10,8 @@ ghost use Rattle.twkb_num.specs.Zigzag.{zigzag_of};
 use crate::alphabet::POLYLINES;
 use crate::four::joined;
 use crate::signed::unzigzag;
-use std::simd::{u8x8, u8x16, u64x1, u64x2};
+use crate::word::eight_bytes;
+use std::simd::{u8x16, u64x2};
 
 // The number of characters in a word.
 const WORD: usize = 8;
@@ -20,7 +21,8 @@ const WORD: usize = 8;
 /// Format). `None` proves nothing about the text. Takes no memory.
 #[inline(always)]
 pub fn two_in_text(text: &[u8]) -> Option<(i64, i64)>
-    ensures { IfSome result (λ r. text.now ≡ shortest five_unit 32 (zigzag_of r.0) ++ shortest five_unit 32 (zigzag_of r.1)) }
+    ensures { IfSome result (λ r. text.now
+        ≡ shortest five_unit 32 (zigzag_of r.0) ++ shortest five_unit 32 (zigzag_of r.1)) }
 {
     let count = text.len();
     if count < WORD || 2 * WORD < count {
@@ -38,24 +40,14 @@ pub fn two_in_text(text: &[u8]) -> Option<(i64, i64)>
     Some((unzigzag(first), unzigzag(second)))
 }
 
-// The first eight bytes as a number, low first.
-#[inline(always)]
-fn word(bytes: &[u8]) -> u64
-    requires { 8 ≤ length bytes.now }
-    ensures { result ≡ number_l 256 (take 8 bytes.now) }
-{
-    let [number] = u64x1::from_le_bytes(u8x8::from_slice(bytes)).to_array();
-    number
-}
-
 // The units of the first eight characters, and then those of the last eight.
 #[inline(always)]
 fn end_units(text: &[u8]) -> u8x16
     requires { 8 ≤ length text.now }
     ensures { result ≡ units_in 63 (both_ends text.now) }
 {
-    let front = word(text);
-    let back = word(&text[text.len() - WORD..]);
+    let front = eight_bytes(text);
+    let back = eight_bytes(&text[text.len() - WORD..]);
     u64x2::from_array([front, back]).to_le_bytes() - u8x16::splat(POLYLINES.base)
 }
 

@@ -1,10 +1,10 @@
 //! The words of the kinds, read from a field and appended to a text.
-ghost use Rattle.std.specs.Prelude.{◌≡◌, ◌≤◌, ◌+◌, [], ◌∷◌, ◌++◌, length};
+ghost use Rattle.std.specs.Prelude.{◌≡◌, ◌↔◌, ◌≤◌, ◌+◌, [], ◌∷◌, ◌++◌, length, IsTrue, IfSome, IfNone};
 ghost use Rattle.twkb_table.specs.Fields.{Reads};
-ghost use Rattle.twkb_table.specs.KindWord.{likely, likely_of_ten};
+ghost use Rattle.twkb_table.specs.KindWord.{kind_of_ten};
 ghost use Rattle.twkb_tree.specs.Kind.{word_of};
 
-use twkb_num::Piece;
+use twkb_num::{Piece, eight_bytes, four_bytes};
 use twkb_tree::Kind;
 
 /// Reads the kind whose word the field is, if it is one: `point`, `linestring`, `polygon`,
@@ -14,42 +14,60 @@ use twkb_tree::Kind;
 pub fn parse_kind(field: &[u8]) -> Option<Kind>
     ensures reads { Reads (λ kind. field.now ≡ word_of kind) result }
 {
-    if field.is_empty() {
-        return None;
-    }
-    let kind = likely_kind(field.len(), field[0]);
-    if field == kind.word() {
-        Some(kind)
-    } else {
-        None
-    }
-}
-
-// The only kind whose word can have this length and this first letter.
-#[inline(always)]
-fn likely_kind(count: usize, first: u8) -> Kind
-    ensures { result ≡ likely count first }
-{
-    match count {
-        4 => Kind::Ring,
-        5 => Kind::Point,
-        7 => Kind::Polygon,
-        12 => Kind::MultiPolygon,
-        15 => Kind::MultiLinestring,
-        _ => likely_of_ten(first),
+    match field.len() {
+        4 => only_kind(field, Kind::Ring),
+        5 => only_kind(field, Kind::Point),
+        7 => only_kind(field, Kind::Polygon),
+        10 => only_kind(field, kind_of_ten(field[0])),
+        12 => only_kind(field, Kind::MultiPolygon),
+        15 => only_kind(field, Kind::MultiLinestring),
+        _ => None,
     }
 }
 
 // The only kind whose word can have ten letters and this first one.
 #[inline(always)]
-fn likely_of_ten(first: u8) -> Kind
-    ensures { result ≡ likely_of_ten first }
+fn kind_of_ten(first: u8) -> Kind
+    ensures { result ≡ kind_of_ten first }
 {
     match first {
         b'l' => Kind::Linestring,
         b'm' => Kind::MultiPoint,
         _ => Kind::Collection,
     }
+}
+
+// The only kind whose word the field can be, if it is that.
+#[inline(always)]
+fn only_kind(field: &[u8], kind: Kind) -> Option<Kind>
+    requires { length field.now ≡ length (word_of kind) }
+    ensures same { IfSome result (λ found. found ≡ kind) }
+    ensures word { IfSome result (λ _. field.now ≡ word_of kind) }
+    ensures other { IfNone result (¬ (field.now ≡ word_of kind)) }
+{
+    if is_word(field, kind.word()) {
+        Some(kind)
+    } else {
+        None
+    }
+}
+
+// Whether two words of as many bytes are equal, compared as words of memory: by the first and the
+// last four bytes, or eight bytes if they have as many.
+#[inline(always)]
+fn is_word(field: &[u8], word: &[u8]) -> bool
+    requires same_length { length field.now ≡ length word.now }
+    requires long { 4 ≤ length word.now }
+    requires short { length word.now ≤ 16 }
+    ensures { IsTrue result ↔ (field.now ≡ word.now) }
+{
+    let count = word.len();
+    if count < 8 {
+        let (front, back) = (four_bytes(field), four_bytes(&field[count - 4..]));
+        return front == four_bytes(word) && back == four_bytes(&word[count - 4..]);
+    }
+    let (front, back) = (eight_bytes(field), eight_bytes(&field[count - 8..]));
+    front == eight_bytes(word) && back == eight_bytes(&word[count - 8..])
 }
 
 /// Appends the word of a kind, with this byte before and after it. Takes no memory.

@@ -1,7 +1,10 @@
 -- Puts one after another.
-use Rattle.std.proofs.Common.{◌≡◌, ◌∙◌, ℕ, List, [], ◌++◌, Option, None, Some, IsTrue, refl, sym}
+use Rattle.std.proofs.Common.{◌≡◌, ◌∙◌, ℕ, ℤ, List, [], ◌∷◌, ◌++◌, Option, None, Some, IsTrue, refl, sym}
 use Rattle.std.proofs.Common.{ap, append_assoc, subst}
-use Rattle.std.specs.Prelude.{Result, Ok, Err, OnOk, IfErr, is_some}
+use Rattle.std.specs.Prelude.{Result, Ok, Err, OnOk, IfErr, is_some, flat_map}
+use Rattle.twkb_num.specs.Varint.{varint_of}
+use Rattle.twkb_num.specs.Zigzag.{zigzag_of}
+use Rattle.twkb_writer.specs.Bytes.{signed}
 use Rattle.std.specs.Result.{result_err}
 use Rattle.std.proofs.lemmas.List.{append-nil}
 use Rattle.twkb_io.specs.Sinks.{TookFront}
@@ -12,6 +15,16 @@ use Rattle.twkb_writer.specs.Putting.{Stands, Put, Progress}
 pub pushed_twice : (left mid now first second : List ℕ) → mid ≡ left ++ first → now ≡ mid ++ second
     → now ≡ left ++ (first ++ second)
 pushed_twice left mid now first second e f = f ∙ ap (λ (l : List ℕ). l ++ second) e ∙ append_assoc left first second
+
+-- four signed numbers appended as two pairs
+pub four_pushed : (left now : List ℕ) (a b c d : ℕ) (w x y z : ℤ)
+    → now ≡ left ++ ((varint_of a ++ varint_of b) ++ (varint_of c ++ varint_of d))
+    → a ≡ zigzag_of w → b ≡ zigzag_of x → c ≡ zigzag_of y → d ≡ zigzag_of z
+    → now ≡ left ++ flat_map signed (w ∷ x ∷ y ∷ z ∷ [])
+four_pushed left now a b c d w x y z e p q r s =
+    let pairs = rw (p, q, r, s) at e in
+    pairs ∙ ap (λ (l : List ℕ). left ++ l) (append_assoc (signed w) (signed x) (signed y ++ signed z)
+    ∙ ap (λ (l : List ℕ). signed w ++ (signed x ++ (signed y ++ l))) (sym (append-nil (signed z))))
 
 module _ {S F : Type 0} (took : S → List ℕ → S → Type 0) (refused : S → List ℕ → F → S → Type 0) where
   -- more bytes are held, or they are lost after a refusal

@@ -114,13 +114,13 @@ impl<'a, 'b, 'c, S: Sink> Gatherer<'a, 'b, 'c, S, S::Fault> {
         }
     }
 
-    // Puts signed numbers in their zigzag forms.
-    pub(crate) fn put_all(&mut self, numbers: &[i64])
-        ensures { Put S.took S.refused self.old (flat_map signed numbers.now) self.new }
+    // Puts four signed numbers in their zigzag forms.
+    #[inline(always)]
+    pub(crate) fn put_four(&mut self, first: i64, second: i64, third: i64, fourth: i64)
+        ensures { Put S.took S.refused self.old (flat_map signed (first ∷ second ∷ third ∷ fourth ∷ [])) self.new }
     {
-        for number in numbers {
-            self.put_signed(*number);
-        }
+        self.make_room();
+        self.piece.push_four_varints(zigzag(first), zigzag(second), zigzag(third), zigzag(fourth));
     }
 
     // Puts the difference to a point, and moves the cursor there.
@@ -131,8 +131,7 @@ impl<'a, 'b, 'c, S: Sink> Gatherer<'a, 'b, 'c, S, S::Fault> {
     {
         self.make_room();
         let (x, y) = step_to(cursor, to);
-        self.piece.push_varint(x);
-        self.piece.push_varint(y);
+        self.piece.push_two_varints(x, y);
     }
 
     // Puts the differences to two points, one after the other, and moves the cursor there.

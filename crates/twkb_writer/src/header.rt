@@ -45,7 +45,10 @@ fn put_box<S: Sink>(entry: &Entry, gatherer: &mut Gatherer<'_, '_, '_, S, S::Fau
     ensures { Put S.took S.refused gatherer.old (box_bytes entry.now.bounds) gatherer.new }
 {
     match entry.bounds {
-        Some(bounds) => gatherer.put_all(&bounds.items()),
+        Some(bounds) => {
+            let [least_x, width, least_y, height] = bounds.items();
+            gatherer.put_four(least_x, width, least_y, height);
+        }
         None => {}
     }
 }

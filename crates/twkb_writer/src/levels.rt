@@ -32,6 +32,7 @@ pub(crate) struct Level {
 }
 
 // The number of bytes of an id, 0 if there is none.
+#[inline(always)]
 fn id_len(id: Option<i64>) -> u64
     ensures value { result ≡ id_len id }
     ensures most { result ≤ 10 }
@@ -43,6 +44,7 @@ fn id_len(id: Option<i64>) -> u64
 }
 
 // The number of bytes of a box, 0 if there is none.
+#[inline(always)]
 fn box_len(bounds: &Option<Bounds>) -> u64
     ensures value { result ≡ box_len bounds.now }
     ensures most { result ≤ 40 }
@@ -64,6 +66,7 @@ fn is_point(kind: Kind) -> bool
 }
 
 // The length of a blob whose box and body have `size` bytes.
+#[inline(always)]
 fn blob_len(style: Style, size: u64) -> u64
     requires room { size ≤ 2 ^ 50 }
     ensures value { result ≡ blob_len style size }
@@ -92,6 +95,7 @@ impl Level {
 
     // The number of bytes of a row's count, and of the ids if it counts members. The row has `own`
     // points and is above these rows.
+    #[inline(always)]
     fn lead_len(&self, kind: Kind, own: u32) -> u64
         requires room { self.now.ids ≤ 2 ^ 40 }
         ensures value { result ≡ lead_len kind own self.now }
@@ -105,6 +109,7 @@ impl Level {
     }
 
     // The number of bytes of the body of a geometry above these rows. Its own row has `own` points.
+    #[inline(always)]
     fn body_len(&self, kind: Kind, own: u32, tail: &Tail) -> u64
         requires ids { self.now.ids ≤ 2 ^ 40 }
         requires bytes { self.now.bytes ≤ 2 ^ 40 }
@@ -119,6 +124,7 @@ impl Level {
     }
 
     // The bounds of all points of a geometry above these rows.
+    #[inline(always)]
     fn all_bounds(&self, tail: &Tail) -> Option<Bounds>
         ensures { result ≡ all_bounds self.now tail.now }
     {
@@ -126,6 +132,7 @@ impl Level {
     }
 
     // The bounds of the box of a geometry above these rows; `None` if it has no box in this style.
+    #[inline(always)]
     fn box_for(&self, style: Style, kind: Kind, precision: i8, tail: &Tail) -> Option<Bounds>
         ensures { result ≡ box_for style kind precision self.now tail.now }
     {
@@ -137,6 +144,7 @@ impl Level {
 
     // The bounds of the box of a geometry above these rows, in a full blob; `None` if it has no
     // box.
+    #[inline(always)]
     fn full_box(&self, kind: Kind, precision: i8, tail: &Tail) -> Option<Bounds>
         ensures { result ≡ box_for Full kind precision self.now tail.now }
     {
@@ -148,6 +156,7 @@ impl Level {
 
     // Measures a geometry above these rows: its own row has `own` points, and `tail` totals its
     // points, except those of collection members.
+    #[inline(always)]
     pub(crate) fn entry_for(
         &self,
         style: Style,
@@ -196,6 +205,7 @@ impl Level {
 
     // Adds a geometry before these rows: its box and body have `size` bytes, `below` totals the
     // rows under it, and `tail` totals its points, except those of collection members.
+    #[inline(always)]
     pub(crate) fn with_geometry(
         self,
         style: Style,

@@ -64,6 +64,7 @@ pub(crate) fn take_points(flat: &Flat, id: NodeId, node: &Node, tail: Tail, work
 }
 
 // Adds a row that is a geometry itself, and returns its entry.
+#[inline(always)]
 fn take_geometry(
     style: Style,
     node: &Node,
@@ -121,6 +122,7 @@ fn take_row(style: Style, node: &Node, points: &Tail, levels: &mut Depths) -> Op
 
 // Appends an entry, if there is one. The first one makes room for `most`, so the vector grows only
 // once.
+#[inline(always)]
 pub(crate) fn keep(
     entries: &mut Vec<Entry>,
     entry: Option<Entry>,

@@ -5,14 +5,15 @@ use Rattle.std.proofs.lemmas.List.{take_rest}
 use Rattle.std.proofs.lemmas.Simd.{zip2_splat}
 use Rattle.twkb_num.specs.WholeText.{both_ends}
 use Rattle.twkb_num.proofs.LaneLemmas.{wrapped_sub}
-use Rattle.twkb_num.proofs.WholeTextLemmas.{bytes_of, bytes_are, length-both_ends}
+use Rattle.twkb_num.proofs.ByteLemmas.{bytes_of}
+use Rattle.twkb_num.proofs.WholeTextLemmas.{bytes_are, length-both_ends}
 use Rattle.twkb_num.proofs.whole_text.end_units.Goals as goal
 
 pub returns : goal.returns
 returns c =
     let text = c.args.text.now in
-    let back = rw (take_rest text (length text - 8)) at c.word-back.ensures in
+    let back = rw (take_rest text (length text - 8)) at c.eight_bytes-back.ensures in
     ap (λ bytes. zip2 wrapped_sub bytes (replicate 16 63))
-    (bytes_are text c.requires c.word-front.result c.word-back.result (bytes_of text c.type_inv.text)
-    c.word-front.ensures back)
+    (bytes_are text c.requires c.eight_bytes-front.result c.eight_bytes-back.result (bytes_of text c.type_inv.text)
+    c.eight_bytes-front.ensures back)
     ∙ zip2_splat wrapped_sub (both_ends text) 16 63 (length-both_ends text c.requires)

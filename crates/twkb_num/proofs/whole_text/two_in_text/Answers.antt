@@ -3,7 +3,8 @@ use Rattle.std.specs.Prelude.{nat_lt}
 use Rattle.std.proofs.lemmas.Int.{to_z-of_z}
 use Rattle.std.proofs.lemmas.List.{length-map}
 use Rattle.twkb_num.proofs.FourLemmas.{marks_of}
-use Rattle.twkb_num.proofs.WholeTextLemmas.{bytes_of, units_below, length-end_units, first_groups, last_groups, two_read}
+use Rattle.twkb_num.proofs.ByteLemmas.{bytes_of}
+use Rattle.twkb_num.proofs.WholeTextLemmas.{units_below, length-end_units, first_groups, last_groups, two_read}
 use Rattle.twkb_num.proofs.whole_text.two_in_text.Goals as goal
 
 pub returns : goal.returns

@@ -1,0 +1,5 @@
+use Rattle.twkb_num.proofs.ByteLemmas.{word_is}
+use Rattle.twkb_num.proofs.word.eight_bytes.Goals as goal
+
+pub returns : goal.returns
+returns c = word_is 8 c.args.bytes.now c.type_inv.bytes
