@@ -1,5 +1,6 @@
 //! Laws of streams that are read into arrays, each stated as the contract of an empty function.
-ghost use Rattle.std.specs.Prelude.{◌≡◌, ◌≢◌, ◌≤◌, ◌^◌, ◌⊎◌, ℕ, List, ◌++◌, length};
+ghost use Rattle.std.specs.Prelude.{◌≡◌, ◌≢◌, ◌≤◌, ◌⊎◌, ℕ, List, ◌++◌, length};
+ghost use Rattle.twkb_io.specs.declared.TheConstants.{MAX_BYTES};
 ghost use Rattle.twkb_tree.specs.Tree.{Tree};
 ghost use Rattle.twkb_tree.specs.Limits.{Allowance};
 ghost use Rattle.twkb_grammar.specs.Blob.{Stream};
@@ -16,7 +17,7 @@ pub fn one_answer()
     ensures { (l : Allowance) (bytes : List ℕ) (old_rows new_rows : List InRow)
         (old_points new_points : List InPoint) (counts : InCounts) (gs : List Tree)
         (read : ReadsArrays l bytes old_rows old_points new_rows new_points counts)
-        → Stream l bytes gs → length bytes ≤ 2 ^ 62
+        → Stream l bytes gs → length bytes ≤ MAX_BYTES
         → (counts.status ≡ 4) ⊎ ((read.given ++ read.later ≡ gs) × (counts.status ≢ 1)) }
 {}
 
