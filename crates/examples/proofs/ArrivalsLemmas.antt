@@ -1,5 +1,5 @@
 -- Pieces of a stream, taken by a session.
-use Rattle.std.proofs.Common.{◌≡◌, ◌∙◌, ◌+◌, ◌<◌, ◌≤◌, ◌^◌, ◌-◌, ℕ, Bool, true, false, List, [], ◌∷◌, ◌++◌, Option}
+use Rattle.std.proofs.Common.{◌≡◌, ◌∙◌, ◌+◌, ◌<◌, ◌≤◌, ◌-◌, ℕ, Bool, true, false, List, [], ◌∷◌, ◌++◌, Option}
 use Rattle.std.proofs.Common.{length, take, drop, ap, arith, refl, sym, subst, append_assoc, length-append}
 use Rattle.std.proofs.Common.{length-drop}
 use Rattle.std.specs.Prelude.{Ok}
@@ -7,6 +7,7 @@ use Rattle.std.proofs.lemmas.List.{append-nil, length-take-le, take-append-drop}
 use Rattle.std.proofs.Math.Seq.{take-add}
 use Rattle.std.proofs.KnownBytes.{Consumes-trans}
 use Rattle.std.specs.Io.KnownBytes.{Consumes}
+use Rattle.twkb_io.specs.declared.TheConstants.{MAX_BYTES}
 use Rattle.twkb_tree.specs.Tree.{Tree}
 use Rattle.twkb_blob.specs.Sessions.{FedFlat, Stands}
 use Rattle.twkb_blob.specs.declared.session.Session.{Session}
@@ -113,7 +114,7 @@ bytes_more told rest left taken count n more buffer piece old new took fits cut 
 
 -- after a piece, fewer bytes may still be taken
 pub bytes_fewer : (told rest : Option (List ℕ)) (taken count n : ℕ) (session : Session)
-    → TookBytes told rest (taken + n) count session → 0 < n → 2 ^ 62 - (taken + n) < 2 ^ 62 - taken
+    → TookBytes told rest (taken + n) count session → 0 < n → MAX_BYTES - (taken + n) < MAX_BYTES - taken
 bytes_fewer told rest taken count n session took some = omega (arith, took.size, took.stands.few, some)
 
 -- there are still at most as many geometries as bytes

@@ -1,8 +1,9 @@
 -- Streams have one reading into arrays, which has the rows of the text that they are unpacked to.
-use Rattle.std.proofs.Common.{◌≡◌, ◌∙◌, ℕ, ◌≤◌, ◌^◌, ◌⊎◌, inl, inr, List, [], ◌++◌, length, Bool, true, false}
+use Rattle.std.proofs.Common.{◌≡◌, ◌∙◌, ℕ, ◌≤◌, ◌⊎◌, inl, inr, List, [], ◌++◌, length, Bool, true, false}
 use Rattle.std.proofs.Common.{refl, sym, ap, subst, arith}
 use Rattle.std.specs.Prelude.{Result, Ok, Err, ◌≢◌}
 use Rattle.std.proofs.lemmas.List.{append-nil}
+use Rattle.twkb_io.specs.declared.TheConstants.{MAX_BYTES}
 use Rattle.twkb_tree.specs.Tree.{Tree}
 use Rattle.twkb_tree.specs.Limits.{Allowance}
 use Rattle.twkb_tree.specs.Rows.{rows_of}
@@ -24,7 +25,7 @@ use Rattle.twkb_arrays.proofs.RoomLemmas.{no_more}
 -- how the reading of a stream may end
 by_answer : (l : Allowance) (bytes : List ℕ) (hs gs : List Tree) (full : Bool)
     (answer : Result (Unit {0}) BlobFault) (status : ℕ) → status ≡ (outcome_of full answer).0
-    → EndsReading l bytes hs answer → Stream l bytes gs → length bytes ≤ 2 ^ 62
+    → EndsReading l bytes hs answer → Stream l bytes gs → length bytes ≤ MAX_BYTES
     → (status ≡ 4) ⊎ ((hs ≡ gs) × (status ≢ 1))
 by_answer l bytes hs gs false (Ok done) status is ends s few = inr
     (one_stream l bytes hs gs ends s, λ e. omega (arith, is, e))
@@ -42,7 +43,7 @@ by_answer l bytes hs gs full (Err (fault.At offset reason)) status is ends s few
 pub all_read : (l : Allowance) (bytes : List ℕ) (old_rows new_rows : List BufferRow)
     (old_points new_points : List BufferPoint) (counts : BufferCounts) (gs : List Tree)
     (read : ReadsArrays l bytes old_rows old_points new_rows new_points counts)
-    → Stream l bytes gs → length bytes ≤ 2 ^ 62
+    → Stream l bytes gs → length bytes ≤ MAX_BYTES
     → (counts.status ≡ 4) ⊎ ((read.given ++ read.later ≡ gs) × (counts.status ≢ 1))
 all_read l bytes old_rows new_rows old_points new_points counts gs read s few =
     by_answer l bytes (read.given ++ read.later) gs (are_more read.later) read.answer counts.status

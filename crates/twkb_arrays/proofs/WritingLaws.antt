@@ -1,10 +1,11 @@
 -- Arrays are written in one way, and read back as they are.
-use Rattle.std.proofs.Common.{◌≡◌, ◌∙◌, ℕ, ◌≤◌, ◌^◌, ◌⊎◌, inl, inr, List, [], ◌∷◌, ◌++◌, length, take, drop}
+use Rattle.std.proofs.Common.{◌≡◌, ◌∙◌, ℕ, ◌≤◌, ◌⊎◌, inl, inr, List, [], ◌∷◌, ◌++◌, length, take, drop}
 use Rattle.std.proofs.Common.{refl, sym, ap, subst, arith, append_assoc, length-append, Bool, true, false}
 use Rattle.std.specs.Prelude.{Result, Ok, Err, ◌≢◌}
 use Rattle.std.proofs.lemmas.List.{append-nil, length-map, take_at}
 use Rattle.std.proofs.lemmas.Grind.{flat_map-append}
 use Rattle.twkb_points.specs.Point.{Point}
+use Rattle.twkb_io.specs.declared.TheConstants.{MAX_BYTES}
 use Rattle.twkb_tree.specs.Tree.{Tree}
 use Rattle.twkb_tree.specs.Limits.{Allowance, IsAllowance}
 use Rattle.twkb_tree.specs.Rows.{Row, rows, rows_of, row_points}
@@ -125,7 +126,7 @@ pub read_back : (l : Allowance) (style : Style) (in_rows : List BufferRow) (in_p
     (old_points new_points : List BufferPoint) (counts : BufferCounts) → IsAllowance l
     → WritesArrays l style in_rows in_points old new report → report.status ≡ 0
     → ReadsArrays l (take report.sent new) old_rows old_points new_rows new_points counts
-    → length (take report.sent new) ≤ 2 ^ 62 → length in_rows ≤ length old_rows
+    → length (take report.sent new) ≤ MAX_BYTES → length in_rows ≤ length old_rows
     → length in_points ≤ length old_points
     → (counts.status ≡ 4) ⊎ ((counts.status ≡ 0) × (new_rows ≡ in_rows ++ drop (length in_rows) old_rows)
     × (new_points ≡ in_points ++ drop (length in_points) old_points))

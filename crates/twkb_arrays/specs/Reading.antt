@@ -1,5 +1,6 @@
 -- The effect of a call that reads a stream into arrays.
-use Rattle.std.specs.Prelude.{◌≡◌, ℕ, ◌<◌, ◌^◌, List, ◌++◌, length, Bool, true, false, Result, Ok, Err}
+use Rattle.std.specs.Prelude.{◌≡◌, ℕ, ◌<◌, List, ◌++◌, length, Bool, true, false, Result, Ok, Err}
+use Rattle.twkb_io.specs.declared.TheConstants.{MAX_BYTES}
 use Rattle.twkb_tree.specs.Tree.{Tree, saturated}
 use Rattle.twkb_tree.specs.Limits.{Allowance}
 use Rattle.twkb_tree.specs.Rows.{rows_of, row_points}
@@ -29,7 +30,7 @@ BeginsWithBlobs l bytes gs = (front rest : List ℕ) × (bytes ≡ front ++ rest
 abbrev pub EndsReading : {A : Type 0} → Allowance → List ℕ → List Tree → Result A BlobFault → Type 0
 EndsReading l bytes gs (Ok done) = Stream l bytes gs
 EndsReading l bytes gs (Err (fault.At offset reason)) = StreamFault l bytes gs offset (reason_of reason)
-EndsReading l bytes gs (Err (fault.Device why)) = (2 ^ 62 < length bytes) × BeginsWithBlobs l bytes gs
+EndsReading l bytes gs (Err (fault.Device why)) = (MAX_BYTES < length bytes) × BeginsWithBlobs l bytes gs
 EndsReading l bytes gs (Err fault.Memory) = BeginsWithBlobs l bytes gs
 EndsReading l bytes gs (Err fault.Spent) = ⊥
 

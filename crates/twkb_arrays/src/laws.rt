@@ -1,6 +1,7 @@
 //! Laws of streams that are read into arrays and written from them, each stated as the contract of an
 //! empty function.
-ghost use Rattle.std.specs.Prelude.{◌≡◌, ◌≢◌, ◌≤◌, ◌^◌, ◌⊎◌, ℕ, List, ◌++◌, length, take, drop};
+ghost use Rattle.std.specs.Prelude.{◌≡◌, ◌≢◌, ◌≤◌, ◌⊎◌, ℕ, List, ◌++◌, length, take, drop};
+ghost use Rattle.twkb_io.specs.declared.TheConstants.{MAX_BYTES};
 ghost use Rattle.twkb_tree.specs.Tree.{Tree};
 ghost use Rattle.twkb_tree.specs.Limits.{Allowance, IsAllowance};
 ghost use Rattle.twkb_grammar.specs.Blob.{Stream};
@@ -20,7 +21,7 @@ pub fn one_answer()
     ensures { (l : Allowance) (bytes : List ℕ) (old_rows new_rows : List InRow)
         (old_points new_points : List InPoint) (counts : InCounts) (gs : List Tree)
         (read : ReadsArrays l bytes old_rows old_points new_rows new_points counts)
-        → Stream l bytes gs → length bytes ≤ 2 ^ 62
+        → Stream l bytes gs → length bytes ≤ MAX_BYTES
         → (counts.status ≡ 4) ⊎ ((read.given ++ read.later ≡ gs) × (counts.status ≢ 1)) }
 {}
 
@@ -51,7 +52,7 @@ pub fn read_back()
         (old_points new_points : List InPoint) (counts : InCounts) → IsAllowance l
         → WritesArrays l style in_rows in_points old new report → report.status ≡ 0
         → ReadsArrays l (take report.sent new) old_rows old_points new_rows new_points counts
-        → length (take report.sent new) ≤ 2 ^ 62 → length in_rows ≤ length old_rows
+        → length (take report.sent new) ≤ MAX_BYTES → length in_rows ≤ length old_rows
         → length in_points ≤ length old_points
         → (counts.status ≡ 4) ⊎ ((counts.status ≡ 0)
         × (new_rows ≡ in_rows ++ drop (length in_rows) old_rows)

@@ -1,9 +1,10 @@
 -- An answer to a prefix of a piece is one to the piece.
-use Rattle.std.proofs.Common.{◌≡◌, ℕ, ◌+◌, ◌-◌, ◌<◌, ◌≤◌, ◌^◌, List, ◌++◌, length, length-append, take, drop}
+use Rattle.std.proofs.Common.{◌≡◌, ℕ, ◌+◌, ◌-◌, ◌<◌, ◌≤◌, List, ◌++◌, length, length-append, take, drop}
 use Rattle.std.proofs.Common.{take-append-drop, append-nil, refl, sym, ap, ◌∙◌, subst, Bool, true, false, Result, Ok}
 use Rattle.std.proofs.Common.{Err, arith, inl, inr}
 use Rattle.std.proofs.Math.Seq.{take-length}
 use Rattle.std.proofs.lemmas.List.{take-append-le}
+use Rattle.twkb_io.specs.declared.TheConstants.{MAX_BYTES}
 use Rattle.twkb_tree.specs.Rows.{Row}
 use Rattle.twkb_tree.specs.Limits.{Allowance}
 use Rattle.twkb_grammar.specs.Blob.{Blob}
@@ -101,7 +102,7 @@ module _ {S : Type 0} {holds : S → Notes → Type 0} {d e : Engine} {rs more :
   pub too_far : (used count : ℕ) (ends : Bool) → ends ≡ false
       → TakesAll (length (take count piece)) (Ok (used, ends))
       → FedBy holds d rs old (take count piece) (Ok (used, ends)) e more new
-      → (d.start + count_of d) + count ≡ 2 ^ 62 → count < length piece → e.limits ≡ d.limits
+      → (d.start + count_of d) + count ≡ MAX_BYTES → count < length piece → e.limits ≡ d.limits
       → ((bs : List ℕ) (rs : List Row) → StandsAt bs rs e → AreCutOff (allowance_of e) bs)
       → Feeds holds d rs old piece (Err (fault.Device TooLong)) e more new
   too_far used count true off all fed full less limits cut = absurd cc
@@ -110,17 +111,17 @@ module _ {S : Type 0} {holds : S → Notes → Type 0} {d e : Engine} {rs more :
     fed = (
       refl,
       omega (arith, full, less),
-      λ bs s. let room : count ≡ 2 ^ 62 - (d.start + count_of d) = omega (arith, full) in
-          let whole : take used (take count piece) ≡ take (2 ^ 62 - (d.start + count_of d)) piece =
+      λ bs s. let room : count ≡ MAX_BYTES - (d.start + count_of d) = omega (arith, full) in
+          let whole : take used (take count piece) ≡ take (MAX_BYTES - (d.start + count_of d)) piece =
           ap (λ n. take n (take count piece)) all ∙ take-length (take count piece) ∙ ap (λ n. take n piece) room in
-          subst (λ l. AreCutOff l (bs ++ take (2 ^ 62 - (d.start + count_of d)) piece)) limits
+          subst (λ l. AreCutOff l (bs ++ take (MAX_BYTES - (d.start + count_of d)) piece)) limits
           (cut _ more (subst (λ l. StandsAt (bs ++ l) more e) whole (fed bs s).2)),
     );
   }
 
 -- the stream has no room for any byte
 pub no_room : {S : Type 0} {holds : S → Notes → Type 0} {d : Engine} {rs : List Row} {old : S}
-    {piece : List ℕ} → 2 ^ 62 < d.start + count_of d
+    {piece : List ℕ} → MAX_BYTES < d.start + count_of d
     → ((bs : List ℕ) (rs : List Row) → StandsAt bs rs d → AreCutOff (allowance_of d) bs)
     → Feeds holds d rs old piece (Err (fault.Device TooLong)) d rs old
 no_room {d = d} {rs = rs} {piece = piece} past cut = record {
@@ -128,7 +129,7 @@ no_room {d = d} {rs = rs} {piece = piece} past cut = record {
   fed = (
     refl,
     omega (arith, past),
-    λ bs s. let none : 2 ^ 62 - (d.start + count_of d) ≡ 0 = omega (arith, past) in
+    λ bs s. let none : MAX_BYTES - (d.start + count_of d) ≡ 0 = omega (arith, past) in
         subst (λ n. AreCutOff (allowance_of d) (bs ++ take n piece)) (sym none)
         (subst (AreCutOff (allowance_of d)) (sym (append-nil bs)) (cut bs rs s)),
   );

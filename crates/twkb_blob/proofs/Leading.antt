@@ -1,5 +1,5 @@
 -- The turns of a call that reads a blob of an input.
-use Rattle.std.proofs.Common.{◌≡◌, ◌≢◌, ℕ, ◌+◌, ◌-◌, ◌≤◌, ◌^◌, List, [], ◌++◌, length, length-append, take, drop}
+use Rattle.std.proofs.Common.{◌≡◌, ◌≢◌, ℕ, ◌+◌, ◌-◌, ◌≤◌, List, [], ◌++◌, length, length-append, take, drop}
 use Rattle.std.proofs.Common.{refl, sym, ap, ◌∙◌, subst, append_assoc, append-nil, take-append-drop, Bool, Result, Ok}
 use Rattle.std.proofs.Common.{Err, true, false, arith, inl, inr}
 use Rattle.std.proofs.KnownBytes.{Consumes-whole, starts_with_rest}
@@ -9,6 +9,7 @@ use Rattle.std.specs.Prelude.{IfSome}
 use Rattle.std.specs.Io.{StartsWith}
 use Rattle.std.specs.Io.KnownBytes.{IsAtEnd}
 use Rattle.std.specs.declared.io.traits.Read.{Ghosts}
+use Rattle.twkb_io.specs.declared.TheConstants.{MAX_BYTES}
 use Rattle.twkb_tree.specs.Rows.{Row}
 use Rattle.twkb_tree.specs.Limits.{Allowance}
 use Rattle.twkb_grammar.specs.Blob.{Blob}
@@ -98,7 +99,7 @@ module _ {R : Type 0} {read : Ghosts R} {a b : Input R read} {bytes : List ℕ}
 module _ {S : Type 0} (holds : S → Notes → Type 0) {R : Type 0} {read : Ghosts R} (a : Input R read)
     (d e : Engine) (rs more : List Row) (told now : S) (piece : List ℕ)
     (starts : IfSome (rest_of a) (λ rest. StartsWith rest piece))
-    (few : length piece ≤ 2 ^ 62 - given a) (bs : List ℕ) (s : StandsAt bs rs d) where
+    (few : length piece ≤ MAX_BYTES - given a) (bs : List ℕ) (s : StandsAt bs rs d) where
   in_rest : (why : Stop) (rest : List ℕ) → StartsWith rest piece
       → IsFed holds (holds told (notes_at s)) (allowance_of d) d.start bs piece (Err why) more e now
       → IsFed holds (holds told (notes_at s)) (allowance_of d) d.start bs rest (Err why) more e now
@@ -173,7 +174,7 @@ module _ {S : Type 0} {holds : S → Notes → Type 0} {R : Type 0} {read : Ghos
 pub refused : {S : Type 0} {holds : S → Notes → Type 0} {R : Type 0} {read : Ghosts R}
     {a : Input R read} {d e : Engine} {rs more : List Row} {told now : S} {piece : List ℕ}
     {why : BlobFault}
-    → IfSome (rest_of a) (λ rest. StartsWith rest piece) → length piece ≤ 2 ^ 62 - given a
+    → IfSome (rest_of a) (λ rest. StartsWith rest piece) → length piece ≤ MAX_BYTES - given a
     → failed_by_read {A = Bool} (Err why) ≡ false
     → Feeds holds d rs told piece (Err why) e more now → Reads holds d rs told a a (Err why) e more now
 refused {holds = holds} {a = a} {d} {e} {rs} {more} {told} {now} {piece} {why} starts few unread f = record {

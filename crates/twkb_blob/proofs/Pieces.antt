@@ -1,5 +1,5 @@
 -- Bytes that leave an input one piece after another, and what is known of those that are left.
-use Rattle.std.proofs.Common.{◌≡◌, ◌≢◌, ℕ, ◌+◌, ◌<◌, ◌≤◌, ◌^◌, List, [], ◌∷◌, ◌++◌, length, length-append, take, refl}
+use Rattle.std.proofs.Common.{◌≡◌, ◌≢◌, ℕ, ◌+◌, ◌<◌, ◌≤◌, List, [], ◌∷◌, ◌++◌, length, length-append, take, refl}
 use Rattle.std.proofs.Common.{sym, ap, ◌∙◌, subst, append_assoc, true, Bool, nat_eq, Option, Some, None, Result, Err}
 use Rattle.std.proofs.Common.{arith}
 use Rattle.std.proofs.KnownBytes.{Consumes-kept, Consumes-nil, Consumes-trans}
@@ -10,6 +10,7 @@ use Rattle.std.proofs.lemmas.Option.{IfSome_then}
 use Rattle.std.specs.Prelude.{IfSome}
 use Rattle.std.specs.Io.KnownBytes.{Consumes, Keeps}
 use Rattle.std.specs.declared.io.traits.Read.{Ghosts}
+use Rattle.twkb_io.specs.declared.TheConstants.{MAX_BYTES}
 use Rattle.twkb_tree.specs.Limits.{Allowance}
 use Rattle.twkb_body.specs.JudgedParts.{IsJudged, PartIn}
 use Rattle.twkb_io.specs.declared.input.Input.{Input}
@@ -74,7 +75,7 @@ module _ {R : Type 0} {read : Ghosts R} {a b : Input R read} where
   none_from c Read left live none = none
   none_from {bytes} c TooLong left live none = (
     none.0,
-    known_after (λ rest. 2 ^ 62 < given a + length rest) (rest_of a) (rest_of b) bytes left.consumed none.1
+    known_after (λ rest. MAX_BYTES < given a + length rest) (rest_of a) (rest_of b) bytes left.consumed none.1
         (λ rest long. omega (arith, long, left.counted, length-append bytes rest)),
   )
   none_from c Spent left live none = absurd (live none)
@@ -82,14 +83,14 @@ module _ {R : Type 0} {read : Ghosts R} {a b : Input R read} where
 -- why a fill gave none
 pub fill_none : {A R : Type 0} {read : Ghosts R} {r : Result A InFault} (a b : Input R read)
     (why : InFault) → r ≡ Err why → given b ≡ given a
-    → (r ≡ Err TooLong → (given a ≡ 2 ^ 62) × IfSome (rest_of a) (λ rest. rest ≢ []))
+    → (r ≡ Err TooLong → (given a ≡ MAX_BYTES) × IfSome (rest_of a) (λ rest. rest ≢ []))
     → (r ≡ Err Read → rest_of b ≡ told_by b)
     → (r ≡ Err Spent → is_spent a ≡ true) → HasNone why a b
 fill_none a b Read is same long none spent = none is
 fill_none a b TooLong is same long none spent = let h = long is in
     (same ∙ h.0, IfSome_then (rest_of a) h.1 (λ rest some. more rest h.0 some))
   where
-    more : (rest : List ℕ) → given a ≡ 2 ^ 62 → rest ≢ [] → 2 ^ 62 < given a + length rest
+    more : (rest : List ℕ) → given a ≡ MAX_BYTES → rest ≢ [] → MAX_BYTES < given a + length rest
     more [] full some = absurd (some refl)
     more (x ∷ rest) full some = omega (arith, full)
 fill_none a b Spent is same long none spent = spent is

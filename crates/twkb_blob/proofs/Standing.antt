@@ -1,5 +1,5 @@
 -- A session goes on, gives a geometry, refuses or ends.
-use Rattle.std.proofs.Common.{◌≡◌, ℕ, ◌+◌, ◌-◌, ◌^◌, inl, inr, List, [], ◌∷◌, ◌++◌, length, length-append, take, refl}
+use Rattle.std.proofs.Common.{◌≡◌, ℕ, ◌+◌, ◌-◌, inl, inr, List, [], ◌∷◌, ◌++◌, length, length-append, take, refl}
 use Rattle.std.proofs.Common.{sym, ap, ◌∙◌, subst, append_assoc, append-nil, Bool, true, false, Option, Some, None}
 use Rattle.std.proofs.Common.{IfSome, Result, Ok, Err, arith}
 use Rattle.std.proofs.KnownBytes.{Consumes-whole}
@@ -8,6 +8,7 @@ use Rattle.std.proofs.lemmas.List.{append_cancel_left, length-take-le}
 use Rattle.std.proofs.lemmas.Option.{IfSome_then}
 use Rattle.std.specs.Prelude.{if◌then◌else◌}
 use Rattle.std.specs.declared.io.traits.Read.{Ghosts}
+use Rattle.twkb_io.specs.declared.TheConstants.{MAX_BYTES}
 use Rattle.twkb_tree.specs.Tree.{Tree}
 use Rattle.twkb_tree.specs.Rows.{Row, rows}
 use Rattle.twkb_tree.specs.Limits.{Allowance, IsValid, largest_limits}
@@ -190,11 +191,11 @@ module _ {bytes : List ℕ} {gs : List Tree} {old : Session} (s : Stands bytes g
     fed_err (fault.Device why) f =
         let h = f.fed in
         let taken : ℕ = old.engine.start + count_of old.engine in
-        let begun = cut_at (further (take (2 ^ 62 - taken) piece)) (h.2 s.rest (begun_at opened)) in (
+        let begun = cut_at (further (take (MAX_BYTES - taken) piece)) (h.2 s.rest (begun_at opened)) in (
           h.0,
           rw limits (record {
             past = (let past = h.1 in omega (arith, past, so_many));
-            begun = subst (λ n. AreBegun own (bytes ++ take (2 ^ 62 - n) piece) gs)
+            begun = subst (λ n. AreBegun own (bytes ++ take (MAX_BYTES - n) piece) gs)
                 (sym so_many) begun;
           }),
         )

@@ -1,8 +1,9 @@
 -- What an engine answers that is fed a piece, or the held bytes of an input.
-use Rattle.std.specs.Prelude.{◌≡◌, ◌+◌, ◌-◌, ◌<◌, ◌^◌, ◌⊎◌, take, ℕ, List, [], ◌++◌, length, Bool, true, false}
+use Rattle.std.specs.Prelude.{◌≡◌, ◌+◌, ◌-◌, ◌<◌, ◌⊎◌, take, ℕ, List, [], ◌++◌, length, Bool, true, false}
 use Rattle.std.specs.Prelude.{Result, Ok, Err, IfSome, ⊤}
 use Rattle.std.specs.Io.KnownBytes.{IsAtEnd}
 use Rattle.std.specs.declared.io.traits.Read.{Ghosts}
+use Rattle.twkb_io.specs.declared.TheConstants.{MAX_BYTES}
 use Rattle.twkb_tree.specs.Tree.{Tree}
 use Rattle.twkb_tree.specs.Rows.{Row, rows}
 use Rattle.twkb_tree.specs.Limits.{Allowance}
@@ -30,9 +31,9 @@ FedPiece holds d rs old piece (Err fault.Memory) e more new = FedBy holds d rs o
 FedPiece holds d rs old piece (Err (fault.At offset reason)) e more new =
     FedBy holds d rs old piece (Err (stop.Refused reason)) e more new × (offset ≡ d.start + offset_in e)
 FedPiece holds d rs old piece (Err (fault.Device why)) e more new =
-    (why ≡ TooLong) × (2 ^ 62 < (d.start + count_of d) + length piece)
+    (why ≡ TooLong) × (MAX_BYTES < (d.start + count_of d) + length piece)
     × ((bs : List ℕ) → StandsAt bs rs d → AreCutOff (allowance_of d)
-    (bs ++ take (2 ^ 62 - (d.start + count_of d)) piece))
+    (bs ++ take (MAX_BYTES - (d.start + count_of d)) piece))
 FedPiece holds d rs old piece (Err fault.Spent) e more new = ⊥
 
 -- That is its answer, and its limits stay.

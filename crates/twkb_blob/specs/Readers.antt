@@ -1,8 +1,9 @@
 -- What a reader of an input answers.
-use Rattle.std.specs.Prelude.{ℕ, ◌≡◌, ◌+◌, ◌<◌, ◌^◌, ◌⊎◌, List, [], ◌++◌, length, Bool, true, false, Option, Some}
+use Rattle.std.specs.Prelude.{ℕ, ◌≡◌, ◌+◌, ◌<◌, ◌⊎◌, List, [], ◌++◌, length, Bool, true, false, Option, Some}
 use Rattle.std.specs.Prelude.{None, IfSome, Result, Ok, Err, is_err, ⊤}
 use Rattle.std.specs.Io.KnownBytes.{Consumes, IsAtEnd}
 use Rattle.std.specs.declared.io.traits.Read.{Ghosts}
+use Rattle.twkb_io.specs.declared.TheConstants.{MAX_BYTES}
 use Rattle.twkb_tree.specs.Tree.{Tree}
 use Rattle.twkb_tree.specs.Rows.{Row, rows}
 use Rattle.twkb_tree.specs.Limits.{Allowance}
@@ -60,7 +61,7 @@ told_by {R} {read} input = read.remaining (device_of (input_tap input).now)
 
 -- 2^62 bytes were given out, and there are more.
 abbrev pub IsFull : {R : Type 0} {read : Ghosts R} → Input R read → Input R read → Type 0
-IsFull old new = (given new ≡ 2 ^ 62) × IfSome (rest_of old) (λ rest. 2 ^ 62 < given old + length rest)
+IsFull old new = (given new ≡ MAX_BYTES) × IfSome (rest_of old) (λ rest. MAX_BYTES < given old + length rest)
 
 -- why an input gave no further byte: its reader failed and no byte was held; it has more than 2^62
 -- bytes; or it was refused before

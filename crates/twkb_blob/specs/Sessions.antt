@@ -1,6 +1,7 @@
 -- What a session stands for.
-use Rattle.std.specs.Prelude.{ℕ, ◌≡◌, ◌+◌, ◌-◌, ◌<◌, ◌≤◌, ◌^◌, ◌⊎◌, if◌then◌else◌, List, [], ◌∷◌, ◌++◌, length, take}
+use Rattle.std.specs.Prelude.{ℕ, ◌≡◌, ◌+◌, ◌-◌, ◌<◌, ◌≤◌, ◌⊎◌, if◌then◌else◌, List, [], ◌∷◌, ◌++◌, length, take}
 use Rattle.std.specs.Prelude.{sum_by, Bool, true, false, Option, Some, None, Result, Ok, Err}
+use Rattle.twkb_io.specs.declared.TheConstants.{MAX_BYTES}
 use Rattle.twkb_tree.specs.Tree.{Tree}
 use Rattle.twkb_tree.specs.Rows.{Row, rows}
 use Rattle.twkb_tree.specs.Limits.{Allowance}
@@ -48,7 +49,7 @@ pub record Stands (bytes : List ℕ) (gs : List Tree) (s : Session) : Type 0 whe
   pub front : List ℕ
   pub rest : List ℕ
   pub whole : bytes ≡ front ++ rest
-  pub few : length bytes ≤ 2 ^ 62
+  pub few : length bytes ≤ MAX_BYTES
   pub blobs : Stream (session_limits s) front gs
   pub begun : StandsAt rest (begun_rows s) s.engine
   pub start : s.engine.start ≡ length front
@@ -87,8 +88,8 @@ FramesOf limits bytes gs n = (Stream limits bytes gs × (n ≡ 0))
 
 -- the piece goes past 2^62 bytes, and up to there no geometry ends in it and no item is refused
 pub record IsTooLong (limits : Allowance) (bytes : List ℕ) (gs : List Tree) (piece : List ℕ) : Type 0 where
-  pub past : 2 ^ 62 < length bytes + length piece
-  pub begun : AreBegun limits (bytes ++ take (2 ^ 62 - length bytes) piece) gs
+  pub past : MAX_BYTES < length bytes + length piece
+  pub begun : AreBegun limits (bytes ++ take (MAX_BYTES - length bytes) piece) gs
 
 -- The bytes are blobs of these geometries, and then some after which a prefix of the piece, one
 -- byte at least, ends a part.

@@ -1,5 +1,5 @@
 //! A blob that is read from the held bytes of an input, or from a piece of a stream.
-ghost use Rattle.std.specs.Prelude.{◌≡◌, ◌+◌, ◌<◌, ◌≤◌, ◌^◌, ◌∷◌, ℕ, List, [], false, true, Ok, Err, length};
+ghost use Rattle.std.specs.Prelude.{◌≡◌, ◌+◌, ◌<◌, ◌≤◌, ◌∷◌, ℕ, List, [], false, true, Ok, Err, length};
 ghost use Rattle.std.specs.Prelude.{if◌then◌else◌, ◌⊎◌, IfOk, IfSome, IfNone, OnOk};
 ghost use Rattle.twkb_tree.specs.Rows.{Row};
 ghost use Rattle.twkb_io.specs.Taps.{count_failure};
@@ -23,9 +23,9 @@ use twkb_tree::Limits;
 // 2^62 bytes. `None` if it is longer already.
 #[inline(always)]
 fn room_in(taken: u64, piece: &[u8]) -> Option<usize>
-    ensures fits { IfSome result (λ count. (taken + count ≤ 2 ^ 62) × (count ≤ length piece.now)) }
-    ensures full { IfSome result (λ count. count < length piece.now → taken + count ≡ 2 ^ 62) }
-    ensures past { IfNone result (2 ^ 62 < taken) }
+    ensures fits { IfSome result (λ count. (taken + count ≤ MAX_BYTES) × (count ≤ length piece.now)) }
+    ensures full { IfSome result (λ count. count < length piece.now → taken + count ≡ MAX_BYTES) }
+    ensures past { IfNone result (MAX_BYTES < taken) }
 {
     let room = MAX_BYTES.checked_sub(taken)?;
     Some(room.min(piece.len() as u64) as usize)
@@ -41,11 +41,11 @@ pub(crate) fn feed_piece<S: SpanNotes>(
     spans: &mut S,
     piece: &[u8],
 ) -> Result<(usize, bool), BlobFault>
-    requires counted { place_in engine.old ≤ 2 ^ 62 }
+    requires counted { place_in engine.old ≤ MAX_BYTES }
     requires alive { IsAlive flat.old engine.old }
     ensures within { IfOk result (λ fed. fed.0 ≤ length piece.now) }
     ensures all { IfOk result (λ fed. fed.1 ≡ false → fed.0 ≡ length piece.now) }
-    ensures few { IfOk result (λ fed. engine.new.start + count_of engine.new ≤ 2 ^ 62) }
+    ensures few { IfOk result (λ fed. engine.new.start + count_of engine.new ≤ MAX_BYTES) }
     ensures alive { IfOk result (λ fed. IsAlive (if fed.1 then [] else flat.new) engine.new) }
     ensures unread { failed_by_read result ≡ false }
     ensures fed { Feeds S.holds engine.old flat.old spans.old piece.now result engine.new flat.new spans.new }
@@ -78,9 +78,9 @@ pub(crate) fn feed_one<S: SpanNotes>(
     spans: &mut S,
     byte: u8,
 ) -> Result<bool, BlobFault>
-    requires room { engine.old.start + count_of engine.old < 2 ^ 62 }
+    requires room { engine.old.start + count_of engine.old < MAX_BYTES }
     requires alive { IsAlive flat.old engine.old }
-    ensures few { OnOk result (engine.new.start + count_of engine.new ≤ 2 ^ 62) }
+    ensures few { OnOk result (engine.new.start + count_of engine.new ≤ MAX_BYTES) }
     ensures alive { IfOk result (λ ends. IsAlive (if ends then [] else flat.new) engine.new) }
     ensures unread { failed_by_read result ≡ false }
     ensures fed { Feeds S.holds engine.old flat.old spans.old (byte ∷ []) (with_one result)
@@ -144,11 +144,11 @@ fn feed_held<R: Read, S: SpanNotes>(
     flat: &mut Flat,
     spans: &mut S,
 ) -> Result<bool, BlobFault>
-    requires counted { place_in engine.old ≤ 2 ^ 62 }
+    requires counted { place_in engine.old ≤ MAX_BYTES }
     requires alive { IsAlive flat.old engine.old }
     requires live { is_spent input.old ≡ false }
     requires some { 0 < length (held_of input.old) }
-    ensures few { OnOk result (engine.new.start + count_of engine.new ≤ 2 ^ 62) }
+    ensures few { OnOk result (engine.new.start + count_of engine.new ≤ MAX_BYTES) }
     ensures alive { IfOk result (λ ends. IsAlive (if ends then [] else flat.new) engine.new) }
     ensures given { result ≡ Ok false → given input.old < given input.new }
     ensures fed { Turns S.holds engine.old flat.old spans.old input.old input.new result engine.new flat.new spans.new }
@@ -172,9 +172,9 @@ pub(crate) fn read_blob<R: Read, S: SpanNotes>(
     flat: &mut Flat,
     spans: &mut S,
 ) -> Result<bool, BlobFault>
-    requires counted { place_in engine.old ≤ 2 ^ 62 }
+    requires counted { place_in engine.old ≤ MAX_BYTES }
     requires alive { IsAlive flat.old engine.old }
-    ensures few { result ≡ Ok true → engine.new.start + count_of engine.new ≤ 2 ^ 62 }
+    ensures few { result ≡ Ok true → engine.new.start + count_of engine.new ≤ MAX_BYTES }
     ensures alive { result ≡ Ok true → IsAlive [] engine.new }
     ensures read { Reads S.holds engine.old flat.old spans.old input.old input.new result engine.new
         flat.new spans.new }

@@ -1,6 +1,7 @@
 //! A stream of blobs that comes in pieces.
-ghost use Rattle.std.specs.Prelude.{◌≡◌, ◌<◌, ◌≤◌, ◌^◌, ◌↔◌, ◌+◌, ◌⊎◌, ◌∷◌, [], if◌then◌else◌, List, ℕ, true, false};
+ghost use Rattle.std.specs.Prelude.{◌≡◌, ◌<◌, ◌≤◌, ◌↔◌, ◌+◌, ◌⊎◌, ◌∷◌, [], if◌then◌else◌, List, ℕ, true, false};
 ghost use Rattle.std.specs.Prelude.{Ok, Err, None, is_err, length, IfOk, IfErr, IfSome};
+ghost use Rattle.twkb_io.specs.declared.TheConstants.{MAX_BYTES};
 ghost use Rattle.twkb_tree.specs.Tree.{Tree};
 ghost use Rattle.twkb_tree.specs.Rows.{rows};
 ghost use Rattle.twkb_tree.specs.Limits.{Allowance, IsValid, largest_limits};
@@ -29,7 +30,7 @@ pub struct Session {
     /// Whether `rows` still has the rows of the last geometry.
     is_whole: bool,
     spent: bool,
-    ghost taken_few: { spent ≡ false → engine.start + count_of engine ≤ 2 ^ 62 },
+    ghost taken_few: { spent ≡ false → engine.start + count_of engine ≤ MAX_BYTES },
     ghost alive: { spent ≡ false → IsAlive (if is_whole then [] else rows.flat) engine },
 }
 
@@ -197,7 +198,7 @@ impl Session {
     fn feed_byte(&mut self, byte: u8) -> Result<usize, BlobFault>
         requires live { self.old.spent ≡ false }
         requires begun { self.old.is_whole ≡ false }
-        requires room { count_of self.old.engine + self.old.engine.start < 2 ^ 62 }
+        requires room { count_of self.old.engine + self.old.engine.start < MAX_BYTES }
         ensures fed { (bytes : List ℕ) (gs : List Tree) → Stands bytes gs self.old
             → FedFlat bytes gs (byte ∷ []) (with_end self.new.is_whole result) self.new }
         ensures one { IfOk result (λ used. used ≡ 1) }

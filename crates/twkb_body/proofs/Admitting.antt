@@ -1,9 +1,10 @@
 -- The rows can take the change of the next item.
-use Rattle.std.proofs.Common.{◌≡◌, ℕ, ◌≤◌, ◌^◌, List, [], ◌∷◌, ◌++◌, length, refl, sym, ◌∙◌, ap, arith, Some, None}
+use Rattle.std.proofs.Common.{◌≡◌, ℕ, ◌≤◌, List, [], ◌∷◌, ◌++◌, length, refl, sym, ◌∙◌, ap, arith, Some, None}
 use Rattle.std.proofs.Common.{inl, inr}
 use Rattle.std.specs.Prelude.{◌⊎◌, Bool, true, false}
 use Rattle.std.proofs.Math.Logic.{∥∥₁_elim}
 use Rattle.std.proofs.Math.Bool.{Bool-set}
+use Rattle.twkb_tree.specs.declared.limits.TheConstants.{POINTS_CAP}
 use Rattle.twkb_tree.specs.Tree.{flat}
 use Rattle.twkb_tree.specs.Limits.{Allowance, IsAllowance, largest_limits}
 use Rattle.twkb_tree.specs.Rows.{Row, row_points}
@@ -28,7 +29,7 @@ use Rattle.twkb_body.proofs.LinePoints.{one_point_more}
 use Rattle.twkb_body.proofs.Outlined.{outlined_item, outlined_largest, outlined_takes, row_goes_on}
 
 -- valid rows have at most as many points as allowed
-few_points : (rs : List Row) → AreValidRowsOfOne largest_limits rs → length (row_points rs) ≤ 2 ^ 24
+few_points : (rs : List Row) → AreValidRowsOfOne largest_limits rs → length (row_points rs) ≤ POINTS_CAP
 few_points [] v = omega arith
 few_points (r ∷ rs) v =
     let same : length (flat v.0) ≡ length (row_points (r ∷ rs)) = ap (λ xs. length xs)

@@ -1,9 +1,10 @@
 -- Points of a list that are complete at the start of bytes lead its body on; and the bytes up to
 -- one for which there is no memory are a part.
-use Rattle.std.proofs.Common.{◌≡◌, ℕ, suc, ◌+◌, ◌-◌, ◌<◌, ◌≤◌, ◌^◌, List, [], ◌∷◌, length, take, drop, refl, sym, ap}
+use Rattle.std.proofs.Common.{◌≡◌, ℕ, suc, ◌+◌, ◌-◌, ◌<◌, ◌≤◌, List, [], ◌∷◌, length, take, drop, refl, sym, ap}
 use Rattle.std.proofs.Common.{subst, arith}
 use Rattle.std.proofs.lemmas.List.{take_rest}
 use Rattle.twkb_points.specs.Point.{Point}
+use Rattle.twkb_tree.specs.declared.limits.TheConstants.{POINTS_CAP}
 use Rattle.twkb_tree.specs.Rows.{Row, row_points}
 use Rattle.twkb_tree.specs.RowGrowth.{EndsInLine, point_added, points_added}
 use Rattle.twkb_body.specs.Front.{PointInFront, PointsInFront, TwoInFront, last_of}
@@ -15,7 +16,7 @@ use Rattle.twkb_body.proofs.PointRuns.{list_runs, step_none, step_more, step_jud
 
 -- no points
 pub list_none : (rs : List Row) (from : Point) (bytes : List ℕ) (most : ℕ) → EndsInLine rs
-    → length (row_points rs) + most ≤ 2 ^ 24
+    → length (row_points rs) + most ≤ POINTS_CAP
     → ListGoesOn rs from bytes most (record { used = 0; position = from }) most rs
 list_none rs from bytes most line room = record {
   leads = record {
@@ -57,7 +58,7 @@ list_stops_on {bytes = bytes} {t = t} a stops = λ h f ids outer listed same.
 
 -- one point
 pub list_one : {rs more : List Row} {most count : ℕ} {from p : Point} {bytes : List ℕ}
-    → EndsInLine rs → length (row_points rs) + most ≤ 2 ^ 24 → 0 < most
+    → EndsInLine rs → length (row_points rs) + most ≤ POINTS_CAP → 0 < most
     → PointInFront from bytes p count → more ≡ point_added p rs
     → ListGoesOn rs from bytes most (record { used = count; position = p }) (most - 1) more
 list_one {rs = rs} {more = more} {most = most} {p = p} line room some cut added = record {
@@ -81,7 +82,7 @@ list_one_stop rs most count from p bytes some cut = λ h f ids outer listed same
 
 -- these points, at most as many as are left
 points_lead : (ps : List Point) (rs more : List Row) (most count : ℕ) (from : Point)
-    (bytes : List ℕ) → EndsInLine rs → length (row_points rs) + most ≤ 2 ^ 24 → length ps ≤ most
+    (bytes : List ℕ) → EndsInLine rs → length (row_points rs) + most ≤ POINTS_CAP → length ps ≤ most
     → PointsInFront from bytes ps count → more ≡ points_added ps rs
     → ListGoesOn rs from bytes most (record { used = count; position = last_of from ps })
     (most - length ps) more
@@ -101,7 +102,7 @@ points_lead (p ∷ ps) rs more most count from bytes line room few (w, v, is, cu
 -- so many points, the last of them named
 pub list_points : (ps : List Point) (to : Point) (n : ℕ) (rs more : List Row) (most count : ℕ)
     (from : Point) (bytes : List ℕ) → length ps ≡ n → last_of from ps ≡ to → EndsInLine rs
-    → length (row_points rs) + most ≤ 2 ^ 24 → n ≤ most → PointsInFront from bytes ps count
+    → length (row_points rs) + most ≤ POINTS_CAP → n ≤ most → PointsInFront from bytes ps count
     → more ≡ points_added ps rs
     → ListGoesOn rs from bytes most (record { used = count; position = to }) (most - n) more
 list_points ps to n rs more most count from bytes many last line room few cut added =
@@ -110,7 +111,7 @@ list_points ps to n rs more most count from bytes many last line room few cut ad
 
 -- two points
 pub list_two : {rs more : List Row} {most count : ℕ} {from p q : Point} {bytes : List ℕ}
-    → EndsInLine rs → length (row_points rs) + most ≤ 2 ^ 24 → 1 < most
+    → EndsInLine rs → length (row_points rs) + most ≤ POINTS_CAP → 1 < most
     → TwoInFront from bytes p q count → more ≡ point_added q (point_added p rs)
     → ListGoesOn rs from bytes most (record { used = count; position = q }) (most - 2) more
 list_two {from = from} {p = p} {q = q} {bytes = bytes} line room some two added =

@@ -1,7 +1,8 @@
 -- Points, members and ids that are read on at the start of bytes, or for which there is no memory.
-use Rattle.std.specs.Prelude.{◌≡◌, ◌+◌, ◌<◌, ◌≤◌, ◌^◌, ⊤, ℕ, suc, ℤ, List, [], ◌∷◌, ◌++◌, length, take, Option, Some}
+use Rattle.std.specs.Prelude.{◌≡◌, ◌+◌, ◌<◌, ◌≤◌, ⊤, ℕ, suc, ℤ, List, [], ◌∷◌, ◌++◌, length, take, Option, Some}
 use Rattle.std.specs.Prelude.{None, Result, Ok, Err}
 use Rattle.twkb_points.specs.Point.{Point}
+use Rattle.twkb_tree.specs.declared.limits.TheConstants.{POINTS_CAP}
 use Rattle.twkb_tree.specs.Tree.{Ids}
 use Rattle.twkb_tree.specs.Limits.{Allowance}
 use Rattle.twkb_tree.specs.Rows.{Row, row_points}
@@ -77,7 +78,7 @@ pub record ListGoesOn (rs : List Row) (from : Point) (bytes : List ℕ) (most : 
     (left : ℕ) (more : List Row) : Type 0 where
   pub leads : ListLeads rs from bytes most t left more
   pub line : EndsInLine more
-  pub room : length (row_points more) + left ≤ 2 ^ 24
+  pub room : length (row_points more) + left ≤ POINTS_CAP
 
 -- what a call answers whose caller takes those that are left
 abbrev pub GoesOn : {E : Type 0} → List Row → Point → List ℕ → ℕ → Result (Taken × ℕ) E → List Row

@@ -1,5 +1,6 @@
 //! Points of a list, and members of a multipoint, many at once.
-ghost use Rattle.std.specs.Prelude.{◌≡◌, ◌<◌, ◌≤◌, ◌+◌, ◌^◌, length};
+ghost use Rattle.std.specs.Prelude.{◌≡◌, ◌<◌, ◌≤◌, ◌+◌, length};
+ghost use Rattle.twkb_tree.specs.declared.limits.TheConstants.{POINTS_CAP, NODES_CAP};
 ghost use Rattle.twkb_tree.specs.Rows.{row_points};
 ghost use Rattle.twkb_tree.specs.RowGrowth.{EndsInLine};
 ghost use Rattle.twkb_flat.specs.Members.{EndsInMember};
@@ -51,7 +52,7 @@ pub fn take_row(
     most: u64,
 ) -> Result<(Taken, u64), AllocError>
     requires line { EndsInLine flat.old }
-    requires room { length (row_points flat.old) + most ≤ 2 ^ 24 }
+    requires room { length (row_points flat.old) + most ≤ POINTS_CAP }
     ensures { TakesRow flat.old from bytes.now most result flat.new }
 {
     let mut used = 0;
@@ -93,7 +94,7 @@ fn take_few(
     pair_bytes: &mut usize,
 ) -> Result<Option<(Taken, u64)>, AllocError>
     requires line { EndsInLine flat.old }
-    requires room { length (row_points flat.old) + most ≤ 2 ^ 24 }
+    requires room { length (row_points flat.old) + most ≤ POINTS_CAP }
     requires some { 0 < most }
     ensures { TakesFew flat.old from bytes.now most result flat.new }
 {
@@ -122,7 +123,7 @@ fn take_eights(
     most: u64,
 ) -> Result<(Taken, u64), AllocError>
     requires line { EndsInLine flat.old }
-    requires room { length (row_points flat.old) + most ≤ 2 ^ 24 }
+    requires room { length (row_points flat.old) + most ≤ POINTS_CAP }
     ensures { GoesOn flat.old from bytes.now most result flat.new }
 {
     let mut used = 0;
@@ -157,8 +158,8 @@ pub fn take_members(
     most: u64,
 ) -> Result<(Taken, u64), AllocError>
     requires member { EndsInMember depth ids.old.has_ids flat.old }
-    requires nodes { length flat.old + most ≤ 2 ^ 20 }
-    requires points { length (row_points flat.old) + most ≤ 2 ^ 24 }
+    requires nodes { length flat.old + most ≤ NODES_CAP }
+    requires points { length (row_points flat.old) + most ≤ POINTS_CAP }
     ensures taken { TakesMembers flat.old (ids_of ids.old) depth from bytes.now most result (ids_of ids.new) flat.new }
     ensures has { ids.new.has_ids ≡ ids.old.has_ids }
 {

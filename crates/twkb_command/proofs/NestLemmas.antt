@@ -26,6 +26,7 @@ use Rattle.clap.specs.declared.parser.matches.ArgMatches.{ArgMatches}
 use Rattle.clap.specs.declared.parser.matches.ValueSource.TheVariants.{CommandLine}
 use Rattle.clap.proofs.OnLiterals.{clap_on_literals}
 use Rattle.clap.proofs.ValueTestLemmas.{accepts-Accepts}
+use Rattle.twkb_tree.specs.declared.limits.TheConstants.{NEST_CAP}
 use Rattle.twkb_command.specs.CommandLine.{command_line, max_nest, style_option}
 use Rattle.twkb_command.specs.Words.{GivesNest, HasNest, IsNest}
 use Rattle.twkb_command.proofs.PassedLemmas.{EachLevel, HoldsBelow, Keeps, first_none, last_none, subcommand_holds}
@@ -46,10 +47,10 @@ no_plus (d ∷ ds) h =
     let plus : (d == 43) ≡ false = ne_eqb _ _ (λ e. omega (arith, digit_from_value d h.1.0)) in
     ap (λ (b : Bool). drop (cond b 1 0) (d ∷ ds)) plus
 
-numeral_nest : (ds : Text) → IsNumeral 10 ds → digits_value 10 ds ≤ 32 → IsNest ds
+numeral_nest : (ds : Text) → IsNumeral 10 ds → digits_value 10 ds ≤ NEST_CAP → IsNest ds
 numeral_nest ds numeral small = rw (no_plus ds numeral) (numeral, small)
 
-signed_nest : (t : Text) → IsSignedIn (pos 0) (pos 32) t → IsNest (without_minus t)
+signed_nest : (t : Text) → IsSignedIn (pos 0) (pos NEST_CAP) t → IsNest (without_minus t)
 signed_nest t passed = rw (without_minus-cond t) (go (starts_with_minus t) refl)
   where
     go : (b : Bool) → starts_with_minus t ≡ b → IsNest (cond b (drop 1 t) t)

@@ -1,7 +1,8 @@
 -- Two prints, one after the other, print the join of their bytes.
-use Rattle.std.proofs.Common.{◌≡◌, ◌∙◌, ◌++◌, ℕ, ◌+◌, ◌≤◌, ◌^◌, ◌⊎◌, inl, inr, List, Option, true, false, sym, subst}
+use Rattle.std.proofs.Common.{◌≡◌, ◌∙◌, ◌++◌, ℕ, ◌+◌, ◌≤◌, ◌⊎◌, inl, inr, List, Option, true, false, sym, subst}
 use Rattle.std.proofs.Common.{ap, arith, length}
 use Rattle.std.proofs.lemmas.List.{length-append}
+use Rattle.twkb_io.specs.declared.TheConstants.{MAX_BYTES}
 use Rattle.twkb_io.specs.Outputs.{Took, is_spent, sent_of}
 use Rattle.twkb_io.specs.OutputLaws.{took_join}
 use Rattle.twkb_io.specs.Taps.{count_failure}
@@ -24,11 +25,11 @@ second_fails contents a b c xs first second = record {
 }
 
 then_puts : {W : Type 0} (contents : W → Option (List ℕ)) (a b c : Output W) (xs ys : List ℕ)
-    → is_spent a ≡ false → sent_of a + length (xs ++ ys) ≤ 2 ^ 62
+    → is_spent a ≡ false → sent_of a + length (xs ++ ys) ≤ MAX_BYTES
     → Took contents a xs b ⊎ Fails a b → Prints contents b ys c → Took contents a (xs ++ ys) c ⊎ Fails a c
 then_puts contents a b c xs ys fresh room (inr failed) second = inr (later a b c failed (second.stays failed.spent))
 then_puts contents a b c xs ys fresh room (inl took) second =
-    let fits : sent_of b + length ys ≤ 2 ^ 62 = omega (arith, took.sends.sent, length-append xs ys, room) in
+    let fits : sent_of b + length ys ≤ MAX_BYTES = omega (arith, took.sends.sent, length-append xs ys, room) in
     elim (second.puts (not_spent a b fresh took.spent) fits) [
       | inl more ↦ inl (took_join contents a b c xs ys took more)
       | inr failed ↦ inr (second_fails contents a b c xs took failed)
@@ -38,7 +39,7 @@ pub prints_join : {W : Type 0} (contents : W → Option (List ℕ)) (a b c : Out
     → Prints contents a xs b → Prints contents b ys c → Prints contents a (xs ++ ys) c
 prints_join contents a b c xs ys first second = record {
   puts = λ fresh room.
-      let fits : sent_of a + length xs ≤ 2 ^ 62 = omega (arith, length-append xs ys, room) in
+      let fits : sent_of a + length xs ≤ MAX_BYTES = omega (arith, length-append xs ys, room) in
       then_puts contents a b c xs ys fresh room (first.puts fresh fits) second;
   stays = λ spent.
       let same = first.stays spent in

@@ -3,6 +3,7 @@ use Rattle.std.specs.Prelude.{ℕ, ◌≡◌, ◌<◌, ◌≤◌, ◌+◌, ◌-�
 use Rattle.std.specs.Io.KnownBytes.{Appends}
 use Rattle.twkb_io.specs.declared.tap.Tap.{Tap}
 use Rattle.twkb_io.specs.declared.output.Output.{Output}
+use Rattle.twkb_io.specs.declared.TheConstants.{MAX_BYTES}
 use Rattle.twkb_io.specs.Taps.{count_failure, device_of, failures_of}
 use Rattle.twkb_io.specs.Outputs.{Took, is_spent, output_failures, output_tap, sent_of}
 
@@ -15,7 +16,7 @@ pub record Fails {W : Type 0} (old new : Output W) : Type 0 where
 -- The writer took all of these bytes, or a write failed, now or earlier.
 pub record Prints {W : Type 0} (contents : W → Option (List ℕ)) (old : Output W) (bytes : List ℕ)
     (new : Output W) : Type 0 where
-  pub puts : is_spent old ≡ false → sent_of old + length bytes ≤ 2 ^ 62 → Took contents old bytes new ⊎ Fails old new
+  pub puts : is_spent old ≡ false → sent_of old + length bytes ≤ MAX_BYTES → Took contents old bytes new ⊎ Fails old new
   pub stays : is_spent old ≡ true → new ≡ old
 
 -- these bytes were added to those that the writer took, unless a write failed

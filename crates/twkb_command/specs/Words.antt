@@ -5,6 +5,7 @@ use Rattle.std.specs.Str.Parse.{IsNumeral, digits_value, without_leading_plus}
 use Rattle.clap.specs.Words.{App, IsAmong, Kinds, Row, Text, fault_of, first_of, one_of, subcommand_of}
 use Rattle.clap.specs.declared.error.kind.ErrorKind.{ErrorKind}
 use Rattle.clap.specs.declared.error.kind.ErrorKind.TheVariants.{DisplayHelp, DisplayVersion}
+use Rattle.twkb_tree.specs.declared.limits.TheConstants.{NEST_CAP}
 use Rattle.twkb_tree.specs.Limits.{Allowance, standard_limits}
 use Rattle.twkb_grammar.specs.declared.style.Style.{Style}
 use Rattle.twkb_grammar.specs.declared.style.Style.TheVariants.{Full, Plain}
@@ -20,12 +21,12 @@ name_of (conversion.Pack style) = codes "pack"
 name_of conversion.Unpack = codes "unpack"
 name_of conversion.Show = codes "show"
 
--- the text is a number from 0 to 32
+-- the text is a number that limits allow as a nesting
 abbrev pub IsNest : Text → Type 0
-IsNest digits = IsNumeral 10 (without_leading_plus digits) × (digits_value 10 (without_leading_plus digits) ≤ 32)
+IsNest digits =
+    IsNumeral 10 (without_leading_plus digits) × (digits_value 10 (without_leading_plus digits) ≤ NEST_CAP)
 
--- the limits with the nesting that the option gives, a number from 0 to 32, or the standard ones
--- if it gives none
+-- the limits with the nesting that the option gives, or the standard ones if it gives none
 abbrev pub AreLimits : Option Text → Allowance → Type 0
 AreLimits None l = l ≡ standard_limits
 AreLimits (Some digits) l = IsNest digits

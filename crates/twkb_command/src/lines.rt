@@ -1,5 +1,6 @@
 //! The line on standard error that says why a conversion stopped, and other texts.
-ghost use Rattle.std.specs.Prelude.{◌++◌, ◌≤◌, ◌^◌, codes, decimal, length};
+ghost use Rattle.std.specs.Prelude.{◌++◌, ◌≤◌, codes, decimal, length};
+ghost use Rattle.twkb_io.specs.declared.TheConstants.{MAX_BYTES};
 ghost use Rattle.twkb_engine.specs.Texts.{blob_words};
 ghost use Rattle.twkb_command.specs.Lines.{cause_text, line_of, reason_text, text_reason};
 ghost use Rattle.twkb_command.specs.Printing.{IsPrinted, Prints};
@@ -105,7 +106,7 @@ fn put_flushed<W: Write>(output: &mut Output<'_, W>, text: &str)
 
 // Prints a text and flushes, up to the first write that fails. Takes no memory.
 pub(crate) fn print_text<W: Write>(device: &mut Tap<W>, text: &str)
-    ensures { length text.now ≤ 2 ^ 62 → IsPrinted W.contents device.old text.now device.new }
+    ensures { length text.now ≤ MAX_BYTES → IsPrinted W.contents device.old text.now device.new }
 {
     let mut output = Output::new(device);
     put_flushed(&mut output, text);

@@ -1,5 +1,6 @@
 //! Requests, and the limits and the style that options give.
 ghost use Rattle.std.specs.Prelude.{◌≡◌, ◌≤◌, ◌↔◌, IfSome, IsSome, codes};
+ghost use Rattle.twkb_tree.specs.declared.limits.TheConstants.{NEST_CAP};
 ghost use Rattle.twkb_tree.specs.Limits.{standard_limits};
 
 use twkb_convert::{Conversion, Style};
@@ -14,7 +15,7 @@ pub struct Request {
 
 /// The standard limits with a nesting of 0 to 32; `None` if it is greater. Takes no memory.
 pub fn nested_limits(nest: u32) -> Option<Limits>
-    ensures accepted { IsSome result ↔ (nest ≤ 32) }
+    ensures accepted { IsSome result ↔ (nest ≤ NEST_CAP) }
     ensures value { IfSome result (λ l. l ≡ record standard_limits { nest = nest }) }
 {
     let standard = Limits::standard();

@@ -1,10 +1,11 @@
 -- The text of one blob, from the parts that were appended.
 use Rattle.std.specs.Prelude.{map}
-use Rattle.std.proofs.Common.{Bool, true, false, ◌≡◌, ◌∙◌, ◌≤◌, ◌^◌, ℕ, List, [], ◌∷◌, ◌++◌, Option, Some, None, Ok}
+use Rattle.std.proofs.Common.{Bool, true, false, ◌≡◌, ◌∙◌, ◌≤◌, ℕ, List, [], ◌∷◌, ◌++◌, Option, Some, None, Ok}
 use Rattle.std.proofs.Common.{Err, ap, refl, subst, append_assoc}
 use Rattle.std.specs.Prelude.{IfSome}
 use Rattle.std.specs.Io.KnownBytes.{Consumes}
 use Rattle.std.specs.declared.io.traits.Read.{Ghosts}
+use Rattle.twkb_io.specs.declared.TheConstants.{MAX_BYTES}
 use Rattle.twkb_tree.specs.Tree.{Tree}
 use Rattle.twkb_tree.specs.Rows.{Row}
 use Rattle.twkb_grammar.specs.Spans.{spans_of_blob}
@@ -78,7 +79,7 @@ module _ {R : Type 0} {read : Ghosts R} (from to : Reader R read) where
   pub follows_stop : (A : Type 0) (why : BlobFault)
       → (reader_tap to).ghost_name ≡ (reader_tap from).ghost_name → limits_of to ≡ limits_of from
       → reader_failures to ≡ count_failure (failed_by_read {A = A} (Err why)) (reader_failures from)
-      → given to ≤ 2 ^ 62 → Follows from to (is_read_stop why)
+      → given to ≤ MAX_BYTES → Follows from to (is_read_stop why)
   follows_stop A why same limits failures within =
       record {
         same_tap = same;

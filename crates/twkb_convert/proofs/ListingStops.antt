@@ -1,5 +1,6 @@
 -- What the caller of a stream's conversion learns from a stop.
-use Rattle.twkb_convert.proofs.Prelude.{◌≡◌, ◌∙◌, ◌+◌, ◌<◌, ◌^◌, ℕ, List, [], ◌++◌, Option, Some, None, Bool, true}
+use Rattle.twkb_io.specs.declared.TheConstants.{MAX_BYTES}
+use Rattle.twkb_convert.proofs.Prelude.{◌≡◌, ◌∙◌, ◌+◌, ◌<◌, ℕ, List, [], ◌++◌, Option, Some, None, Bool, true}
 use Rattle.twkb_convert.proofs.Prelude.{false, length, ap, arith, refl, sym, subst, inl, inr, IfSome, ◌⊎◌, append-nil}
 use Rattle.twkb_convert.proofs.Prelude.{Appends, Ghosts, BeginsWith, count_failure, device_of, failures_of}
 use Rattle.twkb_convert.proofs.Prelude.{output_tap, sent_of, Tap, Output, Tree, Allowance, Stream, StreamFault}
@@ -52,7 +53,7 @@ tell (obstacle.Output out.Spent) failed told = neither failed causes.TooLong tol
 -- ---- causes
 
 long_input : (known : Option (List ℕ)) (before : ℕ) → before ≡ 0
-    → IfSome known (λ all. 2 ^ 62 < before + length all) → IfSome known (λ all. 2 ^ 62 < length all)
+    → IfSome known (λ all. MAX_BYTES < before + length all) → IfSome known (λ all. MAX_BYTES < length all)
 long_input None before start long = tt
 long_input (Some all) before start long = omega (arith, start, long)
 

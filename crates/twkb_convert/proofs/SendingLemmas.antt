@@ -1,4 +1,5 @@
 -- The places where the sending of a table stops.
+use Rattle.twkb_io.specs.declared.TheConstants.{MAX_BYTES}
 use Rattle.twkb_convert.proofs.Prelude.{◌≡◌, ◌∙◌, ◌+◌, ◌<◌, ◌≤◌, ◌-◌, ◌^◌, ℕ, Bool, true, false, List, [], ◌∷◌, ◌++◌}
 use Rattle.twkb_convert.proofs.Prelude.{Option, Some, None, Err, length, ap, arith, refl, sym, subst, inl, inr}
 use Rattle.twkb_convert.proofs.Prelude.{length-append, IfSome, append-nil, flat_map-append, Refused, Took, is_spent}
@@ -257,7 +258,7 @@ pub stopped_uncounted : {R W : Type 0} (style : Style) (l : Allowance)
     (remaining : R → Option (List ℕ)) (contents : W → Option (List ℕ)) (told : Option (List ℕ))
     (passed : ℕ) (table : TableReader R) (old new : Output W)
     (done last : ℕ) (work : Work) → SentSoFar style l remaining contents told table old new done
-    work → done ≡ last → 2 ^ 62 < last
+    work → done ≡ last → MAX_BYTES < last
     → Stopped style l contents told passed old new (record { done = last; why = obstacle.Output out.TooLong })
 stopped_uncounted style l remaining contents told passed table old new done last work s at_last many = record {
   bytes = canonical_stream style s.geometries;

@@ -1,5 +1,6 @@
 -- From a listing of located blobs as a table to the result of unpacking.
-use Rattle.twkb_convert.proofs.Prelude.{IfSome, IfOk, IfErr, Result, Ok, Err, ◌≡◌, ◌∙◌, ◌<◌, ◌^◌, ℕ, List, ◌++◌}
+use Rattle.twkb_io.specs.declared.TheConstants.{MAX_BYTES}
+use Rattle.twkb_convert.proofs.Prelude.{IfSome, IfOk, IfErr, Result, Ok, Err, ◌≡◌, ◌∙◌, ◌<◌, ℕ, List, ◌++◌}
 use Rattle.twkb_convert.proofs.Prelude.{Option, Some, None, length, ap, sym, subst, inl, inr, Appends, map-append}
 use Rattle.twkb_convert.proofs.Prelude.{length-map, Tap, device_of, Tree, Allowance, Stream, Located, AtMostOneCut}
 use Rattle.twkb_convert.proofs.Prelude.{table_text, LocatedStream, geometries_of, listing_text, HoldsWhole, Report}
@@ -47,7 +48,7 @@ explains_without l old told bytes causes.WriteDevice whole later left e = tt
 explains_without l old told bytes causes.Memory whole later left e = (ap geometries_of e.0, e.1)
 explains_without l old told bytes causes.TooLong whole later left (inl long) = inl long
 explains_without l old told bytes causes.TooLong whole later left (inr long) = inr
-    (subst (λ (t : List ℕ). 2 ^ 62 < length t) (all_text whole later) long)
+    (subst (λ (t : List ℕ). MAX_BYTES < length t) (all_text whole later) long)
 explains_without l old told bytes causes.TooManyRecords whole later left e = e
 
 module _ {R W : Type 0} (l : Allowance) (remaining : R → Option (List ℕ))

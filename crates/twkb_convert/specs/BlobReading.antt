@@ -1,11 +1,12 @@
 -- The effect of one call of a reader of blobs on the bytes left.
-use Rattle.std.specs.Prelude.{ℕ, ◌≡◌, ◌+◌, ◌^◌, ◌<◌, List, [], ◌++◌, length, Bool, Option, IfSome, ⊤}
+use Rattle.std.specs.Prelude.{ℕ, ◌≡◌, ◌+◌, ◌<◌, List, [], ◌++◌, length, Bool, Option, IfSome, ⊤}
 use Rattle.std.specs.Io.KnownBytes.{Consumes}
 use Rattle.std.specs.Borrow.{MutBor}
 use Rattle.std.specs.declared.io.traits.Read.{Ghosts}
 use Rattle.twkb_io.specs.declared.tap.Tap.{Tap}
 use Rattle.twkb_io.specs.declared.input.InFault.TheVariants as input
 use Rattle.twkb_io.specs.Inputs as Inputs
+use Rattle.twkb_io.specs.declared.TheConstants.{MAX_BYTES}
 use Rattle.twkb_tree.specs.Limits.{Allowance}
 use Rattle.twkb_grammar.specs.Fault.{FirstFault}
 use Rattle.twkb_engine.specs.declared.blob_reason.BlobReason.{BlobReason}
@@ -76,7 +77,7 @@ pub record GaveOnly (limits : Allowance) (old : Option (List ℕ)) (bytes : List
 abbrev pub Misses : Allowance → Option (List ℕ) → ℕ → Option (List ℕ) → BlobFault → Type 0
 Misses limits old before told stop.Memory = ⊤
 Misses limits old before told (stop.Device input.Read) = GaveOnly limits old [] told
-Misses limits old before told (stop.Device input.TooLong) = IfSome old (λ bytes. 2 ^ 62 < before + length bytes)
+Misses limits old before told (stop.Device input.TooLong) = IfSome old (λ bytes. MAX_BYTES < before + length bytes)
 Misses limits old before told (stop.Device input.Spent) = ⊥
 Misses limits old before told stop.Spent = ⊥
 Misses limits old before told (stop.At offset why) = IfSome old (λ bytes. RefusesBlob limits bytes before offset why)

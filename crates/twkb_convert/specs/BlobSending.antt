@@ -1,8 +1,9 @@
 -- How far the texts of a stream's blobs were sent.
-use Rattle.std.specs.Prelude.{◌≡◌, ◌≢◌, ℕ, ◌+◌, ◌^◌, ◌<◌, ◌≤◌, ◌⊎◌, List, [], ◌++◌, length, Option, IfSome, Bool}
+use Rattle.std.specs.Prelude.{◌≡◌, ◌≢◌, ℕ, ◌+◌, ◌<◌, ◌≤◌, ◌⊎◌, List, [], ◌++◌, length, Option, IfSome, Bool}
 use Rattle.std.specs.Prelude.{true, false, ⊤}
 use Rattle.std.specs.Io.KnownBytes.{IsAtEnd}
 use Rattle.std.specs.declared.io.traits.Read.{Ghosts}
+use Rattle.twkb_io.specs.declared.TheConstants.{MAX_BYTES}
 use Rattle.twkb_io.specs.Taps.{count_failure, device_of}
 use Rattle.twkb_io.specs.Outputs.{Cut, Sent, Took, is_device, is_spent, output_failures, sent_of}
 use Rattle.twkb_io.specs.declared.output.Output.{Output}
@@ -55,7 +56,7 @@ pub record Follows {R : Type 0} {read : Ghosts R} (old new : Reader R read) (has
   pub same_tap : (reader_tap new).ghost_name ≡ (reader_tap old).ghost_name
   pub limits : limits_of new ≡ limits_of old
   pub failures : reader_failures new ≡ count_failure has_failed (reader_failures old)
-  pub within : given new ≤ 2 ^ 62
+  pub within : given new ≤ MAX_BYTES
 
 -- if the bytes were known, the device has none left
 abbrev pub IsEnded : {R : Type 0} {read : Ghosts R} → (R → Option (List ℕ)) → Reader R read → Reader R read → Type 0
@@ -144,7 +145,7 @@ abbrev pub ExplainsStream : Allowance → Option (List ℕ) → Option (List ℕ
 ExplainsStream l old told before bytes blob.Memory = ⊤
 ExplainsStream l old told before bytes blob.Spent = ⊥
 ExplainsStream l old told before bytes (blob.Device input.Read) = GaveOnly l old bytes told
-ExplainsStream l old told before bytes (blob.Device input.TooLong) = IfSome old (λ all. 2 ^ 62 < before + length all)
+ExplainsStream l old told before bytes (blob.Device input.TooLong) = IfSome old (λ all. MAX_BYTES < before + length all)
 ExplainsStream l old told before bytes (blob.Device input.Spent) = ⊥
 ExplainsStream l old told before bytes (blob.At offset reason) =
     IfSome old (λ all. (left : List ℕ) × (all ≡ bytes ++ left)
@@ -157,7 +158,7 @@ abbrev pub ExplainsObstacle : Allowance → Option (List ℕ) → Option (List �
 ExplainsObstacle l old told before bytes (obstacle.Stream why) sent text later left = (later ≡ [])
     × (left ≡ []) × ExplainsStream l old told before bytes why
 ExplainsObstacle l old told before bytes (obstacle.Output why) sent text later left =
-    (why ≡ out.TooLong → 2 ^ 62 < sent + length text) × (why ≢ out.Spent)
+    (why ≡ out.TooLong → MAX_BYTES < sent + length text) × (why ≢ out.Spent)
 
 -- A prefix of the text of a stream was sent, with the whole text of the first blobs, given the
 -- text of its blobs.

@@ -1,7 +1,8 @@
 -- How far the text of a stream was written, and why it stopped. The blobs are given as trees, or as
 -- trees with their spans.
-use Rattle.std.specs.Prelude.{◌≡◌, ℕ, ◌^◌, ◌<◌, ◌⊎◌, List, [], ◌++◌, length, Option, IfSome, ⊤}
+use Rattle.std.specs.Prelude.{◌≡◌, ℕ, ◌<◌, ◌⊎◌, List, [], ◌++◌, length, Option, IfSome, ⊤}
 use Rattle.std.specs.Io.KnownBytes.{Appends, IsAtEnd}
+use Rattle.twkb_io.specs.declared.TheConstants.{MAX_BYTES}
 use Rattle.twkb_io.specs.Taps.{device_of, failures_of}
 use Rattle.twkb_io.specs.declared.tap.Tap.{Tap}
 use Rattle.twkb_io.specs.declared.input.InFault.TheVariants as input
@@ -50,7 +51,7 @@ ExplainsListingCause trees_of text_of l old told bytes cause.ReadDevice whole la
 ExplainsListingCause trees_of text_of l old told bytes cause.WriteDevice whole later left = ⊤
 ExplainsListingCause trees_of text_of l old told bytes cause.Memory whole later left = (later ≡ []) × (left ≡ [])
 ExplainsListingCause trees_of text_of l old told bytes cause.TooLong whole later left =
-    IfSome old (λ all. 2 ^ 62 < length all) ⊎ (2 ^ 62 < length (text_of (whole ++ later)))
+    IfSome old (λ all. MAX_BYTES < length all) ⊎ (MAX_BYTES < length (text_of (whole ++ later)))
 ExplainsListingCause trees_of text_of l old told bytes cause.TooManyRecords whole later left = ⊥
 
 -- The bytes of the reader begin with blobs, and the writer took a prefix of their text, with the

@@ -1,6 +1,7 @@
 -- The result of packing a table.
 use Rattle.std.specs.Prelude.{◌≡◌, ℕ, ◌-◌, ◌^◌, ◌<◌, ◌≤◌, ◌*◌, ◌⊎◌, List, [], ◌++◌, length, Option, ⊤}
 use Rattle.std.specs.Io.KnownBytes.{Appends, IsAtEnd}
+use Rattle.twkb_io.specs.declared.TheConstants.{MAX_BYTES}
 use Rattle.twkb_io.specs.Taps.{bytes_given, device_of, failures_of}
 use Rattle.twkb_io.specs.declared.tap.Tap.{Tap}
 use Rattle.twkb_tree.specs.Tree.{Tree}
@@ -58,11 +59,11 @@ ExplainsPackingCause style l told given cause.TooManyRecords whole later front =
     (later ≡ []) × (front ≡ []) × HasTooMany l told whole
 ExplainsPackingCause style l told given (cause.Blob offset reason) whole later front = ⊥
 ExplainsPackingCause style l told given cause.ReadDevice whole later front =
-    ((later ≡ []) × (front ≡ [])) ⊎ (2 ^ 62 < length (canonical_stream style (whole ++ later)))
+    ((later ≡ []) × (front ≡ [])) ⊎ (MAX_BYTES < length (canonical_stream style (whole ++ later)))
 ExplainsPackingCause style l told given cause.WriteDevice whole later front = ⊤
 ExplainsPackingCause style l told given cause.Memory whole later front = (later ≡ []) × (front ≡ [])
 ExplainsPackingCause style l told given cause.TooLong whole later front =
-    (2 ^ 62 < length (canonical_stream style (whole ++ later)))
+    (MAX_BYTES < length (canonical_stream style (whole ++ later)))
     ⊎ ((later ≡ []) × (front ≡ []) × NamesAll l told whole × (2 ^ 64 - 1 ≤ given))
 
 -- the cause says what the obstacle says, for any output that had sent nothing before

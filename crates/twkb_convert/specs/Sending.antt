@@ -1,6 +1,7 @@
 -- How far the geometries of a table were sent.
 use Rattle.std.specs.Prelude.{◌≡◌, ◌≢◌, ℕ, ◌+◌, ◌-◌, ◌^◌, ◌<◌, ◌≤◌, List, [], ◌∷◌, ◌++◌, length, Option, Result, Ok}
 use Rattle.std.specs.Prelude.{Err, Bool, true, false, ⊤}
+use Rattle.twkb_io.specs.declared.TheConstants.{MAX_BYTES}
 use Rattle.twkb_io.specs.Taps.{count_failure}
 use Rattle.twkb_io.specs.Outputs.{Cut, Sent, Took, is_device, is_spent, output_failures, sent_of}
 use Rattle.twkb_io.specs.declared.output.OutFault.{OutFault}
@@ -129,7 +130,7 @@ ExplainsWhy style l told given (obstacle.Table fault.Spent) sent whole later fro
 ExplainsWhy style l told given obstacle.Undrained sent whole later front = (later ≡ [])
     × (front ≡ []) × NamesAll l told whole × (2 ^ 64 - 1 ≤ given)
 ExplainsWhy style l told given (obstacle.Output f) sent whole later front =
-    (f ≡ out.TooLong → 2 ^ 62 < sent + length (canonical_stream style (whole ++ later))) × (f ≢ out.Spent)
+    (f ≡ out.TooLong → MAX_BYTES < sent + length (canonical_stream style (whole ++ later))) × (f ≢ out.Spent)
 
 -- The blobs of some geometries were sent, and a prefix of the next blob.
 pub record Stopped {W : Type 0} (style : Style) (l : Allowance) (contents : W → Option (List ℕ))

@@ -5,6 +5,7 @@ use Rattle.std.proofs.Common.{append-nil, arith, rules, Fits, w32}
 use Rattle.std.specs.Vec.{with_items}
 use Rattle.std.proofs.lemmas.List.{with_items_is, length-append, length-map}
 use Rattle.twkb_points.specs.Point.{Point, AreInRange}
+use Rattle.twkb_tree.specs.declared.limits.TheConstants.{POINTS_CAP}
 use Rattle.twkb_tree.specs.Limits.{largest_limits}
 use Rattle.twkb_tree.specs.Rows.{Row as TableRow, row_points}
 use Rattle.twkb_tree.specs.RowGrowth.{point_added, points_added}
@@ -60,7 +61,7 @@ laid_room_for n at total (e ∷ f ∷ es) (first, rest) few = laid_room_for n (a
 
 -- there is a last entry, and it can count this many more points
 pub can_count_more : (n : ℕ) (rows : List TableRow) (es was : List KeptNode) (ps : List Point)
-    → StandFor rows es ps → length (row_points rows) + n ≤ 2 ^ 24 → was ≡ es → (0 < length was)
+    → StandFor rows es ps → length (row_points rows) + n ≤ POINTS_CAP → was ≡ es → (0 < length was)
     × LastHasRoomFor n was
 can_count_more n rows es was ps s room is = (
   omega (arith, ap (λ (xs : List KeptNode). length xs) is, (point_fits es ps rows s.flat s.view s.line).0),
@@ -131,7 +132,7 @@ same_stand rows es after ps s spans links =
 
 -- Points are appended, and counted together.
 pub points_more : (more : List Point) (rows : List TableRow) (es after : List KeptNode) (ps all : List Point)
-    → StandFor rows es ps → length (row_points rows) + length more ≤ 2 ^ 24 → AreInRange more
+    → StandFor rows es ps → length (row_points rows) + length more ≤ POINTS_CAP → AreInRange more
     → map span_of after ≡ last_longer_by (length more) (map span_of es)
     → links_in after ≡ links_in es → all ≡ ps ++ more → StandFor (points_added more rows) after all
 points_more [] rows es after ps all s room within spans links appended =
@@ -141,7 +142,7 @@ points_more (p ∷ more) rows es after ps all s room within spans links appended
     let counted : HasCounted es (count_last es) = record { spans = counted_spans es; links = counted_links es } in
     let one = one_more rows es (count_last es) ps (ps ++ p ∷ []) p s (omega (arith, room)) within.0 counted refl in
     let total : length (ps ++ p ∷ []) ≡ length ps + 1 = length-append ps (p ∷ []) in
-    let longer_rows : length (row_points (point_added p rows)) + length more ≤ 2 ^ 24 =
+    let longer_rows : length (row_points (point_added p rows)) + length more ≤ POINTS_CAP =
     omega (
       arith,
       room,

@@ -1,9 +1,10 @@
 -- Points that are appended one after another, each counted in the last entry.
-use Rattle.std.proofs.Common.{Vec, ◌≡◌, ℕ, ◌+◌, ◌<◌, ◌≤◌, ◌^◌, List, [], ◌∷◌, ◌++◌, map, length}
+use Rattle.std.proofs.Common.{Vec, ◌≡◌, ℕ, ◌+◌, ◌<◌, ◌≤◌, List, [], ◌∷◌, ◌++◌, map, length}
 use Rattle.std.proofs.Common.{sym, ap, ◌∙◌, subst, arith}
 use Rattle.std.specs.Vec.{with_items}
 use Rattle.std.proofs.lemmas.List.{with_items_is, length-append, length-map}
 use Rattle.twkb_points.specs.Point.{Point, IsInRange}
+use Rattle.twkb_tree.specs.declared.limits.TheConstants.{POINTS_CAP}
 use Rattle.twkb_tree.specs.Rows.{Row as TableRow, row_points}
 use Rattle.twkb_tree.specs.RowGrowth.{with_point, point_added, EndsInLine}
 use Rattle.twkb_tree.proofs.PointAdded.{point_last}
@@ -54,7 +55,7 @@ vec_counted v was after is spans links =
 
 -- one more point is appended and counted
 pub one_more : (rows : List TableRow) (es after : List KeptNode) (ps more : List Point) (p : Point)
-    → StandFor rows es ps → length (row_points rows) < 2 ^ 24 → IsInRange p → HasCounted es after
+    → StandFor rows es ps → length (row_points rows) < POINTS_CAP → IsInRange p → HasCounted es after
     → more ≡ ps ++ p ∷ [] → StandFor (point_added p rows) after more
 one_more rows es after ps more p s room within counted appended =
     subst (StandFor (point_added p rows) after) (sym appended) (record {
@@ -66,13 +67,13 @@ one_more rows es after ps more p s room within counted appended =
 
 -- two more points are appended and counted
 pub two_more : (rows : List TableRow) (es mid after : List KeptNode) (ps one both : List Point) (p q : Point)
-    → StandFor rows es ps → length (row_points rows) + 2 ≤ 2 ^ 24 → IsInRange p → IsInRange q
+    → StandFor rows es ps → length (row_points rows) + 2 ≤ POINTS_CAP → IsInRange p → IsInRange q
     → HasCounted es mid → HasCounted mid after → one ≡ ps ++ p ∷ [] → both ≡ one ++ q ∷ []
     → StandFor (point_added q (point_added p rows)) after both
 two_more rows es mid after ps one both p q s room p_within q_within first second appended appended_too =
     let middle = one_more rows es mid ps one p s (omega (arith, room)) p_within first appended in
     let total : length one ≡ length ps + 1 = ap (λ (qs : List Point). length qs) appended ∙ length-append ps (p ∷ []) in
-    let longer : length (row_points (point_added p rows)) < 2 ^ 24 = omega
+    let longer : length (row_points (point_added p rows)) < POINTS_CAP = omega
     (arith, room, total, rows_have rows es ps s, rows_have (point_added p rows) mid one middle)
     in
     one_more (point_added p rows) mid after one both q middle longer q_within second appended_too

@@ -1,11 +1,12 @@
 -- What is true of the rows of a flat form, and what determines its nodes.
-use Rattle.std.proofs.Common.{◌≡◌, ℕ, ◌+◌, ◌≤◌, ◌^◌, List, [], ◌∷◌, ◌++◌, length, Option, None, sym}
+use Rattle.std.proofs.Common.{◌≡◌, ℕ, ◌+◌, ◌≤◌, List, [], ◌∷◌, ◌++◌, length, Option, None, sym}
 use Rattle.std.proofs.Common.{ap, ◌∙◌, arith, inl, inr}
 use Rattle.std.specs.Prelude.{ℤ}
 use Rattle.std.proofs.lemmas.Bool.{cases_lt}
 use Rattle.std.proofs.lemmas.List.{append_assoc}
 use Rattle.twkb_points.specs.Point.{Point}
 use Rattle.twkb_tree.specs.declared.kind.Kind.{Kind}
+use Rattle.twkb_tree.specs.declared.limits.TheConstants.{NODES_CAP, POINTS_CAP}
 use Rattle.twkb_tree.specs.Limits.{largest_limits, IsValid}
 use Rattle.twkb_tree.specs.Tree.{Tree, flat, saturated}
 use Rattle.twkb_tree.specs.Rows.{Row as TableRow, rows, row_points}
@@ -22,7 +23,7 @@ use Rattle.twkb_flat.specs.Rows.{IsNode, row_with, depths}
 -- ---- caps
 
 -- there are at most as many rows as allowed
-pub few_nodes : (rs : List TableRow) → AreValidRowsOfOne largest_limits rs → length rs ≤ 2 ^ 20
+pub few_nodes : (rs : List TableRow) → AreValidRowsOfOne largest_limits rs → length rs ≤ NODES_CAP
 few_nodes [] v = omega arith
 few_nodes (r ∷ rs) v =
     let same : length (rows 0 v.0) ≡ length (r ∷ rs) = ap (λ xs. length xs) v.2 in
@@ -30,7 +31,7 @@ few_nodes (r ∷ rs) v =
     omega (arith, same, kept, length-rows_with None 0 v.0)
 
 -- there are at most as many points as allowed
-pub few_points : (rs : List TableRow) → AreValidRowsOfOne largest_limits rs → length (row_points rs) ≤ 2 ^ 24
+pub few_points : (rs : List TableRow) → AreValidRowsOfOne largest_limits rs → length (row_points rs) ≤ POINTS_CAP
 few_points [] v = omega arith
 few_points (r ∷ rs) v =
     let same : length (flat v.0) ≡ length (row_points (r ∷ rs)) = ap (λ xs. length xs)

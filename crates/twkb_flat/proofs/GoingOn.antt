@@ -1,7 +1,8 @@
 -- What is true of a row that continues the geometry of the rows so far.
-use Rattle.std.proofs.Common.{◌≡◌, ◌+◌, ◌<◌, ◌≤◌, ◌^◌, List, [], ◌∷◌, ◌++◌, length, sym, ap, ◌∙◌, arith}
+use Rattle.std.proofs.Common.{◌≡◌, ◌+◌, ◌<◌, ◌≤◌, List, [], ◌∷◌, ◌++◌, length, sym, ap, ◌∙◌, arith}
 use Rattle.std.specs.Prelude.{reverse}
 use Rattle.std.proofs.lemmas.List.{length-reverse, length-map}
+use Rattle.twkb_tree.specs.declared.limits.TheConstants.{NODES_CAP, POINTS_CAP}
 use Rattle.twkb_tree.specs.Limits.{largest_limits}
 use Rattle.twkb_tree.specs.Rows.{Row, row_points}
 use Rattle.twkb_tree.specs.Admits.{steps_to, parent, first_child, fits}
@@ -20,8 +21,8 @@ use Rattle.twkb_flat.proofs.FlatOpenLemmas.{open_levels}
 pub record GoesOn (rows : List Row) (r : Row) : Type 0 where
   pub valid : AreValidRowsOfOne largest_limits (rows ++ r ∷ [])
   pub place : MayFollow (depths rows) r.depth
-  pub nodes : length rows < 2 ^ 20
-  pub most : length (row_points rows) + length r.points ≤ 2 ^ 24
+  pub nodes : length rows < NODES_CAP
+  pub most : length (row_points rows) + length r.points ≤ POINTS_CAP
 
 -- no root comes after another row
 no_root : (rows : List Row) (r : Row) → IsOneRoot rows r → 0 < length rows → 0 < r.depth
@@ -37,8 +38,8 @@ goes_on rows r v h =
     (fits (parent r.depth (reverse rows)) (first_child r.depth (reverse rows)) r)
     h.0.admitted).0 in
     let counted = one_geometry_rows rows r one h.1 in
-    let few : length (geometry_rows r.depth (reverse rows)) < 2 ^ 20 = h.0.nodes in
-    let room_left : point_count (geometry_rows r.depth (reverse rows)) + length r.points ≤ 2 ^ 24 = h.0.points in
+    let few : length (geometry_rows r.depth (reverse rows)) < NODES_CAP = h.0.nodes in
+    let room_left : point_count (geometry_rows r.depth (reverse rows)) + length r.points ≤ POINTS_CAP = h.0.points in
     let all : length (geometry_rows r.depth (reverse rows)) ≡ length rows = ap (λ xs. length xs)
     counted ∙ length-reverse rows in
     let points : point_count (geometry_rows r.depth (reverse rows)) ≡ length (row_points rows) =

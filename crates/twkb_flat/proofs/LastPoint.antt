@@ -4,6 +4,7 @@ use Rattle.std.proofs.Common.{length, take, drop, set, get_or, refl, sym, ap, �
 use Rattle.std.proofs.Common.{rules, Fits, w32}
 use Rattle.std.proofs.lemmas.List.{length-append, length-drop, length-map, take_all, take-append-le, drop-append-le}
 use Rattle.twkb_points.specs.Point.{Point, IsInRange}
+use Rattle.twkb_tree.specs.declared.limits.TheConstants.{POINTS_CAP}
 use Rattle.twkb_tree.specs.Limits.{largest_limits}
 use Rattle.twkb_tree.specs.Rows.{Row as TableRow, row_points}
 use Rattle.twkb_tree.specs.RowGrowth.{point_added, EndsInLine}
@@ -150,7 +151,7 @@ point_flat es after ps p rows flat view e valid spans links =
 -- the rows with one more point are valid if there is room
 pub point_valid : (es : List KeptNode) (ps : List Point) (p : Point) (rows : List TableRow)
     → IsFlat es ps → listed (map span_of es) ps ≡ rows → EndsInLine rows
-    → length (row_points rows) < 2 ^ 24 → IsInRange p
+    → length (row_points rows) < POINTS_CAP → IsInRange p
     → AreValidRowsOfOne largest_limits (point_added p rows)
 point_valid es ps p rows flat view e room within = line_more largest_limits rows p e within room
     (subst (AreValidRowsOfOne largest_limits) view flat.valid)

@@ -1,5 +1,5 @@
 -- A member of a multipoint is added after another member.
-use Rattle.std.proofs.Common.{◌≡◌, ℕ, zero, suc, ◌+◌, ◌-◌, ◌<◌, ◌≤◌, ◌^◌, ℤ, Bool, true, List, []}
+use Rattle.std.proofs.Common.{◌≡◌, ℕ, zero, suc, ◌+◌, ◌-◌, ◌<◌, ◌≤◌, ℤ, Bool, true, List, []}
 use Rattle.std.proofs.Common.{◌∷◌, ◌++◌, map, length, set, get_or, Option, Some, None, refl, sym}
 use Rattle.std.proofs.Common.{ap, ◌∙◌, subst, arith}
 use Rattle.std.specs.Prelude.{reverse, is_some, is_none, nat_le}
@@ -7,6 +7,7 @@ use Rattle.std.proofs.lemmas.List.{length-append, length_push, map_push, reverse
 use Rattle.twkb_points.specs.Point.{Point, IsInRange}
 use Rattle.twkb_tree.specs.declared.kind.Kind.{Kind}
 use Rattle.twkb_tree.specs.declared.open_rows.OpenRow.{OpenRow}
+use Rattle.twkb_tree.specs.declared.limits.TheConstants.{POINTS_CAP, NODES_CAP}
 use Rattle.twkb_tree.specs.Limits.{largest_limits}
 use Rattle.twkb_tree.specs.Rows.{Row as TableRow, plain_row, row_points}
 use Rattle.twkb_tree.specs.Admits.{id_in_range, has_same_ids, fits}
@@ -84,7 +85,7 @@ same_ids (Some n) = refl
 
 -- one more member may come, by the open rows
 open_admits : (above : List OpenRow) (id : Option ℤ) (p : Point) (nodes points : ℕ)
-    → id_in_range id ≡ true → IsInRange p → nodes < 2 ^ 20 → points < 2 ^ 24
+    → id_in_range id ≡ true → IsInRange p → nodes < NODES_CAP → points < POINTS_CAP
     → open_continues largest_limits (with_member above (is_some id)) nodes points
     (plain_row (suc (length above)) Kind.Point id (p ∷ [])) ≡ true
 open_admits above id p nodes points range in_range few room =
@@ -109,14 +110,14 @@ open_admits above id p nodes points range in_range few room =
 -- one more member continues the geometry
 member_continues : (rows : List TableRow) (d : ℕ) (id : Option ℤ) (p : Point)
     → AreValidRowsOfOne largest_limits rows → EndsInMember d (is_some id) rows
-    → id_in_range id ≡ true → IsInRange p → length rows < 2 ^ 20 → length (row_points rows) < 2 ^ 24
+    → id_in_range id ≡ true → IsInRange p → length rows < NODES_CAP → length (row_points rows) < POINTS_CAP
     → Continues largest_limits rows (plain_row d Kind.Point id (p ∷ []))
 member_continues rows d id p valid ends range in_range few room =
     let e = ends.ends in
     let os_open = subst (λ os. AreOpen (reverse rows) os) e.whole ends.are_open in
     let r = plain_row (suc (length e.above)) Kind.Point id (p ∷ []) in
     let goes = open_admits e.above id p (length rows) _ range in_range few
-    (subst (λ n. n < 2 ^ 24) (length-row_points rows) room) in
+    (subst (λ n. n < POINTS_CAP) (length-row_points rows) room) in
     subst (λ k. Continues largest_limits rows (plain_row k Kind.Point id (p ∷ []))) (sym e.depth)
     (continues_is largest_limits rows r
     (sym (continues_open largest_limits rows (with_member e.above (is_some id)) r
@@ -228,8 +229,8 @@ member_pushed es mid after ps now p e last first total d id rows flat view ends 
 -- the form after the new member, and its rows
 pub member_kept : (es after : List KeptNode) (ps now : List Point) (p : Point) (d : ℕ)
     (id : Option ℤ) (rows : List TableRow) → IsFlat es ps → listed (map span_of es) ps ≡ rows
-    → EndsInMember d (is_some id) rows → id_in_range id ≡ true → IsInRange p → length rows < 2 ^ 20
-    → length (row_points rows) < 2 ^ 24
+    → EndsInMember d (is_some id) rows → id_in_range id ≡ true → IsInRange p → length rows < NODES_CAP
+    → length (row_points rows) < POINTS_CAP
     → Pushed es after ps (p ∷ []) now (record { depth = d; kind = Kind.Point; id = id; precision = None })
     → IsFlat after now × (listed (map span_of after) now ≡ rows ++ plain_row d Kind.Point id (p ∷ []) ∷ [])
 member_kept es after ps now p d id rows flat view ends range in_range few room pushed =

@@ -1,9 +1,10 @@
 -- The form after a push.
-use Rattle.std.proofs.Common.{◌≡◌, ℕ, ◌+◌, ◌-◌, ◌≤◌, ◌^◌, List, [], ◌∷◌, ◌++◌, map, length, take}
+use Rattle.std.proofs.Common.{◌≡◌, ℕ, ◌+◌, ◌-◌, ◌≤◌, List, [], ◌∷◌, ◌++◌, map, length, take}
 use Rattle.std.proofs.Common.{get_or, refl, sym, ap, ◌∙◌, subst, arith}
 use Rattle.std.proofs.lemmas.List.{length-map, length-append, length_push, map_push, take_all}
 use Rattle.std.proofs.lemmas.List.{take_at, take-append-le, get_or_push}
 use Rattle.twkb_points.specs.Point.{Point}
+use Rattle.twkb_tree.specs.declared.limits.TheConstants.{POINTS_CAP}
 use Rattle.twkb_tree.specs.Limits.{largest_limits}
 use Rattle.twkb_tree.specs.Rows.{Row as TableRow, row_points}
 use Rattle.twkb_tree.specs.Accepted.{Continues}
@@ -143,7 +144,7 @@ cut_back ps qs now back n n_is now_is cut = cut ∙ ap (take n) now_is
 -- there is room for the points of a row that continues the geometry
 pub points_left : (es : List KeptNode) (ps : List Point) (row : Row) (qs : List Point) (rows : List TableRow)
     → IsFlat es ps → listed (map span_of es) ps ≡ rows
-    → Continues largest_limits rows (row_with row qs) → length ps + length qs ≤ 2 ^ 24
+    → Continues largest_limits rows (row_with row qs) → length ps + length qs ≤ POINTS_CAP
 points_left es ps row qs rows flat view continues =
     let goes = admitted es ps row qs rows flat view continues in
     let points_total = ap (λ (rs : List TableRow). length (row_points rs)) (sym view)

@@ -1,6 +1,7 @@
 -- The stored nodes, and the rows that they stand for.
 use Rattle.std.specs.Prelude.{ℕ, ◌≡◌, ◌+◌, ◌<◌, ◌≤◌, ◌^◌, ⊤, List, [], ◌∷◌, ◌++◌, map, length, slice_index, take, drop}
 use Rattle.twkb_points.specs.Point.{Point}
+use Rattle.twkb_tree.specs.declared.limits.TheConstants.{NODES_CAP, POINTS_CAP}
 use Rattle.twkb_tree.specs.Limits.{largest_limits}
 use Rattle.twkb_tree.specs.Rows.{Row as TableRow}
 use Rattle.twkb_tree.specs.RowLists.{AreValidRowsOfOne}
@@ -61,8 +62,8 @@ pub record IsFlat (entries : List KeptNode) (points : List Point) : Type 0 where
   pub laid : Laid 0 (map span_of entries) (length points)
   pub linked : Linked (depths_in entries) (links_in entries)
   pub valid : AreValidRowsOfOne largest_limits (listed (map span_of entries) points)
-  pub nodes : length entries ≤ 2 ^ 20
-  pub most : length points ≤ 2 ^ 24
+  pub nodes : length entries ≤ NODES_CAP
+  pub most : length points ≤ POINTS_CAP
 
 -- a span with one more point
 abbrev pub longer : PlacedRow → PlacedRow

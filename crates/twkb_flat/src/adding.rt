@@ -1,6 +1,7 @@
 //! Points and members that are appended to the last row of a flat form.
-ghost use Rattle.std.specs.Prelude.{◌≡◌, ◌↔◌, ◌+◌, ◌<◌, ◌≤◌, ◌^◌, ◌++◌, ◌∷◌, [], length, OnOk};
+ghost use Rattle.std.specs.Prelude.{◌≡◌, ◌↔◌, ◌+◌, ◌<◌, ◌≤◌, ◌++◌, ◌∷◌, [], length, OnOk};
 ghost use Rattle.std.specs.Prelude.{OnErr, IsTrue, true, is_some};
+ghost use Rattle.twkb_tree.specs.declared.limits.TheConstants.{POINTS_CAP, NODES_CAP};
 ghost use Rattle.twkb_tree.specs.Rows.{row_points, plain_row};
 ghost use Rattle.twkb_tree.specs.RowGrowth.{EndsInLine, point_added, points_added};
 ghost use Rattle.twkb_flat.specs.Members.{EndsInMember};
@@ -21,7 +22,7 @@ impl Flat {
     /// there are fewer than 2^24 points. Takes no memory.
     #[inline(always)]
     pub fn takes_point(&self) -> bool
-        ensures { IsTrue result ↔ (EndsInLine self.now × (length (row_points self.now) < 2 ^ 24)) }
+        ensures { IsTrue result ↔ (EndsInLine self.now × (length (row_points self.now) < POINTS_CAP)) }
     {
         if !ends_in_line(&self.entries) {
             return false;
@@ -33,7 +34,7 @@ impl Flat {
     /// ring. `false` proves nothing. Takes no memory.
     pub fn takes_points(&self, count: u64) -> bool
         ensures line { result ≡ true → EndsInLine self.now }
-        ensures room { result ≡ true → length (row_points self.now) + count ≤ 2 ^ 24 }
+        ensures room { result ≡ true → length (row_points self.now) + count ≤ POINTS_CAP }
     {
         self.takes_point() && count <= MOST_POINTS - u64::from(self.point_count())
     }
@@ -43,7 +44,7 @@ impl Flat {
     #[inline(always)]
     pub fn add_point(&mut self, point: Pt) -> Result<(), AllocError>
         requires line { EndsInLine self.old }
-        requires room { length (row_points self.old) < 2 ^ 24 }
+        requires room { length (row_points self.old) < POINTS_CAP }
         ensures added { OnOk result (self.new ≡ point_added point self.old) }
         ensures same { OnErr result (self.new ≡ self.old) }
     {
@@ -62,7 +63,7 @@ impl Flat {
     #[inline(always)]
     pub fn add_two(&mut self, first: Pt, second: Pt) -> Result<(), AllocError>
         requires line { EndsInLine self.old }
-        requires room { length (row_points self.old) + 2 ≤ 2 ^ 24 }
+        requires room { length (row_points self.old) + 2 ≤ POINTS_CAP }
         ensures added { OnOk result (self.new ≡ point_added second (point_added first self.old)) }
         ensures same { OnErr result (self.new ≡ self.old) }
     {
@@ -82,7 +83,7 @@ impl Flat {
     #[inline(always)]
     pub fn add_points(&mut self, points: &[Pt]) -> Result<(), AllocError>
         requires line { EndsInLine self.old }
-        requires room { length (row_points self.old) + length points.now ≤ 2 ^ 24 }
+        requires room { length (row_points self.old) + length points.now ≤ POINTS_CAP }
         ensures added { OnOk result (self.new ≡ points_added points.now self.old) }
         ensures same { OnErr result (self.new ≡ self.old) }
     {
@@ -97,8 +98,8 @@ impl Flat {
     /// multipoint that the last row is a member of. `false` proves nothing. Takes no memory.
     pub fn takes_members(&self, depth: u32, named: bool, count: u64) -> bool
         ensures ends { result ≡ true → EndsInMember depth named self.now }
-        ensures nodes { result ≡ true → length self.now + count ≤ 2 ^ 20 }
-        ensures points { result ≡ true → length (row_points self.now) + count ≤ 2 ^ 24 }
+        ensures nodes { result ≡ true → length self.now + count ≤ NODES_CAP }
+        ensures points { result ≡ true → length (row_points self.now) + count ≤ POINTS_CAP }
     {
         if !leaves_room(self.node_count(), self.point_count(), count) {
             return false;
@@ -111,8 +112,8 @@ impl Flat {
     #[inline(always)]
     pub fn add_member(&mut self, depth: u32, id: Option<i64>, point: Pt) -> Result<(), AllocError>
         requires member { EndsInMember depth (is_some id) self.old }
-        requires nodes { length self.old < 2 ^ 20 }
-        requires points { length (row_points self.old) < 2 ^ 24 }
+        requires nodes { length self.old < NODES_CAP }
+        requires points { length (row_points self.old) < POINTS_CAP }
         ensures added { OnOk result (self.new ≡ self.old ++ plain_row depth Kind.Point id (point ∷ []) ∷ []) }
         ensures same { OnErr result (self.new ≡ self.old) }
     {

@@ -1,5 +1,5 @@
 //! The test of a row at its place.
-ghost use Rattle.std.specs.Prelude.{◌≡◌, ◌≤◌, ◌+◌, ◌^◌, ◌&&◌, true, List, length, nat_lt, nat_le};
+ghost use Rattle.std.specs.Prelude.{◌≡◌, ◌≤◌, ◌+◌, ◌&&◌, true, List, length, nat_lt, nat_le};
 ghost use Rattle.twkb_points.specs.Point.{Point, AreInRange};
 ghost use Rattle.twkb_tree.specs.Admits.{id_in_range, id_allowed, has_same_ids, precision_in_range};
 ghost use Rattle.twkb_tree.specs.Admits.{precision_fits, fits};
@@ -110,8 +110,8 @@ pub(crate) fn look(points: &[Pt])
 
 // Whether `count` rows of one point each fit beside this many rows and points.
 pub(crate) fn leaves_room(nodes: u32, points: u32, count: u64) -> bool
-    ensures nodes { result ≡ true → nodes + count ≤ 2 ^ 20 }
-    ensures points { result ≡ true → points + count ≤ 2 ^ 24 }
+    ensures nodes { result ≡ true → nodes + count ≤ NODES_CAP }
+    ensures points { result ≡ true → points + count ≤ POINTS_CAP }
 {
     count <= MOST_NODES
         && u64::from(nodes) <= MOST_NODES - count

@@ -1,7 +1,8 @@
 //! The stored nodes of a flat form.
-ghost use Rattle.std.specs.Prelude.{◌≡◌, ◌<◌, ◌≤◌, ◌+◌, ◌^◌, ◌↔◌, ◌++◌, ◌∷◌, [], IsTrue, ℕ, List};
+ghost use Rattle.std.specs.Prelude.{◌≡◌, ◌<◌, ◌≤◌, ◌+◌, ◌↔◌, ◌++◌, ◌∷◌, [], IsTrue, ℕ, List};
 ghost use Rattle.std.specs.Prelude.{length, map, take, slice_set, slice_get, OnOk, OnErr, IfErr};
 ghost use Rattle.twkb_points.specs.Point.{Point};
+ghost use Rattle.twkb_tree.specs.declared.limits.TheConstants.{POINTS_CAP};
 ghost use Rattle.twkb_tree.specs.Open.{ids_by};
 ghost use Rattle.twkb_flat.specs.Entries.{span_of, depths_in, links_in, listed, last_longer};
 ghost use Rattle.twkb_flat.specs.Entries.{LastHasRoom, LastHasRoomFor, last_longer_by, IsPut};
@@ -65,8 +66,8 @@ pub(crate) fn put_row<S: PointSource>(
     row: Row,
     source: &S,
 ) -> Result<(), S::Fault>
-    requires few { length points.old.items ≤ 2 ^ 24 }
-    requires room { (own : List Point) → S.gives source.now own → length points.old.items + length own ≤ 2 ^ 24 }
+    requires few { length points.old.items ≤ POINTS_CAP }
+    requires room { (own : List Point) → S.gives source.now own → length points.old.items + length own ≤ POINTS_CAP }
     ensures put { OnOk result ((own : List Point)
         × IsPut row own entries.old.items entries.new.items points.old.items points.new.items
         × S.gives source.now own) }

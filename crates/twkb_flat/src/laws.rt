@@ -1,5 +1,6 @@
 //! Laws of the flat form, each stated as the contract of an empty function.
-ghost use Rattle.std.specs.Prelude.{◌≡◌, ℕ, ◌+◌, ◌≤◌, ◌^◌, ◌++◌, ◌∷◌, List, length};
+ghost use Rattle.std.specs.Prelude.{◌≡◌, ℕ, ◌+◌, ◌≤◌, ◌++◌, ◌∷◌, List, length};
+ghost use Rattle.twkb_tree.specs.declared.limits.TheConstants.{NODES_CAP, POINTS_CAP};
 ghost use Rattle.twkb_tree.specs.Limits.{largest_limits, IsValid};
 ghost use Rattle.twkb_tree.specs.Tree.{Tree, saturated};
 ghost use Rattle.twkb_tree.specs.Rows.{Row as TableRow, rows, row_points};
@@ -10,8 +11,8 @@ ghost use Rattle.twkb_flat.specs.Rows.{IsNode};
 
 /// The rows of a flat form are within the caps, so places of nodes and points fit `u32`.
 pub fn caps()
-    ensures nodes { (rs : List TableRow) → AreValidRowsOfOne largest_limits rs → length rs ≤ 2 ^ 20 }
-    ensures points { (rs : List TableRow) → AreValidRowsOfOne largest_limits rs → length (row_points rs) ≤ 2 ^ 24 }
+    ensures nodes { (rs : List TableRow) → AreValidRowsOfOne largest_limits rs → length rs ≤ NODES_CAP }
+    ensures points { (rs : List TableRow) → AreValidRowsOfOne largest_limits rs → length (row_points rs) ≤ POINTS_CAP }
 {}
 
 /// Every geometry within the largest limits can be pushed row by row.

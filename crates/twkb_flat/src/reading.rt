@@ -1,5 +1,6 @@
 //! Rows of the flat form by their places, for calls inside this crate, which count no reads.
-ghost use Rattle.std.specs.Prelude.{◌≡◌, ◌↔◌, ◌-◌, ◌<◌, ◌≤◌, ◌^◌, ◌∷◌, List, length, take, drop, IsTrue};
+ghost use Rattle.std.specs.Prelude.{◌≡◌, ◌↔◌, ◌-◌, ◌<◌, ◌≤◌, ◌∷◌, List, length, take, drop, IsTrue};
+ghost use Rattle.twkb_tree.specs.declared.limits.TheConstants.{NODES_CAP};
 ghost use Rattle.twkb_tree.specs.Rows.{Row as TableRow};
 ghost use Rattle.twkb_flat.specs.Rows.{row_with};
 ghost use Rattle.twkb_flat.specs.Taking.{IsAt};
@@ -25,7 +26,7 @@ impl Flat {
         ensures row { (row : TableRow) (rest : List TableRow) → drop at self.now ≡ row ∷ rest
             → row_with result row.points ≡ row }
         ensures shallow { result.depth < 35 }
-        ensures few { length self.now ≤ 2 ^ 20 }
+        ensures few { length self.now ≤ NODES_CAP }
     {
         self.entries[at].span.row
     }
@@ -35,7 +36,7 @@ impl Flat {
         requires { at < length self.now }
         ensures points { (row : TableRow) (rest : List TableRow) → drop at self.now ≡ row ∷ rest
             → result.now ≡ row.points }
-        ensures few { length self.now ≤ 2 ^ 20 }
+        ensures few { length self.now ≤ NODES_CAP }
     {
         let span = self.entries[at].span;
         let first = span.first as usize;

@@ -1,6 +1,6 @@
 -- One step of the plain reader: it takes an item that is allowed there, or refuses it for the
 -- first reason.
-use Rattle.std.proofs.Common.{◌≡◌, ℕ, zero, suc, ◌+◌, ◌%◌, ◌<◌, ◌≤◌, ◌^◌, Bool, true, false, List}
+use Rattle.std.proofs.Common.{◌≡◌, ℕ, zero, suc, ◌+◌, ◌%◌, ◌<◌, ◌≤◌, Bool, true, false, List}
 use Rattle.std.proofs.Common.{[], ◌∷◌, ◌++◌, length, refl, sym, ap, ◌∙◌, subst, arith, Option, Some}
 use Rattle.std.proofs.Common.{None, inl, inr, length-append}
 use Rattle.std.specs.Prelude.{ℤ, pos, negsuc, nat_lt, nat_le, nat_eq, not, ◌&&◌, ◌||◌, ◌⊎◌, ◌≢◌, ◌+ℤ◌, ⊤}
@@ -9,6 +9,7 @@ use Rattle.std.proofs.lemmas.Grind.{common_steps}
 use Rattle.std.proofs.lemmas.Int.{ints}
 use Rattle.twkb_num.specs.Zigzag.{unzigzag_of}
 use Rattle.twkb_num.specs.Varint.{IsVarint}
+use Rattle.twkb_points.specs.declared.point.TheConstants.{COORDINATE_BOUND}
 use Rattle.twkb_points.specs.Point.{IsCoordinate}
 use Rattle.twkb_tree.specs.Limits.{Allowance}
 use Rattle.twkb_grammar.specs.Roles.{Counted, Vertices, Rings, Points, Parts, Geometries, Item}
@@ -38,12 +39,16 @@ le_false : (m n : ℕ) → nat_le m n ≡ false → n < m
 le_false m n e = grind (arith, common_steps)
 
 pub in_range_true : (z : ℤ) → in_range z ≡ true → IsCoordinate z
-in_range_true (pos n) e = let h : n < 2 ^ 62 = ltb-true n (2 ^ 62) e in (omega (arith, ints), omega (arith, ints, h))
-in_range_true (negsuc n) e = let h : n < 2 ^ 62 = ltb-true n (2 ^ 62) e in (omega (arith, ints, h), omega (arith, ints))
+in_range_true (pos n) e =
+    let h : n < COORDINATE_BOUND = ltb-true n COORDINATE_BOUND e in (omega (arith, ints), omega (arith, ints, h))
+in_range_true (negsuc n) e =
+    let h : n < COORDINATE_BOUND = ltb-true n COORDINATE_BOUND e in (omega (arith, ints, h), omega (arith, ints))
 
 in_range_false : (z : ℤ) → in_range z ≡ false → IsCoordinate z → ⊥
-in_range_false (pos n) e k = let h : 2 ^ 62 ≤ n = ltb-false n (2 ^ 62) e in omega (arith, ints, h, k.1)
-in_range_false (negsuc n) e k = let h : 2 ^ 62 ≤ n = ltb-false n (2 ^ 62) e in omega (arith, ints, h, k.0)
+in_range_false (pos n) e k =
+    let h : COORDINATE_BOUND ≤ n = ltb-false n COORDINATE_BOUND e in omega (arith, ints, h, k.1)
+in_range_false (negsuc n) e k =
+    let h : COORDINATE_BOUND ≤ n = ltb-false n COORDINATE_BOUND e in omega (arith, ints, h, k.0)
 
 not_true : (b : Bool) → not b ≡ true → b ≡ false
 not_true true e = sym e

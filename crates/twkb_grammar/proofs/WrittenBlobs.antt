@@ -4,6 +4,7 @@ use Rattle.std.proofs.Common.{refl, sym, ap, ◌∙◌, subst, length-append, So
 use Rattle.std.specs.Prelude.{ℤ, map}
 use Rattle.twkb_num.specs.Zigzag.{zigzag_of}
 use Rattle.twkb_points.specs.Point.{AreInRange, origin}
+use Rattle.twkb_tree.specs.declared.limits.TheConstants.{POINTS_CAP, NODES_CAP}
 use Rattle.twkb_tree.specs.Tree.{Ids, Simple, point, line, polygon, multi_point, multi_line}
 use Rattle.twkb_tree.specs.Tree.{multi_polygon, Tree, simple, collection, Trees, end, ◌▷◌, count}
 use Rattle.twkb_tree.specs.Tree.{flat, flat_all, nodes, nodes_all, nodes_in, points_in, HasIds}
@@ -92,7 +93,7 @@ count-nodes_all (g ▷ gs) = omega (arith, count-nodes_all gs, some_nodes g)
 
 mutual
   tree_written : (style : Style) (level : ℕ) (g : Tree) → IsTree g → AreInRange (flat g)
-      → nodes g ≤ 2 ^ 20 → length (flat g) ≤ 2 ^ 24 → WrittenAs style level g
+      → nodes g ≤ NODES_CAP → length (flat g) ≤ POINTS_CAP → WrittenAs style level g
   tree_written style level (simple p s) fits h few_nodes few_points =
       let fit = fit-fields s fits.1 h (omega (arith, few_nodes)) (omega (arith, few_points)) in
       let long : length (varints (fields s)) ≤ 20 * nodes_in s + 20 * length (points_in s) = omega
@@ -125,7 +126,7 @@ mutual
       }
 
   trees_written : (style : Style) (level : ℕ) (gs : Trees) → AreTrees gs → AreInRange (flat_all gs)
-      → nodes_all gs ≤ 2 ^ 20 → length (flat_all gs) ≤ 2 ^ 24 → AllWrittenAs style level gs
+      → nodes_all gs ≤ NODES_CAP → length (flat_all gs) ≤ POINTS_CAP → AllWrittenAs style level gs
   trees_written style level end fits h few_nodes few_points =
       record { spelling = record { items = []; are = refl; exact = tt; spelled = refl }; short = omega arith }
   trees_written style level (g ▷ gs) fits h few_nodes few_points =

@@ -1,10 +1,11 @@
 -- The plain reader, which cuts items from bytes one by one and gives each to the machine. It is
 -- slow, but it computes. It does not define the format: the law `plain_reader` states that it
 -- answers as blobs and first faults require.
-use Rattle.std.specs.Prelude.{ℕ, zero, suc, ◌+◌, ◌-◌, ◌*◌, ◌%◌, ◌^◌, Bool, true, false, not, ◌&&◌}
+use Rattle.std.specs.Prelude.{ℕ, zero, suc, ◌+◌, ◌-◌, ◌*◌, ◌%◌, Bool, true, false, not, ◌&&◌}
 use Rattle.std.specs.Prelude.{◌||◌, nat_lt, nat_le, nat_eq, if◌then◌else◌, List, [], ◌∷◌, length, ℤ}
 use Rattle.std.specs.Prelude.{pos, negsuc, ◌+ℤ◌, Option, Some, None, Result, Ok, Err}
 use Rattle.twkb_num.specs.Zigzag.{unzigzag_of}
+use Rattle.twkb_points.specs.declared.point.TheConstants.{COORDINATE_BOUND}
 use Rattle.twkb_tree.specs.Tree.{Tree}
 use Rattle.twkb_tree.specs.Limits.{Allowance}
 use Rattle.twkb_grammar.specs.Roles.{Counted, Geometries, Role, Header, Metadata, Extended, Count, X, Y, End, Item}
@@ -43,10 +44,10 @@ cut Extended bytes = byte_at bytes
 cut (End declared came) bytes = Ok (0, [], bytes)
 cut _ bytes = varint_at 10 bytes
 
--- The number is from -2 ^ 62 to 2 ^ 62 - 1 (profile).
+-- The number is below the bound of coordinates and not below its negative (profile).
 abbrev pub in_range : ℤ → Bool
-in_range (pos n) = nat_lt n (2 ^ 62)
-in_range (negsuc n) = nat_lt n (2 ^ 62)
+in_range (pos n) = nat_lt n COORDINATE_BOUND
+in_range (negsuc n) = nat_lt n COORDINATE_BOUND
 
 -- A collection with members is already inside as many collections as allowed.
 abbrev pub too_deep : Allowance → Counted → ℕ → Bool

@@ -1,33 +1,34 @@
 -- Geometries, limits and bytes for the samples.
-use Rattle.std.specs.Prelude.{ℕ, zero, suc, ◌^◌, List, [], ◌∷◌, pos, negsuc, Some, None}
+use Rattle.std.specs.Prelude.{ℕ, zero, suc, List, [], ◌∷◌, pos, negsuc, Some, None}
 use Rattle.twkb_points.specs.Point.{origin, point_at}
+use Rattle.twkb_tree.specs.declared.limits.TheConstants.{POINTS_CAP, NODES_CAP}
 use Rattle.twkb_tree.specs.Limits.{Allowance}
 use Rattle.twkb_tree.specs.Tree.{point, line, polygon, multi_point, multi_line, multi_polygon, Tree}
 use Rattle.twkb_tree.specs.Tree.{simple, collection, end, ◌▷◌}
 
 -- The standard limits.
 abbrev pub standard : Allowance
-standard = record { nest = 16; nodes = 2 ^ 20; points = 2 ^ 24 }
+standard = record { nest = 16; nodes = NODES_CAP; points = POINTS_CAP }
 
 -- The standard limits, but with at most eight collections around a member.
 abbrev pub nest_eight : Allowance
-nest_eight = record { nest = 8; nodes = 2 ^ 20; points = 2 ^ 24 }
+nest_eight = record { nest = 8; nodes = NODES_CAP; points = POINTS_CAP }
 
 -- The standard limits, but with no members in collections.
 abbrev pub no_nest : Allowance
-no_nest = record { nest = 0; nodes = 2 ^ 20; points = 2 ^ 24 }
+no_nest = record { nest = 0; nodes = NODES_CAP; points = POINTS_CAP }
 
 -- The standard limits, but with at most two nodes.
 abbrev pub two_nodes : Allowance
-two_nodes = record { nest = 16; nodes = 2; points = 2 ^ 24 }
+two_nodes = record { nest = 16; nodes = 2; points = POINTS_CAP }
 
 -- The standard limits, but with at most one point.
 abbrev pub one_point_only : Allowance
-one_point_only = record { nest = 16; nodes = 2 ^ 20; points = 1 }
+one_point_only = record { nest = 16; nodes = NODES_CAP; points = 1 }
 
 -- The standard limits, but with no points.
 abbrev pub no_points : Allowance
-no_points = record { nest = 16; nodes = 2 ^ 20; points = 0 }
+no_points = record { nest = 16; nodes = NODES_CAP; points = 0 }
 
 -- A point.
 abbrev pub one_point : Tree

@@ -1,5 +1,5 @@
 -- Copies from an input to a sink: the bytes that move, and what stops a copy.
-use Rattle.std.specs.Prelude.{ℕ, ◌≡◌, ◌+◌, ◌<◌, ◌^◌, ◌↔◌, List, ◌++◌, length, Option, IfSome, Bool}
+use Rattle.std.specs.Prelude.{ℕ, ◌≡◌, ◌+◌, ◌<◌, ◌↔◌, List, ◌++◌, length, Option, IfSome, Bool}
 use Rattle.std.specs.Prelude.{true, false, Result, Ok, Err, IfOk, OnOk, IfErr, OnErr}
 use Rattle.std.specs.Io.KnownBytes.{Consumes, IsAtEnd, Keeps}
 use Rattle.std.specs.declared.io.traits.Read.{Ghosts}
@@ -7,6 +7,7 @@ use Rattle.twkb_io.specs.declared.input.Input.{Input}
 use Rattle.twkb_io.specs.declared.input.InFault.TheVariants as fault
 use Rattle.twkb_io.specs.declared.copying.CopyFault.{CopyFault}
 use Rattle.twkb_io.specs.declared.copying.CopyFault.TheVariants as stop
+use Rattle.twkb_io.specs.declared.TheConstants.{MAX_BYTES}
 use Rattle.twkb_io.specs.Taps.{count_failure}
 use Rattle.twkb_io.specs.Inputs.{given, has_ended, input_failures, input_tap, is_read, is_spent, rest_of}
 
@@ -58,6 +59,6 @@ pub record CopiesPiece {R S F : Type 0} {read : Ghosts R} (took : S → List ℕ
   pub keeps : OnErr result (Keeps (rest_of old) (rest_of new))
   pub err : IfErr result (λ why. StopsPiece refused (rest_of old) from why to)
   pub failures : input_failures new ≡ count_failure (is_read_stop result) (input_failures old)
-  pub too_long : result ≡ Err (stop.Source fault.TooLong) → given new ≡ 2 ^ 62
+  pub too_long : result ≡ Err (stop.Source fault.TooLong) → given new ≡ MAX_BYTES
   pub spent : (result ≡ Err (stop.Source fault.Spent)) ↔ (is_spent old ≡ true)
   pub stays : OnOk result (is_spent new ≡ is_spent old)

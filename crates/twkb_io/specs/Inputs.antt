@@ -1,5 +1,5 @@
 -- The bytes that an input has left, and the effect of one step.
-use Rattle.std.specs.Prelude.{ℕ, ◌+◌, ◌^◌, List, [], ◌∷◌, ◌-◌, Option, Some, None, Bool, true}
+use Rattle.std.specs.Prelude.{ℕ, ◌+◌, List, [], ◌∷◌, ◌-◌, Option, Some, None, Bool, true}
 use Rattle.std.specs.Prelude.{false, take, slice_range, Result, Ok, Err}
 use Rattle.std.specs.Io.KnownBytes.{Consumes, IsAtEnd, Keeps, prepend_known}
 use Rattle.std.specs.Borrow.{MutBor}
@@ -8,6 +8,7 @@ use Rattle.twkb_io.specs.declared.tap.Tap.{Tap}
 use Rattle.twkb_io.specs.declared.input.Input.{Input}
 use Rattle.twkb_io.specs.declared.input.InFault.{InFault}
 use Rattle.twkb_io.specs.declared.input.InFault.TheVariants as fault
+use Rattle.twkb_io.specs.declared.TheConstants.{MAX_BYTES}
 use Rattle.twkb_io.specs.Taps.{device_of, failures_of}
 
 -- the borrowed tap
@@ -36,7 +37,7 @@ unused input = slice_range input.held input.at input.filled
 
 -- the bytes that can be given out without a read: the unused ones, up to 2^62 bytes in all
 abbrev pub held_of : {R : Type 0} {read : Ghosts R} → Input R read → List ℕ
-held_of input = take (2 ^ 62 - given input) (unused input)
+held_of input = take (MAX_BYTES - given input) (unused input)
 
 -- the unused part of the array, and then what the reader still gives
 abbrev pub rest_of : {R : Type 0} {read : Ghosts R} → Input R read → Option (List ℕ)

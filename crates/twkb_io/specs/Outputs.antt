@@ -1,11 +1,12 @@
 -- The bytes that an output sent, and the effect of a put.
-use Rattle.std.specs.Prelude.{ℕ, ◌≡◌, ◌≢◌, ◌+◌, ◌^◌, ◌<◌, List, [], ◌++◌, length, Option, Bool, true, false}
+use Rattle.std.specs.Prelude.{ℕ, ◌≡◌, ◌≢◌, ◌+◌, ◌<◌, List, [], ◌++◌, length, Option, Bool, true, false}
 use Rattle.std.specs.Io.KnownBytes.{Appends}
 use Rattle.std.specs.Borrow.{MutBor}
 use Rattle.twkb_io.specs.declared.tap.Tap.{Tap}
 use Rattle.twkb_io.specs.declared.output.Output.{Output}
 use Rattle.twkb_io.specs.declared.output.OutFault.{OutFault}
 use Rattle.twkb_io.specs.declared.output.OutFault.TheVariants as fault
+use Rattle.twkb_io.specs.declared.TheConstants.{MAX_BYTES}
 use Rattle.twkb_io.specs.Taps.{count_failure, device_of, failures_of}
 
 -- the borrowed tap
@@ -74,4 +75,4 @@ pub record Cut {W : Type 0} (contents : W → Option (List ℕ)) (old : Output W
   pub refused : Refused contents old front e new
   pub left : is_spent old ≡ false → rest ≢ []
   pub unspent : is_spent old ≡ false → e ≢ fault.Spent
-  pub too_long : e ≡ fault.TooLong → 2 ^ 62 < sent_of old + length bytes
+  pub too_long : e ≡ fault.TooLong → MAX_BYTES < sent_of old + length bytes

@@ -1,5 +1,5 @@
 //! Copying from an input to any sink.
-ghost use Rattle.std.specs.Prelude.{Err, ◌≡◌, ◌^◌, ◌↔◌, ℕ, List, true, IfSome, IfErr, OnOk};
+ghost use Rattle.std.specs.Prelude.{Err, ◌≡◌, ◌↔◌, ℕ, List, true, IfSome, IfErr, OnOk};
 
 use crate::input::{InFault, Input};
 use crate::sink::Sink;
@@ -17,6 +17,7 @@ pub enum CopyFault<F> {
     Sink(F),
 }
 
+ghost use Rattle.twkb_io.specs.declared.TheConstants.{MAX_BYTES};
 ghost use Rattle.twkb_io.specs.Taps.{count_failure};
 ghost use Rattle.twkb_io.specs.Inputs.{given, has_ended, input_failures, input_tap, is_spent, rest_of};
 ghost use Rattle.twkb_io.specs.Copies.{Copied, CopiesPiece, StopsCopy, is_read_stop};
@@ -34,7 +35,7 @@ pub fn copy<R: Read, S: Sink>(
     ensures err { IfErr result (λ stop. StopsCopy S.took S.refused (rest_of input.old) sink.old stop
         (rest_of input.new) sink.new) }
     ensures failures { input_failures input.new ≡ count_failure (is_read_stop result) (input_failures input.old) }
-    ensures too_long { result ≡ Err (CopyFault.Source InFault.TooLong) → given input.new ≡ 2 ^ 62 }
+    ensures too_long { result ≡ Err (CopyFault.Source InFault.TooLong) → given input.new ≡ MAX_BYTES }
     ensures spent { (result ≡ Err (CopyFault.Source InFault.Spent)) ↔ (is_spent input.old ≡ true) }
 {
     loop {

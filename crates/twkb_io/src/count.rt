@@ -1,5 +1,6 @@
 //! A sink that counts bytes.
-ghost use Rattle.std.specs.Prelude.{◌≡◌, ◌+◌, ◌≤◌, ◌<◌, ◌^◌, ◌↔◌, length, OnOk, OnErr, IfErr, IsErr};
+ghost use Rattle.std.specs.Prelude.{◌≡◌, ◌+◌, ◌≤◌, ◌<◌, ◌↔◌, length, OnOk, OnErr, IfErr, IsErr};
+ghost use Rattle.twkb_io.specs.declared.TheConstants.{MAX_BYTES};
 ghost use Rattle.twkb_io.specs.Sinks.{TookFront};
 
 use crate::MAX_BYTES;
@@ -10,7 +11,7 @@ use thiserror::Error;
 #[derive(Clone, Copy, Debug)]
 pub struct Count {
     total: u64,
-    ghost within: { total ≤ 2 ^ 62 },
+    ghost within: { total ≤ MAX_BYTES },
 }
 
 /// The length would pass 2^62.
@@ -31,7 +32,7 @@ impl Count {
     /// The number of bytes taken.
     pub fn total(&self) -> u64
         ensures total { result ≡ total_of self.now }
-        ensures within { result ≤ 2 ^ 62 }
+        ensures within { result ≤ MAX_BYTES }
     {
         self.total
     }
@@ -66,7 +67,7 @@ impl Sink for Count {
         ensures ok { OnOk result (total_of self.new ≡ total_of self.old + length bytes.now) }
         ensures err { IfErr result (λ fault. TookFront
             (λ a xs _ b. total_of b ≡ total_of a + length xs) self.old bytes.now fault self.new) }
-        ensures full { IsErr result ↔ (2 ^ 62 < total_of self.old + length bytes.now) }
+        ensures full { IsErr result ↔ (MAX_BYTES < total_of self.old + length bytes.now) }
         ensures unchanged { OnErr result (self.new ≡ self.old) }
     {
         let length = bytes.len() as u64;

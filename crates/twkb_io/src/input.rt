@@ -1,9 +1,10 @@
 //! The bytes of a reader, one at a time or all that are held, through an array of fixed size.
-ghost use Rattle.std.specs.Prelude.{Ok, None, Err, ◌≡◌, ◌≢◌, ◌≤◌, ◌<◌, ◌+◌, ◌^◌, ◌↔◌, true, false};
+ghost use Rattle.std.specs.Prelude.{Ok, None, Err, ◌≡◌, ◌≢◌, ◌≤◌, ◌<◌, ◌+◌, ◌↔◌, true, false};
 ghost use Rattle.std.specs.Prelude.{is_err, length, take, drop, IfSome, IfErr, OnOk, [], ◌⊎◌};
 ghost use Rattle.std.specs.Io.{StartsWith};
 ghost use Rattle.std.specs.Io.KnownBytes.{Consumes, IsAtEnd, Keeps};
 ghost use Rattle.std.proofs.Props.{props};
+ghost use Rattle.twkb_io.specs.declared.TheConstants.{MAX_BYTES};
 
 use crate::MAX_BYTES;
 use crate::tap::Tap;
@@ -40,7 +41,7 @@ pub struct Input<'a, R: Read> {
     spent: bool,
     ghost in_order: { at ≤ filled },
     ghost in_array: { filled ≤ length held },
-    ghost within: { offset ≤ 2 ^ 62 },
+    ghost within: { offset ≤ MAX_BYTES },
     ghost used_up: { ended ≡ true → at ≡ filled },
     ghost one_end: { ended ≡ true → spent ≡ false },
     ghost at_end: { ended ≡ true → IfSome (R.remaining tap.now.device) (λ left. left ≡ []) } by { Prim.hlevel props },
@@ -87,7 +88,7 @@ impl<'a, R: Read> Input<'a, R> {
         ensures once { calls_of (input_tap self.new).now ≤ calls_of (input_tap self.old).now + 1 }
 
         ensures failures { input_failures self.new ≡ count_failure (is_read_fault result) (input_failures self.old) }
-        ensures too_long { result ≡ Err InFault.TooLong → (given self.old ≡ 2 ^ 62)
+        ensures too_long { result ≡ Err InFault.TooLong → (given self.old ≡ MAX_BYTES)
             × IfSome (rest_of self.old) (λ rest. rest ≢ []) }
         ensures none_held { result ≡ Err InFault.Read
             → rest_of self.new ≡ R.remaining (device_of (input_tap self.new).now) }
@@ -119,7 +120,7 @@ impl<'a, R: Read> Input<'a, R> {
         ensures once { calls_of (input_tap self.new).now ≤ calls_of (input_tap self.old).now + 1 }
 
         ensures failures { input_failures self.new ≡ count_failure (is_read_fault result) (input_failures self.old) }
-        ensures too_long { result ≡ Err InFault.TooLong → (given self.old ≡ 2 ^ 62)
+        ensures too_long { result ≡ Err InFault.TooLong → (given self.old ≡ MAX_BYTES)
             × IfSome (rest_of self.old) (λ rest. rest ≢ []) }
         ensures none_held { result ≡ Err InFault.Read
             → rest_of self.new ≡ R.remaining (device_of (input_tap self.new).now) }
@@ -170,7 +171,7 @@ impl<'a, R: Read> Input<'a, R> {
     /// The number of bytes given out.
     pub fn offset(&self) -> u64
         ensures offset { result ≡ given self.now }
-        ensures within { result ≤ 2 ^ 62 }
+        ensures within { result ≤ MAX_BYTES }
     {
         self.offset
     }

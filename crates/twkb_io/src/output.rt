@@ -1,6 +1,7 @@
 //! A sink that sends bytes to a writer, with an exact count of the bytes that the writer took.
-ghost use Rattle.std.specs.Prelude.{◌≡◌, ◌≢◌, ◌+◌, ◌≤◌, ◌<◌, ◌^◌, ◌↔◌, [], true, false, length};
+ghost use Rattle.std.specs.Prelude.{◌≡◌, ◌≢◌, ◌+◌, ◌≤◌, ◌<◌, ◌↔◌, [], true, false, length};
 ghost use Rattle.std.specs.Prelude.{take, Err, IfOk, OnOk, OnErr, IfErr};
+ghost use Rattle.twkb_io.specs.declared.TheConstants.{MAX_BYTES};
 ghost use Rattle.twkb_io.specs.Sinks.{TookFront};
 
 use crate::MAX_BYTES;
@@ -33,7 +34,7 @@ pub struct Output<'a, W> {
     tap: &'a mut Tap<W>,
     sent: u64,
     spent: bool,
-    ghost within: { sent ≤ 2 ^ 62 },
+    ghost within: { sent ≤ MAX_BYTES },
 }
 
 impl<'a, W> Output<'a, W> {
@@ -56,7 +57,7 @@ impl<'a, W> Output<'a, W> {
     /// The number of bytes that the writer took.
     pub fn sent(&self) -> u64
         ensures sent { result ≡ sent_of self.now }
-        ensures within { result ≤ 2 ^ 62 }
+        ensures within { result ≤ MAX_BYTES }
     {
         self.sent
     }
@@ -100,7 +101,7 @@ impl<'a, W: Write> Output<'a, W> {
     fn send(&mut self, bytes: &[u8]) -> Result<usize, OutFault>
         requires fresh { is_spent self.old ≡ false }
         requires some { 0 < length bytes.now }
-        requires room { sent_of self.old + length bytes.now ≤ 2 ^ 62 }
+        requires room { sent_of self.old + length bytes.now ≤ MAX_BYTES }
         ensures count { IfOk result (λ n. (0 < n) × (n ≤ length bytes.now)) }
         ensures ok { IfOk result (λ n. Took W.contents self.old (take n bytes.now) self.new) }
         ensures err { IfErr result (λ fault. Refused W.contents self.old [] fault self.new × (is_device fault ≡ true)) }
@@ -155,7 +156,7 @@ impl<'a, W: Write> Sink for Output<'a, W> {
         ensures cut { IfErr result (λ fault. Cut W.contents self.old bytes.now fault self.new) }
         ensures spent { (result ≡ Err OutFault.Spent) ↔ (is_spent self.old ≡ true) }
         ensures too_long { (result ≡ Err OutFault.TooLong)
-            ↔ ((is_spent self.old ≡ false) × (2 ^ 62 < sent_of self.old + length bytes.now)) }
+            ↔ ((is_spent self.old ≡ false) × (MAX_BYTES < sent_of self.old + length bytes.now)) }
         ensures untouched { result ≡ Err OutFault.TooLong
             → (output_tap self.new ≡ output_tap self.old) × (sent_of self.new ≡ sent_of self.old) }
         ensures unchanged { is_spent self.old ≡ true → self.new ≡ self.old }

@@ -8,7 +8,7 @@ use Rattle.std.proofs.Math.Nat.{pow-le-pow_right}
 use Rattle.std.proofs.lemmas.Bool.{cases_lt, le-leb, lt-leb}
 use Rattle.std.proofs.lemmas.Nat.{leading_top, pow-add}
 use Rattle.std.specs.Int.Count.{count_leading_zeros}
-use Rattle.twkb_num.specs.Lens.{four_lens, more_bytes}
+use Rattle.twkb_num.specs.Lens.{four_lens, more_bytes, lanes_cap}
 use Rattle.twkb_num.specs.Varint.{varint_of}
 use Rattle.twkb_num.proofs.VarintLemmas.{one_byte, one_byte_more}
 
@@ -111,7 +111,7 @@ short_length n small =
 -- ---- sums of lanes
 
 -- the sum of four lanes, with one length added to each
-lanes_more : (w x y z a b c d : ℕ) → w + (x + (y + (z + 0))) ≤ 2 ^ 31 → a ≤ 3 → b ≤ 3 → c ≤ 3 → d ≤ 3
+lanes_more : (w x y z a b c d : ℕ) → w + (x + (y + (z + 0))) ≤ lanes_cap → a ≤ 3 → b ≤ 3 → c ≤ 3 → d ≤ 3
     → (w + a) % 4294967296 + ((x + b) % 4294967296
     + ((y + c) % 4294967296 + ((z + d) % 4294967296 + 0))) ≡ w + (x + (y + (z + 0)))
     + (a + b + c + d)
@@ -126,7 +126,7 @@ whole s o t i j k l a b c d e p q r u = omega arith
 one_more : (n : ℕ) → n < 2 ^ 28 → (length (varint_of n) ≡ more_bytes n + 1) × (more_bytes n ≤ 3)
 one_more n small = let short = short_length n small in (omega (arith, short.0), omega (arith, short.1))
 
-pub lens_added : (ls : List ℕ) (o a b c d : ℕ) → length ls ≡ 4 → sum_l ls + o ≤ 2 ^ 31 → a < 2 ^ 28
+pub lens_added : (ls : List ℕ) (o a b c d : ℕ) → length ls ≡ 4 → sum_l ls + o ≤ lanes_cap → a < 2 ^ 28
     → b < 2 ^ 28 → c < 2 ^ 28 → d < 2 ^ 28
     → sum_l (zip2 (λ x y. (x + y) % 4294967296) ls
     (more_bytes a ∷ more_bytes b ∷ more_bytes c ∷ more_bytes d ∷ [])) + (o + 4)
@@ -158,7 +158,7 @@ pub grown_few : (new old more : ℕ) → new ≡ old + more → more ≤ 16 → 
 grown_few new old more e few = omega arith
 
 -- lanes whose sum fits are added up without a carry
-pub lanes_total : (ls : List ℕ) (o : ℕ) → length ls ≡ 4 → sum_l ls + o ≤ 2 ^ 31
+pub lanes_total : (ls : List ℕ) (o : ℕ) → length ls ≡ 4 → sum_l ls + o ≤ lanes_cap
     → fold_l (λ s x. (s + x) % 4294967296) 0 ls ≡ sum_l ls
 lanes_total (w ∷ x ∷ y ∷ z ∷ []) o four room = omega (arith, room)
 lanes_total [] o four room = absurd (omega arith)
@@ -169,12 +169,12 @@ lanes_total (w ∷ x ∷ y ∷ z ∷ v ∷ ls) o four room = absurd (omega arith
 
 -- the lanes and the other bytes add up to the whole sum
 pub total_is : (ls : List ℕ) (sum o now : ℕ) → length ls ≡ 4
-    → sum ≡ fold_l (λ s x. (s + x) % 4294967296) 0 ls → sum_l ls + o ≡ now → now ≤ 2 ^ 31
+    → sum ≡ fold_l (λ s x. (s + x) % 4294967296) 0 ls → sum_l ls + o ≡ now → now ≤ lanes_cap
     → sum + o ≡ now
 total_is ls sum o now four sum_is whole room =
     let lanes = lanes_total ls o four (omega (arith, whole, room)) in
     ap (λ x. x + o) (sum_is ∙ lanes) ∙ whole
 
 -- the whole sum fits 64 bits
-pub total_fits : (sum o now : ℕ) → sum + o ≡ now → now ≤ 2 ^ 31 → Fits w64 (sum + o)
+pub total_fits : (sum o now : ℕ) → sum + o ≡ now → now ≤ lanes_cap → Fits w64 (sum + o)
 total_fits sum o now is room = record { fits = omega arith }

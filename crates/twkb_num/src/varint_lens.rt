@@ -1,6 +1,6 @@
 //! Lengths of varints, counted four at once with no branch on their lengths.
 ghost use Rattle.std.specs.Prelude.{◌≡◌, ◌≤◌, ◌<◌, ◌+◌, ◌^◌, [], ◌∷◌, length};
-ghost use Rattle.twkb_num.specs.Lens.{four_lens, more_bytes};
+ghost use Rattle.twkb_num.specs.Lens.{four_lens, more_bytes, lanes_cap};
 
 use crate::varint::{FIVE_BYTES, FOUR_BYTES, THREE_BYTES, TWO_BYTES, varint_len};
 use std::marker::Model;
@@ -67,7 +67,7 @@ impl VarintLens {
         requires second_small { second < 2 ^ 28 }
         requires third_small { third < 2 ^ 28 }
         requires fourth_small { fourth < 2 ^ 28 }
-        requires room { self.old ≤ 2 ^ 31 }
+        requires room { self.old ≤ lanes_cap }
         ensures value { self.new ≡ self.old + four_lens first second third fourth }
         ensures most { self.new ≤ self.old + 16 }
     {
@@ -80,7 +80,7 @@ impl VarintLens {
     #[inline(always)]
     #[tactic(auto, using(std::proofs::lemmas::Nat::le_or_l, std::proofs::lemmas::Nat::le_or_r))]
     pub fn add_four(&mut self, first: u64, second: u64, third: u64, fourth: u64)
-        requires room { self.old ≤ 2 ^ 31 }
+        requires room { self.old ≤ lanes_cap }
         ensures value { self.new ≡ self.old + four_lens first second third fourth }
         ensures most { self.new ≤ self.old + 40 }
     {
@@ -99,7 +99,7 @@ impl VarintLens {
     /// The sum of the lengths, in bytes. Takes no memory.
     #[inline(always)]
     pub fn total(&self) -> u64
-        requires { self.now ≤ 2 ^ 31 }
+        requires { self.now ≤ lanes_cap }
         ensures { result ≡ self.now }
     {
         u64::from(self.lanes.reduce_sum()) + self.others

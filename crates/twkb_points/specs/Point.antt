@@ -1,6 +1,7 @@
 -- Points of whole numbers, and the range of their coordinates.
-use Rattle.std.specs.Prelude.{◌^◌, ◌-◌, ℤ, pos, negsuc, ◌+ℤ◌, ◌≤ℤ◌, List}
+use Rattle.std.specs.Prelude.{◌-◌, ℤ, pos, negsuc, ◌+ℤ◌, ◌≤ℤ◌, List}
 use Rattle.std.specs.List.{AllByRecursion}
+use Rattle.twkb_points.specs.declared.point.TheConstants.{COORDINATE_BOUND, INNER_BOUND}
 
 -- a point of two whole numbers, x before y as in TWKB
 pub record Point : Type 0 where
@@ -20,19 +21,19 @@ origin = point_at (pos 0) (pos 0)
 abbrev pub moved_by : Point → ℤ → ℤ → Point
 moved_by p dx dy = point_at (p.x +ℤ dx) (p.y +ℤ dy)
 
--- a coordinate is from -2 ^ 62 to 2 ^ 62 - 1, so that the difference of any two fits 64 bits
--- (profile)
+-- a coordinate is below the bound and not below its negative, so that the difference of any two
+-- fits 64 bits (profile)
 abbrev pub IsCoordinate : ℤ → Type 0
-IsCoordinate n = (negsuc (2 ^ 62 - 1) ≤ℤ n) × (n ≤ℤ pos (2 ^ 62 - 1))
+IsCoordinate n = (negsuc (COORDINATE_BOUND - 1) ≤ℤ n) × (n ≤ℤ pos (COORDINATE_BOUND - 1))
 
 -- both coordinates of a point are in range
 abbrev pub IsInRange : Point → Type 0
 IsInRange p = IsCoordinate p.x × IsCoordinate p.y
 
--- an inner coordinate is from -2 ^ 61 to 2 ^ 61 - 1, so that eight short steps from it stay in the
--- range of a coordinate
+-- an inner coordinate is below half the bound and not below its negative, so that eight short
+-- steps from it stay in the range of a coordinate
 abbrev pub IsInnerCoordinate : ℤ → Type 0
-IsInnerCoordinate n = (negsuc (2 ^ 61 - 1) ≤ℤ n) × (n ≤ℤ pos (2 ^ 61 - 1))
+IsInnerCoordinate n = (negsuc (INNER_BOUND - 1) ≤ℤ n) × (n ≤ℤ pos (INNER_BOUND - 1))
 
 -- both coordinates of a point are inner ones
 abbrev pub IsInner : Point → Type 0

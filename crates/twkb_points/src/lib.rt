@@ -11,5 +11,5 @@ mod tail;
 pub use bounds::{Bounds, merged};
 pub use cursor::Cursor;
 pub use differences::{to_differences, to_points};
-pub use point::Pt;
+pub use point::{COORDINATE_BOUND, Pt};
 pub use tail::PointTail;

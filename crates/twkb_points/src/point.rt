@@ -5,17 +5,23 @@ ghost use Rattle.twkb_points.specs.Point.{point_at, origin, moved_by};
 
 use std::marker::Model;
 
-// The least coordinate, -2^62.
-const LEAST: i64 = -(1 << 62);
+/// Coordinates are below this number, 2^62, and not below its negative (profile).
+pub const COORDINATE_BOUND: u64 = 1 << 62;
 
-// The greatest coordinate, 2^62 - 1.
-const GREATEST: i64 = (1 << 62) - 1;
+// Coordinates of inner points are below this number, 2^61, and not below its negative.
+const INNER_BOUND: u64 = COORDINATE_BOUND / 2;
 
-// The least coordinate of an inner point, -2^61.
-const INNER_LEAST: i64 = -(1 << 61);
+// The least coordinate.
+const LEAST: i64 = -(COORDINATE_BOUND as i64);
 
-// The greatest coordinate of an inner point, 2^61 - 1.
-const INNER_GREATEST: i64 = (1 << 61) - 1;
+// The greatest coordinate.
+const GREATEST: i64 = COORDINATE_BOUND as i64 - 1;
+
+// The least coordinate of an inner point.
+const INNER_LEAST: i64 = -(INNER_BOUND as i64);
+
+// The greatest coordinate of an inner point.
+const INNER_GREATEST: i64 = INNER_BOUND as i64 - 1;
 
 /// A point whose coordinates are from -2^62 to 2^62 - 1, so that the difference of any two fits
 /// 64 bits (a choice of this project). Coordinates are whole numbers; their unit is not part of

@@ -1,9 +1,10 @@
 -- Each text is the polyline of points in range, few enough, or it has a fault.
-use Rattle.std.proofs.Common.{◌≡◌, ℕ, zero, suc, ℤ, pos, negsuc, ◌+◌, ◌<◌, ◌≤◌, ◌^◌, ◌+ℤ◌, ◌-ℤ◌}
+use Rattle.std.proofs.Common.{◌≡◌, ℕ, zero, suc, ℤ, pos, negsuc, ◌+◌, ◌<◌, ◌≤◌, ◌+ℤ◌, ◌-ℤ◌}
 use Rattle.std.proofs.Common.{List, [], ◌∷◌, ◌++◌, length, ◌⊎◌, inl, inr, refl, sym, ◌∙◌, ap, arith}
 use Rattle.std.proofs.Common.{length-append}
 use Rattle.std.proofs.lemmas.Bool.{cases_lt}
 use Rattle.std.proofs.lemmas.Int.{ints}
+use Rattle.twkb_points.specs.declared.point.TheConstants.{COORDINATE_BOUND}
 use Rattle.twkb_points.specs.Point.{Point, IsCoordinate, IsInRange, AreInRange, origin, point_at}
 use Rattle.twkb_polyline.specs.Polyline.{number_text, polyline, polyline_from, last_after, DecodesTo}
 use Rattle.twkb_polyline.specs.Fault.{StartsWithNumber, IsPointFault, IsNextFault, IsTextFault}
@@ -15,12 +16,12 @@ use Rattle.twkb_polyline.proofs.ScanLemmas.NumberOrFault.{is_number, is_fault}
 
 -- a coordinate is in range or out of range
 coordinate_or_not : (z : ℤ) → IsCoordinate z ⊎ (IsCoordinate z → ⊥)
-coordinate_or_not (pos n) = elim (cases_lt n (2 ^ 62)) [
+coordinate_or_not (pos n) = elim (cases_lt n COORDINATE_BOUND) [
   | inl small ↦ inl (omega (arith, ints), omega (arith, ints))
   | inr large ↦ inr
       (λ h. omega (arith, ints, h.1))
 ]
-coordinate_or_not (negsuc n) = elim (cases_lt n (2 ^ 62)) [
+coordinate_or_not (negsuc n) = elim (cases_lt n COORDINATE_BOUND) [
   | inl small ↦ inl (omega (arith, ints), omega (arith, ints))
   | inr large ↦ inr
       (λ h. omega (arith, ints, h.0))

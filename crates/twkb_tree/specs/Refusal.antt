@@ -1,8 +1,9 @@
 -- The reason to refuse a row: the first test that it fails, in the order of the table's reasons
 -- (profile).
-use Rattle.std.specs.Prelude.{ℕ, ◌+◌, ◌^◌, Bool, true, false, ◌&&◌, ◌||◌, not, is_some, is_none}
+use Rattle.std.specs.Prelude.{ℕ, ◌+◌, Bool, true, false, ◌&&◌, ◌||◌, not, is_some, is_none}
 use Rattle.std.specs.Prelude.{nat_lt, nat_le, ℤ, pos, negsuc, List, [], ◌∷◌, ◌++◌, length, Option}
 use Rattle.std.specs.Prelude.{Some, None, reverse, ◌==◌, if◌then◌else◌}
+use Rattle.twkb_points.specs.declared.point.TheConstants.{COORDINATE_BOUND}
 use Rattle.twkb_points.specs.Point.{Point}
 use Rattle.twkb_tree.specs.Limits.{Allowance}
 use Rattle.twkb_tree.specs.Rows.{Row}
@@ -18,10 +19,10 @@ pub data Refusal : Type 0 where
   BadPrecision PrecisionMissing PrecisionNotAllowed : Refusal
   PointsNotAllowed CoordinateRange TooManyPoints PointCount : Refusal
 
--- a coordinate is from -2 ^ 62 to 2 ^ 62 - 1
+-- a coordinate is below the bound and not below its negative
 abbrev pub is_coordinate : ℤ → Bool
-is_coordinate (pos n) = nat_lt n (2 ^ 62)
-is_coordinate (negsuc n) = nat_lt n (2 ^ 62)
+is_coordinate (pos n) = nat_lt n COORDINATE_BOUND
+is_coordinate (negsuc n) = nat_lt n COORDINATE_BOUND
 
 -- each coordinate of the points is in range
 abbrev pub are_in_range : List Point → Bool

@@ -5,6 +5,7 @@ use Rattle.twkb_tree.specs.declared.kind.Kind.{Kind}
 use Rattle.twkb_tree.specs.declared.kind.Kind.TheVariants.{Point as PointKind, Linestring, Polygon}
 use Rattle.twkb_tree.specs.declared.kind.Kind.TheVariants.{Ring, MultiPoint, MultiLinestring}
 use Rattle.twkb_tree.specs.declared.kind.Kind.TheVariants.{MultiPolygon, Collection}
+use Rattle.twkb_tree.specs.declared.limits.TheConstants.{NODES_CAP, POINTS_CAP}
 use Rattle.twkb_tree.specs.Tree.{simple, collection, end, ◌▷◌, point, line, multi_polygon}
 use Rattle.twkb_tree.specs.Limits.{Allowance}
 use Rattle.twkb_tree.specs.Rows.{Row, rows}
@@ -36,7 +37,7 @@ outcome l rs = outcome_from l 1 [] rs
 
 -- limits with these levels and the largest counts
 abbrev pub levels : ℕ → Allowance
-levels n = record { nest = n; nodes = 1048576; points = 16777216 }
+levels n = record { nest = n; nodes = NODES_CAP; points = POINTS_CAP }
 
 -- ---- rows by their five fields, with points as pairs
 
@@ -146,14 +147,14 @@ NineLevels =
 -- a third row is refused if two are allowed
 abbrev pub TwoNodes : Type 0
 TwoNodes =
-    outcome (record { nest = 8; nodes = 2; points = 16777216 })
+    outcome (record { nest = 8; nodes = 2; points = POINTS_CAP })
     (row 0 MultiPoint None (number 0) [] ∷ row 1 PointKind None None (at 1 1 ∷ [])
     ∷ row 1 PointKind None None (at 1 1 ∷ []) ∷ [])
     ≡ Refused 3 TooManyNodes
 
 -- two points are refused if one is allowed
 abbrev pub OnePoint : Type 0
-OnePoint = outcome (record { nest = 8; nodes = 1048576; points = 1 })
+OnePoint = outcome (record { nest = 8; nodes = NODES_CAP; points = 1 })
     (row 0 Linestring None (number 0) (at 1 1 ∷ at 5 5 ∷ []) ∷ []) ≡ Refused 1 TooManyPoints
 
 -- a member without a precision is refused, and so is a ring with one

@@ -1,5 +1,6 @@
 -- Lemmas of the crate, by their topic.
 pub mod BelowLemmas
+pub mod CapLemmas
 pub mod DepthLemmas
 pub mod HeaderLemmas
 pub mod LevelLemmas

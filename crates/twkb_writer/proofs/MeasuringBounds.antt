@@ -1,17 +1,19 @@
 -- Bounds on the totals of rows.
-use Rattle.std.proofs.Common.{◌≡◌, ℕ, suc, ◌+◌, ◌*◌, ◌<◌, ◌≤◌, ◌^◌, true, false, List, [], ◌∷◌}
+use Rattle.std.proofs.Common.{◌≡◌, ℕ, suc, ◌+◌, ◌*◌, ◌<◌, ◌≤◌, true, false, List, [], ◌∷◌}
 use Rattle.std.proofs.Common.{◌++◌, length, Option, None, Some, inl, inr, refl, ap, arith}
 use Rattle.std.proofs.Common.{length-append}
 use Rattle.std.specs.Prelude.{ℤ, nat_lt, if◌then◌else◌}
 use Rattle.std.proofs.lemmas.Bool.{cases_lt, cases_eq}
 use Rattle.std.proofs.lemmas.Bool.Decides.{nat_tests}
 use Rattle.twkb_points.specs.Point.{Point}
+use Rattle.twkb_tree.specs.declared.limits.TheConstants.{NODES_CAP, POINTS_CAP}
 use Rattle.twkb_tree.specs.Rows.{Row, row_points}
 use Rattle.twkb_grammar.specs.declared.style.Style.{Style}
 use Rattle.twkb_writer.specs.declared.levels.Level.{Level}
 use Rattle.twkb_writer.specs.Levels.{IsSmall}
 use Rattle.twkb_writer.specs.Measuring.{level, points_ahead, row_level, ahead_of, cost_of, load}
 use Rattle.twkb_writer.specs.Tails.{tail_of}
+use Rattle.twkb_writer.proofs.CapLemmas.{sums_fit}
 use Rattle.twkb_writer.proofs.LevelLemmas.{level_above, level_at, level_below}
 
 -- the costs of the rows at a depth and below, up to the first row above it
@@ -138,10 +140,10 @@ members_within style k (r ∷ rs) = elim (cases_lt r.depth k) [
 ]
 
 -- the totals of rows within the caps are small
-pub level_small : (style : Style) (k : ℕ) (rs : List Row) → IsBounded style rs → length rs ≤ 2 ^ 20
-    → length (row_points rs) ≤ 2 ^ 24 → IsSmall (level style k rs)
+pub level_small : (style : Style) (k : ℕ) (rs : List Row) → IsBounded style rs → length rs ≤ NODES_CAP
+    → length (row_points rs) ≤ POINTS_CAP → IsSmall (level style k rs)
 level_small style k rs bounded few few_points = record {
   members = omega (arith, members_within style k rs, few);
-  ids = omega (arith, bounded k, costs_within k rs, few, few_points);
-  bytes = omega (arith, bounded k, costs_within k rs, few, few_points);
+  ids = omega (arith, bounded k, costs_within k rs, few, few_points, sums_fit);
+  bytes = omega (arith, bounded k, costs_within k rs, few, few_points, sums_fit);
 }

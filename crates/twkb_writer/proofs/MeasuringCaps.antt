@@ -1,6 +1,7 @@
 -- The caps of a flat form's rows.
-use Rattle.std.proofs.Common.{ℕ, zero, suc, ◌≤◌, ◌^◌, List, [], ◌∷◌, length, drop, None, ◌∙◌, ap}
+use Rattle.std.proofs.Common.{ℕ, zero, suc, ◌≤◌, List, [], ◌∷◌, length, drop, None, ◌∙◌, ap}
 use Rattle.std.proofs.Common.{subst, arith, append-nil, length-append}
+use Rattle.twkb_tree.specs.declared.limits.TheConstants.{NODES_CAP, POINTS_CAP}
 use Rattle.twkb_tree.specs.Tree.{Tree}
 use Rattle.twkb_tree.specs.Limits.{largest_limits, IsValid}
 use Rattle.twkb_tree.specs.Rows.{Row, rows, row_points}
@@ -13,8 +14,8 @@ use Rattle.twkb_flat.specs.Rows.{IsNode}
 
 -- there are at most this many rows and points, and none is deeper than 34
 pub record IsCapped (rs : List Row) : Type 0 where
-  pub nodes : length rs ≤ 2 ^ 20
-  pub points : length (row_points rs) ≤ 2 ^ 24
+  pub nodes : length rs ≤ NODES_CAP
+  pub points : length (row_points rs) ≤ POINTS_CAP
   pub depths : AreShallow 34 rs
 
 -- the rows of a geometry are within the caps

@@ -1,5 +1,5 @@
 -- The pass over a flat form's nodes, from the last to the first.
-use Rattle.std.proofs.Common.{◌≡◌, ℕ, ◌+◌, ◌*◌, ◌-◌, ◌<◌, ◌≤◌, ◌^◌, List, [], ◌∷◌, ◌++◌, length}
+use Rattle.std.proofs.Common.{◌≡◌, ℕ, ◌+◌, ◌*◌, ◌-◌, ◌<◌, ◌≤◌, List, [], ◌∷◌, ◌++◌, length}
 use Rattle.std.proofs.Common.{drop, get_or, Option, sym, ◌∙◌, ap, subst, arith}
 use Rattle.std.specs.Prelude.{reverse}
 use Rattle.std.proofs.lemmas.List.{drop_all, reverse-reverse}
@@ -13,10 +13,12 @@ use Rattle.twkb_grammar.specs.declared.style.Style.{Style}
 use Rattle.twkb_writer.specs.declared.levels.Level.{Level}
 use Rattle.twkb_writer.specs.declared.sizes.Entry.{Entry}
 use Rattle.twkb_writer.specs.declared.tails.Tail.{Tail}
+use Rattle.twkb_writer.specs.Caps.{point_bytes_cap}
 use Rattle.twkb_writer.specs.Levels.{blank, IsSmall}
 use Rattle.twkb_writer.specs.Measuring.{measured, points_ahead, points_at, option_list, tail_after, TakenRow}
 use Rattle.twkb_writer.specs.Sizes.{AreSizes}
 use Rattle.twkb_writer.specs.Tails.{tail_of}
+use Rattle.twkb_writer.proofs.CapLemmas.{points_fit}
 use Rattle.twkb_writer.proofs.MeasuringBounds.{costs_within, level_small}
 use Rattle.twkb_writer.proofs.MeasuringCaps.{IsCapped, node_depth}
 use Rattle.twkb_writer.proofs.MeasuringPoints.{own_at}
@@ -43,8 +45,9 @@ pass_small style rs levels t es caps pass k small = subst IsSmall (sym (pass.sta
 
 -- the points up to the next geometry are few
 pub tail_short : (style : Style) (rs : List Row) (levels : List Level) (t : Tail) (es : List Entry)
-    → IsCapped rs → Pass style rs levels t es → t.bytes ≤ 2 ^ 29
-tail_short style rs levels t es caps pass = omega (arith, pass.tail_small, costs_within 0 rs, caps.nodes, caps.points)
+    → IsCapped rs → Pass style rs levels t es → t.bytes ≤ point_bytes_cap
+tail_short style rs levels t es caps pass = omega
+    (arith, pass.tail_small, costs_within 0 rs, caps.nodes, caps.points, points_fit)
 
 -- the pass after one more node, before the rows already seen
 pub pass_back : (style : Style) (rows : List Row) (i : ℕ) (node : Node) (levels new : List Level)

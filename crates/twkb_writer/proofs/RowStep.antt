@@ -1,10 +1,11 @@
 -- One step of the writer, from one row to the next.
-use Rattle.std.proofs.Common.{◌≡◌, ◌∙◌, ℕ, ◌+◌, ◌≤◌, ◌<◌, ◌^◌, [], get_or, Some, None, Option, List}
+use Rattle.std.proofs.Common.{◌≡◌, ◌∙◌, ℕ, ◌+◌, ◌≤◌, ◌<◌, [], get_or, Some, None, Option, List}
 use Rattle.std.proofs.Common.{◌∷◌, ◌++◌, length, take, drop, sym, ap, append_assoc, arith}
 use Rattle.std.specs.Prelude.{ℤ}
 use Rattle.std.proofs.lemmas.List.{length-append, take-append-drop, drop-drop, drop_at, take_at, drop_more}
 use Rattle.twkb_points.specs.Point.{Point}
 use Rattle.twkb_tree.specs.declared.kind.Kind.{Kind}
+use Rattle.twkb_tree.specs.declared.limits.TheConstants.{POINTS_CAP}
 use Rattle.twkb_tree.specs.Rows.{Row, row_points}
 use Rattle.twkb_tree.proofs.RowPoints.{row_points-append, row_points-with}
 use Rattle.twkb_tree.specs.Limits.{largest_limits}
@@ -51,7 +52,7 @@ points_within rows i node is =
     )
 
 -- a flat form has few points
-pub few_points : (rs : List Row) → AreValidRowsOfOne largest_limits rs → length (row_points rs) ≤ 2 ^ 24
+pub few_points : (rs : List Row) → AreValidRowsOfOne largest_limits rs → length (row_points rs) ≤ POINTS_CAP
 few_points [] h = omega arith
 few_points (r ∷ rs) h =
     let valid = h.1 in

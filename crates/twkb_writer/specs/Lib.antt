@@ -1,5 +1,6 @@
 -- The definitions of the crate, by their topic.
 pub mod Bytes
+pub mod Caps
 pub mod Depths
 pub mod Encoding
 pub mod Levels

@@ -1,6 +1,7 @@
 -- The totals of a geometry, measured on its tree.
-use Rattle.std.specs.Prelude.{ℕ, ◌+◌, ◌*◌, ◌≤◌, ◌^◌, ℤ, List, [], length, Option, Some}
+use Rattle.std.specs.Prelude.{ℕ, ◌+◌, ◌*◌, ◌≤◌, ℤ, List, [], length, Option, Some}
 use Rattle.twkb_points.specs.Point.{Point}
+use Rattle.twkb_tree.specs.declared.limits.TheConstants.{NODES_CAP, POINTS_CAP}
 use Rattle.twkb_tree.specs.Tree.{Tree, simple, collection, points_in, precision_of}
 use Rattle.twkb_tree.specs.Rows.{own_row, rows_under}
 use Rattle.twkb_grammar.specs.declared.style.Style.TheVariants.{Full}
@@ -29,5 +30,5 @@ most_of rows points = 100 * rows + 20 * points
 
 -- the rows and points are within the caps
 pub record IsWithinCaps (rows points : ℕ) : Type 0 where
-  pub few_rows : rows ≤ 2 ^ 20
-  pub few_points : points ≤ 2 ^ 24
+  pub few_rows : rows ≤ NODES_CAP
+  pub few_points : points ≤ POINTS_CAP

@@ -1,5 +1,6 @@
 //! The sizes of a flat form of one row, measured without levels.
-ghost use Rattle.std.specs.Prelude.{◌≡◌, ◌≤◌, ◌^◌, ◌↔◌, ◌∷◌, [], ℤ, length, Some, IsTrue, OnOk};
+ghost use Rattle.std.specs.Prelude.{◌≡◌, ◌≤◌, ◌↔◌, ◌∷◌, [], ℤ, length, Some, IsTrue, OnOk};
+ghost use Rattle.twkb_tree.specs.declared.limits.TheConstants.{POINTS_CAP};
 ghost use Rattle.twkb_tree.specs.Limits.{largest_limits};
 ghost use Rattle.twkb_tree.specs.Rows.{row_points};
 ghost use Rattle.twkb_tree.specs.RowLists.{AreValidRowsOfOne};
@@ -45,7 +46,7 @@ fn is_one_point(node: &Node) -> bool
 
 // Measures the only row, of any kind.
 fn row_entry(flat: &Flat, style: Style, node: &Node, precision: i8, work: &mut Work) -> Entry
-    requires few { length (row_points flat.now) ≤ 2 ^ 24 }
+    requires few { length (row_points flat.now) ≤ POINTS_CAP }
     requires one { length flat.now ≡ 1 }
     requires node { IsNode flat.now 0 node.now }
     requires whole { node.now.row.precision ≡ Some precision }

@@ -1,5 +1,7 @@
 //! The totals of the rows at one depth, which give the size of the geometry above them.
 ghost use Rattle.std.specs.Prelude.{◌≡◌, ◌+◌, ◌≤◌, ◌^◌};
+ghost use Rattle.twkb_tree.specs.declared.limits.TheConstants.{NODES_CAP};
+ghost use Rattle.twkb_writer.specs.Caps.{sums_cap};
 ghost use Rattle.twkb_writer.specs.Levels.{blank, lead_len, body_len, all_bounds, box_for, box_len};
 ghost use Rattle.twkb_writer.specs.Levels.{id_len, is_point, entry_for, blob_len, with_part};
 ghost use Rattle.twkb_writer.specs.Levels.{with_geometry};
@@ -97,7 +99,7 @@ impl Level {
     // points and is above these rows.
     #[inline(always)]
     fn lead_len(&self, kind: Kind, own: u32) -> u64
-        requires room { self.now.ids ≤ 2 ^ 40 }
+        requires room { self.now.ids ≤ sums_cap }
         ensures value { result ≡ lead_len kind own self.now }
         ensures most { result ≤ self.now.ids + 10 }
     {
@@ -111,9 +113,9 @@ impl Level {
     // The number of bytes of the body of a geometry above these rows. Its own row has `own` points.
     #[inline(always)]
     fn body_len(&self, kind: Kind, own: u32, tail: &Tail) -> u64
-        requires ids { self.now.ids ≤ 2 ^ 40 }
-        requires bytes { self.now.bytes ≤ 2 ^ 40 }
-        requires points { tail.now.bytes ≤ 2 ^ 40 }
+        requires ids { self.now.ids ≤ sums_cap }
+        requires bytes { self.now.bytes ≤ sums_cap }
+        requires points { tail.now.bytes ≤ sums_cap }
         ensures value { result ≡ body_len kind own self.now tail.now }
         ensures most { result ≤ self.now.ids + self.now.bytes + tail.now.bytes + 30 }
     {
@@ -165,9 +167,9 @@ impl Level {
         own: u32,
         tail: &Tail,
     ) -> Entry
-        requires ids { self.now.ids ≤ 2 ^ 40 }
-        requires bytes { self.now.bytes ≤ 2 ^ 40 }
-        requires points { tail.now.bytes ≤ 2 ^ 40 }
+        requires ids { self.now.ids ≤ sums_cap }
+        requires bytes { self.now.bytes ≤ sums_cap }
+        requires points { tail.now.bytes ≤ sums_cap }
         ensures value { result ≡ entry_for style kind precision own self.now tail.now }
         ensures most { result.size ≤ self.now.ids + self.now.bytes + tail.now.bytes + 70 }
     {
@@ -185,11 +187,11 @@ impl Level {
     // the rows under it.
     #[inline(always)]
     pub(crate) fn with_part(self, kind: Kind, own: u32, id: Option<i64>, below: &Level) -> Level
-        requires members { self.members ≤ 2 ^ 20 }
-        requires ids { self.ids ≤ 2 ^ 40 }
-        requires bytes { self.bytes ≤ 2 ^ 40 }
-        requires ids_below { below.now.ids ≤ 2 ^ 40 }
-        requires bytes_below { below.now.bytes ≤ 2 ^ 40 }
+        requires members { self.members ≤ NODES_CAP }
+        requires ids { self.ids ≤ sums_cap }
+        requires bytes { self.bytes ≤ sums_cap }
+        requires ids_below { below.now.ids ≤ sums_cap }
+        requires bytes_below { below.now.bytes ≤ sums_cap }
         ensures value { result ≡ with_part kind own id below.now self }
         ensures most { result.ids + result.bytes ≤ (below.now.ids + below.now.bytes) + (self.ids + self.bytes) + 20 }
     {
@@ -215,9 +217,9 @@ impl Level {
         below: &Level,
         tail: &Tail,
     ) -> Level
-        requires members { self.members ≤ 2 ^ 20 }
-        requires ids { self.ids ≤ 2 ^ 40 }
-        requires bytes { self.bytes ≤ 2 ^ 40 }
+        requires members { self.members ≤ NODES_CAP }
+        requires ids { self.ids ≤ sums_cap }
+        requires bytes { self.bytes ≤ sums_cap }
         requires room { size ≤ 2 ^ 50 }
         ensures value { result ≡ with_geometry style size precision id below.now tail.now self }
         ensures most { result.ids + result.bytes ≤ self.ids + self.bytes + size + 22 }

@@ -2,11 +2,13 @@
 ghost use Rattle.std.specs.Prelude.{◌≡◌, ◌+◌, ◌++◌, ◌*◌, ◌<◌, ◌≤◌, ◌^◌, ℕ, List, length, drop};
 ghost use Rattle.std.specs.Prelude.{slice_index_or, IfOk, OnOk};
 ghost use Rattle.twkb_points.specs.Point.{Point};
+ghost use Rattle.twkb_tree.specs.declared.limits.TheConstants.{POINTS_CAP};
 ghost use Rattle.twkb_tree.specs.Rows.{row_points};
 ghost use Rattle.twkb_flat.specs.Rows.{IsNode};
 ghost use Rattle.twkb_flat.specs.declared.work.Work.{Work as Before};
 ghost use Rattle.twkb_grammar.specs.declared.style.Style.{Style as InStyle};
 ghost use Rattle.twkb_writer.specs.declared.tails.Tail.{Tail as PointsAhead};
+ghost use Rattle.twkb_writer.specs.Caps.{point_bytes_cap, sums_cap};
 ghost use Rattle.twkb_writer.specs.Levels.{blank, IsSmall};
 ghost use Rattle.twkb_writer.specs.Measuring.{option_list, tail_after, points_at, TakenRow, Counted};
 ghost use Rattle.twkb_writer.specs.Reads.{ReadsExactly};
@@ -36,8 +38,8 @@ pub(crate) fn look_at_reads(work: &Work)
 #[inline(always)]
 pub(crate) fn take_points(flat: &Flat, id: NodeId, node: &Node, tail: Tail, work: &mut Work) -> Tail
     requires node { IsNode flat.now id.0 node.now }
-    requires few { length (row_points flat.now) ≤ 2 ^ 24 }
-    requires room { tail.bytes ≤ 2 ^ 30 }
+    requires few { length (row_points flat.now) ≤ POINTS_CAP }
+    requires room { tail.bytes ≤ point_bytes_cap }
     ensures value { (ahead : List Point) → tail ≡ tail_of ahead
         → result ≡ tail_of (points_at (drop id.0 flat.now) ++ ahead) }
     ensures most { result.bytes ≤ tail.bytes + 20 * node.now.points }
@@ -74,7 +76,7 @@ fn take_geometry(
 ) -> Entry
     requires deep { node.now.row.depth < 35 }
     requires small { (k : ℕ) → k < 36 → IsSmall (slice_index_or levels.old k blank) }
-    requires points { points.now.bytes ≤ 2 ^ 40 }
+    requires points { points.now.bytes ≤ sums_cap }
     requires whole { node.now.row.precision ≡ Some precision }
     ensures { TakenRow style node.now points.now levels.old levels.new (Some result) }
 {
@@ -108,7 +110,7 @@ fn take_part(node: &Node, levels: &mut Depths)
 fn take_row(style: Style, node: &Node, points: &Tail, levels: &mut Depths) -> Option<Entry>
     requires deep { node.now.row.depth < 35 }
     requires small { (k : ℕ) → k < 36 → IsSmall (slice_index_or levels.old k blank) }
-    requires points { points.now.bytes ≤ 2 ^ 40 }
+    requires points { points.now.bytes ≤ sums_cap }
     ensures { TakenRow style node.now points.now levels.old levels.new result }
 {
     match node.row.precision {

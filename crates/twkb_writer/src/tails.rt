@@ -1,6 +1,8 @@
 //! Totals of the last points of a geometry, to which points are added from the last to the first.
-ghost use Rattle.std.specs.Prelude.{◌≡◌, ◌+◌, ◌≤◌, ◌^◌, [], ◌∷◌, List};
+ghost use Rattle.std.specs.Prelude.{◌≡◌, ◌+◌, ◌≤◌, [], ◌∷◌, List};
+ghost use Rattle.twkb_num.specs.Lens.{lanes_cap};
 ghost use Rattle.twkb_points.specs.Point.{Point};
+ghost use Rattle.twkb_writer.specs.Caps.{sums_cap};
 ghost use Rattle.twkb_writer.specs.Tails.{step_len, from_origin, tail_from, tail_of};
 
 use crate::lengths::signed_len;
@@ -42,7 +44,7 @@ fn step_len(from: Pt, to: Pt) -> u64
 #[tactic(auto, unfolding(crate::specs::Tails::number_len))]
 #[inline(always)]
 fn add_two_steps(bytes: &mut VarintLens, from: Pt, by: Pt, to: Pt)
-    requires room { bytes.old ≤ 2 ^ 31 }
+    requires room { bytes.old ≤ lanes_cap }
     ensures value { bytes.new ≡ bytes.old + (step_len from by + step_len by to) }
     ensures most { bytes.new ≤ bytes.old + 40 }
 {
@@ -67,7 +69,7 @@ impl Tail {
 
     // Adds a point before these points.
     pub(crate) fn with_first(self, point: Pt) -> Tail
-        requires room { self.bytes ≤ 2 ^ 40 }
+        requires room { self.bytes ≤ sums_cap }
         ensures value { (ps : List Point) → self ≡ tail_of ps → result ≡ tail_of (point ∷ ps) }
         ensures most { result.bytes ≤ self.bytes + 20 }
     {
@@ -85,7 +87,7 @@ impl Tail {
     // Adds a point before these points, so that there is at least one.
     #[inline(always)]
     pub(crate) fn begun(self, point: Pt) -> NonEmptyTail
-        requires room { self.bytes ≤ 2 ^ 40 }
+        requires room { self.bytes ≤ sums_cap }
         ensures value { (ps : List Point) → self ≡ tail_of ps → tail_from result ≡ tail_of (point ∷ ps) }
         ensures most { result.bytes ≤ self.bytes + 20 }
     {
@@ -106,7 +108,7 @@ impl Tail {
 
     // The number of bytes of all differences, the first of them from (0, 0).
     pub(crate) fn from_origin(&self) -> u64
-        requires room { self.now.bytes ≤ 2 ^ 40 }
+        requires room { self.now.bytes ≤ sums_cap }
         ensures value { result ≡ from_origin self.now }
         ensures most { result ≤ self.now.bytes + 20 }
     {
@@ -124,7 +126,7 @@ impl NonEmptyTail {
     // Adds two points before these points.
     #[inline(always)]
     pub(crate) fn with_first_two(self, point: Pt, next: Pt) -> NonEmptyTail
-        requires room { self.bytes ≤ 2 ^ 31 }
+        requires room { self.bytes ≤ lanes_cap }
         ensures value { (ps : List Point) → tail_from self ≡ tail_of ps
             → tail_from result ≡ tail_of (point ∷ next ∷ ps) }
         ensures most { result.bytes ≤ self.bytes + 40 }
@@ -145,7 +147,7 @@ impl NonEmptyTail {
     // Turns totals of at least one point into totals of any number of points.
     #[inline(always)]
     pub(crate) fn tail(self) -> Tail
-        requires { self.bytes ≤ 2 ^ 31 }
+        requires { self.bytes ≤ lanes_cap }
         ensures { result ≡ tail_from self }
     {
         Tail {

@@ -1,11 +1,13 @@
 //! The length of a geometry's canonical blob, measured on the geometry itself, without a flat form.
 ghost use Rattle.std.specs.Prelude.{◌≡◌, ◌+◌, ◌++◌, ◌∷◌, [], ◌*◌, ◌≤◌, ◌^◌, List, length, flat_map};
 ghost use Rattle.twkb_points.specs.Point.{Point};
+ghost use Rattle.twkb_tree.specs.declared.limits.TheConstants.{NODES_CAP, POINTS_CAP};
 ghost use Rattle.twkb_tree.specs.Limits.{largest_limits, IsValid};
 ghost use Rattle.twkb_tree.specs.Rows.{rows_of_each, plain_row, polygon_rows, member_rows};
 ghost use Rattle.twkb_tree.specs.Tree.{IsTree, flatten, trees, area_nodes, nodes, nodes_all, flat, flat_all};
 ghost use Rattle.twkb_grammar.specs.Written.{canonical_blob};
 ghost use Rattle.twkb_grammar.specs.declared.style.Style.TheVariants.{Full};
+ghost use Rattle.twkb_writer.specs.Caps.{sums_cap};
 ghost use Rattle.twkb_writer.specs.Measuring.{level, load};
 ghost use Rattle.twkb_writer.specs.Tails.{tail_of};
 ghost use Rattle.twkb_writer.specs.TreeMeasuring.{way_of, level_under, tree_level, most_of, IsWithinCaps};
@@ -31,7 +33,7 @@ trait Part: Item {
 
     // Adds the part's points before those after it in the geometry.
     fn in_front_of(&self, tail: Tail) -> Tail
-        requires room { tail.bytes + 20 * length (all self.now) ≤ 2 ^ 40 }
+        requires room { tail.bytes + 20 * length (all self.now) ≤ sums_cap }
         ensures value { (ahead : List Point) → tail ≡ tail_of ahead → result ≡ tail_of (all self.now ++ ahead) }
         ensures most { result.bytes ≤ tail.bytes + 20 * length (all self.now) };
 }
@@ -80,7 +82,7 @@ impl Part for Lines {
 
 // Adds the points of parts before those after them in the geometry.
 fn tail_before<T: Part>(parts: &[T], tail: Tail) -> Tail
-    requires room { tail.bytes + 20 * length (flat_map T.all parts.now) ≤ 2 ^ 40 }
+    requires room { tail.bytes + 20 * length (flat_map T.all parts.now) ≤ sums_cap }
     ensures value { (ahead : List Point) → tail ≡ tail_of ahead → result ≡ tail_of (flat_map T.all parts.now ++ ahead) }
     ensures most { result.bytes ≤ tail.bytes + 20 * length (flat_map T.all parts.now) }
 {
@@ -93,8 +95,8 @@ fn tail_before<T: Part>(parts: &[T], tail: Tail) -> Tail
 
 // The totals of rings, or of members that are points or linestrings.
 fn parts_level<T: Part>(kind: Kind, parts: &[T], ids: &Ids) -> Level
-    requires few { length parts.now ≤ 2 ^ 20 }
-    requires few_points { length (flat_map T.own parts.now) ≤ 2 ^ 24 }
+    requires few { length parts.now ≤ NODES_CAP }
+    requires few_points { length (flat_map T.own parts.now) ≤ POINTS_CAP }
     ensures value { result ≡ level Full 0 (rows_of_each
         (λ id part. plain_row 0 kind id (T.own part) ∷ []) ids.now parts.now) }
     ensures most { load result ≤ 20 * length parts.now }
@@ -109,8 +111,8 @@ fn parts_level<T: Part>(kind: Kind, parts: &[T], ids: &Ids) -> Level
 
 // The totals of members that are polygons.
 fn areas_level(areas: &[Lines], ids: &Ids) -> Level
-    requires few { area_nodes areas.now ≤ 2 ^ 20 }
-    requires few_points { length (flat_map flatten areas.now) ≤ 2 ^ 24 }
+    requires few { area_nodes areas.now ≤ NODES_CAP }
+    requires few_points { length (flat_map flatten areas.now) ≤ POINTS_CAP }
     ensures value { result ≡ level Full 0 (rows_of_each (polygon_rows 0) ids.now areas.now) }
     ensures most { load result ≤ 20 * area_nodes areas.now }
 {
@@ -124,7 +126,7 @@ fn areas_level(areas: &[Lines], ids: &Ids) -> Level
 
 // The points of the geometry itself, those of its parts included.
 fn own_tail(geometry: &Geometry) -> Tail
-    requires few { length (flat geometry.now) ≤ 2 ^ 24 }
+    requires few { length (flat geometry.now) ≤ POINTS_CAP }
     ensures value { result ≡ tail_of (way_of geometry.now) }
     ensures most { result.bytes ≤ 20 * length (way_of geometry.now) }
 {
@@ -175,7 +177,7 @@ fn below(geometry: &Geometry) -> Level
 #[cycle(measuring)]
 fn with_member(geometry: &Geometry, id: Option<i64>, others: Level) -> Level
     requires caps { IsWithinCaps (nodes geometry.now) (length (flat geometry.now)) }
-    requires members { others.members ≤ 2 ^ 20 }
+    requires members { others.members ≤ NODES_CAP }
     requires room { load others ≤ 2 ^ 39 }
     ensures value { result ≡ tree_level id geometry.now others }
     ensures most { load result ≤ load others + most_of (nodes geometry.now) (length (flat geometry.now)) }

@@ -1,4 +1,5 @@
-use Rattle.std.proofs.Common.{◌≡◌, ◌≤◌, ◌-◌, ◌^◌}
+use Rattle.std.proofs.Common.{◌≡◌, ◌≤◌, ◌-◌}
+use Rattle.twkb_io.specs.declared.TheConstants.{MAX_BYTES}
 use Rattle.twkb_tree.specs.Limits.{standard_limits}
 use Rattle.twkb_blob.specs.Sessions.{session_limits}
 use Rattle.examples.proofs.ArrivalsLemmas.{TookBytes}
@@ -16,4 +17,4 @@ invariant-loop-count g l =
 
 -- the number of bytes that a session may still take
 abbrev pub decreases-loop-count : goal.decreases-loop-count
-decreases-loop-count g l = 2 ^ 62 - l.arrived.bytes
+decreases-loop-count g l = MAX_BYTES - l.arrived.bytes

@@ -1,4 +1,5 @@
-use Rattle.std.proofs.Common.{◌-◌, ◌^◌}
+use Rattle.std.proofs.Common.{◌-◌}
+use Rattle.twkb_io.specs.declared.TheConstants.{MAX_BYTES}
 use Rattle.twkb_io.specs.Taps.{device_of}
 use Rattle.twkb_io.specs.Inputs.{given}
 use Rattle.twkb_tree.specs.Limits.{standard_limits}
@@ -12,4 +13,4 @@ invariant-loop-geometry g l = GavePoints standard_limits (g.R.Read.remaining (de
 
 -- the number of bytes that may still be given out
 abbrev pub decreases-loop-geometry : goal.decreases-loop-geometry
-decreases-loop-geometry g l = 2 ^ 62 - given (reader_input l.blobs)
+decreases-loop-geometry g l = MAX_BYTES - given (reader_input l.blobs)

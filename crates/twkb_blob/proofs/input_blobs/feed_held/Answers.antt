@@ -1,5 +1,6 @@
-use Rattle.std.proofs.Common.{◌≡◌, ◌∙◌, ◌-◌, ◌≤◌, ◌^◌, length, false, ap, arith}
+use Rattle.std.proofs.Common.{◌≡◌, ◌∙◌, ◌-◌, ◌≤◌, length, false, ap, arith}
 use Rattle.std.proofs.lemmas.List.{length-take}
+use Rattle.twkb_io.specs.declared.TheConstants.{MAX_BYTES}
 use Rattle.twkb_io.specs.Inputs.{given, unused}
 use Rattle.twkb_blob.proofs.Leading.{refused, turned}
 use Rattle.twkb_blob.proofs.Pieces.{held_left}
@@ -25,6 +26,6 @@ returns-in-Ok-clause-fed g c =
 pub returns-in-Err-clause-fed : goal.returns-in-Err-clause-fed
 returns-in-Err-clause-fed g c =
     let b = c.args.input.now in
-    let few : length c.held-piece.result.now ≤ 2 ^ 62 - given b = omega
-    (arith, ap length c.held-piece.ensures.held, length-take (2 ^ 62 - given b) (unused b)) in
+    let few : length c.held-piece.result.now ≤ MAX_BYTES - given b = omega
+    (arith, ap length c.held-piece.ensures.held, length-take (MAX_BYTES - given b) (unused b)) in
     refused c.held-piece.ensures.front few c.in-Err.ensures.unread c.in-Err.ensures.fed

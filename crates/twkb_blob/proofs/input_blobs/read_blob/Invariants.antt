@@ -1,4 +1,5 @@
-use Rattle.std.proofs.Common.{◌-◌, ◌≤◌, ◌^◌}
+use Rattle.std.proofs.Common.{◌-◌, ◌≤◌}
+use Rattle.twkb_io.specs.declared.TheConstants.{MAX_BYTES}
 use Rattle.twkb_io.specs.Inputs.{given}
 use Rattle.twkb_engine.specs.Standing.{IsAlive, place_in}
 use Rattle.twkb_blob.specs.Feeding.{Onto}
@@ -9,9 +10,9 @@ abbrev pub invariant-loop-fault : goal.invariant-loop-fault
 invariant-loop-fault g l = record {
   from : Onto g.S.SpanNotes.holds l.initial.engine l.initial.flat l.initial.spans l.initial.input
       l.engine l.flat l.spans l.input;
-  room : place_in l.engine ≤ 2 ^ 62;
+  room : place_in l.engine ≤ MAX_BYTES;
   alive : IsAlive l.flat l.engine;
 }
 
 abbrev pub decreases-loop-fault : goal.decreases-loop-fault
-decreases-loop-fault g l = 2 ^ 62 - given l.input
+decreases-loop-fault g l = MAX_BYTES - given l.input

@@ -1,4 +1,5 @@
-use Rattle.std.proofs.Common.{◌≡◌, ◌+◌, ◌≤◌, ◌^◌, length}
+use Rattle.std.proofs.Common.{◌≡◌, ◌+◌, ◌≤◌, length}
+use Rattle.twkb_tree.specs.declared.limits.TheConstants.{NODES_CAP, POINTS_CAP}
 use Rattle.twkb_tree.specs.Rows.{row_points}
 use Rattle.twkb_flat.specs.Members.{EndsInMember}
 use Rattle.twkb_body.specs.Ids.{ids_of}
@@ -12,8 +13,8 @@ invariant-loop-left l = record {
       l.initial.left (record { used = l.used; position = l.position }) l.left (ids_of l.ids) l.flat;
   has : l.ids.has_ids ≡ l.initial.ids.has_ids;
   member : EndsInMember l.depth l.ids.has_ids l.flat;
-  nodes : length l.flat + l.left ≤ 2 ^ 20;
-  points : length (row_points l.flat) + l.left ≤ 2 ^ 24;
+  nodes : length l.flat + l.left ≤ NODES_CAP;
+  points : length (row_points l.flat) + l.left ≤ POINTS_CAP;
 }
 
 abbrev pub decreases-loop-left : goal.decreases-loop-left

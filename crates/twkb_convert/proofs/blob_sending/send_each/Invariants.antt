@@ -1,5 +1,6 @@
-use Rattle.std.proofs.Common.{◌≡◌, ◌-◌, ◌^◌, false}
+use Rattle.std.proofs.Common.{◌≡◌, ◌-◌, false}
 use Rattle.twkb_io.specs.Outputs as Outputs
+use Rattle.twkb_io.specs.declared.TheConstants.{MAX_BYTES}
 use Rattle.twkb_blob.specs.Readers.{has_ended, is_spent}
 use Rattle.twkb_convert.specs.BlobReading.{given, is_input_spent}
 use Rattle.twkb_convert.specs.BlobSending.{Follows, IsReady, SentBlobs}
@@ -20,4 +21,4 @@ invariant-loop-done g l =
 
 -- the number of bytes that may still be given out
 abbrev pub decreases-loop-done : goal.decreases-loop-done
-decreases-loop-done g l = 2 ^ 62 - given l.reader
+decreases-loop-done g l = MAX_BYTES - given l.reader

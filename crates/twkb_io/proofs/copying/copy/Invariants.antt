@@ -1,4 +1,5 @@
-use Rattle.std.proofs.Common.{◌≡◌, ◌-◌, ◌^◌, List, ℕ}
+use Rattle.std.proofs.Common.{◌≡◌, ◌-◌, List, ℕ}
+use Rattle.twkb_io.specs.declared.TheConstants.{MAX_BYTES}
 use Rattle.twkb_io.specs.Inputs.{given, input_failures, is_spent}
 use Rattle.twkb_io.specs.Copies.{Copied}
 use Rattle.twkb_io.proofs.copying.copy.Given as goal
@@ -13,4 +14,4 @@ invariant-loop g l =
     }
 
 abbrev pub decreases-loop : goal.decreases-loop
-decreases-loop g l = 2 ^ 62 - given l.input
+decreases-loop g l = MAX_BYTES - given l.input

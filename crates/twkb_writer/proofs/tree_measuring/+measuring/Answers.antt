@@ -1,7 +1,8 @@
-use Rattle.std.proofs.Common.{◌≤◌, ◌-◌, ◌^◌, ◌∙◌, List, [], ◌∷◌, length, ap, sym, subst, arith, rules, SFits, w8}
+use Rattle.std.proofs.Common.{◌≤◌, ◌-◌, ◌∙◌, List, [], ◌∷◌, length, ap, sym, subst, arith, rules, SFits, w8}
 use Rattle.std.specs.Prelude.{flat_map}
 use Rattle.std.proofs.lemmas.Int.{to_z-of_z}
 use Rattle.twkb_points.specs.Point.{Point}
+use Rattle.twkb_tree.specs.declared.limits.TheConstants.{POINTS_CAP}
 use Rattle.twkb_tree.specs.Tree.{Tree, AreTrees, trees, flat, flat_all, nodes_all, precision_of}
 use Rattle.twkb_tree.specs.Rows.{Row, own_row, member_rows}
 use Rattle.twkb_tree.specs.Size.{member_smaller}
@@ -83,7 +84,7 @@ pub below-parts_level-requires-in-MultiPoint-clause-few_points
     : goal.below-parts_level-requires-in-MultiPoint-clause-few_points
 below-parts_level-requires-in-MultiPoint-clause-few_points t c =
     let ones = flat_map_ones c.as_slice-in-MultiPoint.result.now ∙ c.as_slice-in-MultiPoint.ensures.items in
-    let few : length (flat_map (λ (p : Point). p ∷ []) c.as_slice-in-MultiPoint.result.now) ≤ 2 ^ 24 = omega (
+    let few : length (flat_map (λ (p : Point). p ∷ []) c.as_slice-in-MultiPoint.result.now) ≤ POINTS_CAP = omega (
       arith,
       c.requires.few_points,
       ap (λ (ps : List Point). length ps) ones,

@@ -1,5 +1,6 @@
-use Rattle.std.proofs.Common.{◌-◌, ◌∙◌, ◌≤◌, ◌^◌, List, length, ap, arith}
+use Rattle.std.proofs.Common.{◌-◌, ◌∙◌, ◌≤◌, List, length, ap, arith}
 use Rattle.twkb_points.specs.Point.{Point}
+use Rattle.twkb_tree.specs.declared.limits.TheConstants.{POINTS_CAP}
 use Rattle.twkb_tree.specs.Tree.{flatten}
 use Rattle.twkb_tree.specs.Rows.{ring_rows}
 use Rattle.twkb_tree.specs.declared.kind.Kind.TheVariants as kind
@@ -25,7 +26,7 @@ parts_level-rings-requires-clause-few c =
 pub parts_level-rings-requires-clause-few_points : goal.parts_level-rings-requires-clause-few_points
 parts_level-rings-requires-clause-few_points c =
     let k = c.loop-index.index in
-    let few : length (flatten c.as_slice.result.now) ≤ 2 ^ 24 = omega (
+    let few : length (flatten c.as_slice.result.now) ≤ POINTS_CAP = omega (
       arith,
       c.requires.few_points,
       count_back flatten c.args.areas.now k c.index-areas-index.result c.loop-index-test.true

@@ -1,6 +1,7 @@
-use Rattle.std.proofs.Common.{◌-◌, ◌^◌, arith, inl, inr, refl}
+use Rattle.std.proofs.Common.{◌-◌, arith, inl, inr, refl}
 use Rattle.std.proofs.KnownBytes.{Keeps-refl}
 use Rattle.std.proofs.lemmas.Result.{err_from_is_err_and}
+use Rattle.twkb_io.specs.declared.TheConstants.{MAX_BYTES}
 use Rattle.twkb_io.specs.Inputs.{rest_of}
 use Rattle.twkb_io.specs.Taps.{device_of}
 use Rattle.twkb_io.proofs.FaultLemmas.{not_both, ok_no_err}
@@ -91,5 +92,5 @@ returns-clause-end g c =
     let filled = c.refill.new.self in
     let more = not_used_up filled.at filled.filled filled.ended filled.in_order
     c.in_ok-refill.ensures.end c.if-self-2.false in
-    λ none. absurd (some_held filled.held filled.at filled.filled (2 ^ 62 - filled.offset) more
+    λ none. absurd (some_held filled.held filled.at filled.filled (MAX_BYTES - filled.offset) more
     filled.in_array (omega arith) none)

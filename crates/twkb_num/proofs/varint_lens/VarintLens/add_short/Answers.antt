@@ -1,7 +1,7 @@
-use Rattle.std.proofs.Common.{◌≤◌, ◌+◌, ◌%◌, ◌^◌, ◌∙◌, sym, ap, arith, length}
+use Rattle.std.proofs.Common.{◌≤◌, ◌+◌, ◌%◌, ◌∙◌, sym, ap, arith, length}
 use lib.Lanes.{sum_l, zip2}
 use Rattle.std.proofs.lemmas.Simd.{length-zip2}
-use Rattle.twkb_num.specs.Lens.{four_lens}
+use Rattle.twkb_num.specs.Lens.{four_lens, lanes_cap}
 use Rattle.twkb_num.proofs.LengthLemmas.{lens_added, few_lens, grown_few}
 use Rattle.twkb_num.proofs.varint_lens.VarintLens.add_short.Goals as goal
 
@@ -13,7 +13,7 @@ pub returns-clause-value : goal.returns-clause-value
 returns-clause-value c =
     let lanes = c.self.inside.lanes in
     let others = c.self.inside.others in
-    let room : sum_l lanes + others ≤ 2 ^ 31 = omega (arith, c.self.view_is, c.requires.room) in
+    let room : sum_l lanes + others ≤ lanes_cap = omega (arith, c.self.view_is, c.requires.room) in
     ap (λ ms. sum_l (zip2 (λ x y. (x + y) % 4294967296) lanes ms) + (others + 4)) c.more_lens.ensures
     ∙ lens_added lanes others c.args.first c.args.second c.args.third c.args.fourth c.self.invariant room
     c.requires.first_small c.requires.second_small c.requires.third_small c.requires.fourth_small

@@ -1,6 +1,7 @@
-use Rattle.std.proofs.Common.{◌+◌, ◌++◌, ◌∷◌, [], ◌*◌, ◌≤◌, ◌^◌, List, length, ◌∙◌, ap, arith}
+use Rattle.std.proofs.Common.{◌+◌, ◌++◌, ◌∷◌, [], ◌*◌, ◌≤◌, List, length, ◌∙◌, ap, arith}
 use Rattle.std.specs.Prelude.{flat_map}
 use Rattle.twkb_points.specs.Point.{Point}
+use Rattle.twkb_writer.specs.Caps.{sums_cap}
 use Rattle.twkb_writer.specs.Tails.{tail_of}
 use Rattle.twkb_writer.proofs.MeasuringParts.{flat_map_ones}
 use Rattle.twkb_writer.proofs.tree_measuring.PtsPart.in_front_of.Goals as goal
@@ -9,7 +10,7 @@ pub tail_before-requires : goal.tail_before-requires
 tail_before-requires c =
     let ones = flat_map_ones c.as_slice.result.now ∙ c.as_slice.ensures.items in
     let room : c.args.tail.bytes + 20 * length (flat_map (λ (p : Point). p ∷ [])
-    c.as_slice.result.now) ≤ 2 ^ 40 = omega (
+    c.as_slice.result.now) ≤ sums_cap = omega (
       arith,
       c.requires.room,
       ap (λ (ps : List Point). length ps) ones,
