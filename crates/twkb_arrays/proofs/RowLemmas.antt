@@ -1,16 +1,14 @@
 -- A row of an array, and the row of a geometry that it stands for.
-use Rattle.std.proofs.Common.{◌≡◌, ℕ, ℤ, pos, negsuc, List, [], ◌∷◌, length, take, inl, inr, ◌⊎◌, Bool, true, false}
-use Rattle.std.proofs.Common.{refl, sym, ap, ◌∙◌, arith, if◌then◌else◌}
-use Rattle.std.specs.Prelude.{Option, Some, None, ◌==◌, ◌≤◌}
+use Rattle.std.proofs.Common.{◌≡◌, ℕ, ℤ, pos, negsuc, List, [], ◌∷◌, length, take, inl, inr, Bool, true, false}
+use Rattle.std.proofs.Common.{refl, sym, ap, ◌∙◌, if◌then◌else◌}
+use Rattle.std.specs.Prelude.{Some, None, ◌==◌, ◌≤◌}
 use Rattle.std.proofs.lemmas.Bool.{eqb-true}
 use Rattle.std.proofs.lemmas.List.{length-map, length-take-le}
-use Rattle.twkb_points.specs.Point.{Point}
 use Rattle.twkb_tree.specs.Limits.{Allowance}
 use Rattle.twkb_tree.specs.Rows.{Row}
-use Rattle.twkb_tree.specs.declared.kind.Kind.{Kind}
 use Rattle.twkb_buffer.specs.Polylines.{coordinates_of}
 use Rattle.twkb_buffer.specs.declared.point.BufferPoint.{BufferPoint}
-use Rattle.twkb_arrays.specs.Judging.{AcceptedAfter, HasRightId, id_of, is_no_precision, precision_of, row_from_c}
+use Rattle.twkb_arrays.specs.Judging.{AcceptedAfter, HasRightId, id_of, is_no_precision, precision_of}
 use Rattle.twkb_arrays.specs.Rows.{id_flag, id_number, kind_number, point_of, points_of, precision_number, row_in_c}
 use Rattle.twkb_arrays.specs.declared.row.BufferRow.{BufferRow}
 

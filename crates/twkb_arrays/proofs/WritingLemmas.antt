@@ -1,6 +1,6 @@
 -- Arrays that are written as streams.
-use Rattle.std.proofs.Common.{◌≡◌, ℕ, ◌+◌, ◌-◌, ◌<◌, ◌≤◌, ◌⊎◌, inl, inr, List, [], ◌∷◌, ◌++◌, length, take, drop}
-use Rattle.std.proofs.Common.{Bool, true, false, refl, sym, ap, ◌∙◌, subst, arith, append_assoc, slice_index_or}
+use Rattle.std.proofs.Common.{◌≡◌, ℕ, ◌+◌, ◌<◌, ◌≤◌, ◌⊎◌, inl, inr, List, [], ◌∷◌, ◌++◌, length, take, drop}
+use Rattle.std.proofs.Common.{Bool, false, refl, sym, ap, ◌∙◌, subst, arith, append_assoc, slice_index_or}
 use Rattle.std.specs.Prelude.{Result, Ok, Err, IfOk, IfErr, IsTrue, ◌↔◌}
 use Rattle.std.proofs.lemmas.Bool.{false≢true}
 use Rattle.std.proofs.lemmas.List.{append-nil, map-append, length-drop, length-take-le, take-append-drop, take_all, take_more}
@@ -18,7 +18,7 @@ use Rattle.twkb_arrays.specs.Gathering.{IfRow}
 use Rattle.twkb_arrays.specs.Judging.{AcceptedAfter, RefusedAfter}
 use Rattle.twkb_arrays.specs.Rows.{row_in_c, rows_in_c}
 use Rattle.twkb_arrays.specs.Sending.{HasSent, IsSentWithin, SendsOne}
-use Rattle.twkb_arrays.specs.Writing.{AreArrays, AreRead, EndsWriting, IsWriting, StopsAtRow, StopsRow, StopsWriting}
+use Rattle.twkb_arrays.specs.Writing.{AreRead, EndsWriting, IsWriting, StopsAtRow, StopsRow, StopsWriting}
 use Rattle.twkb_arrays.specs.Writing.{fault_at}
 use Rattle.twkb_arrays.specs.declared.gathering.Stop.{Stop}
 use Rattle.twkb_arrays.specs.declared.gathering.Stop.TheVariants as stop

@@ -1,5 +1,4 @@
 //! The points of a row of an array, appended to those of a form.
-use std::alloc::AllocError;
 use twkb_buffer::{BufferPoint, as_point};
 use twkb_flat::PointSource;
 use twkb_points::PointTail;

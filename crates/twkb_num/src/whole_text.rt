@@ -1,5 +1,5 @@
 //! Two numbers that are a whole text, read at once.
-ghost use Rattle.std.specs.Prelude.{IfSome, ◌≡◌, ◌+◌, ◌*◌, ◌/◌, ◌%◌, ◌^◌, ◌≤◌, ◌<◌, ◌++◌, length, Bool, List};
+ghost use Rattle.std.specs.Prelude.{IfSome, ◌≡◌, ◌+◌, ◌≤◌, ◌<◌, ◌++◌, length, Bool, List};
 ghost use lib.Lanes.{mask_l};
 ghost use Rattle.twkb_num.specs.Alphabet.{five_unit};
 ghost use Rattle.twkb_num.specs.Block.{units_in};

@@ -1,7 +1,7 @@
 //! Arrays written as streams.
 use crate::arrays::{BLOBS, Given, POINTS, ROWS, row_of};
 use std::alloc::Global;
-use twkb_arrays::{BufferRow, NO_PRECISION, write_arrays};
+use twkb_arrays::{NO_PRECISION, write_arrays};
 use twkb_buffer::{BufferPoint, BufferReport};
 use twkb_convert::Style;
 use twkb_geom::Limits;

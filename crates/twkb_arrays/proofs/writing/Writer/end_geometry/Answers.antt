@@ -1,4 +1,4 @@
-use Rattle.std.proofs.Common.{◌≡◌, ◌∙◌, ℕ, [], List, ap, arith, length, sym}
+use Rattle.std.proofs.Common.{◌∙◌, ℕ, List, ap, arith, length}
 use Rattle.twkb_tree.specs.Limits.{largest_limits}
 use Rattle.twkb_arrays.proofs.SendingLemmas.{some_bytes}
 use Rattle.twkb_arrays.proofs.WritingLemmas.{ended_one, one_of, not_empty}

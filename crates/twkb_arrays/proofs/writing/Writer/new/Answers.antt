@@ -1,5 +1,3 @@
-use Rattle.std.proofs.Common.{◌≡◌, [], List, ap, refl, sym, subst}
-use Rattle.twkb_tree.specs.Rows.{Row}
 use Rattle.twkb_arrays.proofs.WritingLemmas.{none_read}
 use Rattle.twkb_arrays.proofs.writing.Writer.new.Goals as goal
 

@@ -1,6 +1,6 @@
-use Rattle.std.proofs.Common.{◌≡◌, ◌∙◌, ap, arith, length, refl, take}
+use Rattle.std.proofs.Common.{ap, take}
 use Rattle.twkb_arrays.specs.declared.writing.Writer.{Writer}
-use Rattle.twkb_arrays.proofs.WritingLemmas.{all_written, no_memory, points_left_over, same_end, writing_within}
+use Rattle.twkb_arrays.proofs.WritingLemmas.{all_written, no_memory, points_left_over, writing_within}
 use Rattle.twkb_arrays.proofs.writing.Writer.write_all.Goals as goal
 
 pub returns-then-used-points : goal.returns-then-used-points
