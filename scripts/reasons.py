@@ -57,6 +57,14 @@ def texts(rows):
             yield f"docs/FORMATS.md, {name}", [text], [text] if shown else []
 
 
+def array_texts(rows):
+    """The numbers and texts of the reasons for which arrays are refused: of the code and of its definition."""
+    wanted = [(row[1], row[4]) for row in of_kind(rows, "array")]
+    for file, line in (("src/reason_texts.rt", r'^ *(\d+) => "(.*)",$'), ("specs/Texts.antt", r'if number == (\d+) then codes "(.*?)"')):
+        found = re.findall(line, text_of("crates/twkb_buffer", file), re.M)
+        yield f"crates/twkb_buffer/{file}", wanted, [(int(number), text) for number, text in found]
+
+
 def numbers(rows):
     """The numbers of reasons: of the code both ways, and of its definition."""
     code, texts_code = text_of("crates/twkb_buffer/src/reason_numbers.rt"), text_of("crates/twkb_buffer/src/reason_texts.rt")
@@ -95,7 +103,7 @@ def statuses(rows):
 
 def main():
     rows, compared, wrong = table(), 0, 0
-    for parts in (texts, numbers, names, statuses):
+    for parts in (texts, array_texts, numbers, names, statuses):
         for place, wanted, found in parts(rows):
             compared += 1
             if wanted != found:

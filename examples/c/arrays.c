@@ -1,4 +1,5 @@
-// Reads a stream into arrays of rows and points, into each room, with guard bytes round each array; then the rows of a refused stream.
+// Reads a stream into arrays of rows and points, into each room, with guard bytes round each array, and writes them back as the
+// stream; then the rows of a refused stream, and refused rows.
 #include <polytwkb.h>
 
 #include <stdio.h>
@@ -68,9 +69,53 @@ static void each_room(void) {
     }
 }
 
+// Writes the first rows and points into this much room, and checks all that was written.
+static polytwkb_report write_into(size_t row_count, size_t point_count, size_t room) {
+    uint8_t *output = guarded(room);
+    polytwkb_report report =
+        polytwkb_write(rows, row_count, points, point_count, output, room, polytwkb_standard_limits(), POLYTWKB_PLAIN);
+    check(report.sent <= room && report.text_offset == 0, "no more than there is room for");
+    check(memcmp(output, blobs, report.sent) == 0, "the blobs");
+    release(output, room, report.sent);
+    return report;
+}
+
+// The bytes of the first blob.
+enum { FIRST = 11 };
+
+// Room for all blobs, for the first alone, or for none.
+static void each_output(void) {
+    for (size_t room = 0; room <= sizeof blobs + 1; room++) {
+        polytwkb_report report = write_into(ROWS, POINTS, room);
+        unsigned done = room < FIRST ? 0 : room < sizeof blobs ? 1 : 2;
+        check(report.status == (done == 2 ? POLYTWKB_DONE : POLYTWKB_TOO_SMALL) && report.done == done, "the status");
+        check(report.sent == (done == 2 ? sizeof blobs : done == 1 ? FIRST : 0), "whole blobs");
+        check(report.needed == sizeof blobs, "what would do");
+    }
+}
+
+// A point too few, a point too many, a row that has no parent, and arguments out of range.
+static void each_refusal(void) {
+    polytwkb_report few = write_into(ROWS, POINTS - 1, sizeof blobs);
+    check(few.status == POLYTWKB_REFUSED && few.reason == POLYTWKB_POINTS_MISSING && few.place == ROWS - 1, "a point too few");
+    check(few.done == 1 && few.sent == FIRST && few.needed == FIRST, "the blob before it");
+    polytwkb_report left = write_into(ROWS - 1, POINTS, sizeof blobs);
+    check(left.status == POLYTWKB_REFUSED && left.reason == POLYTWKB_POINTS_LEFT && left.place == ROWS - 1, "a point too many");
+    check(left.done == 0 && left.sent == 0, "no blob of the last geometry");
+    polytwkb_limits limits = polytwkb_standard_limits();
+    polytwkb_report below = polytwkb_write(rows + 1, 1, points, 1, NULL, 0, limits, POLYTWKB_FULL);
+    check(below.status == POLYTWKB_REFUSED && below.reason == POLYTWKB_BAD_PLACE && below.place == 0, "a row without a parent");
+    check(polytwkb_write(NULL, 0, NULL, 0, NULL, 0, limits, POLYTWKB_FULL).status == POLYTWKB_DONE, "no rows, no points");
+    check(polytwkb_write(NULL, 0, NULL, 0, NULL, 0, limits, 2).status == POLYTWKB_ARGUMENTS, "a style out of range");
+    limits.nest = 33;
+    check(polytwkb_write(NULL, 0, NULL, 0, NULL, 0, limits, POLYTWKB_FULL).status == POLYTWKB_ARGUMENTS, "a limit out of range");
+}
+
 int main(void) {
     check(sizeof(polytwkb_row) == 24 && sizeof(polytwkb_counts) == 56, "the layouts");
     each_room();
+    each_output();
+    each_refusal();
 
     polytwkb_counts cut = read_into(sizeof blobs - 1, ROWS, POINTS);
     check(cut.status == POLYTWKB_REFUSED && cut.reason == POLYTWKB_BLOB_TRUNCATED && cut.place == sizeof blobs - 1, "a cut blob");
@@ -81,6 +126,6 @@ int main(void) {
     polytwkb_limits wrong = {33, 1, 0};
     check(polytwkb_read(blobs, sizeof blobs, NULL, 0, NULL, 0, wrong).status == POLYTWKB_ARGUMENTS, "a limit out of range");
 
-    printf("%zu bytes of blobs are %d rows and %d points\n", sizeof blobs, ROWS, POINTS);
+    printf("%zu bytes of blobs are %d rows and %d points, and back\n", sizeof blobs, ROWS, POINTS);
     return 0;
 }

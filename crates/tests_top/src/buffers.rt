@@ -169,8 +169,11 @@ fn a_refused_growth_is_want_of_memory_after_the_first_bytes_of_the_output(rt: Ho
 // docs/FORMATS.md has it.
 fn has_texts() -> bool {
     let mut reason = [9u8; 10];
+    let mut left = [9u8; 17];
     let mut version = [9u8; 32];
     (put_reason(41, &mut reason) == 9)
+        & (put_reason(72, &mut left) == 16)
+        & (left == *b"points left over\0")
         & (put_version(&mut version) == VERSION.len())
         & (reason == *b"truncated\0")
         & version.starts_with(VERSION.as_bytes())

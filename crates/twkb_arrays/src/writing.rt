@@ -177,7 +177,7 @@ impl Writer {
             × EndsWriting limits.now (given ++ later) rows.now points.now result }
     {
         let used = match self.write_rows(limits, style, rows, points, output) {
-            Ok(used) => used,
+            Ok(count) => count,
             Err(fault) => return Err(fault),
         };
         if used < points.len() {

@@ -15,7 +15,7 @@ use Rattle.twkb_convert.specs.declared.report.Cause.{Cause}
 use Rattle.twkb_convert.specs.declared.report.Cause.TheVariants as cause
 use Rattle.twkb_convert.specs.Texts.{cause_words}
 use Rattle.twkb_buffer.specs.Numbers.{blob_number_of, point_text_number_of, reason_number_of, row_number_of}
-use Rattle.twkb_buffer.specs.Texts.{AreWordsOf, HasReason, NamesNoBlob, NamesNoPointText, NamesNoRow, with_text}
+use Rattle.twkb_buffer.specs.Texts.{AreWordsOf, HasReason, NamesNoBlob, NamesNoPointText, NamesNoRow, array_words, with_text}
 
 -- a cause for each reason
 abbrev all_causes : List Cause
@@ -110,9 +110,10 @@ named n why words has e = record {
   none = λ lacks. absurd (lacks why has);
 }
 
--- a number that no cause has is that of no words
-pub unnamed : (n : ℕ) → ((why : Cause) → HasReason n why → ⊥) → AreWordsOf n []
-unnamed n lacks = record { told = λ why has. absurd (lacks why has); none = λ _. refl }
+-- a number that no cause has is that of the words for arrays, or of none
+pub unnamed : (n : ℕ) (words : List ℕ) → ((why : Cause) → HasReason n why → ⊥) → words ≡ array_words n
+    → AreWordsOf n words
+unnamed n words lacks is = record { told = λ why has. absurd (lacks why has); none = λ _. is }
 
 -- no reason of a polyline has a number other than these
 no_point_text : (n : ℕ) → NamesNoPointText n → (reason : PolyReason) → point_text_number_of reason ≢ n

@@ -1,5 +1,6 @@
 -- The texts of reasons, by their numbers, and how a text is copied into a buffer (profile).
-use Rattle.std.specs.Prelude.{◌≡◌, ◌≢◌, ◌≤◌, ℕ, List, [], ◌∷◌, ◌++◌, length, take, drop}
+use Rattle.std.specs.Prelude.{◌≡◌, ◌≢◌, ◌≤◌, ℕ, List, [], ◌∷◌, ◌++◌, length, take, drop, codes, ◌==◌}
+use Rattle.std.specs.Prelude.{if◌then◌else◌}
 use Rattle.twkb_convert.specs.declared.report.Cause.{Cause}
 use Rattle.twkb_convert.specs.Texts.{cause_words}
 use Rattle.twkb_buffer.specs.Numbers.{reason_number_of}
@@ -8,11 +9,17 @@ use Rattle.twkb_buffer.specs.Numbers.{reason_number_of}
 abbrev pub HasReason : ℕ → Cause → Type 0
 HasReason number why = (reason_number_of why ≡ number) × (number ≢ 0)
 
--- The words are those of the command for the reason with this number, or empty if no reason has
--- this number.
+-- the words of the reason with this number for which rows and points in arrays are refused; empty if
+-- it is no such reason
+abbrev pub array_words : ℕ → List ℕ
+array_words number =
+    if number == 71 then codes "points missing" else if number == 72 then codes "points left over" else []
+
+-- The words are those of the command for the reason with this number, or those for arrays, or empty
+-- if no reason has this number.
 pub record AreWordsOf (number : ℕ) (words : List ℕ) : Type 0 where
   pub told : (why : Cause) → HasReason number why → words ≡ cause_words why
-  pub none : ((why : Cause) → HasReason number why → ⊥) → words ≡ []
+  pub none : ((why : Cause) → HasReason number why → ⊥) → words ≡ array_words number
 
 -- a text with a zero byte after it, written over the bytes of a buffer, and cut if it is too long
 abbrev pub with_text : List ℕ → List ℕ → List ℕ

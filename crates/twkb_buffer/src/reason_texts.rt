@@ -4,7 +4,7 @@ ghost use Rattle.twkb_convert.specs.declared.report.Cause.{Cause};
 ghost use Rattle.twkb_convert.specs.Version.{version_text};
 ghost use Rattle.twkb_buffer.specs.Numbers.{blob_number_of, point_text_number_of, row_number_of};
 ghost use Rattle.twkb_buffer.specs.Texts.{AreWordsOf, HasReason, NamesNoBlob, NamesNoPointText, NamesNoRow, PutsText};
-ghost use Rattle.twkb_buffer.specs.Texts.{with_text};
+ghost use Rattle.twkb_buffer.specs.Texts.{array_words, with_text};
 
 use twkb_convert::{BlobReason, Cause, PolyReason, RowReason, VERSION};
 
@@ -92,6 +92,19 @@ fn cause_of(number: u32) -> Option<Cause>
     }
 }
 
+// The words of the reason with this number for which rows and points in arrays are refused; none if
+// it is no such reason.
+fn array_words(number: u32) -> &'static str
+    ensures words { result.now ≡ array_words number }
+    ensures short { length result.now ≤ 31 }
+{
+    match number {
+        71 => "points missing",
+        72 => "points left over",
+        _ => "",
+    }
+}
+
 // The words of the reason with this number; none if there is no such reason.
 #[tactic(auto, using(crate::proofs::TextLemmas::named, crate::proofs::TextLemmas::unnamed))]
 fn words_of(number: u32) -> &'static str
@@ -100,7 +113,7 @@ fn words_of(number: u32) -> &'static str
 {
     match cause_of(number) {
         Some(why) => why.text(),
-        None => "",
+        None => array_words(number),
     }
 }
 

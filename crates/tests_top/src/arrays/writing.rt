@@ -7,6 +7,7 @@ use twkb_convert::Style;
 use twkb_geom::Limits;
 
 // A writing: rows, points, room, style, and what is expected.
+#[derive(Clone, Copy)]
 struct Writing {
     name: &'static str,
     rows: &'static [Given],
@@ -18,6 +19,8 @@ struct Writing {
     ends: (u32, u32, u64),
     // blobs and bytes in the output, and bytes of all
     given: (u64, u64, u64),
+    // what the output begins with, or more
+    blobs: &'static [u8],
 }
 
 // The most rows of a test.
@@ -30,6 +33,14 @@ const TWO: (u64, u64, u64) = (2, 18, 18);
 
 const FIRST: (u64, u64, u64) = (1, 11, 11);
 
+// The linestring of (1, 1) twice, and that of (1, 1) once.
+const LINE_OF_ONE_PLACE: &[u8] = b"\x02\x00\x02\x02\x02\x00\x00";
+
+const LINE_OF_A_POINT: &[u8] = b"\x02\x00\x01\x02\x02";
+
+// The linestring from (1, 1) to (5, 5) with its size and its box.
+const FULL_LINE: &[u8] = b"\x02\x03\x09\x02\x08\x02\x08\x02\x02\x02\x08\x08";
+
 const WRITINGS: [Writing; 12] = [
     Writing {
         name: "all room",
@@ -40,6 +51,7 @@ const WRITINGS: [Writing; 12] = [
         room: 24,
         ends: (0, 0, 0),
         given: TWO,
+        blobs: BLOBS,
     },
     Writing {
         name: "just enough room",
@@ -50,6 +62,7 @@ const WRITINGS: [Writing; 12] = [
         room: 18,
         ends: (0, 0, 0),
         given: TWO,
+        blobs: BLOBS,
     },
     Writing {
         name: "one byte too few",
@@ -60,6 +73,7 @@ const WRITINGS: [Writing; 12] = [
         room: 17,
         ends: (5, 0, 0),
         given: (1, 11, 18),
+        blobs: BLOBS,
     },
     Writing {
         name: "no room",
@@ -70,6 +84,7 @@ const WRITINGS: [Writing; 12] = [
         room: 0,
         ends: (5, 0, 0),
         given: (0, 0, 18),
+        blobs: BLOBS,
     },
     Writing {
         name: "nothing",
@@ -80,6 +95,7 @@ const WRITINGS: [Writing; 12] = [
         room: 0,
         ends: (0, 0, 0),
         given: (0, 0, 0),
+        blobs: BLOBS,
     },
     Writing {
         name: "a point left over",
@@ -90,6 +106,7 @@ const WRITINGS: [Writing; 12] = [
         room: 24,
         ends: (1, 72, 3),
         given: (0, 0, 0),
+        blobs: BLOBS,
     },
     Writing {
         name: "points without rows",
@@ -100,6 +117,7 @@ const WRITINGS: [Writing; 12] = [
         room: 24,
         ends: (1, 72, 0),
         given: (0, 0, 0),
+        blobs: BLOBS,
     },
     Writing {
         name: "too few points",
@@ -110,6 +128,7 @@ const WRITINGS: [Writing; 12] = [
         room: 24,
         ends: (1, 71, 3),
         given: FIRST,
+        blobs: BLOBS,
     },
     Writing {
         name: "no such kind",
@@ -120,6 +139,7 @@ const WRITINGS: [Writing; 12] = [
         room: 24,
         ends: (1, 4, 1),
         given: (1, 7, 7),
+        blobs: LINE_OF_ONE_PLACE,
     },
     Writing {
         name: "a precision that is missing",
@@ -130,6 +150,7 @@ const WRITINGS: [Writing; 12] = [
         room: 24,
         ends: (1, 12, 1),
         given: (1, 7, 7),
+        blobs: LINE_OF_ONE_PLACE,
     },
     Writing {
         name: "a first row below a root",
@@ -140,6 +161,7 @@ const WRITINGS: [Writing; 12] = [
         room: 24,
         ends: (1, 5, 0),
         given: (0, 0, 0),
+        blobs: BLOBS,
     },
     Writing {
         name: "a coordinate out of range",
@@ -150,6 +172,7 @@ const WRITINGS: [Writing; 12] = [
         room: 24,
         ends: (1, 26, 1),
         given: (1, 5, 5),
+        blobs: LINE_OF_A_POINT,
     },
 ];
 
@@ -168,24 +191,44 @@ fn report_of(writing: &Writing) -> BufferReport {
 // A byte that no call writes.
 const UNWRITTEN: u8 = 0xA5;
 
-// Whether a writing gives its report, and leaves the bytes after those it sent as they were.
-fn is_written(alloc: Global, writing: &Writing) -> bool {
+// Writes the first rows and points of a test into the first bytes of an output.
+fn write(alloc: Global, writing: &Writing, style: Style, output: &mut [u8]) -> BufferReport {
     let mut rows = [row_of(&(9, 9, 9, None, 9)); MOST];
     for (row, given) in rows.iter_mut().zip(writing.rows) {
         *row = row_of(given);
     }
-    let mut output = [UNWRITTEN; MOST_BYTES];
-    let room = writing.room.min(MOST_BYTES);
-    let report = write_arrays(
+    let row_count = writing.row_count.min(MOST);
+    let point_count = writing.point_count.min(writing.points.len());
+    let room = writing.room.min(output.len());
+    write_arrays(
         alloc,
-        &rows[..writing.row_count.min(MOST)],
-        &writing.points[..writing.point_count.min(writing.points.len())],
+        &rows[..row_count],
+        &writing.points[..point_count],
         &mut output[..room],
         Limits::standard(),
-        Style::Plain,
-    );
-    let sent = (writing.given.1 as usize).min(MOST_BYTES);
-    report == report_of(writing) && output[sent..].iter().all(|byte| *byte == UNWRITTEN)
+        style,
+    )
+}
+
+// Whether the output has the first bytes of these blobs, and then only bytes that no call writes.
+fn has_sent(output: &[u8], blobs: &[u8], sent: usize) -> bool {
+    for (at, byte) in output.iter().enumerate() {
+        let right = match blobs.get(at) {
+            Some(due) if at < sent => *due,
+            _ => UNWRITTEN,
+        };
+        if *byte != right {
+            return false;
+        }
+    }
+    sent <= blobs.len()
+}
+
+// Whether a writing gives its report and its blobs, and leaves the bytes after them as they were.
+fn is_written(alloc: Global, writing: &Writing) -> bool {
+    let mut output = [UNWRITTEN; MOST_BYTES];
+    let report = write(alloc, writing, Style::Plain, &mut output);
+    report == report_of(writing) && has_sent(&output, writing.blobs, writing.given.1 as usize)
 }
 
 #[test]
@@ -193,5 +236,51 @@ fn arrays_are_written_as_a_stream(rt: HostRuntime) {
     for writing in &WRITINGS {
         let is_right = is_written(rt.alloc(), writing);
         assert!(rt; is_right, "{}", writing.name);
+    }
+}
+
+// Whether a line in the full style has its size and its box.
+fn is_full(alloc: Global) -> bool {
+    let line = Writing {
+        name: "a line",
+        rows: &[(0, 2, 2, None, 0)],
+        row_count: 1,
+        points: &[BufferPoint { x: 1, y: 1 }, BufferPoint { x: 5, y: 5 }],
+        point_count: 2,
+        room: MOST_BYTES,
+        ends: (0, 0, 0),
+        given: (1, 12, 12),
+        blobs: FULL_LINE,
+    };
+    let mut output = [UNWRITTEN; MOST_BYTES];
+    let report = write(alloc, &line, Style::Full, &mut output);
+    report == report_of(&line) && has_sent(&output, FULL_LINE, 12)
+}
+
+#[test]
+fn a_full_stream_has_sizes_and_boxes(rt: HostRuntime) {
+    assert!(rt; is_full(rt.alloc()));
+}
+
+// Whether a writing ends as it should, or lacks memory after whole blobs.
+fn is_written_or_lacks(alloc: Global, writing: &Writing) -> bool {
+    let mut output = [UNWRITTEN; MOST_BYTES];
+    let report = write(alloc, writing, Style::Plain, &mut output);
+    if report == report_of(writing) {
+        return true;
+    }
+    let is_whole = (report.sent == 0)
+        | (report.sent == 5)
+        | (report.sent == 7)
+        | (report.sent == 11);
+    (report.status == 4) & is_whole && has_sent(&output, writing.blobs, report.sent as usize)
+}
+
+// Run with each growth refused in turn (`make hostile`) too.
+#[test]
+fn a_refused_growth_is_want_of_memory_after_whole_blobs(rt: HostRuntime) {
+    for writing in &WRITINGS {
+        let is_told = is_written_or_lacks(rt.alloc(), writing);
+        assert!(rt; is_told, "{}", writing.name);
     }
 }
