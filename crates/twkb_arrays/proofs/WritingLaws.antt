@@ -65,6 +65,20 @@ written_zero l gs in_rows in_points full (Err fault.Memory) e ends = absurd (ome
 written_zero l gs in_rows in_points false (Err (fault.At place number)) e ends = absurd (omega (arith, e))
 written_zero l gs in_rows in_points true (Err (fault.At place number)) e ends = absurd (omega (arith, e))
 
+-- no writing has the status of refused arguments
+not_two : (full : Bool) (answer : Result (Unit {0}) WriteFault) → (write_outcome_of full answer).0 ≡ 2 → ⊥
+not_two true (Ok done) e = omega (arith, e)
+not_two false (Ok done) e = omega (arith, e)
+not_two full (Err fault.Memory) e = omega (arith, e)
+not_two true (Err (fault.At place number)) e = omega (arith, e)
+not_two false (Err (fault.At place number)) e = omega (arith, e)
+
+pub never_arguments : (l : Allowance) (style : Style) (in_rows : List BufferRow) (in_points : List BufferPoint)
+    (old new : List ℕ) (report : BufferReport) → WritesArrays l style in_rows in_points old new report
+    → report.status ≡ 2 → ⊥
+never_arguments l style in_rows in_points old new report wrote two =
+    not_two (are_more wrote.later) wrote.answer (sym wrote.reported.status_is ∙ two)
+
 -- what a call that succeeded wrote
 record Wrote (l : Allowance) (style : Style) (in_rows : List BufferRow) (in_points : List BufferPoint)
     (bytes : List ℕ) : Type 0 where

@@ -10,11 +10,9 @@ use Rattle.twkb_buffer.specs.declared.point.BufferPoint.{BufferPoint}
 use Rattle.twkb_buffer.specs.declared.report.BufferReport.{BufferReport}
 use Rattle.twkb_arrays.specs.Reading.{ReadsArrays, outcome_of}
 use Rattle.twkb_arrays.specs.Rooms.{are_more}
-use Rattle.twkb_arrays.specs.Writing.{WritesArrays, write_outcome_of}
+use Rattle.twkb_arrays.specs.Writing.{WritesArrays}
 use Rattle.twkb_arrays.specs.declared.reading.BufferCounts.{BufferCounts}
 use Rattle.twkb_arrays.specs.declared.row.BufferRow.{BufferRow}
-use Rattle.twkb_arrays.specs.declared.writing.WriteFault.{WriteFault}
-use Rattle.twkb_arrays.specs.declared.writing.WriteFault.TheVariants as write_fault
 use Rattle.twkb_c.specs.Arguments.{IsStyleNumber}
 use Rattle.twkb_c.proofs.ExportLemmas.{one_style}
 
@@ -52,17 +50,3 @@ writes_named style l m number in_rows in_points old new report same is writes s 
     subst (λ (a : Allowance). WritesArrays a s in_rows in_points old new report) same
     (subst (λ (t : Style). WritesArrays l t in_rows in_points old new report)
     (one_style style s number is other) writes)
-
--- no writing has the status of refused arguments
-not_two_written : (full : Bool) (answer : Result (Unit {0}) WriteFault) → (write_outcome_of full answer).0 ≡ 2 → ⊥
-not_two_written true (Ok done) e = omega (arith, e)
-not_two_written false (Ok done) e = omega (arith, e)
-not_two_written full (Err write_fault.Memory) e = omega (arith, e)
-not_two_written true (Err (write_fault.At place number)) e = omega (arith, e)
-not_two_written false (Err (write_fault.At place number)) e = omega (arith, e)
-
-pub never_arguments_written : (l : Allowance) (style : Style) (in_rows : List BufferRow)
-    (in_points : List BufferPoint) (old new : List ℕ) (report : BufferReport)
-    → WritesArrays l style in_rows in_points old new report → report.status ≡ 2 → ⊥
-never_arguments_written l style in_rows in_points old new report writes two =
-    not_two_written (are_more writes.later) writes.answer (sym writes.reported.status_is ∙ two)

@@ -1,5 +1,6 @@
 use Rattle.twkb_c.specs.Arguments.{allowance_of}
-use Rattle.twkb_c.proofs.ArrayExports.{never_arguments_written, writes_named}
+use Rattle.twkb_arrays.proofs.WritingLaws.{never_arguments}
+use Rattle.twkb_c.proofs.ArrayExports.{writes_named}
 use Rattle.twkb_c.proofs.arrays.polytwkb_write.Goals as goal
 
 pub returns-clause-writes : goal.returns-clause-writes
@@ -10,5 +11,5 @@ returns-clause-writes c = λ allowed.
 
 pub returns-clause-refused : goal.returns-clause-refused
 returns-clause-refused c = λ two.
-    absurd (never_arguments_written c.in-Some.limits c.in-Some-style_of.style c.args.rows.now c.args.points.now
+    absurd (never_arguments c.in-Some.limits c.in-Some-style_of.style c.args.rows.now c.args.points.now
     c.args.output.now c.write_arrays.new.output c.write_arrays.result c.write_arrays.ensures two)
