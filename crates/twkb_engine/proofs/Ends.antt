@@ -14,12 +14,11 @@ use Rattle.twkb_body.specs.Outline.{Group, Outline, outline_past_end, outline_en
 use Rattle.twkb_body.specs.Growing.{Change, Nothing, applied, own_of}
 use Rattle.twkb_body.specs.JudgedParts.{IsPastEnds, Passes}
 use Rattle.twkb_body.specs.Head.{kind_of, head_of, form_of}
-use Rattle.twkb_body.specs.declared.head.Head.{Head}
 use Rattle.twkb_body.specs.Reading.{open_count}
 use Rattle.twkb_engine.specs.Collections.{groups_of}
 use Rattle.twkb_engine.specs.State.{step_at, ids_in}
 use Rattle.twkb_engine.specs.Fits.{IsInside}
-use Rattle.twkb_engine.specs.Taking.{Lands, own_row, past_value}
+use Rattle.twkb_engine.specs.Taking.{Lands, own_row, past_end, past_value}
 use Rattle.twkb_engine.specs.declared.stop.Stop.{Stop}
 use Rattle.twkb_engine.specs.declared.stop.Stop.TheVariants.{Memory, Refused}
 use Rattle.twkb_engine.specs.Notes.{AreOpen, open_in, notes_past}
@@ -28,6 +27,7 @@ use Rattle.twkb_engine.specs.declared.next_item.NextItem.TheVariants as next
 use Rattle.twkb_engine.specs.declared.engine.Engine.{Engine}
 use Rattle.twkb_engine.specs.declared.open_collections.OpenCollection.{OpenCollection}
 use Rattle.twkb_engine.proofs.Collections.{groups_length}
+use Rattle.twkb_engine.proofs.Parts.{header_inside, header_shut}
 
 -- a geometry that is begun is open besides the collections
 inside_open : (n : NextItem) (d : Engine) (gs : List Group) → IsInside n
@@ -119,14 +119,6 @@ module _ (way : Result Outline Reason) (d e : Engine) (rs : List Row) where
       subst (λ (q : Result Bool Stop). Lands way change d rs q e more)
       (sym (p.1 ∙ ap (λ (s : Stop). let q : Result Bool Stop = Err s in q) (same p.0 p.2))) none
 
--- the own row is pushed
-pub own_pushed : (d : Engine) (h : Head) (row : Row) (rs more : List Row) → h ≡ d.head
-    → row ≡ own_of h.depth h.id (kind_of h.kind) h.precision → more ≡ rs ++ row ∷ []
-    → more ≡ applied (own_row d) rs
-own_pushed d h row rs more eh er pushed = pushed
-    ∙ ap (λ (r : Row). rs ++ r ∷ [])
-    (er ∙ ap (λ (k : Head). own_of k.depth k.id (kind_of k.kind) k.precision) eh)
-
 -- past a value that is done, too
 pub past_shut : (h : machine.Head) (f : Form) (ids : Ids) (n bytes : ℕ) (gs : List Group)
     (lists : List ℕ) → IfOk (outline_ends bytes (gs, shut h f ids n lists)) (λ o. IsPastEnds o.1)
@@ -152,3 +144,14 @@ none_ended holds s d e w inside still same are held =
       ap (λ (gs : List OpenCollection). length gs) same,
     ) in
     subst (λ (n : ℕ). holds s (note_ends n (d.start + d.bytes) d.points w)) (sym none) held
+
+-- its own row, after the end of a geometry without a body
+pub empty_ended : (d e : Engine) (row : Row) (rs more : List Row) (ends : Bool)
+    → ((qs : List Row) → Lands (past_end d) Nothing d qs (Ok ends) e qs)
+    → row ≡ own_of d.head.depth d.head.id (kind_of d.head.kind) d.head.precision → more ≡ rs ++ row ∷ []
+    → Lands (past_end d) (own_row d) d rs (Ok ends) e more
+empty_ended d e row rs more ends ended own pushed = lands_brought (past_end d) d e rs (own_row d) more ends
+    (ended rs) (pushed ∙ ap (λ (r : Row). rs ++ r ∷ []) own)
+
+-- before the body of a geometry
+pub ruleset headings = (header_inside, header_shut)

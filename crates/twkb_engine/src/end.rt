@@ -3,6 +3,7 @@ ghost use Rattle.std.specs.Prelude.{◌≡◌, ◌-◌, true, IfOk, OnOk, List};
 ghost use Rattle.twkb_grammar.specs.PlainReader.{is_exact as exact};
 ghost use Rattle.twkb_body.specs.Growing.{Nothing};
 ghost use Rattle.twkb_body.specs.Admitting.{Admits};
+ghost use Rattle.twkb_body.specs.JudgedParts.{Passes};
 ghost use Rattle.twkb_tree.specs.Rows.{Row};
 
 use crate::blob_reason::BlobReason;
@@ -39,6 +40,7 @@ impl Engine {
         ensures ended { (rs : List Row) → Lands (past_end self.old) Nothing self.old rs result self.new rs }
         ensures noted { IfOk result (λ ends. NotesGo S.holds (notes_past self.old self.new ends)
             self.old spans.old spans.new) }
+        ensures judged { OnOk result (Passes (past_end self.old)) }
         ensures head { self.new.head ≡ self.old.head }
         ensures placed { OnOk result (IsPlaced self.new.next self.new) }
         ensures kept { Keeps self.old self.new }
@@ -65,6 +67,7 @@ impl Engine {
 
     // Ends a geometry that has no body, or no members. Its row, which takes memory, is pushed once
     // the sizes are judged.
+    #[tactic(auto, using(crate::proofs::Ends::headings))]
     pub(crate) fn end_empty<S: SpanNotes>(
         &mut self,
         flat: &mut Flat,
@@ -78,8 +81,11 @@ impl Engine {
         ensures placed { OnOk result (IsPlaced self.new.next self.new) }
         ensures kept { Keeps self.old self.new }
     {
+        let row = own_row(&self.head);
         let ends = self.end_geometry(spans)?;
-        push_row(flat, own_row(&self.head))?;
+        let Ok(()) = push_row(flat, row) else {
+            return Err(Stop::Memory);
+        };
         Ok(ends)
     }
 }
