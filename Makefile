@@ -101,7 +101,7 @@ out/arm64/static/polytwkb: out/arm64/polytwkb
 	mkdir -p out/arm64/static
 	$(ARM64_CC) -static-pie -o $@ out/arm64/polytwkb.o out/arm64/shims.a
 
-arm64-test: build lib arm64 out/arm64/vectors
+arm64-test: build lib arm64
 	scripts/arm64_test.sh
 
 # The LLVM module of the library, which comes with the archive.
@@ -234,8 +234,7 @@ install: $(PROGRAM) $(LIBRARIES)/libpolytwkb.a $(LIBRARIES)/libpolytwkb.so
 	ln -sf $(REAL_NAME) '$(DESTDIR)$(SONAME_LINK)'
 	ln -sf $(SONAME) '$(DESTDIR)$(SHARED_LINK)'
 	$(INSTALL) -D -m 644 include/polytwkb.h '$(DESTDIR)$(HEADER_FILE)'
-	sed -e 's|@VERSION@|$(VERSION)|' -e 's|@PREFIX@|$(PREFIX)|' -e 's|@LIBDIR@|$(LIBDIR)|' -e 's|@INCLUDEDIR@|$(INCLUDEDIR)|' include/polytwkb.pc.in > out/polytwkb.pc
-	$(INSTALL) -D -m 644 out/polytwkb.pc '$(DESTDIR)$(PACKAGE_FILE)'
+	sed -e 's|@VERSION@|$(VERSION)|' -e 's|@PREFIX@|$(PREFIX)|' -e 's|@LIBDIR@|$(LIBDIR)|' -e 's|@INCLUDEDIR@|$(INCLUDEDIR)|' include/polytwkb.pc.in | $(INSTALL) -D -m 644 /dev/stdin '$(DESTDIR)$(PACKAGE_FILE)'
 	@for page in $(PAGES); do sed -E -e '$(LINKS_OUT)' -e 's!\.\./examples/!../!g' docs/$$page.md | $(INSTALL) -D -m 644 /dev/stdin "$(DESTDIR)$(DOC_DIR)/docs/$$page.md" || exit 1; done
 	tar -c --exclude=__pycache__ --mode=u=rwX,go=rX -C examples $(EXAMPLES) | tar -x --no-same-owner -C '$(DESTDIR)$(DOC_DIR)'
 

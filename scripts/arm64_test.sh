@@ -2,8 +2,9 @@
 # Runs the program and the libraries for 64-bit ARM under qemu, and compares them with stored answers and with
 # those of this machine's build: one line for each check, status 1 if one failed.
 #
-#   scripts/arm64_test.sh        after `make build lib arm64 out/arm64/vectors`
+#   scripts/arm64_test.sh        after `make build lib arm64`
 #
+# The program vectors is proved and built for this processor beside the other checks, which takes as long as they all do.
 # CASES is the number of cases of tests/fuzz. A program under qemu gets any limit of memory granted and keeps none,
 # so tests/hostile/sizes.py and the package's test of little memory are not run.
 set -uo pipefail
@@ -16,20 +17,9 @@ export LC_ALL=C
 unset MAKEFLAGS MAKELEVEL
 work=$(mktemp -d)
 trap 'rm -rf "$work"' EXIT
-failed=0
-
-# report NAME COMMAND..: prints the line of a check, with the end of its output if it fails.
-report() {
-  local name=$1
-  shift
-  if "$@" > "$work/said" 2>&1; then
-    echo "ok    arm64: $name"
-  else
-    failed=1
-    echo "FAIL  arm64: $name: $(tail -c 700 "$work/said" | tr '\n' '/')"
-  fi
-}
-skip() { echo "skip  arm64, $1"; }
+about="arm64: "
+# shellcheck source=scripts/checks.bash
+source scripts/checks.bash
 arm() { qemu-aarch64-static -L "$root" "$@"; }
 
 # starter PROGRAM FILE [ROOT]: makes a file that this machine can start, and that runs a program of ARM.
@@ -46,7 +36,7 @@ cp -a "$built"/libpolytwkb.* "$tree/out/"
 starter "$built/polytwkb" "$tree/bin/polytwkb" || exit 1
 $cross-gcc -O1 -shared -fPIC -o "$tree/bin/refuse.so" tests/hostile/refuse.c || exit 1
 
-vectors() { arm "$built/vectors" < crates/vectors/stdin | cmp - crates/vectors/stdout; }
+vectors() { make -s out/arm64/vectors && arm "$built/vectors" < crates/vectors/stdin | cmp - crates/vectors/stdout; }
 same() { cmp <(bin/polytwkb "$@" < "$work/input" 2>&1) <("$tree/bin/polytwkb" "$@" < "$work/input" 2>&1); }
 as_here() {
   cp examples/collection.csv "$work/input"
@@ -73,12 +63,11 @@ pages() {
   [ $loads -gt 0 ]
 }
 
-report "the stored answers of the program vectors" vectors
-report "the example and the texts of help, as here" as_here
-report "segments fit pages of 64 kB" pages
-report "each call of the program failing" each_failing
-report "smoke" smoke
-report "a second implementation, random inputs" fuzz
+of_program() {
+  report "the example and the texts of help, as here" as_here
+  report "segments fit pages of 64 kB" pages
+  report "each call of the program failing" each_failing
+}
 
 # ---- the library
 
@@ -92,8 +81,10 @@ growths() {
   compile growths tests/arm64/growths.c "$built/libpolytwkb.a" "${wraps[@]}" && arm "$work/growths" < examples/collection.csv > "$work/arm" &&
     cc -std=c11 -O1 -Iinclude -o "$work/growths_here" tests/arm64/growths.c out/libpolytwkb.a "${wraps[@]}" && "$work/growths_here" < examples/collection.csv | cmp - "$work/arm"
 }
-report "the example in C, static and shared" in_c
-report "each growth of the library refused, as here" growths
+of_library() {
+  report "the example in C, static and shared" in_c
+  report "each growth of the library refused, as here" growths
+}
 
 # ---- archive, package and wheel
 
@@ -137,13 +128,25 @@ by_pip() {
     cd python/tests && ROUNDINGS=2000 CASES=500 PYTHONPATH=$work/wheel "$work/python3" -B "$repository/tests/arm64/package_tests.py"
 }
 
-report "archive, package and wheel, twice the same bytes" packed
-report "the package in a root of its processor" by_dpkg
-if command -v lintian > /dev/null; then report "the package: lintian" lintian --allow-root --fail-on error,warning "$work"/dist/polytwkb_*_arm64.deb; fi
-if command -v pkg-config > /dev/null; then report "the archive, with no C library" by_archive; else skip "archive: pkg-config is not there"; fi
-if ! command -v debootstrap > /dev/null || [ "$(id -u)" -ne 0 ]; then
-  skip "wheel: debootstrap is not there, or this is not root"
-else
-  report "the wheel by pip, and the package's tests" by_pip "$work/python"
-fi
-exit "$failed"
+of_packages() {
+  report "archive, package and wheel, twice the same bytes" packed
+  report "the package in a root of its processor" by_dpkg
+  if is_there lintian; then report "the package: lintian" lintian --allow-root --fail-on error,warning "$work"/dist/polytwkb_*_arm64.deb; fi
+  if is_there pkg-config; then report "the archive, with no C library" by_archive; else skip "archive: pkg-config is not there"; fi
+  if ! is_there debootstrap || [ "$(id -u)" -ne 0 ]; then
+    skip "wheel: debootstrap is not there, or this is not root"
+  else
+    report "the wheel by pip, and the package's tests" by_pip "$work/python"
+  fi
+}
+
+# ---- side by side
+
+report "the stored answers of the program vectors" vectors &
+of_program &
+of_packages &
+of_library
+report "smoke" smoke
+report "a second implementation, random inputs" fuzz
+wait
+passed_all

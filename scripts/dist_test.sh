@@ -16,21 +16,9 @@ wheel=$(echo dist/polytwkb-*"$machine".whl)
 work=$(mktemp -d)
 installed=
 trap '[ -z "$installed" ] || dpkg --purge polytwkb > /dev/null 2>&1; rm -rf "$work"' EXIT
-failed=0
-
-# report NAME COMMAND..: prints the line of a check, with the command's output if it fails.
-report() {
-  local name=$1
-  shift
-  if "$@" > "$work/said" 2>&1; then
-    echo "ok    $name"
-  else
-    failed=1
-    echo "FAIL  $name: $(tail -c 500 "$work/said" | tr '\n' '/')"
-  fi
-}
-skip() { echo "skip  $1"; }
-is_there() { command -v "$1" > /dev/null; }
+about=
+# shellcheck source=scripts/checks.bash
+source scripts/checks.bash
 
 # ---- roots with the C library and nothing else
 
@@ -284,4 +272,4 @@ else
   report "apt-get: nothing is left" gone
   installed=
 fi
-[ "$failed" -eq 0 ]
+passed_all

@@ -185,17 +185,22 @@ if [ $status -eq 0 ]; then
   make -s bin/refuse.so > /dev/null 2>&1
   lane smoke completions fuzz &
   lane hostile &
-  # what takes longest to build, beside what several of the parts below would build at the same time
+  # Of what several parts would build at the same time, first what needs nothing of the others.
   arm64_build=
   if command -v aarch64-linux-gnu-gcc > /dev/null; then
-    make -s arm64 out/arm64/vectors > "$work/arm64_build.log" 2>&1 &
+    make -s out/arm64/static/polytwkb > "$work/arm64_build.log" 2>&1 &
     arm64_build=$!
   fi
   make -s lib static wasm > "$work/build.log" 2>&1 || tail -n 20 "$work/build.log"
   lane library machines documents &
   lane javascript &
-  [ -z "$arm64_build" ] || wait "$arm64_build"
-  lane arm64 dist &
+  if [ -n "$arm64_build" ]; then
+    # begins with what was checked for the library of this processor
+    wait "$arm64_build"
+    make -s arm64 >> "$work/arm64_build.log" 2>&1 || tail -n 20 "$work/arm64_build.log"
+  fi
+  lane arm64 &
+  lane dist &
   wait
   for name in $parts; do [ -e "$work/$name.counts" ] || echo "0 passed, 1 failed" > "$work/$name.counts"; done
 else
