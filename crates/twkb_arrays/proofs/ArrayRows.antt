@@ -117,9 +117,9 @@ pub refused_row : (l : Allowance) (begun : List Row) (r : Row) (points : List Bu
 refused_row l begun r points number p (inl none) = absurd (none.0 r.kind refl)
 refused_row l begun r points number p (inr (k, kinds, inl wrong)) = absurd (wrong.0 (right_in r r.id refl))
 refused_row l begun r points number p (inr (k, kinds, inr (right, inl few))) = absurd (
-  let lacks = few.0 in
-  omega (arith, lacks, length-append (coordinates_of r.points) points, length-coordinates_of r.points)
-)
+    let lacks = few.0 in
+    omega (arith, lacks, length-append (coordinates_of r.points) points, length-coordinates_of r.points)
+    )
 refused_row l begun r points number p (inr (k, kinds, inr (right, inr (enough, (why, refuses, is))))) = (
   why,
   ap (λ (x : Row). refusal l begun x) (sym (row_from r k

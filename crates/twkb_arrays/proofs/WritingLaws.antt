@@ -122,10 +122,20 @@ room_for_first in_rows in_points given later g room lacks =
     ≡ row_points (rows_of (given ++ g ∷ [])) ++ row_points (rows_of later) =
     ap row_points all ∙ row_points-append (rows_of (given ++ g ∷ [])) (rows_of later) in
     elim lacks [
-      | inl few ↦ omega (arith, few, room.0, ap (λ (xs : List Row). length xs) all,
-          length-append (rows_of (given ++ g ∷ [])) (rows_of later))
-      | inr few ↦ omega (arith, few, room.1, ap (λ (xs : List Point). length xs) points,
-          length-append (row_points (rows_of (given ++ g ∷ []))) (row_points (rows_of later)))
+      | inl few ↦ omega (
+        arith,
+        few,
+        room.0,
+        ap (λ (xs : List Row). length xs) all,
+        length-append (rows_of (given ++ g ∷ [])) (rows_of later),
+      )
+      | inr few ↦ omega (
+        arith,
+        few,
+        room.1,
+        ap (λ (xs : List Point). length xs) points,
+        length-append (row_points (rows_of (given ++ g ∷ []))) (row_points (rows_of later)),
+      )
     ]
 
 -- with room for all, all is taken
@@ -160,24 +170,24 @@ read_back l style in_rows in_points old new report old_rows new_rows old_points 
     elim (all_read l bytes old_rows new_rows old_points new_points counts gs read stream few) [
       | inl memory ↦ inl memory
       | inr all ↦
-        let none : read.later ≡ [] = all_taken old_rows old_points read.given read.later
-        (subst (λ (hs : List Tree). HasRoom old_rows old_points hs) (sym all.0) room) read.stops in
-        let same : read.given ≡ gs = sym (append-nil read.given)
-        ∙ ap (λ (hs : List Tree). read.given ++ hs) (sym none) ∙ all.0 in
-        let status : counts.status ≡ (outcome_of false read.answer).0 = read.counted.status_is
-        ∙ ap (λ (hs : List Tree). (outcome_of (are_more hs) read.answer).0) none in
-        let rows_are : new_rows ≡ in_rows ++ drop (length in_rows) old_rows = read.filled.rows_are
-        ∙ ap (λ (hs : List Tree). array_rows hs ++ drop (length (rows_of hs)) old_rows) same
-        ∙ ap (λ (n : ℕ). array_rows gs ++ drop n old_rows) (sym row_count)
-        ∙ ap (λ (xs : List BufferRow). xs ++ drop (length in_rows) old_rows) (sym w.are.rows_are) in
-        let points_are : new_points ≡ in_points ++ drop (length in_points) old_points = read.filled.points_are
-        ∙ ap (λ (hs : List Tree). array_points hs ++ drop (length (row_points (rows_of hs))) old_points) same
-        ∙ ap (λ (n : ℕ). array_points gs ++ drop n old_points) (sym point_count)
-        ∙ ap (λ (xs : List BufferPoint). xs ++ drop (length in_points) old_points) (sym w.are.points_are) in
-        elim (by_status l bytes (read.given ++ read.later) read.answer counts.status status read.ended all.1) [
-          | inl memory ↦ inl memory
-          | inr done ↦ inr (done, rows_are, points_are)
-        ]
+          let none : read.later ≡ [] = all_taken old_rows old_points read.given read.later
+          (subst (λ (hs : List Tree). HasRoom old_rows old_points hs) (sym all.0) room) read.stops in
+          let same : read.given ≡ gs = sym (append-nil read.given)
+          ∙ ap (λ (hs : List Tree). read.given ++ hs) (sym none) ∙ all.0 in
+          let status : counts.status ≡ (outcome_of false read.answer).0 = read.counted.status_is
+          ∙ ap (λ (hs : List Tree). (outcome_of (are_more hs) read.answer).0) none in
+          let rows_are : new_rows ≡ in_rows ++ drop (length in_rows) old_rows = read.filled.rows_are
+          ∙ ap (λ (hs : List Tree). array_rows hs ++ drop (length (rows_of hs)) old_rows) same
+          ∙ ap (λ (n : ℕ). array_rows gs ++ drop n old_rows) (sym row_count)
+          ∙ ap (λ (xs : List BufferRow). xs ++ drop (length in_rows) old_rows) (sym w.are.rows_are) in
+          let points_are : new_points ≡ in_points ++ drop (length in_points) old_points = read.filled.points_are
+          ∙ ap (λ (hs : List Tree). array_points hs ++ drop (length (row_points (rows_of hs))) old_points) same
+          ∙ ap (λ (n : ℕ). array_points gs ++ drop n old_points) (sym point_count)
+          ∙ ap (λ (xs : List BufferPoint). xs ++ drop (length in_points) old_points) (sym w.are.points_are) in
+          elim (by_status l bytes (read.given ++ read.later) read.answer counts.status status read.ended all.1) [
+            | inl memory ↦ inl memory
+            | inr done ↦ inr (done, rows_are, points_are)
+          ]
     ]
 
 -- the geometries of a stream are valid

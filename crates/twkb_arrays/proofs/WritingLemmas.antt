@@ -221,7 +221,7 @@ row_not_read l style in_output out old mid new row ahead (Err stop.Memory) begun
 row_not_read l style in_output out old mid new row ahead (Err (stop.Row number)) begun same root kept refused =
     λ start in_rows in_points w some. stops_at_row l style start in_rows in_points out mid new row ahead (stop.Row number)
     (begun l start in_rows in_points w) same
-    (root, λ none. elim (kept none) [ | inl zero ↦ inl zero | inr was ↦ inr (some was) ], refused)
+    (root, λ none. elim (kept none) [ inl zero ↦ inl zero | inr was ↦ inr (some was) ], refused)
 
 -- ---- the end
 
@@ -234,41 +234,41 @@ pub stops_writing : (l : Allowance) (style : Style) (start : List ℕ) (in_rows 
     → StopsWriting l style start in_rows in_points out writer (fault_at place why)
 stops_writing l style start in_rows front_rows more in_points front_points ahead place row out writer stop.Memory s
     rows_are points_are place_is = (
-  s.given,
-  s.later,
-  s.sent,
-  record {
-    begun = s.begun;
-    front_rows = front_rows;
-    more = row ∷ more;
-    front_points = front_points;
-    ahead = ahead;
-    rows_are = rows_are;
-    points_are = points_are;
-    read = s.read;
-  },
-)
+      s.given,
+      s.later,
+      s.sent,
+      record {
+        begun = s.begun;
+        front_rows = front_rows;
+        more = row ∷ more;
+        front_points = front_points;
+        ahead = ahead;
+        rows_are = rows_are;
+        points_are = points_are;
+        read = s.read;
+      },
+    )
 stops_writing l style start in_rows front_rows more in_points front_points ahead place row out writer
     (stop.Row number) s rows_are points_are place_is = (
-  s.given,
-  s.later,
-  s.sent,
-  inl (record {
-    begun = s.begun;
-    front_rows = front_rows;
-    row = row;
-    more = more;
-    front_points = front_points;
-    ahead = ahead;
-    rows_are = rows_are;
-    points_are = points_are;
-    read = s.read;
-    root = s.stops.0;
-    first = s.stops.1;
-    refused = s.stops.2;
-    place_is = place_is;
-  }),
-)
+      s.given,
+      s.later,
+      s.sent,
+      inl (record {
+        begun = s.begun;
+        front_rows = front_rows;
+        row = row;
+        more = more;
+        front_points = front_points;
+        ahead = ahead;
+        rows_are = rows_are;
+        points_are = points_are;
+        read = s.read;
+        root = s.stops.0;
+        first = s.stops.1;
+        refused = s.stops.2;
+        place_is = place_is;
+      }),
+    )
 
 -- the rows up to a place and the row there
 with_next : (in_rows : List BufferRow) (i : ℕ) (row none : BufferRow) → i < length in_rows
