@@ -3,7 +3,8 @@ use Rattle.std.proofs.Common.{◌≡◌, ℕ, ◌+◌, ◌-◌, ◌<◌, ◌≤�
 use Rattle.std.proofs.Common.{refl, sym, ap, ◌∙◌, arith, length-append, append_assoc}
 use Rattle.std.specs.Prelude.{slice_get, Some, slice_set}
 use Rattle.std.proofs.lemmas.List.{take-append-drop, map-append, append-nil, take_more, take_more_set}
-use Rattle.std.proofs.lemmas.List.{length-set, take_at, drop-drop, drop_at, length-take-le, length-drop, take_all, take_rest}
+use Rattle.std.proofs.lemmas.List.{length-set, take_at, drop-drop, drop_at, length-take-le, length-drop}
+use Rattle.std.proofs.lemmas.List.{take_all, take_rest}
 use Rattle.std.proofs.Math.Seq.{take-add}
 use Rattle.std.proofs.lemmas.Option.{slice_get_within, get_or_from_slice_get}
 use Rattle.std.proofs.lemmas.Slice.{take-put_mid}

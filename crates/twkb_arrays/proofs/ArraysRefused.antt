@@ -98,7 +98,8 @@ refused_after_all l hs (s ∷ rs) r why valid first refuses =
 no_refusal : (l : Allowance) (gs : List Tree) (rs more : List Row) (r : Row) (why : Refusal) → AreValid l gs
     → rows_of gs ≡ rs ++ r ∷ more → refusal l rs r ≡ Some why → ⊥
 no_refusal l gs rs more r why valid is refuses =
-    refused_begins_none l rs r more (λ accepted. some_none why (sym refuses ∙ accepted_unrefused l (reverse rs) r accepted))
+    refused_begins_none l rs r more (λ accepted. some_none why (sym refuses
+    ∙ accepted_unrefused l (reverse rs) r accepted))
     (gs, valid, is)
   where
     some_none : (why : Refusal) → Some why ≡ None → ⊥

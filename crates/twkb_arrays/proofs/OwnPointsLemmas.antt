@@ -44,7 +44,8 @@ pub not_in_range : (given : List BufferPoint) (place : ℕ) → FirstOutside giv
     → AreInRange (points_of given) → ⊥
 not_in_range given place o a = outside_among (points_of (coordinates_of o.before)) (point_of o.coordinates)
     (points_of o.after) o.outside
-    (subst AreInRange (ap points_of o.given_is ∙ map-append point_of (coordinates_of o.before) (o.coordinates ∷ o.after)) a)
+    (subst AreInRange (ap points_of o.given_is ∙ map-append point_of (coordinates_of o.before)
+    (o.coordinates ∷ o.after)) a)
 
 -- a list that is cut back is as it was
 pub cut_back : (given left : List BufferPoint) (held : ℕ) (old new back : List Point)

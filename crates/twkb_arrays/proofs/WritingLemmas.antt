@@ -3,7 +3,8 @@ use Rattle.std.proofs.Common.{◌≡◌, ℕ, ◌+◌, ◌<◌, ◌≤◌, ◌�
 use Rattle.std.proofs.Common.{Bool, false, refl, sym, ap, ◌∙◌, subst, arith, append_assoc, slice_index_or}
 use Rattle.std.specs.Prelude.{Result, Ok, Err, IfOk, IfErr, IsTrue, ◌↔◌}
 use Rattle.std.proofs.lemmas.Bool.{false≢true}
-use Rattle.std.proofs.lemmas.List.{append-nil, map-append, length-drop, length-take-le, take-append-drop, take_all, take_more}
+use Rattle.std.proofs.lemmas.List.{append-nil, map-append, length-drop, length-take-le, take-append-drop}
+use Rattle.std.proofs.lemmas.List.{take_all, take_more}
 use Rattle.twkb_points.specs.Point.{Point}
 use Rattle.twkb_tree.specs.Tree.{Tree, IsTree}
 use Rattle.twkb_tree.specs.Limits.{Allowance, IsValid}
@@ -85,7 +86,8 @@ read_whole l gs g form in_rows in_points a valid same =
 pub ended_one : (l : Allowance) (style : Style) (start : List ℕ) (in_rows : List BufferRow)
     (in_points : List BufferPoint) (in_output out blob : List ℕ) (old new : Writer)
     → (old.form ≡ [] → ⊥) → ((g : Tree) → IsTree g → rows 0 g ≡ old.form → blob ≡ canonical_blob style g)
-    → ((s : Style) (start : List ℕ) (given later : List Tree) (g : Tree) → HasSent s start given later in_output old.sent
+    → ((s : Style) (start : List ℕ) (given later : List Tree) (g : Tree)
+    → HasSent s start given later in_output old.sent
     → blob ≡ canonical_blob s g → SendsOne s start given later g out new.sent)
     → new.form ≡ [] → IsWriting l style start in_rows in_points in_output old
     → IsWriting l style start in_rows in_points out new
@@ -131,7 +133,8 @@ read_more l gs form new_form in_rows in_points row ahead r count a is accepted v
       valid = a.valid;
       begun_valid = valid;
       rows_are = ap (λ (xs : List BufferRow). xs ++ row ∷ []) a.rows_are
-          ∙ ap (λ (x : BufferRow). rows_in_c (rows_of gs ++ form) ++ x ∷ []) (sym (row_back l form row ahead r accepted))
+          ∙ ap (λ (x : BufferRow). rows_in_c (rows_of gs ++ form) ++ x ∷ [])
+          (sym (row_back l form row ahead r accepted))
           ∙ sym (map-append row_in_c (rows_of gs ++ form) (r ∷ []))
           ∙ ap rows_in_c all;
       points_are = ap (λ (xs : List BufferPoint). xs ++ take count ahead) a.points_are
@@ -184,7 +187,8 @@ pub row_read : (l : Allowance) (style : Style) (in_output out : List ℕ) (old m
     × AreValidRowsOfOne l new_form)
     → IfOk result (λ count. (start : List ℕ) (in_rows : List BufferRow) (in_points : List BufferPoint)
     → IsWriting l style start in_rows in_points in_output old
-    → IsWriting l style start (in_rows ++ row ∷ []) (in_points ++ take count ahead) out (record mid { form = new_form }))
+    → IsWriting l style start (in_rows ++ row ∷ []) (in_points ++ take count ahead) out
+    (record mid { form = new_form }))
 row_read l style in_output out old mid new_form row ahead (Ok count) begun counted pushed =
     λ start in_rows in_points w. writes_more l style start in_rows in_points out mid new_form row ahead pushed.0 count
     (begun l start in_rows in_points w) pushed.1 pushed.2 pushed.3 counted.1
@@ -219,7 +223,8 @@ row_not_read l style in_output out old mid new row ahead (Err stop.Memory) begun
     λ start in_rows in_points w some. stops_at_row l style start in_rows in_points out mid new row ahead stop.Memory
     (begun l start in_rows in_points w) same tt
 row_not_read l style in_output out old mid new row ahead (Err (stop.Row number)) begun same root kept refused =
-    λ start in_rows in_points w some. stops_at_row l style start in_rows in_points out mid new row ahead (stop.Row number)
+    λ start in_rows in_points w some. stops_at_row l style start in_rows in_points out mid new row ahead
+    (stop.Row number)
     (begun l start in_rows in_points w) same
     (root, λ none. elim (kept none) [ inl zero ↦ inl zero | inr was ↦ inr (some was) ], refused)
 

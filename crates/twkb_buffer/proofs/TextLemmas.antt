@@ -15,7 +15,8 @@ use Rattle.twkb_convert.specs.declared.report.Cause.{Cause}
 use Rattle.twkb_convert.specs.declared.report.Cause.TheVariants as cause
 use Rattle.twkb_convert.specs.Texts.{cause_words}
 use Rattle.twkb_buffer.specs.Numbers.{blob_number_of, point_text_number_of, reason_number_of, row_number_of}
-use Rattle.twkb_buffer.specs.Texts.{AreWordsOf, HasReason, NamesNoBlob, NamesNoPointText, NamesNoRow, array_words, with_text}
+use Rattle.twkb_buffer.specs.Texts.{AreWordsOf, HasReason, NamesNoBlob, NamesNoPointText, NamesNoRow}
+use Rattle.twkb_buffer.specs.Texts.{array_words, with_text}
 
 -- a cause for each reason
 abbrev all_causes : List Cause

@@ -62,25 +62,34 @@ groups_found (a ∷ b ∷ []) (suc zero) fit long few =
 groups_found (a ∷ b ∷ c ∷ []) (suc (suc zero)) fit long few =
     let none : 0 < 256 = omega arith in
     let same : number_l 256 (a ∷ b ∷ c ∷ []) ≡ number_l 256 (a ∷ b ∷ c ∷ 0 ∷ 0 ∷ 0 ∷ 0 ∷ 0 ∷ []) = omega arith in
-    ap eight_groups same ∙ groups_of_eight a b c 0 0 0 0 0 fit.0 fit.1.0 fit.1.1.0 none none none none none ∙ omega arith
+    ap eight_groups same ∙ groups_of_eight a b c 0 0 0 0 0 fit.0 fit.1.0 fit.1.1.0 none none none none none
+    ∙ omega arith
 groups_found (a ∷ b ∷ c ∷ d ∷ []) (suc (suc (suc zero))) fit long few =
     let none : 0 < 256 = omega arith in
     let same : number_l 256 (a ∷ b ∷ c ∷ d ∷ []) ≡ number_l 256 (a ∷ b ∷ c ∷ d ∷ 0 ∷ 0 ∷ 0 ∷ 0 ∷ []) = omega arith in
-    ap eight_groups same ∙ groups_of_eight a b c d 0 0 0 0 fit.0 fit.1.0 fit.1.1.0 fit.1.1.1.0 none none none none ∙ omega arith
+    ap eight_groups same ∙ groups_of_eight a b c d 0 0 0 0 fit.0 fit.1.0 fit.1.1.0 fit.1.1.1.0 none none none
+    none ∙ omega arith
 groups_found (a ∷ b ∷ c ∷ d ∷ e ∷ []) (suc (suc (suc (suc zero)))) fit long few =
     let none : 0 < 256 = omega arith in
-    let same : number_l 256 (a ∷ b ∷ c ∷ d ∷ e ∷ []) ≡ number_l 256 (a ∷ b ∷ c ∷ d ∷ e ∷ 0 ∷ 0 ∷ 0 ∷ []) = omega arith in
-    ap eight_groups same ∙ groups_of_eight a b c d e 0 0 0 fit.0 fit.1.0 fit.1.1.0 fit.1.1.1.0 fit.1.1.1.1.0 none none none ∙ omega arith
+    let same : number_l 256 (a ∷ b ∷ c ∷ d ∷ e ∷ []) ≡ number_l 256 (a ∷ b ∷ c ∷ d ∷ e ∷ 0 ∷ 0 ∷ 0 ∷ []) =
+    omega arith in
+    ap eight_groups same ∙ groups_of_eight a b c d e 0 0 0 fit.0 fit.1.0 fit.1.1.0 fit.1.1.1.0 fit.1.1.1.1.0
+    none none none ∙ omega arith
 groups_found (a ∷ b ∷ c ∷ d ∷ e ∷ f ∷ []) (suc (suc (suc (suc (suc zero))))) fit long few =
     let none : 0 < 256 = omega arith in
-    let same : number_l 256 (a ∷ b ∷ c ∷ d ∷ e ∷ f ∷ []) ≡ number_l 256 (a ∷ b ∷ c ∷ d ∷ e ∷ f ∷ 0 ∷ 0 ∷ []) = omega arith in
-    ap eight_groups same ∙ groups_of_eight a b c d e f 0 0 fit.0 fit.1.0 fit.1.1.0 fit.1.1.1.0 fit.1.1.1.1.0 fit.1.1.1.1.1.0 none none ∙ omega arith
+    let same : number_l 256 (a ∷ b ∷ c ∷ d ∷ e ∷ f ∷ []) ≡ number_l 256 (a ∷ b ∷ c ∷ d ∷ e ∷ f ∷ 0 ∷ 0 ∷ []) =
+    omega arith in
+    ap eight_groups same ∙ groups_of_eight a b c d e f 0 0 fit.0 fit.1.0 fit.1.1.0 fit.1.1.1.0 fit.1.1.1.1.0
+    fit.1.1.1.1.1.0 none none ∙ omega arith
 groups_found (a ∷ b ∷ c ∷ d ∷ e ∷ f ∷ g ∷ []) (suc (suc (suc (suc (suc (suc zero)))))) fit long few =
     let none : 0 < 256 = omega arith in
-    let same : number_l 256 (a ∷ b ∷ c ∷ d ∷ e ∷ f ∷ g ∷ []) ≡ number_l 256 (a ∷ b ∷ c ∷ d ∷ e ∷ f ∷ g ∷ 0 ∷ []) = omega arith in
-    ap eight_groups same ∙ groups_of_eight a b c d e f g 0 fit.0 fit.1.0 fit.1.1.0 fit.1.1.1.0 fit.1.1.1.1.0 fit.1.1.1.1.1.0 fit.1.1.1.1.1.1.0 none ∙ omega arith
+    let same : number_l 256 (a ∷ b ∷ c ∷ d ∷ e ∷ f ∷ g ∷ [])
+    ≡ number_l 256 (a ∷ b ∷ c ∷ d ∷ e ∷ f ∷ g ∷ 0 ∷ []) = omega arith in
+    ap eight_groups same ∙ groups_of_eight a b c d e f g 0 fit.0 fit.1.0 fit.1.1.0 fit.1.1.1.0 fit.1.1.1.1.0
+    fit.1.1.1.1.1.0 fit.1.1.1.1.1.1.0 none ∙ omega arith
 groups_found (a ∷ b ∷ c ∷ d ∷ e ∷ f ∷ g ∷ h ∷ []) (suc (suc (suc (suc (suc (suc (suc zero))))))) fit long few =
-    groups_of_eight a b c d e f g h fit.0 fit.1.0 fit.1.1.0 fit.1.1.1.0 fit.1.1.1.1.0 fit.1.1.1.1.1.0 fit.1.1.1.1.1.1.0 fit.1.1.1.1.1.1.1.0 ∙ omega arith
+    groups_of_eight a b c d e f g h fit.0 fit.1.0 fit.1.1.0 fit.1.1.1.0 fit.1.1.1.1.0 fit.1.1.1.1.1.0
+    fit.1.1.1.1.1.1.0 fit.1.1.1.1.1.1.1.0 ∙ omega arith
 groups_found (a ∷ b ∷ c ∷ d ∷ e ∷ f ∷ g ∷ h ∷ i ∷ us) more fit long few = absurd (omega arith)
 groups_found us more fit long few = absurd (omega arith)
 
@@ -214,7 +223,8 @@ marked_by us ends long fit ends_are none =
     let lanes_are : lanes ≡ map less us = zip2_splat wrapped_sub us 16 1 long in
     let few = λ (k : ℕ) (within : k < length us). let small : wrapped_sub (get_or us k 0) 1 ≤ 62 =
     rw (sym (get_or-map less us k 0 0 within)) (none_above (map less us) 62
-    (subst (λ ls. mask_l (map (λ u. ltb 62 u) ls) ≡ 0) lanes_are none) k (omega (arith, length-map us less))) in small in
+    (subst (λ ls. mask_l (map (λ u. ltb 62 u) ls) ≡ 0) lanes_are none) k (omega (arith, length-map us less)))
+    in small in
     record {
       marks = ends_are;
       below = λ k within. let byte = (Each1-get_or (Fits w8) us k 0 within fit).fits in omega (arith, few k within);

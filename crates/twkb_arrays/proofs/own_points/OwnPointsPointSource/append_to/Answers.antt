@@ -32,4 +32,5 @@ pub returns-clause-given : goal.returns-clause-given
 returns-clause-given g c =
     let own = c.args.self.now.own.now in
     let i = c.loop-coordinates.coordinates-index in
-    appended_all own (drop i own) _ _ c.loop-coordinates.invariant (drop_all i own (omega (arith, c.loop-coordinates-test.false)))
+    appended_all own (drop i own) _ _ c.loop-coordinates.invariant
+    (drop_all i own (omega (arith, c.loop-coordinates-test.false)))
