@@ -11,5 +11,6 @@ pub mod RoomLemmas
 pub mod RowLemmas
 pub mod SendingLemmas
 pub mod TakingLemmas
+pub mod WritingEnds
 pub mod WritingLaws
 pub mod WritingLemmas

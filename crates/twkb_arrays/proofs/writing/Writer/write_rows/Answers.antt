@@ -1,6 +1,7 @@
 use Rattle.std.proofs.Common.{arith, refl, take}
 use Rattle.twkb_arrays.proofs.ArrayLemmas.{length-rest_of}
-use Rattle.twkb_arrays.proofs.WritingLemmas.{next_read, row_stops, writing_within}
+use Rattle.twkb_arrays.proofs.WritingEnds.{next_read, row_stops}
+use Rattle.twkb_arrays.proofs.WritingLemmas.{writing_within}
 use Rattle.twkb_arrays.proofs.writing.Writer.write_rows.Goals as goal
 
 pub write_row-requires-clause-within : goal.write_row-requires-clause-within

@@ -1,0 +1,181 @@
+-- The end of arrays that are written as streams: all is written, or a row or points are refused.
+use Rattle.std.proofs.Common.{◌≡◌, ℕ, ◌+◌, ◌<◌, ◌≤◌, inl, inr, List, [], ◌∷◌, ◌++◌, length, take, drop}
+use Rattle.std.proofs.Common.{refl, sym, ap, ◌∙◌, subst, arith, append_assoc, slice_index_or}
+use Rattle.std.specs.Prelude.{Ok, Err}
+use Rattle.std.proofs.lemmas.List.{append-nil, length-drop, length-take-le, take-append-drop}
+use Rattle.std.proofs.lemmas.List.{take_all, take_more}
+use Rattle.twkb_tree.specs.Tree.{Tree}
+use Rattle.twkb_tree.specs.Limits.{Allowance}
+use Rattle.twkb_tree.specs.Rows.{Row, rows_of, row_points}
+use Rattle.twkb_grammar.specs.declared.style.Style.{Style}
+use Rattle.twkb_buffer.specs.Polylines.{coordinates_of}
+use Rattle.twkb_buffer.specs.declared.point.BufferPoint.{BufferPoint}
+use Rattle.twkb_arrays.specs.Rows.{rows_in_c}
+use Rattle.twkb_arrays.specs.Sending.{HasSent}
+use Rattle.twkb_arrays.specs.Writing.{EndsWriting, IsWriting, StopsAtRow, StopsWriting}
+use Rattle.twkb_arrays.specs.Writing.{fault_at}
+use Rattle.twkb_arrays.specs.declared.gathering.Stop.{Stop}
+use Rattle.twkb_arrays.specs.declared.gathering.Stop.TheVariants as stop
+use Rattle.twkb_arrays.specs.declared.row.BufferRow.{BufferRow}
+use Rattle.twkb_arrays.specs.declared.sending.Sent.{Sent}
+use Rattle.twkb_arrays.specs.declared.writing.Writer.{Writer}
+use Rattle.twkb_arrays.specs.declared.writing.WriteFault.{WriteFault}
+use Rattle.twkb_arrays.specs.declared.writing.WriteFault.TheVariants as fault
+use Rattle.twkb_arrays.proofs.ArrayLemmas.{parts_join, rest_of, some_more}
+
+-- a row that is not read ends the writing
+pub stops_writing : (l : Allowance) (style : Style) (start : List ℕ) (in_rows front_rows more : List BufferRow)
+    (in_points front_points ahead : List BufferPoint) (place : ℕ) (row : BufferRow) (out : List ℕ)
+    (writer : Writer) (why : Stop)
+    → StopsAtRow l style start front_rows front_points row ahead out writer why
+    → in_rows ≡ front_rows ++ row ∷ more → in_points ≡ front_points ++ ahead → place ≡ length front_rows
+    → StopsWriting l style start in_rows in_points out writer (fault_at place why)
+stops_writing l style start in_rows front_rows more in_points front_points ahead place row out writer stop.Memory s
+    rows_are points_are place_is = (
+      s.given,
+      s.later,
+      s.sent,
+      record {
+        begun = s.begun;
+        front_rows = front_rows;
+        more = row ∷ more;
+        front_points = front_points;
+        ahead = ahead;
+        rows_are = rows_are;
+        points_are = points_are;
+        read = s.read;
+      },
+    )
+stops_writing l style start in_rows front_rows more in_points front_points ahead place row out writer
+    (stop.Row number) s rows_are points_are place_is = (
+      s.given,
+      s.later,
+      s.sent,
+      inl (record {
+        begun = s.begun;
+        front_rows = front_rows;
+        row = row;
+        more = more;
+        front_points = front_points;
+        ahead = ahead;
+        rows_are = rows_are;
+        points_are = points_are;
+        read = s.read;
+        root = s.stops.0;
+        first = s.stops.1;
+        refused = s.stops.2;
+        place_is = place_is;
+      }),
+    )
+
+-- the rows up to a place and the row there
+with_next : (in_rows : List BufferRow) (i : ℕ) (row none : BufferRow) → i < length in_rows
+    → row ≡ slice_index_or in_rows i none
+    → take (i + 1) in_rows ≡ take i in_rows ++ row ∷ []
+with_next in_rows i row none within is = take_more in_rows i none within
+    ∙ ap (λ (x : BufferRow). take i in_rows ++ x ∷ []) (sym is)
+
+-- the row at a place is not read
+pub row_stops : (l : Allowance) (style : Style) (start : List ℕ) (in_rows : List BufferRow)
+    (in_points : List BufferPoint) (i used : ℕ) (row none : BufferRow) (out : List ℕ) (writer : Writer) (why : Stop)
+    (answer : WriteFault)
+    → StopsAtRow l style start (take i in_rows) (take used in_points) row (rest_of in_points used) out writer why
+    → i < length in_rows → row ≡ slice_index_or in_rows i none → answer ≡ fault_at i why
+    → StopsWriting l style start in_rows in_points out writer answer
+row_stops l style start in_rows in_points i used row none out writer why answer s within is answer_is =
+    subst (λ (f : WriteFault). StopsWriting l style start in_rows in_points out writer f) (sym answer_is)
+    (stops_writing l style start in_rows (take i in_rows) (drop (i + 1) in_rows) in_points (take used in_points)
+    (rest_of in_points used) i row out writer why s
+    (sym (take-append-drop (i + 1) in_rows)
+    ∙ ap (λ (xs : List BufferRow). xs ++ drop (i + 1) in_rows) (with_next in_rows i row none within is)
+    ∙ append_assoc (take i in_rows) (row ∷ []) (drop (i + 1) in_rows))
+    (sym (parts_join in_points (rest_of in_points used) used refl))
+    (sym (length-take-le i in_rows (omega (arith, within)))))
+
+-- the row at a place is read
+pub next_read : (l : Allowance) (style : Style) (start : List ℕ) (in_rows : List BufferRow)
+    (in_points : List BufferPoint) (i used count : ℕ) (row none : BufferRow) (out : List ℕ) (writer : Writer)
+    → IsWriting l style start (take i in_rows ++ row ∷ []) (take used in_points ++ take count (rest_of in_points used))
+    out writer
+    → i < length in_rows → row ≡ slice_index_or in_rows i none
+    → IsWriting l style start (take (i + 1) in_rows) (take (used + count) in_points) out writer
+next_read l style start in_rows in_points i used count row none out writer w within is =
+    subst (λ (xs : List BufferRow). IsWriting l style start xs (take (used + count) in_points) out writer)
+    (sym (with_next in_rows i row none within is))
+    (subst (λ (xs : List BufferPoint). IsWriting l style start (take i in_rows ++ row ∷ []) xs out writer)
+    (some_more in_points (rest_of in_points used) used count refl) w)
+
+-- points that are left over end the writing
+pub points_left_over : (l : Allowance) (style : Style) (start : List ℕ) (in_rows : List BufferRow)
+    (in_points : List BufferPoint) (used : ℕ) (out : List ℕ) (writer : Writer)
+    → IsWriting l style start in_rows (take used in_points) out writer → used < length in_points
+    → (writer.form ≡ [] → in_rows ≡ [])
+    → (given later : List Tree) × HasSent style start given later out writer.sent
+    × EndsWriting {A = Unit {0}} l (given ++ later) in_rows in_points (Err (fault.At (length in_rows) 72))
+points_left_over l style start in_rows in_points used out writer w some last = (
+  w.given,
+  w.later,
+  w.sent,
+  inr (record {
+    begun = writer.form;
+    front_points = take used in_points;
+    left = drop used in_points;
+    points_are = sym (take-append-drop used in_points);
+    read = w.read;
+    last = last;
+    some = omega (arith, length-drop used in_points, some);
+    place_is = refl;
+    number_is = refl;
+  }),
+)
+
+-- all rows and points are those of complete geometries
+pub all_written : (l : Allowance) (style : Style) (start : List ℕ) (in_rows : List BufferRow)
+    (in_points : List BufferPoint) (used : ℕ) (out : List ℕ) (writer : Writer) (done : Unit {0})
+    → IsWriting l style start in_rows (take used in_points) out writer → length in_points ≤ used → writer.form ≡ []
+    → (given later : List Tree) × HasSent style start given later out writer.sent
+    × EndsWriting l (given ++ later) in_rows in_points (Ok done)
+all_written l style start in_rows in_points used out writer done w whole closed =
+    let gs = w.given ++ w.later in
+    let all : rows_of gs ++ writer.form ≡ rows_of gs = ap (λ (rs : List Row). rows_of gs ++ rs) closed
+    ∙ append-nil (rows_of gs) in (
+      w.given,
+      w.later,
+      w.sent,
+      record {
+        valid = w.read.valid;
+        rows_are = w.read.rows_are ∙ ap rows_in_c all;
+        points_are = sym (take_all used in_points whole) ∙ w.read.points_are
+            ∙ ap (λ (rs : List Row). coordinates_of (row_points rs)) all;
+      },
+    )
+
+-- memory was refused for the blob of the last geometry
+pub no_memory : (l : Allowance) (style : Style) (start : List ℕ) (in_rows : List BufferRow)
+    (in_points : List BufferPoint) (used : ℕ) (in_output out : List ℕ) (old new : Writer)
+    → IsWriting l style start in_rows (take used in_points) in_output old → new.sent ≡ old.sent → out ≡ in_output
+    → (given later : List Tree) × HasSent style start given later out new.sent
+    × EndsWriting {A = Unit {0}} l (given ++ later) in_rows in_points (Err fault.Memory)
+no_memory l style start in_rows in_points used in_output out old new w same same_output = (
+  w.given,
+  w.later,
+  subst (λ (xs : List ℕ). HasSent style start w.given w.later xs new.sent) (sym same_output)
+      (subst (λ (s : Sent). HasSent style start w.given w.later in_output s) (sym same) w.sent),
+  record {
+    begun = old.form;
+    front_rows = in_rows;
+    more = [];
+    front_points = take used in_points;
+    ahead = drop used in_points;
+    rows_are = sym (append-nil in_rows);
+    points_are = sym (take-append-drop used in_points);
+    read = w.read;
+  },
+)
+
+-- a fault of a step ends the whole writing
+pub same_end : (l : Allowance) (gs : List Tree) (in_rows : List BufferRow) (in_points : List BufferPoint)
+    (why : WriteFault) → EndsWriting {A = ℕ} l gs in_rows in_points (Err why)
+    → EndsWriting {A = Unit {0}} l gs in_rows in_points (Err why)
+same_end l gs in_rows in_points fault.Memory e = e
+same_end l gs in_rows in_points (fault.At place number) e = e
