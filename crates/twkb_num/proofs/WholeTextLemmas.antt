@@ -8,16 +8,14 @@ use lib.ListN.{replicate}
 use Rattle.std.specs.Int.Count.{count_trailing_zeros, trailing_of_zero}
 use Rattle.std.specs.List.{prefix_len}
 use Rattle.std.specs.Prelude.{nat_lt, not}
-use Rattle.std.proofs.Math.Arith.{mod-mul}
-use Rattle.std.proofs.Math.Nat.{pow-suc, pow-zero, zero-div, zero-mod, div-div-eq-div-mul, mul_comm}
-use Rattle.std.proofs.Math.Nat.{one-le-pow}
+use Rattle.std.proofs.Math.Nat.{pow-suc, pow-zero}
 use Rattle.std.proofs.Math.Seq.{drop-append-add}
 use Rattle.std.proofs.lemmas.Bool.{cases_lt, lt-ltb, le-ltb}
 use Rattle.std.proofs.lemmas.List.{length-drop, length-map, length-take-le, take-append-le, take-take, take_all}
 use Rattle.std.proofs.lemmas.List.{drop-drop, take-append-drop, take-map, drop-map, get_or-drop, get_or-map, map-id}
 use Rattle.std.proofs.lemmas.Nat.{and_mask, one_shl, pow-add}
 use Rattle.std.proofs.lemmas.Nat.Bits.{ones_shr}
-use Rattle.std.proofs.lemmas.Simd.{Each1-from_get_or, Each1-chunk, Each1-get_or, Each1-weaker}
+use Rattle.std.proofs.lemmas.Simd.{Each1-chunk, Each1-get_or, Each1-weaker}
 use Rattle.std.proofs.lemmas.Simd.{trailing_mask_l, zip2_splat}
 use Rattle.twkb_num.specs.Alphabet.{five_unit}
 use Rattle.twkb_num.specs.Block.{units_in}
@@ -25,7 +23,6 @@ use Rattle.twkb_num.specs.Four.{joined_groups, number_in_front, run_of}
 use Rattle.twkb_num.specs.Spelling.{shortest}
 use Rattle.twkb_num.specs.WholeText.{both_ends, eight_groups, AreMarked, AreTwoRuns}
 use Rattle.twkb_num.proofs.BlockLemmas.{same_units, all_below}
-use Rattle.twkb_num.proofs.DigitLemmas.{low_digit, high_digits}
 use Rattle.twkb_num.proofs.FourLemmas.{marks_of, number_spelled}
 use Rattle.twkb_num.proofs.JoinLemmas.{first_word, later_words}
 use Rattle.twkb_num.proofs.LaneLemmas.{wrapped_sub}
