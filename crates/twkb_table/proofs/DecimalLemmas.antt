@@ -1,5 +1,5 @@
 -- Canonical decimals, as std reads and prints them.
-use Rattle.std.proofs.Common.{◌≡◌, ℕ, ◌+◌, ◌-◌, ◌<◌, ◌≤◌, ◌^◌, ◌==◌, false, List, [], ◌∷◌, length}
+use Rattle.std.proofs.Common.{◌≡◌, ℕ, ◌+◌, ◌-◌, ◌<◌, ◌≤◌, ◌^◌, List, [], ◌∷◌, length}
 use Rattle.std.proofs.Common.{slice_index_or, get_or, take, decimal, ◌++◌, ◌*◌, ◌/◌, ◌%◌, Result}
 use Rattle.std.proofs.Common.{Ok, Err, sym, ◌∙◌, ap, subst, arith, ℤ, pos, negsuc, FitsSigned, w64}
 use Rattle.std.proofs.lemmas.Int.{ints}
@@ -80,9 +80,9 @@ one_digit (d ∷ []) some few low high =
 one_digit (d ∷ e ∷ rest) some few low high = absurd (omega arith)
 
 -- the value of the first digit alone
-pub digit_first : (field : List ℕ) → false ≡ (length field == 0) → 49 ≤ get_or field 0 0
+pub digit_first : (field : List ℕ) → 0 < length field → 49 ≤ get_or field 0 0
     → get_or field 0 0 ≤ 57 → decimal (get_or field 0 0 - 48) ≡ take 1 field
-digit_first [] some low high = absurd (cc some)
+digit_first [] some low high = absurd (omega arith)
 digit_first (d ∷ ds) some low high = let value : 48 + (d - 48) ≡ d = omega arith in
     decimal_digit (d - 48) (omega arith) ∙ ap (λ n. n ∷ []) value
 

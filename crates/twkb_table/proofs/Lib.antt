@@ -3,6 +3,7 @@ pub mod AcceptedRecords
 pub mod AlikePlaces
 pub mod Complete
 pub mod DecimalLemmas
+pub mod DigitLemmas
 pub mod DecimalsDecided
 pub mod Deciding
 pub mod FaultLaws

@@ -1,5 +1,5 @@
 -- The values that the fields of a record spell.
-use Rattle.std.specs.Prelude.{◌≡◌, ℕ, ℤ, ◌≤◌, List, [], Option, Some, None, IfSome, decimal}
+use Rattle.std.specs.Prelude.{◌≡◌, ℕ, ℤ, ◌≤◌, ◌+◌, ◌*◌, List, [], Option, Some, None, IfSome, decimal, get_or}
 use Rattle.std.specs.Fmt.{signed_decimal}
 use Rattle.twkb_tree.specs.Tree.{IsPrecision, IsId}
 
@@ -7,6 +7,12 @@ use Rattle.twkb_tree.specs.Tree.{IsPrecision, IsId}
 abbrev pub Reads : {A : Type 0} → (A → Type 0) → Option A → Type 0
 Reads {A} Spells None = (value : A) → Spells value → ⊥
 Reads {A} Spells (Some value) = Spells value
+
+-- the number of eight digits, the highest first
+abbrev pub eight_digits : List ℕ → ℕ
+eight_digits ds =
+    ((get_or ds 0 0 * 10 + get_or ds 1 0) * 100 + (get_or ds 2 0 * 10 + get_or ds 3 0)) * 10000
+    + ((get_or ds 4 0 * 10 + get_or ds 5 0) * 100 + (get_or ds 6 0 * 10 + get_or ds 7 0))
 
 -- the canonical decimal of a depth from 0 to 999 (profile)
 abbrev pub IsDepthField : List ℕ → ℕ → Type 0

@@ -1,14 +1,19 @@
 //! Canonical decimals: digits without a leading zero, after a minus sign if the number is negative.
-ghost use Rattle.std.specs.Prelude.{◌≡◌, ◌++◌, IfSome, OnOk, OnErr};
+ghost use Rattle.std.specs.Prelude.{◌≡◌, ◌++◌, ◌≤◌, ◌<◌, ◌^◌, IfSome, OnOk, OnErr, decimal, get_or, length, take};
+ghost use lib.Lanes.{Each1};
 ghost use Rattle.std.specs.Fmt.{signed_decimal};
 ghost use Rattle.twkb_table.specs.Fields.{Reads, IsDepthField, IsIdField, IsPrecisionField};
-ghost use Rattle.twkb_table.specs.Fields.{IsOptionalId, IsOptionalPrecision};
+ghost use Rattle.twkb_table.specs.Fields.{IsOptionalId, IsOptionalPrecision, eight_digits};
 
 use itoa::Buffer;
 use std::alloc::AllocError;
+use std::simd::{u8x8, u16x4};
 use twkb_tree::{GREATEST_PRECISION, LEAST_PRECISION};
 
 const GREATEST_DEPTH: i64 = 999;
+
+// The number of digits that are read at once.
+const EIGHT: usize = 8;
 
 // The greatest number that stays an i64 with any digit appended.
 const MOST_BEFORE_A_DIGIT: u64 = 922_337_203_685_477_579;
@@ -23,6 +28,18 @@ const GREATEST: i64 = GREATEST_PRECISION as i64;
 /// Takes no memory.
 #[inline(always)]
 pub fn parse_depth(field: &[u8]) -> Option<u32>
+    ensures reads { Reads (IsDepthField field.now) result }
+{
+    match field {
+        // one digit, as in most rows
+        [digit] if b'0' <= *digit && *digit <= b'9' => Some(u32::from(*digit - b'0')),
+        _ => long_depth(field),
+    }
+}
+
+// Reads a depth of any length. Out of line: few depths have more than one digit.
+#[inline(never)]
+fn long_depth(field: &[u8]) -> Option<u32>
     ensures reads { Reads (IsDepthField field.now) result }
 {
     match parse_id(field) {
@@ -56,8 +73,8 @@ fn digits_of(field: &[u8]) -> Option<i64>
     if first < b'1' || b'9' < first {
         return None;
     }
-    let mut number = u64::from(first - b'0');
-    for at in 1..field.len() {
+    let (mut number, read) = first_digits(field)?;
+    for at in read..field.len() {
         let digit = field[at];
         if digit < b'0' || b'9' < digit || MOST_BEFORE_A_DIGIT < number {
             return None;
@@ -65,6 +82,40 @@ fn digits_of(field: &[u8]) -> Option<i64>
         number = number * 10 + u64::from(digit - b'0');
     }
     Some(number.cast_signed())
+}
+
+// The number of the first digits, eight if there are as many and else one, and how many they are;
+// `None` if one is no digit. The first digit is not 0.
+#[inline(always)]
+fn first_digits(field: &[u8]) -> Option<(u64, usize)>
+    requires some { 0 < length field.now }
+    requires low { 49 ≤ get_or field.now 0 0 }
+    requires high { get_or field.now 0 0 ≤ 57 }
+    ensures spelled { IfSome result (λ r. decimal r.0 ≡ take r.1 field.now) }
+    ensures above { IfSome result (λ r. 0 < r.0) }
+    ensures few { IfSome result (λ r. r.0 < 10 ^ 8) }
+    ensures within { IfSome result (λ r. r.1 ≤ length field.now) }
+{
+    if field.len() < EIGHT {
+        return Some((u64::from(field[0] - b'0'), 1));
+    }
+    let digits = u8x8::from_slice(field) - u8x8::splat(b'0');
+    if digits.simd_gt(u8x8::splat(9)).to_bitmask() != 0 {
+        return None;
+    }
+    Some((number_of_eight(digits), EIGHT))
+}
+
+// The number of eight digits, the highest first: two digits in each lane, then all four lanes.
+#[inline(always)]
+fn number_of_eight(digits: u8x8) -> u64
+    requires { Each1 (λ digit. digit < 10) digits }
+    ensures { result ≡ eight_digits digits }
+{
+    let lanes = u16x4::from_le_bytes(digits);
+    let byte = u16x4::splat(0x100);
+    let [a, b, c, d] = (lanes % byte * u16x4::splat(10) + lanes / byte).to_array();
+    ((u64::from(a) * 100 + u64::from(b)) * 100 + u64::from(c)) * 100 + u64::from(d)
 }
 
 // Reads an id from its canonical decimal of any length. Most fields have only a few digits.
@@ -102,6 +153,18 @@ fn read_decimal(field: &[u8]) -> Option<i64>
 /// (profile). Takes no memory.
 #[inline(always)]
 pub fn parse_precision(field: &[u8]) -> Option<i8>
+    ensures reads { Reads (IsPrecisionField field.now) result }
+{
+    match field {
+        // one digit, as in most rows
+        [digit] if b'0' <= *digit && *digit <= b'7' => Some((*digit - b'0') as i8),
+        _ => long_precision(field),
+    }
+}
+
+// Reads a precision of any length. Out of line: few precisions have more than one digit.
+#[inline(never)]
+fn long_precision(field: &[u8]) -> Option<i8>
     ensures reads { Reads (IsPrecisionField field.now) result }
 {
     match parse_id(field) {

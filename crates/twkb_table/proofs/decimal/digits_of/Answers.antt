@@ -1,16 +1,6 @@
 use Rattle.std.proofs.Common.{arith}
-use Rattle.twkb_table.proofs.DecimalLemmas.{digit_first, digit_more}
+use Rattle.twkb_table.proofs.DecimalLemmas.{digit_more}
 use Rattle.twkb_table.proofs.decimal.digits_of.Goals as goal
-
-pub loop-at-init : goal.loop-at-init
-loop-at-init c =
-    let spelled = digit_first c.args.field.now c.if-is_empty.ensures c.if-first-lt49.false c.if-first-gt57.false in
-    rw c.from-number.ensures
-    (record {
-      spelled = spelled;
-      some = omega (arith, c.if-first-lt49.false);
-      fits = omega (arith, c.if-first-gt57.false);
-    })
 
 pub loop-at-preserved : goal.loop-at-preserved
 loop-at-preserved c =
