@@ -8,19 +8,15 @@
 # CASES is the number of cases of tests/fuzz. A program under qemu gets any limit of memory granted and keeps none,
 # so tests/hostile/sizes.py and the package's test of little memory are not run. A wrong program may do anything: each run
 # under qemu has the limits below, and each check that makes many runs has `patience` seconds.
-set -uo pipefail
-cd "$(dirname "$0")/.." || exit 1
+# shellcheck source=scripts/checks.bash
+source "$(dirname "$0")/checks.bash"
+about="arm64: "
 repository=$PWD
 built=$repository/out/arm64
 cross=aarch64-linux-gnu
 root=/usr/$cross
 export LC_ALL=C
 unset MAKEFLAGS MAKELEVEL
-work=$(mktemp -d)
-trap 'rm -rf "$work"' EXIT
-about="arm64: "
-# shellcheck source=scripts/checks.bash
-source scripts/checks.bash
 patience=900
 # of one run: seconds of a processor, megabytes of addresses, megabytes in a file that it writes
 seconds=20 megabytes=512 written=64
