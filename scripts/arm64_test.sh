@@ -6,8 +6,9 @@
 #
 # The program vectors is proved and built for this processor beside the other checks, which takes as long as they all do.
 # CASES is the number of cases of tests/fuzz. A program under qemu gets any limit of memory granted and keeps none,
-# so tests/hostile/sizes.py and the package's test of little memory are not run. A wrong program may do anything: each run
-# under qemu has the limits below, and each check that makes many runs has `patience` seconds.
+# so tests/hostile/sizes.py and the package's test of little memory are not run. A wrong program may do anything: each
+# run under qemu has the limits below, and each check that makes many runs `patience` seconds; fuzz one more for each
+# case.
 # shellcheck source=scripts/checks.bash
 source "$(dirname "$0")/checks.bash"
 about="arm64: "
@@ -22,7 +23,9 @@ patience=900
 seconds=20 megabytes=512 written=64
 
 # under_qemu ROOT WORD..: runs a program of ARM, which finds the C library in that root.
-under_qemu() { (ulimit -c 0 -t "$seconds" -v $((megabytes << 10)) -f $((written << 10)) && exec qemu-aarch64-static -L "$@"); }
+under_qemu() {
+  (ulimit -c 0 -t "$seconds" -v $((megabytes << 10)) -f $((written << 10)) && exec qemu-aarch64-static -L "$@")
+}
 arm() { under_qemu "$root" "$@"; }
 
 # starter PROGRAM FILE [ROOT]: makes a file that this machine can start, and that runs a program of ARM.
@@ -56,8 +59,9 @@ as_here() {
 }
 smoke() { (cd "$tree" && MEGABYTES=2 timeout "$patience" scripts/smoke.sh); }
 fuzz() {
-  local seed=${SEED:-$(date -u +%Y%m%d)}
-  (cd "$tree" && timeout "$patience" python3 -B tests/fuzz/fuzz.py --cases "${CASES:-5000}" --seed "$seed" --processes 2 --program bin/polytwkb --library bin/refuse.so)
+  local cases=${CASES:-5000} seed=${SEED:-$(date -u +%Y%m%d)}
+  (cd "$tree" && timeout $((patience + cases)) python3 -B tests/fuzz/fuzz.py --cases "$cases" --seed "$seed" \
+    --processes 2 --program bin/polytwkb --library bin/refuse.so)
 }
 # Fewer rows than on x86-64, where the same code is made by the same compiler: they reach each place that calls the functions of C.
 each_failing() { (cd "$tree" && timeout "$patience" python3 -B tests/hostile/each_failing.py bin/polytwkb bin/refuse.so few); }
@@ -134,11 +138,13 @@ by_pip() {
   local at=$1 pip package
   debootstrap --foreign --arch=arm64 --variant=minbase --include=python3 bookworm "$at" || return 1
   for package in "$at"/var/cache/apt/archives/*.deb; do dpkg-deb -x "$package" "$at" || return 1; done
-  seconds=$patience megabytes=1024 starter "$(realpath "$at/usr/bin/python3")" "$work/python3" "$at" || return 1
+  seconds=$patience megabytes=2048 starter "$(realpath "$at/usr/bin/python3")" "$work/python3" "$at" || return 1
   pip=$(python3 -c 'import ensurepip, glob, os; print(glob.glob(os.path.join(os.path.dirname(ensurepip.__file__), "_bundled", "pip-*.whl"))[0])')
   export PYTHONHOME=$at/usr
-  "$work/python3" -B "$pip/pip" install -q --disable-pip-version-check --root-user-action=ignore --no-index --no-compile --target "$work/wheel" "$work"/dist/polytwkb-*_aarch64.whl &&
-    cd python/tests && ROUNDINGS=2000 CASES=500 PYTHONPATH=$work/wheel "$work/python3" -B "$repository/tests/arm64/package_tests.py"
+  timeout "$patience" "$work/python3" -B "$pip/pip" install -q --disable-pip-version-check --root-user-action=ignore \
+    --no-index --no-compile --target "$work/wheel" "$work"/dist/polytwkb-*_aarch64.whl &&
+    cd python/tests && export ROUNDINGS=2000 CASES=500 PYTHONPATH=$work/wheel &&
+    timeout "$patience" "$work/python3" -B "$repository/tests/arm64/package_tests.py"
 }
 
 of_packages() {

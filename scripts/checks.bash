@@ -1,6 +1,6 @@
-# What scripts that make checks share. Sourced by such a script as its first command: it works at the top of the repository, and
-# has a folder of its own, `work`. It may set `about`, a text before the name of each check. `passed_all`, at its end, is whether
-# no check failed, of those in the background too.
+# What scripts that make checks share. Sourced by such a script as its first command: it works at the top of the
+# repository, and has a folder of its own, `work`. It may set `about`, a text before the name of each check. `passed_all`,
+# at its end, is whether no check failed, of those in the background too.
 set -uo pipefail
 cd "$(dirname "${BASH_SOURCE[0]}")/.." || exit 1
 work=$(mktemp -d)

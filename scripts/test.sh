@@ -177,8 +177,8 @@ lane() {
   for name in "$@"; do part "$name"; done
 }
 
-# programs_for_arm64: makes the command, and then vectors, which the tests alone need, and whose proof is long. Who needs one
-# of them too waits for its lock, so that it is made once.
+# programs_for_arm64: makes the command, and then vectors, which the tests alone need, and whose proof is long. Who needs
+# one of them too waits for its lock, so that it is made once.
 programs_for_arm64() {
   mkdir -p out/arm64
   flock out/arm64/command.lock make -s out/arm64/static/polytwkb
