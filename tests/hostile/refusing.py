@@ -8,7 +8,7 @@ sys.path.insert(0, os.path.join(os.path.dirname(os.path.abspath(__file__)), "../
 from run_command import Command
 
 KINDS = ("growth", "read", "write", "errors", "zero", "short_read", "short_write", "short_errors")
-MOST_CALLS = 5000  # more than any run here makes of a kind
+MOST_CALLS = 100000
 
 
 class Refusing:
