@@ -1,21 +1,19 @@
 #!/usr/bin/env bash
 # Compares the words of each completion file, and of the manual page, with those that the built program's help names.
 # Status 1 if they differ. The syntax of the files for zsh and fish is checked if these shells are installed.
-set -uo pipefail
-cd "$(dirname "$0")/.." || exit 1
+# shellcheck source=scripts/checks.bash
+source "$(dirname "$0")/checks.bash"
 
 program=bin/polytwkb
-failed=0
 [ -x "$program" ] || { echo "completions: $program is not there" >&2; exit 1; }
 
 # compare NAME EXPECTED FOUND: compares two lists of words, in any order.
 compare() {
   local difference
   if difference=$(diff <(tr -s ' ' '\n' <<< "$2" | sort) <(tr -s ' ' '\n' <<< "$3" | sort)); then
-    echo "ok    $1: $(tr '\n' ' ' <<< "$2" | cut -c 1-60)"
+    passed "$1: $(tr '\n' ' ' <<< "$2" | cut -c 1-60)"
   else
-    failed=1
-    echo "FAIL  $1: $(grep '^[<>]' <<< "$difference" | sed 's/^</only help has/; s/^>/help has not/' | tr '\n' ' ')"
+    failed "$1: $(grep '^[<>]' <<< "$difference" | sed 's/^</only help has/; s/^>/help has not/' | tr '\n' ' ')"
   fi
 }
 
@@ -114,23 +112,15 @@ while IFS= read -r text; do
   grep -qxF -e "$text" -e "polytwkb: $text" <<< "$page" || missing="$missing '$text'"
 done <<< "$texts"
 if [ -n "$texts" ] && [ -z "$missing" ]; then
-  echo "ok    the page names every word and the $(sort -u <<< "$texts" | wc -l) texts of faults"
+  passed "the page names every word and the $(sort -u <<< "$texts" | wc -l) texts of faults"
 else
-  failed=1
-  echo "FAIL  the page lacks$missing"
+  failed "the page lacks$missing"
 fi
 
 # ---- the syntax
 
 for check in "bash -n completions/polytwkb.bash" "zsh -n completions/_polytwkb" "fish --no-execute completions/polytwkb.fish"; do
-  if ! command -v "${check%% *}" > /dev/null; then
-    echo "skip  ${check%% *} is not there"
-  elif $check; then
-    echo "ok    $check"
-  else
-    failed=1
-    echo "FAIL  $check"
-  fi
+  if is_there "${check%% *}"; then report "$check" $check; else skip "${check%% *} is not there"; fi
 done
 
-[ "$failed" -eq 0 ]
+passed_all

@@ -6,7 +6,6 @@ fuzz_library.py [--cases N] [--seed S] [--only CASE] LIBRARY
 
 Case K of seed S is always the same. Status 1 where a case differs.
 """
-import argparse
 import ctypes
 import os
 import random
@@ -20,6 +19,7 @@ import blob
 import table
 from arrays import arrays_of, bytes_of_points, bytes_of_rows, named_by, some_arrays
 from fuzz import some_stream, some_table
+from fuzzing import MOST_FOUND, report, words_of
 from geometry import NODES, POINTS, mapping_of, with_precision
 from trees import nested, some_tree
 
@@ -232,10 +232,7 @@ class Comparing:
 
 
 def main():
-    words = argparse.ArgumentParser(description=__doc__.split("\n")[0])
-    words.add_argument("--cases", type=int, default=20000)
-    words.add_argument("--seed", default=str(int(time.time())))
-    words.add_argument("--only", type=int, help="the number of one case")
+    words = words_of(__doc__, 20000)
     words.add_argument("library")
     given = words.parse_args()
     os.environ["POLYTWKB_LIBRARY"] = path = os.path.abspath(given.library)
@@ -247,14 +244,11 @@ def main():
         try:
             comparing.compare(given.seed, number)
         except AssertionError as fault:
+            print(f"case {number} differs: {fault}", flush=True)
             found += 1
-            if found <= 5:
-                print(f"case {number} differs: {fault}", flush=True)
-    for end, times in sorted(comparing.ends.items()):
-        print(f"{times:8} {end}")
-    seconds = time.monotonic() - start
-    print(f"{'FAIL' if found else 'ok  '}  fuzz of the library: {given.cases} cases in {seconds:.0f} s, {found} differ (seed {given.seed})")
-    return found > 0
+            if found == MOST_FOUND:
+                break
+    return report("fuzz of the library", given, start, found, comparing.ends)
 
 
 if __name__ == "__main__":
