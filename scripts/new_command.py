@@ -36,10 +36,10 @@ ENDS = [
         f"{COMMAND}/proofs/NamedLemmas.antt", r"\n(name_of_conversion \(Some p\) )(\(.*)none(.*) = absurd none",
         r"\n\1\2(inl is)\3 = (conversion.{Name}, sym is)\n\1\2(inr none)\3 = absurd none",
     ),
-    (ARGUMENTS, r"((?: × \(number ≢ \d+\)){{2,}}) }}", r"\1 × (number ≢ {number}) }}"),
-    (f"{C}/src/exports.rt", r"(conversion_out_of_range {{) \d+ <", r"\1 {number} <"),
+    (ARGUMENTS, r"((?: × \(number ≢ \d+\)){2,}) }", r"\1 × (number ≢ {number}) }}"),
+    (f"{C}/src/exports.rt", r"(conversion_out_of_range {) \d+ <", r"\1 {number} <"),
     ("python/polytwkb/_library.py", r'"show": \[CLimits\],', r'"show": [CLimits], "{name}": [CLimits],'),
-    ("js/polytwkb.js", r"export {{ (.*)(?= }} from './src/conversions.js')", r"export {{ \1, {name}"),
+    ("js/polytwkb.js", r"export { (.*)(?= } from './src/conversions.js')", r"export {{ \1, {name}"),
 ]
 
 
@@ -88,36 +88,49 @@ def imports(text, words):
     return re.sub(r"^((?:ghost )?use .*\.\{)(.*)\}", longer, text, flags=re.M)
 
 
-def copied(text, words):
-    """The text, with what it says of `show` said of the new command too."""
-    parts = []
-    for part in text.rstrip("\n").split("\n\n"):
-        lines = [line + "\n" for line in part.split("\n")]
-        code = [line for line in lines if not re.match(r"\s*(?:--|/|\*| \*|#\[|(?:pub |ghost )?use )", line)]
-        parts.append(part)
-        if not any(words.form.search(line) for line in code):
-            continue
-        if words.form.search(re.split(r" : |\(", code[0].strip().replace('"C"', ""))[0]) and not code[0].startswith("struct"):
-            parts.append(words.put(part))
-        else:
-            parts[-1] = clauses(lines, code, words)[:-1]
-    return "\n\n".join(parts) + "\n"
+def is_code(line):
+    """Whether the line is neither a comment, nor an attribute, nor an import."""
+    return not re.match(r"\s*(?:--|/|\*|#\[|(?:pub |ghost )?use )", line)
 
 
-def clauses(lines, code, words):
-    """The lines, with each clause of `show` said again."""
-    depth = lambda line: len(line) - len(line.lstrip())
+def is_named(line, words):
+    """Whether the line begins a definition or a function with a name of `show`."""
+    name = re.split(r" : |\(", line.strip().replace('"C"', ""))[0]
+    return not line.startswith("struct") and words.form.search(name)
+
+
+def is_clause(line, words):
+    """Whether the line begins a clause, an arm, a constant or a declaration of `show`."""
+    return is_code(line) and words.form.search(line) and re.search(r" => | = |^#define |^struct ", line)
+
+
+def clauses(lines, words):
+    """The lines, with each clause of `show` and the deeper lines after it said again."""
     made, at = [], 0
     while at < len(lines):
         end = at + 1
-        if lines[at] in code and words.form.search(lines[at]) and re.search(r" => | = |^#define |^struct ", lines[at]):
-            while end < len(lines) and depth(lines[end]) > depth(lines[at]):
+        if is_clause(lines[at], words):
+            deeper = re.match(" *", lines[at]).group() + " "
+            while end < len(lines) and lines[end].startswith(deeper):
                 end += 1
             made.append(words.clause(lines[at:end]))
         else:
             made.append(lines[at])
         at = end
     return "".join(made)
+
+
+def copied(text, words):
+    """The text, with what it says of `show` said of the new command too."""
+    parts = []
+    for part in text.rstrip("\n").split("\n\n"):
+        lines = [line + "\n" for line in part.split("\n")]
+        code = [line for line in lines if is_code(line)]
+        if code and is_named(code[0], words):
+            parts += [part, words.put(part)]
+        else:
+            parts.append(clauses(lines, words)[:-1])
+    return "\n\n".join(parts) + "\n"
 
 
 def changes(pairs):
@@ -132,7 +145,7 @@ def changes(pairs):
     for file, form, end in ENDS:
         text = texts.get(file) or text_of(file)
         end = end.format(name=name, Name=name.capitalize(), NAME=name.upper(), number=number)
-        texts[file], count = re.subn(form.replace("{{", "{").replace("}}", "}"), end, text)
+        texts[file], count = re.subn(form, end, text)
         found[f"{file}, {form}"] = count == 1
     return texts, found
 
