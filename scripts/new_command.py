@@ -36,6 +36,12 @@ ENDS = [
         f"{COMMAND}/proofs/NamedLemmas.antt", r"\n(name_of_conversion \(Some p\) )(\(.*)none(.*) = absurd none",
         r"\n\1\2(inl is)\3 = (conversion.{Name}, sym is)\n\1\2(inr none)\3 = absurd none",
     ),
+    (
+        f"{COMMAND}/proofs/NestLemmas.antt",
+        r"(\(\(option_keeps false, \(help_keeps false \(filled help_rule\) refl, tt\)\), \(refl, \(refl, tt\)\)\)), tt(\)+),\n  \),",
+        r"\1,\n    (\1, tt)\2,\n  ),",
+    ),
+    (f"{COMMAND}/proofs/RequestLemmas.antt", r"(\nlacking_line styles = \(.*)tt", r"\1(refl, tt)"),
     (ARGUMENTS, r"((?: × \(number ≢ \d+\)){2,}) }", r"\1 × (number ≢ {number}) }}"),
     (f"{C}/src/exports.rt", r"(conversion_out_of_range {) \d+ <", r"\1 {number} <"),
     ("python/polytwkb/_library.py", r'"show": \[CLimits\],', r'"show": [CLimits], "{name}": [CLimits],'),
