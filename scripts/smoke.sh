@@ -11,6 +11,9 @@ header=depth,kind,id,precision,polyline
 for tool in "$program" awk cmp od perl timeout; do
   is_there "$tool" || { echo "smoke: $tool is not there" >&2; exit 1; }
 done
+# the commands, and those of them that read a stream
+commands=$("$program" -h | sed -n '/^Commands:/,/^$/s/^  \([a-z]*\) .*/\1/p')
+readers=${commands/pack/}
 
 # result NAME [FAULT]: prints the line of a check, which passed if no fault is given.
 result() {
@@ -157,7 +160,7 @@ help_to_full_disk() { "$program" --help > /dev/full; }
 from_directory() { "$program" "$1" < .; }
 from_no_input() { "$program" "$1" <&-; }
 
-for command in pack unpack show; do
+for command in $commands; do
   small=$work/point.twkb
   large=$work/rows.twkb
   if [ "$command" = pack ]; then small=$work/point.csv large=$work/rows.csv; fi
@@ -181,7 +184,7 @@ no_blob="polytwkb: byte 0: unknown type"
 
 ends 1 "$no_table" "pack of a text without end" all_of_yes pack
 ends 1 "$no_table" "pack of a text without end, cut" front_of_yes pack
-for command in unpack show; do
+for command in $readers; do
   ends 1 "$no_blob" "$command of a text without end" all_of_yes "$command"
   ends 1 "$no_blob" "$command of a text without end, cut" front_of_yes "$command"
 done
@@ -221,7 +224,7 @@ prints "--help" --help
 prints "-h" -h
 prints "--version" --version
 prints "-V" -V
-for command in pack unpack show; do prints "$command --help" "$command" --help; done
+for command in $commands; do prints "$command --help" "$command" --help; done
 version_line() { [ "$("$program" --version)" = "polytwkb $(sed -n 's/^pub const VERSION: &str = "\(.*\)";$/\1/p' crates/twkb_convert/src/version.rt)" ]; }
 ends 0 "" "--version is the version of the source" version_line
 

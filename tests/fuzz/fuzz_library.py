@@ -13,9 +13,10 @@ import sys
 import time
 
 HERE = os.path.dirname(os.path.abspath(__file__))
-sys.path[:0] = [HERE, os.path.join(HERE, "../../python")]
+sys.path[:0] = [HERE, os.path.join(HERE, "../../python"), os.path.join(HERE, "../../scripts")]
 
 import blob
+import reasons
 import table
 from arrays import arrays_of, bytes_of_points, bytes_of_rows, named_by, some_arrays
 from fuzz import some_stream, some_table
@@ -24,21 +25,15 @@ from geometry import NODES, POINTS, mapping_of, with_precision
 from trees import nested, some_tree
 
 GUARD = 0xA7
-REASONS = {
-    "unknown kind": 4, "bad depth": 3, "kind not allowed there": 5, "nested too deep": 6, "too many rows in one geometry": 7, "bad id": 8,
-    "id not allowed": 9, "id on some children only": 10, "bad precision": 11, "precision missing": 12, "precision not allowed": 13,
-    "polyline not allowed": 14, "wrong number of points": 16, "coordinate out of range": 26, "too many points": 27, "points missing": 71,
-    "points left over": 72, "bad header": 1, "not five fields": 2,
-}
-TEXT_REASONS = {
-    "bad character": 21, "number cut short": 22, "number too long": 23, "padded number": 24, "latitude without longitude": 25,
-    "coordinate out of range": 26, "too many points": 27,
-}
-BLOB_REASONS = {
-    "truncated": 41, "unknown type": 42, "extra dimensions": 43, "bad varint": 44, "nested too deep": 45, "too many nodes": 46,
-    "too many points": 47, "coordinate out of range": 48, "size mismatch": 49,
-}
 
+
+def numbers_of(*kinds):
+    """The numbers of reasons, by their texts."""
+    return {row.text: row.number for row in reasons.table() if row.what in kinds}
+
+
+TEXT_REASONS, BLOB_REASONS = numbers_of("polyline"), numbers_of("blob")
+REASONS = {**TEXT_REASONS, **numbers_of("row", "array")}
 
 STYLES = ("full", "plain")
 
