@@ -32,10 +32,11 @@ pub(crate) fn two_points(
     ensures moved { IfSome result (λ pair. cursor.new ≡ pair.second) }
     ensures unmoved { IfNone result (cursor.new ≡ cursor.old) }
 {
-    if room < 2 {
+    // the first point of a text is mostly far
+    if room < 2 || start == 0 {
         return None;
     }
-    let four = four_characters(&text[start..])?;
+    let four = four_characters(text, start)?;
     let mut moved = *cursor;
     let first = moved.add_near(four.second, four.first)?;
     let second = moved.add_near(four.fourth, four.third)?;
