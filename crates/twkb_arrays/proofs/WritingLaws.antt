@@ -1,11 +1,10 @@
 -- Arrays are written in one way, and read back as they are.
-use Rattle.std.proofs.Common.{◌≡◌, ◌∙◌, ℕ, ◌≤◌, ◌⊎◌, inl, inr, List, [], ◌∷◌, ◌++◌, length, take, drop}
+use Rattle.std.proofs.Common.{◌≡◌, ◌∙◌, ℕ, ◌⊎◌, inl, inr, List, [], ◌∷◌, ◌++◌, length, take, drop}
 use Rattle.std.proofs.Common.{refl, sym, ap, subst, arith, append_assoc, length-append, Bool, true, false}
 use Rattle.std.specs.Prelude.{Result, Ok, Err, ◌≢◌}
 use Rattle.std.proofs.lemmas.List.{append-nil, length-map, take_at}
 use Rattle.std.proofs.lemmas.Grind.{flat_map-append}
 use Rattle.twkb_points.specs.Point.{Point}
-use Rattle.twkb_io.specs.declared.TheConstants.{MAX_BYTES}
 use Rattle.twkb_tree.specs.Tree.{Tree}
 use Rattle.twkb_tree.specs.Limits.{Allowance, IsAllowance}
 use Rattle.twkb_tree.specs.Rows.{Row, rows, rows_of, row_points}
@@ -18,6 +17,7 @@ use Rattle.twkb_blob.specs.declared.fault.BlobFault.{BlobFault}
 use Rattle.twkb_blob.specs.declared.fault.BlobFault.TheVariants as reading
 use Rattle.twkb_buffer.specs.declared.point.BufferPoint.{BufferPoint}
 use Rattle.twkb_buffer.specs.declared.report.BufferReport.{BufferReport}
+use Rattle.twkb_arrays.specs.ReadBack.{Arrays, BeginAs, IsRoundTrip}
 use Rattle.twkb_arrays.specs.Reading.{EndsReading, ReadsArrays, outcome_of}
 use Rattle.twkb_arrays.specs.Rooms.{StopsBefore, are_more}
 use Rattle.twkb_arrays.specs.Rows.{HasRoom, LacksRoom, array_points, array_rows, row_in_c}
@@ -145,48 +145,42 @@ all_taken in_rows in_points given [] room stops = refl
 all_taken in_rows in_points given (g ∷ later) room stops =
     absurd (room_for_first in_rows in_points given later g room stops)
 
-pub read_back : (l : Allowance) (style : Style) (in_rows : List BufferRow) (in_points : List BufferPoint)
-    (old new : List ℕ) (report : BufferReport) (old_rows new_rows : List BufferRow)
-    (old_points new_points : List BufferPoint) (counts : BufferCounts) → IsAllowance l
-    → WritesArrays l style in_rows in_points old new report → report.status ≡ 0
-    → ReadsArrays l (take report.sent new) old_rows old_points new_rows new_points counts
-    → length (take report.sent new) ≤ MAX_BYTES → length in_rows ≤ length old_rows
-    → length in_points ≤ length old_points
-    → (counts.status ≡ 4) ⊎ ((counts.status ≡ 0) × (new_rows ≡ in_rows ++ drop (length in_rows) old_rows)
-    × (new_points ≡ in_points ++ drop (length in_points) old_points))
-read_back l style in_rows in_points old new report old_rows new_rows old_points new_points counts cap wrote zero read
-    few row_room point_room =
-    let bytes = take report.sent new in
-    let w = all_wrote l style in_rows in_points old new report wrote zero in
+pub read_back : (l : Allowance) (given old new : Arrays) (counts : BufferCounts) → IsAllowance l
+    → IsRoundTrip l given old new counts → (counts.status ≡ 4) ⊎ ((counts.status ≡ 0) × BeginAs given old new)
+read_back l given old new counts cap trip =
+    let bytes = take trip.report.sent trip.after in
+    let w = all_wrote l trip.style given.rows given.points trip.before trip.after trip.report trip.wrote trip.done in
     let gs = w.gs in
     let stream : Stream l bytes gs = subst (λ (b : List ℕ). Stream l b gs) (sym w.bytes_are)
-    (written_stream l style gs cap w.are.valid) in
-    let row_count : length in_rows ≡ length (rows_of gs) = ap (λ (xs : List BufferRow). length xs) w.are.rows_are
+    (written_stream l trip.style gs cap w.are.valid) in
+    let row_count : length given.rows ≡ length (rows_of gs) = ap (λ (xs : List BufferRow). length xs) w.are.rows_are
     ∙ length-map (rows_of gs) row_in_c in
-    let point_count : length in_points ≡ length (row_points (rows_of gs)) =
+    let point_count : length given.points ≡ length (row_points (rows_of gs)) =
     ap (λ (xs : List BufferPoint). length xs) w.are.points_are ∙ length-coordinates_of (row_points (rows_of gs)) in
-    let room : HasRoom old_rows old_points gs =
-    (omega (arith, row_count, row_room), omega (arith, point_count, point_room)) in
-    elim (all_read l bytes old_rows new_rows old_points new_points counts gs read stream few) [
+    let room : HasRoom old.rows old.points gs =
+    (omega (arith, row_count, trip.room_for_rows), omega (arith, point_count, trip.room_for_points)) in
+    elim (all_read l bytes old.rows new.rows old.points new.points counts gs trip.read stream trip.few) [
       | inl memory ↦ inl memory
       | inr all ↦
-          let none : read.later ≡ [] = all_taken old_rows old_points read.given read.later
-          (subst (λ (hs : List Tree). HasRoom old_rows old_points hs) (sym all.0) room) read.stops in
-          let same : read.given ≡ gs = sym (append-nil read.given)
-          ∙ ap (λ (hs : List Tree). read.given ++ hs) (sym none) ∙ all.0 in
-          let status : counts.status ≡ (outcome_of false read.answer).0 = read.counted.status_is
-          ∙ ap (λ (hs : List Tree). (outcome_of (are_more hs) read.answer).0) none in
-          let rows_are : new_rows ≡ in_rows ++ drop (length in_rows) old_rows = read.filled.rows_are
-          ∙ ap (λ (hs : List Tree). array_rows hs ++ drop (length (rows_of hs)) old_rows) same
-          ∙ ap (λ (n : ℕ). array_rows gs ++ drop n old_rows) (sym row_count)
-          ∙ ap (λ (xs : List BufferRow). xs ++ drop (length in_rows) old_rows) (sym w.are.rows_are) in
-          let points_are : new_points ≡ in_points ++ drop (length in_points) old_points = read.filled.points_are
-          ∙ ap (λ (hs : List Tree). array_points hs ++ drop (length (row_points (rows_of hs))) old_points) same
-          ∙ ap (λ (n : ℕ). array_points gs ++ drop n old_points) (sym point_count)
-          ∙ ap (λ (xs : List BufferPoint). xs ++ drop (length in_points) old_points) (sym w.are.points_are) in
-          elim (by_status l bytes (read.given ++ read.later) read.answer counts.status status read.ended all.1) [
+          let none : trip.read.later ≡ [] = all_taken old.rows old.points trip.read.given trip.read.later
+          (subst (λ (hs : List Tree). HasRoom old.rows old.points hs) (sym all.0) room) trip.read.stops in
+          let same : trip.read.given ≡ gs = sym (append-nil trip.read.given)
+          ∙ ap (λ (hs : List Tree). trip.read.given ++ hs) (sym none) ∙ all.0 in
+          let status : counts.status ≡ (outcome_of false trip.read.answer).0 = trip.read.counted.status_is
+          ∙ ap (λ (hs : List Tree). (outcome_of (are_more hs) trip.read.answer).0) none in
+          let rows_are : new.rows ≡ given.rows ++ drop (length given.rows) old.rows = trip.read.filled.rows_are
+          ∙ ap (λ (hs : List Tree). array_rows hs ++ drop (length (rows_of hs)) old.rows) same
+          ∙ ap (λ (n : ℕ). array_rows gs ++ drop n old.rows) (sym row_count)
+          ∙ ap (λ (xs : List BufferRow). xs ++ drop (length given.rows) old.rows) (sym w.are.rows_are) in
+          let points_are : new.points ≡ given.points ++ drop (length given.points) old.points =
+          trip.read.filled.points_are
+          ∙ ap (λ (hs : List Tree). array_points hs ++ drop (length (row_points (rows_of hs))) old.points) same
+          ∙ ap (λ (n : ℕ). array_points gs ++ drop n old.points) (sym point_count)
+          ∙ ap (λ (xs : List BufferPoint). xs ++ drop (length given.points) old.points) (sym w.are.points_are) in
+          elim (by_status l bytes (trip.read.given ++ trip.read.later) trip.read.answer counts.status status
+          trip.read.ended all.1) [
             | inl memory ↦ inl memory
-            | inr done ↦ inr (done, rows_are, points_are)
+            | inr done ↦ inr (done, record { rows_are = rows_are; points_are = points_are })
           ]
     ]
 

@@ -2,6 +2,7 @@ pub mod Blobs
 pub mod Gathering
 pub mod Judging
 pub mod OwnPoints
+pub mod ReadBack
 pub mod Reading
 pub mod Rooms
 pub mod RowTests

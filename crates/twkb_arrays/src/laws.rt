@@ -1,6 +1,6 @@
 //! Laws of streams that are read into arrays and written from them, each stated as the contract of an
 //! empty function.
-ghost use Rattle.std.specs.Prelude.{◌≡◌, ◌≢◌, ◌≤◌, ◌⊎◌, ℕ, List, ◌++◌, length, take, drop};
+ghost use Rattle.std.specs.Prelude.{◌≡◌, ◌≢◌, ◌≤◌, ◌⊎◌, ℕ, List, ◌++◌, length, take};
 ghost use Rattle.twkb_io.specs.declared.TheConstants.{MAX_BYTES};
 ghost use Rattle.twkb_tree.specs.Tree.{Tree};
 ghost use Rattle.twkb_tree.specs.Limits.{Allowance, IsAllowance};
@@ -11,6 +11,7 @@ ghost use Rattle.twkb_buffer.specs.declared.point.BufferPoint.{BufferPoint as In
 ghost use Rattle.twkb_buffer.specs.declared.report.BufferReport.{BufferReport as InReport};
 ghost use Rattle.twkb_arrays.specs.declared.row.BufferRow.{BufferRow as InRow};
 ghost use Rattle.twkb_arrays.specs.declared.reading.BufferCounts.{BufferCounts as InCounts};
+ghost use Rattle.twkb_arrays.specs.ReadBack.{Arrays, BeginAs, IsRoundTrip};
 ghost use Rattle.twkb_arrays.specs.Reading.{ReadsArrays};
 ghost use Rattle.twkb_arrays.specs.SameRows.{AreSameRows};
 ghost use Rattle.twkb_arrays.specs.Writing.{AreArrays, WritesArrays};
@@ -47,16 +48,9 @@ pub fn one_writing()
 /// At most 2^62 bytes that a call with status 0 wrote are read back to the same arrays, if there is
 /// room for them, unless memory is refused.
 pub fn read_back()
-    ensures { (l : Allowance) (style : Style) (in_rows : List InRow) (in_points : List InPoint)
-        (old new : List ℕ) (report : InReport) (old_rows new_rows : List InRow)
-        (old_points new_points : List InPoint) (counts : InCounts) → IsAllowance l
-        → WritesArrays l style in_rows in_points old new report → report.status ≡ 0
-        → ReadsArrays l (take report.sent new) old_rows old_points new_rows new_points counts
-        → length (take report.sent new) ≤ MAX_BYTES → length in_rows ≤ length old_rows
-        → length in_points ≤ length old_points
-        → (counts.status ≡ 4) ⊎ ((counts.status ≡ 0)
-        × (new_rows ≡ in_rows ++ drop (length in_rows) old_rows)
-        × (new_points ≡ in_points ++ drop (length in_points) old_points)) }
+    ensures { (l : Allowance) (given old new : Arrays) (counts : InCounts) → IsAllowance l
+        → IsRoundTrip l given old new counts
+        → (counts.status ≡ 4) ⊎ ((counts.status ≡ 0) × BeginAs given old new) }
 {}
 
 /// If the arrays that a call with status 0 read from a stream are written, these are the blobs of
