@@ -111,7 +111,7 @@ first_alike l d p (Some f) (Some g) nodes points k id_field field text v e j = i
 near : (d n : ℕ) → d ≤ n → nat_le d n ≡ true
 near d n le = grind (arith, nat_tests)
 
-far : (d n : ℕ) → n < d → nat_le d n ≡ false
+pub far : (d n : ℕ) → n < d → nat_le d n ≡ false
 far d n lt = grind (arith, nat_tests)
 
 pub judged_there : (l : Allowance) (before : List Row) (rows : List OpenRow) (nodes points d : ℕ)
