@@ -9,49 +9,17 @@ use Rattle.std.specs.Prelude.{nat_eq, nat_lt}
 use Rattle.std.specs.Int.{bit_at, bit_not, trailing_zeros}
 use Rattle.std.proofs.lemmas.Bool.{cases_lt, eq-eqb, lt-ltb, le-ltb, ltb-true, eqb-true}
 use Rattle.std.proofs.lemmas.List.{drop-drop, drop-map, drop_all, get_or-drop, get_or-map, get_or-take}
-use Rattle.std.proofs.lemmas.List.{get_or_past, length-drop, length-map, length-take-le, map-append}
+use Rattle.std.proofs.lemmas.List.{get_or_past, length-drop, length-map, length-take-le}
 use Rattle.std.proofs.lemmas.List.{length-take, take-map, take-take, take_all, take_rest, drop-take}
 use Rattle.std.proofs.lemmas.Nat.{and_le_l, le_or_r, or_lt, shr-shr}
 use Rattle.std.proofs.lemmas.Nat.Bits.{bit_at-suc, bit_at_and, bit_at_or, bit_at_not}
 use Rattle.std.proofs.lemmas.Nat.Bits.{bit_at-pow_other, bit_at-trailing_zeros}
-use Rattle.std.proofs.lemmas.Simd.{bit_mask_l, chunk-fits, mask_l-lt}
+use Rattle.std.proofs.lemmas.Simd.{bit_mask_l, chunk-fits}
 use Rattle.twkb_num.specs.Block.{units_in, AreUnits, AreEnds, AreMarks, AreEndsBefore, IsFault}
 use Rattle.twkb_num.specs.declared.block.Marks.{Marks}
-use Rattle.twkb_num.proofs.FoundLemmas.{take_apart}
 use Rattle.twkb_num.proofs.LaneLemmas.{lanes_are, wrapped_sub}
 use Rattle.twkb_num.proofs.MarkLemmas.{mask_l-drop, mask_l-take}
-use Rattle.twkb_num.proofs.TableLemmas.{mask_l-append}
 use Rattle.twkb_num.proofs.TwoLemmas.{AreLanes}
-
--- ---- marks of more units
-
--- the marks of some units and of the units after them, joined
-pub marks_joined : (p : ℕ → Bool) (base n m : ℕ) (bytes : List ℕ) → n ≤ length bytes
-    → mask_l (map p (units_in base (take (n + m) bytes))) ≡ mask_l
-    (map p (units_in base (take n bytes))) + 2 ^ n * mask_l
-    (map p (units_in base (take m (drop n bytes))))
-marks_joined p base n m bytes long =
-    let unit = λ (b : ℕ). (b + (2 ^ 8 - base)) % 2 ^ 8 in
-    let front = units_in base (take n bytes) in
-    let next = units_in base (take m (drop n bytes)) in
-    let count : length (map p front) ≡ n = length-map front p ∙ length-map (take n bytes) unit
-    ∙ length-take-le n bytes long in
-    ap (λ bs. mask_l (map p (units_in base bs))) (take_apart n m (n + m) bytes refl)
-    ∙ ap (λ us. mask_l (map p us)) (map-append unit (take n bytes) (take m (drop n bytes)))
-    ∙ ap mask_l (map-append p front next)
-    ∙ mask_l-append (map p front) (map p next)
-    ∙ ap (λ k. mask_l (map p front) + 2 ^ k * mask_l (map p next)) count
-
--- there are at most as many bits as units
-pub marks_small : (p : ℕ → Bool) (base n : ℕ) (bytes : List ℕ) → n ≤ length bytes
-    → mask_l (map p (units_in base (take n bytes))) < 2 ^ n
-marks_small p base n bytes long =
-    let unit = λ (b : ℕ). (b + (2 ^ 8 - base)) % 2 ^ 8 in
-    let us = units_in base (take n bytes) in
-    let count : length (map p us) ≡ n = length-map us p ∙ length-map (take n bytes) unit
-    ∙ length-take-le n bytes long in
-    let power : 2 ^ length (map p us) ≡ 2 ^ n = ap (λ k. 2 ^ k) count in
-    omega (arith, mask_l-lt (map p us))
 
 -- ---- ends before a fault
 
