@@ -4,3 +4,4 @@ pub mod PointLemmas
 pub mod NearLemmas
 pub mod ExtentLemmas
 pub mod SpanLemmas
+pub mod TailLemmas

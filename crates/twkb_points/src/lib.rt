@@ -12,4 +12,4 @@ pub use bounds::{Bounds, merged};
 pub use cursor::Cursor;
 pub use differences::{to_differences, to_points};
 pub use point::{COORDINATE_BOUND, Pt};
-pub use tail::PointTail;
+pub use tail::{PointList, PointTail};

@@ -72,8 +72,9 @@ impl Pt {
         is_inner_coordinate(self.x) && is_inner_coordinate(self.y)
     }
 
-    // Makes the point at coordinates that are in range.
-    pub(crate) fn at(x: i64, y: i64) -> Pt
+    /// Makes the point at coordinates that are in range. Takes no memory.
+    #[inline(always)]
+    pub fn at(x: i64, y: i64) -> Pt
         requires x_in_range { IsCoordinate x }
         requires y_in_range { IsCoordinate y }
         ensures { result ≡ point_at x y }
