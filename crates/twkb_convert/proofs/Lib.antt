@@ -6,10 +6,10 @@ pub mod RowTexts
 pub mod LocatedLemmas
 pub mod ListingTexts
 pub mod BlobTexts
-pub mod BlobsSent
-pub mod ListingSent
+pub mod CauseLemmas
+pub mod ListingLemmas
+pub mod ListingEnds
 pub mod FlushedAfter
-pub mod ListingStops
 pub mod TableListed
 pub mod PackedLemmas
 pub mod OutputLemmas
