@@ -6,7 +6,7 @@ ghost use Rattle.twkb_points.specs.Near.{IsNear};
 ghost use Rattle.twkb_polyline.specs.Reading.{ArePointsAt, IsPairAt};
 
 use twkb_num::{BLOCK, four_characters, four_characters_by};
-use twkb_points::{Cursor, Pt};
+use twkb_points::{Cursor, Eight, Pt};
 
 // Two points, one after the other, and where the text goes on.
 #[derive(Clone, Copy)]
@@ -67,18 +67,6 @@ fn two_by(from: Pt, text: &[u8], ends: u64) -> Option<(Pt, Pt, usize)>
     let one = from.step(four.second, four.first);
     let two = one.step(four.fourth, four.third);
     Some((one, two, four.used))
-}
-
-// The first eight points of a text.
-#[derive(Clone, Copy)]
-pub(crate) struct Eight {
-    pub(crate) points: [Pt; 8],
-    // The last of the eight points.
-    pub(crate) last: Pt,
-    // The number of characters of the eight points.
-    pub(crate) used: usize,
-    // The ends of the numbers after the eight points.
-    pub(crate) ends: u64,
 }
 
 // Fast path: reads the eight points of the first sixteen numbers; four at a time, and only from an
