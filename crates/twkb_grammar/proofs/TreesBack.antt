@@ -205,7 +205,8 @@ module _ (tree : Tree) where
               rest = m.front;
               second = m.items;
               whole = refl;
-              first = subst (λ n. AreFields ((Count (Geometries (length fs)), n) ∷ id_fields c.ids) c.front) (sym m.many)
+              first = subst (λ n. AreFields ((Count (Geometries (length fs)), n) ∷ id_fields c.ids) c.front)
+                  (sym m.many)
                   (subst (λ l. AreFields ((Count (Geometries (length fs)), c.count) ∷ l) c.front)
                   (ap (λ q. steps q (id_places c.ids)) here
                   ∙ (ap (λ ps. steps origin ps) (sym (append-nil (id_places c.ids)))
