@@ -1,6 +1,7 @@
 pub mod Prelude
 pub mod WorkLemmas
 pub mod SendingLemmas
+pub mod PointSent
 pub mod RoundTrips
 pub mod RowTexts
 pub mod LocatedLemmas
