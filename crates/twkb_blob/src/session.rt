@@ -67,6 +67,7 @@ impl Session {
     pub fn feed(&mut self, piece: &[u8]) -> Result<(usize, Option<Geometry>), BlobFault>
         ensures fed { (bytes : List ℕ) (gs : List Tree) → Stands bytes gs self.old
             → FedSession bytes gs piece.now result self.new }
+        ensures so_far { IfOk result (λ fed. fed.1 ≡ None → session_rows self.new ≡ begun_rows self.new) }
         ensures spent { (result ≡ Err BlobFault.Spent) ↔ (is_spent self.old ≡ true) }
         ensures stays { is_spent self.new ≡ is_err result }
         ensures limits { session_limits self.new ≡ session_limits self.old }
@@ -88,6 +89,7 @@ impl Session {
             → session_limits self.old ≡ session_limits was
             → FedFlat bytes gs piece (Ok (used, true)) self.old
             → FedSession bytes gs piece result self.new }
+        ensures so_far { IfOk result (λ fed. fed.1 ≡ None → session_rows self.new ≡ begun_rows self.new) }
         ensures memory { IfErr result (λ fault. fault ≡ BlobFault.Memory) }
         ensures stays { is_spent self.new ≡ is_err result }
         ensures limits { session_limits self.new ≡ session_limits self.old }
@@ -132,6 +134,7 @@ impl Session {
     pub fn feed_flat(&mut self, piece: &[u8]) -> Result<(usize, bool), BlobFault>
         ensures fed { (bytes : List ℕ) (gs : List Tree) → Stands bytes gs self.old
             → FedFlat bytes gs piece.now result self.new }
+        ensures so_far { IfOk result (λ fed. fed.1 ≡ false → session_rows self.new ≡ begun_rows self.new) }
         ensures within { IfOk result (λ fed. fed.0 ≤ length piece.now) }
         ensures unread { failed_by_read result ≡ false }
         ensures spent { (result ≡ Err BlobFault.Spent) ↔ (is_spent self.old ≡ true) }
