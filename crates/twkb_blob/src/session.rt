@@ -67,6 +67,7 @@ impl Session {
     pub fn feed(&mut self, piece: &[u8]) -> Result<(usize, Option<Geometry>), BlobFault>
         ensures fed { (bytes : List ℕ) (gs : List Tree) → Stands bytes gs self.old
             → FedSession bytes gs piece.now result self.new }
+        ensures rows { IfOk result (λ fed. IfSome fed.1 (λ g. rows 0 g ≡ session_rows self.new)) }
         ensures so_far { IfOk result (λ fed. fed.1 ≡ None → session_rows self.new ≡ begun_rows self.new) }
         ensures spent { (result ≡ Err BlobFault.Spent) ↔ (is_spent self.old ≡ true) }
         ensures stays { is_spent self.new ≡ is_err result }
@@ -89,6 +90,7 @@ impl Session {
             → session_limits self.old ≡ session_limits was
             → FedFlat bytes gs piece (Ok (used, true)) self.old
             → FedSession bytes gs piece result self.new }
+        ensures rows { IfOk result (λ fed. IfSome fed.1 (λ g. rows 0 g ≡ session_rows self.new)) }
         ensures so_far { IfOk result (λ fed. fed.1 ≡ None → session_rows self.new ≡ begun_rows self.new) }
         ensures memory { IfErr result (λ fault. fault ≡ BlobFault.Memory) }
         ensures stays { is_spent self.new ≡ is_err result }
