@@ -17,7 +17,7 @@ impl<'a, R: Read> TableReader<'a, R> {
     /// its row was read when the geometry before it was returned.
     #[inline(always)]
     pub fn has_point(&self) -> bool
-        ensures { IsTrue result → HasPoint self.now }
+        ensures { IsTrue result ↔ HasPoint self.now }
     {
         if self.spent {
             return false;
