@@ -1,8 +1,7 @@
-# Completion of polytwkb for bash.
+# Completion of polytwkb for bash. Made by scripts/completions.py.
 
 _polytwkb() {
-  local word=$2 before=$3 command=
-  COMPREPLY=()
+  local word=$2 before=$3 command= words=
   [ "$COMP_CWORD" -gt 1 ] && command=${COMP_WORDS[1]}
 
   # bash cuts a word at an equals sign
@@ -14,14 +13,16 @@ _polytwkb() {
   fi
 
   case $command,$before in
-    pack,--max-nest | unpack,--max-nest | show,--max-nest)
-      COMPREPLY=($(compgen -W "$(echo {0..32})" -- "$word"))
-      ;;
-    pack,--style) COMPREPLY=($(compgen -W 'full plain' -- "$word")) ;;
-    pack,*) COMPREPLY=($(compgen -W '--max-nest --style --help -h' -- "$word")) ;;
-    unpack,* | show,*) COMPREPLY=($(compgen -W '--max-nest --help -h' -- "$word")) ;;
-    ,*) COMPREPLY=($(compgen -W 'pack unpack show --help -h --version -V' -- "$word")) ;;
+    pack,--max-nest) words="$(echo {0..32})" ;;
+    pack,--style) words="full plain" ;;
+    pack,*) words='--max-nest --style --help -h' ;;
+    unpack,--max-nest) words="$(echo {0..32})" ;;
+    unpack,*) words='--max-nest --help -h' ;;
+    show,--max-nest) words="$(echo {0..32})" ;;
+    show,*) words='--max-nest --help -h' ;;
+    ,*) words='pack unpack show --help -h --version -V' ;;
   esac
+  COMPREPLY=($(compgen -W "$words" -- "$word"))
 }
 
 complete -F _polytwkb polytwkb

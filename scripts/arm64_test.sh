@@ -6,24 +6,36 @@
 #
 # The program vectors is proved and built for this processor beside the other checks, which takes as long as they all do.
 # CASES is the number of cases of tests/fuzz. A program under qemu gets any limit of memory granted and keeps none,
-# so tests/hostile/sizes.py and the package's test of little memory are not run.
-set -uo pipefail
-cd "$(dirname "$0")/.." || exit 1
+# so tests/hostile/sizes.py and the package's test of little memory are not run. A wrong program may do anything: each
+# run under qemu has the limits below, and each check that makes many runs `patience` seconds; fuzz one more for each
+# case.
+# shellcheck source=scripts/checks.bash
+source "$(dirname "$0")/checks.bash"
+about="arm64: "
 repository=$PWD
 built=$repository/out/arm64
 cross=aarch64-linux-gnu
 root=/usr/$cross
 export LC_ALL=C
 unset MAKEFLAGS MAKELEVEL
-work=$(mktemp -d)
-trap 'rm -rf "$work"' EXIT
-about="arm64: "
-# shellcheck source=scripts/checks.bash
-source scripts/checks.bash
-arm() { qemu-aarch64-static -L "$root" "$@"; }
+patience=900
+# of one run: seconds of a processor, megabytes of addresses, megabytes in a file that it writes
+seconds=20 megabytes=512 written=64
+
+# under_qemu ROOT WORD..: runs a program of ARM, which finds the C library in that root.
+under_qemu() {
+  (ulimit -c 0 -t "$seconds" -v $((megabytes << 10)) -f $((written << 10)) && exec qemu-aarch64-static -L "$@")
+}
+arm() { under_qemu "$root" "$@"; }
 
 # starter PROGRAM FILE [ROOT]: makes a file that this machine can start, and that runs a program of ARM.
-starter() { cc -static -O1 -DROOT="\"${3:-$root}\"" -DPROGRAM="\"$1\"" -o "$2" tests/arm64/under_qemu.c; }
+starter() {
+  local limits=(-DSECONDS="$seconds" -DMEGABYTES="$megabytes" -DWRITTEN="$written")
+  cc -static -O1 "${limits[@]}" -DROOT="\"${3:-$root}\"" -DPROGRAM="\"$1\"" -o "$2" tests/arm64/under_qemu.c
+}
+
+# compile NAME WORD..: compiles a program of ARM.
+compile() { $cross-gcc -std=c11 -O1 -Wall -Wextra -Werror -Iinclude -o "$work/$1" "${@:2}"; }
 
 # ---- the program
 
@@ -36,7 +48,8 @@ cp -a "$built"/libpolytwkb.* "$tree/out/"
 starter "$built/polytwkb" "$tree/bin/polytwkb" || exit 1
 $cross-gcc -O1 -shared -fPIC -o "$tree/bin/refuse.so" tests/hostile/refuse.c || exit 1
 
-vectors() { make -s out/arm64/vectors && arm "$built/vectors" < crates/vectors/stdin | cmp - crates/vectors/stdout; }
+# scripts/test.sh may be making the program already
+vectors() { flock "$built/vectors.lock" make -s out/arm64/vectors && arm "$built/vectors" < crates/vectors/stdin | cmp - crates/vectors/stdout; }
 same() { cmp <(bin/polytwkb "$@" < "$work/input" 2>&1) <("$tree/bin/polytwkb" "$@" < "$work/input" 2>&1); }
 as_here() {
   cp examples/collection.csv "$work/input"
@@ -44,12 +57,17 @@ as_here() {
   bin/polytwkb pack < examples/collection.csv > "$work/input"
   same show && same unpack
 }
-smoke() { (cd "$tree" && MEGABYTES=2 scripts/smoke.sh); }
+smoke() { (cd "$tree" && MEGABYTES=2 timeout "$patience" scripts/smoke.sh); }
 fuzz() {
-  (cd "$tree" && python3 -B tests/fuzz/fuzz.py --cases "${CASES:-5000}" --seed "${SEED:-$(date -u +%Y%m%d)}" --processes 2 --program bin/polytwkb --library bin/refuse.so)
+  local cases=${CASES:-5000} seed=${SEED:-$(date -u +%Y%m%d)}
+  (cd "$tree" && timeout $((patience + cases)) python3 -B tests/fuzz/fuzz.py --cases "$cases" --seed "$seed" \
+    --processes 2 --program bin/polytwkb --library bin/refuse.so)
 }
 # Fewer rows than on x86-64, where the same code is made by the same compiler: they reach each place that calls the functions of C.
-each_failing() { (cd "$tree" && python3 -B tests/hostile/each_failing.py bin/polytwkb bin/refuse.so few); }
+each_failing() { (cd "$tree" && timeout "$patience" python3 -B tests/hostile/each_failing.py bin/polytwkb bin/refuse.so few); }
+
+# The functions of C, one by one: the program seldom asks what an alignment is.
+shims() { compile shims tests/arm64/shims.c "$built/shims.a" && arm "$work/shims" one two; }
 
 # Segments lie at multiples of 64 kB or more, so that machines with pages of that size can load them.
 pages() {
@@ -64,6 +82,7 @@ pages() {
 }
 
 of_program() {
+  report "each of the functions of C" shims
   report "the example and the texts of help, as here" as_here
   report "segments fit pages of 64 kB" pages
   report "each call of the program failing" each_failing
@@ -71,7 +90,6 @@ of_program() {
 
 # ---- the library
 
-compile() { $cross-gcc -std=c11 -O1 -Wall -Wextra -Werror -Iinclude -o "$work/$1" "${@:2}"; }
 in_c() {
   compile static examples/c/convert.c "$built/libpolytwkb.a" && arm "$work/static" &&
     compile shared examples/c/convert.c -L"$built" -lpolytwkb -Wl,-rpath,"$built" && arm "$work/shared"
@@ -98,20 +116,19 @@ through() { "$@" pack < examples/collection.csv | "$@" unpack | cmp - examples/c
 c_root() {
   mkdir -p "$1/lib" "$1/tmp" && cp -L "$root"/lib/{ld-linux-aarch64.so.1,libc.so.6} "$1/lib/"
 }
-in_root() { local at=$1; shift; qemu-aarch64-static -L "$at" "$@"; }
 by_dpkg() {
   local at=$work/package
   c_root "$at" && mkdir -p "$at"/var/lib/dpkg/{info,updates} && touch "$at/var/lib/dpkg/status" &&
     dpkg --root="$at" --log=/dev/null --path-include='*' --force-architecture --force-depends --force-not-root --install "$work"/dist/polytwkb_*_arm64.deb &&
-    through in_root "$at" "$at/usr/bin/polytwkb" &&
+    through under_qemu "$at" "$at/usr/bin/polytwkb" &&
     $cross-gcc -std=c11 -o "$at/tmp/shared" examples/c/convert.c -I"$at/usr/include" -L"$at/usr/lib/$cross" -lpolytwkb &&
-    in_root "$at" -E LD_LIBRARY_PATH="$at/usr/lib/$cross" "$at/tmp/shared"
+    under_qemu "$at" -E LD_LIBRARY_PATH="$at/usr/lib/$cross" "$at/tmp/shared"
 }
 by_archive() {
   local at=$work/archive words
   mkdir -p "$at" && tar -xzf "$work"/dist/polytwkb-*-aarch64-linux.tar.gz -C "$at" --strip-components=1 || return 1
   # nothing but the command: no C library
-  through in_root /nonexistent "$at/bin/polytwkb" || return 1
+  through under_qemu /nonexistent "$at/bin/polytwkb" || return 1
   read -ra words <<< "$(PKG_CONFIG_PATH="$at/lib/pkgconfig" pkg-config --cflags --libs polytwkb)"
   $cross-gcc -std=c11 -o "$work/archived" examples/c/convert.c "${words[@]}" && arm -E LD_LIBRARY_PATH="$at/lib" "$work/archived"
 }
@@ -121,11 +138,13 @@ by_pip() {
   local at=$1 pip package
   debootstrap --foreign --arch=arm64 --variant=minbase --include=python3 bookworm "$at" || return 1
   for package in "$at"/var/cache/apt/archives/*.deb; do dpkg-deb -x "$package" "$at" || return 1; done
-  starter "$(realpath "$at/usr/bin/python3")" "$work/python3" "$at" || return 1
+  seconds=$patience megabytes=2048 starter "$(realpath "$at/usr/bin/python3")" "$work/python3" "$at" || return 1
   pip=$(python3 -c 'import ensurepip, glob, os; print(glob.glob(os.path.join(os.path.dirname(ensurepip.__file__), "_bundled", "pip-*.whl"))[0])')
   export PYTHONHOME=$at/usr
-  "$work/python3" -B "$pip/pip" install -q --disable-pip-version-check --root-user-action=ignore --no-index --no-compile --target "$work/wheel" "$work"/dist/polytwkb-*_aarch64.whl &&
-    cd python/tests && ROUNDINGS=2000 CASES=500 PYTHONPATH=$work/wheel "$work/python3" -B "$repository/tests/arm64/package_tests.py"
+  timeout "$patience" "$work/python3" -B "$pip/pip" install -q --disable-pip-version-check --root-user-action=ignore \
+    --no-index --no-compile --target "$work/wheel" "$work"/dist/polytwkb-*_aarch64.whl &&
+    cd python/tests && export ROUNDINGS=2000 CASES=500 PYTHONPATH=$work/wheel &&
+    timeout "$patience" "$work/python3" -B "$repository/tests/arm64/package_tests.py"
 }
 
 of_packages() {

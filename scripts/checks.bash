@@ -1,5 +1,11 @@
-# Lines of checks, sourced by scripts that make many. Such a script sets `work`, a folder of its own, and `about`, a text
-# before each name, which may be empty. `passed_all` tells at its end whether no check failed, of those in the background too.
+# What scripts that make checks share. Sourced by such a script as its first command: it works at the top of the
+# repository, and has a folder of its own, `work`. It may set `about`, a text before the name of each check. `passed_all`,
+# at its end, is whether no check failed, of those in the background too.
+set -uo pipefail
+cd "$(dirname "${BASH_SOURCE[0]}")/.." || exit 1
+work=$(mktemp -d)
+trap 'rm -rf "$work"' EXIT
+about=
 
 # report NAME COMMAND..: prints the line of a check, with the end of the command's output if it fails.
 report() {
@@ -7,11 +13,15 @@ report() {
   shift
   said=$(mktemp "$work/said.XXXXXX")
   if "$@" > "$said" 2>&1; then
-    echo "ok    $about$name"
+    passed "$name"
   else
-    touch "$work/failed"
-    echo "FAIL  $about$name: $(tail -c 700 "$said" | tr '\n' '/')"
+    failed "$name: $(tail -c 700 "$said" | tr '\n' '/')"
   fi
+}
+passed() { echo "ok    $about$1"; }
+failed() {
+  touch "$work/failed"
+  echo "FAIL  $about$1"
 }
 skip() { echo "skip  $about$1"; }
 is_there() { command -v "$1" > /dev/null; }

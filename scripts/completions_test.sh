@@ -1,21 +1,25 @@
 #!/usr/bin/env bash
-# Compares the words of each completion file, and of the manual page, with those that the built program's help names.
-# Status 1 if they differ. The syntax of the files for zsh and fish is checked if these shells are installed.
-set -uo pipefail
-cd "$(dirname "$0")/.." || exit 1
+# Compares the completions with what scripts/completions.py makes of the built program's help, the words that bash offers
+# and the manual page with those that help names, and checks the syntax of the files for shells that are installed.
+# Status 1 if anything differs.
+# shellcheck source=scripts/checks.bash
+source "$(dirname "$0")/checks.bash"
 
 program=bin/polytwkb
-failed=0
 [ -x "$program" ] || { echo "completions: $program is not there" >&2; exit 1; }
+if command -v python3 > /dev/null; then
+  scripts/completions.py || touch "$work/failed"
+else
+  skip "what is made of help: python3 is not there"
+fi
 
 # compare NAME EXPECTED FOUND: compares two lists of words, in any order.
 compare() {
   local difference
   if difference=$(diff <(tr -s ' ' '\n' <<< "$2" | sort) <(tr -s ' ' '\n' <<< "$3" | sort)); then
-    echo "ok    $1: $(tr '\n' ' ' <<< "$2" | cut -c 1-60)"
+    passed "$1: $(tr '\n' ' ' <<< "$2" | cut -c 1-60)"
   else
-    failed=1
-    echo "FAIL  $1: $(grep '^[<>]' <<< "$difference" | sed 's/^</only help has/; s/^>/help has not/' | tr '\n' ' ')"
+    failed "$1: $(grep '^[<>]' <<< "$difference" | sed 's/^</only help has/; s/^>/help has not/' | tr '\n' ' ')"
   fi
 }
 
@@ -44,66 +48,22 @@ offered_by_bash() { # WORD..: the words that may follow these
 }
 commands_of_bash() { offered_by_bash | grep -v '^-'; }
 options_of_bash() { offered_by_bash "$@" | grep '^-'; }
-values_of_bash() { offered_by_bash "$@"; }
-
-# ---- the words that the file for zsh names
-
-zsh_part() { # [COMMAND]: the arguments of the command, or of the program
-  if [ $# -eq 0 ]; then
-    sed -n '/^_arguments/,/^$/p' completions/_polytwkb
-  else
-    sed -n "/^      $1)/,/;;/p" completions/_polytwkb
-  fi
-}
-commands_of_zsh() { sed -n "/^commands=(/,/^)/s/^  '\([a-z]*\):.*/\1/p" completions/_polytwkb; }
-options_of_zsh() { zsh_part "$@" | grep -oE "[{,'\"]--?[A-Za-z][A-Za-z-]*" | cut -c 2-; }
-values_of_zsh() { # COMMAND OPTION
-  local values
-  values=$(zsh_part "$1" | sed -n "s/.*['\"]$2=.*:(\(.*\)).*/\1/p")
-  if [ "$values" = '$numbers' ]; then
-    seq $(sed -n 's/^numbers=({\([0-9]*\)\.\.\([0-9]*\)})$/\1 \2/p' completions/_polytwkb)
-  else
-    tr ' ' '\n' <<< "$values"
-  fi
-}
-
-# ---- the words that the file for fish names
-
-fish_part() { # [COMMAND]
-  if [ $# -eq 0 ]; then
-    grep ' -n __fish_use_subcommand ' completions/polytwkb.fish
-  else
-    grep " -n '__fish_seen_subcommand_from $1' " completions/polytwkb.fish
-  fi
-}
-commands_of_fish() { fish_part | sed -n 's/.* -a \([a-z]*\) .*/\1/p'; }
-options_of_fish() { fish_part "$@" | grep -oE ' -[sl] [A-Za-z-]+' | sed 's/ -s /-/; s/ -l /--/'; }
-values_of_fish() { # COMMAND OPTION
-  local values
-  values=$(fish_part "$1" | sed -n "s/.* -l ${2#--} -x -a '\([^']*\)'.*/\1/p")
-  case $values in
-    '(seq '*) seq $(tr -d '()' <<< "${values#(seq }") ;;
-    *) tr ' ' '\n' <<< "$values" ;;
-  esac
-}
 
 # ---- the comparison
 
-for shell in bash zsh fish; do
-  compare "$shell, commands" "$(commands_of_help)" "$(commands_of_$shell)"
-  compare "$shell, options" "$(options_of_help)" "$(options_of_$shell)"
-  for command in $(commands_of_help); do
-    compare "$shell, options of $command" "$(options_of_help "$command")" "$(options_of_$shell "$command")"
-    for option in $(options_with_values "$command"); do
-      compare "$shell, $command $option" "$(values_of_help "$command" "$option")" "$(values_of_$shell "$command" "$option")"
-    done
+compare "bash, commands" "$(commands_of_help)" "$(commands_of_bash)"
+compare "bash, options" "$(options_of_help)" "$(options_of_bash)"
+for command in $(commands_of_help); do
+  compare "bash, options of $command" "$(options_of_help "$command")" "$(options_of_bash "$command")"
+  for option in $(options_with_values "$command"); do
+    compare "bash, $command $option" "$(values_of_help "$command" "$option")" "$(offered_by_bash "$command" "$option")"
   done
 done
 
-# ---- the page: each word of the command line, and each text of a fault
+# ---- the page: each word of the command line, and each text of a run's end; scripts/reasons.py makes those of reasons
 
 page=$(sed 's/\\-/-/g; s/^\.[A-Z]* *//; s/[" ]*$//' man/polytwkb.1)
-texts=$(cd crates && sed -n 's/.*=> "\([a-z][^"]*[a-z0-9]\)",$/\1/p' twkb_polyline/src/fault.rt twkb_table/src/reason.rt twkb_engine/src/blob_reason.rt twkb_convert/src/report.rt)
+texts=$(sed -n 's/.*=> "\([a-z][^"]*[a-z0-9]\)",$/\1/p' crates/twkb_convert/src/report.rt)
 words=$({ commands_of_help; options_of_help; for command in $(commands_of_help); do options_of_help "$command"; done; } | sort -u)
 compare "the page, long options" "$(grep -e '^--' <<< "$words")" "$(grep -oE -e '--[a-z][a-z-]*' <<< "$page" | sort -u)"
 missing=
@@ -114,23 +74,15 @@ while IFS= read -r text; do
   grep -qxF -e "$text" -e "polytwkb: $text" <<< "$page" || missing="$missing '$text'"
 done <<< "$texts"
 if [ -n "$texts" ] && [ -z "$missing" ]; then
-  echo "ok    the page names every word and the $(sort -u <<< "$texts" | wc -l) texts of faults"
+  passed "the page names every word and the $(sort -u <<< "$texts" | wc -l) texts of a run's end"
 else
-  failed=1
-  echo "FAIL  the page lacks$missing"
+  failed "the page lacks$missing"
 fi
 
 # ---- the syntax
 
 for check in "bash -n completions/polytwkb.bash" "zsh -n completions/_polytwkb" "fish --no-execute completions/polytwkb.fish"; do
-  if ! command -v "${check%% *}" > /dev/null; then
-    echo "skip  ${check%% *} is not there"
-  elif $check; then
-    echo "ok    $check"
-  else
-    failed=1
-    echo "FAIL  $check"
-  fi
+  if is_there "${check%% *}"; then report "$check" $check; else skip "${check%% *} is not there"; fi
 done
 
-[ "$failed" -eq 0 ]
+passed_all

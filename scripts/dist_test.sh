@@ -2,8 +2,8 @@
 # Installs the files of dist/ into empty roots, and packs, shows and unpacks there by program and by library: one
 # line for each check, status 1 if one failed. As root it also has apt-get install and remove the package on this
 # machine, unless a polytwkb is installed or SYSTEM=no.
-set -uo pipefail
-cd "$(dirname "$0")/.." || exit 1
+# shellcheck source=scripts/checks.bash
+source "$(dirname "$0")/checks.bash"
 # dpkg and chroot need programs that are not on the path of other users in Debian
 PATH=$PATH:/usr/local/sbin:/usr/sbin:/sbin
 umask 022
@@ -13,12 +13,8 @@ machine=x86_64 debian=amd64
 archive=$(echo dist/polytwkb-*-"$machine"-linux.tar.gz)
 package=$(echo dist/polytwkb_*_"$debian".deb)
 wheel=$(echo dist/polytwkb-*"$machine".whl)
-work=$(mktemp -d)
 installed=
 trap '[ -z "$installed" ] || dpkg --purge polytwkb > /dev/null 2>&1; rm -rf "$work"' EXIT
-about=
-# shellcheck source=scripts/checks.bash
-source scripts/checks.bash
 
 # ---- roots with the C library and nothing else
 

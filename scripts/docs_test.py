@@ -1,8 +1,8 @@
 #!/usr/bin/env python3
 """Runs the commands that documents show, and compares their output with the output shown. Compares the callers
 in the READMEs of crates with the files of the crate `examples`, which the gate proves. Then checks the links of
-pages and what README.md says to type (scripts/pages.py), the tables of promises (scripts/promises.py), and numbers,
-names and texts of reasons (scripts/reasons.py).
+pages and what README.md says to type (scripts/pages.py), the tables of promises (scripts/promises.py), numbers,
+names and texts of reasons (scripts/reasons.py), and what is said of each command (scripts/new_command.py).
 
     scripts/docs_test.py [FILE ..]
     scripts/docs_test.py --pages      all but the commands, for which a program is needed
@@ -38,6 +38,7 @@ import subprocess
 import sys
 import tempfile
 
+import new_command
 import pages
 import promises
 import reasons
@@ -269,7 +270,7 @@ def wrong_files():
 
 def page_faults():
     """How many faults pages have that can be found without a program, each reported on standard output."""
-    return caller_differences() + lines_not_run() + pages.main([]) + promises.main([]) + reasons.main()
+    return caller_differences() + lines_not_run() + pages.main([]) + promises.main([]) + reasons.main() + new_command.main()
 
 
 def main():

@@ -7,17 +7,19 @@ Without --write each place that differs is reported: one that lacks a reason, ha
 name or text.
 """
 import argparse
+import difflib
 import os
 import re
 import sys
 import textwrap
+from typing import NamedTuple
 
 REPO = os.path.abspath(os.path.join(os.path.dirname(__file__), ".."))
 # the type of each kind of reason in the code, the name that definitions use for it, and the function of its number
 TYPES = {"row": "RowReason", "polyline": "PolyReason", "blob": "BlobReason"}
 NAMES = {"row": "row", "polyline": "text", "blob": "blob"}
 NUMBERS = {"row": "row_number_of", "polyline": "point_text_number_of", "blob": "blob_number_of"}
-# where the texts of a kind stand: in the code, in a definition, and in a proof that they are short
+# where a kind stands in the code, its texts in a definition, and a proof that they are short
 TEXTS = {
     "row": ("twkb_table/src/reason.rt", "twkb_table/specs/Texts.antt", "row_words", "twkb_table/proofs/ShortTexts.antt", "short_row"),
     "polyline": (
@@ -27,7 +29,52 @@ TEXTS = {
 }
 # the section of the manual that explains them
 SECTIONS = {"row": "Reasons of a record", "polyline": "Reasons of a polyline", "blob": "Reasons of a blob"}
+# a line of docs/FORMATS.md: its form, what it is made of, and that of the reason that is another table's
+FORMATS = {
+    "row": (
+        r"\| \d+ \| `\w+(?:\(O, P\))?` \| .* \| .* \|", "| {number} | `{code}` | {text} | {formats} |",
+        "| {number} | `{code}(O, P)` | polyline at O: P | {formats} |",
+    ),
+    "polyline": (r"\| .* \| \w+, `[a-z ]+` \| .* \|", "| {where} | {code}, `{text}` | {place} |", None),
+    "blob": (r"\| \w+ \| `[a-z ]+` \| .* \| .* \|", "| {code} | `{text}` | {formats} |", None),
+}
 BUFFER = "crates/twkb_buffer"
+ARRAYS = "crates/twkb_arrays"
+# the names that rules of rows and the code for arrays have for a reason, where these are others
+OTHERS = {
+    "PointsNotAllowed": "PolylineNotAllowed", "CoordinateRange": "Range", "TooManyPoints": "TooMany",
+    "USAGE": "ARGUMENTS", "TOO_MANY_NODES": "TOO_MANY_ROWS", "POINTS_NOT_ALLOWED": "POLYLINE_NOT_ALLOWED",
+    "COORDINATE_RANGE": "POLYLINE_RANGE", "TOO_MANY_POINTS": "POLYLINE_TOO_MANY",
+}
+
+
+class Row(NamedTuple):
+    """A line of the table, and what the lines below it say: in the code, in docs/FORMATS.md and in the manual."""
+
+    what: str
+    number: int
+    code: str
+    name: str
+    text: str
+    said: dict
+
+    def put(self, line):
+        """The line with these words in it."""
+        where, _, place = self.said.get("formats", "").partition(" | ")
+        return line.format(**self._asdict(), **self.said, where=where, place=place)
+
+
+class Place(NamedTuple):
+    """A place that is made: a file, the form of a line there, the lines, and the heading above the first of them."""
+
+    file: str
+    form: str
+    lines: list
+    heading: str = ""
+
+    def found(self, text):
+        """The first run of lines of this form."""
+        return re.compile(rf"(?:^{self.form}\n)+", re.M).search(text, text.index(self.heading) + len(self.heading))
 
 
 def text_of(file):
@@ -36,18 +83,25 @@ def text_of(file):
 
 
 def table():
-    """The lines of the table: what, number, name in the code, name in C, text."""
-    lines = [line for line in text_of("scripts/reasons.txt").split("\n") if line and not line.startswith("#")]
-    return [(what, int(number), code, name, text) for what, number, code, name, text in (line.split(None, 4) for line in lines)]
+    """The rows of the table."""
+    rows = []
+    for line in re.sub(r"\n {6,}", " ", text_of("scripts/reasons.txt")).split("\n"):
+        if line.startswith("  "):
+            key, said = line.split(None, 1)
+            rows[-1].said[key] = said
+        elif line and not line.startswith("#"):
+            what, number, code, name, text = line.split(None, 4)
+            rows.append(Row(what, int(number), code, name, text, {}))
+    return rows
 
 
 def of_kind(rows, kind):
-    return [row for row in rows if row[0] == kind]
+    return [row for row in rows if row.what == kind]
 
 
 def own(rows):
     """The reasons that are none of another table."""
-    return [row for row in rows if row[3] != "-"]
+    return [row for row in rows if row.name != "-"]
 
 
 def split(rows, kind):
@@ -56,42 +110,60 @@ def split(rows, kind):
     rows = of_kind(rows, kind)
     if kind != "row":
         return [("", rows)]
-    return [("row", [row for row in rows if row[1] < 8]), ("value", [row for row in rows if row[1] > 7])]
+    return [("row", [row for row in rows if row.number < 8]), ("value", [row for row in rows if row.number > 7])]
 
 
 def each(rows, line, other=None):
     """A line for each reason, and another for the one that is the polyline's own."""
-    return [other if row[3] == "-" else line.format(*row) for row in rows if row[3] != "-" or other]
+    return [row.put(other if row.name == "-" else line) for row in rows if row.name != "-" or other]
+
+
+def clauses(rows, kind, file, function, line, other):
+    """A definition over the reasons of a kind: its clauses, by what follows the reason in each."""
+    name = NAMES[kind]
+    for part, some in split(rows, kind):
+        called = f"{part}_{function[0]}" if part else function[1]
+        form = rf"{called} (?:{name}\.\w+|\({name}\.Polyline .*\)) = .*"
+        yield Place(file, form, each(some, f"{called} {name}.{{code}} = {line}", f"{called} (row.Polyline {other}"))
+
+
+def variants(rows, kind):
+    """The variants of a kind, below what they say."""
+    lines = []
+    for row in of_kind(rows, kind):
+        lines += textwrap.wrap(row.said["doc"], 100, initial_indent="    /// ", subsequent_indent="    /// ")
+        lines += each([row], "    {code},", '    #[error("polyline at {{0}}: {{1}}")]\n    {code}(usize, PolyReason),')
+    return lines
 
 
 def text_places(rows):
-    """Where the texts are: a file, the form of a line, and the lines."""
+    """Where the variants and the texts are."""
     for kind, (code, definition, words, proof, lemma) in TEXTS.items():
         name, reasons = NAMES[kind], of_kind(rows, kind)
-        yield (
+        yield Place(f"crates/{code}", r"(?:    ///.*\n)+(?:    #\[error.*\n)?    \w+(?:\(.*\))?,", variants(rows, kind), f"enum {TYPES[kind]} {{")
+        yield Place(
             f"crates/{code}",
             rf' +{TYPES[kind]}::\w+(?:\(_, why\))? => (?:".*"|why\.text\(\)),',
-            each(reasons, f'            {TYPES[kind]}::{{2}} => "{{4}}",', "            RowReason::Polyline(_, why) => why.text(),"),
+            each(reasons, f'            {TYPES[kind]}::{{code}} => "{{text}}",', "            RowReason::Polyline(_, why) => why.text(),"),
         )
-        for part, some in split(rows, kind):
-            called = f"{part}_words" if part else words
-            yield (
-                f"crates/{definition}",
-                rf"{called} (?:{name}\.\w+|\({name}\.Polyline .*\)) = .*",
-                each(some, f'{called} {name}.{{2}} = codes "{{4}}"', f"{called} (row.Polyline offset reason) = point_text_words reason"),
-            )
+        yield from clauses(rows, kind, f"crates/{definition}", ("words", words), 'codes "{text}"', "offset reason) = point_text_words reason")
         if proof:
-            yield (
+            yield Place(
                 f"crates/{proof}",
                 rf"{lemma} (?:{name}\.\w+|\({name}\.Polyline .*\)) = .*",
-                each(reasons, f"{lemma} {name}.{{2}} = omega arith", f"{lemma} (row.Polyline offset reason) = short_point_text reason"),
+                each(reasons, f"{lemma} {name}.{{code}} = omega arith", f"{lemma} (row.Polyline offset reason) = short_point_text reason"),
             )
 
 
-def engine_places(rows):
-    """Where the engine's reasons are those of the grammar."""
-    lines = each(of_kind(rows, "blob"), "reason_of reason.{2} = fault.{2}")
-    yield "crates/twkb_engine/specs/Stops.antt", r"reason_of reason\.\w+ = fault\.\w+", lines
+def rule_places(rows):
+    """Where the reasons of the engine are those of the grammar, and the numbers of reasons those of rules of rows."""
+    lines = each(of_kind(rows, "blob"), "reason_of reason.{code} = fault.{code}")
+    yield Place("crates/twkb_engine/specs/Stops.antt", r"reason_of reason\.\w+ = fault\.\w+", lines)
+    rules = " ".join(re.findall(r"^  ((?:[A-Z]\w* )+): Refusal$", text_of("crates/twkb_tree/specs/Refusal.antt"), re.M)).split()
+    numbers = {row.code: row.number for row in of_kind(rows, "polyline") + of_kind(rows, "row")}
+    pairs = sorted((numbers.get(OTHERS.get(rule, rule), 0), rule) for rule in rules)
+    lines = [f"refusal_number Refusal.{rule} = {number}" for number, rule in pairs]
+    yield Place(f"{ARRAYS}/specs/Judging.antt", r"refusal_number Refusal\.\w+ = \d+", lines)
 
 
 def unequal(called, numbers):
@@ -107,22 +179,17 @@ def unequal(called, numbers):
 def number_places(rows):
     """Where the numbers are in the code and in its definitions."""
     for kind, number_of in NUMBERS.items():
-        name, reasons = NAMES[kind], of_kind(rows, kind)
-        yield (
+        reasons = of_kind(rows, kind)
+        yield Place(
             f"{BUFFER}/src/reason_numbers.rt",
             rf" +{TYPES[kind]}::\w+(?:\(_, why\))? => (?:\d+|point_text_number\(why\)),",
-            each(reasons, f"        {TYPES[kind]}::{{2}} => {{1}},", "        RowReason::Polyline(_, why) => point_text_number(why),"),
+            each(reasons, f"        {TYPES[kind]}::{{code}} => {{number}},", "        RowReason::Polyline(_, why) => point_text_number(why),"),
         )
-        yield f"{BUFFER}/src/reason_texts.rt", rf" +\d+ => Some\({TYPES[kind]}::\w+\),", each(reasons, f"        {{1}} => Some({TYPES[kind]}::{{2}}),")
-        for part, some in split(rows, kind):
-            called = f"{part}_number_of" if part else number_of
-            yield (
-                f"{BUFFER}/specs/Numbers.antt",
-                rf"{called} (?:{name}\.\w+|\({name}\.Polyline .*\)) = .*",
-                each(some, f"{called} {name}.{{2}} = {{1}}", f"{called} (row.Polyline offset why) = point_text_number_of why"),
-            )
+        found = each(reasons, f"        {{number}} => Some({TYPES[kind]}::{{code}}),")
+        yield Place(f"{BUFFER}/src/reason_texts.rt", rf" +\d+ => Some\({TYPES[kind]}::\w+\),", found)
+        yield from clauses(rows, kind, f"{BUFFER}/specs/Numbers.antt", ("number_of", number_of), "{number}", "offset why) = point_text_number_of why")
         called = {"row": "NamesNoRow", "polyline": "NamesNoPointText", "blob": "NamesNoBlob"}[kind]
-        yield f"{BUFFER}/specs/Texts.antt", rf"{called} n =(?: .*|(?:\n    .*)+)", unequal(called, [row[1] for row in own(reasons)])
+        yield Place(f"{BUFFER}/specs/Texts.antt", rf"{called} n =(?: .*|(?:\n    .*)+)", unequal(called, [row.number for row in own(reasons)]))
 
 
 def proof_places(rows):
@@ -130,88 +197,94 @@ def proof_places(rows):
     file = f"{BUFFER}/proofs/TextLemmas.antt"
     reasons = {kind: own(of_kind(rows, kind)) for kind in TYPES}
     causes = (
-        each(reasons["row"], "cause.Row 0 row.{2}") + each(reasons["polyline"], "cause.Row 0 (row.Polyline 0 text.{2})") + each(reasons["blob"], "cause.Blob 0 blob.{2}")
+        each(reasons["row"], "cause.Row 0 row.{code}") + each(reasons["polyline"], "cause.Row 0 (row.Polyline 0 text.{code})")
+        + each(reasons["blob"], "cause.Blob 0 blob.{code}")
     )
-    yield file, r"    cause\.(?:Row|Blob) 0 .* ∷", [f"    {cause} ∷" for cause in causes]
-    found = each(reasons["row"], "Row number row.{2}") + each(reasons["polyline"], "Row number (row.Polyline offset text.{2})") + each(reasons["blob"], "Blob offset blob.{2}")
-    yield file, r"found \(cause\.(?:Row|Blob) .*\) some = refl", [f"found (cause.{cause}) some = refl" for cause in found]
+    yield Place(file, r"    cause\.(?:Row|Blob) 0 .* ∷", [f"    {cause} ∷" for cause in causes])
+    found = (
+        each(reasons["row"], "Row number row.{code}") + each(reasons["polyline"], "Row number (row.Polyline offset text.{code})")
+        + each(reasons["blob"], "Blob offset blob.{code}")
+    )
+    yield Place(file, r"found \(cause\.(?:Row|Blob) .*\) some = refl", [f"found (cause.{cause}) some = refl" for cause in found])
     for kind, lemma in (("polyline", "no_point_text n lacks"), ("row", "no_row n lacks points"), ("blob", "no_blob n lacks")):
         name = NAMES[kind]
-        lines = [f"{lemma} {name}.{row[2]} = λ e. lacks.{at} (sym e)" for at, row in enumerate(reasons[kind])]
-        yield file, rf"{lemma} {name}\.\w+ = .*", lines
+        lines = [f"{lemma} {name}.{row.code} = λ e. lacks.{at} (sym e)" for at, row in enumerate(reasons[kind])]
+        yield Place(file, rf"{lemma} {name}\.\w+ = .*", lines)
 
 
 def name_places(rows):
     """Where the names of reasons are for C, Python and JavaScript."""
     for kind, digits in (("row", r"1?\d"), ("polyline", r"2\d"), ("blob", r"4\d")):
-        yield "include/polytwkb.h", rf"#define POLYTWKB_\w+ {digits}u", each(of_kind(rows, kind), "#define POLYTWKB_{3} {1}u")
-    kinds = [kind for kind in dict.fromkeys(row[0] for row in rows) if kind != "status"]
+        yield Place("include/polytwkb.h", rf"#define POLYTWKB_\w+ {digits}u", each(own(of_kind(rows, kind)), "#define POLYTWKB_{name} {number}u"))
+    kinds = [kind for kind in dict.fromkeys(row.what for row in rows) if kind != "status"]
     for file, quote, width in (("python/polytwkb/_refused.py", '"', 134), ("js/src/refused.js", "'", 120)):
         wrap = textwrap.TextWrapper(width, initial_indent="    ", subsequent_indent="    ")
-        pairs = [" ".join(f"{row[1]}:\0{quote}{row[3]}{quote}," for row in own(of_kind(rows, kind))) for kind in kinds]
-        yield file, rf" +(?:\d+: {quote}\w+{quote},? ?)+", [line.replace("\0", " ") for pair in pairs for line in wrap.wrap(pair)]
+        pairs = [" ".join(f"{row.number}:\0{quote}{row.name}{quote}," for row in own(of_kind(rows, kind))) for kind in kinds]
+        yield Place(file, rf" +(?:\d+: {quote}\w+{quote},? ?)+", [line.replace("\0", " ") for pair in pairs for line in wrap.wrap(pair)])
+
+
+def roff(said):
+    """What the manual says, a line for each sentence, and words of the command line in bold type."""
+    lines = re.sub(r"(?<=\.) ", "\n", said).replace("-", r"\-").replace("~", r"\(ti")
+    return re.sub(r" (\\-\\-\S+) ", r"\n.B \1\n", lines)
+
+
+def page_places(rows):
+    """Where the manual and docs/FORMATS.md say when each reason holds."""
+    for kind, (form, line, other) in FORMATS.items():
+        reasons = of_kind(rows, kind)
+        yield Place("docs/FORMATS.md", form, each(reasons, line, other))
+        entries = [
+            row.put(".TP\n.B {text}\n") + roff(row.said.get("manual", row.said["doc"])) if row.name != "-"
+            else '.TP\n.BI "polyline at " O ": " reason\nThe polyline is refused, at byte\n.IR O .'
+            for row in reasons
+        ]
+        yield Place("man/polytwkb.1", r"\.TP\n\.BI? .*(?:\n(?!\.TP|\.S).+)+", entries, f".SS {SECTIONS[kind]}\n")
 
 
 def places(rows):
-    """The places that are made: a file, the form of a line there, and the lines."""
-    for part in (text_places, engine_places, number_places, proof_places, name_places):
+    """The places that are made."""
+    for part in (text_places, rule_places, number_places, proof_places, name_places, page_places):
         yield from part(rows)
-
-
-def run_of(text, line):
-    """The first run of lines of this form."""
-    return re.search(rf"(?:^{line}\n)+", text, re.M)
 
 
 def write(rows):
     """Writes the places that differ, and returns how many did."""
     count = 0
-    for file, line, lines in places(rows):
-        text, wanted = text_of(file), "\n".join(lines) + "\n"
-        found = run_of(text, line)
+    for place in places(rows):
+        text, wanted = text_of(place.file), "\n".join(place.lines) + "\n"
+        found = place.found(text)
         if found and found.group() != wanted:
             count += 1
-            with open(os.path.join(REPO, file), "w", encoding="utf-8") as opened:
+            with open(os.path.join(REPO, place.file), "w", encoding="utf-8") as opened:
                 opened.write(text[: found.start()] + wanted + text[found.end() :])
     return count
 
 
 def made(rows):
     """What the places have that are made: the place, what should be there and what is."""
-    for file, line, lines in places(rows):
-        found = run_of(text_of(file), line)
-        yield f"{file}, {lines[0].strip()}", "\n".join(lines) + "\n", found.group() if found else ""
-
-
-def pages(rows):
-    """What the manual and docs/FORMATS.md show: the place, what should be there and what is."""
-    formats, manual = text_of("docs/FORMATS.md"), text_of("man/polytwkb.1")
-    for kind in TYPES:
-        wanted = [(row[2], row[4]) for row in own(of_kind(rows, kind))]
-        section = manual.split(f".SS {SECTIONS[kind]}\n", 1)[1].split("\n.S", 1)[0]
-        yield f"man/polytwkb.1, {SECTIONS[kind]}", [text for _, text in wanted], re.findall(r"^\.TP\n\.B (.*)$", section, re.M)
-        for name, text in wanted:
-            shown = re.search(rf"(`{name}` \| {text} \|)|(\| {name} \| `{text}` \|)|(\| {name}, `{text}` \|)", formats)
-            yield f"docs/FORMATS.md, {name}", [text], [text] if shown else []
+    for place in places(rows):
+        found = place.found(text_of(place.file))
+        yield f"{place.file}, {place.lines[0].strip().splitlines()[0]}", "\n".join(place.lines) + "\n", found.group() if found else ""
 
 
 def whole_input(rows):
     """What is said of the reasons that are those of a whole input, which stand among other causes."""
     wanted = of_kind(rows, "whole")
     for file, line, columns in (
-        ("crates/twkb_convert/src/report.rt", r'^ *Cause::(\w+) => "(.*)",$', (2, 4)),
-        ("crates/twkb_convert/specs/Texts.antt", r'^\w+ cause\.(\w+) = codes "(.*)"$', (2, 4)),
-        (f"{BUFFER}/src/reason_numbers.rt", r"^ *Cause::(\w+) => (\d+),$", (2, 1)),
-        (f"{BUFFER}/src/reason_texts.rt", r"^ *(\d+) => Some\(Cause::(\w+)\),$", (1, 2)),
-        (f"{BUFFER}/specs/Numbers.antt", r"^reason_number_of cause\.(\w+) = (\d+)$", (2, 1)),
+        ("crates/twkb_convert/src/report.rt", r'^ *Cause::(\w+) => "(.*)",$', ("code", "text")),
+        ("crates/twkb_convert/specs/Texts.antt", r'^\w+ cause\.(\w+) = codes "(.*)"$', ("code", "text")),
+        (f"{BUFFER}/src/reason_numbers.rt", r"^ *Cause::(\w+) => (\d+),$", ("code", "number")),
+        (f"{BUFFER}/src/reason_texts.rt", r"^ *(\d+) => Some\(Cause::(\w+)\),$", ("number", "code")),
+        (f"{BUFFER}/specs/Numbers.antt", r"^reason_number_of cause\.(\w+) = (\d+)$", ("code", "number")),
     ):
-        pairs = [tuple(str(row[column]) for column in columns) for row in wanted]
+        pairs = [tuple(str(getattr(row, column)) for column in columns) for row in wanted]
         yield f"{file}, Cause", pairs, [pair for pair in re.findall(line, text_of(file), re.M) if pair in pairs]
 
 
 def array_texts(rows):
     """The numbers and texts of the reasons for which arrays are refused: of the code and of its definition."""
-    wanted = [(row[1], row[4]) for row in of_kind(rows, "array")]
+    wanted = [(row.number, row.text) for row in of_kind(rows, "array")]
     for file, line in (("src/reason_texts.rt", r'^ *(\d+) => "(.*)",$'), ("specs/Texts.antt", r'if number == (\d+) then codes "(.*?)"')):
         found = re.findall(line, text_of(f"{BUFFER}/{file}"), re.M)
         yield f"{BUFFER}/{file}", wanted, [(int(number), text) for number, text in found]
@@ -220,27 +293,35 @@ def array_texts(rows):
 def c_names(rows):
     """The numbers of all reasons and statuses in the header for C."""
     header = re.findall(r"^#define POLYTWKB_(\w+) (\d+)u", text_of("include/polytwkb.h").split("/* Styles of packed blobs")[0], re.M)
-    yield "include/polytwkb.h", sorted((row[3], row[1]) for row in own(rows)), sorted((name, int(number)) for name, number in header)
+    yield "include/polytwkb.h", sorted((row.name, row.number) for row in own(rows)), sorted((name, int(number)) for name, number in header)
 
 
-def statuses(rows):
-    """The numbers of statuses in the code of the command and of the library, and in the manual."""
-    of_name = {row[3]: row[1] for row in of_kind(rows, "status")}
-    of_name["USAGE"] = of_name["ARGUMENTS"]
-    for file in ("crates/twkb_command/src/exit_code.rt", f"{BUFFER}/src/reason_numbers.rt", "crates/twkb_c/src/arguments.rt"):
+def constants(rows):
+    """The numbers of statuses and reasons that the code names, and the statuses in the manual."""
+    of_name = {row.name: row.number for row in own(rows)}
+    arguments = "crates/twkb_c/src/arguments.rt"
+    for file in ("crates/twkb_command/src/exit_code.rt", f"{BUFFER}/src/reason_numbers.rt", arguments, f"{ARRAYS}/src/judging.rt"):
         for name, number in re.findall(r"^(?:pub\(crate\) )?const (\w+): u(?:8|32) = (\d+);", text_of(file), re.M):
-            if name in of_name:
-                yield f"{file}, {name}", of_name[name], int(number)
+            if OTHERS.get(name, name) in of_name:
+                yield f"{file}, {name}", of_name[OTHERS.get(name, name)], int(number)
     section = text_of("man/polytwkb.1").split(".SH EXIT STATUS\n", 1)[1].split("\n.SH", 1)[0]
     yield "man/polytwkb.1, EXIT STATUS", [0, 1, 2, 3, 4], [int(number) for number in re.findall(r"^(\d)$", section, re.M)]
 
 
+def difference(wanted, found):
+    """How what a place has differs from what it should have."""
+    if not isinstance(wanted, str):
+        return f"{found} in place of {wanted}"
+    lines = difflib.unified_diff(found.splitlines(), wanted.splitlines(), lineterm="", n=0)
+    return "\n    ".join(["'scripts/reasons.py --write' would change", *[line for line in lines if not line.startswith(("---", "+++", "@@"))]])
+
+
 def compare(rows):
     """Reports each place that differs, and returns how many do."""
-    compared = [place for part in (made, pages, whole_input, array_texts, c_names, statuses) for place in part(rows)]
+    compared = [place for part in (made, whole_input, array_texts, c_names, constants) for place in part(rows)]
     wrong = [place for place in compared if place[1] != place[2]]
     for place, wanted, found in wrong:
-        print(f"FAIL  {place}: {found} in place of {wanted}")
+        print(f"FAIL  {place}: {difference(wanted, found)}")
     print(f"{'FAIL' if wrong else 'ok  '}  scripts/reasons.txt: {len(compared)} comparisons, {len(wrong)} differ")
     return len(wrong)
 

@@ -1,31 +1,23 @@
 #!/usr/bin/env bash
 # The built program with real files and pipes: one line for each check; status 1 where one failed. MEGABYTES is
 # the size of the large table, 200 by default. The checks on a terminal need python3, and are skipped without it.
-set -uo pipefail
-cd "$(dirname "$0")/.." || exit 1
+# shellcheck source=scripts/checks.bash
+source "$(dirname "$0")/checks.bash"
 
 program=$PWD/bin/polytwkb
 megabytes=${MEGABYTES:-200}
 peak_allowed=16384 # kB
 header=depth,kind,id,precision,polyline
 for tool in "$program" awk cmp od perl timeout; do
-  command -v "$tool" > /dev/null || { echo "smoke: $tool is not there" >&2; exit 1; }
+  is_there "$tool" || { echo "smoke: $tool is not there" >&2; exit 1; }
 done
-work=$(mktemp -d)
-trap 'rm -rf "$work"' EXIT
-passed=0
-failed=0
-skipped=0
+# the commands, and those of them that read a stream
+commands=$("$program" -h | sed -n '/^Commands:/,/^$/s/^  \([a-z]*\) .*/\1/p')
+readers=${commands/pack/}
 
-# report NAME [FAULT]: prints the line of a check, which passed if no fault is given.
-report() {
-  if [ -z "${2:-}" ]; then
-    passed=$((passed + 1))
-    echo "ok    $1"
-  else
-    failed=$((failed + 1))
-    echo "FAIL  $1: $2"
-  fi
+# result NAME [FAULT]: prints the line of a check, which passed if no fault is given.
+result() {
+  if [ -z "${2:-}" ]; then passed "$1"; else failed "$1: $2"; fi
 }
 
 # ends STATUS LINE NAME COMMAND..: checks the command's status, and that standard error is this line and nothing else.
@@ -35,11 +27,11 @@ ends() {
   "$@" > "$work/out" 2> "$work/err"
   answer=$?
   if [ "$answer" -ne "$status" ]; then
-    report "$name" "status $answer in place of $status"
+    result "$name" "status $answer in place of $status"
   elif ! printf '%s' "${line:+$line$'\n'}" | cmp -s - "$work/err"; then
-    report "$name" "standard error is $(head -c 200 "$work/err" | tr '\n' '/')"
+    result "$name" "standard error is $(head -c 200 "$work/err" | tr '\n' '/')"
   else
-    report "$name"
+    result "$name"
   fi
 }
 
@@ -48,11 +40,11 @@ same() {
   local file=$1 name=$2
   shift 2
   if ! "$@" > "$work/out" 2> "$work/err"; then
-    report "$name" "it failed: $(head -c 200 "$work/err" | tr '\n' '/')"
+    result "$name" "it failed: $(head -c 200 "$work/err" | tr '\n' '/')"
   elif ! cmp -s "$file" "$work/out"; then
-    report "$name" "other bytes"
+    result "$name" "other bytes"
   else
-    report "$name"
+    result "$name"
   fi
 }
 
@@ -63,13 +55,13 @@ refuses_words() {
   "$program" "$@" < "$work/point.csv" > "$work/out" 2> "$work/err"
   answer=$?
   if [ "$answer" -ne 2 ]; then
-    report "$name" "status $answer in place of 2"
+    result "$name" "status $answer in place of 2"
   elif [ -s "$work/out" ]; then
-    report "$name" "something on standard output"
+    result "$name" "something on standard output"
   elif [ ! -s "$work/err" ]; then
-    report "$name" "nothing on standard error"
+    result "$name" "nothing on standard error"
   else
-    report "$name"
+    result "$name"
   fi
 }
 
@@ -80,9 +72,9 @@ prints() {
   "$program" "$@" < /dev/null > "$work/out" 2> "$work/err"
   answer=$?
   if [ "$answer" -ne 0 ] || [ ! -s "$work/out" ] || [ -s "$work/err" ]; then
-    report "$name" "status $answer, $(wc -c < "$work/out") bytes out, $(wc -c < "$work/err") bytes of errors"
+    result "$name" "status $answer, $(wc -c < "$work/out") bytes out, $(wc -c < "$work/err") bytes of errors"
   else
-    report "$name"
+    result "$name"
   fi
 }
 
@@ -154,7 +146,7 @@ blobs_of_others() {
   done 3< crates/vectors/stdout
   [ "$count" -gt 0 ] || echo "no blobs"
 }
-report "the blobs of crates/vectors are shown, unpacked and packed" "$(blobs_of_others 2>&1 | head -n 1)"
+result "the blobs of crates/vectors are shown, unpacked and packed" "$(blobs_of_others 2>&1 | head -n 1)"
 
 # ---- devices that fail
 
@@ -168,7 +160,7 @@ help_to_full_disk() { "$program" --help > /dev/full; }
 from_directory() { "$program" "$1" < .; }
 from_no_input() { "$program" "$1" <&-; }
 
-for command in pack unpack show; do
+for command in $commands; do
   small=$work/point.twkb
   large=$work/rows.twkb
   if [ "$command" = pack ]; then small=$work/point.csv large=$work/rows.csv; fi
@@ -192,7 +184,7 @@ no_blob="polytwkb: byte 0: unknown type"
 
 ends 1 "$no_table" "pack of a text without end" all_of_yes pack
 ends 1 "$no_table" "pack of a text without end, cut" front_of_yes pack
-for command in unpack show; do
+for command in $readers; do
   ends 1 "$no_blob" "$command of a text without end" all_of_yes "$command"
   ends 1 "$no_blob" "$command of a text without end, cut" front_of_yes "$command"
 done
@@ -232,7 +224,7 @@ prints "--help" --help
 prints "-h" -h
 prints "--version" --version
 prints "-V" -V
-for command in pack unpack show; do prints "$command --help" "$command" --help; done
+for command in $commands; do prints "$command --help" "$command" --help; done
 version_line() { [ "$("$program" --version)" = "polytwkb $(sed -n 's/^pub const VERSION: &str = "\(.*\)";$/\1/p' crates/twkb_convert/src/version.rt)" ]; }
 ends 0 "" "--version is the version of the source" version_line
 
@@ -264,9 +256,9 @@ flat() { # NAME: checks that the measured peak is small enough
   local peak
   peak=$(cat "$work/peak")
   if [ "$peak" -gt 0 ] && [ "$peak" -lt "$peak_allowed" ]; then
-    report "$1: $peak kB"
+    result "$1: $peak kB"
   else
-    report "$1" "$peak kB"
+    result "$1" "$peak kB"
   fi
 }
 
@@ -279,7 +271,7 @@ flat "its peak memory"
 
 # ---- a terminal
 
-if command -v python3 > /dev/null; then
+if is_there python3; then
   same "$work/point.twkb" "pack on a terminal: one end is enough, and what is typed behind it stays" \
     scripts/on_terminal.py "$work/point.csv" "$program" pack
   echo "$header" > "$work/expected"
@@ -287,9 +279,7 @@ if command -v python3 > /dev/null; then
   same "$work/expected" "unpack on a terminal: the same" scripts/on_terminal.py "$work/empty" "$program" unpack
   same "$work/empty" "show on a terminal: the same" scripts/on_terminal.py "$work/empty" "$program" show
 else
-  skipped=3
-  echo "skip  the checks on a terminal want python3"
+  skip "the checks on a terminal need python3"
 fi
 
-echo "smoke: $passed passed, $failed failed, $skipped skipped"
-[ "$failed" -eq 0 ]
+passed_all

@@ -134,7 +134,9 @@ javascript() { lacks JavaScript make cc node || make -s wasm-test CASES="${CASES
 dist() { lacks dist make cc dpkg-deb || make -s dist-test; }
 arm64() {
   lacks "64-bit ARM" make cc aarch64-linux-gnu-gcc qemu-aarch64-static && return
-  if packaging/arm64/shims/compare.sh; then echo "ok    arm64: the functions of C are the kit's"; else echo "FAIL  arm64: the functions of C are not the kit's"; fi
+  # programs linked with other functions may do anything, so none is run
+  packaging/arm64/shims/compare.sh || { echo "FAIL  arm64: the functions of C are not the kit's"; return 1; }
+  echo "ok    arm64: the functions of C are the kit's"
   make -s arm64-test
 }
 library() {
@@ -149,9 +151,9 @@ library() {
 }
 
 # part NAME: runs a part, counts the checks that it reports, one a line, or the part as one check, and reports the
-# result.
+# result: one text, written by itself, so that the lines of two parts do not mix.
 part() {
-  local name=$1 log=$work/$1.log status passed failed skipped began=$SECONDS
+  local name=$1 log=$work/$1.log status passed failed skipped told began=$SECONDS
   "$name" > "$log" 2>&1
   status=$?
   passed=$(grep -c '^ok  ' "$log")
@@ -159,12 +161,13 @@ part() {
   skipped=$(grep -c '^skip ' "$log")
   [ "$status" -eq 0 ] || [ "$failed" -gt 0 ] || failed=1
   [ "$passed" -gt 0 ] || [ "$failed" -gt 0 ] || [ "$skipped" -gt 0 ] || passed=1
-  {
-    [ "$failed" -eq 0 ] || cat "$log"
-    echo "$name: $passed passed, $failed failed, $skipped skipped ($((SECONDS - began)) s)"
-    [ "$failed" -gt 0 ] || grep '^skip ' "$log"
-  } > "$log.told"
-  cat "$log.told"
+  told="$name: $passed passed, $failed failed, $skipped skipped ($((SECONDS - began)) s)"
+  if [ "$failed" -gt 0 ]; then
+    told=$(cat "$log")$'\n'$told
+  elif [ "$skipped" -gt 0 ]; then
+    told+=$'\n'$(grep '^skip ' "$log")
+  fi
+  { flock 8; printf '%s\n' "$told"; } 8> "$work/lock"
   echo "$passed passed, $failed failed" > "$work/$name.counts"
 }
 
@@ -172,6 +175,14 @@ part() {
 lane() {
   local name
   for name in "$@"; do part "$name"; done
+}
+
+# programs_for_arm64: makes the command, and then vectors, which the tests alone need, and whose proof is long. Who needs
+# one of them too waits for its lock, so that it is made once.
+programs_for_arm64() {
+  mkdir -p out/arm64
+  flock out/arm64/command.lock make -s out/arm64/static/polytwkb
+  ! command -v qemu-aarch64-static > /dev/null || flock out/arm64/vectors.lock make -s out/arm64/vectors
 }
 
 install_lacking > "$work/install.log" 2>&1 &
@@ -183,21 +194,18 @@ if [ $status -eq 0 ]; then
   seed=$(date -u +%Y%m%d)
   echo "fuzz: seed $seed"
   make -s bin/refuse.so > /dev/null 2>&1
-  lane smoke completions fuzz &
+  lane smoke completions &
+  lane fuzz &
   lane hostile &
   # Of what several parts would build at the same time, first what needs nothing of the others.
-  arm64_build=
-  if command -v aarch64-linux-gnu-gcc > /dev/null; then
-    make -s out/arm64/static/polytwkb > "$work/arm64_build.log" 2>&1 &
-    arm64_build=$!
-  fi
+  if command -v aarch64-linux-gnu-gcc > /dev/null; then programs_for_arm64 > "$work/arm64_programs.log" 2>&1 & fi
   make -s lib static wasm > "$work/build.log" 2>&1 || tail -n 20 "$work/build.log"
-  lane library machines documents &
+  lane documents machines library &
   lane javascript &
-  if [ -n "$arm64_build" ]; then
+  if command -v aarch64-linux-gnu-gcc > /dev/null; then
     # begins with what was checked for the library of this processor
-    wait "$arm64_build"
-    make -s arm64 >> "$work/arm64_build.log" 2>&1 || tail -n 20 "$work/arm64_build.log"
+    mkdir -p out/arm64
+    flock out/arm64/command.lock make -s arm64 > "$work/arm64_build.log" 2>&1 || tail -n 20 "$work/arm64_build.log"
   fi
   lane arm64 &
   lane dist &

@@ -5,27 +5,20 @@
 #
 # compares CASES random calls with the native library (20,000). Needs js/polytwkb.wasm, out/libpolytwkb.bc and
 # out/libpolytwkb.so, which `make wasm-test` makes, and node 20.
-set -uo pipefail
-cd "$(dirname "$0")/.." || exit 1
+# shellcheck source=scripts/checks.bash
+source "$(dirname "$0")/checks.bash"
 cases=${1:-20000}
 seed=${2:-$(date -u +%Y%m%d)}
-work=$(mktemp -d)
-trap 'rm -rf "$work"' EXIT
-failed=0
 export PYTHONDONTWRITEBYTECODE=1 REPO=$PWD
 
-is_there() { command -v "$1" > /dev/null; }
-skip() { echo "skip  $1"; }
-
-# report NAME COMMAND..: prints the line of a check, with the last line that the command says, or all if it fails.
-report() {
+# result NAME COMMAND..: prints the line of a check, with the last line that the command says, or all if it fails.
+result() {
   local name=$1
   shift
   if "$@" > "$work/said" 2>&1; then
-    echo "ok    $name: $(tail -n 1 "$work/said")"
+    passed "$name: $(tail -n 1 "$work/said")"
   else
-    failed=1
-    echo "FAIL  $name"
+    failed "$name"
     tail -n 40 "$work/said"
   fi
 }
@@ -35,7 +28,7 @@ node_tests() {
   node --test --test-reporter=tap js/tests/*.test.mjs > "$work/tap"
   sed -n -e 's/^ok [0-9]* - /ok    JavaScript: /p' -e 's/^not ok [0-9]* - /FAIL  JavaScript: /p' "$work/tap"
   if ! grep -q '^# fail 0$' "$work/tap" || ! grep -q '^ok ' "$work/tap"; then
-    failed=1
+    touch "$work/failed"
     grep -v '^ok' "$work/tap" | head -n 200
   fi
 }
@@ -57,7 +50,7 @@ fuzz() {
 in_browser() {
   is_there "$1" || { skip "the page in $1: it is not there"; return; }
   head -c 4000000 "$work/cases" > "$work/first_cases"
-  node js/tests/browser.mjs "$work/first_cases" "$work" "$1" || failed=1
+  node js/tests/browser.mjs "$work/first_cases" "$work" "$1" || touch "$work/failed"
 }
 # The package as a program has it, and a bundle of that program, which finds the module beside it.
 bundled() {
@@ -74,18 +67,18 @@ if ! is_there node || [ "$(node -p 'process.versions.node.split(".")[0]')" -lt 2
   skip "JavaScript: node 20 is not there"
   exit 0
 fi
-report "module: made again, the same bytes" made_again
-report "module: the steps that make it" packaging/wasm/steps_test.py
-if is_there wasm-validate; then report "module: wabt takes it" valid; else skip "module: wasm-validate is not there"; fi
+result "module: made again, the same bytes" made_again
+result "module: the steps that make it" packaging/wasm/steps_test.py
+if is_there wasm-validate; then result "module: wabt takes it" valid; else skip "module: wasm-validate is not there"; fi
 node_tests
-report "module and package: random calls as the native library, seed $seed" fuzz
-report "memory: the heap beside a model" node js/tests/heap.mjs "$work/heap.wasm"
-report "memory: the same with 20 pages" node --wasm-max-mem-pages=20 js/tests/heap.mjs "$work/heap.wasm"
-report "memory: each growth refused" node js/tests/growth.mjs js/polytwkb.wasm
-report "memory: the package with little" node --wasm-max-mem-pages=3 js/tests/little.mjs "$work/cases"
-report "memory: 300 MB" node js/tests/large.mjs 300
-if is_there esbuild; then report "bundle: by esbuild" bundled; else skip "bundle: esbuild is not there"; fi
-if is_there tsc; then report "types: by tsc" typed; else skip "types: tsc is not there"; fi
+result "module and package: random calls as the native library, seed $seed" fuzz
+result "memory: the heap beside a model" node js/tests/heap.mjs "$work/heap.wasm"
+result "memory: the same with 20 pages" node --wasm-max-mem-pages=20 js/tests/heap.mjs "$work/heap.wasm"
+result "memory: each growth refused" node js/tests/growth.mjs js/polytwkb.wasm
+result "memory: the package with little" node --wasm-max-mem-pages=3 js/tests/little.mjs "$work/cases"
+result "memory: 300 MB" node js/tests/large.mjs 300
+if is_there esbuild; then result "bundle: by esbuild" bundled; else skip "bundle: esbuild is not there"; fi
+if is_there tsc; then result "types: by tsc" typed; else skip "types: tsc is not there"; fi
 in_browser chromium
 in_browser firefox-esr
-[ "$failed" -eq 0 ]
+passed_all

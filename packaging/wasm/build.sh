@@ -12,7 +12,8 @@ kit=$(dirname "$(rt doc)")
 module=$(realpath "$1")
 folder=$(realpath -m "$2")
 stack=131072
-exports="buffers kept pack unpack show encode decode read write reason_text version"
+# the calls of memory in heap.c, and all functions of calls.c
+exports="buffers kept $(sed -n 's/^u32 \([a-z_]*\)(.*/\1/p' "$here/calls.c" | tr '\n' ' ')"
 heap="rattle_alloc rattle_realloc rattle_dealloc"
 work=$(mktemp -d)
 trap 'rm -rf "$work"' EXIT

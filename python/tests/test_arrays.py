@@ -1,4 +1,5 @@
 """`read`: streams as rows and points in arrays."""
+import contextlib
 import csv
 import unittest
 from unittest import mock
@@ -33,6 +34,21 @@ def arrays_of(table):
         (NAMES[row["kind"]], len(own), int(row["depth"]), int(row["precision"] or NO_PRECISION), int(row["id"] or 0), row["id"] != "")
         for row, own in zip(rows, points)
     ], [list(point) for own in points for point in own]
+
+
+@contextlib.contextmanager
+def memory_refused_once(module):
+    """The sizes that a module asks memory for; the first is refused."""
+    asked = []
+
+    def memory_of(size):
+        asked.append(size)
+        if len(asked) == 1:
+            raise MemoryError
+        return bytearray(size)
+
+    with mock.patch.object(module, "memory_of", memory_of):
+        yield asked
 
 
 class Reading(unittest.TestCase):
@@ -76,15 +92,7 @@ class Reading(unittest.TestCase):
             polytwkb.read(blob, polytwkb.Limits(points=5))
 
     def test_what_has_no_room_is_counted_first(self):
-        asked = []
-
-        def memory_of(size):
-            asked.append(size)
-            if len(asked) == 1:
-                raise MemoryError
-            return bytearray(size)
-
-        with mock.patch.object(_arrays, "memory_of", memory_of):
+        with memory_refused_once(_arrays) as asked:
             rows, points = polytwkb.read(polytwkb.pack(TABLE) * 20)
         self.assertEqual((rows_of(rows), points.tolist(), asked[-2:]), (ROWS * 20, POINTS * 20, [120 * 24, 160 * 16]))
 

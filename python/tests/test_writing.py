@@ -1,12 +1,11 @@
 """`write`: rows and points in arrays as streams."""
 import unittest
 from array import array
-from unittest import mock
 
 import polytwkb
 import vectors
 from polytwkb import Kind, Rows, _writing
-from test_arrays import COLUMNS, POINTS, ROWS, TABLE, arrays_of
+from test_arrays import COLUMNS, POINTS, ROWS, TABLE, arrays_of, memory_refused_once
 
 try:
     import numpy
@@ -128,15 +127,7 @@ class Writing(unittest.TestCase):
                 polytwkb.write(*given)
 
     def test_what_has_no_room_is_counted_first(self):
-        asked = []
-
-        def memory_of(size):
-            asked.append(size)
-            if len(asked) == 1:
-                raise MemoryError
-            return bytearray(size)
-
-        with mock.patch.object(_writing, "memory_of", memory_of):
+        with memory_refused_once(_writing) as asked:
             self.assertEqual(polytwkb.write(*polytwkb.read(BLOBS * 20)), BLOBS * 20)
         self.assertEqual(asked[1:], [1, 20 * len(BLOBS)])
 

@@ -49,16 +49,12 @@ def arrays_of(geometry, depth=0, identifier=None, is_whole=True):
 
 def has_rule(rows, parent, depth, kind, identifier, precision):
     """The first rule of ids and precisions that a row breaks, given its parent's place, as a reason."""
-    siblings = [] if parent is None else [row for row in rows[parent + 1 :] if row.depth == depth]
-    is_whole = parent is None or rows[parent].kind == "collection"
-    rules = [
-        ("id not allowed", identifier is not None and (depth == 0 or kind == "ring")),
-        ("id on some children only", siblings and (siblings[0].identifier is None) != (identifier is None)),
-        ("bad precision", precision is not None and not -8 <= precision <= 7),
-        ("precision missing", is_whole and precision is None),
-        ("precision not allowed", not is_whole and precision is not None),
-    ]
-    return next((reason for reason, is_broken in rules if is_broken), None)
+    fault = table.id_fault(rows, parent, depth, kind, identifier)
+    if fault:
+        return fault
+    if precision is not None and not -8 <= precision <= 7:
+        return "bad precision"
+    return table.precision_fault(rows, parent, precision)
 
 
 def points_fault(rows, parent, kind, points):

@@ -6,7 +6,6 @@ fuzz.py [--cases N] [--seed S] [--processes P] [--only CASE] [--program FILE] [-
 A case is one input with one subcommand; case K of seed S is always the same. Where the library of tests/hostile/refuse.c
 is given, half of the cases are read in pieces of a few bytes. Status 1 where a case differs.
 """
-import argparse
 import json
 import os
 import random
@@ -17,13 +16,14 @@ import time
 sys.path.insert(0, os.path.dirname(os.path.abspath(__file__)))
 
 from blob import canonical, spelled_in
+from fuzzing import MOST_FOUND, report, words_of
 from geometry import NEST, Geometry
 from run_command import Command
 from slips import announced, any_bytes, stream_slip, table_slip
 from table import HEADER_LINE, named_by, records_of, rows_text, table_text
 from trees import free, nested, some_tree
 
-MOST_SHOWN = 5
+SECONDS_TO_SHORTEN = 20
 PIECES = (1, 1, 2, 3, 4, 5, 7, 13, 63, 64, 4095, 4096)
 
 
@@ -116,11 +116,13 @@ class Comparing:
         return self.answer(case, source) != expected(case.words, case.nest, source)
 
     def shortened(self, case):
-        """A shorter input that differs too, by leaving out pieces."""
-        source, size = case.source, max(len(case.source) // 2, 1)
+        """A shorter input that differs too, by leaving out pieces, until the time for that is over."""
+        source, size, start = case.source, max(len(case.source) // 2, 1), time.monotonic()
         while size:
             place = 0
             while place < len(source):
+                if time.monotonic() - start > SECONDS_TO_SHORTEN:
+                    return source
                 shorter = source[:place] + source[place + size :]
                 if self.differs(case, shorter):
                     source = shorter
@@ -145,8 +147,7 @@ class Comparing:
         self.ends[end] = self.ends.get(end, 0) + 1
         if self.answer(case, case.source) != wanted:
             self.found += 1
-            if self.found <= MOST_SHOWN:
-                self.report(case)
+            self.report(case)
 
 
 def run_cases(arguments, numbers):
@@ -154,6 +155,8 @@ def run_cases(arguments, numbers):
     comparing = Comparing(arguments.program, arguments.library)
     for number in numbers:
         comparing.compare(Case(arguments.seed, number))
+        if comparing.found == MOST_FOUND:
+            break
     return comparing.found, comparing.ends
 
 
@@ -182,11 +185,8 @@ def in_processes(arguments):
 
 def main():
     top = os.path.join(os.path.dirname(os.path.abspath(__file__)), "../..")
-    words = argparse.ArgumentParser(description=__doc__.split("\n")[0])
-    words.add_argument("--cases", type=int, default=100000)
-    words.add_argument("--seed", default=str(int(time.time())))
+    words = words_of(__doc__, 100000)
     words.add_argument("--processes", type=int, default=2)
-    words.add_argument("--only", type=int, help="the number of one case, which is run and shown")
     words.add_argument("--program", default=os.path.join(top, "bin/polytwkb"))
     words.add_argument("--library", help="what lets the program read in pieces")
     arguments = words.parse_args()
@@ -197,11 +197,7 @@ def main():
     print(f"fuzz: seed {arguments.seed}, {arguments.cases} cases", flush=True)
     start = time.monotonic()
     found, ends = in_processes(arguments)
-    for end, times in sorted(ends.items()):
-        print(f"{times:8} {end}")
-    seconds = time.monotonic() - start
-    print(f"{'FAIL' if found else 'ok  '}  fuzz: {arguments.cases} cases in {seconds:.0f} s, {found} differ (seed {arguments.seed})")
-    return found > 0
+    return report("fuzz", arguments, start, found, ends)
 
 
 if __name__ == "__main__":

@@ -6,7 +6,6 @@ fuzz_library.py [--cases N] [--seed S] [--only CASE] LIBRARY
 
 Case K of seed S is always the same. Status 1 where a case differs.
 """
-import argparse
 import ctypes
 import os
 import random
@@ -14,31 +13,27 @@ import sys
 import time
 
 HERE = os.path.dirname(os.path.abspath(__file__))
-sys.path[:0] = [HERE, os.path.join(HERE, "../../python")]
+sys.path[:0] = [HERE, os.path.join(HERE, "../../python"), os.path.join(HERE, "../../scripts")]
 
 import blob
+import reasons
 import table
 from arrays import arrays_of, bytes_of_points, bytes_of_rows, named_by, some_arrays
 from fuzz import some_stream, some_table
+from fuzzing import MOST_FOUND, report, words_of
 from geometry import NODES, POINTS, mapping_of, with_precision
 from trees import nested, some_tree
 
 GUARD = 0xA7
-REASONS = {
-    "unknown kind": 4, "bad depth": 3, "kind not allowed there": 5, "nested too deep": 6, "too many rows in one geometry": 7, "bad id": 8,
-    "id not allowed": 9, "id on some children only": 10, "bad precision": 11, "precision missing": 12, "precision not allowed": 13,
-    "polyline not allowed": 14, "wrong number of points": 16, "coordinate out of range": 26, "too many points": 27, "points missing": 71,
-    "points left over": 72, "bad header": 1, "not five fields": 2,
-}
-TEXT_REASONS = {
-    "bad character": 21, "number cut short": 22, "number too long": 23, "padded number": 24, "latitude without longitude": 25,
-    "coordinate out of range": 26, "too many points": 27,
-}
-BLOB_REASONS = {
-    "truncated": 41, "unknown type": 42, "extra dimensions": 43, "bad varint": 44, "nested too deep": 45, "too many nodes": 46,
-    "too many points": 47, "coordinate out of range": 48, "size mismatch": 49,
-}
 
+
+def numbers_of(*kinds):
+    """The numbers of reasons, by their texts."""
+    return {row.text: row.number for row in reasons.table() if row.what in kinds}
+
+
+TEXT_REASONS, BLOB_REASONS = numbers_of("polyline"), numbers_of("blob")
+REASONS = {**TEXT_REASONS, **numbers_of("row", "array")}
 
 STYLES = ("full", "plain")
 
@@ -232,10 +227,7 @@ class Comparing:
 
 
 def main():
-    words = argparse.ArgumentParser(description=__doc__.split("\n")[0])
-    words.add_argument("--cases", type=int, default=20000)
-    words.add_argument("--seed", default=str(int(time.time())))
-    words.add_argument("--only", type=int, help="the number of one case")
+    words = words_of(__doc__, 20000)
     words.add_argument("library")
     given = words.parse_args()
     os.environ["POLYTWKB_LIBRARY"] = path = os.path.abspath(given.library)
@@ -247,14 +239,11 @@ def main():
         try:
             comparing.compare(given.seed, number)
         except AssertionError as fault:
+            print(f"case {number} differs: {fault}", flush=True)
             found += 1
-            if found <= 5:
-                print(f"case {number} differs: {fault}", flush=True)
-    for end, times in sorted(comparing.ends.items()):
-        print(f"{times:8} {end}")
-    seconds = time.monotonic() - start
-    print(f"{'FAIL' if found else 'ok  '}  fuzz of the library: {given.cases} cases in {seconds:.0f} s, {found} differ (seed {given.seed})")
-    return found > 0
+            if found == MOST_FOUND:
+                break
+    return report("fuzz of the library", given, start, found, comparing.ends)
 
 
 if __name__ == "__main__":

@@ -67,6 +67,26 @@ def place_fault(rows, depth, kind, nest):
     return None, parent
 
 
+def id_fault(rows, parent, depth, kind, identifier):
+    """The first rule of ids that a row breaks, given its parent's place."""
+    if identifier is not None and (depth == 0 or kind == "ring"):
+        return "id not allowed"
+    siblings = [] if parent is None else [row for row in rows[parent + 1 :] if row.depth == depth]
+    if siblings and (siblings[0].identifier is None) != (identifier is None):
+        return "id on some children only"
+    return None
+
+
+def precision_fault(rows, parent, precision):
+    """The first rule of precisions that a row breaks, given its parent's place."""
+    is_whole = parent is None or rows[parent].kind == "collection"
+    if is_whole and precision is None:
+        return "precision missing"
+    if not is_whole and precision is not None:
+        return "precision not allowed"
+    return None
+
+
 def judged(rows, record, nest):
     """The row of a record behind these rows, or the first reason against it."""
     if len(record) != 5:
@@ -84,19 +104,16 @@ def judged(rows, record, nest):
     if identifier:
         if not WHOLE_NUMBER.fullmatch(identifier) or not -(2**63) <= int(identifier) < 2**63:
             return "bad id"
-        if depth == 0 or kind == "ring":
-            return "id not allowed"
     identifier = int(identifier) if identifier else None
-    siblings = [] if parent is None else [row for row in rows[parent + 1 :] if row.depth == depth]
-    if siblings and (siblings[0].identifier is None) != (identifier is None):
-        return "id on some children only"
+    fault = id_fault(rows, parent, depth, kind, identifier)
+    if fault:
+        return fault
     if precision and not PRECISION.fullmatch(precision):
         return "bad precision"
-    is_whole = parent is None or rows[parent].kind == "collection"
-    if is_whole and not precision:
-        return "precision missing"
-    if not is_whole and precision:
-        return "precision not allowed"
+    precision = int(precision) if precision else None
+    fault = precision_fault(rows, parent, precision)
+    if fault:
+        return fault
     if polyline and kind not in POINTED:
         return "polyline not allowed"
     root = len(rows) if parent is None else max(place for place, row in enumerate(rows) if row.depth == 0)
@@ -106,7 +123,7 @@ def judged(rows, record, nest):
     is_of_multipoint = parent is not None and rows[parent].kind == "multipoint"
     if kind == "point" and (len(points) != 1 if is_of_multipoint else len(points) > 1):
         return "wrong number of points"
-    return Row(depth, kind, identifier, int(precision) if precision else None, points)
+    return Row(depth, kind, identifier, precision, points)
 
 
 def split_at(rows, depth):

@@ -4,8 +4,10 @@
 each_failing.py PROGRAM REFUSE.SO [few]
 
 What the command is given, and what it must answer, stands in rows.py. The word few is for a program that starts slowly:
-the rows that reach every place, and of calls that move one byte each fifteenth.
+the rows that reach every place, and of calls that move one byte each fifteenth. A program that is wrong all over may do
+anything, so the check ends at the last wrong answer that it would show, or after a few runs that had to be killed.
 """
+import signal
 import sys
 
 from refusing import Refusing
@@ -16,6 +18,15 @@ READ_FAILED = 3, b"polytwkb: read failed\n"
 WRITE_FAILED = 3, b"polytwkb: write failed\n"
 # words whose answer is a text of help or usage, and its status
 TEXTS = ((["--help"], 0), (["pack", "--help"], 0), (["--version"], 0), (["pack", "--style", "thin"], 2))
+MOST_WRONG, MOST_KILLED = 20, 3
+
+
+class GivenUp(Exception):
+    """So many answers were wrong that no more are asked for."""
+
+
+def shown(written):
+    return f"{written[:200]!r}" + (f" and {len(written) - 200} bytes more" if len(written) > 200 else "")
 
 
 def is_complete(row, output):
@@ -29,11 +40,17 @@ class Comparing:
     def __init__(self, refusing):
         self.refusing = refusing
         self.wrong = []
+        self.killed = 0
         self.borne = set()
 
     def look(self, name, refused, answer, is_right):
-        if not is_right:
-            self.wrong.append(f"{name}, {refused or 'nothing refused'}: {answer!r}")
+        if is_right:
+            return
+        status, output, errors = answer
+        self.wrong.append(f"{name}, {refused or 'nothing refused'}: status {status}, {shown(output)}, {shown(errors)}")
+        self.killed += status == -signal.SIGKILL
+        if len(self.wrong) == MOST_WRONG or self.killed == MOST_KILLED:
+            raise GivenUp
 
     def in_turn(self, row, kind, behind, beside, is_right):
         """How many calls of a kind were refused; the run behind them must answer as if nothing had been."""
@@ -44,9 +61,12 @@ class Comparing:
         return count
 
     def undisturbed(self, row):
+        """Whether the answers are right while no call fails: if not, nothing is learnt from calls that do."""
+        before = len(self.wrong)
         for refused in ("", "short_read=1+", "short_write=1+ short_errors=1+", "short_read=1+ short_write=1+"):
             answer, _ = self.refusing.run(row.words, row.source, refused)
             self.look(row.name, refused, answer, answer == (row.status, row.output, row.errors))
+        return len(self.wrong) == before
 
     def growths(self, row, behind):
         """A growth that is refused alone may be borne: room asked for in advance is asked for again."""
@@ -95,6 +115,8 @@ class Comparing:
         """Help and refused words: the whole text, or want of memory with nothing written."""
         whole, _ = self.refusing.run(words, HEADER, "")
         self.look(words, "", whole, whole[0] == status)
+        if whole[0] != status:
+            return
         for number, refused, answer in self.refusing.in_turn(words, HEADER, "growth", "+"):
             wanted = whole if number is None else (4, b"", b"polytwkb: out of memory\n")
             self.look(words, refused, answer, answer == wanted)
@@ -104,7 +126,8 @@ class Comparing:
 
 def compared(comparing, row):
     """The line of a row: how many calls of each kind were refused."""
-    comparing.undisturbed(row)
+    if not comparing.undisturbed(row):
+        return "wrong while no call fails"
     counts = [f"{comparing.growths(row, '')} growths"]
     comparing.growths(row, "+")
     for behind in ("", "+"):
@@ -115,16 +138,23 @@ def compared(comparing, row):
     return "; ".join(counts + [f"{comparing.errors(row)} to standard error"])
 
 
-def main():
-    is_few = sys.argv[3:] == ["few"]
-    comparing = Comparing(Refusing(*sys.argv[1:3], stride=15 if is_few else 1))
+def compare_all(comparing, is_few):
     for row in (row for row in ROWS if not is_few or row.name in FEW):
         before, counts = len(comparing.wrong), compared(comparing, row)
         print(f"{'ok  ' if len(comparing.wrong) == before else 'FAIL'}  {row.name}: {counts}", flush=True)
     for words, status in TEXTS:
         comparing.text(words, status)
     print(f"borne: {sorted(comparing.borne)}")
-    for wrong in comparing.wrong[:20]:
+
+
+def main():
+    is_few = sys.argv[3:] == ["few"]
+    comparing = Comparing(Refusing(*sys.argv[1:3], stride=15 if is_few else 1))
+    try:
+        compare_all(comparing, is_few)
+    except GivenUp:
+        print("FAIL  given up: too many answers are wrong")
+    for wrong in comparing.wrong:
         print(f"wrong: {wrong}")
     print(f"each_failing: {len(comparing.wrong)} wrong answers")
     return len(comparing.wrong) > 0

@@ -49,8 +49,9 @@ fn four_numbers_stand_in_front(rt: HostRuntime) {
         [-12020000, 3850000, -75000, 220000],
         14,
     );
-    let are_characters = are_in_front(four_characters(TEXT), [1, 1, 4, 4], 4);
-    assert!(rt; are_steps & are_characters & four_varints(b"\x02\x02\x08\x08").is_none());
+    let are_first = are_in_front(four_characters(TEXT, 0), [1, 1, 4, 4], 4);
+    let are_later = are_in_front(four_characters(TEXT, 8), [1, 1, 4, 4], 4);
+    assert!(rt; are_steps & are_first & are_later & four_varints(b"\x02\x02\x08\x08").is_none());
 }
 
 // The table of the Protocol Buffers documentation, to which the TWKB specification refers for zigzag.

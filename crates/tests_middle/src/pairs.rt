@@ -3,10 +3,10 @@
 use crate::fixtures::form;
 use crate::num::STEPS;
 use std::alloc::Global;
-use twkb_body::{Eight, front_eight, front_two};
+use twkb_body::{front_eight, front_two};
 use twkb_geom::{Flat, PointId, Work};
 use twkb_num::varint_ends;
-use twkb_points::Pt;
+use twkb_points::{Eight, Pt};
 
 // Whether a point is at this place.
 fn is_here(point: Pt, place: (i64, i64)) -> bool {

@@ -5,33 +5,21 @@ use Rattle.std.specs.Prelude.{ℤ, ◌+ℤ◌}
 use Rattle.std.proofs.lemmas.List.{drop-drop, take_rest}
 use Rattle.twkb_num.specs.Zigzag.{zigzag_of}
 use Rattle.twkb_num.proofs.ZigzagLemmas.{short_form, unzigzag_of-zigzag_of}
-use Rattle.twkb_points.specs.Point.{Point, IsInRange, moved_by, point_at}
+use Rattle.twkb_points.specs.Point.{Point, moved_by, point_at}
 use Rattle.twkb_points.specs.Near.{IsNear}
-use Rattle.twkb_points.proofs.NearLemmas.{near_in_range, near_moved}
+use Rattle.twkb_points.proofs.NearLemmas.{step_in_range}
 use Rattle.twkb_grammar.specs.PlainReader.{in_range}
 use Rattle.twkb_body.specs.Front.{PointsInFront, StepsTo, TwoInFront}
 use Rattle.twkb_body.proofs.Ranges.{passes}
 
 -- ---- steps
 
--- a short step from a near point stays in range
-pub short_in_range : (n : ℕ) (from : Point) (dx dy : ℤ) → n < 8 → IsNear n from
-    → zigzag_of dx < 2 ^ 28 → zigzag_of dy < 2 ^ 28 → IsInRange (moved_by from dx dy)
-short_in_range n from dx dy few near x y = near_in_range (n + 1) _ (omega arith)
-    (near_moved n from dx dy near (short_form dx x) (short_form dy y))
-
--- and leads to a near one
-pub short_moved : (n : ℕ) (from to : Point) (dx dy : ℤ) → IsNear n from → zigzag_of dx < 2 ^ 28
-    → zigzag_of dy < 2 ^ 28 → to ≡ moved_by from dx dy → IsNear (n + 1) to
-short_moved n from to dx dy near x y leads = subst (IsNear (n + 1)) (sym leads)
-    (near_moved n from dx dy near (short_form dx x) (short_form dy y))
-
--- as zigzag forms
+-- a short step from a near point, by the zigzag forms of its numbers
 pub step_to : (n : ℕ) (from to : Point) (dx dy : ℤ) → n < 8 → IsNear n from → zigzag_of dx < 2 ^ 28
     → zigzag_of dy < 2 ^ 28 → to ≡ moved_by from dx dy → StepsTo from (zigzag_of dx) (zigzag_of dy)
     to
 step_to n from to dx dy few near x y leads =
-    let kept = short_in_range n from dx dy few near x y in
+    let kept = step_in_range n from dx dy few near (short_form dx x) (short_form dy y) in
     let x_is = sym (unzigzag_of-zigzag_of dx) in
     let y_is = sym (unzigzag_of-zigzag_of dy) in
     record {

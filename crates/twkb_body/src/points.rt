@@ -8,7 +8,7 @@ ghost use Rattle.twkb_body.specs.Front.{PointInFront, PointsInFront, StepsTo, Tw
 
 use crate::numbers::{long_number, short_number};
 use twkb_num::{BLOCK, four_varints, four_varints_by, unzigzag};
-use twkb_points::Pt;
+use twkb_points::{Eight, Pt};
 
 // The step that a number of five bytes or fewer spells.
 #[inline(always)]
@@ -100,18 +100,6 @@ fn front_two_by(from: Pt, bytes: &[u8], ends: u64) -> Option<(Pt, Pt, usize)>
     let one = from.step(four.first, four.second);
     let two = one.step(four.third, four.fourth);
     Some((one, two, four.used))
-}
-
-/// Eight points that are complete at the start of bytes.
-#[derive(Clone, Copy, Debug, PartialEq, Eq)]
-pub struct Eight {
-    pub points: [Pt; 8],
-    /// The last of them.
-    pub last: Pt,
-    /// How many bytes they have.
-    pub used: usize,
-    /// The ends of the numbers after these bytes.
-    pub ends: u64,
 }
 
 /// Eight points, each by its steps from the one before it, by the ends of numbers that

@@ -1,14 +1,11 @@
 -- A flush after the bytes that were sent.
-use Rattle.twkb_convert.proofs.Prelude.{◌≡◌, ◌∙◌, ℕ, List, [], Option, false, ap, refl, subst, append-nil, Ghosts}
+use Rattle.twkb_convert.proofs.Prelude.{◌≡◌, ◌∙◌, ℕ, List, [], Option, false, ap, refl, subst, append-nil}
 use Rattle.twkb_convert.proofs.Prelude.{count_failure, Refused, Sent, Took, is_spent, output_failures, took_join}
-use Rattle.twkb_convert.proofs.Prelude.{Output, OutFault, Allowance, canonical_stream, Style, Reader, Located}
-use Rattle.twkb_convert.proofs.Prelude.{StreamObstacle, TableObstacle, Unfinished, sent_join, Tally}
+use Rattle.twkb_convert.proofs.Prelude.{Output, OutFault, Allowance, canonical_stream, Style}
+use Rattle.twkb_convert.proofs.Prelude.{TableObstacle, Unfinished, sent_join, Tally}
 use Rattle.twkb_io.specs.declared.output.OutFault.TheVariants as out
-use Rattle.twkb_convert.specs.BlobSending.{CutText}
-use Rattle.twkb_convert.specs.BlobSending as Blobs
 use Rattle.twkb_convert.specs.Sending.{SentTable, Stopped}
 use Rattle.twkb_convert.specs.Sending as Tables
-use Rattle.twkb_convert.specs.declared.obstacle.StreamObstacle.TheVariants as stream
 use Rattle.twkb_convert.specs.declared.obstacle.TableObstacle.TheVariants as table
 
 module _ {W : Type 0} (contents : W → Option (List ℕ)) where
@@ -80,51 +77,5 @@ module _ {W : Type 0} (style : Style) (l : Allowance) (contents : W → Option (
         count = s.count;
         explains = (λ far. absurd (short far), unspent);
         failures = failed.failures ∙ ap (count_failure (Tables.is_write (table.Output f))) wrote;
-        unspent = tt;
-      }
-
--- ---- streams
-
-stream_unless : (why : StreamObstacle) (P Q : Type 0) → (P → Q) → Blobs.UnlessOutput why P → Blobs.UnlessOutput why Q
-stream_unless (stream.Stream f) P Q more p = more p
-stream_unless (stream.Output f) P Q more p = tt
-
-stream_wrote : (why : StreamObstacle) → ((f : OutFault) → why ≡ stream.Output f → ⊥) → Blobs.is_write why ≡ false
-stream_wrote (stream.Stream f) none = refl
-stream_wrote (stream.Output f) none = absurd (none f refl)
-
-module _ {R W : Type 0} {read : Ghosts R} (text_of : List Located → List ℕ) (contents : W → Option (List ℕ)) where
-  -- a flush after a prefix of the text
-  pub cut_flushed : (from to : Reader R read) (old mid new : Output W)
-      (stop : Unfinished StreamObstacle) → CutText text_of contents from old to mid stop
-      → Took contents mid [] new
-      → CutText text_of contents from old to new stop
-  cut_flushed from to old mid new stop s flushed = record {
-    text = s.text;
-    part = s.part;
-    sends = sent_with contents old mid new s.text s.sends flushed.sends;
-    count = s.count;
-    explains = s.explains;
-    failures = flushed.failures ∙ s.failures;
-    unspent = stream_unless stop.why (is_spent mid ≡ false) (is_spent new ≡ false) (λ e. flushed.spent ∙ e) s.unspent;
-  }
-
-  -- a failed flush after a prefix of the text
-  pub cut_unflushed : (from to : Reader R read) (old mid new : Output W)
-      (stop : Unfinished StreamObstacle) (f : OutFault)
-      → ((e : OutFault) → stop.why ≡ stream.Output e → ⊥)
-      → CutText text_of contents from old to mid stop → Refused contents mid [] f new
-      → (f ≡ out.TooLong → ⊥) → (f ≡ out.Spent → ⊥)
-      → CutText text_of contents from old to new (record { done = stop.done; why = stream.Output f })
-  cut_unflushed from to old mid new stop f none s failed short unspent =
-      let wrote : output_failures mid ≡ output_failures old = s.failures
-      ∙ ap (λ b. count_failure b (output_failures old)) (stream_wrote stop.why none) in
-      record {
-        text = s.text;
-        part = s.part;
-        sends = sent_with contents old mid new s.text s.sends failed.sends;
-        count = s.count;
-        explains = (λ far. absurd (short far), unspent);
-        failures = failed.failures ∙ ap (count_failure (Blobs.is_write (stream.Output f))) wrote;
         unspent = tt;
       }

@@ -2,7 +2,7 @@
 pub use Rattle.std.proofs.Common.{◌≡◌, ◌∙◌, ℕ, List, [], ◌∷◌, ◌++◌, Some, None, ap, refl, sym, subst, inl, inr}
 pub use Rattle.std.proofs.Common.{append_assoc, ◌+◌, ◌<◌, ◌^◌, Option, Bool, true, false, length, arith, ◌≤◌, ◌-◌}
 pub use Rattle.std.proofs.Common.{Err, length-append, Result, Ok}
-pub use Rattle.std.specs.Prelude.{◌⊎◌, map, IfSome, IfOk, IfErr}
+pub use Rattle.std.specs.Prelude.{◌⊎◌, ◌≢◌, map, IfSome, IfOk, IfErr}
 pub use Rattle.std.proofs.lemmas.List.{append-nil, map-append, length-map, append_cancel_left}
 pub use Rattle.std.proofs.lemmas.Grind.{flat_map-append}
 pub use Rattle.std.specs.Io.KnownBytes.{Appends, IsAtEnd, Consumes}
@@ -39,7 +39,6 @@ pub use Rattle.twkb_convert.specs.LocatedBlobs.{LocatedStream, geometries_of, Te
 pub use Rattle.twkb_convert.specs.LocatedBlobs.{lines_text}
 pub use Rattle.twkb_convert.specs.Listings.{Layout, listing_text, blobs_text}
 pub use Rattle.twkb_convert.specs.Devices.{IsDeviceCause, Changes}
-pub use Rattle.twkb_convert.specs.declared.obstacle.StreamObstacle.{StreamObstacle}
 pub use Rattle.twkb_convert.specs.declared.obstacle.TableObstacle.{TableObstacle}
 pub use Rattle.twkb_convert.specs.declared.obstacle.Unfinished.{Unfinished}
 pub use Rattle.twkb_convert.specs.declared.report.Cause.{Cause}

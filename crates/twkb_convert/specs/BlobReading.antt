@@ -1,22 +1,26 @@
--- The effect of one call of a reader of blobs on the bytes left.
-use Rattle.std.specs.Prelude.{ℕ, ◌≡◌, ◌+◌, ◌<◌, List, [], ◌++◌, length, Bool, Option, IfSome, ⊤}
-use Rattle.std.specs.Io.KnownBytes.{Consumes}
+-- The effect of reading one blob and making its text, on the bytes left and on the reader.
+use Rattle.std.specs.Prelude.{ℕ, ◌≡◌, ◌+◌, ◌<◌, ◌≤◌, List, [], ◌++◌, length, Bool, true, false, Option, IfSome, ⊤}
+use Rattle.std.specs.Prelude.{Result, Ok, Err}
+use Rattle.std.specs.Io.KnownBytes.{Consumes, IsAtEnd}
 use Rattle.std.specs.Borrow.{MutBor}
 use Rattle.std.specs.declared.io.traits.Read.{Ghosts}
 use Rattle.twkb_io.specs.declared.tap.Tap.{Tap}
-use Rattle.twkb_io.specs.declared.input.InFault.TheVariants as input
 use Rattle.twkb_io.specs.Inputs as Inputs
+use Rattle.twkb_io.specs.Taps.{count_failure}
 use Rattle.twkb_io.specs.declared.TheConstants.{MAX_BYTES}
 use Rattle.twkb_tree.specs.Limits.{Allowance}
 use Rattle.twkb_grammar.specs.Fault.{FirstFault}
 use Rattle.twkb_engine.specs.declared.blob_reason.BlobReason.{BlobReason}
 use Rattle.twkb_engine.specs.Stops.{reason_of}
-use Rattle.twkb_blob.specs.Readers.{AreCutOff, reader_input, reader_limits, told_by}
-use Rattle.twkb_blob.specs.declared.fault.BlobFault.{BlobFault}
-use Rattle.twkb_blob.specs.declared.fault.BlobFault.TheVariants as stop
+use Rattle.twkb_blob.specs.Readers.{AreCutOff, has_ended, is_spent, reader_input, reader_limits, told_by}
+use Rattle.twkb_blob.specs.Through.{IsAbreast}
 use Rattle.twkb_blob.specs.declared.reader.Reader.{Reader}
+use Rattle.twkb_blob.specs.declared.session.Session.{Session}
 use Rattle.twkb_blob.specs.declared.spans.Located.{Located}
 use Rattle.twkb_convert.specs.LocatedBlobs.{TellsSpans}
+use Rattle.twkb_convert.specs.Listings.{Layout}
+use Rattle.twkb_convert.specs.declared.report.Cause.{Cause}
+use Rattle.twkb_convert.specs.declared.report.Cause.TheVariants as cause
 
 -- the borrowed tap
 abbrev pub reader_tap : {R : Type 0} {read : Ghosts R} → Reader R read → MutBor (Tap R)
@@ -72,12 +76,59 @@ pub record GaveOnly (limits : Allowance) (old : Option (List ℕ)) (bytes : List
   pub consumed : Consumes old told (bytes ++ cut)
   pub cut_off : AreCutOff limits cut
 
--- what a fault says if no blob was read, given the bytes left, the number of bytes before them, and
+-- what a cause says if no blob was read, given the bytes left, the number of bytes before them, and
 -- the bytes that the device still gives
-abbrev pub Misses : Allowance → Option (List ℕ) → ℕ → Option (List ℕ) → BlobFault → Type 0
-Misses limits old before told stop.Memory = ⊤
-Misses limits old before told (stop.Device input.Read) = GaveOnly limits old [] told
-Misses limits old before told (stop.Device input.TooLong) = IfSome old (λ bytes. MAX_BYTES < before + length bytes)
-Misses limits old before told (stop.Device input.Spent) = ⊥
-Misses limits old before told stop.Spent = ⊥
-Misses limits old before told (stop.At offset why) = IfSome old (λ bytes. RefusesBlob limits bytes before offset why)
+abbrev pub Misses : Allowance → Option (List ℕ) → ℕ → Option (List ℕ) → Cause → Type 0
+Misses limits old before told cause.Memory = ⊤
+Misses limits old before told cause.ReadDevice = GaveOnly limits old [] told
+Misses limits old before told cause.TooLong = IfSome old (λ bytes. MAX_BYTES < before + length bytes)
+Misses limits old before told (cause.Blob offset why) = IfSome old (λ bytes. RefusesBlob limits bytes before offset why)
+Misses limits old before told cause.WriteDevice = ⊥
+Misses limits old before told (cause.Row number reason) = ⊥
+Misses limits old before told cause.TooManyRecords = ⊥
+
+-- whether the cause is a failed read
+abbrev pub is_read : Cause → Bool
+is_read cause.ReadDevice = true
+is_read _ = false
+
+-- The reader kept its tap and its limits, and the tap counted whether a read failed.
+pub record Follows {R : Type 0} {read : Ghosts R} (old new : Reader R read) (has_failed : Bool) : Type 0 where
+  pub same_tap : (reader_tap new).ghost_name ≡ (reader_tap old).ghost_name
+  pub limits : limits_of new ≡ limits_of old
+  pub failures : reader_failures new ≡ count_failure has_failed (reader_failures old)
+  pub within : given new ≤ MAX_BYTES
+
+-- The reader is between two blobs, as is its session, and no call was refused or found the end.
+pub record IsBetween {R : Type 0} {read : Ghosts R} (reader : Reader R read) (s : Session) : Type 0 where
+  pub fresh : is_spent reader ≡ false
+  pub going_on : has_ended reader ≡ false
+  pub input : is_input_spent reader ≡ false
+  pub abreast : IsAbreast (limits_of reader) (reader_input reader) s
+
+-- One blob was read, this is its text, and the reader is between two blobs.
+pub record GivesText {R : Type 0} {read : Ghosts R} (layout : Layout) (from to : Reader R read)
+    (s : Session) (text : List ℕ) : Type 0 where
+  pub found : Located
+  pub gives : GivesBlob (limits_of from) (rest_of from) (given from) found (rest_of to) (given to)
+  pub own : text ≡ layout.text_of found
+  pub follows : Follows from to false
+  pub between : IsBetween to s
+
+-- No byte is left for another blob, nor in the device.
+pub record EndsBlobs {R : Type 0} {read : Ghosts R} (from to : Reader R read) : Type 0 where
+  pub empty : IsAtEnd (rest_of from)
+  pub ended : IfSome (rest_of from) (λ bytes. IsAtEnd (told_of to))
+  pub follows : Follows from to false
+
+-- No text was made, for this cause.
+pub record MissesText {R : Type 0} {read : Ghosts R} (from to : Reader R read) (why : Cause) : Type 0 where
+  pub misses : Misses (limits_of from) (rest_of from) (given from) (told_of to) why
+  pub follows : Follows from to (is_read why)
+
+-- the result of reading the next blob and making its text
+abbrev pub ReadsText : {R : Type 0} {read : Ghosts R} → Layout → Reader R read → Reader R read
+    → Session → List ℕ → Result Bool Cause → Type 0
+ReadsText layout from to s text (Ok true) = GivesText layout from to s text
+ReadsText layout from to s text (Ok false) = EndsBlobs from to
+ReadsText layout from to s text (Err why) = MissesText from to why

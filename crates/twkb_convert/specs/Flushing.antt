@@ -1,7 +1,11 @@
 -- What is flushed when a conversion ends.
-use Rattle.std.specs.Prelude.{◌≡◌, ◌≢◌, Result, Ok, Err, false}
+use Rattle.std.specs.Prelude.{◌≡◌, ◌≢◌, ◌⊎◌, ℕ, List, [], Option, Result, Ok, Err, false, true}
 use Rattle.twkb_io.specs.declared.tap.Tap.{Tap}
 use Rattle.twkb_io.specs.Taps.{has_unflushed}
+use Rattle.twkb_io.specs.Outputs.{Refused, Took, is_spent, output_tap}
+use Rattle.twkb_io.specs.declared.output.Output.{Output}
+use Rattle.twkb_io.specs.declared.output.OutFault.TheVariants as out
+use Rattle.twkb_convert.specs.declared.report.Cause.{Cause}
 use Rattle.twkb_convert.specs.declared.report.Cause.TheVariants as cause
 use Rattle.twkb_convert.specs.declared.report.ConvertFault.{ConvertFault}
 
@@ -17,3 +21,17 @@ abbrev pub IsFlushedButForDevices : {T W : Type 0} → Result T ConvertFault →
 IsFlushedButForDevices (Ok report) writer = has_unflushed writer ≡ false
 IsFlushedButForDevices (Err fault) writer = fault.cause ≢ cause.WriteDevice
     → fault.cause ≢ cause.ReadDevice → fault.cause ≢ cause.TooLong → has_unflushed writer ≡ false
+
+-- a fact that holds unless the cause may be that the output refused a call
+abbrev pub UnlessRefused : {T : Type 0} → Result T Cause → Type 0 → Type 0
+UnlessRefused (Ok done) fact = fact
+UnlessRefused (Err why) fact = why ≢ cause.WriteDevice → why ≢ cause.TooLong → fact
+
+-- a flush after all was sent or after a stop: it passed, or was refused since a call before was, and
+-- the answer stays; or it failed
+abbrev pub Flushes : {A W : Type 0} → (W → Option (List ℕ)) → Output W → Result A Cause → Output W
+    → Result A Cause → Type 0
+Flushes contents old sending new answer =
+    (Took contents old [] new × (has_unflushed (output_tap new).now ≡ false) × (answer ≡ sending))
+    ⊎ ((is_spent old ≡ true) × (new ≡ old) × (answer ≡ sending))
+    ⊎ ((is_spent old ≡ false) × Refused contents old [] out.Write new × (answer ≡ Err cause.WriteDevice))

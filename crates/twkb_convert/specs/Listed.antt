@@ -5,18 +5,13 @@ use Rattle.std.specs.Io.KnownBytes.{Appends, IsAtEnd}
 use Rattle.twkb_io.specs.declared.TheConstants.{MAX_BYTES}
 use Rattle.twkb_io.specs.Taps.{device_of, failures_of}
 use Rattle.twkb_io.specs.declared.tap.Tap.{Tap}
-use Rattle.twkb_io.specs.declared.input.InFault.TheVariants as input
-use Rattle.twkb_io.specs.declared.output.OutFault.TheVariants as out
 use Rattle.twkb_tree.specs.Tree.{Tree}
 use Rattle.twkb_tree.specs.Limits.{Allowance}
 use Rattle.twkb_grammar.specs.Fault.{StreamFault}
 use Rattle.twkb_engine.specs.Stops.{reason_of}
-use Rattle.twkb_blob.specs.declared.fault.BlobFault.TheVariants as blob
 use Rattle.twkb_convert.specs.Devices.{CountsOne, DevicesTell}
 use Rattle.twkb_convert.specs.BlobReading.{GaveOnly}
 use Rattle.twkb_convert.specs.Fronts.{FrontOfText}
-use Rattle.twkb_convert.specs.declared.obstacle.StreamObstacle.{StreamObstacle}
-use Rattle.twkb_convert.specs.declared.obstacle.StreamObstacle.TheVariants as obstacle
 use Rattle.twkb_convert.specs.declared.report.Report.{Report}
 use Rattle.twkb_convert.specs.declared.report.ConvertFault.{ConvertFault}
 use Rattle.twkb_convert.specs.declared.report.Cause.{Cause}
@@ -68,16 +63,3 @@ pub record StoppedListing {R W A : Type 0} (AreBlobs : List ℕ → List A → T
   pub explains : ExplainsListingCause trees_of text_of l (remaining (device_of reader))
       (remaining (device_of read)) part.bytes fault.cause part.whole part.later part.left
   pub devices : DevicesTell CountsOne reader writer fault.cause read written
-
--- the cause that the caller is given for an obstacle
-abbrev pub cause_of_obstacle : StreamObstacle → Cause
-cause_of_obstacle (obstacle.Stream blob.Memory) = cause.Memory
-cause_of_obstacle (obstacle.Stream (blob.Device input.Read)) = cause.ReadDevice
-cause_of_obstacle (obstacle.Stream (blob.Device input.TooLong)) = cause.TooLong
-cause_of_obstacle (obstacle.Stream (blob.Device input.Spent)) = cause.TooLong
-cause_of_obstacle (obstacle.Stream blob.Spent) = cause.TooLong
-cause_of_obstacle (obstacle.Stream (blob.At offset reason)) = cause.Blob offset reason
-cause_of_obstacle (obstacle.Output out.Write) = cause.WriteDevice
-cause_of_obstacle (obstacle.Output out.Stuck) = cause.WriteDevice
-cause_of_obstacle (obstacle.Output out.TooLong) = cause.TooLong
-cause_of_obstacle (obstacle.Output out.Spent) = cause.TooLong

@@ -145,6 +145,21 @@ pub record Stopped {W : Type 0} (style : Style) (l : Allowance) (contents : W �
   pub failures : output_failures new ≡ count_failure (is_write stop.why) (output_failures old)
   pub unspent : UnlessOutput stop.why (is_spent new ≡ is_spent old)
 
+-- what was sent up to the first state goes on to the second, with so many geometries at each
+abbrev pub SendsMore : {R W : Type 0} → Style → (R → Option (List ℕ)) → (W → Option (List ℕ))
+    → TableReader R → Output W → ℕ → Work → TableReader R → Output W → ℕ → Work → Type 0
+SendsMore {R} {W} style remaining contents from old done before to new now after = (l : Allowance)
+    (told : Option (List ℕ)) (first : Output W) → SentSoFar style l remaining contents told from first old done before
+    → SentSoFar style l remaining contents told to first new now after
+
+-- what was sent up to the first state stopped
+abbrev pub StopsAfter : {R W : Type 0} → Style → (R → Option (List ℕ)) → (W → Option (List ℕ))
+    → TableReader R → Output W → ℕ → Work → Output W → Unfinished TableObstacle → Type 0
+StopsAfter {R} {W} style remaining contents from old done before new stop = (l : Allowance)
+    (told : Option (List ℕ)) (given : ℕ) (first : Output W) → is_spent first ≡ false
+    → SentSoFar style l remaining contents told from first old done before
+    → Stopped style l contents told given first new stop
+
 -- the whole table was sent, or a prefix of its output
 abbrev pub SendsTable : {W : Type 0} → Style → Allowance → (W → Option (List ℕ)) → Option (List ℕ)
     → ℕ → Output W → Output W → Result Tally (Unfinished TableObstacle) → Type 0

@@ -1,14 +1,14 @@
 //! The texts that are made of a stream's blobs: rows of a table, or lines of headers.
-ghost use Rattle.std.specs.Prelude.{◌≡◌, ℕ, List, false, true, IfOk, IfErr};
-ghost use Rattle.twkb_blob.specs.Readers.{has_ended, is_spent};
-ghost use Rattle.twkb_convert.specs.BlobReading.{is_input_spent};
-ghost use Rattle.twkb_convert.specs.BlobSending.{EndsBlobs, Follows, GivesText, IsReady, StopsText, is_read_stop};
+ghost use Rattle.std.specs.Prelude.{◌≡◌, ℕ, List};
+ghost use Rattle.twkb_convert.specs.BlobReading.{IsBetween, ReadsText};
 ghost use Rattle.twkb_convert.specs.Listings.{Layout};
 
+use crate::causes::cause_of_blob;
+use crate::report::Cause;
 use crate::span_line::put_lines;
 use std::alloc::{AllocError, Global};
 use std::io::Read;
-use twkb_blob::{BlobFault, Reader, Session, Spans};
+use twkb_blob::{Reader, Session, Spans};
 use twkb_flat::Work;
 use twkb_table::{header_text, put_flat_rows};
 
@@ -33,20 +33,9 @@ pub(crate) trait BlobText {
         &mut self,
         reader: &mut Reader<'_, R>,
         session: &mut Session,
-    ) -> Result<bool, BlobFault>
-        requires reader { is_spent reader.old ≡ false }
-        requires going_on { has_ended reader.old ≡ false }
-        requires input { is_input_spent reader.old ≡ false }
-        requires session { IsReady reader.old session.old }
-        ensures more { IfOk result (λ found. found ≡ true → GivesText layout reader.old reader.new (made self.new)) }
-        ensures fresh { IfOk result (λ found. is_spent reader.new ≡ false) }
-        ensures going_on { IfOk result (λ found. found ≡ true → has_ended reader.new ≡ false) }
-        ensures input { IfOk result (λ found. found ≡ true → is_input_spent reader.new ≡ false) }
-        ensures session { IfOk result (λ found. found ≡ true → IsReady reader.new session.new) }
-        ensures end { IfOk result (λ found. found ≡ false → EndsBlobs R.remaining reader.old reader.new) }
-        ensures follows { IfOk result (λ found. Follows reader.old reader.new false) }
-        ensures err { IfErr result (λ fault. StopsText reader.old fault reader.new) }
-        ensures stops { IfErr result (λ fault. Follows reader.old reader.new (is_read_stop fault)) };
+    ) -> Result<bool, Cause>
+        requires between { IsBetween reader.old session.old }
+        ensures reads { ReadsText layout reader.old reader.new session.new (made self.new) result };
 }
 
 // The bytes that a text has room for at first.
@@ -98,18 +87,18 @@ impl BlobText for TableRows {
         &mut self,
         reader: &mut Reader<'_, R>,
         session: &mut Session,
-    ) -> Result<bool, BlobFault> {
+    ) -> Result<bool, Cause> {
         match reader.next_through(session) {
             Ok(true) => {}
             Ok(false) => return Ok(false),
-            Err(fault) => return Err(fault),
+            Err(fault) => return Err(cause_of_blob(fault)),
         }
         self.text.clear();
         if make_room(&mut self.text).is_err() {
-            return Err(BlobFault::Memory);
+            return Err(Cause::Memory);
         }
         if put_flat_rows(session.rows(), &mut Work::new(), &mut self.text).is_err() {
-            return Err(BlobFault::Memory);
+            return Err(Cause::Memory);
         }
         Ok(true)
     }
@@ -151,18 +140,18 @@ impl BlobText for HeaderLines {
         &mut self,
         reader: &mut Reader<'_, R>,
         session: &mut Session,
-    ) -> Result<bool, BlobFault> {
+    ) -> Result<bool, Cause> {
         match reader.next_spans_through(session, &mut self.spans) {
             Ok(true) => {}
             Ok(false) => return Ok(false),
-            Err(fault) => return Err(fault),
+            Err(fault) => return Err(cause_of_blob(fault)),
         }
         self.text.clear();
         if make_room(&mut self.text).is_err() {
-            return Err(BlobFault::Memory);
+            return Err(Cause::Memory);
         }
         if put_lines(self.spans.as_slice(), &mut self.text).is_err() {
-            return Err(BlobFault::Memory);
+            return Err(Cause::Memory);
         }
         Ok(true)
     }

@@ -15,7 +15,7 @@ use twkb_writer::{Depths, EncodeFault, Piece, Sizes, Style, measure_into, write_
 pub(crate) struct Room {
     depths: Depths,
     sizes: Sizes,
-    piece: Piece,
+    pub(crate) piece: Piece,
 }
 
 impl Room {

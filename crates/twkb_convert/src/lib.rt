@@ -1,11 +1,12 @@
 //! Whole conversions between tables and streams.
 #![tactic(auto)]
 
-mod blob_sending;
 mod blob_text;
 mod blob_writing;
+mod causes;
 mod conversion;
 mod draining;
+mod flushing;
 pub mod laws;
 mod obstacle;
 mod packing;

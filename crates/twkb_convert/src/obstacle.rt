@@ -1,7 +1,6 @@
 //! Obstacles, which stop a conversion before its end.
 ghost use Rattle.std.specs.Prelude.{◌≡◌};
 
-use twkb_blob::BlobFault;
 use twkb_io::OutFault;
 use twkb_table::TableFault;
 
@@ -25,15 +24,6 @@ impl TableObstacle {
     {
         matches!(self, TableObstacle::Output(_))
     }
-}
-
-// Why not all of a stream's text was sent.
-#[derive(Clone, Copy)]
-pub(crate) enum StreamObstacle {
-    // The reader gave no blob, or there was no memory for the text of one.
-    Stream(BlobFault),
-    // The output refused a put or a flush.
-    Output(OutFault),
 }
 
 // The number of geometries that were sent whole, and why no more were.

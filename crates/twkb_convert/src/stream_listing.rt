@@ -1,18 +1,21 @@
-//! A stream of blobs, read from a reader and listed to a writer.
+//! The listing of a stream of blobs: the text of each blob, sent before a byte of the next one is read.
 ghost use Rattle.std.specs.Prelude.{◌≡◌, IfOk, IfErr};
+ghost use Rattle.twkb_io.specs.Outputs.{sent_of};
+ghost use Rattle.twkb_convert.specs.BlobReading.{given};
 ghost use Rattle.twkb_convert.specs.LocatedBlobs.{LocatedStream, geometries_of};
 ghost use Rattle.twkb_convert.specs.Listings.{listing_text};
 ghost use Rattle.twkb_convert.specs.Flushing.{IsFlushed};
-ghost use Rattle.twkb_convert.specs.Listed.{Listed, StoppedListing, cause_of_obstacle};
+ghost use Rattle.twkb_convert.specs.BlobsListed.{IsGoing, Lists};
+ghost use Rattle.twkb_convert.specs.Listed.{Listed, StoppedListing};
 
-use crate::blob_sending::send_listing_and_flush;
 use crate::blob_text::BlobText;
-use crate::obstacle::StreamObstacle;
+use crate::causes::cause_of_output;
+use crate::flushing::flush_last;
 use crate::report::{Cause, ConvertFault, Report};
 use std::alloc::Global;
 use std::io::{Read, Write};
-use twkb_blob::{BlobFault, Reader};
-use twkb_io::{InFault, Input, OutFault, Output, Tap};
+use twkb_blob::{Reader, Session};
+use twkb_io::{Input, Output, Sink, Tap};
 use twkb_tree::Limits;
 
 // Writes the text of a stream of blobs, each blob's text before a byte of the next one is read.
@@ -33,31 +36,108 @@ pub(crate) fn list_stream<R: Read, W: Write, T: BlobText>(
 {
     let mut output = Output::new(writer);
     let mut blobs = Reader::new(Input::new(reader), limits);
-    let listing = send_listing_and_flush(text, alloc, limits, &mut blobs, &mut output);
+    let mut session = Session::new(alloc, limits);
+    let (done, sending) = list_blobs(text, &mut blobs, &mut session, &mut output);
+    let listed = flush_last(&mut output, sending);
     let sent = output.sent();
-    match listing {
-        Ok(done) => Ok(Report {
+    match listed {
+        Ok(()) => Ok(Report {
             geometries: done,
             bytes: sent,
         }),
-        Err(stop) => Err(ConvertFault {
-            done: stop.done,
-            sent,
-            cause: listing_cause(stop.why),
-        }),
+        Err(cause) => Err(ConvertFault { done, sent, cause }),
     }
 }
 
-// The cause that an obstacle is for a caller. No call is made after a refused one.
-fn listing_cause(obstacle: StreamObstacle) -> Cause
-    ensures { result ≡ cause_of_obstacle obstacle }
+// Sends the text of the blobs that a reader gives, and returns the number of blobs whose text was
+// sent whole.
+fn list_blobs<R: Read, W: Write, T: BlobText>(
+    text: &mut T,
+    reader: &mut Reader<'_, R>,
+    session: &mut Session,
+    output: &mut Output<'_, W>,
+) -> (u64, Result<(), Cause>)
+    requires going { IsGoing reader.old session.old output.old 0 }
+    requires unread { given reader.old ≡ 0 }
+    requires unsent { sent_of output.old ≡ 0 }
+    ensures lists { Lists T.layout W.contents reader.old output.old reader.new output.new result.0 result.1 }
 {
-    match obstacle {
-        StreamObstacle::Stream(BlobFault::At { offset, reason }) => Cause::Blob { offset, reason },
-        StreamObstacle::Stream(BlobFault::Device(InFault::Read)) => Cause::ReadDevice,
-        StreamObstacle::Output(OutFault::Write | OutFault::Stuck) => Cause::WriteDevice,
-        StreamObstacle::Stream(BlobFault::Device(_) | BlobFault::Spent) => Cause::TooLong,
-        StreamObstacle::Stream(BlobFault::Memory) => Cause::Memory,
-        StreamObstacle::Output(OutFault::TooLong | OutFault::Spent) => Cause::TooLong,
+    let mut listing = Listing {
+        reader,
+        session,
+        text,
+        output,
+        done: 0,
+    };
+    let listed = listing.send_all();
+    (listing.done, listed)
+}
+
+// A stream that is listed: the reader of its blobs, the session through which they are read, the
+// text made last, the output, and the number of blobs whose text was sent whole.
+#[derive(Drop)]
+struct Listing<'a, 'b, 'c, 'd, 'e, 'f, R: Read, W, T> {
+    reader: &'a mut Reader<'b, R>,
+    session: &'c mut Session,
+    text: &'d mut T,
+    output: &'e mut Output<'f, W>,
+    done: u64,
+}
+
+impl<'a, 'b, 'c, 'd, 'e, 'f, R: Read, W: Write, T: BlobText> Listing<
+    'a,
+    'b,
+    'c,
+    'd,
+    'e,
+    'f,
+    R,
+    W,
+    T,
+> {
+    ghost use Rattle.twkb_convert.specs.BlobsListed.{SendsNext};
+    ghost use Rattle.twkb_convert.specs.StreamListing.{Keeps};
+
+    // Sends the text before the first blob, and then the text of each blob.
+    fn send_all(&mut self) -> Result<(), Cause>
+        requires going { IsGoing self.old.reader.now self.old.session.now self.old.output.now self.old.done }
+        requires unread { given self.old.reader.now ≡ 0 }
+        requires unsent { sent_of self.old.output.now ≡ 0 }
+        ensures keeps { Keeps self.old self.new }
+        ensures lists { Lists T.layout W.contents self.old.reader.now self.old.output.now
+            self.new.reader.now self.new.output.now self.new.done result }
+    {
+        match self.output.put(T::first_line()) {
+            Ok(()) => {}
+            Err(fault) => return Err(cause_of_output(fault)),
+        }
+        loop {
+            match self.send_next() {
+                Ok(true) => {}
+                Ok(false) => return Ok(()),
+                Err(cause) => return Err(cause),
+            }
+        }
+    }
+
+    // Sends the text of the next blob in one put, and returns whether there was one.
+    fn send_next(&mut self) -> Result<bool, Cause>
+        requires going { IsGoing self.old.reader.now self.old.session.now self.old.output.now self.old.done }
+        ensures keeps { Keeps self.old self.new }
+        ensures sends { SendsNext T.layout W.contents self.old.reader.now self.old.output.now self.old.done
+            self.new.reader.now self.new.session.now self.new.output.now self.new.done result }
+    {
+        match self.text.read_next(self.reader, self.session) {
+            Ok(true) => {}
+            Ok(false) => return Ok(false),
+            Err(why) => return Err(why),
+        }
+        match self.output.put(self.text.bytes()) {
+            Ok(()) => {
+                self.done += 1;
+                Ok(true)
+            }
+            Err(fault) => Err(cause_of_output(fault)),
+        }
     }
 }

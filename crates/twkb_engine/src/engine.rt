@@ -59,7 +59,7 @@ impl Engine {
 
     /// Makes an engine that has read nothing, for a blob at this offset of a stream. Takes no memory.
     pub fn new(alloc: Global, limits: Limits, start: u64) -> Engine
-        requires room { start ≤ 2 ^ 62 }
+        requires room { start ≤ 2 ^ 63 }
         ensures stands { StandsAt [] [] result }
         ensures limits { allowance_of result ≡ limits }
         ensures begins { BeginsAt start result }

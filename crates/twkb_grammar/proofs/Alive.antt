@@ -6,7 +6,7 @@ use Rattle.std.specs.Prelude.{ℤ, ◌+ℤ◌}
 use Rattle.std.specs.List.{AllByRecursion}
 use Rattle.twkb_num.specs.Zigzag.{unzigzag_of}
 use Rattle.twkb_points.specs.Point.{Point, IsCoordinate, IsInRange}
-use Rattle.twkb_tree.specs.Tree.{count, nodes, flat, nest}
+use Rattle.twkb_tree.specs.Tree.{nodes, flat, nest}
 use Rattle.twkb_tree.specs.Limits.{Allowance}
 use Rattle.twkb_grammar.specs.Roles.{Item, Role, Header, Metadata, Extended, Size, Box, Count}
 use Rattle.twkb_grammar.specs.Roles.{Counted, Geometries, Id, X, Y, End}

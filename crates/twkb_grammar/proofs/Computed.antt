@@ -1,11 +1,12 @@
 -- Blobs and first faults by computation: the plain reader computes, and its law states what its
 -- answer means.
-use Rattle.std.proofs.Common.{◌≡◌, ℕ, Bool, true, false, List, [], ◌∷◌, arith}
+use Rattle.std.proofs.Common.{◌≡◌, ℕ, ◌<◌, ◌≤◌, Bool, true, false, List, [], ◌∷◌, arith}
 use Rattle.std.specs.Prelude.{nat_lt, ◌&&◌, ◌≢◌}
 use Rattle.std.proofs.lemmas.Bool.{ltb-true}
 use Rattle.std.proofs.Common.{append-nil, subst, sym, ◌∙◌}
 use Rattle.twkb_tree.specs.Tree.{Tree}
 use Rattle.twkb_tree.specs.Limits.{Allowance, IsAllowance}
+use Rattle.twkb_tree.specs.declared.limits.TheConstants.{NEST_CAP, NODES_CAP, POINTS_CAP}
 use Rattle.twkb_grammar.specs.Bits.{AreBytes}
 use Rattle.twkb_grammar.specs.Blob.{Blob, BlobInFront}
 use Rattle.twkb_grammar.specs.Fault.{Reason, FirstFault}
@@ -14,53 +15,27 @@ use Rattle.twkb_grammar.specs.Samples.{standard, nest_eight, no_nest, two_nodes,
 use Rattle.twkb_grammar.proofs.Stepping.{both}
 use Rattle.twkb_grammar.proofs.Either.{made_exactly, refused_exactly}
 
+allowed : {l : Allowance} → l.nest ≤ NEST_CAP → 0 < l.nodes → l.nodes ≤ NODES_CAP → l.points ≤ POINTS_CAP
+    → IsAllowance l
+allowed nest one nodes points = record { nest_cap = nest; one_node = one; nodes_cap = nodes; points_cap = points }
+
 pub standard_allowed : IsAllowance standard
-standard_allowed = record {
-  nest_cap = omega arith;
-  one_node = omega arith;
-  nodes_cap = omega arith;
-  points_cap = omega arith;
-}
+standard_allowed = allowed {l = standard} (omega arith) (omega arith) (omega arith) (omega arith)
 
 pub nest_eight_allowed : IsAllowance nest_eight
-nest_eight_allowed = record {
-  nest_cap = omega arith;
-  one_node = omega arith;
-  nodes_cap = omega arith;
-  points_cap = omega arith;
-}
+nest_eight_allowed = allowed {l = nest_eight} (omega arith) (omega arith) (omega arith) (omega arith)
 
 pub no_nest_allowed : IsAllowance no_nest
-no_nest_allowed = record {
-  nest_cap = omega arith;
-  one_node = omega arith;
-  nodes_cap = omega arith;
-  points_cap = omega arith;
-}
+no_nest_allowed = allowed {l = no_nest} (omega arith) (omega arith) (omega arith) (omega arith)
 
 pub two_nodes_allowed : IsAllowance two_nodes
-two_nodes_allowed = record {
-  nest_cap = omega arith;
-  one_node = omega arith;
-  nodes_cap = omega arith;
-  points_cap = omega arith;
-}
+two_nodes_allowed = allowed {l = two_nodes} (omega arith) (omega arith) (omega arith) (omega arith)
 
 pub one_point_only_allowed : IsAllowance one_point_only
-one_point_only_allowed = record {
-  nest_cap = omega arith;
-  one_node = omega arith;
-  nodes_cap = omega arith;
-  points_cap = omega arith;
-}
+one_point_only_allowed = allowed {l = one_point_only} (omega arith) (omega arith) (omega arith) (omega arith)
 
 pub no_points_allowed : IsAllowance no_points
-no_points_allowed = record {
-  nest_cap = omega arith;
-  one_node = omega arith;
-  nodes_cap = omega arith;
-  points_cap = omega arith;
-}
+no_points_allowed = allowed {l = no_points} (omega arith) (omega arith) (omega arith) (omega arith)
 
 -- each number is below 256
 abbrev small : List ℕ → Bool

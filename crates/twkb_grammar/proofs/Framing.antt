@@ -28,129 +28,28 @@ record Says (meta : ℕ) (own : Flags) (sized box : Bool) : Type 0 where
   pub empty_is : bit meta 4 ≡ is_empty own
   pub agrees : Agrees own meta
 
+says : (meta : ℕ) {own : Flags} {sized box : Bool} → meta < 256 → bit meta 3 ≡ false → bit meta 1 ≡ sized
+    → bit meta 0 ≡ box → bit meta 4 ≡ is_empty own → Agrees own meta → Says meta own sized box
+says meta b x s o m a = record { byte = b; extended = x; sized_is = s; box_is = o; empty_is = m; agrees = a }
+
 full_says : (own : Flags) (box : Bool) → Says (flag_bits own + ((if box then 1 else 0) + 2)) own true box
-full_says MustBeEmpty true = record {
-  byte = omega arith;
-  extended = refl;
-  sized_is = refl;
-  box_is = refl;
-  empty_is = refl;
-  agrees = refl;
-}
-full_says MustBeEmpty false = record {
-  byte = omega arith;
-  extended = refl;
-  sized_is = refl;
-  box_is = refl;
-  empty_is = refl;
-  agrees = refl;
-}
-full_says MayBeEmpty true = record {
-  byte = omega arith;
-  extended = refl;
-  sized_is = refl;
-  box_is = refl;
-  empty_is = refl;
-  agrees = tt;
-}
-full_says MayBeEmpty false = record {
-  byte = omega arith;
-  extended = refl;
-  sized_is = refl;
-  box_is = refl;
-  empty_is = refl;
-  agrees = tt;
-}
-full_says HasBody true = record {
-  byte = omega arith;
-  extended = refl;
-  sized_is = refl;
-  box_is = refl;
-  empty_is = refl;
-  agrees = refl;
-}
-full_says HasBody false = record {
-  byte = omega arith;
-  extended = refl;
-  sized_is = refl;
-  box_is = refl;
-  empty_is = refl;
-  agrees = refl;
-}
-full_says (HasMembers true) true = record {
-  byte = omega arith;
-  extended = refl;
-  sized_is = refl;
-  box_is = refl;
-  empty_is = refl;
-  agrees = (refl, refl);
-}
-full_says (HasMembers true) false = record {
-  byte = omega arith;
-  extended = refl;
-  sized_is = refl;
-  box_is = refl;
-  empty_is = refl;
-  agrees = (refl, refl);
-}
-full_says (HasMembers false) true = record {
-  byte = omega arith;
-  extended = refl;
-  sized_is = refl;
-  box_is = refl;
-  empty_is = refl;
-  agrees = (refl, refl);
-}
-full_says (HasMembers false) false = record {
-  byte = omega arith;
-  extended = refl;
-  sized_is = refl;
-  box_is = refl;
-  empty_is = refl;
-  agrees = (refl, refl);
-}
+full_says MustBeEmpty true = says _ (omega arith) refl refl refl refl refl
+full_says MustBeEmpty false = says _ (omega arith) refl refl refl refl refl
+full_says MayBeEmpty true = says _ (omega arith) refl refl refl refl tt
+full_says MayBeEmpty false = says _ (omega arith) refl refl refl refl tt
+full_says HasBody true = says _ (omega arith) refl refl refl refl refl
+full_says HasBody false = says _ (omega arith) refl refl refl refl refl
+full_says (HasMembers true) true = says _ (omega arith) refl refl refl refl (refl, refl)
+full_says (HasMembers true) false = says _ (omega arith) refl refl refl refl (refl, refl)
+full_says (HasMembers false) true = says _ (omega arith) refl refl refl refl (refl, refl)
+full_says (HasMembers false) false = says _ (omega arith) refl refl refl refl (refl, refl)
 
 plain_says : (own : Flags) → Says (flag_bits own) own false false
-plain_says MustBeEmpty = record {
-  byte = omega arith;
-  extended = refl;
-  sized_is = refl;
-  box_is = refl;
-  empty_is = refl;
-  agrees = refl;
-}
-plain_says MayBeEmpty = record {
-  byte = omega arith;
-  extended = refl;
-  sized_is = refl;
-  box_is = refl;
-  empty_is = refl;
-  agrees = tt;
-}
-plain_says HasBody = record {
-  byte = omega arith;
-  extended = refl;
-  sized_is = refl;
-  box_is = refl;
-  empty_is = refl;
-  agrees = refl;
-}
-plain_says (HasMembers true) = record {
-  byte = omega arith;
-  extended = refl;
-  sized_is = refl;
-  box_is = refl;
-  empty_is = refl;
-  agrees = (refl, refl);
-}
-plain_says (HasMembers false) = record {
-  byte = omega arith;
-  extended = refl;
-  sized_is = refl;
-  box_is = refl;
-  empty_is = refl;
-  agrees = (refl, refl);
-}
+plain_says MustBeEmpty = says _ (omega arith) refl refl refl refl refl
+plain_says MayBeEmpty = says _ (omega arith) refl refl refl refl tt
+plain_says HasBody = says _ (omega arith) refl refl refl refl refl
+plain_says (HasMembers true) = says _ (omega arith) refl refl refl refl (refl, refl)
+plain_says (HasMembers false) = says _ (omega arith) refl refl refl refl (refl, refl)
 
 -- items that spell these bytes, with exact sizes
 pub record Spelling (Are : List Item → Type 0) (bytes : List ℕ) : Type 0 where

@@ -232,91 +232,51 @@ flat_back : (h : Head) (f : Form) (fs : List Frame) (tree : Tree) (e : Sums) (is
     → Value h f None fs tree (depth_of f) top e is
 flat_back h f fs tree e is r = value_back h f None fs tree (depth_of f) top e is r
 
+-- what items begin with, if their fields are those of a shape
+shaped : {h : Head} {f : Form} {fs : List Frame} {tree : Tree} {e : Sums} {is : List Item}
+    (shape : Simple) (front rest : List Item) → form_of shape ≡ f → IdsFit shape → Agrees (flags shape) h.meta
+    → AreFields (steps e.position (outline shape)) front → is ≡ front ++ rest
+    → Runs (sums_after e front) (fs, AtEnd h (simple h.precision shape)) rest ([], Finished tree)
+    → Shaped h f fs tree e is
+shaped shape front rest form fit agrees are whole runs = record {
+  shape = shape;
+  form = form;
+  fit = fit;
+  agrees = agrees;
+  front = front;
+  rest = rest;
+  whole = whole;
+  are = are;
+  runs = runs;
+}
+
 -- items that begin with a body
 pub shape_back : (f : Form) (h : Head) (fs : List Frame) (tree : Tree) (e : Sums) (is : List Item)
     → bit h.meta 4 ≡ false
     → Runs e (fs, begun (SimpleKind f) h) is ([], Finished tree) → Shaped h f fs tree e is
 shape_back PointForm h fs tree e is full r =
     let v = flat_back h PointForm fs tree e is r in
-    record {
-      shape = point (Some v.value);
-      form = refl;
-      fit = tt;
-      agrees = full;
-      front = v.front;
-      rest = v.rest;
-      whole = v.whole;
-      are = v.are;
-      runs = v.runs;
-    }
+    shaped (point (Some v.value)) v.front v.rest refl tt full v.are v.whole v.runs
 shape_back LineForm h fs tree e is full r =
     let v = flat_back h LineForm fs tree e is r in
-    record {
-      shape = line v.value;
-      form = refl;
-      fit = tt;
-      agrees = parts_agree v.value h.meta full;
-      front = v.front;
-      rest = v.rest;
-      whole = v.whole;
-      are = subst (λ ps. AreFields (steps e.position ps) v.front) (run_outline v.value) v.are;
-      runs = v.runs;
-    }
+    shaped (line v.value) v.front v.rest refl tt (parts_agree v.value h.meta full)
+    (subst (λ ps. AreFields (steps e.position ps) v.front) (run_outline v.value) v.are) v.whole v.runs
 shape_back PolygonForm h fs tree e is full r =
     let v = flat_back h PolygonForm fs tree e is r in
-    record {
-      shape = polygon v.value;
-      form = refl;
-      fit = tt;
-      agrees = parts_agree v.value h.meta full;
-      front = v.front;
-      rest = v.rest;
-      whole = v.whole;
-      are = subst (λ ps. AreFields (steps e.position ps) v.front) (rings_outline v.value) v.are;
-      runs = v.runs;
-    }
+    shaped (polygon v.value) v.front v.rest refl tt (parts_agree v.value h.meta full)
+    (subst (λ ps. AreFields (steps e.position ps) v.front) (rings_outline v.value) v.are) v.whole v.runs
 shape_back MultiPointForm h fs tree e is full r =
     let v = parts_back ManyPoints h MultiPointForm 0 top fs tree e is (λ ids n. refl) full r in
-    record {
-      shape = multi_point v.ids v.values;
-      form = refl;
-      fit = v.fit;
-      agrees = v.agrees;
-      front = v.front;
-      rest = v.rest;
-      whole = v.whole;
-      are = subst (λ ps. AreFields (steps e.position
-          (OfCount Counted.Points (length v.values) ∷ id_places v.ids ++ ps)) v.front)
-          (points_outline v.values) v.are;
-      runs = v.runs;
-    }
+    shaped (multi_point v.ids v.values) v.front v.rest refl v.fit v.agrees
+    (subst (λ ps. AreFields (steps e.position (OfCount Counted.Points (length v.values) ∷ id_places v.ids
+    ++ ps)) v.front) (points_outline v.values) v.are) v.whole v.runs
 shape_back MultiLineForm h fs tree e is full r =
     let v = parts_back ManyLines h MultiLineForm 1 top fs tree e is (λ ids n. refl) full r in
-    record {
-      shape = multi_line v.ids v.values;
-      form = refl;
-      fit = v.fit;
-      agrees = v.agrees;
-      front = v.front;
-      rest = v.rest;
-      whole = v.whole;
-      are = subst (λ ps. AreFields (steps e.position
-          (OfCount Counted.Parts (length v.values) ∷ id_places v.ids ++ ps)) v.front)
-          (runs_outline v.values) v.are;
-      runs = v.runs;
-    }
+    shaped (multi_line v.ids v.values) v.front v.rest refl v.fit v.agrees
+    (subst (λ ps. AreFields (steps e.position (OfCount Counted.Parts (length v.values) ∷ id_places v.ids
+    ++ ps)) v.front) (runs_outline v.values) v.are) v.whole v.runs
 shape_back MultiPolygonForm h fs tree e is full r =
     let v = parts_back ManyPolygons h MultiPolygonForm 2 top fs tree e is (λ ids n. refl) full r in
-    record {
-      shape = multi_polygon v.ids v.values;
-      form = refl;
-      fit = v.fit;
-      agrees = v.agrees;
-      front = v.front;
-      rest = v.rest;
-      whole = v.whole;
-      are = subst (λ ps. AreFields (steps e.position
-          (OfCount Counted.Parts (length v.values) ∷ id_places v.ids ++ ps)) v.front)
-          (areas_outline v.values) v.are;
-      runs = v.runs;
-    }
+    shaped (multi_polygon v.ids v.values) v.front v.rest refl v.fit v.agrees
+    (subst (λ ps. AreFields (steps e.position (OfCount Counted.Parts (length v.values) ∷ id_places v.ids
+    ++ ps)) v.front) (areas_outline v.values) v.are) v.whole v.runs

@@ -8,7 +8,8 @@ use Rattle.twkb_tree.specs.Tree.{Tree, simple, collection, Trees, end, ◌▷◌
 use Rattle.twkb_tree.specs.Tree.{IsPrecision, IsTree, AreTrees}
 use Rattle.twkb_grammar.specs.Bits.{bit}
 use Rattle.twkb_grammar.specs.Roles.{Item, Extended, Size, Box, Count, Geometries, AreFields, HaveRoles, where_set}
-use Rattle.twkb_grammar.specs.Items.{id_places, outline, Agrees, flags_all, Items, ItemsOfAll, id_fields}
+use Rattle.twkb_grammar.specs.Items.{id_places, outline, fields, Agrees, Flags, flags_all, Items, ItemsOfAll}
+use Rattle.twkb_grammar.specs.Items.{id_fields, BodyAt, Framed}
 use Rattle.twkb_grammar.specs.Machine.{Kind, SimpleKind, CollectionKind, Form, PointForm, LineForm}
 use Rattle.twkb_grammar.specs.Machine.{PolygonForm, MultiPointForm, MultiLineForm, MultiPolygonForm}
 use Rattle.twkb_grammar.specs.Machine.{kind_number, Head, Frame, AtHeader, AtEnd, Finished}
@@ -25,11 +26,11 @@ use Rattle.twkb_grammar.proofs.ShapesBack.{first_back, shape_back}
 use Rattle.twkb_grammar.proofs.HeadersBack.{framed, Bodied, BodyBack, TreeBack, Parsed, header_back}
 
 module _ (tree : Tree) where
-  -- the items begin with the remaining members of a collection, after which it is at its end
-  record Remaining (left : ℕ) (h : Head) (ids : Ids) (done : Trees) (fs : List Frame) (e : Sums)
+  -- the items begin with the remaining members of a collection, so many, after which it is at its end
+  record Remaining (n : ℕ) (h : Head) (ids : Ids) (done : Trees) (fs : List Frame) (e : Sums)
       (is : List Item) : Type 0 where
     members : Trees
-    many : count members ≡ suc left
+    many : count members ≡ n
     fits : AreTrees members
     front : List Item
     rest : List Item
@@ -39,7 +40,7 @@ module _ (tree : Tree) where
 
   members_back : (n : ℕ) → TreeBack tree n → (left : ℕ) (h : Head) (ids : Ids) (done : Trees)
       (fs : List Frame) (e : Sums) (is : List Item) → length is ≤ n
-      → Runs e (frame h ids done left ∷ fs, AtHeader) is (fin tree) → Remaining left h ids done fs e is
+      → Runs e (frame h ids done left ∷ fs, AtHeader) is (fin tree) → Remaining (suc left) h ids done fs e is
   members_back n one zero h ids done fs e is fuel r =
       let t = one (frame h ids done 0 ∷ fs) e is fuel r in
       record {
@@ -74,89 +75,40 @@ module _ (tree : Tree) where
             (joined-snoc done t.geometry more.members) more.runs);
       }
 
-  empty_items : (f : Form) (level : ℕ) (p : ℤ) (meta : ℕ) (extended size box : List Item)
-      → bit meta 4 ≡ true → meta < 256 → HaveRoles (where_set (bit meta 3) (Extended ∷ [])) extended
-      → HaveRoles (where_set (bit meta 1) (Size ∷ [])) size
-      → HaveRoles (where_set (bit meta 0) (Box ∷ Box ∷ Box ∷ Box ∷ [])) box
-      → Items level (empty_of (SimpleKind f) p) (framed (kind_number (SimpleKind f)) p meta extended size box [])
-  empty_items PointForm level p meta extended size box bare b x s o =
-      record {
-        meta = meta;
-        extended = extended;
-        size = size;
-        box = box;
-        body = [];
-        byte = b;
-        optional = record { extended_is = x; size_is = s; box_is = o };
-        agrees = bare;
-        body_is = rw bare refl;
-        whole = refl;
-      }
-  empty_items LineForm level p meta extended size box bare b x s o =
-      record {
-        meta = meta;
-        extended = extended;
-        size = size;
-        box = box;
-        body = [];
-        byte = b;
-        optional = record { extended_is = x; size_is = s; box_is = o };
-        agrees = tt;
-        body_is = rw bare refl;
-        whole = refl;
-      }
-  empty_items PolygonForm level p meta extended size box bare b x s o =
-      record {
-        meta = meta;
-        extended = extended;
-        size = size;
-        box = box;
-        body = [];
-        byte = b;
-        optional = record { extended_is = x; size_is = s; box_is = o };
-        agrees = tt;
-        body_is = rw bare refl;
-        whole = refl;
-      }
-  empty_items MultiPointForm level p meta extended size box bare b x s o =
-      record {
-        meta = meta;
-        extended = extended;
-        size = size;
-        box = box;
-        body = [];
-        byte = b;
-        optional = record { extended_is = x; size_is = s; box_is = o };
-        agrees = tt;
-        body_is = rw bare refl;
-        whole = refl;
-      }
-  empty_items MultiLineForm level p meta extended size box bare b x s o =
-      record {
-        meta = meta;
-        extended = extended;
-        size = size;
-        box = box;
-        body = [];
-        byte = b;
-        optional = record { extended_is = x; size_is = s; box_is = o };
-        agrees = tt;
-        body_is = rw bare refl;
-        whole = refl;
-      }
-  empty_items MultiPolygonForm level p meta extended size box bare b x s o =
-      record {
-        meta = meta;
-        extended = extended;
-        size = size;
-        box = box;
-        body = [];
-        byte = b;
-        optional = record { extended_is = x; size_is = s; box_is = o };
-        agrees = tt;
-        body_is = rw bare refl;
-        whole = refl;
-      }
+  -- a geometry, from what its items before the body and its body are
+  module _ {kind : ℕ} {p : ℤ} {own : Flags} {Body : List Item → Type 0} (meta : ℕ) (x s o : List Item)
+      (b : meta < 256) (hx : HaveRoles (where_set (bit meta 3) (Extended ∷ [])) x)
+      (hs : HaveRoles (where_set (bit meta 1) (Size ∷ [])) s)
+      (ho : HaveRoles (where_set (bit meta 0) (Box ∷ Box ∷ Box ∷ Box ∷ [])) o) where
+    framed_items : (body : List Item) → Agrees own meta → BodyAt (bit meta 4) Body body
+        → Framed kind p own Body (framed kind p meta x s o body)
+    framed_items body agrees is = record {
+      meta = meta;
+      extended = x;
+      size = s;
+      box = o;
+      body = body;
+      byte = b;
+      optional = record { extended_is = hx; size_is = hs; box_is = ho };
+      agrees = agrees;
+      body_is = is;
+      whole = refl;
+    }
+
+    bare_items : bit meta 4 ≡ true → Agrees own meta → Framed kind p own Body (framed kind p meta x s o [])
+    bare_items bare agrees = framed_items [] agrees (subst (λ e. BodyAt e Body []) (sym bare) refl)
+
+  empty_items : (f : Form) (level : ℕ) (p : ℤ) (meta : ℕ) (x s o : List Item) → bit meta 4 ≡ true → meta < 256
+      → HaveRoles (where_set (bit meta 3) (Extended ∷ [])) x
+      → HaveRoles (where_set (bit meta 1) (Size ∷ [])) s
+      → HaveRoles (where_set (bit meta 0) (Box ∷ Box ∷ Box ∷ Box ∷ [])) o
+      → Items level (empty_of (SimpleKind f) p) (framed (kind_number (SimpleKind f)) p meta x s o [])
+  empty_items PointForm level p meta x s o bare b hx hs ho = bare_items meta x s o b hx hs ho bare bare
+  empty_items LineForm level p meta x s o bare b hx hs ho = bare_items meta x s o b hx hs ho bare tt
+  empty_items PolygonForm level p meta x s o bare b hx hs ho = bare_items meta x s o b hx hs ho bare tt
+  empty_items MultiPointForm level p meta x s o bare b hx hs ho = bare_items meta x s o b hx hs ho bare tt
+  empty_items MultiLineForm level p meta x s o bare b hx hs ho = bare_items meta x s o b hx hs ho bare tt
+  empty_items MultiPolygonForm level p meta x s o bare b hx hs ho = bare_items meta x s o b hx hs ho bare tt
 
   empty_fits : (f : Form) (p : ℤ) → IsPrecision p → IsTree (empty_of (SimpleKind f) p)
   empty_fits PointForm p h = (h, tt)
@@ -191,19 +143,10 @@ module _ (tree : Tree) where
         items = λ x s o b hx hs ho. subst (λ k. Items (length fs) (simple p v.shape)
             (framed k p meta x s o v.front)) (kind_is v.shape
             ∙ ap (λ g. kind_number (SimpleKind g)) v.form)
-            (record {
-              meta = meta;
-              extended = x;
-              size = s;
-              box = o;
-              body = v.front;
-              byte = b;
-              optional = record { extended_is = hx; size_is = hs; box_is = ho };
-              agrees = v.agrees;
-              body_is = rw full (subst (λ l. AreFields l v.front)
-                  (ap (λ q. steps q (outline v.shape)) here ∙ sym (fields_are v.shape)) v.are);
-              whole = refl;
-            });
+            (framed_items meta x s o b hx hs ho v.front v.agrees
+            (subst (λ e. BodyAt e (AreFields (fields v.shape)) v.front) (sym full)
+            (subst (λ l. AreFields l v.front) (ap (λ q. steps q (outline v.shape)) here
+            ∙ sym (fields_are v.shape)) v.are)));
         runs = v.runs;
       }
 
@@ -214,19 +157,9 @@ module _ (tree : Tree) where
   agrees_all h (Some ids) (g ▷ gs) says full = (full, says.0)
 
   -- the items begin with the members of a collection, after their count and ids
-  record All_of (n : ℕ) (h : Head) (ids : Ids) (fs : List Frame) (e : Sums) (is : List Item) : Type 0 where
-    members : Trees
-    many : count members ≡ n
-    fits : AreTrees members
-    front : List Item
-    rest : List Item
-    whole : is ≡ front ++ rest
-    items : ItemsOfAll (suc (length fs)) members front
-    runs : Runs (sums_after e front) (fs, AtEnd h (collection h.precision ids members)) rest (fin tree)
-
   all_back : (n : ℕ) → TreeBack tree n → (c : ℕ) (h : Head) (ids : Ids) (fs : List Frame) (e : Sums)
       (is : List Item) → length is ≤ n → SaysIds h ids c
-      → Runs e (members_begin ManyGeometries h fs ids c) is (fin tree) → All_of c h ids fs e is
+      → Runs e (members_begin ManyGeometries h fs ids c) is (fin tree) → Remaining c h ids end fs e is
   all_back n one zero h ids fs e is fuel says r =
       record {
         members = end;
@@ -238,18 +171,7 @@ module _ (tree : Tree) where
         items = refl;
         runs = subst (λ i. Runs e (fs, AtEnd h (collection h.precision i end)) is (fin tree)) (sym says) r;
       }
-  all_back n one (suc c) h ids fs e is fuel says r =
-      let m = members_back n one c h ids end fs e is fuel r in
-      record {
-        members = m.members;
-        many = m.many;
-        fits = m.fits;
-        front = m.front;
-        rest = m.rest;
-        whole = m.whole;
-        items = m.items;
-        runs = m.runs;
-      }
+  all_back n one (suc c) h ids fs e is fuel says r = members_back n one c h ids end fs e is fuel r
 
   gathering_back : (n : ℕ) → TreeBack tree n → (p : ℤ) (meta : ℕ) (size : Option ℕ) (from : ℕ)
       (fs : List Frame) (e : Sums) (is : List Item) → length is ≤ n → e.position ≡ origin
@@ -262,18 +184,7 @@ module _ (tree : Tree) where
         front = [];
         rest = is;
         whole = refl;
-        items = λ x s o b hx hs ho. record {
-          meta = meta;
-          extended = x;
-          size = s;
-          box = o;
-          body = [];
-          byte = b;
-          optional = record { extended_is = hx; size_is = hs; box_is = ho };
-          agrees = tt;
-          body_is = rw bare refl;
-          whole = refl;
-        };
+        items = λ x s o b hx hs ho. bare_items meta x s o b hx hs ho bare tt;
         runs = rw bare at r;
       }
   gathering_back n one p meta size from fs e is fuel here false full r =
@@ -287,28 +198,20 @@ module _ (tree : Tree) where
         front = c.front ++ m.front;
         rest = m.rest;
         whole = c.whole ∙ (ap (λ l. c.front ++ l) m.whole ∙ sym (append_assoc c.front m.front m.rest));
-        items = λ x s o b hx hs ho. record {
-          meta = meta;
-          extended = x;
-          size = s;
-          box = o;
-          body = c.front ++ m.front;
-          byte = b;
-          optional = record { extended_is = hx; size_is = hs; box_is = ho };
-          agrees = agrees_all h c.ids m.members (subst (λ n. SaysIds h c.ids n) (sym m.many) c.says) full;
-          body_is = rw full (record {
-            front = c.front;
-            rest = m.front;
-            second = m.items;
-            whole = refl;
-            first = subst (λ n. AreFields ((Count (Geometries (length fs)), n) ∷ id_fields c.ids) c.front) (sym m.many)
-                (subst (λ l. AreFields ((Count (Geometries (length fs)), c.count) ∷ l) c.front)
-                (ap (λ q. steps q (id_places c.ids)) here
-                ∙ (ap (λ ps. steps origin ps) (sym (append-nil (id_places c.ids)))
-                ∙ sym (names_steps c.ids))) c.are);
-          });
-          whole = refl;
-        };
+        items = λ x s o b hx hs ho. framed_items meta x s o b hx hs ho (c.front ++ m.front)
+            (agrees_all h c.ids m.members (subst (λ n. SaysIds h c.ids n) (sym m.many) c.says) full)
+            (rw full (record {
+              front = c.front;
+              rest = m.front;
+              second = m.items;
+              whole = refl;
+              first = subst (λ n. AreFields ((Count (Geometries (length fs)), n) ∷ id_fields c.ids) c.front)
+                  (sym m.many)
+                  (subst (λ l. AreFields ((Count (Geometries (length fs)), c.count) ∷ l) c.front)
+                  (ap (λ q. steps q (id_places c.ids)) here
+                  ∙ (ap (λ ps. steps origin ps) (sym (append-nil (id_places c.ids)))
+                  ∙ sym (names_steps c.ids))) c.are);
+            }));
         runs = subst (λ s. Runs s (fs, AtEnd h (collection p c.ids m.members)) m.rest (fin tree))
             (sym (sums_after-append c.front m.front e)) m.runs;
       }

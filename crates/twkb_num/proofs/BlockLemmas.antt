@@ -8,50 +8,18 @@ use mathlib.Core.Bool.{cond}
 use Rattle.std.specs.Prelude.{nat_eq, nat_lt}
 use Rattle.std.specs.Int.{bit_at, bit_not, trailing_zeros}
 use Rattle.std.proofs.lemmas.Bool.{cases_lt, eq-eqb, lt-ltb, le-ltb, ltb-true, eqb-true}
-use Rattle.std.proofs.lemmas.List.{drop-drop, drop-map, get_or-drop, get_or-map, get_or-take}
-use Rattle.std.proofs.lemmas.List.{get_or_past, length-drop, length-map, length-take-le, map-append}
+use Rattle.std.proofs.lemmas.List.{drop-drop, drop-map, drop_all, get_or-drop, get_or-map, get_or-take}
+use Rattle.std.proofs.lemmas.List.{get_or_past, length-drop, length-map, length-take-le}
 use Rattle.std.proofs.lemmas.List.{length-take, take-map, take-take, take_all, take_rest, drop-take}
 use Rattle.std.proofs.lemmas.Nat.{and_le_l, le_or_r, or_lt, shr-shr}
 use Rattle.std.proofs.lemmas.Nat.Bits.{bit_at-suc, bit_at_and, bit_at_or, bit_at_not}
 use Rattle.std.proofs.lemmas.Nat.Bits.{bit_at-pow_other, bit_at-trailing_zeros}
-use Rattle.std.proofs.lemmas.Simd.{bit_mask_l, chunk-fits, mask_l-lt}
+use Rattle.std.proofs.lemmas.Simd.{bit_mask_l, chunk-fits}
 use Rattle.twkb_num.specs.Block.{units_in, AreUnits, AreEnds, AreMarks, AreEndsBefore, IsFault}
 use Rattle.twkb_num.specs.declared.block.Marks.{Marks}
-use Rattle.twkb_num.proofs.FoundLemmas.{take_apart}
 use Rattle.twkb_num.proofs.LaneLemmas.{lanes_are, wrapped_sub}
 use Rattle.twkb_num.proofs.MarkLemmas.{mask_l-drop, mask_l-take}
-use Rattle.twkb_num.proofs.TableLemmas.{mask_l-append}
 use Rattle.twkb_num.proofs.TwoLemmas.{AreLanes}
-
--- ---- marks of more units
-
--- the marks of some units and of the units after them, joined
-pub marks_joined : (p : ℕ → Bool) (base n m : ℕ) (bytes : List ℕ) → n ≤ length bytes
-    → mask_l (map p (units_in base (take (n + m) bytes))) ≡ mask_l
-    (map p (units_in base (take n bytes))) + 2 ^ n * mask_l
-    (map p (units_in base (take m (drop n bytes))))
-marks_joined p base n m bytes long =
-    let unit = λ (b : ℕ). (b + (2 ^ 8 - base)) % 2 ^ 8 in
-    let front = units_in base (take n bytes) in
-    let next = units_in base (take m (drop n bytes)) in
-    let count : length (map p front) ≡ n = length-map front p ∙ length-map (take n bytes) unit
-    ∙ length-take-le n bytes long in
-    ap (λ bs. mask_l (map p (units_in base bs))) (take_apart n m (n + m) bytes refl)
-    ∙ ap (λ us. mask_l (map p us)) (map-append unit (take n bytes) (take m (drop n bytes)))
-    ∙ ap mask_l (map-append p front next)
-    ∙ mask_l-append (map p front) (map p next)
-    ∙ ap (λ k. mask_l (map p front) + 2 ^ k * mask_l (map p next)) count
-
--- there are at most as many bits as units
-pub marks_small : (p : ℕ → Bool) (base n : ℕ) (bytes : List ℕ) → n ≤ length bytes
-    → mask_l (map p (units_in base (take n bytes))) < 2 ^ n
-marks_small p base n bytes long =
-    let unit = λ (b : ℕ). (b + (2 ^ 8 - base)) % 2 ^ 8 in
-    let us = units_in base (take n bytes) in
-    let count : length (map p us) ≡ n = length-map us p ∙ length-map (take n bytes) unit
-    ∙ length-take-le n bytes long in
-    let power : 2 ^ length (map p us) ≡ 2 ^ n = ap (λ k. 2 ^ k) count in
-    omega (arith, mask_l-lt (map p us))
 
 -- ---- ends before a fault
 
@@ -280,11 +248,28 @@ ends_dropped base radix used bytes us ends read within =
       };
     }
 
--- Sixteen bytes, loaded as lanes, hold these units.
-pub lanes_read : (base radix : ℕ) (bytes us : List ℕ) (ends : ℕ) → 16 ≤ length bytes
-    → ((k : ℕ) → Fits w8 (get_or bytes k 0)) → AreUnits base radix bytes us ends
-    → AreLanes (zip2 wrapped_sub (take 16 bytes) (replicate 16 base)) us
-lanes_read base radix bytes us ends long fit read =
+-- After any number of units the shifted ends are those of what follows.
+pub ends_shifted : (base radix skipped : ℕ) (bytes : List ℕ) (ends : ℕ) → AreEnds base radix bytes ends
+    → AreEnds base radix (drop skipped bytes) (ends / 2 ^ skipped)
+ends_shifted base radix skipped bytes ends are =
+    let us = are.units in
+    let read = are.are in
+    elim (cases_lt (length us) skipped) [
+      | inl past ↦
+          let marks = map (λ u. nat_lt u radix) us in
+          let long = length-map us (λ u. nat_lt u radix) in
+          let none : ends / 2 ^ skipped ≡ 0 = ap (λ n. n / 2 ^ skipped) read.marks ∙ mask_l-drop skipped marks
+          ∙ ap mask_l (drop_all skipped marks (omega arith)) in
+          subst (AreEnds base radix (drop skipped bytes)) (sym none)
+          (no_ends base radix (drop skipped bytes) (omega (arith, read.below 0)))
+      | inr within ↦ ends_dropped base radix skipped bytes us ends read within
+    ]
+
+-- Sixteen bytes, loaded as lanes, hold these units after the first `skipped`.
+pub lanes_read : (base radix skipped : ℕ) (bytes us : List ℕ) (ends : ℕ) → 16 ≤ length bytes
+    → ((k : ℕ) → Fits w8 (get_or bytes k 0)) → AreUnits base radix (drop skipped bytes) us ends
+    → AreLanes (zip2 wrapped_sub (take 16 bytes) (replicate 16 base)) skipped us
+lanes_read base radix skipped bytes us ends long fit read =
     let unit = λ (b : ℕ). (b + (2 ^ 8 - base)) % 2 ^ 8 in
     let are = lanes_are base bytes long in
     let lanes = units_in base (take 16 bytes) in
@@ -293,13 +278,17 @@ lanes_read base radix bytes us ends long fit read =
     let lane = λ (k : ℕ) (low : k < 16). let is : get_or lanes k 0 ≡ unit (get_or bytes k 0) =
     get_or-map unit (take 16 bytes) k 0 0 (omega arith)
     ∙ ap unit (get_or-take 16 bytes k 0 low) in is in
-    let byte = λ (k : ℕ) (low : k < length us). let is : get_or bytes k 0 ≡ get_or us k 0 + base =
-    sym (get_or-take (length us) bytes k 0 low) ∙ ap (λ bs. get_or bs k 0) read.same
-    ∙ get_or-map (λ u. u + base) us k 0 0 low in is in
-    subst (λ ls. AreLanes ls us) (sym are) (record {
+    let byte = λ (k : ℕ) (low : k < length us). let is : get_or bytes (skipped + k) 0 ≡ get_or us k 0 + base =
+    sym (get_or-drop skipped bytes k 0) ∙ sym (get_or-take (length us) (drop skipped bytes) k 0 low)
+    ∙ ap (λ bs. get_or bs k 0) read.same ∙ get_or-map (λ u. u + base) us k 0 0 low in is in
+    subst (λ ls. AreLanes ls skipped us) (sym are) (record {
       count = lanes_long;
       fit = all_below lanes 256 (omega arith) (λ k low. let is = lane k (omega arith) in omega arith);
-      same = λ k low within. let is = lane k low in let at = byte k within in let small = fit k in omega arith;
+      same = λ k low within.
+          let is = lane (skipped + k) low in
+          let at = byte k within in
+          let small = fit (skipped + k) in
+          omega arith;
     })
 
 -- ends of a slice cut at i, after j bytes, are the ends after i + j bytes

@@ -6,7 +6,7 @@ use Rattle.std.specs.Prelude.{nat_lt}
 use Rattle.std.proofs.Math.Nat.{pow-suc, pow-le-pow_right, one-le-pow}
 use Rattle.std.proofs.lemmas.Bool.{cases_lt, lt-ltb, le-ltb}
 use Rattle.std.proofs.lemmas.List.{drop-map, take-map, drop-drop, get_or-drop, length-drop}
-use Rattle.std.proofs.lemmas.List.{length-map, map-append, take-take}
+use Rattle.std.proofs.lemmas.List.{drop-take, length-map, length-take, map-append, take-take}
 use Rattle.std.proofs.lemmas.Nat.{mod_below, mul-le}
 use Rattle.twkb_num.specs.Four.{unit_over, number_in_front, run_of, FourInFront}
 use Rattle.twkb_num.specs.Block.{AreUnits}
@@ -163,6 +163,33 @@ four_found base radix bytes us ends i j k l second third fourth count a b c d al
       second_small = rw b_is (number_small radix j (drop second us) alphabet are.second_short);
       third_small = rw c_is (number_small radix k (drop third us) alphabet are.third_short);
       fourth_small = rw d_is (number_small radix l (drop fourth us) alphabet are.fourth_short);
+    }
+
+-- ---- numbers found in a part of the bytes
+
+-- Four numbers after some of the sixteen bytes from a place on are those at their place in all bytes.
+pub four_in_window : (unit : ℕ → Bool → ℕ) (radix : ℕ) (bytes : List ℕ) (start from a b c d count : ℕ)
+    → from ≤ start → start ≤ from + 16
+    → FourInFront unit radix (drop (start - from) (take (from + 16 - from) (drop from bytes))) a b c d count
+    → FourInFront unit radix (drop start bytes) a b c d count
+four_in_window unit radix bytes start from a b c d count begun within found =
+    let skipped = start - from in
+    let left = 16 - skipped in
+    let size : from + 16 - from ≡ skipped + left = omega arith in
+    let place : from + skipped ≡ start = omega arith in
+    let window : drop skipped (take (from + 16 - from) (drop from bytes)) ≡ take left (drop start bytes) =
+    ap (λ n. drop skipped (take n (drop from bytes))) size ∙ drop-take skipped left (drop from bytes)
+    ∙ ap (take left) (drop-drop skipped from bytes ∙ ap (λ n. drop n bytes) place) in
+    let few : count ≤ length (take left (drop start bytes)) = rw (sym (ap length window)) found.within in
+    let long = length-take left (drop start bytes) in
+    record {
+      within = omega arith;
+      spelled = sym (take-take count left (drop start bytes) (omega arith)) ∙ ap (take count) (sym window)
+          ∙ found.spelled;
+      first_small = found.first_small;
+      second_small = found.second_small;
+      third_small = found.third_small;
+      fourth_small = found.fourth_small;
     }
 
 -- ---- units written in two ways

@@ -5,6 +5,7 @@ use lib.Lanes.{number_l, digits_l, Each1}
 use Rattle.std.proofs.Math.Nat.{pow-suc, pow-zero}
 use Rattle.std.proofs.lemmas.Nat.{div_below}
 use Rattle.twkb_num.specs.Four.{joined_groups}
+use Rattle.twkb_num.specs.WholeText.{eight_groups}
 use Rattle.twkb_num.proofs.WordLemmas.{digits-number, word_of, groups_are, four_same}
 
 -- ---- the sums as lanes compute them
@@ -191,3 +192,17 @@ joined_are radix square us groups alphabet square_is long fit same =
     (x / 4294967296 / 4294967296 / 4294967296) refl refl refl
     ∙ ap (λ us. map (word_joined radix square) (digits_l 4294967296 4 (number_l 256 us))) same
     ∙ words_joined radix square 4 us alphabet square_is long fit
+
+-- ---- the size of a number
+
+-- four groups of five bits have 20 bits
+four_groups_small : (word : ℕ) → joined_groups 32 word < 2 ^ 20
+four_groups_small word = omega arith
+
+-- eight groups of five bits have 40 bits
+pub groups_small : (word : ℕ) → eight_groups word < 2 ^ 40
+groups_small word = both (joined_groups 32 (word % 2 ^ 32)) (joined_groups 32 (word / 2 ^ 32))
+    (four_groups_small (word % 2 ^ 32)) (four_groups_small (word / 2 ^ 32))
+  where
+    both : (low high : ℕ) → low < 2 ^ 20 → high < 2 ^ 20 → low + 2 ^ 20 * high < 2 ^ 40
+    both low high few_low few_high = omega arith

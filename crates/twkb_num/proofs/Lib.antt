@@ -7,6 +7,7 @@ pub mod DigitLemmas
 pub mod FoundLemmas
 pub mod FourLemmas
 pub mod JoinLemmas
+pub mod JoinedMarkLemmas
 pub mod LaneLemmas
 pub mod LaneUnitLemmas
 pub mod LawLemmas

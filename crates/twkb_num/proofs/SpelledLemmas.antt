@@ -1,6 +1,6 @@
 -- Four numbers spelled by a shuffle of their units.
 use Rattle.std.proofs.Common.{◌≡◌, ℕ, ◌+◌, ◌*◌, ◌/◌, ◌%◌, ◌-◌, ◌<◌, ◌≤◌, ◌^◌, ◌⊎◌, inl, inr, List}
-use Rattle.std.proofs.Common.{[], ◌++◌, take, drop, map, refl, ◌∙◌, ap, arith, count_ones, w8}
+use Rattle.std.proofs.Common.{◌++◌, take, drop, map, refl, ◌∙◌, ap, arith, count_ones, w8}
 use lib.Dec.{leb}
 use lib.Lanes.{number_l, digits_l, mask_l, zip2, top}
 use lib.ListN.{replicate}

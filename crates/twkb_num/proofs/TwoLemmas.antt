@@ -1,11 +1,12 @@
 -- The first two numbers of a text, and the next two.
 use Rattle.std.proofs.Common.{◌≡◌, ℕ, zero, suc, ◌+◌, ◌*◌, ◌/◌, ◌%◌, ◌<◌, ◌≤◌, ◌^◌, ◌⊎◌, Bool, List}
-use Rattle.std.proofs.Common.{[], ◌∷◌, ◌++◌, length, drop, map, get_or, refl, sym, ◌∙◌, ap, arith}
+use Rattle.std.proofs.Common.{[], ◌∷◌, ◌++◌, length, drop, map, get_or, refl, sym, ◌∙◌, ap, arith, inl, inr}
 use lib.Lanes.{mask_l, number_l, digits_l}
 use mir.Syntax.{w8}
 use Rattle.std.specs.Prelude.{nat_lt}
 use Rattle.std.proofs.lemmas.List.{drop-drop, get_or-drop, length-drop, length-map}
 use Rattle.std.proofs.lemmas.Simd.{swz_l, SwzOk}
+use Rattle.twkb_num.specs.Block.{AreUnits}
 use Rattle.twkb_num.specs.Four.{number_in_front, places_in, joined_groups, run_of}
 use Rattle.twkb_num.specs.Places.{second_run, AreTwo}
 use Rattle.twkb_num.proofs.FourLemmas.{marks_of}
@@ -79,60 +80,62 @@ twice_two marks places used later_places later_used twice =
 
 -- ---- the places of all four
 
--- the places of the last two numbers, moved by the units of the first two
-later_places_are : (marks : List Bool) (used moved later_places later_used : ℕ) → moved ≡ used
-    → AreTwo marks later_places later_used
-    → later_places + moved * 72340172838076673 ≡ number_l 256
-    (places_in used (run_of marks) ++ places_in (used + suc (run_of marks)) (second_run marks))
-later_places_are marks used moved later_places later_used same high =
-    let none : used + 0 ≡ used = omega arith in
-    rw (same, high.places_are)
-    (places_moved used 0 (suc (run_of marks)) (run_of marks) (second_run marks)
-    ∙ ap (λ at. number_l 256 (places_in at (run_of marks) ++ places_in (used + suc (run_of marks))
+-- the places of two numbers, moved by the units before them
+moved_places_are : (marks : List Bool) (by moved places used : ℕ) → moved ≡ by → AreTwo marks places used
+    → places + moved * 72340172838076673 ≡ number_l 256
+    (places_in by (run_of marks) ++ places_in (by + suc (run_of marks)) (second_run marks))
+moved_places_are marks by moved places used same two =
+    let none : by + 0 ≡ by = omega arith in
+    rw (same, two.places_are)
+    (places_moved by 0 (suc (run_of marks)) (run_of marks) (second_run marks)
+    ∙ ap (λ at. number_l 256 (places_in at (run_of marks) ++ places_in (by + suc (run_of marks))
     (second_run marks))) none)
 
--- the places of the last two numbers fit their bytes
-pub later_places_below : (marks : List Bool) (places used moved later_places later_used : ℕ)
-    → moved ≡ used → AreTwice marks places used later_places later_used
-    → later_places + moved * 72340172838076673 < 18446744073709551616
-later_places_below marks places used moved later_places later_used same twice =
-    let four = twice_two marks places used later_places later_used twice in
-    let is = later_places_are (drop used marks) used moved later_places later_used same twice.high in
+-- the moved places of two numbers fit their bytes if the numbers are within sixteen units
+pub moved_places_below : (marks : List Bool) (by moved places used : ℕ) → moved ≡ by
+    → AreTwo marks places used → by + used ≤ 16 → places + moved * 72340172838076673 < 18446744073709551616
+moved_places_below marks by moved places used same two within =
+    let count = two.used_is in
     omega (
       arith,
-      places_below used (used + suc (run_of (drop used marks)))
-          (run_of (drop used marks)) (second_run (drop used marks)) (omega arith) (omega arith),
+      moved_places_are marks by moved places used same two,
+      places_below by (by + suc (run_of marks)) (run_of marks) (second_run marks) (omega arith) (omega arith),
     )
 
 -- the number of all sixteen bytes
-abbrev pub both_places : ℕ → ℕ → ℕ → ℕ
-both_places places moved later_places = number_l 18446744073709551616
-    (places ∷ (later_places + moved * 72340172838076673) ∷ [])
+abbrev pub both_places : ℕ → ℕ → ℕ → ℕ → ℕ
+both_places places by later_places moved = number_l 18446744073709551616
+    ((places + by * 72340172838076673) ∷ (later_places + moved * 72340172838076673) ∷ [])
 
--- the two words hold the places of the four numbers
-four_places : (marks : List Bool) (places used moved later_places later_used : ℕ) → moved ≡ used
-    → AreTwice marks places used later_places later_used
-    → both_places places moved later_places
-    ≡ number_l 256 (sixteen_places 0 (suc (run_of marks)) used
-    (used + suc (run_of (drop used marks))) (run_of marks) (second_run marks)
+-- the two words hold the places of the four numbers, which begin after `skipped` units
+four_places : (marks : List Bool) (skipped by places used moved later_places later_used : ℕ)
+    → by ≡ skipped → moved ≡ skipped + used → AreTwice marks places used later_places later_used
+    → both_places places by later_places moved
+    ≡ number_l 256 (sixteen_places skipped (skipped + suc (run_of marks)) (skipped + used)
+    (skipped + used + suc (run_of (drop used marks))) (run_of marks) (second_run marks)
     (run_of (drop used marks)) (second_run (drop used marks)))
-four_places marks places used moved later_places later_used same twice =
-    places_of_two places (later_places + moved * 72340172838076673)
-    0 (suc (run_of marks)) used (used + suc (run_of (drop used marks))) (run_of marks)
-    (second_run marks) (run_of (drop used marks)) (second_run (drop used marks))
-    twice.low.places_are (later_places_are (drop used marks) used moved later_places later_used same twice.high)
+four_places marks skipped by places used moved later_places later_used first_same same twice =
+    places_of_two (places + by * 72340172838076673) (later_places + moved * 72340172838076673)
+    skipped (skipped + suc (run_of marks)) (skipped + used) (skipped + used + suc (run_of (drop used marks)))
+    (run_of marks) (second_run marks) (run_of (drop used marks)) (second_run (drop used marks))
+    (moved_places_are marks skipped by places used first_same twice.low)
+    (moved_places_are (drop used marks) (skipped + used) moved later_places later_used same twice.high)
 
 -- the sixteen places pass the test of `swizzle_dyn`
-pub four_places_ok : (marks : List Bool) (places used moved later_places later_used : ℕ)
-    → moved ≡ used → AreTwice marks places used later_places later_used
-    → SwzOk w8 16 16 0 (digits_l 256 16 (both_places places moved later_places))
-four_places_ok marks places used moved later_places later_used same twice =
+pub four_places_ok : (marks : List Bool) (skipped by places used moved later_places later_used : ℕ)
+    → by ≡ skipped → moved ≡ skipped + used → AreTwice marks places used later_places later_used
+    → skipped + (used + later_used) ≤ 16
+    → SwzOk w8 16 16 0 (digits_l 256 16 (both_places places by later_places moved))
+four_places_ok marks skipped by places used moved later_places later_used first_same same twice within =
     let four = twice_two marks places used later_places later_used twice in
-    places_ok (both_places places moved later_places)
-    0 (suc (run_of marks)) used (used + suc (run_of (drop used marks))) (run_of marks)
-    (second_run marks) (run_of (drop used marks)) (second_run (drop used marks))
+    let second_at = four.second_at in
+    let third_at = four.third_at in
+    let count_is = four.count_is in
+    places_ok (both_places places by later_places moved)
+    skipped (skipped + suc (run_of marks)) (skipped + used) (skipped + used + suc (run_of (drop used marks)))
+    (run_of marks) (second_run marks) (run_of (drop used marks)) (second_run (drop used marks))
     (omega arith) (omega arith) (omega arith) (omega arith)
-    (four_places marks places used moved later_places later_used same twice)
+    (four_places marks skipped by places used moved later_places later_used first_same same twice)
 
 -- ---- lanes that hold units
 
@@ -148,55 +151,63 @@ front_same radix (suc more) (u ∷ us) (v ∷ vs) within fits same =
     let rest = front_same radix more us vs (omega arith) (omega arith) (λ k few. same (suc k) (omega arith)) in
     rw (first, rest) refl
 
--- sixteen lanes are bytes, and the first of them are these units
-pub record AreLanes (lanes us : List ℕ) : Type 0 where
+-- sixteen lanes are bytes, and after the first `skipped` they are these units
+pub record AreLanes (lanes : List ℕ) (skipped : ℕ) (us : List ℕ) : Type 0 where
   pub count : length lanes ≡ 16
   pub fit : (k : ℕ) → get_or lanes k 0 < 256
-  pub same : (k : ℕ) → k < 16 → k < length us → get_or lanes k 0 ≡ get_or us k 0
+  pub same : (k : ℕ) → skipped + k < 16 → k < length us → get_or lanes (skipped + k) 0 ≡ get_or us k 0
 
 -- the lanes give the number of these units
-lanes_tell : (radix at more : ℕ) (lanes us : List ℕ) → AreLanes lanes us → at + more ≤ 15
-    → at + more < length us → number_in_front radix more (drop at lanes) ≡ number_in_front radix
-    more (drop at us)
-lanes_tell radix at more lanes us are within fits =
+lanes_tell : (radix skipped at place more : ℕ) (lanes us : List ℕ) → place ≡ skipped + at
+    → AreLanes lanes skipped us → place + more ≤ 15 → at + more < length us
+    → number_in_front radix more (drop place lanes) ≡ number_in_front radix more (drop at us)
+lanes_tell radix skipped at place more lanes us place_is are within fits =
     let count = are.count in
-    let lanes_long = length-drop at lanes in
+    let lanes_long = length-drop place lanes in
     let us_long = length-drop at us in
-    front_same radix more (drop at lanes) (drop at us) (omega arith) (omega arith)
-    (λ k few. get_or-drop at lanes k 0 ∙ are.same (at + k) (omega arith) (omega arith) ∙ sym (get_or-drop at us k 0))
+    front_same radix more (drop place lanes) (drop at us) (omega arith) (omega arith)
+    (λ k few. get_or-drop place lanes k 0
+    ∙ ap (λ n. get_or lanes n 0) (let e : place + k ≡ skipped + (at + k) = omega arith in e)
+    ∙ are.same (at + k) (omega arith) (omega arith) ∙ sym (get_or-drop at us k 0))
 
 -- The groups at the places found are those of the four numbers.
-pub numbers_found : (radix : ℕ) (lanes us : List ℕ) (places used moved later_places later_used : ℕ)
-    → (radix ≡ 128) ⊎ (radix ≡ 32) → AreLanes lanes us → moved ≡ used
+pub numbers_found : (radix : ℕ) (lanes us : List ℕ) (skipped by places used moved later_places later_used : ℕ)
+    → (radix ≡ 128) ⊎ (radix ≡ 32) → AreLanes lanes skipped us → by ≡ skipped → moved ≡ skipped + used
     → AreTwice (marks_of radix us) places used later_places later_used
+    → skipped + (used + later_used) ≤ 16
     → map (joined_groups radix) (digits_l 4294967296 4
-    (number_l 256 (swz_l w8 16 lanes 0 (digits_l 256 16 (both_places places moved later_places)))))
+    (number_l 256 (swz_l w8 16 lanes 0 (digits_l 256 16 (both_places places by later_places moved)))))
     ≡ number_in_front radix (run_of (marks_of radix us)) (drop 0 us)
     ∷ number_in_front radix (second_run (marks_of radix us)) (drop (suc (run_of (marks_of radix us))) us)
     ∷ number_in_front radix (run_of (drop used (marks_of radix us))) (drop used us)
     ∷ number_in_front radix (second_run (drop used (marks_of radix us)))
     (drop (used + suc (run_of (drop used (marks_of radix us)))) us) ∷ []
-numbers_found radix lanes us places used moved later_places later_used alphabet are same twice =
+numbers_found radix lanes us skipped by places used moved later_places later_used alphabet are first_same same
+    twice window =
     let marks = marks_of radix us in
     let four = twice_two marks places used later_places later_used twice in
-    let low_used = twice.low.used_is in
+    let third_at = four.third_at in
     let second = suc (run_of marks) in
     let fourth = used + suc (run_of (drop used marks)) in
     let marks_long : length marks ≡ length us = length-map us (λ u. nat_lt u radix) in
     let within = four.within in
     let count = four.count_is in
-    let number = λ (at more : ℕ) (inside : at + more ≤ 15) (fits : at + more < length us) (short : more ≤ 3).
-    word_found radix at more lanes alphabet are.count are.fit inside short
-    ∙ lanes_tell radix at more lanes us are inside fits in
-    ap (map (joined_groups radix)) (words_are lanes (both_places places moved later_places)
-    0 second used fourth (run_of marks) (second_run marks) (run_of (drop used marks)) (second_run (drop used marks))
+    let number = λ (at place more : ℕ) (place_is : place ≡ skipped + at) (inside : place + more ≤ 15)
+    (fits : at + more < length us) (short : more ≤ 3).
+    word_found radix place more lanes alphabet are.count are.fit inside short
+    ∙ lanes_tell radix skipped at place more lanes us place_is are inside fits in
+    ap (map (joined_groups radix)) (words_are lanes (both_places places by later_places moved)
+    skipped (skipped + second) (skipped + used) (skipped + used + suc (run_of (drop used marks)))
+    (run_of marks) (second_run marks) (run_of (drop used marks)) (second_run (drop used marks))
     are.fit (omega arith) (omega arith) (omega arith) (omega arith)
-    (four_places marks places used moved later_places later_used same twice))
-    ∙ four_same _ _ _ _ _ _ _ _ (number 0 (run_of marks) (omega arith) (omega arith)
-    four.first_short) (number second (second_run marks) (omega arith) (omega arith)
-    four.second_short)
-    (number used (run_of (drop used marks)) (omega arith) (omega arith) four.third_short)
-    (number fourth (second_run (drop used marks)) (omega arith) (omega arith) four.fourth_short)
+    (four_places marks skipped by places used moved later_places later_used first_same same twice))
+    ∙ four_same _ _ _ _ _ _ _ _
+    (number 0 skipped (run_of marks) (omega arith) (omega arith) (omega arith) four.first_short)
+    (number second (skipped + second) (second_run marks) (omega arith) (omega arith) (omega arith) four.second_short)
+    (number used (skipped + used) (run_of (drop used marks)) (omega arith) (omega arith) (omega arith)
+    four.third_short)
+    (number fourth (skipped + used + suc (run_of (drop used marks))) (second_run (drop used marks)) (omega arith)
+    (omega arith) (omega arith) four.fourth_short)
 
 -- four numbers have at most sixteen units
 pub few_used : (marks : List Bool) (places used later_places later_used : ℕ)
@@ -213,3 +224,18 @@ few_used marks places used later_places later_used twice =
     let e = low.used_is in
     let f = high.used_is in
     (omega arith, four.within)
+
+-- four numbers after `skipped` bytes are within sixteen, if none is skipped or there are just sixteen
+pub window_used : (base radix skipped : ℕ) (bytes us : List ℕ) (ends places used later_places later_used : ℕ)
+    → (skipped ≡ 0) ⊎ (length bytes ≡ 16) → AreUnits base radix (drop skipped bytes) us ends
+    → AreTwice (marks_of radix us) places used later_places later_used → skipped + (used + later_used) ≤ 16
+window_used base radix skipped bytes us ends places used later_places later_used loaded read twice =
+    let few = few_used (marks_of radix us) places used later_places later_used twice in
+    let marks_long = length-map us (λ u. nat_lt u radix) in
+    let units = read.within in
+    let left = length-drop skipped bytes in
+    let some = twice.low.used_is in
+    elim loaded [
+      | inl none ↦ omega (arith, few.0)
+      | inr sixteen ↦ omega (arith, few.1)
+    ]

@@ -1,5 +1,5 @@
-//! Four complete numbers at the start of some bytes, read at once.
-ghost use Rattle.std.specs.Prelude.{IfSome, ◌≡◌, ◌+◌, ◌*◌, ◌<◌, ◌^◌, ◌⊎◌, ◌/◌, ◌≤◌, length, drop, map};
+//! Four complete numbers one after the other in some bytes, read at once.
+ghost use Rattle.std.specs.Prelude.{IfSome, ◌≡◌, ◌^◌, ◌⊎◌, ◌/◌, ◌≤◌, length, drop, map};
 ghost use lib.Lanes.{digits_l, number_l};
 ghost use Rattle.twkb_num.specs.Alphabet.{five_unit, leb_unit};
 ghost use Rattle.twkb_num.specs.Zigzag.{zigzag_of};
@@ -29,18 +29,34 @@ pub fn four_varints(bytes: &[u8]) -> Option<Four>
     ensures { IfSome result (λ f. FourInFront leb_unit 128 bytes.now (zigzag_of f.first)
         (zigzag_of f.second) (zigzag_of f.third) (zigzag_of f.fourth) f.used) }
 {
-    four_in_front(bytes, VARINTS)
+    if bytes.len() < WINDOW {
+        return None;
+    }
+    let ends = few_ends(bytes, VARINTS);
+    four_by(bytes, 0, ends, VARINTS)
 }
 
-/// Fast path: reads the four signed numbers at the start of a polyline's text, if each has a
-/// shortest spelling of at most four characters (Encoded Polyline Algorithm Format). `None` proves
-/// nothing about the text: it is also the answer for fewer than sixteen characters. Takes no memory.
+/// Fast path: reads the four signed numbers that begin at `start` in a polyline's text, if each has
+/// a shortest spelling of at most four characters (Encoded Polyline Algorithm Format). `None` proves
+/// nothing about the text: it is also the answer for a text of fewer than sixteen characters, and
+/// for fewer than six from `start` on. Takes no memory.
 #[inline(always)]
-pub fn four_characters(text: &[u8]) -> Option<Four>
-    ensures { IfSome result (λ f. FourInFront five_unit 32 text.now (zigzag_of f.first)
+pub fn four_characters(text: &[u8], start: usize) -> Option<Four>
+    ensures { IfSome result (λ f. FourInFront five_unit 32 (drop start text.now) (zigzag_of f.first)
         (zigzag_of f.second) (zigzag_of f.third) (zigzag_of f.fourth) f.used) }
 {
-    four_in_front(text, POLYLINES)
+    if text.len() < WINDOW {
+        return None;
+    }
+    // with fewer than sixteen characters left, the last sixteen of the text
+    let from = start.min(text.len() - WINDOW);
+    let skipped = start - from;
+    if skipped > MOST_SKIPPED {
+        return None;
+    }
+    let window = &text[from..from + WINDOW];
+    let ends = few_ends(window, POLYLINES) >> (skipped as u32);
+    four_by(window, skipped as u32, ends, POLYLINES)
 }
 
 /// Reads the four numbers that `four_varints` reads, from bytes whose ends `varint_ends` found: bit
@@ -55,7 +71,7 @@ pub fn four_varints_by(bytes: &[u8], ends: u64) -> Option<Four>
     ensures few { IfSome result (λ f. f.used ≤ 16) }
     ensures rest { IfSome result (λ f. AreEnds 0 128 (drop f.used bytes.now) (ends / 2 ^ f.used)) }
 {
-    four_by(bytes, ends, VARINTS)
+    four_by(bytes, 0, ends, VARINTS)
 }
 
 /// Reads the four numbers that `four_characters` reads, from a text whose ends `character_ends`
@@ -70,46 +86,37 @@ pub fn four_characters_by(text: &[u8], ends: u64) -> Option<Four>
     ensures few { IfSome result (λ f. f.used ≤ 16) }
     ensures rest { IfSome result (λ f. AreEnds 63 32 (drop f.used text.now) (ends / 2 ^ f.used)) }
 {
-    four_by(text, ends, POLYLINES)
+    four_by(text, 0, ends, POLYLINES)
 }
+
+// The number of bytes that are looked at: four numbers of at most four.
+const WINDOW: usize = 16;
+
+// With fewer than six characters left, the search is in vain mostly: they are one near point.
+const MOST_SKIPPED: usize = WINDOW - 6;
 
 // Times a number below 0x100: that number in each of eight bytes.
 const EACH_PLACE: u64 = 0x0101_0101_0101_0101;
 
-// Reads four complete numbers of an alphabet.
+// Reads four numbers after the first `skipped` bytes. `ends` are the ends after these bytes.
 #[inline(always)]
-fn four_in_front(bytes: &[u8], alphabet: Alphabet) -> Option<Four>
-    requires known { (alphabet.radix ≡ 128) ⊎ (alphabet.radix ≡ 32) }
-    requires bound { alphabet.most < 2 * alphabet.radix }
-    requires in_bytes { alphabet.most + alphabet.base < 256 }
-    ensures { IfSome result (λ f. FourInFront (unit_over alphabet.base alphabet.radix)
-        alphabet.radix bytes.now (zigzag_of f.first) (zigzag_of f.second) (zigzag_of f.third)
-        (zigzag_of f.fourth) f.used) }
-{
-    if bytes.len() < 16 {
-        return None;
-    }
-    let ends = few_ends(bytes, alphabet);
-    four_by(bytes, ends, alphabet)
-}
-
-// Reads four numbers whose ends are known.
-#[inline(always)]
-fn four_by(bytes: &[u8], ends: u64, alphabet: Alphabet) -> Option<Four>
+fn four_by(bytes: &[u8], skipped: u32, ends: u64, alphabet: Alphabet) -> Option<Four>
     requires known { (alphabet.radix ≡ 128) ⊎ (alphabet.radix ≡ 32) }
     requires long { 16 ≤ length bytes.now }
-    requires ends { AreEnds alphabet.base alphabet.radix bytes.now ends }
+    requires loaded { (skipped ≡ 0) ⊎ (length bytes.now ≡ 16) }
+    requires ends { AreEnds alphabet.base alphabet.radix (drop skipped bytes.now) ends }
     ensures four { IfSome result (λ f. FourInFront (unit_over alphabet.base alphabet.radix)
-        alphabet.radix bytes.now (zigzag_of f.first) (zigzag_of f.second) (zigzag_of f.third)
-        (zigzag_of f.fourth) f.used) }
+        alphabet.radix (drop skipped bytes.now) (zigzag_of f.first) (zigzag_of f.second)
+        (zigzag_of f.third) (zigzag_of f.fourth) f.used) }
     ensures few { IfSome result (λ f. f.used ≤ 16) }
-    ensures rest { IfSome result (λ f. AreEnds alphabet.base alphabet.radix (drop f.used bytes.now)
-        (ends / 2 ^ f.used)) }
+    ensures rest { IfSome result (λ f. AreEnds alphabet.base alphabet.radix
+        (drop f.used (drop skipped bytes.now)) (ends / 2 ^ f.used)) }
 {
     let low = two_in_front(ends)?;
     let high = two_in_front(ends >> low.used)?;
-    let high_places = high.places + u64::from(low.used) * EACH_PLACE;
-    let places = u64x2::from_array([low.places, high_places]).to_le_bytes();
+    let low_places = low.places + u64::from(skipped) * EACH_PLACE;
+    let high_places = high.places + u64::from(skipped + low.used) * EACH_PLACE;
+    let places = u64x2::from_array([low_places, high_places]).to_le_bytes();
     let units = u8x16::from_slice(bytes) - u8x16::splat(alphabet.base);
     let numbers = joined(units.swizzle_dyn(places), alphabet.radix);
     let [first, second, third, fourth] = unzigzagged(numbers).to_array();

@@ -1,5 +1,5 @@
-//! Two numbers that are a whole text, read at once.
-ghost use Rattle.std.specs.Prelude.{IfSome, ◌≡◌, ◌+◌, ◌≤◌, ◌<◌, ◌++◌, length, Bool, List};
+//! Two numbers that are a whole text or begin one, read at once.
+ghost use Rattle.std.specs.Prelude.{IfSome, ◌≡◌, ◌+◌, ◌≤◌, ◌<◌, ◌^◌, ◌++◌, length, take, Bool, List};
 ghost use lib.Lanes.{mask_l};
 ghost use Rattle.twkb_num.specs.Alphabet.{five_unit};
 ghost use Rattle.twkb_num.specs.Block.{units_in};
@@ -21,8 +21,9 @@ const WORD: usize = 8;
 /// Format). `None` proves nothing about the text. Takes no memory.
 #[inline(always)]
 pub fn two_in_text(text: &[u8]) -> Option<(i64, i64)>
-    ensures { IfSome result (λ r. text.now
+    ensures spelled { IfSome result (λ r. text.now
         ≡ shortest five_unit 32 (zigzag_of r.0) ++ shortest five_unit 32 (zigzag_of r.1)) }
+    ensures small { IfSome result (λ r. (zigzag_of r.0 < 2 ^ 40) × (zigzag_of r.1 < 2 ^ 40)) }
 {
     let count = text.len();
     if count < WORD || 2 * WORD < count {
@@ -38,6 +39,43 @@ pub fn two_in_text(text: &[u8]) -> Option<(i64, i64)>
         back >> (64 - 8 * rest),
     );
     Some((unzigzag(first), unzigzag(second)))
+}
+
+/// Fast path: reads the first two signed numbers of a polyline's text, as `two_in_text` reads those
+/// of a whole text, and returns them and the number of their characters. `None` proves nothing
+/// about the text: it is also the answer for fewer than sixteen characters. Takes no memory.
+#[inline(always)]
+pub fn first_two(text: &[u8]) -> Option<(i64, i64, usize)>
+    ensures within { IfSome result (λ r. r.2 ≤ length text.now) }
+    ensures spelled { IfSome result (λ r. take r.2 text.now
+        ≡ shortest five_unit 32 (zigzag_of r.0) ++ shortest five_unit 32 (zigzag_of r.1)) }
+    ensures small { IfSome result (λ r. (zigzag_of r.0 < 2 ^ 40) × (zigzag_of r.1 < 2 ^ 40)) }
+{
+    let count = second_end(text)?;
+    let (first, second) = two_in_text(&text[..count])?;
+    Some((first, second, count))
+}
+
+// Where the second number of a text ends, if that is within its first sixteen characters.
+#[inline(always)]
+fn second_end(text: &[u8]) -> Option<usize>
+    ensures { IfSome result (λ end. end ≤ length text.now) }
+{
+    if text.len() < 2 * WORD {
+        return None;
+    }
+    let ends = u8x16::from_slice(text)
+        .simd_lt(u8x16::splat(POLYLINES.base + POLYLINES.radix))
+        .to_bitmask();
+    let later = ends & ends.wrapping_sub(1);
+    if later == 0 {
+        return None;
+    }
+    let end = later.trailing_zeros() as usize + 1;
+    if end > 2 * WORD {
+        return None;
+    }
+    Some(end)
 }
 
 // The units of the first eight characters, and then those of the last eight.

@@ -1,5 +1,5 @@
 -- Short steps from an inner point stay near it and in range.
-use Rattle.std.proofs.Common.{ℕ, ◌+◌, ◌≤◌, arith}
+use Rattle.std.proofs.Common.{◌≡◌, ℕ, ◌+◌, ◌<◌, ◌≤◌, arith, subst, sym}
 use Rattle.std.specs.Prelude.{ℤ, ◌+ℤ◌}
 use Rattle.std.proofs.lemmas.Int.{ints}
 use Rattle.twkb_points.specs.Point.{Point, IsCoordinate, IsInner, IsInRange, moved_by}
@@ -36,3 +36,15 @@ near_moved n p dx dy near x_short y_short = (one_further n p.x dx near.0 x_short
 -- a point near by at most eight steps is in range
 pub near_in_range : (n : ℕ) (p : Point) → n ≤ 8 → IsNear n p → IsInRange p
 near_in_range n p few near = (in_range p.x (further n 8 p.x few near.0), in_range p.y (further n 8 p.y few near.1))
+
+-- a short step from a point near by at most seven leads to a point in range
+pub step_in_range : (n : ℕ) (p : Point) (dx dy : ℤ) → n < 8 → IsNear n p → IsShortStep dx → IsShortStep dy
+    → IsInRange (moved_by p dx dy)
+step_in_range n p dx dy few near x_short y_short =
+    near_in_range (n + 1) _ (omega (arith, few)) (near_moved n p dx dy near x_short y_short)
+
+-- and to one near by one step more
+pub step_near : (n : ℕ) (p to : Point) (dx dy : ℤ) → IsNear n p → IsShortStep dx → IsShortStep dy
+    → to ≡ moved_by p dx dy → IsNear (n + 1) to
+step_near n p to dx dy near x_short y_short leads =
+    subst (IsNear (n + 1)) (sym leads) (near_moved n p dx dy near x_short y_short)

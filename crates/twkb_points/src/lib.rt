@@ -4,6 +4,7 @@
 mod bounds;
 mod cursor;
 mod differences;
+mod eight;
 pub mod laws;
 mod point;
 mod tail;
@@ -11,5 +12,6 @@ mod tail;
 pub use bounds::{Bounds, merged};
 pub use cursor::Cursor;
 pub use differences::{to_differences, to_points};
+pub use eight::Eight;
 pub use point::{COORDINATE_BOUND, Pt};
 pub use tail::{PointList, PointTail};

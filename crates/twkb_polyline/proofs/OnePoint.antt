@@ -1,7 +1,7 @@
 -- Texts that are the polyline of one point, and texts that are not.
 use Rattle.std.proofs.Common.{◌≡◌, ℕ, ℤ, ◌<◌, ◌≤◌, ◌-ℤ◌, List, [], ◌∷◌, ◌++◌, length, refl, sym, ◌∙◌, ap, arith}
-use Rattle.std.proofs.Common.{append-nil, length-append}
-use Rattle.std.proofs.lemmas.List.{drop_all}
+use Rattle.std.proofs.Common.{◌+◌, take, drop, append_assoc, length-append, length-drop}
+use Rattle.std.proofs.lemmas.List.{drop-drop, length-take-le, take-append-drop, take_all}
 use Rattle.twkb_points.specs.Point.{Point, IsInRange, origin, moved_by}
 use Rattle.twkb_polyline.specs.Polyline.{number_text, DecodesTo}
 use Rattle.twkb_polyline.specs.Fault.{IsPointFault}
@@ -28,17 +28,34 @@ pub one_point : (text : List ℕ) (q : Point) (end : ℕ) → IsPointAt text 0 o
 one_point text q end point inside done = behind_none text 1 [] (q ∷ []) refl
     (has_read_all text 1 end q [] (q ∷ []) (first_read text q end point inside) done)
 
+-- two numbers that are the next characters are a point
+pub point_in_text : (text : List ℕ) (start count end : ℕ) (dx dy : ℤ) (p q : Point) → end ≡ start + count
+    → start ≤ length text → count ≤ length (drop start text)
+    → take count (drop start text) ≡ number_text dy ++ number_text dx
+    → q ≡ moved_by p dx dy → IsPointAt text start p q end
+point_in_text text start count end dx dy p q end_is begun within spelled to_q =
+    let rest = drop count (drop start text) in
+    let rest_is : rest ≡ drop end text = drop-drop count start text ∙ ap (λ n. drop n text) (sym end_is) in
+    let some = number_text_length dy in
+    let long : count ≡ length (number_text dy) + length (number_text dx) =
+    sym (length-take-le count (drop start text) within) ∙ ap length spelled
+    ∙ length-append (number_text dy) (number_text dx) in
+    let left = length-drop start text in
+    record {
+      split =
+          rw (back q.x p.x dx (ap (λ (s : Point). s.x) to_q), back q.y p.y dy (ap (λ (s : Point). s.y) to_q))
+          (sym (take-append-drop count (drop start text)) ∙ ap (λ t. t ++ rest) spelled
+          ∙ append_assoc (number_text dy) (number_text dx) rest
+          ∙ ap (λ t. number_text dy ++ (number_text dx ++ t)) rest_is);
+      further = omega arith;
+      within = omega arith;
+    }
+
 -- two numbers that are a whole text are a point
 pub point_of_text : (text : List ℕ) (dx dy : ℤ) (p q : Point) → text ≡ number_text dy ++ number_text dx
     → q ≡ moved_by p dx dy → IsPointAt text 0 p q (length text)
-point_of_text text dx dy p q spelled to_q = record {
-  split =
-      rw (back q.x p.x dx (ap (λ (s : Point). s.x) to_q), back q.y p.y dy (ap (λ (s : Point). s.y) to_q))
-      (spelled ∙ ap (λ t. number_text dy ++ t) (sym (append-nil (number_text dx))
-      ∙ ap (λ t. number_text dx ++ t) (sym (drop_all (length text) text (omega arith)))));
-  further = omega (arith, ap length spelled, length-append (number_text dy) (number_text dx), number_text_length dy);
-  within = omega arith;
-}
+point_of_text text dx dy p q spelled to_q = point_in_text text 0 (length text) (length text) dx dy p q
+    (omega arith) (omega arith) (omega arith) (take_all (length text) text (omega arith) ∙ spelled) to_q
 
 -- an empty text is not the polyline of one point
 pub one_of_none : (text : List ℕ) → length text ≡ 0 → (p : Point) → DecodesTo text 1 (p ∷ []) → ⊥

@@ -12,8 +12,8 @@ use Rattle.twkb_polyline.specs.Reading.{IsPairAt}
 use Rattle.twkb_polyline.proofs.OneFault.{number_text_length}
 use Rattle.twkb_polyline.proofs.PointLemmas.{back}
 
--- a number whose form is below 2 ^ 28 is in the range of a coordinate
-pub near : (n : ℤ) → zigzag_of n < 2 ^ 28 → IsCoordinate n
+-- a number whose form is below 2 ^ 40 is in the range of a coordinate
+pub near : (n : ℤ) → zigzag_of n < 2 ^ 40 → IsCoordinate n
 near (pos n) small = omega (arith, ints)
 near (negsuc n) small = omega (arith, ints)
 

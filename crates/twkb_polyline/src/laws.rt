@@ -1,8 +1,9 @@
 //! Laws of polylines, each stated as the contract of an empty function.
-ghost use Rattle.std.specs.Prelude.{◌≡◌, ℕ, ◌-◌, ◌^◌, ◌≤◌, ◌↔◌, ◌⊎◌, pos, negsuc, List, [], ◌∷◌, ◌++◌, length, codes};
+ghost use Rattle.std.specs.Prelude.{◌≡◌, ℕ, ◌-◌, ◌≤◌, ◌↔◌, ◌⊎◌, pos, negsuc, List, [], ◌∷◌, ◌++◌, length, codes};
 ghost use Rattle.std.specs.List.{AllByRecursion};
 ghost use Rattle.twkb_num.specs.Alphabet.{five_unit};
 ghost use Rattle.twkb_num.specs.Answer.{IsAbove};
+ghost use Rattle.twkb_points.specs.declared.point.TheConstants.{COORDINATE_BOUND};
 ghost use Rattle.twkb_points.specs.Point.{Point, point_at};
 ghost use Rattle.twkb_polyline.specs.Polyline.{number_text, polyline, DecodesTo};
 ghost use Rattle.twkb_polyline.specs.Fault.{IsTextFault, GoesOn, EndsIn};
@@ -45,6 +46,7 @@ pub fn samples()
     ensures example { polyline (point_at (negsuc 12019999) (pos 3850000) ∷ point_at (negsuc 12094999) (pos 4070000)
         ∷ point_at (negsuc 12645299) (pos 4325200) ∷ [])
         ≡ codes "_p~iF~ps|U_ulLnnqC_mqNvxq`@" }
-    ensures ends { polyline (point_at (pos (2 ^ 62 - 1)) (pos 0) ∷ point_at (negsuc (2 ^ 62 - 1)) (pos 0) ∷ [])
+    ensures ends { polyline (point_at (pos (COORDINATE_BOUND - 1)) (pos 0)
+        ∷ point_at (negsuc (COORDINATE_BOUND - 1)) (pos 0) ∷ [])
         ≡ codes "?}~~~~~~~~~~~F?|~~~~~~~~~~~N" }
 {}

@@ -6,7 +6,7 @@ ghost use Rattle.twkb_points.specs.Near.{IsNear};
 ghost use Rattle.twkb_polyline.specs.Reading.{ArePointsAt, IsPairAt};
 
 use twkb_num::{BLOCK, four_characters, four_characters_by};
-use twkb_points::{Cursor, Pt};
+use twkb_points::{Cursor, Eight, Pt};
 
 // Two points, one after the other, and where the text goes on.
 #[derive(Clone, Copy)]
@@ -32,10 +32,11 @@ pub(crate) fn two_points(
     ensures moved { IfSome result (λ pair. cursor.new ≡ pair.second) }
     ensures unmoved { IfNone result (cursor.new ≡ cursor.old) }
 {
-    if room < 2 {
+    // the first point of a text is mostly far
+    if room < 2 || start == 0 {
         return None;
     }
-    let four = four_characters(&text[start..])?;
+    let four = four_characters(text, start)?;
     let mut moved = *cursor;
     let first = moved.add_near(four.second, four.first)?;
     let second = moved.add_near(four.fourth, four.third)?;
@@ -66,18 +67,6 @@ fn two_by(from: Pt, text: &[u8], ends: u64) -> Option<(Pt, Pt, usize)>
     let one = from.step(four.second, four.first);
     let two = one.step(four.fourth, four.third);
     Some((one, two, four.used))
-}
-
-// The first eight points of a text.
-#[derive(Clone, Copy)]
-pub(crate) struct Eight {
-    pub(crate) points: [Pt; 8],
-    // The last of the eight points.
-    pub(crate) last: Pt,
-    // The number of characters of the eight points.
-    pub(crate) used: usize,
-    // The ends of the numbers after the eight points.
-    pub(crate) ends: u64,
 }
 
 // Fast path: reads the eight points of the first sixteen numbers; four at a time, and only from an

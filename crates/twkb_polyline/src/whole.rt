@@ -1,10 +1,10 @@
 //! Fast paths: points whose numbers are complete in the text.
-ghost use Rattle.std.specs.Prelude.{◌≡◌, ◌+◌, ◌<◌, true, false, Some, IfSome, IfNone, get_or, length};
+ghost use Rattle.std.specs.Prelude.{◌≡◌, ◌+◌, ◌<◌, ◌≤◌, true, false, Some, IfSome, IfNone, get_or, length};
 ghost use Rattle.twkb_num.specs.Alphabet.{five_group};
 ghost use Rattle.twkb_points.specs.Point.{IsInRange, origin};
 ghost use Rattle.twkb_polyline.specs.Reading.{IsNumberAt, IsPointAt, IsBegun};
 
-use twkb_num::{two_in_text, unzigzag};
+use twkb_num::{first_two, two_in_text, unzigzag};
 use twkb_points::{Cursor, Pt};
 
 // The number of bits in a group.
@@ -17,15 +17,33 @@ const LAST_SHIFT: u32 = 12 * BITS;
 // where it ends. `None` proves nothing about the text, and the cursor stays.
 #[inline(always)]
 pub(crate) fn whole_point(text: &[u8], start: usize, cursor: &mut Cursor) -> Option<(Pt, usize)>
+    requires { start ≤ length text.now }
     ensures read { IfSome result (λ r. IsPointAt text.now start cursor.old r.0 r.1) }
     ensures in_range { IfSome result (λ r. IsInRange r.0) }
     ensures moved { IfSome result (λ r. cursor.new ≡ r.0) }
     ensures unmoved { IfNone result (cursor.new ≡ cursor.old) }
 {
+    if let Some(far) = far_point(text, start, cursor) {
+        return Some(far);
+    }
     let (dy, middle) = whole_number(text, start)?;
     let (dx, end) = whole_number(text, middle)?;
     let point = cursor.add(dx, dy)?;
     Some((point, end))
+}
+
+// Fast path: reads that point if it has eight to sixteen characters, as a first point mostly has.
+#[inline(always)]
+fn far_point(text: &[u8], start: usize, cursor: &mut Cursor) -> Option<(Pt, usize)>
+    requires { start ≤ length text.now }
+    ensures read { IfSome result (λ r. IsPointAt text.now start cursor.old r.0 r.1) }
+    ensures in_range { IfSome result (λ r. IsInRange r.0) }
+    ensures moved { IfSome result (λ r. cursor.new ≡ r.0) }
+    ensures unmoved { IfNone result (cursor.new ≡ cursor.old) }
+{
+    let (dy, dx, count) = first_two(&text[start..])?;
+    let point = cursor.add_near(dx, dy)?;
+    Some((point, start + count))
 }
 
 // Reads the point whose two numbers are the whole text. `None` proves nothing about the text.

@@ -1,5 +1,6 @@
 -- Lemmas of the crate, by their topic.
 pub mod AcceptedRecords
+pub mod AfterPoint
 pub mod AlikePlaces
 pub mod Complete
 pub mod DecimalLemmas

@@ -9,6 +9,7 @@ use Rattle.twkb_table.specs.Named.{Named}
 use Rattle.twkb_table.specs.RowFault.{AreComplete, all_but_last}
 use Rattle.twkb_table.specs.CsvRecords.{AreRecordsOf, BeginWith, standing}
 use Rattle.twkb_table.specs.RowReading.{limits_of, waiting}
+use Rattle.twkb_table.specs.Waiting.{IsPoint}
 use Rattle.twkb_table.specs.declared.reason.RowReason.{RowReason}
 use Rattle.twkb_table.specs.declared.table_fault.TableFault.{TableFault}
 use Rattle.twkb_table.specs.declared.table_fault.TableFault.TheVariants as fault
@@ -59,6 +60,11 @@ pub record IsOver {R : Type 0} (reader : TableReader R) : Type 0 where
   pub ended : is_ended reader ≡ true
   pub none : waiting reader.rows ≡ []
   pub begun : 0 < reader.number
+
+-- The next geometry is known to be a point, and no call returned an error.
+pub record HasPoint {R : Type 0} (reader : TableReader R) : Type 0 where
+  pub point : IsPoint (waiting reader.rows)
+  pub unspent : is_spent reader ≡ false
 
 -- ---- what a call returns
 

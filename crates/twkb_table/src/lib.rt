@@ -12,6 +12,7 @@ pub mod laws;
 mod numbering;
 mod open_rows;
 mod places;
+mod point_roots;
 mod printing;
 mod reason;
 mod record_source;

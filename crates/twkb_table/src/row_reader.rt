@@ -1,11 +1,12 @@
 //! Rows of a table, read into the flat form one geometry after another.
-ghost use Rattle.std.specs.Prelude.{◌≡◌, ◌<◌, ◌↔◌, [], length, true, false, OnOk, IfOk, IfErr, IsTrue};
+ghost use Rattle.std.specs.Prelude.{◌≡◌, ◌<◌, ◌↔◌, [], ◌∷◌, length, true, false, OnOk, IfOk, IfErr};
+ghost use Rattle.std.specs.Prelude.{IfSome, IsSome, IsTrue};
 ghost use Rattle.csv.specs.Records.{fields_of};
 ghost use Rattle.twkb_tree.specs.Limits.{IsAllowance};
 ghost use Rattle.twkb_table.specs.Judged.{Verdict, Judged, Refused};
 ghost use Rattle.twkb_table.specs.Standing.{IfRefused};
 ghost use Rattle.twkb_table.specs.Head.{JudgedAs};
-ghost use Rattle.twkb_table.specs.Waiting.{may_wait};
+ghost use Rattle.twkb_table.specs.Waiting.{may_wait, point_row, IsPoint};
 
 use crate::head::RowHead;
 use crate::judging::{JudgeFault, judge, judge_head};
@@ -61,7 +62,9 @@ impl RowReader {
         self.waiting.is_some()
     }
 
-    // Reads a record while no row is open: the root of the first geometry, which then waits.
+    // Reads a record while no row is open that may have children: before the first geometry, and
+    // after a point. It is the root of the next geometry, and then waits.
+    #[inline(always)]
     pub(crate) fn read_root(&mut self, here: &ByteRecord) -> Result<(), JudgeFault>
         ensures read { OnOk result (BeginsFirst self.old (fields_of here.now) self.new) }
         ensures refused { IfErr result
@@ -84,6 +87,30 @@ impl RowReader {
             }
             Err(fault) => Err(fault),
         }
+    }
+
+    // The precision and the point of the root that waits, if that is a point that is not empty.
+    #[inline(always)]
+    pub(crate) fn waiting_point(&self) -> Option<(i8, Pt)>
+        ensures point { IfSome result (λ found. waiting self.now ≡ point_row found.0 found.1 ∷ []) }
+        ensures some { IsPoint (waiting self.now) → IsSome result }
+    {
+        let root = self.waiting?;
+        let precision = root.precision?;
+        if root.kind == Kind::Point && self.points.len() == 1 {
+            Some((precision, self.points[0]))
+        } else {
+            None
+        }
+    }
+
+    // Lets go of the root that waits, whose geometry is complete.
+    #[inline(always)]
+    pub(crate) fn forget_root(&mut self)
+        ensures none { waiting self.new ≡ [] }
+        ensures limits { limits_of self.new ≡ limits_of self.old }
+    {
+        self.waiting = None;
     }
 
     // Moves the root that waits into a flat form, in place of its rows.

@@ -21,18 +21,18 @@ use twkb_tree::{Geometry, Limits};
 #[derive(Drop)]
 pub struct TableReader<'a, R> {
     alloc: Global,
-    reader: Reader<&'a mut Tap<R>>,
+    pub(crate) reader: Reader<&'a mut Tap<R>>,
     // The last record read.
-    held: ByteRecord,
+    pub(crate) held: ByteRecord,
     // Whether the end of the table was reached.
-    ended: bool,
+    pub(crate) ended: bool,
     // The number of records read.
-    number: u32,
-    rows: RowReader,
+    pub(crate) number: u32,
+    pub(crate) rows: RowReader,
     // The flat form into which `next` reads rows.
     kept: Flat,
     // Whether a call returned an error.
-    spent: bool,
+    pub(crate) spent: bool,
 }
 
 // The number that no record of a table may have.

@@ -18,6 +18,7 @@ pub mod MeasuringTrees
 pub mod MeasuringWork
 pub mod MemberLemmas
 pub mod PartRows
+pub mod PointBlobLemmas
 pub mod PointLemmas
 pub mod PrecisionLemmas
 pub mod PutLemmas

@@ -6,6 +6,7 @@ pub mod Encoding
 pub mod Levels
 pub mod Measuring
 pub mod Nodes
+pub mod PointBlob
 pub mod Precisions
 pub mod Putting
 pub mod Reads

@@ -95,6 +95,14 @@ pub record TakenRow (style : Style) (node : Node) (points : Tail) (old new : Lis
   pub entry_is : entry ≡ row_entry style node.row.kind node.points node.row.precision
       (slice_index_or old (node.row.depth + 1) blank) points
 
+-- these points, nodes and entries were measured, and nothing was read
+pub record Measures (old : Work) (points nodes entries : ℕ) (new : Work) : Type 0 where
+  pub more_points : new.points ≡ saturated (old.points + points)
+  pub more_nodes : new.nodes ≡ saturated (old.nodes + nodes)
+  pub more_entries : new.entries ≡ saturated (old.entries + entries)
+  pub same_point_reads : new.point_reads ≡ old.point_reads
+  pub same_node_reads : new.node_reads ≡ old.node_reads
+
 -- these points, nodes and entries were measured, and each point and node was read exactly once
 pub record Counted (old : Work) (points nodes entries : ℕ) (new : Work) : Type 0 where
   pub more_points : new.points ≡ saturated (old.points + points)

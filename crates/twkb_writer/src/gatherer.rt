@@ -23,7 +23,7 @@ pub(crate) struct Gatherer<'a, 'b, 'c, S, F> {
 }
 
 // Moves the cursor to a point, and returns the zigzag forms of the difference.
-fn step_to(cursor: &mut Cursor, to: Pt) -> (u64, u64)
+pub(crate) fn step_to(cursor: &mut Cursor, to: Pt) -> (u64, u64)
     ensures x { result.0 ≡ zigzag_of (to.x -ℤ cursor.old.x) }
     ensures y { result.1 ≡ zigzag_of (to.y -ℤ cursor.old.y) }
     ensures moved { cursor.new ≡ to }

@@ -5,12 +5,11 @@ ghost use Rattle.twkb_points.specs.Point.{Point};
 ghost use Rattle.twkb_tree.specs.declared.limits.TheConstants.{POINTS_CAP};
 ghost use Rattle.twkb_tree.specs.Rows.{row_points};
 ghost use Rattle.twkb_flat.specs.Rows.{IsNode};
-ghost use Rattle.twkb_flat.specs.declared.work.Work.{Work as Before};
 ghost use Rattle.twkb_grammar.specs.declared.style.Style.{Style as InStyle};
 ghost use Rattle.twkb_writer.specs.declared.tails.Tail.{Tail as PointsAhead};
 ghost use Rattle.twkb_writer.specs.Caps.{point_bytes_cap, sums_cap};
 ghost use Rattle.twkb_writer.specs.Levels.{blank, IsSmall};
-ghost use Rattle.twkb_writer.specs.Measuring.{option_list, tail_after, points_at, TakenRow, Counted};
+ghost use Rattle.twkb_writer.specs.Measuring.{option_list, tail_after, points_at, TakenRow, Counted, Measures};
 ghost use Rattle.twkb_writer.specs.Reads.{ReadsExactly};
 ghost use Rattle.twkb_writer.specs.Sizes.{AreSizes};
 ghost use Rattle.twkb_writer.specs.Tails.{tail_of};
@@ -200,9 +199,8 @@ fn measure_entries(
 
 // Counts these points, nodes and entries as measured.
 #[inline(always)]
-fn count_measured(points: u32, nodes: u32, entries: usize, work: &mut Work)
-    ensures { (before : Before) → ReadsExactly before nodes points work.old
-        → Counted before points nodes entries work.new }
+pub(crate) fn count_measured(points: u32, nodes: u32, entries: usize, work: &mut Work)
+    ensures { Measures work.old points nodes entries work.new }
 {
     work.points = work.points.saturating_add(points as u64);
     work.nodes = work.nodes.saturating_add(nodes as u64);

@@ -19,8 +19,8 @@ use twkb_grammar::Style;
 use twkb_points::Pt;
 use twkb_tree::{Geometry, Ids, Item, Kind, Lines, Members, Pts, Shape, id_at, own_parts};
 
-// A part of a geometry: a point, line, ring or polygon.
-trait Part: Item {
+// A part of a geometry whose length is measured: a point, line, ring or polygon.
+trait MeasuredPart: Item {
     // The points of the part's own row.
     ghost own: { Self → List Point };
 
@@ -38,7 +38,7 @@ trait Part: Item {
         ensures most { result.bytes ≤ tail.bytes + 20 * length (all self.now) };
 }
 
-impl Part for Pt {
+impl MeasuredPart for Pt {
     ghost own = { λ point. point ∷ [] };
 
     ghost all = { λ point. point ∷ [] };
@@ -52,7 +52,7 @@ impl Part for Pt {
     }
 }
 
-impl Part for Pts {
+impl MeasuredPart for Pts {
     ghost own = { λ points. points };
 
     ghost all = { λ points. points };
@@ -66,7 +66,7 @@ impl Part for Pts {
     }
 }
 
-impl Part for Lines {
+impl MeasuredPart for Lines {
     ghost own = { λ rings. [] };
 
     ghost all = { flatten };
@@ -81,7 +81,7 @@ impl Part for Lines {
 }
 
 // Adds the points of parts before those after them in the geometry.
-fn tail_before<T: Part>(parts: &[T], tail: Tail) -> Tail
+fn tail_before<T: MeasuredPart>(parts: &[T], tail: Tail) -> Tail
     requires room { tail.bytes + 20 * length (flat_map T.all parts.now) ≤ sums_cap }
     ensures value { (ahead : List Point) → tail ≡ tail_of ahead → result ≡ tail_of (flat_map T.all parts.now ++ ahead) }
     ensures most { result.bytes ≤ tail.bytes + 20 * length (flat_map T.all parts.now) }
@@ -94,7 +94,7 @@ fn tail_before<T: Part>(parts: &[T], tail: Tail) -> Tail
 }
 
 // The totals of rings, or of members that are points or linestrings.
-fn parts_level<T: Part>(kind: Kind, parts: &[T], ids: &Ids) -> Level
+fn parts_level<T: MeasuredPart>(kind: Kind, parts: &[T], ids: &Ids) -> Level
     requires few { length parts.now ≤ NODES_CAP }
     requires few_points { length (flat_map T.own parts.now) ≤ POINTS_CAP }
     ensures value { result ≡ level Full 0 (rows_of_each

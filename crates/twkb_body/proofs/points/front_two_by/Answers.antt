@@ -1,8 +1,9 @@
 use Rattle.std.proofs.Common.{rules, SFits, w64, ◌≡◌, ◌+◌, arith}
 use Rattle.std.proofs.lemmas.Int.{to_z-of_z}
+use Rattle.twkb_num.proofs.ZigzagLemmas.{short_form}
 use Rattle.twkb_points.specs.Point.{moved_by}
-use Rattle.twkb_points.proofs.NearLemmas.{near_further}
-use Rattle.twkb_body.proofs.EightInFront.{short_in_range, short_moved, step_to}
+use Rattle.twkb_points.proofs.NearLemmas.{near_further, step_in_range, step_near}
+use Rattle.twkb_body.proofs.EightInFront.{step_to}
 use Rattle.twkb_body.proofs.TwoInFront.{two_in_front}
 use Rattle.twkb_body.proofs.points.front_two_by.Goals as goal
 
@@ -11,16 +12,16 @@ step-one-requires-clause-x_in_range c =
     let four = c.in_ok-four.four in
     let small = c.in_ok-four.ensures.four in
     let fits : SFits w64 four.first = search rules in
-    simp to_z-of_z (short_in_range 6 c.args.from four.first four.second (omega arith)
-    c.requires.near small.first_small small.second_small).0
+    simp to_z-of_z (step_in_range 6 c.args.from four.first four.second (omega arith) c.requires.near
+    (short_form four.first small.first_small) (short_form four.second small.second_small)).0
 
 pub step-one-requires-clause-y_in_range : goal.step-one-requires-clause-y_in_range
 step-one-requires-clause-y_in_range c =
     let four = c.in_ok-four.four in
     let small = c.in_ok-four.ensures.four in
     let fits : SFits w64 four.second = search rules in
-    simp to_z-of_z (short_in_range 6 c.args.from four.first four.second (omega arith)
-    c.requires.near small.first_small small.second_small).1
+    simp to_z-of_z (step_in_range 6 c.args.from four.first four.second (omega arith) c.requires.near
+    (short_form four.first small.first_small) (short_form four.second small.second_small)).1
 
 pub step-two-requires-clause-x_in_range : goal.step-two-requires-clause-x_in_range
 step-two-requires-clause-x_in_range c =
@@ -31,10 +32,10 @@ step-two-requires-clause-x_in_range c =
     let fits : SFits w64 four.third = search rules in
     let first : c.step-one.result ≡ moved_by c.args.from four.first four.second = simp to_z-of_z at
     c.step-one.ensures in
-    let near = short_moved 6 c.args.from c.step-one.result four.first four.second c.requires.near
-    small.first_small small.second_small first in
-    simp to_z-of_z (short_in_range 7 c.step-one.result four.third four.fourth (omega arith) near
-    small.third_small small.fourth_small).0
+    let near = step_near 6 c.args.from c.step-one.result four.first four.second c.requires.near
+    (short_form four.first small.first_small) (short_form four.second small.second_small) first in
+    simp to_z-of_z (step_in_range 7 c.step-one.result four.third four.fourth (omega arith) near
+    (short_form four.third small.third_small) (short_form four.fourth small.fourth_small)).0
 
 pub step-two-requires-clause-y_in_range : goal.step-two-requires-clause-y_in_range
 step-two-requires-clause-y_in_range c =
@@ -45,10 +46,10 @@ step-two-requires-clause-y_in_range c =
     let fits : SFits w64 four.fourth = search rules in
     let first : c.step-one.result ≡ moved_by c.args.from four.first four.second = simp to_z-of_z at
     c.step-one.ensures in
-    let near = short_moved 6 c.args.from c.step-one.result four.first four.second c.requires.near
-    small.first_small small.second_small first in
-    simp to_z-of_z (short_in_range 7 c.step-one.result four.third four.fourth (omega arith) near
-    small.third_small small.fourth_small).1
+    let near = step_near 6 c.args.from c.step-one.result four.first four.second c.requires.near
+    (short_form four.first small.first_small) (short_form four.second small.second_small) first in
+    simp to_z-of_z (step_in_range 7 c.step-one.result four.third four.fourth (omega arith) near
+    (short_form four.third small.third_small) (short_form four.fourth small.fourth_small)).1
 
 pub returns-clause-two : goal.returns-clause-two
 returns-clause-two c =
@@ -62,8 +63,8 @@ returns-clause-two c =
     c.step-one.ensures in
     let second : c.step-two.result ≡ moved_by c.step-one.result four.third four.fourth =
     simp to_z-of_z at c.step-two.ensures in
-    let near = short_moved 6 c.args.from c.step-one.result four.first four.second c.requires.near
-    small.first_small small.second_small first in
+    let near = step_near 6 c.args.from c.step-one.result four.first four.second c.requires.near
+    (short_form four.first small.first_small) (short_form four.second small.second_small) first in
     two_in_front c.args.from c.step-one.result c.step-two.result c.args.bytes.now _ _ _ _ _ small
     (step_to 6 c.args.from c.step-one.result four.first four.second (omega arith) c.requires.near
     small.first_small small.second_small first)
@@ -82,8 +83,8 @@ returns-clause-onward c = λ n near.
     c.step-one.ensures in
     let second : c.step-two.result ≡ moved_by c.step-one.result four.third four.fourth =
     simp to_z-of_z at c.step-two.ensures in
-    let one = short_moved n c.args.from c.step-one.result four.first four.second near
-    small.first_small small.second_small first in
+    let one = step_near n c.args.from c.step-one.result four.first four.second near
+    (short_form four.first small.first_small) (short_form four.second small.second_small) first in
     near_further (n + 1 + 1) (n + 2) c.step-two.result (omega arith)
-    (short_moved (n + 1) c.step-one.result c.step-two.result four.third four.fourth one
-    small.third_small small.fourth_small second)
+    (step_near (n + 1) c.step-one.result c.step-two.result four.third four.fourth one
+    (short_form four.third small.third_small) (short_form four.fourth small.fourth_small) second)

@@ -1,23 +1,51 @@
-use Rattle.std.proofs.Common.{◌≡◌, rules, false}
+use Rattle.std.proofs.Common.{◌≡◌, arith, false, rules}
 use Rattle.twkb_io.specs.Outputs.{output_tap}
 use Rattle.twkb_io.specs.Taps.{has_unflushed}
-use Rattle.twkb_convert.proofs.FlushLemmas.{flushed_by}
-use Rattle.twkb_convert.proofs.ListingStops.{stopped}
+use Rattle.twkb_convert.proofs.ListingEnds.{flushed_last, listed, lists_last, stopped}
+use Rattle.twkb_convert.proofs.SessionLemmas.{ready_first}
 use Rattle.twkb_convert.proofs.stream_listing.list_stream.Goals as goal
 
-pub returns-in-Err-clause-err : goal.returns-in-Err-clause-err
-returns-in-Err-clause-err g c =
-    stopped g.T.BlobText.layout g.R.Read.remaining g.W.Write.contents _ _ _ _ _ c.new-blobs.result
-    c.send_listing_and_flush-listing.new.reader c.new-output.result
-    c.send_listing_and_flush-listing.new.output c.in-Err.stop _ _
-    (search rules) (search rules) (search rules) (search rules) (search rules) (search rules)
-    (search rules) (search rules) (search rules) (search rules) (search rules)
-    c.in-Err.ensures.err c.in-Err.ensures.stops
+pub list_blobs-done-requires-clause-going : goal.list_blobs-done-requires-clause-going
+list_blobs-done-requires-clause-going g c = record {
+  between = record {
+    fresh = search rules;
+    going_on = search rules;
+    input = search rules;
+    abreast = ready_first c.new-blobs.result c.new-session.result c.args.limits
+        c.new-session.ensures.stands c.new-session.ensures.limits (search rules) (search rules);
+  };
+  unspent = search rules;
+  few = omega arith;
+}
 
-pub returns-in-Err-clause-flushed : goal.returns-in-Err-clause-flushed
-returns-in-Err-clause-flushed g c no_write no_length =
-    let output = c.send_listing_and_flush-listing.new.output in
-    let held : has_unflushed (output_tap output).now ≡ false = flushed_by c.in-Err.stop.why _
-    (has_unflushed (output_tap output).now ≡ false) (search rules) c.in-Err.ensures.stop_flushed
-    no_write no_length in
+pub returns-in-Ok-clause-ok : goal.returns-in-Ok-clause-ok
+returns-in-Ok-clause-ok g c =
+    listed g.T.BlobText.layout g.R.Read.remaining g.W.Write.contents _ _ _ _ _ c.new-blobs.result
+    c.list_blobs-done.new.reader c.new-output.result c.flush_last-listed.new.output _ _
+    (search rules) (search rules) (search rules) (search rules) (search rules) (search rules)
+    (search rules) (search rules) (search rules) _
+    (lists_last g.T.BlobText.layout g.W.Write.contents _ _ _ _ _ _ _ c.list_blobs-done.ensures.lists _
+    c.in-Ok.ensures.flushes)
+
+pub returns-clause-err : goal.returns-clause-err
+returns-clause-err g c =
+    stopped g.T.BlobText.layout g.R.Read.remaining g.W.Write.contents _ _ _ _ _ c.new-blobs.result
+    c.list_blobs-done.new.reader c.new-output.result c.flush_last-listed.new.output _ _
+    (search rules) (search rules) (search rules) (search rules) (search rules) (search rules)
+    (search rules) (search rules) (search rules) c.in-Err.cause
+    (lists_last g.T.BlobText.layout g.W.Write.contents _ _ _ _ _ _ _ c.list_blobs-done.ensures.lists _
+    c.in-Err.ensures.flushes)
+
+pub returns-in-Ok-clause-flushed : goal.returns-in-Ok-clause-flushed
+returns-in-Ok-clause-flushed g c =
+    let output = c.flush_last-listed.new.output in
+    let held : has_unflushed (output_tap output).now ≡ false = flushed_last g.W.Write.contents _ _ _ _
+    c.list_blobs-done.ensures.lists.unspent c.in-Ok.ensures.flushes in
+    search rules
+
+pub returns-clause-flushed : goal.returns-clause-flushed
+returns-clause-flushed g c no_write no_length =
+    let output = c.flush_last-listed.new.output in
+    let held : has_unflushed (output_tap output).now ≡ false = flushed_last g.W.Write.contents _ _ _ _
+    c.list_blobs-done.ensures.lists.unspent c.in-Err.ensures.flushes no_write no_length in
     search rules

@@ -1,106 +1,49 @@
-use Rattle.std.proofs.Common.{arith, sym, subst, ◌≤◌, length, drop, take}
-use Rattle.std.specs.Prelude.{nat_eq, nat_lt}
-use Rattle.std.proofs.lemmas.List.{drop-drop, length-drop}
-use Rattle.twkb_num.specs.Block.{units_in, AreMarks}
-use Rattle.twkb_num.proofs.BlockLemmas.{marks_joined, marks_small}
+use Rattle.std.proofs.Common.{arith}
+use Rattle.twkb_num.proofs.JoinedMarkLemmas.{are_halves}
 use Rattle.twkb_num.proofs.block.thirty_two.Goals as goal
 
 pub overflow_mul-result : goal.overflow_mul-result
 overflow_mul-result c =
-    let bytes = drop c.args.at c.args.bytes.now in
-    let enough : 32 ≤ length bytes = omega (arith, length-drop c.args.at c.args.bytes.now, c.requires) in
-    let rest : 16 ≤ length (drop 16 bytes) = omega (arith, length-drop 16 bytes, enough) in
-    let low = c.sixteen-low.ensures in
-    let high = subst (λ bs. AreMarks c.args.alphabet.radix c.args.alphabet.most
-    (units_in c.args.alphabet.base (take 16 bs)) c.sixteen-high.result)
-    (sym (drop-drop 16 c.args.at c.args.bytes.now)) c.sixteen-high.ensures in
-    let low_small = marks_small (λ u. nat_lt u c.args.alphabet.radix) c.args.alphabet.base 16 bytes
-    (omega (arith, enough)) in
-    let high_small = marks_small (λ u. nat_lt u c.args.alphabet.radix) c.args.alphabet.base 16 (drop 16 bytes) rest in
-    record { fits = omega (arith, high.ends, high_small) }
+    let halves = are_halves c.args.at 16 c.args.alphabet.base c.args.alphabet.radix c.args.alphabet.most
+    c.args.bytes.now _ _ c.requires.long c.sixteen-low.ensures c.sixteen-high.ensures in
+    record { fits = omega (arith, halves.ends.1) }
 
 pub overflow_add-result : goal.overflow_add-result
 overflow_add-result c =
-    let bytes = drop c.args.at c.args.bytes.now in
-    let enough : 32 ≤ length bytes = omega (arith, length-drop c.args.at c.args.bytes.now, c.requires) in
-    let rest : 16 ≤ length (drop 16 bytes) = omega (arith, length-drop 16 bytes, enough) in
-    let low = c.sixteen-low.ensures in
-    let high = subst (λ bs. AreMarks c.args.alphabet.radix c.args.alphabet.most
-    (units_in c.args.alphabet.base (take 16 bs)) c.sixteen-high.result)
-    (sym (drop-drop 16 c.args.at c.args.bytes.now)) c.sixteen-high.ensures in
-    let low_small = marks_small (λ u. nat_lt u c.args.alphabet.radix) c.args.alphabet.base 16 bytes
-    (omega (arith, enough)) in
-    let high_small = marks_small (λ u. nat_lt u c.args.alphabet.radix) c.args.alphabet.base 16 (drop 16 bytes) rest in
-    record { fits = omega (arith, low.ends, high.ends, low_small, high_small) }
+    let halves = are_halves c.args.at 16 c.args.alphabet.base c.args.alphabet.radix c.args.alphabet.most
+    c.args.bytes.now _ _ c.requires.long c.sixteen-low.ensures c.sixteen-high.ensures in
+    record { fits = omega (arith, halves.ends.0, halves.ends.1) }
 
 pub overflow_mul-result-2 : goal.overflow_mul-result-2
 overflow_mul-result-2 c =
-    let bytes = drop c.args.at c.args.bytes.now in
-    let enough : 32 ≤ length bytes = omega (arith, length-drop c.args.at c.args.bytes.now, c.requires) in
-    let rest : 16 ≤ length (drop 16 bytes) = omega (arith, length-drop 16 bytes, enough) in
-    let low = c.sixteen-low.ensures in
-    let high = subst (λ bs. AreMarks c.args.alphabet.radix c.args.alphabet.most
-    (units_in c.args.alphabet.base (take 16 bs)) c.sixteen-high.result)
-    (sym (drop-drop 16 c.args.at c.args.bytes.now)) c.sixteen-high.ensures in
-    let low_small = marks_small (λ u. nat_eq u 0) c.args.alphabet.base 16 bytes (omega (arith, enough)) in
-    let high_small = marks_small (λ u. nat_eq u 0) c.args.alphabet.base 16 (drop 16 bytes) rest in
-    record { fits = omega (arith, high.zeros, high_small) }
+    let halves = are_halves c.args.at 16 c.args.alphabet.base c.args.alphabet.radix c.args.alphabet.most
+    c.args.bytes.now _ _ c.requires.long c.sixteen-low.ensures c.sixteen-high.ensures in
+    record { fits = omega (arith, halves.zeros.1) }
 
 pub overflow_add-result-2 : goal.overflow_add-result-2
 overflow_add-result-2 c =
-    let bytes = drop c.args.at c.args.bytes.now in
-    let enough : 32 ≤ length bytes = omega (arith, length-drop c.args.at c.args.bytes.now, c.requires) in
-    let rest : 16 ≤ length (drop 16 bytes) = omega (arith, length-drop 16 bytes, enough) in
-    let low = c.sixteen-low.ensures in
-    let high = subst (λ bs. AreMarks c.args.alphabet.radix c.args.alphabet.most
-    (units_in c.args.alphabet.base (take 16 bs)) c.sixteen-high.result)
-    (sym (drop-drop 16 c.args.at c.args.bytes.now)) c.sixteen-high.ensures in
-    let low_small = marks_small (λ u. nat_eq u 0) c.args.alphabet.base 16 bytes (omega (arith, enough)) in
-    let high_small = marks_small (λ u. nat_eq u 0) c.args.alphabet.base 16 (drop 16 bytes) rest in
-    record { fits = omega (arith, low.zeros, high.zeros, low_small, high_small) }
+    let halves = are_halves c.args.at 16 c.args.alphabet.base c.args.alphabet.radix c.args.alphabet.most
+    c.args.bytes.now _ _ c.requires.long c.sixteen-low.ensures c.sixteen-high.ensures in
+    record { fits = omega (arith, halves.zeros.0, halves.zeros.1) }
 
 pub overflow_mul-result-3 : goal.overflow_mul-result-3
 overflow_mul-result-3 c =
-    let bytes = drop c.args.at c.args.bytes.now in
-    let enough : 32 ≤ length bytes = omega (arith, length-drop c.args.at c.args.bytes.now, c.requires) in
-    let rest : 16 ≤ length (drop 16 bytes) = omega (arith, length-drop 16 bytes, enough) in
-    let low = c.sixteen-low.ensures in
-    let high = subst (λ bs. AreMarks c.args.alphabet.radix c.args.alphabet.most
-    (units_in c.args.alphabet.base (take 16 bs)) c.sixteen-high.result)
-    (sym (drop-drop 16 c.args.at c.args.bytes.now)) c.sixteen-high.ensures in
-    let low_small = marks_small (λ u. nat_lt c.args.alphabet.most u) c.args.alphabet.base 16 bytes
-    (omega (arith, enough)) in
-    let high_small = marks_small (λ u. nat_lt c.args.alphabet.most u) c.args.alphabet.base 16 (drop 16 bytes) rest in
-    record { fits = omega (arith, high.bad, high_small) }
+    let halves = are_halves c.args.at 16 c.args.alphabet.base c.args.alphabet.radix c.args.alphabet.most
+    c.args.bytes.now _ _ c.requires.long c.sixteen-low.ensures c.sixteen-high.ensures in
+    record { fits = omega (arith, halves.bad.1) }
 
 pub overflow_add-result-3 : goal.overflow_add-result-3
 overflow_add-result-3 c =
-    let bytes = drop c.args.at c.args.bytes.now in
-    let enough : 32 ≤ length bytes = omega (arith, length-drop c.args.at c.args.bytes.now, c.requires) in
-    let rest : 16 ≤ length (drop 16 bytes) = omega (arith, length-drop 16 bytes, enough) in
-    let low = c.sixteen-low.ensures in
-    let high = subst (λ bs. AreMarks c.args.alphabet.radix c.args.alphabet.most
-    (units_in c.args.alphabet.base (take 16 bs)) c.sixteen-high.result)
-    (sym (drop-drop 16 c.args.at c.args.bytes.now)) c.sixteen-high.ensures in
-    let low_small = marks_small (λ u. nat_lt c.args.alphabet.most u) c.args.alphabet.base 16 bytes
-    (omega (arith, enough)) in
-    let high_small = marks_small (λ u. nat_lt c.args.alphabet.most u) c.args.alphabet.base 16 (drop 16 bytes) rest in
-    record { fits = omega (arith, low.bad, high.bad, low_small, high_small) }
+    let halves = are_halves c.args.at 16 c.args.alphabet.base c.args.alphabet.radix c.args.alphabet.most
+    c.args.bytes.now _ _ c.requires.long c.sixteen-low.ensures c.sixteen-high.ensures in
+    record { fits = omega (arith, halves.bad.0, halves.bad.1) }
 
 pub returns : goal.returns
 returns c =
-    let bytes = drop c.args.at c.args.bytes.now in
-    let enough : 32 ≤ length bytes = omega (arith, length-drop c.args.at c.args.bytes.now, c.requires) in
-    let rest : 16 ≤ length (drop 16 bytes) = omega (arith, length-drop 16 bytes, enough) in
-    let low = c.sixteen-low.ensures in
-    let high = subst (λ bs. AreMarks c.args.alphabet.radix c.args.alphabet.most
-    (units_in c.args.alphabet.base (take 16 bs)) c.sixteen-high.result)
-    (sym (drop-drop 16 c.args.at c.args.bytes.now)) c.sixteen-high.ensures in
+    let halves = are_halves c.args.at 16 c.args.alphabet.base c.args.alphabet.radix c.args.alphabet.most
+    c.args.bytes.now _ _ c.requires.long c.sixteen-low.ensures c.sixteen-high.ensures in
     record {
-      ends = let joined = marks_joined (λ u. nat_lt u c.args.alphabet.radix) c.args.alphabet.base 16
-          16 bytes (omega (arith, enough)) in omega (arith, joined, low.ends, high.ends);
-      zeros = let joined = marks_joined (λ u. nat_eq u 0) c.args.alphabet.base 16 16 bytes
-          (omega (arith, enough)) in omega (arith, joined, low.zeros, high.zeros);
-      bad = let joined = marks_joined (λ u. nat_lt c.args.alphabet.most u) c.args.alphabet.base 16
-          16 bytes (omega (arith, enough)) in omega (arith, joined, low.bad, high.bad);
+      ends = omega (arith, halves.joined_ends);
+      zeros = omega (arith, halves.joined_zeros);
+      bad = omega (arith, halves.joined_bad);
     }

@@ -1,14 +1,16 @@
-use Rattle.std.proofs.Common.{◌∙◌, ◌-◌, refl, sym, arith, length, rules, FitsSigned, w64}
+use Rattle.std.proofs.Common.{◌∙◌, ◌-◌, ◌<◌, ◌^◌, refl, sym, subst, arith, length, rules, FitsSigned, w64}
 use Rattle.std.specs.Prelude.{nat_lt}
 use Rattle.std.proofs.lemmas.Int.{to_z-of_z}
 use Rattle.std.proofs.lemmas.List.{length-map}
 use Rattle.twkb_num.proofs.FourLemmas.{marks_of}
 use Rattle.twkb_num.proofs.ByteLemmas.{bytes_of}
-use Rattle.twkb_num.proofs.WholeTextLemmas.{units_below, length-end_units, first_groups, last_groups, two_read}
+use Rattle.twkb_num.proofs.JoinLemmas.{groups_small}
+use Rattle.twkb_num.proofs.WholeTextLemmas.{units_below, length-end_units, first_groups, last_groups}
+use Rattle.twkb_num.proofs.WholeTextLemmas.{two_read}
 use Rattle.twkb_num.proofs.whole_text.two_in_text.Goals as goal
 
-pub returns : goal.returns
-returns c =
+pub returns-clause-spelled : goal.returns-clause-spelled
+returns-clause-spelled c =
     let text = c.args.text.now in
     let used = c.in_ok-used.used in
     let us = c.end_units-units.result in
@@ -29,3 +31,12 @@ returns c =
     (two_read text us c.in_ok-ends.ends used c.if-count-lt-WORD.false (bytes_of text c.type_inv.text) us_are marked
     found.first_short found.within found.second_short runs
     ∙ rw (sym first, sym second) refl)
+
+pub returns-clause-small : goal.returns-clause-small
+returns-clause-small c =
+    let first = c.unzigzag.ensures ∙ c.numbers-first.ensures.first in
+    let second = c.unzigzag-2.ensures ∙ c.numbers-first.ensures.second in
+    let y_fits : FitsSigned w64 c.unzigzag.result = search rules in
+    let x_fits : FitsSigned w64 c.unzigzag-2.result = search rules in
+    simp to_z-of_z
+    (subst (λ n. n < 2 ^ 40) (sym first) (groups_small _), subst (λ n. n < 2 ^ 40) (sym second) (groups_small _))

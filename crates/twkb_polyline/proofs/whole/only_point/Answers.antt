@@ -10,4 +10,4 @@ returns-clause-read c =
     let y_fits : FitsSigned w64 c.in_ok-dy.dy = search rules in
     let moved = simp to_z-of_z at c.in_ok-point.ensures.point in
     let from = moved ∙ ap (λ (p : Point). moved_by p c.in_ok-dy.dx c.in_ok-dy.dy) c.origin.ensures in
-    point_of_text c.args.text.now c.in_ok-dy.dx c.in_ok-dy.dy origin c.in_ok-point.point c.in_ok-dy.ensures from
+    point_of_text c.args.text.now c.in_ok-dy.dx c.in_ok-dy.dy origin c.in_ok-point.point c.in_ok-dy.ensures.spelled from

@@ -15,9 +15,9 @@ overflow_cast-own g c =
     omega (
       arith,
       c.requires.few_points,
-      count_back g.T.Part.own c.args.parts.now k c.index-parts-index.result c.loop-index-test.true
+      count_back g.T.MeasuredPart.own c.args.parts.now k c.index-parts-index.result c.loop-index-test.true
           c.loop-index.auto.index c.index-parts-index.is,
-      fewer_points g.T.Part.own (k - 1) c.args.parts.now,
+      fewer_points g.T.MeasuredPart.own (k - 1) c.args.parts.now,
       ap (λ (ps : List Point). length ps) c.own_points.ensures,
     )
 
@@ -26,8 +26,8 @@ with_part-level-requires-clause-members g c =
     omega (
       arith,
       c.requires.few,
-      counted_from (with_row_of c.args.kind g.T.Part.own)
-          (part_counted c.args.kind (λ x. length (g.T.Part.own x)) (λ x. blank)) c.args.ids.now
+      counted_from (with_row_of c.args.kind g.T.MeasuredPart.own)
+          (part_counted c.args.kind (λ x. length (g.T.MeasuredPart.own x)) (λ x. blank)) c.args.ids.now
           c.loop-index.index c.args.parts.now _ c.loop-index.invariant.value,
     )
 
@@ -50,10 +50,10 @@ loop-index-preserved g c =
     let k = c.loop-index.index in
     let part = c.index-parts-index in
     record {
-      value = each_back (with_row_of c.args.kind g.T.Part.own) c.args.ids.now c.args.parts.now k
+      value = each_back (with_row_of c.args.kind g.T.MeasuredPart.own) c.args.ids.now c.args.parts.now k
           part.result _ _ c.loop-index-test.true c.loop-index.auto.index part.is
           c.loop-index.invariant.value
-          (part_more c.args.kind g.T.Part.own c.args.ids.now (k - 1) part.result _ _ _ _ _
+          (part_more c.args.kind g.T.MeasuredPart.own c.args.ids.now (k - 1) part.result _ _ _ _ _
           c.own_points.ensures c.id_at.ensures c.blank.ensures c.with_part-level.ensures.value);
       most = omega (
         arith,
@@ -65,5 +65,5 @@ loop-index-preserved g c =
     }
 
 pub returns-clause-value : goal.returns-clause-value
-returns-clause-value g c = parts_are c.args.kind g.T.Part.own c.args.ids.now c.args.parts.now _ _
+returns-clause-value g c = parts_are c.args.kind g.T.MeasuredPart.own c.args.ids.now c.args.parts.now _ _
     (omega arith) c.loop-index.invariant.value

@@ -8,6 +8,7 @@ use Rattle.twkb_writer.proofs.tree_measuring.parts_level.Given as goal
 
 abbrev pub invariant-loop-index : goal.invariant-loop-index
 invariant-loop-index g l = record {
-  value : l.level ≡ with_each (with_row_of l.kind g.T.Part.own) (ids_from l.index l.ids) (drop l.index l.parts) blank;
+  value : l.level ≡ with_each (with_row_of l.kind g.T.MeasuredPart.own) (ids_from l.index l.ids)
+      (drop l.index l.parts) blank;
   most : load l.level ≤ 20 * length (drop l.index l.parts);
 }

@@ -8,6 +8,6 @@ use Rattle.twkb_writer.proofs.tree_measuring.tail_before.Given as goal
 abbrev pub invariant-loop-index : goal.invariant-loop-index
 invariant-loop-index g l = record {
   value : (ahead : List Point) → l.fn.tail ≡ tail_of ahead
-      → l.tail ≡ tail_of (flat_map g.T.Part.all (drop l.index l.parts) ++ ahead);
-  most : l.tail.bytes ≤ l.fn.tail.bytes + 20 * length (flat_map g.T.Part.all (drop l.index l.parts));
+      → l.tail ≡ tail_of (flat_map g.T.MeasuredPart.all (drop l.index l.parts) ++ ahead);
+  most : l.tail.bytes ≤ l.fn.tail.bytes + 20 * length (flat_map g.T.MeasuredPart.all (drop l.index l.parts));
 }

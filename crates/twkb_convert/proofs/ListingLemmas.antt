@@ -1,0 +1,338 @@
+-- The exits of the loop over a stream's blobs.
+use Rattle.twkb_convert.proofs.Prelude.{◌≡◌, ◌∙◌, ◌+◌, ◌-◌, ◌<◌, ◌≤◌, ℕ, Bool, false, List, [], ◌∷◌, ◌++◌, Option, Some}
+use Rattle.twkb_convert.proofs.Prelude.{None, Result, Ok, Err, IfSome, length, ap, arith, refl, sym, subst, inl, inr}
+use Rattle.twkb_convert.proofs.Prelude.{append_assoc, length-append, append-nil, Consumes, IsAtEnd, Ghosts, BeginsWith}
+use Rattle.twkb_convert.proofs.Prelude.{Cut, Sent, Took, is_spent, output_failures, sent_of, refused_join, took_join}
+use Rattle.twkb_convert.proofs.Prelude.{Output, OutFault, Allowance, Reader}
+use Rattle.twkb_convert.proofs.Prelude.{Located, LocatedStream, TellsSpans, blobs_text}
+use Rattle.twkb_convert.proofs.Prelude.{listing_text, Layout, Cause}
+use Rattle.std.proofs.KnownBytes.{Consumes-nil, Consumes-trans}
+use Rattle.twkb_io.specs.declared.TheConstants.{MAX_BYTES}
+use Rattle.twkb_io.specs.Outputs.{is_device}
+use Rattle.twkb_blob.specs.declared.session.Session.{Session}
+use Rattle.twkb_grammar.proofs.Streams.{blob_long}
+use Rattle.twkb_convert.specs.BlobReading.{Follows, GivesBlob, GivesText, Misses, Used, given, is_read}
+use Rattle.twkb_convert.specs.BlobReading.{limits_of, rest_of, told_of}
+use Rattle.twkb_convert.specs.Causes.{cause_of_output}
+use Rattle.twkb_convert.specs.Flushing.{UnlessRefused}
+use Rattle.twkb_convert.specs.BlobsListed.{CutsBlob, Ends, IsGoing, Lists, SendsBlob, SendsNext, SentSoFar}
+use Rattle.twkb_convert.proofs.CauseLemmas.{explained, put_explained, put_refused, told_missed, told_put}
+use Rattle.twkb_convert.proofs.LocatedLemmas.{located-append, located-one}
+use Rattle.twkb_convert.proofs.ListingTexts.{blobs_text-append, blobs_text-one}
+
+-- ---- bytes
+
+consumes_begins : (old new : Option (List ℕ)) (bytes : List ℕ) → Consumes old new bytes → BeginsWith old bytes
+consumes_begins None new bytes c = tt
+consumes_begins (Some xs) None bytes c = absurd c
+consumes_begins (Some xs) (Some ys) bytes c = (ys, c)
+
+-- these are all bytes if none is left
+consumes_all : (old new : Option (List ℕ)) (bytes : List ℕ) → Consumes old new bytes → IsAtEnd new
+    → IfSome old (λ whole. whole ≡ bytes)
+consumes_all None new bytes c end = tt
+consumes_all (Some xs) None bytes c end = absurd c
+consumes_all (Some xs) (Some ys) bytes c end = c ∙ ap (λ l. bytes ++ l) end ∙ append-nil bytes
+
+-- bytes that were known are known when some of them are gone
+still_known : (old new : Option (List ℕ)) (bytes : List ℕ) (Fact : Type 0) → Consumes old new bytes
+    → IfSome new (λ left. Fact) → IfSome old (λ whole. Fact)
+still_known None new bytes Fact c fact = tt
+still_known (Some xs) None bytes Fact c fact = absurd c
+still_known (Some xs) (Some ys) bytes Fact c fact = fact
+
+used_join : (a b c : Option (List ℕ)) (m n o : ℕ) (xs ys : List ℕ) → Used a m xs b n
+    → Used b n ys c o → Used a m (xs ++ ys) c o
+used_join a b c m n o xs ys first second = record {
+  consumed = Consumes-trans a b c xs ys first.consumed second.consumed;
+  counted = omega (arith, first.counted, second.counted, length-append xs ys);
+}
+
+any_begins : (known : Option (List ℕ)) → BeginsWith known []
+any_begins None = tt
+any_begins (Some bytes) = (bytes, refl)
+
+-- ---- blobs
+
+-- one more blob after others
+one_more : (l m : Allowance) (before after : ℕ) (bytes front : List ℕ) (bs : List Located)
+    (b : Located) → LocatedStream l before bytes bs → m ≡ l → after ≡ before + length bytes
+    → TellsSpans m after front b → LocatedStream l before (bytes ++ front) (bs ++ b ∷ [])
+one_more l m before after bytes front bs b blobs same place tells =
+    let here : TellsSpans l (before + length bytes) front b = subst (λ n. TellsSpans l n front b)
+    place (subst (λ a. TellsSpans a after front b) same tells) in
+    located-append l before bytes front bs (b ∷ []) blobs (located-one l (before + length bytes) front b here)
+
+-- the text of one more blob after that of others
+text_more : (layout : Layout) (bs : List Located) (b : Located)
+    → listing_text layout bs ++ layout.text_of b ≡ listing_text layout (bs ++ b ∷ [])
+text_more layout bs b = append_assoc layout.first (blobs_text layout bs) (layout.text_of b)
+    ∙ ap (λ t. layout.first ++ (blobs_text layout bs ++ t)) (sym (blobs_text-one layout b))
+    ∙ ap (λ t. layout.first ++ t) (sym (blobs_text-append layout bs (b ∷ [])))
+
+-- a blob has at least one byte
+given_more : (l : Allowance) (old new : Option (List ℕ)) (before after : ℕ) (b : Located)
+    → GivesBlob l old before b new after → before < after
+given_more l old new before after b gives =
+    omega (arith, gives.used.counted, blob_long l gives.front b.geometry gives.tells.blob)
+
+-- ---- one blob
+
+module _ {R W : Type 0} {read : Ghosts R} (layout : Layout) (contents : W → Option (List ℕ))
+    (from to : Reader R read) (s : Session) (old new : Output W) (done : ℕ) (text : List ℕ)
+    (gives : GivesText layout from to s text) where
+  pub sends_blob : is_spent old ≡ false → done ≤ given from → Took contents old text new
+      → SendsBlob layout contents from old done to s new (done + 1)
+  sends_blob fresh few took = record {
+    found = gives.found;
+    gives = gives.gives;
+    took = subst (λ t. Took contents old t new) gives.own took;
+    follows = gives.follows;
+    going = record {
+      between = gives.between;
+      unspent = took.spent ∙ fresh;
+      few = omega (
+        arith,
+        few,
+        given_more (limits_of from) (rest_of from) (rest_of to) (given from) (given to)
+            gives.found gives.gives,
+      );
+    };
+    count = refl;
+  }
+
+  pub cuts_blob : (fault : OutFault) → Cut contents old text fault new
+      → CutsBlob layout contents from old to new (cause_of_output fault)
+  cuts_blob fault cut = record {
+    found = gives.found;
+    gives = gives.gives;
+    follows = gives.follows;
+    fault = fault;
+    cut = subst (λ t. Cut contents old t fault new) gives.own cut;
+    caused = refl;
+  }
+
+-- fewer bytes may still be given out after a blob was read
+pub fewer_left : {R W : Type 0} {read : Ghosts R} (layout : Layout) (contents : W → Option (List ℕ))
+    (from : Reader R read) (old : Output W) (done : ℕ) (to : Reader R read) (s : Session)
+    (new : Output W) (after : ℕ) → SendsBlob layout contents from old done to s new after
+    → MAX_BYTES - given to < MAX_BYTES - given from
+fewer_left layout contents from old done to s new after one =
+    omega (
+      arith,
+      given_more (limits_of from) (rest_of from) (rest_of to) (given from) (given to) one.found
+          one.gives,
+      one.follows.within,
+    )
+
+-- ---- the loop
+
+module _ {R W : Type 0} {read : Ghosts R} (layout : Layout) (contents : W → Option (List ℕ))
+    (from : Reader R read) (old : Output W) where
+  -- the text before the first blob was sent
+  pub sent_first : (s : Session) (new : Output W) (done : ℕ) → IsGoing from s old done
+      → given from ≡ 0 → Took contents old layout.first new
+      → SentSoFar layout contents from old from s new done
+  sent_first s new done going start took = record {
+    found = [];
+    bytes = [];
+    blobs = refl;
+    used = record { consumed = Consumes-nil (rest_of from); counted = start };
+    took = subst (λ t. Took contents old t new) (sym (append-nil layout.first)) took;
+    count = omega (arith, going.few, start);
+    follows = record { same_tap = refl; limits = refl; failures = refl; within = from.input.within };
+    going = record { between = going.between; unspent = took.spent ∙ going.unspent; few = going.few };
+  }
+
+  -- the text of one more blob was sent
+  pub sent_more : (mid to : Reader R read) (s t : Session) (out new : Output W) (done after : ℕ)
+      → SentSoFar layout contents from old mid s out done
+      → SendsBlob layout contents mid out done to t new after
+      → SentSoFar layout contents from old to t new after
+  sent_more mid to s t out new done after sent one = record {
+    found = sent.found ++ one.found ∷ [];
+    bytes = sent.bytes ++ one.gives.front;
+    blobs = one_more (limits_of from) (limits_of mid) 0 (given mid) sent.bytes one.gives.front
+        sent.found one.found sent.blobs sent.follows.limits sent.used.counted one.gives.tells;
+    used = used_join (rest_of from) (rest_of mid) (rest_of to) 0 (given mid) (given to) sent.bytes
+        one.gives.front sent.used one.gives.used;
+    took = subst (λ text. Took contents old text new) (text_more layout sent.found one.found)
+        (took_join contents old out new (listing_text layout sent.found)
+        (layout.text_of one.found) sent.took one.took);
+    count = omega (arith, sent.count, one.count, length-append sent.found (one.found ∷ []));
+    follows = record {
+      same_tap = one.follows.same_tap ∙ sent.follows.same_tap;
+      limits = one.follows.limits ∙ sent.follows.limits;
+      failures = one.follows.failures ∙ sent.follows.failures;
+      within = one.follows.within;
+    };
+    going = one.going;
+  }
+
+  -- no text was sent after those of whole blobs
+  lists_whole : (A : Type 0) (answer : Result A Cause) (mid to : Reader R read) (s : Session)
+      (out new : Output W) (done after : ℕ) (failed : Bool)
+      (sent : SentSoFar layout contents from old mid s out done) → new ≡ out → after ≡ done
+      → Follows mid to failed → UnlessRefused answer (is_spent new ≡ false)
+      → Ends layout from to sent.bytes sent.found [] [] failed false answer
+      → Lists layout contents from old to new after answer
+  lists_whole A answer mid to s out new done after failed sent same is follows unspent ends = record {
+    text = listing_text layout sent.found;
+    part = record {
+      whole = sent.found;
+      later = [];
+      bytes = sent.bytes;
+      left = [];
+      blobs = subst (λ bs. LocatedStream (limits_of from) 0 sent.bytes bs)
+          (sym (append-nil sent.found)) sent.blobs;
+      begins = consumes_begins (rest_of from) (rest_of mid) sent.bytes sent.used.consumed;
+      cut = ap (listing_text layout) (append-nil sent.found) ∙ sym (append-nil (listing_text layout sent.found));
+      one = inl refl;
+      holds = inr ([], sym (append-nil (listing_text layout sent.found)));
+    };
+    sends = subst (λ o. Sent contents old (listing_text layout sent.found) o) (sym same) sent.took.sends;
+    count = is ∙ sent.count;
+    read_failed = failed;
+    write_failed = false;
+    follows = record {
+      same_tap = follows.same_tap ∙ sent.follows.same_tap;
+      limits = follows.limits ∙ sent.follows.limits;
+      failures = rw sent.follows.failures at follows.failures;
+      within = follows.within;
+    };
+    writes = ap output_failures same ∙ sent.took.failures;
+    quiet = λ fresh. refl;
+    unspent = unspent;
+    ends = ends;
+  }
+
+  -- a prefix of the text of one more blob was sent
+  lists_cut : (A : Type 0) (mid to : Reader R read) (s : Session) (out new : Output W) (done after : ℕ)
+      (why : Cause) → sent_of old ≡ 0 → SentSoFar layout contents from old mid s out done
+      → after ≡ done → CutsBlob layout contents mid out to new why
+      → Lists {A = A} layout contents from old to new after (Err why)
+  lists_cut A mid to s out new done after why none sent is one =
+      let cut = one.cut in
+      let all = used_join (rest_of from) (rest_of mid) (rest_of to) 0 (given mid) (given to)
+      sent.bytes one.gives.front sent.used one.gives.used in
+      let refused = refused_join contents old out new (listing_text layout sent.found) cut.front
+      one.fault sent.took cut.refused in
+      let joined = text_more layout sent.found one.found in
+      subst (λ w. Lists {A = A} layout contents from old to new after (Err w)) (sym one.caused) (record {
+        text = listing_text layout sent.found ++ cut.front;
+        part = record {
+          whole = sent.found;
+          later = one.found ∷ [];
+          bytes = sent.bytes ++ one.gives.front;
+          left = cut.rest;
+          blobs = one_more (limits_of from) (limits_of mid) 0 (given mid) sent.bytes one.gives.front
+              sent.found one.found sent.blobs sent.follows.limits sent.used.counted
+              one.gives.tells;
+          begins = consumes_begins (rest_of from) (rest_of to) (sent.bytes ++ one.gives.front) all.consumed;
+          cut = sym joined ∙ ap (λ t. listing_text layout sent.found ++ t) cut.whole
+              ∙ sym (append_assoc (listing_text layout sent.found) cut.front cut.rest);
+          one = inr (one.found, refl, cut.left sent.going.unspent);
+          holds = inr (cut.front, refl);
+        };
+        sends = refused.sends;
+        count = is ∙ sent.count;
+        read_failed = false;
+        write_failed = is_device one.fault;
+        follows = record {
+          same_tap = one.follows.same_tap ∙ sent.follows.same_tap;
+          limits = one.follows.limits ∙ sent.follows.limits;
+          failures = one.follows.failures ∙ sent.follows.failures;
+          within = one.follows.within;
+        };
+        writes = refused.failures;
+        quiet = λ fresh. absurd (cc (fresh, refused.spent));
+        unspent = put_refused A one.fault (is_spent new ≡ false);
+        ends = record {
+          explains = put_explained layout (limits_of from) (rest_of from) (told_of to)
+              (sent.bytes ++ one.gives.front) one.fault sent.found (one.found ∷ []) cut.rest
+              (λ e. (let far = cut.too_long e in
+              omega (
+                arith,
+                far,
+                none,
+                sent.took.sends.sent,
+                ap length joined,
+                length-append (listing_text layout sent.found) (layout.text_of one.found),
+              )))
+              (cut.unspent sent.going.unspent);
+          tell = told_put one.fault;
+        };
+      })
+
+  -- the text before the first blob was not sent whole
+  pub lists_none : (A : Type 0) (s : Session) (new : Output W) (done : ℕ) (text : List ℕ) (f : OutFault)
+      → text ≡ layout.first → IsGoing from s old done → given from ≡ 0 → sent_of old ≡ 0
+      → Cut contents old text f new
+      → Lists {A = A} layout contents from old from new done (Err (cause_of_output f))
+  lists_none A s new done text f own going start none cut =
+      let whole : listing_text layout [] ≡ text = append-nil layout.first ∙ sym own in
+      record {
+        text = cut.front;
+        part = record {
+          whole = [];
+          later = [];
+          bytes = [];
+          left = cut.rest;
+          blobs = refl;
+          begins = any_begins (rest_of from);
+          cut = whole ∙ cut.whole;
+          one = inl refl;
+          holds = inl refl;
+        };
+        sends = cut.refused.sends;
+        count = omega (arith, going.few, start);
+        read_failed = false;
+        write_failed = is_device f;
+        follows = record { same_tap = refl; limits = refl; failures = refl; within = from.input.within };
+        writes = cut.refused.failures;
+        quiet = λ fresh. absurd (cc (fresh, cut.refused.spent));
+        unspent = put_refused A f (is_spent new ≡ false);
+        ends = record {
+          explains = put_explained layout (limits_of from) (rest_of from) (told_of from) [] f [] []
+              cut.rest (λ e. (let far = cut.too_long e in omega (arith, far, none, ap length whole)))
+              (cut.unspent going.unspent);
+          tell = told_put f;
+        };
+      }
+
+  -- the end was found
+  pub lists_all : (A : Type 0) (answer : A) (mid to : Reader R read) (s t : Session)
+      (out new : Output W) (done after : ℕ) → SentSoFar layout contents from old mid s out done
+      → SendsNext layout contents mid out done to t new after (Ok false)
+      → Lists layout contents from old to new after (Ok answer)
+  lists_all A answer mid to s t out new done after sent (ends, same, is) =
+      lists_whole A (Ok answer) mid to s out new done after false sent same is ends.follows
+      (ap is_spent same ∙ sent.going.unspent)
+      (record {
+        no_later = refl;
+        none_left = refl;
+        all = consumes_all (rest_of from) (rest_of mid) sent.bytes sent.used.consumed ends.empty;
+        ended = still_known (rest_of from) (rest_of mid) sent.bytes (IsAtEnd (told_of to))
+            sent.used.consumed ends.ended;
+        no_read = refl;
+        no_write = refl;
+      })
+
+  -- the text of the next blob was not sent whole
+  pub lists_up_to : (A : Type 0) (mid to : Reader R read) (s t : Session) (out new : Output W)
+      (done after : ℕ) (why : Cause) → sent_of old ≡ 0
+      → SentSoFar layout contents from old mid s out done
+      → SendsNext layout contents mid out done to t new after (Err why)
+      → Lists {A = A} layout contents from old to new after (Err why)
+  lists_up_to A mid to s t out new done after why none sent (inl (missed, same), is) =
+      let misses : Misses (limits_of from) (rest_of mid) (given mid) (told_of to) why =
+      subst (λ l. Misses l (rest_of mid) (given mid) (told_of to) why) sent.follows.limits missed.misses in
+      lists_whole A (Err why) mid to s out new done after (is_read why) sent same is missed.follows
+      (λ no_write no_length. ap is_spent same ∙ sent.going.unspent)
+      (record {
+        explains = explained layout (limits_of from) (rest_of from) (rest_of mid) (told_of to)
+            (given mid) sent.bytes sent.found why sent.blobs sent.used misses;
+        tell = told_missed (limits_of from) (rest_of mid) (told_of to) (given mid) why misses;
+      })
+  lists_up_to A mid to s t out new done after why none sent (inr one, is) =
+      lists_cut A mid to s out new done after why none sent is one

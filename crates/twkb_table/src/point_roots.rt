@@ -1,0 +1,92 @@
+//! Roots that are points, given without a flat form.
+ghost use Rattle.std.specs.Prelude.{◌≡◌, ◌↔◌, ◌≢◌, [], ◌∷◌, None, Ok, Err};
+ghost use Rattle.std.specs.Prelude.{true, is_err, OnOk, IfOk, IfErr, IfSome, IsTrue};
+
+use crate::numbering::{fault_at, next_record};
+use crate::table_fault::TableFault;
+use crate::table_reader::TableReader;
+use std::io::Read;
+use twkb_points::Pt;
+
+impl<'a, R: Read> TableReader<'a, R> {
+    ghost use Rattle.twkb_table.specs.RowReading.{waiting};
+    ghost use Rattle.twkb_table.specs.TableReading.{Gives, Faults, Completes, FaultsIn, HasPoint, is_spent};
+    ghost use Rattle.twkb_table.specs.Waiting.{point_row, IsPoint};
+
+    /// Whether the next geometry is known to be a point that is not empty, which `next_point` gives:
+    /// its row was read when the geometry before it was returned.
+    #[inline(always)]
+    pub fn has_point(&self) -> bool
+        ensures { IsTrue result → HasPoint self.now }
+    {
+        if self.spent {
+            return false;
+        }
+        self.rows.waiting_point().is_some()
+    }
+
+    /// Fast path: reads the next geometry if it is known to be a point that is not empty, and
+    /// returns its precision and the point, with no flat form. `None` proves nothing and reads
+    /// nothing: `next_flat` reads any geometry, and calls of the two may be mixed. Like any
+    /// geometry, the point is returned once the next root was accepted, or at the table's end.
+    /// After an `Err` each call returns `Spent`. Takes memory for the reader of `csv`, one record
+    /// and one root's points.
+    #[inline(always)]
+    pub fn next_point(&mut self) -> Result<Option<(i8, Pt)>, TableFault>
+        ensures gives { IfOk result (λ found. IfSome found
+            (λ point. Gives R.remaining self.old (point_row point.0 point.1 ∷ []) self.new)) }
+        ensures fault { IfErr result (λ fault. Faults R.remaining self.old fault) }
+        ensures some { HasPoint self.old → result ≢ Ok None }
+
+        // what stays
+        ensures none { result ≡ Ok None → self.new ≡ self.old }
+        ensures spent { (result ≡ Err TableFault.Spent) ↔ (is_spent self.old ≡ true) }
+        ensures unchanged { is_spent self.old ≡ true → self.new ≡ self.old }
+        ensures stays { is_spent self.new ≡ is_err result }
+    {
+        if self.spent {
+            return Err(TableFault::Spent);
+        }
+        let Some((precision, point)) = self.rows.waiting_point() else {
+            return Ok(None);
+        };
+        match self.read_after_point() {
+            Ok(()) => Ok(Some((precision, point))),
+            Err(fault) => {
+                self.spent = true;
+                Err(fault)
+            }
+        }
+    }
+
+    // Reads the record after the point that waits: the next root, or the table's end.
+    #[inline(always)]
+    fn read_after_point(&mut self) -> Result<(), TableFault>
+        requires point { IsPoint (waiting self.old.rows) }
+        ensures gives { OnOk result (Completes R.remaining self.old (waiting self.old.rows)
+            (waiting self.old.rows) self.new) }
+        ensures fault { IfErr result (λ fault. FaultsIn R.remaining self.old
+            (waiting self.old.rows) fault) }
+        ensures fresh { IfErr result (λ fault. fault ≢ TableFault.Spent) }
+        ensures same { is_spent self.new ≡ is_spent self.old }
+    {
+        match next_record(
+            &mut self.reader,
+            &mut self.held,
+            &mut self.ended,
+            &mut self.number,
+        ) {
+            Ok(true) => {}
+            Ok(false) => {
+                self.rows.forget_root();
+                return Ok(());
+            }
+            Err(fault) => return Err(fault),
+        }
+        // only a root can come after a point, and it is judged like the first one
+        match self.rows.read_root(&self.held) {
+            Ok(()) => Ok(()),
+            Err(fault) => Err(fault_at(self.number, fault)),
+        }
+    }
+}
