@@ -1,19 +1,22 @@
 -- The number of the first test of a row that fails.
-use Rattle.std.proofs.Common.{◌≡◌, ◌∙◌, ℕ, Bool, true, false, List, [], ◌∷◌, ◌++◌, Option, Some}
-use Rattle.std.proofs.Common.{None, ap, refl, sym, subst, inl, inr}
-use Rattle.std.specs.Prelude.{ℤ, is_some, is_none, ◌&&◌, ◌||◌, MatchOption}
+use Rattle.std.proofs.Common.{◌≡◌, ◌∙◌, ◌<◌, ◌^◌, ℕ, Bool, true, false, List, [], ◌∷◌, ◌++◌, Option, Some}
+use Rattle.std.proofs.Common.{None, refl, sym, subst, bit_or, inl, inr, arith, lit<}
+use Rattle.std.specs.Prelude.{ℤ, is_some, is_none, ◌||◌, ◌↔◌, MatchOption, nat_lt}
 use Rattle.std.proofs.lemmas.Bool.{cases_Bool}
-use Rattle.twkb_points.specs.Point.{IsCoordinate}
+use Rattle.std.proofs.lemmas.Bool.Decides.{nat_tests}
+use Rattle.std.proofs.Math.Nat.{lt_of_le_of_lt}
+use Rattle.std.proofs.lemmas.Nat.{le_or_l, le_or_r, or_lt}
+use Rattle.twkb_points.specs.Point.{IsCoordinate, IsInRange, AreInRange}
 use Rattle.twkb_tree.specs.declared.standing.Standing.{Standing}
 use Rattle.twkb_tree.specs.Limits.{Allowance}
 use Rattle.twkb_tree.specs.Open.{row_of, child_of}
-use Rattle.twkb_tree.specs.Refusal.{Refusal, Check, check, first_failed, is_coordinate, are_in_range}
+use Rattle.twkb_tree.specs.Refusal.{Refusal, Check, check, first_failed, are_in_range}
 use Rattle.twkb_tree.specs.Refusal.{id_checks, point_checks, precision_checks}
 use Rattle.twkb_tree.specs.Rows.{Row}
-use Rattle.twkb_tree.proofs.RowRanges.{coordinate_is, is_coordinate-true}
+use Rattle.twkb_tree.proofs.RowRanges.{are_in_range-true, points_in_range}
 use Rattle.twkb_buffer.specs.declared.point.BufferPoint.{BufferPoint}
 use Rattle.twkb_arrays.specs.RowTests.{IsFirstNumberButRange, IsNumberOf, checks_there, place_checks, range_refusal}
-use Rattle.twkb_arrays.specs.Rows.{points_of}
+use Rattle.twkb_arrays.specs.Rows.{point_of, points_of}
 
 -- ---- some tests before others
 
@@ -115,31 +118,47 @@ not_allowed whole (Some n) w e = rw w refl
 
 -- ---- the range of coordinates
 
--- two coordinates that are not both in range fail the test
-fail_both : (x y : ℤ) → (IsCoordinate x × IsCoordinate y → ⊥) → (is_coordinate x && is_coordinate y) ≡ false
-fail_both x y out = elim (cases_Bool (is_coordinate x)) [
-  | inl x_in ↦ elim (cases_Bool (is_coordinate y)) [
-    | inl y_in ↦ absurd (out (coordinate_is x x_in, coordinate_is y y_in))
-    | inr y_out ↦ rw (x_in, y_out) refl
+-- Numbers of the points looked at so far are joined by `or`. The points are in range if and only if
+-- what is joined is below 2^63 and the points left are in range.
+pub record Decides (own left : List BufferPoint) (joined : ℕ) : Type 0 where
+  pub if_below : joined < 2 ^ 63 → AreInRange (points_of left) → AreInRange (points_of own)
+  pub is_below : AreInRange (points_of own) → (joined < 2 ^ 63) × AreInRange (points_of left)
+
+-- before a point is looked at, the points decide
+pub decides_at_first : (own : List BufferPoint) → Decides own own 0
+decides_at_first own = record { if_below = λ below in_range. in_range; is_below = λ in_range. (lit< tt, in_range) }
+
+-- what is joined of two numbers is below 2^63 if and only if both are
+pub both_below : (x y : ℕ) (c d : ℤ) → (x < 2 ^ 63) ↔ IsCoordinate c → (y < 2 ^ 63) ↔ IsCoordinate d
+    → (bit_or x y < 2 ^ 63) ↔ (IsCoordinate c × IsCoordinate d)
+both_below x y c d x_is y_is = (
+  λ below. (x_is.0 (lt_of_le_of_lt (le_or_l x y) below), y_is.0 (lt_of_le_of_lt (le_or_r x y) below)),
+  λ both. or_lt 63 x y (x_is.1 both.0) (y_is.1 both.1),
+)
+
+-- the number of one more point is joined
+pub decides_more : (own left after : List BufferPoint) (c : BufferPoint) (joined number : ℕ)
+    → Decides own left joined → left ≡ c ∷ after → (number < 2 ^ 63) ↔ IsInRange (point_of c)
+    → Decides own after (bit_or joined number)
+decides_more own left after c joined number so_far next number_is = record {
+  if_below = λ below in_range. so_far.if_below (lt_of_le_of_lt (le_or_l joined number) below)
+      (subst (λ (cs : List BufferPoint). AreInRange (points_of cs)) (sym next)
+      (number_is.0 (lt_of_le_of_lt (le_or_r joined number) below), in_range));
+  is_below = λ in_range.
+      let so_far_in = so_far.is_below in_range in
+      let left_in = subst (λ (cs : List BufferPoint). AreInRange (points_of cs)) next so_far_in.1 in
+      (or_lt 63 joined number so_far_in.0 (number_is.1 left_in.0), left_in.1);
+}
+
+-- once all points are looked at, what is joined decides
+pub decided : (own left : List BufferPoint) (joined : ℕ) → Decides own left joined → left ≡ []
+    → nat_lt joined (2 ^ 63) ≡ are_in_range (points_of own)
+decided own left joined all none = elim (cases_Bool (nat_lt joined (2 ^ 63))) [
+  | inl below ↦ below ∙ sym (are_in_range-true (points_of own) (all.if_below (grind (arith, nat_tests))
+      (subst (λ (cs : List BufferPoint). AreInRange (points_of cs)) (sym none) tt)))
+  | inr above ↦ elim (cases_Bool (are_in_range (points_of own))) [
+    | inl in_range ↦ let below = (all.is_below (points_in_range (points_of own) in_range)).0 in
+        absurd (grind (arith, nat_tests))
+    | inr out ↦ above ∙ sym out
   ]
-  | inr x_out ↦ rw x_out refl
 ]
-
--- two coordinates in range pass it
-pass_both : (x y : ℤ) → IsCoordinate x × IsCoordinate y → (is_coordinate x && is_coordinate y) ≡ true
-pass_both x y both = rw (is_coordinate-true x both.0, is_coordinate-true y both.1) refl
-
--- if the next point fails, the points fail
-pub next_fails : (own left after : List BufferPoint) (c : BufferPoint)
-    → are_in_range (points_of own) ≡ are_in_range (points_of left) → left ≡ c ∷ after
-    → (IsCoordinate c.x × IsCoordinate c.y → ⊥) → are_in_range (points_of own) ≡ false
-next_fails own left after c so_far next out = so_far ∙ ap (λ (ps : List BufferPoint). are_in_range (points_of ps)) next
-    ∙ rw (fail_both c.x c.y out) refl
-
--- if the next point passes, the points after it decide
-pub next_passes : (own left after : List BufferPoint) (c : BufferPoint)
-    → are_in_range (points_of own) ≡ are_in_range (points_of left) → left ≡ c ∷ after
-    → IsCoordinate c.x × IsCoordinate c.y → are_in_range (points_of own) ≡ are_in_range (points_of after)
-next_passes own left after c so_far next both = so_far
-    ∙ ap (λ (ps : List BufferPoint). are_in_range (points_of ps)) next
-    ∙ rw (pass_both c.x c.y both) refl

@@ -1,5 +1,6 @@
 //! The row of a geometry that a row of an array stands for, and the reason to refuse it.
-ghost use Rattle.std.specs.Prelude.{◌≡◌, ◌↔◌, ◌+◌, ◌||◌, [], List, IsTrue, MatchOption, true, nat_le};
+ghost use Rattle.std.specs.Prelude.{◌≡◌, ◌↔◌, ◌+◌, ◌<◌, ◌^◌, ◌||◌, [], List, IsTrue, MatchOption, true, nat_le};
+ghost use Rattle.twkb_points.specs.Point.{IsCoordinate, IsInRange};
 ghost use Rattle.twkb_tree.specs.declared.kind.Kind.{Kind};
 ghost use Rattle.twkb_tree.specs.Admits.{has_points, id_in_range, precision_in_range};
 ghost use Rattle.twkb_tree.specs.Open.{row_of, child_of};
@@ -7,14 +8,15 @@ ghost use Rattle.twkb_tree.specs.Refusal.{are_in_range, has_none};
 ghost use Rattle.twkb_tree.specs.Refusal.{id_checks, point_checks, precision_checks};
 ghost use Rattle.twkb_flat.specs.Rows.{row_with};
 ghost use Rattle.twkb_buffer.specs.declared.point.BufferPoint.{BufferPoint as InPoint};
-ghost use Rattle.twkb_arrays.specs.Rows.{kind_number, points_of};
+ghost use Rattle.twkb_arrays.specs.Rows.{kind_number, point_of, points_of};
 ghost use Rattle.twkb_arrays.specs.Judging.{HasRightId, row_from_c};
 ghost use Rattle.twkb_arrays.specs.RowTests.{IsFirstNumber, IsFirstNumberButRange};
 ghost use Rattle.twkb_arrays.specs.RowTests.{checks_there, place_checks};
 
 use crate::row::{BufferRow, NO_PRECISION};
-use twkb_buffer::{BufferPoint, as_point};
+use twkb_buffer::BufferPoint;
 use twkb_flat::Row;
+use twkb_points::COORDINATE_BOUND;
 use twkb_tree::row_rules::{
     count_fits, has_place, has_points, has_same_ids, id_allowed, is_whole, nest_kept,
 };
@@ -177,16 +179,34 @@ fn refused_precision(parent: Option<OpenRow>, row: &Row) -> Option<u32>
     }
 }
 
-// Whether the coordinates of each point are in range.
-fn are_in_range(own: &[BufferPoint]) -> bool
+// A coordinate less the least one, if it is in range; else 2^63 or more.
+#[inline(always)]
+fn above_least(coordinate: i64) -> u64
+    ensures { (result < 2 ^ 63) ↔ IsCoordinate coordinate }
+{
+    coordinate.cast_unsigned().wrapping_add(COORDINATE_BOUND)
+}
+
+// The coordinates of a point less the least one, joined by `or`, if both are in range; else 2^63 or
+// more.
+#[inline(always)]
+fn both_above_least(point: &BufferPoint) -> u64
+    ensures { (result < 2 ^ 63) ↔ IsInRange (point_of point.now) }
+{
+    above_least(point.x) | above_least(point.y)
+}
+
+// Whether the coordinates of each point are in range. Each point is looked at, so that several
+// are at once.
+#[inline(always)]
+pub(crate) fn are_in_range(own: &[BufferPoint]) -> bool
     ensures { result ≡ are_in_range (points_of own.now) }
 {
+    let mut joined: u64 = 0;
     for point in own {
-        if as_point(point).is_none() {
-            return false;
-        }
+        joined |= both_above_least(point);
     }
-    true
+    joined < 1 << 63
 }
 
 // Whether a row of this kind may have these points of its own.

@@ -1,12 +1,24 @@
 //! The points of a row of an array, appended to those of a form.
-use twkb_buffer::{BufferPoint, as_point};
+ghost use Rattle.std.specs.Prelude.{◌≡◌, true};
+ghost use Rattle.twkb_tree.specs.Refusal.{are_in_range};
+ghost use Rattle.twkb_arrays.specs.Rows.{points_of};
+
+use crate::judging::are_in_range;
+use twkb_buffer::BufferPoint;
 use twkb_flat::PointSource;
-use twkb_points::PointTail;
+use twkb_points::{PointList, PointTail, Pt};
 
 // A row's own points.
 #[derive(Clone, Copy)]
 pub(crate) struct OwnPoints<'a> {
     pub(crate) own: &'a [BufferPoint],
+}
+
+// A row's own points, all in range.
+#[derive(Clone, Copy)]
+struct PointsInRange<'a> {
+    own: &'a [BufferPoint],
+    ghost in_range: { are_in_range (points_of own.now) ≡ true },
 }
 
 // Why a row's points are not appended.
@@ -15,6 +27,21 @@ pub(crate) enum PointFault {
     Memory,
     // A coordinate is out of range.
     Range,
+}
+
+impl PointList for PointsInRange<'_> {
+    ghost points = { λ list. points_of list.own.now };
+
+    #[inline(always)]
+    fn count(&self) -> usize {
+        self.own.len()
+    }
+
+    #[inline(always)]
+    fn point(&self, at: usize) -> Pt {
+        let coordinates = &self.own[at];
+        Pt::at(coordinates.x, coordinates.y)
+    }
 }
 
 impl PointSource for OwnPoints<'_> {
@@ -29,20 +56,17 @@ impl PointSource for OwnPoints<'_> {
 
     ghost refuses = { λ source. IfRange (¬ AreInRange (points_of source.own.now)) };
 
+    // The range is tested before all points are copied: in two short loops, each of which takes
+    // several points at once.
     #[inline(always)]
     fn append_to<L: PointTail>(&self, points: &mut L) -> Result<(), PointFault> {
-        let held = points.count();
-        for coordinates in self.own {
-            let Some(point) = as_point(coordinates) else {
-                points.cut(held);
-                return Err(PointFault::Range);
-            };
-            let Ok(()) = points.put(point) else {
-                points.cut(held);
-                return Err(PointFault::Memory);
-            };
+        if !are_in_range(self.own) {
+            return Err(PointFault::Range);
         }
-        Ok(())
+        match points.put_each(&PointsInRange { own: self.own }) {
+            Ok(()) => Ok(()),
+            Err(_) => Err(PointFault::Memory),
+        }
     }
 
     #[inline(always)]
