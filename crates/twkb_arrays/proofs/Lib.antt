@@ -4,6 +4,7 @@ pub mod ArraysRefused
 pub mod GatheringLemmas
 pub mod JudgingLemmas
 pub mod LoneLemmas
+pub mod OpenLemmas
 pub mod OwnPointsLemmas
 pub mod ReadingLaws
 pub mod ReadingLemmas

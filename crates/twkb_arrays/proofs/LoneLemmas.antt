@@ -83,7 +83,7 @@ lone_row l row ahead p b =
     }) own
 
 -- the row of a point with a precision may come first, if the limits allow one row and one point
-point_first : (l : Allowance) (n : ℤ) (p : Point) → 0 < l.nodes → 0 < l.points → IsPrecision n → IsInRange p
+pub point_first : (l : Allowance) (n : ℤ) (p : Point) → 0 < l.nodes → 0 < l.points → IsPrecision n → IsInRange p
     → Continues l [] (whole_row 0 kind.Point None n (p ∷ []))
 point_first l n p nodes points h in_range = (
   record {

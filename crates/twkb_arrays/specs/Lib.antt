@@ -1,6 +1,7 @@
 pub mod Blobs
 pub mod Gathering
 pub mod Judging
+pub mod OpenRows
 pub mod OwnPoints
 pub mod ReadBack
 pub mod Reading

@@ -1,13 +1,15 @@
-//! The canonical blob of a flat form, made in memory that is reused from one form to the next.
+//! The canonical blob of a flat form or of a point, made in memory that is reused from one to the next.
 ghost use Rattle.std.specs.Prelude.{◌≡◌, OnOk};
-ghost use Rattle.twkb_tree.specs.Tree.{Tree, IsTree};
+ghost use Rattle.twkb_tree.specs.Tree.{Tree, IsPrecision, IsTree};
 ghost use Rattle.twkb_tree.specs.Rows.{rows};
 ghost use Rattle.twkb_grammar.specs.Written.{canonical_blob};
+ghost use Rattle.twkb_writer.specs.PointBlob.{one_point};
 
 use std::alloc::{AllocError, Global};
 use twkb_flat::{Flat, Work};
 use twkb_io::Bytes;
-use twkb_writer::{Depths, Piece, Sizes, Style, measure_into, write_through};
+use twkb_points::Pt;
+use twkb_writer::{Depths, Piece, Sizes, Style, measure_into, write_point, write_through};
 
 // Memory for one blob and for the sizes of its form.
 #[derive(Drop)]
@@ -44,6 +46,30 @@ impl BlobRoom {
             form,
             style,
             &self.sizes,
+            &mut self.piece,
+            &mut self.bytes,
+            &mut work,
+        )
+    }
+
+    // Makes the canonical blob of a point that is not empty in a style, in place of the blob before
+    // it. The precision is from -8 to 7.
+    #[inline(always)]
+    pub(crate) fn make_point(
+        &mut self,
+        precision: i8,
+        point: Pt,
+        style: Style,
+    ) -> Result<(), AllocError>
+        ensures { OnOk result (IsPrecision precision
+            → blob_in self.new ≡ canonical_blob style (one_point precision point)) }
+    {
+        let mut work = Work::new();
+        self.bytes.clear();
+        write_point(
+            precision,
+            point,
+            style,
             &mut self.piece,
             &mut self.bytes,
             &mut work,

@@ -1,9 +1,7 @@
 //! A row of an array with its points, appended to the form of its geometry.
 ghost use Rattle.std.specs.Prelude.{◌≡◌, ◌≤◌, ◌++◌, ◌∷◌, [], length, IfOk, IfErr, OnErr};
-ghost use Rattle.std.specs.Prelude.{IfSome, None, OnOk, true};
-ghost use Rattle.twkb_tree.specs.declared.kind.Kind.{Kind};
-ghost use Rattle.twkb_tree.specs.Tree.{IsPrecision};
-ghost use Rattle.twkb_tree.specs.Rows.{Row as TableRow, whole_row};
+ghost use Rattle.std.specs.Prelude.{IfSome, true};
+ghost use Rattle.twkb_tree.specs.Rows.{Row as TableRow};
 ghost use Rattle.twkb_tree.specs.RowLists.{AreValidRowsOfOne};
 ghost use Rattle.twkb_arrays.specs.Gathering.{BeginsAlone, IfRow, IsLone};
 ghost use Rattle.twkb_arrays.specs.Judging.{AcceptedAfter, RefusedAfter};
@@ -13,7 +11,6 @@ use crate::judging::{
 };
 use crate::own_points::{OwnPoints, PointFault};
 use crate::row::BufferRow;
-use std::alloc::AllocError;
 use twkb_buffer::{BufferPoint, as_point};
 use twkb_flat::Flat;
 use twkb_points::Pt;
@@ -51,7 +48,7 @@ fn is_lone(row: &BufferRow) -> bool
 // Fast path: the first of the points ahead, if the row has it alone and begins a geometry within
 // the limits. `None` proves nothing.
 #[inline(always)]
-fn lone_point(limits: &Limits, row: &BufferRow, ahead: &[BufferPoint]) -> Option<Pt>
+pub(crate) fn lone_point(limits: &Limits, row: &BufferRow, ahead: &[BufferPoint]) -> Option<Pt>
     ensures { IfSome result (λ point. BeginsAlone limits.now row.now ahead.now point) }
 {
     // lets proofs know that the limits are allowed
@@ -62,19 +59,9 @@ fn lone_point(limits: &Limits, row: &BufferRow, ahead: &[BufferPoint]) -> Option
     as_point(&ahead[0])
 }
 
-// Makes the row of a point, without an id, the first row of a form.
-#[inline(always)]
-fn begin_alone(form: &mut Flat, row: &BufferRow, point: Pt) -> Result<(), AllocError>
-    requires { IsPrecision row.now.precision }
-    ensures begun { OnOk result (form.new ≡ whole_row 0 Kind.Point None row.now.precision (point ∷ []) ∷ []) }
-    ensures none { OnErr result (form.new ≡ []) }
-{
-    form.begin_point(row.precision, point)
-}
-
 // Appends a row that passes all tests, with its points, or finds the reason to refuse it.
 #[inline(always)]
-fn push_judged(
+pub(crate) fn push_judged(
     limits: &Limits,
     form: &mut Flat,
     row: &BufferRow,
@@ -113,30 +100,4 @@ fn push_judged(
         Err(PointFault::Memory) => Err(Stop::Memory),
         Err(PointFault::Range) => Err(Stop::Row(COORDINATE_RANGE)),
     }
-}
-
-// Appends a row and the first of the points ahead to the rows of its geometry, which has none yet
-// if the row is a root. Returns how many points the row has.
-#[inline(always)]
-pub(crate) fn push_row(
-    limits: &Limits,
-    form: &mut Flat,
-    row: &BufferRow,
-    ahead: &[BufferPoint],
-) -> Result<usize, Stop>
-    requires valid { AreValidRowsOfOne limits.now form.old }
-    requires next { row.now.depth ≡ 0 → form.old ≡ [] }
-    ensures count { IfOk result (λ count. (count ≤ length ahead.now) × (count ≡ row.now.points)) }
-    ensures pushed { IfOk result (λ count. (r : TableRow) × (form.new ≡ form.old ++ r ∷ [])
-        × AcceptedAfter limits.now form.old row.now ahead.now r × AreValidRowsOfOne limits.now form.new) }
-    ensures refused { IfErr result (IfRow (RefusedAfter limits.now form.old row.now ahead.now)) }
-    ensures same { OnErr result (form.new ≡ form.old) }
-{
-    if let Some(point) = lone_point(limits, row, ahead) {
-        return match begin_alone(form, row, point) {
-            Ok(()) => Ok(1),
-            Err(_) => Err(Stop::Memory),
-        };
-    }
-    push_judged(limits, form, row, ahead)
 }

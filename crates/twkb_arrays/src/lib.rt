@@ -5,6 +5,7 @@ mod blob_room;
 mod gathering;
 mod judging;
 pub mod laws;
+mod open_geometry;
 mod own_points;
 mod placing;
 mod reading;

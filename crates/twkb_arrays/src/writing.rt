@@ -11,13 +11,13 @@ ghost use Rattle.twkb_arrays.specs.Writing.{EndsWriting, IsWriting, ReportsAs, S
 ghost use Rattle.twkb_arrays.specs.Writing.{WritesArrays, fault_at, write_outcome_of};
 
 use crate::blob_room::BlobRoom;
-use crate::gathering::{Stop, push_row};
+use crate::gathering::Stop;
+use crate::open_geometry::OpenGeometry;
 use crate::row::BufferRow;
 use crate::sending::{Sent, send_blob};
 use crate::status::unless_full;
 use std::alloc::{AllocError, Global};
 use twkb_buffer::{BufferPoint, BufferReport};
-use twkb_flat::Flat;
 use twkb_tree::Limits;
 use twkb_writer::Style;
 
@@ -36,7 +36,7 @@ pub(crate) enum WriteFault {
 // The open geometry, whose rows are being read, and the blobs of the geometries before it.
 #[derive(Drop)]
 pub(crate) struct Writer {
-    form: Flat,
+    form: OpenGeometry,
     room: BlobRoom,
     sent: Sent,
 }
@@ -48,7 +48,7 @@ impl Writer {
             → IsWriting l style output [] [] output result }
     {
         Writer {
-            form: Flat::new(alloc),
+            form: OpenGeometry::new(alloc),
             room: BlobRoom::new(alloc),
             sent: Sent::nothing(),
         }
@@ -70,7 +70,7 @@ impl Writer {
         if self.form.is_empty() {
             return Ok(());
         }
-        self.room.make(&self.form, style)?;
+        self.form.make_blob(&mut self.room, style)?;
         send_blob(self.room.blob(), output, &mut self.sent);
         self.form.clear();
         Ok(())
@@ -132,7 +132,7 @@ impl Writer {
         let Ok(()) = self.end_before(style, row, output) else {
             return Err(Stop::Memory);
         };
-        push_row(limits, &mut self.form, row, ahead)
+        self.form.push_row(limits, row, ahead)
     }
 
     // Reads the rows, each with its points; returns how many points they have.

@@ -12,7 +12,7 @@ send_blob-requires-clause-some c =
     omega (
       arith,
       some_bytes c.args.style one.0,
-      ap (λ (xs : List ℕ). length xs) (c.blob.ensures ∙ c.in_ok-make.ensures one.0 one.1.tree one.2),
+      ap (λ (xs : List ℕ). length xs) (c.blob.ensures ∙ c.in_ok-make_blob.ensures one.0 one.1.tree one.2),
     )
 
 pub returns-clause-ended : goal.returns-clause-ended
@@ -20,5 +20,5 @@ returns-clause-ended c = λ l start in_rows in_points w.
     ended_one l c.args.style start in_rows in_points c.args.output.now c.send_blob.new.output c.blob.result.now
     c.args.self.now _
     (not_empty c.args.self.now.form c.is_empty.result c.if-is_empty.false c.is_empty.ensures.value)
-    (λ g tree same. c.blob.ensures ∙ c.in_ok-make.ensures g tree same)
+    (λ g tree same. c.blob.ensures ∙ c.in_ok-make_blob.ensures g tree same)
     c.send_blob.ensures c.clear.ensures w

@@ -7,13 +7,13 @@ push_row-requires-clause-valid c = c.in-Ok.ensures.valid c.args.limits.now c.req
 
 pub returns-clause-some : goal.returns-clause-some
 returns-clause-some c =
-    row_some c.args.limits.now c.end_before.new.self.form c.push_row.new.form c.args.row.now c.args.ahead.now
+    row_some c.args.limits.now c.end_before.new.self.form c.push_row.new.self c.args.row.now c.args.ahead.now
     c.push_row.result c.push_row.ensures.pushed
 
 pub returns-clause-reads : goal.returns-clause-reads
 returns-clause-reads c =
     row_read c.args.limits.now c.args.style c.args.output.now c.end_before.new.output c.args.self.now
-    c.end_before.new.self c.push_row.new.form c.args.row.now c.args.ahead.now c.push_row.result c.in-Ok.ensures.ended
+    c.end_before.new.self c.push_row.new.self c.args.row.now c.args.ahead.now c.push_row.result c.in-Ok.ensures.ended
     c.push_row.ensures.count c.push_row.ensures.pushed
 
 pub returns-clause-stops : goal.returns-clause-stops
