@@ -68,7 +68,7 @@ fn a_piece_gathers_bytes(rt: HostRuntime) {
     let mut piece = Piece::<128>::new();
     piece.push(b'1');
     piece.push_low(0x3332, 2);
-    piece.push_front(b"45 ", 2);
+    piece.push_prefix(b"45 ", 2);
     piece.push_all(b"678");
     let wanted: &[u8] = b"12345678";
     let is_gathered = piece.as_slice() == wanted;

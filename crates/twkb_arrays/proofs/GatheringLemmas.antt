@@ -7,7 +7,7 @@ use Rattle.std.proofs.lemmas.List.{length-reverse}
 use Rattle.twkb_points.specs.Point.{Point, AreInRange}
 use Rattle.twkb_tree.specs.declared.kind.Kind.{Kind}
 use Rattle.twkb_tree.specs.declared.open_rows.OpenRow.{OpenRow}
-use Rattle.twkb_tree.specs.declared.standing.Standing.{Standing}
+use Rattle.twkb_tree.specs.declared.row_place.RowPlace.{RowPlace}
 use Rattle.twkb_tree.specs.Accepted.{Accepts, Continues, IsOneRoot, since_root, point_count}
 use Rattle.twkb_tree.specs.Accepted.{geometry_rows}
 use Rattle.twkb_tree.specs.Admits.{steps_to, parent, first_child, fits}
@@ -17,7 +17,7 @@ use Rattle.twkb_tree.specs.Refusal.{Refusal, BadPlace, CoordinateRange, checks_u
 use Rattle.twkb_tree.specs.Refusal.{are_in_range, refusal}
 use Rattle.twkb_tree.specs.RowLists.{AreRowsOfOne, AreValidRowsOfOne}
 use Rattle.twkb_tree.specs.Rows.{Row, row_points}
-use Rattle.twkb_tree.specs.Standing.{standing_at}
+use Rattle.twkb_tree.specs.RowPlace.{row_place_at}
 use Rattle.twkb_tree.proofs.OpenDecides.{steps_open}
 use Rattle.twkb_tree.proofs.OpenLaws.{open_none}
 use Rattle.twkb_tree.proofs.OpenRefusal.{open_refused, stepless}
@@ -55,12 +55,12 @@ no_place l rs r valid deep =
     (steps_open r.depth (reverse rs) os.0 os.1 ∙ far r.depth (length os.0) (omega (arith, os.1.all, deep)))
 
 -- The place of a row at this depth is this one, by the open rows.
-abbrev pub IsPlace : List Row → ℕ → Standing → Type 0
+abbrev pub IsPlace : List Row → ℕ → RowPlace → Type 0
 IsPlace rs d s = (os : List OpenRow) → AreOpen (reverse rs) os → (d ≤ length os)
-    × (s ≡ standing_at d os (length rs) (length (row_points rs)))
+    × (s ≡ row_place_at d os (length rs) (length (row_points rs)))
 
 -- the tests of a row at its place give the reason to refuse it
-pub refused_there : (l : Allowance) (rs : List Row) (s : Standing) (r : Row) → AreValidRowsOfOne l rs
+pub refused_there : (l : Allowance) (rs : List Row) (s : RowPlace) (r : Row) → AreValidRowsOfOne l rs
     → IsPlace rs r.depth s → first_failed (checks_there l s r) ≡ refusal l rs r
 refused_there l rs s r valid place =
     let one = of_one l rs valid in
@@ -72,7 +72,7 @@ refused_there l rs s r valid place =
     let held : length (row_points rs) ≡ point_count (since_root (reverse rs)) = length-row_points rs
     ∙ sym (ap point_count since ∙ point_count-reverse rs) in
     let near : true ≡ nat_le r.depth (length os.0) = sym (test_within r.depth (length os.0) here.0) in
-    ap (λ (t : Standing). first_failed (checks_there l t r)) here.1
+    ap (λ (t : RowPlace). first_failed (checks_there l t r)) here.1
     ∙ ap (λ (b : Bool). first_failed (checks_under l b (row_of (open_parent r.depth os.0))
     (child_of (open_parent r.depth os.0)) (count_at r.depth (length rs))
     (count_at r.depth (length (row_points rs))) r)) near
@@ -91,7 +91,7 @@ out_of_range true ps e out = absurd (out (points_in_range ps e))
 out_of_range false ps e out = rw e refl
 
 -- a row that passes all tests but that of the range is refused if a point is out of range
-pub refused_range : (l : Allowance) (rs : List Row) (s : Standing) (r : Row) → AreValidRowsOfOne l rs
+pub refused_range : (l : Allowance) (rs : List Row) (s : RowPlace) (r : Row) → AreValidRowsOfOne l rs
     → IsPlace rs r.depth s → first_failed (checks_there l s r) ≡ range_refusal r.points
     → (AreInRange r.points → ⊥) → refusal l rs r ≡ Some CoordinateRange
 refused_range l rs s r valid place e out = sym (refused_there l rs s r valid place) ∙ e
@@ -116,7 +116,7 @@ one_root l (s ∷ rs) r root a = below r.depth (λ e. some s rs (root e))
     below d other = omega (arith, other)
 
 -- a row that passes all tests but that of the range continues the rows if its points are in range
-pub continues_there : (l : Allowance) (rs : List Row) (s : Standing) (r : Row) → AreValidRowsOfOne l rs
+pub continues_there : (l : Allowance) (rs : List Row) (s : RowPlace) (r : Row) → AreValidRowsOfOne l rs
     → IsPlace rs r.depth s → first_failed (checks_there l s r) ≡ range_refusal r.points
     → AreInRange r.points → (r.depth ≡ 0 → rs ≡ []) → Continues l rs r
 continues_there l rs s r valid place e in_range root =

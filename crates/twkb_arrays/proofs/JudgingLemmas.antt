@@ -7,7 +7,7 @@ use Rattle.std.proofs.lemmas.Bool.Decides.{nat_tests}
 use Rattle.std.proofs.Math.Nat.{lt_of_le_of_lt}
 use Rattle.std.proofs.lemmas.Nat.{le_or_l, le_or_r, or_lt}
 use Rattle.twkb_points.specs.Point.{IsCoordinate, IsInRange, AreInRange}
-use Rattle.twkb_tree.specs.declared.standing.Standing.{Standing}
+use Rattle.twkb_tree.specs.declared.row_place.RowPlace.{RowPlace}
 use Rattle.twkb_tree.specs.Limits.{Allowance}
 use Rattle.twkb_tree.specs.Open.{row_of, child_of}
 use Rattle.twkb_tree.specs.Refusal.{Refusal, Check, check, first_failed, are_in_range}
@@ -47,7 +47,7 @@ rest_of (c ∷ checks) more e = rest_at c.holds c.otherwise checks more (rest_of
     rest_at false other checks more rest e = cc e
 
 -- the tests of a row at its place, one group after another: the place, the id, the precision, the points
-pub by_place : (l : Allowance) (s : Standing) (r : Row) (number : ℕ)
+pub by_place : (l : Allowance) (s : RowPlace) (r : Row) (number : ℕ)
     → IsNumberOf (first_failed (place_checks l s r)) number
     → IsNumberOf (first_failed (checks_there l s r)) number
 by_place l s r number h =
@@ -59,7 +59,7 @@ by_place l s r number h =
     )
 
 -- no test of the place fails
-pub after_place : (l : Allowance) (s : Standing) (r : Row) → first_failed (place_checks l s r) ≡ None
+pub after_place : (l : Allowance) (s : RowPlace) (r : Row) → first_failed (place_checks l s r) ≡ None
     → first_failed (checks_there l s r) ≡ first_failed (id_checks (row_of s.parent) (child_of s.parent) r
     ++ (precision_checks (row_of s.parent) r ++ point_checks l (row_of s.parent) s.points r))
 after_place l s r e =
@@ -67,7 +67,7 @@ after_place l s r e =
     rest_of (place_checks l s r)
     (id_checks p (child_of s.parent) r ++ (precision_checks p r ++ point_checks l p s.points r)) e
 
-pub by_id : (l : Allowance) (s : Standing) (r : Row) (number : ℕ) → first_failed (place_checks l s r) ≡ None
+pub by_id : (l : Allowance) (s : RowPlace) (r : Row) (number : ℕ) → first_failed (place_checks l s r) ≡ None
     → IsNumberOf (first_failed (id_checks (row_of s.parent) (child_of s.parent) r)) number
     → IsNumberOf (first_failed (checks_there l s r)) number
 by_id l s r number place h =
@@ -79,7 +79,7 @@ by_id l s r number place h =
     )
 
 -- no test of the place or of the id fails
-pub after_id : (l : Allowance) (s : Standing) (r : Row) → first_failed (place_checks l s r) ≡ None
+pub after_id : (l : Allowance) (s : RowPlace) (r : Row) → first_failed (place_checks l s r) ≡ None
     → first_failed (id_checks (row_of s.parent) (child_of s.parent) r) ≡ None
     → first_failed (checks_there l s r) ≡ first_failed (precision_checks (row_of s.parent) r
     ++ point_checks l (row_of s.parent) s.points r)
@@ -88,7 +88,7 @@ after_id l s r place id =
     after_place l s r place ∙ rest_of (id_checks p (child_of s.parent) r)
     (precision_checks p r ++ point_checks l p s.points r) id
 
-pub by_precision : (l : Allowance) (s : Standing) (r : Row) (number : ℕ) → first_failed (place_checks l s r) ≡ None
+pub by_precision : (l : Allowance) (s : RowPlace) (r : Row) (number : ℕ) → first_failed (place_checks l s r) ≡ None
     → first_failed (id_checks (row_of s.parent) (child_of s.parent) r) ≡ None
     → IsNumberOf (first_failed (precision_checks (row_of s.parent) r)) number
     → IsNumberOf (first_failed (checks_there l s r)) number
@@ -99,7 +99,7 @@ by_precision l s r number place id h =
       h.2,
     )
 
-pub by_points : (l : Allowance) (s : Standing) (r : Row) (answer : Option ℕ) → first_failed (place_checks l s r) ≡ None
+pub by_points : (l : Allowance) (s : RowPlace) (r : Row) (answer : Option ℕ) → first_failed (place_checks l s r) ≡ None
     → first_failed (id_checks (row_of s.parent) (child_of s.parent) r) ≡ None
     → first_failed (precision_checks (row_of s.parent) r) ≡ None
     → IsFirstNumberButRange (point_checks l (row_of s.parent) s.points r) r.points answer

@@ -2,7 +2,7 @@
 use Rattle.std.specs.Prelude.{◌≡◌, ℕ, true, ◌&&◌, nat_lt, List, [], ◌∷◌, Option, Some, None}
 use Rattle.std.specs.Prelude.{MatchOption, if◌then◌else◌}
 use Rattle.twkb_points.specs.Point.{Point}
-use Rattle.twkb_tree.specs.declared.standing.Standing.{Standing}
+use Rattle.twkb_tree.specs.declared.row_place.RowPlace.{RowPlace}
 use Rattle.twkb_tree.specs.Accepted.{nest_kept}
 use Rattle.twkb_tree.specs.Admits.{has_place}
 use Rattle.twkb_tree.specs.Limits.{Allowance}
@@ -13,13 +13,13 @@ use Rattle.twkb_tree.specs.Rows.{Row}
 use Rattle.twkb_arrays.specs.Judging.{refusal_number}
 
 -- the tests of a row's kind and depth at its place
-abbrev pub place_checks : Allowance → Standing → Row → List Check
+abbrev pub place_checks : Allowance → RowPlace → Row → List Check
 place_checks l s r = check (true && has_place (row_of s.parent) r.kind) BadPlace
     ∷ check (nest_kept l (row_of s.parent) r.depth) TooDeep
     ∷ check (nat_lt s.nodes l.nodes) TooManyNodes ∷ []
 
 -- all tests of a row at its place
-abbrev pub checks_there : Allowance → Standing → Row → List Check
+abbrev pub checks_there : Allowance → RowPlace → Row → List Check
 checks_there l s r = checks_under l true (row_of s.parent) (child_of s.parent) s.nodes s.points r
 
 -- a test failed, and the number is that of its reason

@@ -89,10 +89,10 @@ pub(crate) fn push_judged(
     let count = row.points as usize;
     let own = &ahead[..count];
     let bare = bare_row(row, kind);
-    let Some(standing) = form.place(row.depth) else {
+    let Some(row_place) = form.place(row.depth) else {
         return Err(Stop::Row(BAD_PLACE));
     };
-    if let Some(number) = refused_number(limits, &standing, &bare, own) {
+    if let Some(number) = refused_number(limits, &row_place, &bare, own) {
         return Err(Stop::Row(number));
     }
     match form.push_from(bare, &OwnPoints { own }) {

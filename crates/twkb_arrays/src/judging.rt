@@ -18,9 +18,9 @@ use twkb_buffer::BufferPoint;
 use twkb_flat::Row;
 use twkb_points::COORDINATE_BOUND;
 use twkb_tree::row_rules::{
-    count_fits, has_place, has_points, has_same_ids, id_allowed, is_whole, nest_kept,
+    count_fits, has_place, has_points, has_same_ids, id_allowed, is_geometry, nest_kept,
 };
-use twkb_tree::{GREATEST_PRECISION, Kind, LEAST_PRECISION, Limits, OpenRow, Standing};
+use twkb_tree::{GREATEST_PRECISION, Kind, LEAST_PRECISION, Limits, OpenRow, RowPlace};
 
 // The numbers of the reasons to refuse a row, in the order of its tests.
 pub(crate) const BAD_KIND: u32 = 4;
@@ -104,16 +104,16 @@ pub(crate) fn bare_row(row: &BufferRow, kind: Kind) -> Row
 
 // The number of the reason why a row of this kind and depth may not come at this place.
 #[inline(always)]
-fn refused_place(limits: &Limits, standing: &Standing, row: &Row) -> Option<u32>
-    ensures { IsFirstNumber (place_checks limits.now standing.now (row_with row.now [])) result }
+fn refused_place(limits: &Limits, row_place: &RowPlace, row: &Row) -> Option<u32>
+    ensures { IsFirstNumber (place_checks limits.now row_place.now (row_with row.now [])) result }
 {
-    if !has_place(standing.parent, row.kind) {
+    if !has_place(row_place.parent, row.kind) {
         return Some(BAD_PLACE);
     }
-    if !nest_kept(limits, standing.parent, row.depth) {
+    if !nest_kept(limits, row_place.parent, row.depth) {
         return Some(TOO_DEEP);
     }
-    if limits.nodes() <= standing.nodes {
+    if limits.nodes() <= row_place.nodes {
         return Some(TOO_MANY_NODES);
     }
     None
@@ -166,7 +166,7 @@ fn refused_precision(parent: Option<OpenRow>, row: &Row) -> Option<u32>
         return Some(BAD_PRECISION);
     }
     let has_precision = row.precision.is_some();
-    if is_whole(parent) {
+    if is_geometry(parent) {
         if has_precision {
             None
         } else {
@@ -219,10 +219,10 @@ fn may_have_points(kind: Kind, own: &[BufferPoint]) -> bool
 
 // Whether the limits leave room for `count` points at this place.
 #[inline(always)]
-fn has_room(limits: &Limits, standing: &Standing, count: usize) -> bool
-    ensures { result ≡ nat_le (standing.now.points + count) limits.now.points }
+fn has_room(limits: &Limits, row_place: &RowPlace, count: usize) -> bool
+    ensures { result ≡ nat_le (row_place.now.points + count) limits.now.points }
 {
-    standing.points <= limits.points() && count <= (limits.points() - standing.points) as usize
+    row_place.points <= limits.points() && count <= (limits.points() - row_place.points) as usize
 }
 
 // The number of the reason why the row's points are refused at this place. The points themselves
@@ -230,18 +230,18 @@ fn has_room(limits: &Limits, standing: &Standing, count: usize) -> bool
 #[inline(always)]
 fn refused_points(
     limits: &Limits,
-    standing: &Standing,
+    row_place: &RowPlace,
     row: &Row,
     own: &[BufferPoint],
 ) -> Option<u32>
-    ensures { IsFirstNumberButRange (point_checks limits.now (row_of standing.now.parent)
-        standing.now.points (row_with row.now (points_of own.now))) (points_of own.now) result }
+    ensures { IsFirstNumberButRange (point_checks limits.now (row_of row_place.now.parent)
+        row_place.now.points (row_with row.now (points_of own.now))) (points_of own.now) result }
 {
     if !may_have_points(row.kind, own) {
         return Some(POINTS_NOT_ALLOWED);
     }
-    let room = has_room(limits, standing, own.len());
-    let fits = count_fits(row.kind, is_whole(standing.parent), own.len());
+    let room = has_room(limits, row_place, own.len());
+    let fits = count_fits(row.kind, is_geometry(row_place.parent), own.len());
     if room && fits {
         return None;
     }
@@ -260,21 +260,21 @@ fn refused_points(
 #[inline(always)]
 pub(crate) fn refused_number(
     limits: &Limits,
-    standing: &Standing,
+    row_place: &RowPlace,
     row: &Row,
     own: &[BufferPoint],
 ) -> Option<u32>
-    ensures { IsFirstNumberButRange (checks_there limits.now standing.now
+    ensures { IsFirstNumberButRange (checks_there limits.now row_place.now
         (row_with row.now (points_of own.now))) (points_of own.now) result }
 {
-    if let Some(number) = refused_place(limits, standing, row) {
+    if let Some(number) = refused_place(limits, row_place, row) {
         return Some(number);
     }
-    if let Some(number) = refused_id(standing.parent, row) {
+    if let Some(number) = refused_id(row_place.parent, row) {
         return Some(number);
     }
-    if let Some(number) = refused_precision(standing.parent, row) {
+    if let Some(number) = refused_precision(row_place.parent, row) {
         return Some(number);
     }
-    refused_points(limits, standing, row, own)
+    refused_points(limits, row_place, row, own)
 }

@@ -26,15 +26,15 @@ use Rattle.twkb_grammar.proofs.Frames.{reached_frames}
 use Rattle.twkb_grammar.proofs.Standing.{none_longer}
 use Rattle.twkb_body.specs.Reading.{open_count}
 use Rattle.twkb_body.proofs.Notings.{same_count}
-use Rattle.twkb_engine.specs.State.{allowance_of, step_at, sums_of}
-use Rattle.twkb_engine.specs.Collections.{groups_of}
+use Rattle.twkb_engine.specs.State.{allowance_of, stage_at, sums_of}
+use Rattle.twkb_engine.specs.Collections.{frames_of}
 use Rattle.twkb_engine.specs.Notes.{open_in}
 use Rattle.twkb_engine.specs.Standing.{StandsAt, IsEnd, held_in, offset_in}
 use Rattle.twkb_engine.proofs.Between.{few_open}
 use Rattle.twkb_engine.proofs.Steps.{next_role, next_no_end, next_number}
-use Rattle.twkb_body.specs.Outline.{Group, outline_role}
+use Rattle.twkb_body.specs.Outline.{FrameOutline, outline_role}
 use Rattle.twkb_body.proofs.Outlined.{same_role}
-use Rattle.twkb_engine.proofs.Collections.{groups_length}
+use Rattle.twkb_engine.proofs.Collections.{frames_length}
 use Rattle.twkb_engine.proofs.Feeds.{count_is}
 use Rattle.twkb_engine.specs.declared.engine.Engine.{Engine}
 use Rattle.twkb_engine.specs.declared.next_item.NextItem.{NextItem}
@@ -65,12 +65,12 @@ open_at_end limits before i d came part is =
     subst (λ n. 0 < n) frames (frame_at_end (sums_after nothing before) s.mid.0 s.mid.1 i.role d came s.rest.0 is)
 
 -- one item more
-open_step : (n a b : ℕ) (r : Role) → ((d : Option ℕ) (came : ℕ) → r ≡ End d came → 0 < n)
+open_stage : (n a b : ℕ) (r : Role) → ((d : Option ℕ) (came : ℕ) → r ≡ End d came → 0 < n)
     → n + a ≡ b → open_by n r + (a + ended_by r) ≡ b + begun_by r
-open_step zero a b (End d came) some h = absurd (omega (arith, some d came refl))
-open_step zero a b r some h = omega (arith, h)
-open_step (suc n) a b (End d came) some h = omega (arith, h)
-open_step (suc n) a b r some h = omega (arith, h)
+open_stage zero a b (End d came) some h = absurd (omega (arith, some d came refl))
+open_stage zero a b r some h = omega (arith, h)
+open_stage (suc n) a b (End d came) some h = omega (arith, h)
+open_stage (suc n) a b r some h = omega (arith, h)
 
 open_after-last : (n : ℕ) (is : List Item) (i : Item) → open_after n (is ++ i ∷ []) ≡ open_by (open_after n is) i.role
 open_after-last n [] i = refl
@@ -82,7 +82,7 @@ open_behind limits before [] part h = subst (λ l. AreOpen l (open_after 0 l)) (
 open_behind limits before (i ∷ is) part h =
     let at = append_assoc before (i ∷ []) is in
     let whole = subst (Part limits) (sym at) part in
-    let step = open_step (open_after 0 before) (sum_by (λ i. ended_by i.role) before)
+    let step = open_stage (open_after 0 before) (sum_by (λ i. ended_by i.role) before)
     (sum_by (λ i. begun_by i.role) before) i.role
     (λ d came e. open_at_end limits before i d came (part_front limits (before ++ i ∷ []) is whole) e) h in
     let more : AreOpen (before ++ i ∷ []) (open_after 0 (before ++ i ∷ [])) =
@@ -116,9 +116,10 @@ frames_are bs rs d s =
     ∙ reached_frames (allowance_of d) s.front (sums_of d) s.outlined.stack s.outlined.reached
 
 -- they are the collections, and at most one geometry more
-open_few : (n : NextItem) (e : Engine) (groups : List Group) → open_count (groups, step_at n e) ≤ length groups + 1
-open_few next.TypeByte e groups = omega arith
-open_few n e groups = omega arith
+open_few : (n : NextItem) (e : Engine) (frames : List FrameOutline)
+    → open_count (frames, stage_at n e) ≤ length frames + 1
+open_few next.TypeByte e frames = omega arith
+open_few n e frames = omega arith
 
 -- the items before a missing one, of the same bytes as the items of a part, are the items of that
 -- part if they do not go on beyond it
@@ -228,8 +229,8 @@ module _ {bytes : List ℕ} {gs : List Tree} {old : Session} (s : Stands bytes g
   pub frames_few : open_in old.engine ≤ (session_limits old).nest + 1
   frames_few = omega (
     arith,
-    open_few d.next d (groups_of d.collections),
-    groups_length [] d.collections,
+    open_few d.next d (frames_of d.collections),
+    frames_length [] d.collections,
     few_open s.rest (begun_rows old) d s.begun,
   )
 

@@ -17,9 +17,9 @@ use Rattle.twkb_grammar.specs.Machine.{ManyPoints, ManyLines, ManyPolygons, Many
 use Rattle.twkb_grammar.specs.Machine.{AtMetadata, AtOption, AtCount, AtId, AtBody, AtEnd, Finished, Stack, begun}
 use Rattle.twkb_grammar.specs.Machine.{empty_of, wanting, asked, with_option, members_begin, counted, ended, advanced}
 use Rattle.twkb_grammar.specs.Reading.{past_end, ends}
-use Rattle.twkb_body.specs.Outline.{ids_after, group_of, step_of, outline_of}
+use Rattle.twkb_body.specs.Outline.{ids_after, frame_outline, stage_of, outline_of}
 use Rattle.twkb_body.specs.Growing.{id_within, frame_rows, phase_rows, rows_so_far, Nothing, NewRow, applied, own_of}
-use Rattle.twkb_body.specs.Growing.{header_change, kind_with, count_change, step_change, id_in, change_of}
+use Rattle.twkb_body.specs.Growing.{header_change, kind_with, count_change, stage_change, id_in, change_of}
 use Rattle.twkb_body.proofs.RowGrowth.{body_grows}
 
 -- ---- headers
@@ -180,7 +180,7 @@ rows_at_ends bytes fs (Finished g) st e = let same : (fs, Finished g) ≡ st = c
 -- the change of each item, by the stack
 pub item_grows : (p : Point) (bytes n : ℕ) (fs : List Frame) (ph : Phase)
     → rows_so_far (advanced p bytes n fs ph) ≡ applied
-    (step_change p n (length fs) (id_within fs) (step_of ph)) (rows_so_far (fs, ph))
+    (stage_change p n (length fs) (id_within fs) (stage_of ph)) (rows_so_far (fs, ph))
 item_grows p bytes n fs AtHeader = refl
 item_grows p bytes n fs (AtMetadata k precision) = wanting_rows (frame_rows fs) (length fs)
     (id_within fs) k (record { precision = precision; meta = n; size = None; from = bytes })
@@ -194,16 +194,16 @@ item_grows p bytes n fs (AtEnd h g) = ended_rows fs g
 item_grows p bytes n fs (Finished g) = refl
 
 -- the id of the open geometry is determined by the outline
-pub same_id : (fs : List Frame) → id_in (map group_of fs) ≡ id_within fs
+pub same_id : (fs : List Frame) → id_in (map frame_outline fs) ≡ id_within fs
 same_id [] = refl
 same_id (f ∷ fs) = refl
 
 -- the change is determined by the outline
 pub change_same : (p : Point) (n : ℕ) (fs : List Frame) (ph : Phase)
-    → step_change p n (length fs) (id_within fs) (step_of ph) ≡ change_of p n (outline_of (fs, ph))
+    → stage_change p n (length fs) (id_within fs) (stage_of ph) ≡ change_of p n (outline_of (fs, ph))
 change_same p n fs ph =
-    ap (λ d. step_change p n d (id_within fs) (step_of ph)) (sym (length-map fs group_of))
-    ∙ ap (λ id. step_change p n (length (map group_of fs)) id (step_of ph)) (sym (same_id fs))
+    ap (λ d. stage_change p n d (id_within fs) (stage_of ph)) (sym (length-map fs frame_outline))
+    ∙ ap (λ id. stage_change p n (length (map frame_outline fs)) id (stage_of ph)) (sym (same_id fs))
 
 -- the change of each item, by the outline
 pub stack_grows : (p : Point) (bytes n : ℕ) (fs : List Frame) (ph : Phase)

@@ -12,7 +12,7 @@ use Rattle.twkb_grammar.specs.PlainReader.{objection}
 use Rattle.twkb_grammar.specs.Machine.{Head, Kind, Sums, kind_number, added, asked, with_option}
 use Rattle.twkb_grammar.specs.Noting.{Notes, note_metadata, noted_by}
 use Rattle.twkb_grammar.specs.Reading.{Gives}
-use Rattle.twkb_body.specs.Outline.{Group, Step, OnMetadata, OnOption, OnEnd, begins, options}
+use Rattle.twkb_body.specs.Outline.{FrameOutline, Stage, OnMetadata, OnOption, OnEnd, begins, options}
 use Rattle.twkb_body.specs.Growing.{applied, header_change, NewRow, own_of, Nothing}
 use Rattle.twkb_body.specs.Reading.{sums_past}
 use Rattle.twkb_body.specs.Noting.{NotedOutline}
@@ -93,7 +93,7 @@ no_row d id k precision meta (r ∷ rs) rows full = refl
 no_row d id k precision meta [] rows full = ap (λ b.
     applied (if b then NewRow (own_of d id k precision) else Nothing) rows) full
 
-module _ (limits : Allowance) (gs : List Group) (k : Kind) (rows : List Row) (told : ℕ → Notes) where
+module _ (limits : Allowance) (gs : List FrameOutline) (k : Kind) (rows : List Row) (told : ℕ → Notes) where
   -- the state after one part
   part_read : (front : List ℕ) (e : Sums) (h : Head) (r : Role) (rs : List Role) (n : ℕ)
       (part : List ℕ) → bit h.meta 4 ≡ false → IsNumberPart r → IsVarint part n
@@ -142,7 +142,7 @@ sums_behind_header e k meta parts = record {
 }
 
 -- a metadata byte, the parts that it asks for, and then a body: only the metadata byte adds notes
-pub header_read : (limits : Allowance) (front : List ℕ) (e : Sums) (gs : List Group) (k : Kind)
+pub header_read : (limits : Allowance) (front : List ℕ) (e : Sums) (gs : List FrameOutline) (k : Kind)
     (precision : ℤ) (rows : List Row) (told : ℕ → Notes) (meta : ℕ) (parts : List ℕ)
     (size : Option ℕ) (from : ℕ) → meta < 256 → bit meta 4 ≡ false
     → objection limits e (Metadata (kind_number k)) meta ≡ None
@@ -156,7 +156,7 @@ header_read limits front e gs k precision rows told meta parts size from low ful
     let to : Head = record { precision = precision; meta = meta; size = size; from = from } in
     let h : Head = bare_head precision meta (e.bytes + 1) in
     let noted : ℕ → Notes = λ start. note_metadata meta (told start) in
-    let Behind : List ℕ → Sums → Step → List Row → Type 0 = λ bs s q l.
+    let Behind : List ℕ → Sums → Stage → List Row → Type 0 = λ bs s q l.
     NotedOutline limits bs s (gs, q) l noted in
     let own : List ℕ = front ++ meta ∷ [] in
     let b = subst (Behind own (added e i) (options k h (asked meta)))

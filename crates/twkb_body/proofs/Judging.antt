@@ -8,8 +8,8 @@ use Rattle.twkb_grammar.specs.Roles.{Role}
 use Rattle.twkb_grammar.specs.Fault.{Reason}
 use Rattle.twkb_grammar.specs.Machine.{Sums}
 use Rattle.twkb_grammar.proofs.ExactEnds.{NoEnd}
-use Rattle.twkb_body.specs.Outline.{Outline, Step, OnHeader, OnMetadata, OnId, OnBody, OnFinished, Wanted, WantedY}
-use Rattle.twkb_body.specs.Outline.{Full, step_role}
+use Rattle.twkb_body.specs.Outline.{Outline, Stage, OnHeader, OnMetadata, OnId, OnBody, OnFinished, Wanted, WantedY}
+use Rattle.twkb_body.specs.Outline.{Full, stage_role}
 use Rattle.twkb_body.specs.Reading.{Outlined, OutlineLanded}
 use Rattle.twkb_body.proofs.Outlined.{outlined_part}
 use Rattle.twkb_body.proofs.ExactOutlines.{outlined_exact}
@@ -17,8 +17,8 @@ use Rattle.twkb_body.proofs.Pieces.{one_front, one_within}
 use Rattle.twkb_body.specs.JudgedParts.{IsJudged, PartIn, IsPastEnds, Passes}
 
 -- no geometry's end comes next
-next_no_end : (level bytes : ℕ) (s : Step) (role : Role) → IsPastEnds s
-    → step_role level bytes s ≡ Some role → NoEnd role
+next_no_end : (level bytes : ℕ) (s : Stage) (role : Role) → IsPastEnds s
+    → stage_role level bytes s ≡ Some role → NoEnd role
 next_no_end level bytes OnHeader role past says = λ d c e. cc
 next_no_end level bytes (OnMetadata k p) role past says = λ d c e. cc
 next_no_end level bytes (OnId m h members ids left) role past says = λ d c e. cc

@@ -10,17 +10,17 @@ use Rattle.twkb_tree.specs.Rows.{Row}
 use Rattle.twkb_grammar.specs.Roles.{Item, X, Y}
 use Rattle.twkb_grammar.specs.Fault.{CoordinateRange}
 use Rattle.twkb_grammar.specs.PlainReader.{unless}
-use Rattle.twkb_grammar.specs.Machine.{Form, Head, Sums, added}
+use Rattle.twkb_grammar.specs.Machine.{BodyForm, Head, Sums, added}
 use Rattle.twkb_grammar.specs.Noting.{Notes}
-use Rattle.twkb_body.specs.Outline.{Group, Wanted, WantedY, OnBody, shut}
+use Rattle.twkb_body.specs.Outline.{FrameOutline, Wanted, WantedY, OnBody, shut}
 use Rattle.twkb_body.specs.Growing.{applied}
 use Rattle.twkb_body.specs.Reading.{Pair, sums_past, point_after}
 use Rattle.twkb_body.specs.Noting.{NotedOutline}
 use Rattle.twkb_body.proofs.Outlined.{noted_item}
 
 -- the notes after a point that was expected
-pub noted_point : (limits : Allowance) (front : List ℕ) (e : Sums) (gs : List Group) (h : Head)
-    (f : Form) (ids : Ids) (lefts : List ℕ) (rs : List Row) (told : ℕ → Notes) (bytes : List ℕ)
+pub noted_point : (limits : Allowance) (front : List ℕ) (e : Sums) (gs : List FrameOutline) (h : Head)
+    (f : BodyForm) (ids : Ids) (lefts : List ℕ) (rs : List Row) (told : ℕ → Notes) (bytes : List ℕ)
     (to : Point)
     → NotedOutline limits front e (gs, OnBody h f ids (Wanted 0 lefts)) rs told → Pair e.position bytes to
     → NotedOutline limits (front ++ bytes) (sums_past e bytes to) (gs, shut h f ids 0 lefts)

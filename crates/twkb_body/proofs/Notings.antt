@@ -6,12 +6,12 @@ use Rattle.twkb_grammar.specs.Noting.{Notes, note_byte, IsCalm}
 use Rattle.twkb_grammar.specs.Machine.{Frame, Phase, AtHeader, AtMetadata, AtOption, AtCount, AtId, AtBody, AtEnd}
 use Rattle.twkb_grammar.specs.Machine.{Finished, Want, WantY, Done}
 use Rattle.twkb_grammar.specs.Reading.{frame_count}
-use Rattle.twkb_body.specs.Outline.{Step, group_of, step_of, outline_of}
+use Rattle.twkb_body.specs.Outline.{Stage, frame_outline, stage_of, outline_of}
 use Rattle.twkb_body.specs.Reading.{open_count}
-use Rattle.twkb_body.specs.Noting.{note_step, note_first, IsCalmStep}
+use Rattle.twkb_body.specs.Noting.{note_stage, note_first, IsCalmStage}
 
 pub same_note : (ph : Phase) (offset points byte : ℕ) (w : Notes)
-    → note_byte ph offset points byte w ≡ note_step (step_of ph) offset points byte w
+    → note_byte ph offset points byte w ≡ note_stage (stage_of ph) offset points byte w
 same_note AtHeader offset points byte w = refl
 same_note (AtMetadata k p) offset points byte w = refl
 same_note (AtOption k h r rs) offset points byte w = refl
@@ -23,7 +23,7 @@ same_note (AtBody h f ids (Done v)) offset points byte w = refl
 same_note (AtEnd h g) offset points byte w = refl
 same_note (Finished g) offset points byte w = refl
 
-pub same_calm : (ph : Phase) → IsCalmStep (step_of ph) → IsCalm ph
+pub same_calm : (ph : Phase) → IsCalmStage (stage_of ph) → IsCalm ph
 same_calm (AtOption k h r rs) c = c
 same_calm AtHeader c = tt
 same_calm (AtMetadata k p) c = tt
@@ -34,22 +34,22 @@ same_calm (AtEnd h g) c = tt
 same_calm (Finished g) c = tt
 
 pub same_count : (fs : List Frame) (ph : Phase) → frame_count (fs, ph) ≡ open_count (outline_of (fs, ph))
-same_count fs AtHeader = sym (length-map fs group_of)
-same_count fs (Finished g) = sym (length-map fs group_of)
-same_count fs (AtMetadata k p) = ap suc (sym (length-map fs group_of))
-same_count fs (AtOption k h r rs) = ap suc (sym (length-map fs group_of))
-same_count fs (AtCount m h) = ap suc (sym (length-map fs group_of))
-same_count fs (AtId m h n ids left) = ap suc (sym (length-map fs group_of))
-same_count fs (AtBody h f ids (Want d a)) = ap suc (sym (length-map fs group_of))
-same_count fs (AtBody h f ids (WantY a)) = ap suc (sym (length-map fs group_of))
-same_count fs (AtBody h f ids (Done v)) = ap suc (sym (length-map fs group_of))
-same_count fs (AtEnd h g) = ap suc (sym (length-map fs group_of))
+same_count fs AtHeader = sym (length-map fs frame_outline)
+same_count fs (Finished g) = sym (length-map fs frame_outline)
+same_count fs (AtMetadata k p) = ap suc (sym (length-map fs frame_outline))
+same_count fs (AtOption k h r rs) = ap suc (sym (length-map fs frame_outline))
+same_count fs (AtCount m h) = ap suc (sym (length-map fs frame_outline))
+same_count fs (AtId m h n ids left) = ap suc (sym (length-map fs frame_outline))
+same_count fs (AtBody h f ids (Want d a)) = ap suc (sym (length-map fs frame_outline))
+same_count fs (AtBody h f ids (WantY a)) = ap suc (sym (length-map fs frame_outline))
+same_count fs (AtBody h f ids (Done v)) = ap suc (sym (length-map fs frame_outline))
+same_count fs (AtEnd h g) = ap suc (sym (length-map fs frame_outline))
 
 -- ---- the first of some bytes
 
-module _ (t : Step) (offset points : ℕ) where
+module _ (t : Stage) (offset points : ℕ) where
   -- nothing is noted if no byte adds a note
-  pub silent : (bytes : List ℕ) (w : Notes) → ((byte : ℕ) → note_step t offset points byte w ≡ w)
+  pub silent : (bytes : List ℕ) (w : Notes) → ((byte : ℕ) → note_stage t offset points byte w ≡ w)
       → note_first t offset points bytes w ≡ w
   silent [] w h = refl
   silent (byte ∷ bytes) w h = h byte

@@ -24,32 +24,32 @@ use Rattle.twkb_grammar.proofs.Reaching.{reached_nothing, reached_bytes, reached
 use Rattle.twkb_grammar.proofs.Reaching.{reached_cut, reached_long, reached_end}
 use Rattle.twkb_grammar.proofs.PartBytes.{reached_part}
 use Rattle.twkb_grammar.proofs.Depths.{reached_depth}
-use Rattle.twkb_body.specs.Outline.{OnHeader, OnFinished, Outline, group_of, lefts_of, step_of, outline_of}
+use Rattle.twkb_body.specs.Outline.{OnHeader, OnFinished, Outline, frame_outline, lefts_of, stage_of, outline_of}
 use Rattle.twkb_body.specs.Outline.{outline_role, outline_in, outline_ends}
 use Rattle.twkb_body.specs.Growing.{rows_so_far, Takes, applied, change_of}
 use Rattle.twkb_body.specs.Noting.{NotedOutline, notes_in}
-use Rattle.twkb_body.specs.Reading.{Outlined, outline_after, change_after, OutlineLanded, StepFits}
+use Rattle.twkb_body.specs.Reading.{Outlined, outline_after, change_after, OutlineLanded, StageFits}
 use Rattle.twkb_body.proofs.Outlines.{outline_steps, outline_at_ends}
 use Rattle.twkb_body.proofs.Growths.{stack_grows, rows_at_ends}
 use Rattle.twkb_body.proofs.Validity.{reached_valid, stack_takes}
 
 -- ---- the role
 
-same_step_role : (e : Sums) (fs : List Frame) (ph : Phase) → role_at e (fs, ph) ≡ outline_role e (outline_of (fs, ph))
-same_step_role e fs AtHeader = refl
-same_step_role e fs (AtMetadata k p) = refl
-same_step_role e fs (AtOption k h r rs) = refl
-same_step_role e fs (AtCount m h) = ap (λ n. Some (Count (first_count m n))) (sym (length-map fs group_of))
-same_step_role e fs (AtId m h n ids left) = refl
-same_step_role e fs (AtBody h f ids (Want zero a)) = refl
-same_step_role e fs (AtBody h f ids (Want (suc d) a)) = refl
-same_step_role e fs (AtBody h f ids (WantY a)) = refl
-same_step_role e fs (AtBody h f ids (Done v)) = refl
-same_step_role e fs (AtEnd h g) = refl
-same_step_role e fs (Finished g) = refl
+same_stage_role : (e : Sums) (fs : List Frame) (ph : Phase) → role_at e (fs, ph) ≡ outline_role e (outline_of (fs, ph))
+same_stage_role e fs AtHeader = refl
+same_stage_role e fs (AtMetadata k p) = refl
+same_stage_role e fs (AtOption k h r rs) = refl
+same_stage_role e fs (AtCount m h) = ap (λ n. Some (Count (first_count m n))) (sym (length-map fs frame_outline))
+same_stage_role e fs (AtId m h n ids left) = refl
+same_stage_role e fs (AtBody h f ids (Want zero a)) = refl
+same_stage_role e fs (AtBody h f ids (Want (suc d) a)) = refl
+same_stage_role e fs (AtBody h f ids (WantY a)) = refl
+same_stage_role e fs (AtBody h f ids (Done v)) = refl
+same_stage_role e fs (AtEnd h g) = refl
+same_stage_role e fs (Finished g) = refl
 
 pub same_role : (e : Sums) (st : Stack) → role_at e st ≡ outline_role e (outline_of st)
-same_role e st = same_step_role e st.0 st.1
+same_role e st = same_stage_role e st.0 st.1
 
 module _ (limits : Allowance) where
   -- a geometry that is valid within some limits is valid within the largest
@@ -148,8 +148,8 @@ module _ (limits : Allowance) where
       subst (λ l. OutlineLanded limits bytes e l (outline_ends e.bytes o)) r.rows there
 
   -- a stack whose outline is finished is finished
-  finished_stack : (bytes : List ℕ) (e : Sums) (fs : List Frame) (ph : Phase) → map group_of fs ≡ []
-      → step_of ph ≡ OnFinished → Reached limits bytes e (fs, ph) → (g : Tree) × Blob limits bytes g
+  finished_stack : (bytes : List ℕ) (e : Sums) (fs : List Frame) (ph : Phase) → map frame_outline fs ≡ []
+      → stage_of ph ≡ OnFinished → Reached limits bytes e (fs, ph) → (g : Tree) × Blob limits bytes g
       × (rows 0 g ≡ rows_so_far (fs, ph))
   finished_stack bytes e (f ∷ fs) ph none same r = absurd cc
   finished_stack bytes e [] (Finished g) none same r = (g, reached_blob limits bytes e g r, refl)
@@ -207,8 +207,8 @@ module _ (limits : Allowance) where
       → Outlined limits bytes e o rs → length o.0 ≤ limits.nest
   outlined_depth bytes e o rs r =
       let few = reached_depth limits bytes e r.stack r.reached in
-      let same : length (map group_of r.stack.0) ≡ length o.0 = ap (λ (q : Outline). length q.0) r.outline in
-      omega (arith, few, same, length-map r.stack.0 group_of)
+      let same : length (map frame_outline r.stack.0) ≡ length o.0 = ap (λ (q : Outline). length q.0) r.outline in
+      omega (arith, few, same, length-map r.stack.0 frame_outline)
 
   pub outlined_cut : (bytes : List ℕ) (e : Sums) (o : Outline) (rs : List Row) (rest : List ℕ)
       (role : Role) → Outlined limits bytes e o rs → outline_role e o ≡ Some role → IsNumber role
@@ -235,18 +235,18 @@ lefts_fit : {whole d : ℕ} (a : Around whole d) → d + length (lefts_of a) ≡
 lefts_fit top = omega arith
 lefts_fit (within done left a) = omega (arith, lefts_fit a)
 
-step_fits : (ph : Phase) → StepFits (step_of ph)
-step_fits AtHeader = tt
-step_fits (AtMetadata k p) = tt
-step_fits (AtOption k h r rs) = tt
-step_fits (AtCount m h) = tt
-step_fits (AtId m h n ids left) = tt
-step_fits (AtBody h f ids (Want d a)) = lefts_fit a
-step_fits (AtBody h f ids (WantY a)) = omega (arith, lefts_fit a)
-step_fits (AtBody h f ids (Done v)) = tt
-step_fits (AtEnd h g) = tt
-step_fits (Finished g) = tt
+stage_fits : (ph : Phase) → StageFits (stage_of ph)
+stage_fits AtHeader = tt
+stage_fits (AtMetadata k p) = tt
+stage_fits (AtOption k h r rs) = tt
+stage_fits (AtCount m h) = tt
+stage_fits (AtId m h n ids left) = tt
+stage_fits (AtBody h f ids (Want d a)) = lefts_fit a
+stage_fits (AtBody h f ids (WantY a)) = omega (arith, lefts_fit a)
+stage_fits (AtBody h f ids (Done v)) = tt
+stage_fits (AtEnd h g) = tt
+stage_fits (Finished g) = tt
 
 pub outlined_fits : (limits : Allowance) (bytes : List ℕ) (e : Sums) (o : Outline) (rs : List Row)
-    → Outlined limits bytes e o rs → StepFits o.1
-outlined_fits limits bytes e o rs r = subst (λ (q : Outline). StepFits q.1) r.outline (step_fits r.stack.1)
+    → Outlined limits bytes e o rs → StageFits o.1
+outlined_fits limits bytes e o rs r = subst (λ (q : Outline). StageFits q.1) r.outline (stage_fits r.stack.1)

@@ -9,15 +9,16 @@ use Rattle.twkb_grammar.specs.Bits.{bit}
 use Rattle.twkb_grammar.specs.Roles.{Role}
 use Rattle.twkb_grammar.specs.PlainReader.{is_exact}
 use Rattle.twkb_grammar.specs.Machine.{Nested, Around, top, within, Body, Want, WantY, Done, closed, opened}
-use Rattle.twkb_grammar.specs.Machine.{body_after, Form, depth_of, PointForm, LineForm, PolygonForm, MultiPointForm}
+use Rattle.twkb_grammar.specs.Machine.{body_after, BodyForm, depth_of, PointForm, LineForm, PolygonForm, MultiPointForm}
 use Rattle.twkb_grammar.specs.Machine.{MultiLineForm, MultiPolygonForm, Kind, SimpleKind, CollectionKind, Head, Frame}
 use Rattle.twkb_grammar.specs.Machine.{snoc, Many, ManyPoints, ManyLines, ManyPolygons, ManyGeometries, Phase}
 use Rattle.twkb_grammar.specs.Machine.{AtHeader, AtMetadata, AtOption, AtCount, AtId, AtBody, AtEnd, Finished}
 use Rattle.twkb_grammar.specs.Machine.{settled, begun, empty_of, wanting, asked, with_option, members_begin, counted}
 use Rattle.twkb_grammar.specs.Machine.{ended, advanced}
 use Rattle.twkb_grammar.specs.Reading.{past_end, ends}
-use Rattle.twkb_body.specs.Outline.{ids_behind, ids_after, Group, Step, Wanted, WantedY, OnHeader, OnId, OnBody}
-use Rattle.twkb_body.specs.Outline.{OnEnd, group_of, lefts_of, ids_left, body_step, step_of, outline_of, next_ids}
+use Rattle.twkb_body.specs.Outline.{ids_behind, ids_after, FrameOutline, Stage, Wanted, WantedY, OnHeader, OnId, OnBody}
+use Rattle.twkb_body.specs.Outline.{OnEnd, frame_outline, lefts_of, ids_left, body_stage, stage_of, outline_of}
+use Rattle.twkb_body.specs.Outline.{next_ids}
 use Rattle.twkb_body.specs.Outline.{shut, listing, begins, options, members_open, many_counted, outline_ended}
 use Rattle.twkb_body.specs.Outline.{outline_advanced, outline_past_end, outline_ends, outline_in}
 
@@ -32,18 +33,18 @@ pub ids_after-snoc : (ids : Ids) (gs : Trees) (g : Tree) → ids_after ids (snoc
 ids_after-snoc ids end g = refl
 ids_after-snoc ids (k ▷ gs) g = ids_after-snoc (other_ids ids) gs g
 
--- the step of a body, which at its end is its geometry's end
-abbrev place_step : {whole : ℕ} → Head → Form → Ids → Body whole → Step
-place_step h f ids (Want d a) = OnBody h f (ids_left ids a) (Wanted d (lefts_of a))
-place_step h f ids (WantY a) = OnBody h f (ids_left ids a) (WantedY (lefts_of a))
-place_step h f ids (Done v) = OnEnd h
+-- the stage of a body, which at its end is its geometry's end
+abbrev place_stage : {whole : ℕ} → Head → BodyForm → Ids → Body whole → Stage
+place_stage h f ids (Want d a) = OnBody h f (ids_left ids a) (Wanted d (lefts_of a))
+place_stage h f ids (WantY a) = OnBody h f (ids_left ids a) (WantedY (lefts_of a))
+place_stage h f ids (Done v) = OnEnd h
 
--- the step of a phase with a body
-settled_step : (h : Head) (f : Form) (ids : Ids) (b : Body (depth_of f))
-    → step_of (settled h f ids b) ≡ place_step h f ids b
-settled_step h f ids (Want d a) = refl
-settled_step h f ids (WantY a) = refl
-settled_step h f ids (Done v) = refl
+-- the stage of a phase with a body
+settled_stage : (h : Head) (f : BodyForm) (ids : Ids) (b : Body (depth_of f))
+    → stage_of (settled h f ids b) ≡ place_stage h f ids b
+settled_stage h f ids (Want d a) = refl
+settled_stage h f ids (WantY a) = refl
+settled_stage h f ids (Done v) = refl
 
 -- the ids when the next value of a list is expected
 next_left : {whole d : ℕ} (ids : Ids) (done : List (Nested d)) (v : Nested d) (left : ℕ)
@@ -53,18 +54,18 @@ next_left ids done v left top = ids_behind-snoc ids done v
 next_left ids done v left (within others more a) = refl
 
 -- the ids at the end of a list
-shut_ids : {whole d : ℕ} (h : Head) (f : Form) (ids : Ids) (done : List (Nested d)) (left : ℕ)
+shut_ids : {whole d : ℕ} (h : Head) (f : BodyForm) (ids : Ids) (done : List (Nested d)) (left : ℕ)
     (a : Around whole (suc d)) (n : ℕ) → shut h f (ids_left ids a) n (lefts_of a) ≡ shut h f
     (ids_left ids (within done left a)) n (lefts_of a)
 shut_ids h f ids done left top n = refl
 shut_ids h f ids done left (within others more a) n = refl
 
-shut_step : {whole d : ℕ} (h : Head) (f : Form) (ids : Ids) (a : Around whole d) (v : Nested d)
-    → place_step h f ids (closed a v) ≡ shut h f (ids_left ids a) d (lefts_of a)
-shut_step h f ids top v = refl
-shut_step {d = d} h f ids (within done zero a) v = shut_step h f ids a (done ++ v ∷ [])
+shut_stage : {whole d : ℕ} (h : Head) (f : BodyForm) (ids : Ids) (a : Around whole d) (v : Nested d)
+    → place_stage h f ids (closed a v) ≡ shut h f (ids_left ids a) d (lefts_of a)
+shut_stage h f ids top v = refl
+shut_stage {d = d} h f ids (within done zero a) v = shut_stage h f ids a (done ++ v ∷ [])
     ∙ shut_ids h f ids done 0 a (suc d)
-shut_step {d = d} h f ids (within done (suc left) a) v =
+shut_stage {d = d} h f ids (within done (suc left) a) v =
     ap (λ js. OnBody h f js (Wanted d (left ∷ lefts_of a))) (next_left ids done v left a)
 
 -- the ids when a list begins
@@ -73,81 +74,81 @@ first_left : {whole d : ℕ} (ids : Ids) (left : ℕ) (a : Around whole (suc d))
 first_left ids left top = refl
 first_left ids left (within others more a) = refl
 
-listing_step : {whole : ℕ} (h : Head) (f : Form) (ids : Ids) (d n : ℕ) (a : Around whole (suc d))
-    → place_step h f ids (opened d n a) ≡ listing h f (ids_left ids a) d n (lefts_of a)
-listing_step h f ids d zero a = shut_step h f ids a []
-listing_step h f ids d (suc n) a = ap (λ js. OnBody h f js (Wanted d (n ∷ lefts_of a))) (first_left ids n a)
+listing_stage : {whole : ℕ} (h : Head) (f : BodyForm) (ids : Ids) (d n : ℕ) (a : Around whole (suc d))
+    → place_stage h f ids (opened d n a) ≡ listing h f (ids_left ids a) d n (lefts_of a)
+listing_stage h f ids d zero a = shut_stage h f ids a []
+listing_stage h f ids d (suc n) a = ap (λ js. OnBody h f js (Wanted d (n ∷ lefts_of a))) (first_left ids n a)
 
-body_advanced : (p : Point) (n : ℕ) (h : Head) (f : Form) (ids : Ids) (b : Body (depth_of f))
-    (bytes : ℕ) (gs : List Group) → step_of (settled h f ids (body_after p n b))
-    ≡ (outline_advanced bytes n (gs, body_step h f ids b)).1
+body_advanced : (p : Point) (n : ℕ) (h : Head) (f : BodyForm) (ids : Ids) (b : Body (depth_of f))
+    (bytes : ℕ) (gs : List FrameOutline) → stage_of (settled h f ids (body_after p n b))
+    ≡ (outline_advanced bytes n (gs, body_stage h f ids b)).1
 body_advanced p n h f ids (Want zero a) bytes gs = refl
-body_advanced p n h f ids (Want (suc d) a) bytes gs = settled_step h f ids (opened d n a) ∙ listing_step h f ids d n a
-body_advanced p n h f ids (WantY a) bytes gs = settled_step h f ids (closed a p) ∙ shut_step h f ids a p
+body_advanced p n h f ids (Want (suc d) a) bytes gs = settled_stage h f ids (opened d n a) ∙ listing_stage h f ids d n a
+body_advanced p n h f ids (WantY a) bytes gs = settled_stage h f ids (closed a p) ∙ shut_stage h f ids a p
 body_advanced p n h f ids (Done v) bytes gs = refl
 
 -- the outline of a body with the collections around it
-body_outline : (p : Point) (bytes n : ℕ) (fs : List Frame) (h : Head) (f : Form) (ids : Ids)
+body_outline : (p : Point) (bytes n : ℕ) (fs : List Frame) (h : Head) (f : BodyForm) (ids : Ids)
     (b : Body (depth_of f)) → outline_of (fs, settled h f ids (body_after p n b)) ≡ outline_advanced
     bytes n (outline_of (fs, AtBody h f ids b))
 body_outline p bytes n fs h f ids (Want zero a) = refl
-body_outline p bytes n fs h f ids (Want (suc d) a) = ap (λ (s : Step). (map group_of fs, s))
+body_outline p bytes n fs h f ids (Want (suc d) a) = ap (λ (s : Stage). (map frame_outline fs, s))
     (body_advanced p n h f ids (Want (suc d) a) bytes [])
-body_outline p bytes n fs h f ids (WantY a) = ap (λ (s : Step). (map group_of fs, s))
+body_outline p bytes n fs h f ids (WantY a) = ap (λ (s : Stage). (map frame_outline fs, s))
     (body_advanced p n h f ids (WantY a) bytes [])
 body_outline p bytes n fs h f ids (Done v) = refl
 
-begun_step : (k : Kind) (h : Head) → step_of (begun k h) ≡ begins k h
-begun_step (SimpleKind PointForm) h = refl
-begun_step (SimpleKind LineForm) h = refl
-begun_step (SimpleKind PolygonForm) h = refl
-begun_step (SimpleKind MultiPointForm) h = refl
-begun_step (SimpleKind MultiLineForm) h = refl
-begun_step (SimpleKind MultiPolygonForm) h = refl
-begun_step CollectionKind h = refl
+begun_stage : (k : Kind) (h : Head) → stage_of (begun k h) ≡ begins k h
+begun_stage (SimpleKind PointForm) h = refl
+begun_stage (SimpleKind LineForm) h = refl
+begun_stage (SimpleKind PolygonForm) h = refl
+begun_stage (SimpleKind MultiPointForm) h = refl
+begun_stage (SimpleKind MultiLineForm) h = refl
+begun_stage (SimpleKind MultiPolygonForm) h = refl
+begun_stage CollectionKind h = refl
 
-wanting_step : (k : Kind) (h : Head) (rs : List Role) → step_of (wanting k h rs) ≡ options k h rs
-wanting_step k h (r ∷ rs) = refl
-wanting_step k h [] = go (bit h.meta 4)
+wanting_stage : (k : Kind) (h : Head) (rs : List Role) → stage_of (wanting k h rs) ≡ options k h rs
+wanting_stage k h (r ∷ rs) = refl
+wanting_stage k h [] = go (bit h.meta 4)
   where
-    go : (b : Bool) → step_of (if b then AtEnd h (empty_of k h.precision) else begun k h)
+    go : (b : Bool) → stage_of (if b then AtEnd h (empty_of k h.precision) else begun k h)
         ≡ (if b then OnEnd h else begins k h)
     go true = refl
-    go false = begun_step k h
+    go false = begun_stage k h
 
 members_outline : (m : Many) (h : Head) (fs : List Frame) (ids : Ids) (n : ℕ)
-    → outline_of (members_begin m h fs ids n) ≡ members_open m h (map group_of fs) ids n
-members_outline ManyPoints h fs ids n = ap (λ (s : Step). (map group_of fs, s))
-    (settled_step h MultiPointForm ids (opened 0 n top) ∙ listing_step h MultiPointForm ids 0 n top)
-members_outline ManyLines h fs ids n = ap (λ (s : Step). (map group_of fs, s))
-    (settled_step h MultiLineForm ids (opened 1 n top) ∙ listing_step h MultiLineForm ids 1 n top)
-members_outline ManyPolygons h fs ids n = ap (λ (s : Step). (map group_of fs, s))
-    (settled_step h MultiPolygonForm ids (opened 2 n top)
-    ∙ listing_step h MultiPolygonForm ids 2 n top)
+    → outline_of (members_begin m h fs ids n) ≡ members_open m h (map frame_outline fs) ids n
+members_outline ManyPoints h fs ids n = ap (λ (s : Stage). (map frame_outline fs, s))
+    (settled_stage h MultiPointForm ids (opened 0 n top) ∙ listing_stage h MultiPointForm ids 0 n top)
+members_outline ManyLines h fs ids n = ap (λ (s : Stage). (map frame_outline fs, s))
+    (settled_stage h MultiLineForm ids (opened 1 n top) ∙ listing_stage h MultiLineForm ids 1 n top)
+members_outline ManyPolygons h fs ids n = ap (λ (s : Stage). (map frame_outline fs, s))
+    (settled_stage h MultiPolygonForm ids (opened 2 n top)
+    ∙ listing_stage h MultiPolygonForm ids 2 n top)
 members_outline ManyGeometries h fs ids zero = refl
 members_outline ManyGeometries h fs ids (suc n) = refl
 
 counted_outline : (m : Many) (h : Head) (fs : List Frame) (n : ℕ)
-    → outline_of (counted m h fs n) ≡ many_counted m h (map group_of fs) n
+    → outline_of (counted m h fs n) ≡ many_counted m h (map frame_outline fs) n
 counted_outline m h fs zero = members_outline m h fs None 0
 counted_outline m h fs (suc n) = go (bit h.meta 2)
   where
     go : (b : Bool) → outline_of (if b then (fs, AtId m h (suc n) [] n) else members_begin m h fs
-        None (suc n)) ≡ (if b then (map group_of fs, OnId m h (suc n) [] n) else members_open m h
-        (map group_of fs) None (suc n))
+        None (suc n)) ≡ (if b then (map frame_outline fs, OnId m h (suc n) [] n) else members_open m h
+        (map frame_outline fs) None (suc n))
     go true = refl
     go false = members_outline m h fs None (suc n)
 
-ended_outline : (fs : List Frame) (g : Tree) → outline_of (ended fs g) ≡ outline_ended (map group_of fs)
+ended_outline : (fs : List Frame) (g : Tree) → outline_of (ended fs g) ≡ outline_ended (map frame_outline fs)
 ended_outline [] g = refl
 ended_outline (f ∷ fs) g = go f.left
   where
     go : (n : ℕ) → outline_of (ended (record { head = f.head; ids = f.ids; done = f.done; left = n }
         ∷ fs) g) ≡ outline_ended
-        (map group_of (record { head = f.head; ids = f.ids; done = f.done; left = n } ∷ fs))
+        (map frame_outline (record { head = f.head; ids = f.ids; done = f.done; left = n } ∷ fs))
     go zero = refl
     go (suc n) = ap (λ js. (
-      record { head = f.head; ids = js; left = n } ∷ map group_of fs,
+      record { head = f.head; ids = js; left = n } ∷ map frame_outline fs,
       OnHeader,
     )) (ids_after-snoc f.ids f.done g)
 
@@ -155,11 +156,11 @@ ended_outline (f ∷ fs) g = go f.left
 pub outline_steps : (p : Point) (bytes n : ℕ) (fs : List Frame) (ph : Phase)
     → outline_of (advanced p bytes n fs ph) ≡ outline_advanced bytes n (outline_of (fs, ph))
 outline_steps p bytes n fs AtHeader = refl
-outline_steps p bytes n fs (AtMetadata k precision) = ap (λ (s : Step). (map group_of fs, s))
-    (wanting_step k (record { precision = precision; meta = n; size = None; from = bytes })
+outline_steps p bytes n fs (AtMetadata k precision) = ap (λ (s : Stage). (map frame_outline fs, s))
+    (wanting_stage k (record { precision = precision; meta = n; size = None; from = bytes })
     (asked n))
-outline_steps p bytes n fs (AtOption k h r rs) = ap (λ (s : Step). (map group_of fs, s))
-    (wanting_step k (with_option h r n bytes) rs)
+outline_steps p bytes n fs (AtOption k h r rs) = ap (λ (s : Stage). (map frame_outline fs, s))
+    (wanting_stage k (with_option h r n bytes) rs)
 outline_steps p bytes n fs (AtCount m h) = counted_outline m h fs n
 outline_steps p bytes n fs (AtId m h members ids zero) = members_outline m h fs
     (Some (ids ++ unzigzag_of n ∷ [])) members
@@ -170,7 +171,7 @@ outline_steps p bytes n fs (Finished g) = refl
 
 -- the outline after the ends of geometries
 past_end_outline : (exact : Bool) (bytes : ℕ) (g : Tree) (fs : List Frame)
-    → outline_in (past_end exact bytes g fs) ≡ outline_past_end exact bytes (map group_of fs)
+    → outline_in (past_end exact bytes g fs) ≡ outline_past_end exact bytes (map frame_outline fs)
 past_end_outline false bytes g fs = refl
 past_end_outline true bytes g [] = refl
 past_end_outline true bytes g (f ∷ fs) = go f.left
@@ -179,14 +180,14 @@ past_end_outline true bytes g (f ∷ fs) = go f.left
   where
     go : (n : ℕ) → outline_in (past_end (is_exact f.head.size (bytes - f.head.from)) bytes
         (collection f.head.precision f.ids (snoc f.done g)) fs) ≡ outline_past_end
-        (is_exact f.head.size (bytes - f.head.from)) bytes (map group_of fs)
+        (is_exact f.head.size (bytes - f.head.from)) bytes (map frame_outline fs)
         → outline_in (past_end true bytes g
         (record { head = f.head; ids = f.ids; done = f.done; left = n } ∷ fs)) ≡ outline_past_end
-        true bytes (map group_of (record { head = f.head; ids = f.ids; done = f.done; left = n }
+        true bytes (map frame_outline (record { head = f.head; ids = f.ids; done = f.done; left = n }
         ∷ fs))
     go zero same = same
     go (suc n) same = ap (λ js. Ok (
-      record { head = f.head; ids = js; left = n } ∷ map group_of fs,
+      record { head = f.head; ids = js; left = n } ∷ map frame_outline fs,
       OnHeader,
     )) (ids_after-snoc f.ids f.done g)
 

@@ -12,14 +12,14 @@ use Rattle.twkb_grammar.specs.Fault.{points_by}
 use Rattle.twkb_grammar.specs.PlainReader.{objection}
 use Rattle.twkb_grammar.specs.Noting.{Notes, note_metadata}
 use Rattle.twkb_grammar.specs.Machine.{Kind, Sums, kind_number, asked}
-use Rattle.twkb_body.specs.Outline.{Group, Outline, OnMetadata, begins}
+use Rattle.twkb_body.specs.Outline.{FrameOutline, Outline, OnMetadata, begins}
 use Rattle.twkb_body.specs.Noting.{NotedOutline}
 use Rattle.twkb_body.specs.HeaderParts.{bare_head, AreNumberParts}
 use Rattle.twkb_body.proofs.HeaderParts.{one_part, parts_join, sums_behind_header, header_read}
 use Rattle.twkb_body.proofs.NotedJoins.{sums_same}
 use Rattle.twkb_body.proofs.Pieces.{used_join, one_within}
 use Rattle.twkb_body.specs.Front.{NumberInFront}
-use Rattle.twkb_body.specs.Parts.{sides, sized_head, SidesInFront, BoxInFront, SizeInFront, PartsInFront}
+use Rattle.twkb_body.specs.OptionalParts.{sides, sized_head, SidesInFront, BoxInFront, SizeInFront, PartsInFront}
 
 -- ---- the sides of a box
 
@@ -101,7 +101,7 @@ parts_whole meta bytes size from used none first next =
 -- ---- a reader after a metadata byte
 
 -- a metadata byte at the start, and all parts that it asks for
-pub read_ahead : (limits : Allowance) (front : List ℕ) (e : Sums) (gs : List Group) (k : Kind)
+pub read_ahead : (limits : Allowance) (front : List ℕ) (e : Sums) (gs : List FrameOutline) (k : Kind)
     (precision : ℤ) (rows : List Row) (told : ℕ → Notes) (rest : List ℕ) (size : Option ℕ)
     (from used points : ℕ) → (let meta : ℕ = get_or rest 0 0 in 0 < length rest → meta < 256
     → bit meta 4 ≡ false

@@ -12,7 +12,7 @@ use Rattle.twkb_grammar.specs.Fault.{BadType, TooManyPoints, announces_point}
 use Rattle.twkb_grammar.specs.Roles.{Header, Metadata, Size, item}
 use Rattle.twkb_grammar.specs.PlainReader.{unless, objection}
 use Rattle.twkb_grammar.specs.Machine.{Head, PointForm, SimpleKind, Sums, added, kind_at}
-use Rattle.twkb_body.specs.Outline.{Group, Outline, OnHeader, OnMetadata, OnOption, OnBody, OnEnd, Wanted}
+use Rattle.twkb_body.specs.Outline.{FrameOutline, Outline, OnHeader, OnMetadata, OnOption, OnBody, OnEnd, Wanted}
 use Rattle.twkb_body.specs.Growing.{applied}
 use Rattle.twkb_body.specs.Reading.{Outlined, Pair, sums_past, outline_after, change_after, point_after}
 use Rattle.twkb_body.proofs.NotedJoins.{sums_same}
@@ -31,12 +31,12 @@ abbrev pub sums_behind : Sums → (used : ℕ) → Point → Sums
 sums_behind e used to = record { bytes = e.bytes + used; position = to; nodes = e.nodes; points = e.points + 1 }
 
 -- these bytes are the header of a point, after which its first number is expected
-abbrev pub HeaderRead : Allowance → List ℕ → Sums → List Group → List Row → List ℕ → Head → Type 0
+abbrev pub HeaderRead : Allowance → List ℕ → Sums → List FrameOutline → List Row → List ℕ → Head → Type 0
 HeaderRead limits front e gs rs own h = Outlined limits (front ++ own)
     (sums_behind e (length own) origin) (gs, OnBody h PointForm None (Wanted 0 [])) rs
 
 -- the type byte of such a point comes next
-module _ (limits : Allowance) (front : List ℕ) (e : Sums) (gs : List Group) (rs : List Row)
+module _ (limits : Allowance) (front : List ℕ) (e : Sums) (gs : List FrameOutline) (rs : List Row)
     (first : ℕ) (r : Outlined limits front e (gs, OnHeader) rs) (low : first < 256)
     (kind : first % 16 ≡ 1) (room : e.points < limits.points) where
   -- the sums and the outline after its type byte
@@ -107,7 +107,7 @@ module _ (limits : Allowance) (front : List ℕ) (e : Sums) (gs : List Group) (r
       }) read
 
 -- after such a header a point leads to the end of its geometry
-pub header_point_read : (limits : Allowance) (front : List ℕ) (e : Sums) (gs : List Group)
+pub header_point_read : (limits : Allowance) (front : List ℕ) (e : Sums) (gs : List FrameOutline)
     (rs : List Row) (header steps : List ℕ) (h : Head) (to : Point)
     → HeaderRead limits front e gs rs header h → Pair origin steps to
     → Outlined limits (front ++ (header ++ steps)) (sums_behind e (length (header ++ steps)) to)

@@ -12,7 +12,7 @@ use Rattle.twkb_body.specs.Running.{ListGoesOn, ListStops, in_list}
 use Rattle.twkb_body.specs.declared.list_points.Taken.{Taken}
 use Rattle.twkb_body.proofs.LinePoints.{ends_again, one_point_more}
 use Rattle.twkb_body.proofs.Pieces.{one_within}
-use Rattle.twkb_body.proofs.PointRuns.{list_runs, step_none, step_more, step_judged, step_stops}
+use Rattle.twkb_body.proofs.PointRuns.{list_runs, stage_none, stage_more, stage_judged, stage_stops}
 
 -- no points
 pub list_none : (rs : List Row) (from : Point) (bytes : List ℕ) (most : ℕ) → EndsInLine rs
@@ -23,7 +23,7 @@ list_none rs from bytes most line room = record {
     within = omega arith;
     few = omega arith;
     run = λ h f ids outer listed same.
-        step_none h (in_list h f ids most outer) rs from;
+        stage_none h (in_list h f ids most outer) rs from;
   };
   line = line;
   room = room;
@@ -40,7 +40,7 @@ list_on {bytes = bytes} {t = t} {u = u} a b = record {
     within = one_within bytes t.used u.used a.leads.within b.leads.within;
     few = omega (arith, a.leads.few, b.leads.few);
     run = λ h f ids outer listed same.
-        step_more h _ _ _ _ _ _ _ _ _ bytes t.used u.used (a.leads.run h f ids outer listed same)
+        stage_more h _ _ _ _ _ _ _ _ _ bytes t.used u.used (a.leads.run h f ids outer listed same)
         (b.leads.run h f ids outer listed same);
   };
   line = b.line;
@@ -53,7 +53,7 @@ pub list_stops_on : {rs mid : List Row} {most left : ℕ} {from : Point} {bytes 
     → ListStops mid t.position left (take (length bytes - t.used) (drop t.used bytes))
     → ListStops rs from most bytes
 list_stops_on {bytes = bytes} {t = t} a stops = λ h f ids outer listed same.
-    step_stops h _ _ _ _ _ _ bytes t.used a.leads.within (a.leads.run h f ids outer listed same)
+    stage_stops h _ _ _ _ _ _ bytes t.used a.leads.within (a.leads.run h f ids outer listed same)
     (stops h f ids outer listed same)
 
 -- one point
@@ -76,7 +76,7 @@ list_one {rs = rs} {more = more} {most = most} {p = p} line room some cut added 
 pub list_one_stop : (rs : List Row) (most count : ℕ) (from p : Point) (bytes : List ℕ) → 0 < most
     → PointInFront from bytes p count → ListStops rs from most bytes
 list_one_stop rs most count from p bytes some cut = λ h f ids outer listed same.
-    step_judged h _ (in_list h f ids (most - 1) outer) rs _ from p bytes count
+    stage_judged h _ (in_list h f ids (most - 1) outer) rs _ from p bytes count
     cut.some cut.within tt
     (list_runs h f ids outer rs _ most count from p bytes some listed same cut refl)
 

@@ -8,9 +8,9 @@ use Rattle.twkb_tree.specs.declared.kind.Kind.TheVariants as kinds
 use Rattle.twkb_tree.specs.Tree.{Ids}
 use Rattle.twkb_tree.specs.Rows.{Row, plain_row, first_id, other_ids}
 use Rattle.twkb_tree.specs.RowGrowth.{point_added}
-use Rattle.twkb_grammar.specs.Machine.{Form, PointForm, LineForm, PolygonForm, MultiPointForm, MultiLineForm}
+use Rattle.twkb_grammar.specs.Machine.{BodyForm, PointForm, LineForm, PolygonForm, MultiPointForm, MultiLineForm}
 use Rattle.twkb_grammar.specs.Machine.{MultiPolygonForm}
-use Rattle.twkb_body.specs.Outline.{Group, Step, OnBody, Wanted, shut, next_ids}
+use Rattle.twkb_body.specs.Outline.{FrameOutline, Stage, OnBody, Wanted, shut, next_ids}
 use Rattle.twkb_body.specs.Growing.{applied, NewPoint, point_change, id_in}
 use Rattle.twkb_body.specs.Reading.{Pair, sums_past}
 use Rattle.twkb_body.specs.Noting.{NotedOutline}
@@ -21,7 +21,7 @@ use Rattle.twkb_body.proofs.Judging.{outlined_judged, part_further}
 use Rattle.twkb_body.proofs.Pieces.{used_join, one_within}
 use Rattle.twkb_body.specs.Front.{PointInFront}
 use Rattle.twkb_body.specs.Head.{head_of, IsHeadAt}
-use Rattle.twkb_body.specs.Running.{HasLists, StepRuns, StepStops, MembersLead, in_list}
+use Rattle.twkb_body.specs.Running.{HasLists, StageRuns, StageStops, MembersLead, in_list}
 use Rattle.twkb_body.specs.declared.head.Head.{Head}
 use Rattle.twkb_body.specs.declared.list_points.Taken.{Taken}
 
@@ -31,32 +31,32 @@ pub err_only : {A E : Type 0} (P : Result A E → Type 0) (r : Result A E) → I
 err_only P (Ok x) is h = absurd cc
 err_only P (Err e) is h = h e
 
--- ---- the next step, in a geometry of one header
+-- ---- the next stage, in a geometry of one header
 
 module _ (h : Head) where
   -- no bytes lead nowhere
-  pub step_none : (s : Step) (rs : List Row) (from : Point) → StepRuns h s rs from [] s rs from
-  step_none s rs from = λ limits e front gs told at i. noted_still limits front e (gs, s) rs told from at i.outlined
+  pub stage_none : (s : Stage) (rs : List Row) (from : Point) → StageRuns h s rs from [] s rs from
+  stage_none s rs from = λ limits e front gs told at i. noted_still limits front e (gs, s) rs told from at i.outlined
 
   -- some bytes, and then others
-  pub step_more : (s t u : Step) (rs mid more : List Row) (from at to : Point) (bytes : List ℕ)
-      (used count : ℕ) → StepRuns h s rs from (take used bytes) t mid at
-      → StepRuns h t mid at (take count (take (length bytes - used) (drop used bytes))) u more to
-      → StepRuns h s rs from (take (used + count) bytes) u more to
-  step_more s t u rs mid more from at to bytes used count first second =
+  pub stage_more : (s t u : Stage) (rs mid more : List Row) (from at to : Point) (bytes : List ℕ)
+      (used count : ℕ) → StageRuns h s rs from (take used bytes) t mid at
+      → StageRuns h t mid at (take count (take (length bytes - used) (drop used bytes))) u more to
+      → StageRuns h s rs from (take (used + count) bytes) u more to
+  stage_more s t u rs mid more from at to bytes used count first second =
       let xs = take used bytes in
       let ys = take count (take (length bytes - used) (drop used bytes)) in
-      subst (λ l. StepRuns h s rs from l u more to) (sym (used_join bytes used count))
+      subst (λ l. StageRuns h s rs from l u more to) (sym (used_join bytes used count))
       (λ limits e front gs told there i.
       noted_join limits front e (gs, u) more told xs ys at to
       (second limits (sums_past e xs at) (front ++ xs) gs told refl
       (record { outlined = first limits e front gs told there i; placed = i.placed })))
 
   -- there is no memory for what bytes lead to that were judged
-  pub step_judged : (s t : Step) (rs more : List Row) (from to : Point) (bytes : List ℕ) (count : ℕ)
+  pub stage_judged : (s t : Stage) (rs more : List Row) (from to : Point) (bytes : List ℕ) (count : ℕ)
       → 0 < count → count ≤ length bytes → IsPastEnds t
-      → StepRuns h s rs from (take count bytes) t more to → StepStops h s rs from bytes
-  step_judged s t rs more from to bytes count some within past run = λ limits e front gs told there i.
+      → StageRuns h s rs from (take count bytes) t more to → StageStops h s rs from bytes
+  stage_judged s t rs more from to bytes count some within past run = λ limits e front gs told there i.
       record {
         used = count;
         some = some;
@@ -66,11 +66,11 @@ module _ (h : Head) where
       }
 
   -- some bytes, and then there is no memory
-  pub step_stops : (s t : Step) (rs mid : List Row) (from at : Point) (bytes : List ℕ) (used : ℕ)
-      → used ≤ length bytes → StepRuns h s rs from (take used bytes) t mid at
-      → StepStops h t mid at (take (length bytes - used) (drop used bytes))
-      → StepStops h s rs from bytes
-  step_stops s t rs mid from at bytes used within first stops = λ limits e front gs told there i.
+  pub stage_stops : (s t : Stage) (rs mid : List Row) (from at : Point) (bytes : List ℕ) (used : ℕ)
+      → used ≤ length bytes → StageRuns h s rs from (take used bytes) t mid at
+      → StageStops h t mid at (take (length bytes - used) (drop used bytes))
+      → StageStops h s rs from bytes
+  stage_stops s t rs mid from at bytes used within first stops = λ limits e front gs told there i.
       part_further limits front bytes used within (stops limits (sums_past e (take used bytes) at)
       (front ++ take used bytes) gs told refl
       (record { outlined = first limits e front gs told there i; placed = i.placed }))
@@ -78,16 +78,16 @@ module _ (h : Head) where
 -- ---- a point
 
 -- what a point changes, by the place of its header
-pub same_change : (to : Point) (gs : List Group) (h : Head) (f : Form) (member : Option ℤ)
+pub same_change : (to : Point) (gs : List FrameOutline) (h : Head) (f : BodyForm) (member : Option ℤ)
     → IsHeadAt (length gs) (id_in gs) h → point_change to (length gs) (id_in gs) h.precision f
     member ≡ point_change to h.depth h.id h.precision f member
 same_change to gs h f member at = ap (λ d. point_change to d (id_in gs) h.precision f member)
     (sym at.depth_is) ∙ ap (λ i. point_change to h.depth i h.precision f member) (sym at.id_is)
 
 -- what a point leads to
-point_runs : (h : Head) (f : Form) (ids : Ids) (rs : List Row) (from to : Point)
+point_runs : (h : Head) (f : BodyForm) (ids : Ids) (rs : List Row) (from to : Point)
     (bytes lefts : List ℕ) (used : ℕ) → PointInFront from bytes to used
-    → StepRuns h (OnBody (head_of h) f ids (Wanted 0 lefts)) rs from (take used bytes)
+    → StageRuns h (OnBody (head_of h) f ids (Wanted 0 lefts)) rs from (take used bytes)
     (shut (head_of h) f ids 0 lefts)
     (applied (point_change to h.depth h.id h.precision f (first_id ids)) rs) to
 point_runs h f ids rs from to bytes lefts used cut = λ limits e front gs told at i.
@@ -101,7 +101,7 @@ point_runs h f ids rs from to bytes lefts used cut = λ limits e front gs told a
 -- ---- a point of a list
 
 -- a point comes to the last row
-comes : (f : Form) (to : Point) (d : ℕ) (id : Option ℤ) (precision : ℤ) (member : Option ℤ)
+comes : (f : BodyForm) (to : Point) (d : ℕ) (id : Option ℤ) (precision : ℤ) (member : Option ℤ)
     → HasLists f → point_change to d id precision f member ≡ NewPoint to
 comes PointForm to d id precision member h = absurd h
 comes LineForm to d id precision member h = refl
@@ -111,17 +111,17 @@ comes MultiLineForm to d id precision member h = refl
 comes MultiPolygonForm to d id precision member h = refl
 
 -- one point leads on to the next of its list
-pub list_runs : (h : Head) (f : Form) (ids : Ids) (lefts : List ℕ) (rs more : List Row)
+pub list_runs : (h : Head) (f : BodyForm) (ids : Ids) (lefts : List ℕ) (rs more : List Row)
     (left used : ℕ) (from to : Point) (bytes : List ℕ) → 0 < left → HasLists f
     → next_ids lefts ids ≡ ids → PointInFront from bytes to used → more ≡ point_added to rs
-    → StepRuns h (in_list h f ids left lefts) rs from (take used bytes)
+    → StageRuns h (in_list h f ids left lefts) rs from (take used bytes)
     (in_list h f ids (left - 1) lefts) more to
 list_runs h f ids lefts rs more zero used from to bytes some listed same cut added =
     absurd (omega (arith, some))
 list_runs h f ids lefts rs more (suc left) used from to bytes some listed same cut added =
     let less : suc left - 1 ≡ left = omega arith in
-    let Runs : Step → List Row → Type 0 = λ s l.
-    StepRuns h (in_list h f ids (suc left) lefts) rs from (take used bytes) s l to in
+    let Runs : Stage → List Row → Type 0 = λ s l.
+    StageRuns h (in_list h f ids (suc left) lefts) rs from (take used bytes) s l to in
     let change = comes f to h.depth h.id h.precision (first_id ids) listed in
     rw less
     (subst (λ i. Runs (in_list h f i left lefts) more) same
@@ -132,21 +132,21 @@ list_runs h f ids lefts rs more (suc left) used from to bytes some listed same c
 -- ---- a member of a multipoint
 
 -- a member comes next, with so many after it
-abbrev in_members : Head → Ids → (left : ℕ) → Step
+abbrev in_members : Head → Ids → (left : ℕ) → Stage
 in_members h ids left = in_list h MultiPointForm ids left []
 
 -- one leads to the next
 member_runs : (h : Head) (ids others : Ids) (rs more : List Row) (left used : ℕ) (from to : Point)
     (bytes : List ℕ) → 0 < left → PointInFront from bytes to used → others ≡ other_ids ids
     → more ≡ rs ++ plain_row (suc h.depth) kinds.Point (first_id ids) (to ∷ []) ∷ []
-    → StepRuns h (in_members h ids left) rs from (take used bytes) (in_members h others (left - 1))
+    → StageRuns h (in_members h ids left) rs from (take used bytes) (in_members h others (left - 1))
     more to
 member_runs h ids others rs more zero used from to bytes some cut next added =
     absurd (omega (arith, some))
 member_runs h ids others rs more (suc left) used from to bytes some cut next added =
     let less : suc left - 1 ≡ left = omega arith in
     let Runs : Ids → List Row → Type 0 = λ i l.
-    StepRuns h (in_members h ids (suc left)) rs from (take used bytes) (in_members h i left) l to in
+    StageRuns h (in_members h ids (suc left)) rs from (take used bytes) (in_members h i left) l to in
     rw less
     (subst (λ i. Runs i more) (sym next)
     (subst (λ l. Runs (other_ids ids) l) (sym added)
@@ -159,7 +159,7 @@ pub members_none : (rs : List Row) (ids : Ids) (depth : ℕ) (from : Point) (byt
 members_none rs ids depth from bytes most = record {
   within = omega arith;
   few = omega arith;
-  run = λ h deep. step_none h (in_members h ids most) rs from;
+  run = λ h deep. stage_none h (in_members h ids most) rs from;
 }
 
 -- some, and then one more
@@ -179,7 +179,7 @@ members_more rs mid more ids between others depth most left count from to bytes 
           let row : ℕ → Option ℤ → List Row = λ d m. mid ++ plain_row d kinds.Point m
           (to ∷ []) ∷ [] in
           let put = added ∙ (ap (λ d. row d member) (sym deep) ∙ ap (row (suc h.depth)) same) in
-          step_more h _ _ _ _ _ _ _ _ _ bytes t.used count (l.run h deep)
+          stage_more h _ _ _ _ _ _ _ _ _ bytes t.used count (l.run h deep)
           (member_runs h between others mid more left count t.position to _ some cut next put);
     }
 
@@ -188,9 +188,9 @@ pub members_stop : (rs mid : List Row) (ids between : Ids) (depth most left coun
     (from to : Point) (bytes : List ℕ) (t : Taken)
     → MembersLead rs ids depth from bytes most t left between mid → 0 < left
     → PointInFront t.position (take (length bytes - t.used) (drop t.used bytes)) to count
-    → (h : Head) → suc h.depth ≡ depth → StepStops h (in_members h ids most) rs from bytes
+    → (h : Head) → suc h.depth ≡ depth → StageStops h (in_members h ids most) rs from bytes
 members_stop rs mid ids between depth most left count from to bytes t l some cut h deep =
-    step_stops h _ _ _ _ _ _ bytes t.used l.within (l.run h deep)
-    (step_judged h _ (in_members h (other_ids between) (left - 1)) mid _ t.position to _ count
+    stage_stops h _ _ _ _ _ _ bytes t.used l.within (l.run h deep)
+    (stage_judged h _ (in_members h (other_ids between) (left - 1)) mid _ t.position to _ count
     cut.some cut.within tt
     (member_runs h between (other_ids between) mid _ left count t.position to _ some cut refl refl))

@@ -11,11 +11,11 @@ use Rattle.twkb_tree.specs.Rows.{polygon_rows, rows_with}
 use Rattle.twkb_tree.specs.RowGrowth.{with_point, point_added}
 use Rattle.twkb_tree.proofs.PointAdded.{point_last}
 use Rattle.twkb_grammar.specs.Machine.{Nested, Around, top, within, Body, Want, WantY, Done, closed, opened}
-use Rattle.twkb_grammar.specs.Machine.{body_after, Form, depth_of, shape_of, PointForm, LineForm, PolygonForm}
+use Rattle.twkb_grammar.specs.Machine.{body_after, BodyForm, depth_of, shape_of, PointForm, LineForm, PolygonForm}
 use Rattle.twkb_grammar.specs.Machine.{MultiPointForm, MultiLineForm, MultiPolygonForm, Head, settled}
-use Rattle.twkb_body.specs.Outline.{ids_behind, ids_left, body_step}
+use Rattle.twkb_body.specs.Outline.{ids_behind, ids_left, body_stage}
 use Rattle.twkb_body.specs.Growing.{cut_behind, cut_before, cut, value_rows, phase_rows, applied, list_row}
-use Rattle.twkb_body.specs.Growing.{point_change, step_change}
+use Rattle.twkb_body.specs.Growing.{point_change, stage_change}
 
 -- ---- lists
 
@@ -94,7 +94,7 @@ cut-opened : {whole : ℕ} (d n : ℕ) (a : Around whole (suc d)) → cut (opene
 cut-opened d zero a = cut-closed a []
 cut-opened d (suc n) a = refl
 
-settled_rows : (d : ℕ) (id : Option ℤ) (h : Head) (f : Form) (ids : Ids) (b : Body (depth_of f))
+settled_rows : (d : ℕ) (id : Option ℤ) (h : Head) (f : BodyForm) (ids : Ids) (b : Body (depth_of f))
     → phase_rows d id (settled h f ids b) ≡ value_rows d id h f ids (cut b)
 settled_rows d id h f ids (Want k a) = refl
 settled_rows d id h f ids (WantY a) = refl
@@ -102,11 +102,11 @@ settled_rows d id h f ids (Done v) = refl
 
 module _ (front : List Row) (d : ℕ) (id : Option ℤ) (h : Head) (ids : Ids) where
   -- the rows of a body with this value
-  abbrev rows_at : (f : Form) → Nested (depth_of f) → List Row
+  abbrev rows_at : (f : BodyForm) → Nested (depth_of f) → List Row
   rows_at f v = front ++ rows_with id d (simple h.precision (shape_of f ids v))
 
   -- the rows of a body before a place
-  abbrev rows_before : (f : Form) {k : ℕ} → Around (depth_of f) k → List Row
+  abbrev rows_before : (f : BodyForm) {k : ℕ} → Around (depth_of f) k → List Row
   rows_before f a = front ++ value_rows d id h f ids (cut_before a)
 
   abbrev own : row.Kind → Row
@@ -121,7 +121,7 @@ module _ (front : List Row) (d : ℕ) (id : Option ℤ) (h : Head) (ids : Ids) w
   first_row : (r : Row) → front ++ r ∷ [] ≡ (front ++ []) ++ r ∷ []
   first_row r = ap (λ rs. rs ++ r ∷ []) (sym (append-nil front))
 
-  list_begins : (f : Form) (inner : ℕ) (a : Around (depth_of f) (suc inner))
+  list_begins : (f : BodyForm) (inner : ℕ) (a : Around (depth_of f) (suc inner))
       → rows_at f (cut_behind a []) ≡ rows_before f a ++ list_row d id h.precision f
       (first_id (ids_left ids a)) inner ∷ []
   list_begins PointForm inner a = absurd (omega (arith, around_within a))
@@ -161,7 +161,7 @@ module _ (front : List Row) (d : ℕ) (id : Option ℤ) (h : Head) (ids : Ids) w
   list_begins MultiPolygonForm (suc (suc zero)) (within done left a) = absurd (omega (arith, around_within a))
   list_begins MultiPolygonForm (suc (suc (suc k))) a = absurd (omega (arith, around_within a))
 
-  point_comes : (p : Point) (f : Form) (a : Around (depth_of f) 0)
+  point_comes : (p : Point) (f : BodyForm) (a : Around (depth_of f) 0)
       → rows_at f (cut_behind a p) ≡ applied (point_change p d id h.precision f
       (first_id (ids_left ids a))) (rows_before f a)
   point_comes p PointForm top = first_row (whole_row d kinds.Point id h.precision (p ∷ []))
@@ -194,9 +194,9 @@ module _ (front : List Row) (d : ℕ) (id : Option ℤ) (h : Head) (ids : Ids) w
       (omega (arith, around_within a))
 
   -- the change of a number in a body
-  pub body_grows : (p : Point) (n : ℕ) (f : Form) (b : Body (depth_of f))
+  pub body_grows : (p : Point) (n : ℕ) (f : BodyForm) (b : Body (depth_of f))
       → front ++ phase_rows d id (settled h f ids (body_after p n b)) ≡ applied
-      (step_change p n d id (body_step h f ids b)) (front ++ value_rows d id h f ids (cut b))
+      (stage_change p n d id (body_stage h f ids b)) (front ++ value_rows d id h f ids (cut b))
   body_grows p n f (Want zero a) = refl
   body_grows p n f (Want (suc k) a) = ap (λ rs. front ++ rs)
       (settled_rows d id h f ids (opened k n a)) ∙ (ap (λ v. front ++ value_rows d id h f ids v)

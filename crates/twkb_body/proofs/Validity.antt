@@ -8,7 +8,7 @@ use Rattle.twkb_tree.specs.Limits.{Allowance, IsValid}
 use Rattle.twkb_tree.specs.declared.kind.Kind as row
 use Rattle.twkb_tree.specs.declared.kind.Kind.TheVariants as kinds
 use Rattle.twkb_tree.specs.Rows.{Row, rows, plain_row, whole_row, first_id, rows_of_each, ring_rows, polygon_rows}
-use Rattle.twkb_tree.specs.Admits.{points_fit, fits, is_whole, has_place, id_in_range, id_allowed, has_same_ids}
+use Rattle.twkb_tree.specs.Admits.{points_fit, fits, is_geometry, has_place, id_in_range, id_allowed, has_same_ids}
 use Rattle.twkb_tree.specs.Admits.{precision_in_range, precision_fits, steps_to, parent, first_child}
 use Rattle.twkb_tree.specs.Accepted.{Accepts, IsOneRoot}
 use Rattle.twkb_tree.specs.RowLists.{AreValidRowsOfOne}
@@ -18,7 +18,7 @@ use Rattle.twkb_tree.proofs.RootLimits.{continued, continues_row, one_valid_fron
 use Rattle.twkb_grammar.specs.Bits.{bit}
 use Rattle.twkb_grammar.specs.Roles.{Role, Item}
 use Rattle.twkb_grammar.specs.Fault.{Part, moved}
-use Rattle.twkb_grammar.specs.Machine.{Around, top, within, Want, WantY, Done, Form, depth_of, PointForm, LineForm}
+use Rattle.twkb_grammar.specs.Machine.{Around, top, within, Want, WantY, Done, BodyForm, depth_of, PointForm, LineForm}
 use Rattle.twkb_grammar.specs.Machine.{PolygonForm, MultiPointForm, MultiLineForm, MultiPolygonForm, Kind, Head}
 use Rattle.twkb_grammar.specs.Machine.{Frame, Many, Phase, AtHeader, AtMetadata, AtOption, AtCount, AtId, AtBody}
 use Rattle.twkb_grammar.specs.Machine.{AtEnd, Finished, Sums, nothing, added, sums_after, Stack, started, asked}
@@ -28,10 +28,10 @@ use Rattle.twkb_grammar.proofs.Parts.{runs_split, runs_same}
 use Rattle.twkb_grammar.proofs.Trees.{tree_runs}
 use Rattle.twkb_grammar.proofs.Ranges.{all_front}
 use Rattle.twkb_grammar.proofs.Running.{ran_part}
-use Rattle.twkb_body.specs.Outline.{ids_behind, step_of, body_step, outline_of}
+use Rattle.twkb_body.specs.Outline.{ids_behind, stage_of, body_stage, outline_of}
 use Rattle.twkb_body.specs.Growing.{id_within, frame_rows, value_rows, cut_before, rows_so_far, Change, Nothing}
 use Rattle.twkb_body.specs.Growing.{NewRow, NewPoint, applied, Takes, own_of, header_change, kind_with, count_change}
-use Rattle.twkb_body.specs.Growing.{step_change, change_of}
+use Rattle.twkb_body.specs.Growing.{stage_change, change_of}
 use Rattle.twkb_body.proofs.RowGrowth.{around_within, one_behind, each-snoc, ring-snoc, area_ring}
 use Rattle.twkb_body.proofs.Growths.{item_grows, change_same}
 
@@ -57,7 +57,8 @@ fits_same : (p f : Option Row) (r : Row) (q : Point) → (r.kind ≡ kinds.Lines
 fits_same p f r q line =
     ap (λ b. has_place p r.kind && id_in_range r.id && id_allowed p r.kind r.id && has_same_ids f
     r.id && precision_in_range r.precision && precision_fits p r.precision && b)
-    (fits_fewer r.kind (is_whole p) r.points line ∙ sym (fits_fewer r.kind (is_whole p) (r.points ++ q ∷ []) line))
+    (fits_fewer r.kind (is_geometry p) r.points line
+    ∙ sym (fits_fewer r.kind (is_geometry p) (r.points ++ q ∷ []) line))
 
 accepts_fewer : (l : Allowance) (before : List Row) (r : Row) (q : Point)
     → (r.kind ≡ kinds.Linestring) ⊎ (r.kind ≡ kinds.Ring) → Accepts l before (with_point r q)
@@ -127,8 +128,8 @@ module _ (front : List Row) (d : ℕ) (id : Option ℤ) (h : Head) (ids : Ids) w
   abbrev line_rows : Option ℤ → List Point → List Row
   line_rows id ps = plain_row (suc d) kinds.Linestring id ps ∷ []
 
-  point_takes : (p : Point) (n : ℕ) (f : Form) (a : Around (depth_of f) 0)
-      → Takes (step_change p n d id (body_step h f ids (WantY a)))
+  point_takes : (p : Point) (n : ℕ) (f : BodyForm) (a : Around (depth_of f) 0)
+      → Takes (stage_change p n d id (body_stage h f ids (WantY a)))
       (front ++ value_rows d id h f ids (cut_before a))
   point_takes p n PointForm a = tt
   point_takes p n LineForm (within ps left top) =
@@ -160,7 +161,7 @@ module _ (front : List Row) (d : ℕ) (id : Option ℤ) (h : Head) (ids : Ids) w
       (omega (arith, around_within a))
 
 pub item_takes : (p : Point) (n : ℕ) (fs : List Frame) (ph : Phase)
-    → Takes (step_change p n (length fs) (id_within fs) (step_of ph)) (rows_so_far (fs, ph))
+    → Takes (stage_change p n (length fs) (id_within fs) (stage_of ph)) (rows_so_far (fs, ph))
 item_takes p n fs AtHeader = tt
 item_takes p n fs (AtMetadata k precision) = header_takes (length fs) (id_within fs) k precision n
     (asked n) (rows_so_far (fs, AtMetadata k precision))
@@ -183,7 +184,7 @@ before_item : (l : Allowance) (p : Point) (bytes n : ℕ) (fs : List Frame) (ph 
     → AreValidRowsOfOne l (rows_so_far (advanced p bytes n fs ph))
     → AreValidRowsOfOne l (rows_so_far (fs, ph))
 before_item l p bytes n fs ph v =
-    before_change l (step_change p n (length fs) (id_within fs) (step_of ph)) (rows_so_far (fs, ph))
+    before_change l (stage_change p n (length fs) (id_within fs) (stage_of ph)) (rows_so_far (fs, ph))
     (item_takes p n fs ph) (subst (AreValidRowsOfOne l) (item_grows p bytes n fs ph) v)
 
 -- rows before a run are valid if those after it are

@@ -8,12 +8,13 @@ use Rattle.twkb_tree.specs.Rows.{Row, plain_row, whole_row, first_id, rows_with,
 use Rattle.twkb_tree.specs.RowGrowth.{point_added, EndsInLine}
 use Rattle.twkb_grammar.specs.Bits.{bit}
 use Rattle.twkb_grammar.specs.Roles.{Role}
-use Rattle.twkb_grammar.specs.Machine.{Nested, Around, top, within, Body, Want, WantY, Done, Form, PointForm}
+use Rattle.twkb_grammar.specs.Machine.{Nested, Around, top, within, Body, Want, WantY, Done, BodyForm, PointForm}
 use Rattle.twkb_grammar.specs.Machine.{LineForm, PolygonForm, MultiPointForm, MultiLineForm, MultiPolygonForm, Kind}
 use Rattle.twkb_grammar.specs.Machine.{SimpleKind, CollectionKind, depth_of, shape_of, Head, Frame, Many, ManyPoints}
 use Rattle.twkb_grammar.specs.Machine.{ManyLines, ManyPolygons, ManyGeometries, Phase, AtBody, AtEnd, Finished, Stack}
 use Rattle.twkb_grammar.specs.Machine.{asked}
-use Rattle.twkb_body.specs.Outline.{ids_after, Group, BodyPlace, Wanted, WantedY, Full, Step, OnMetadata, OnOption}
+use Rattle.twkb_body.specs.Outline.{ids_after, FrameOutline, BodyPlace, Wanted, WantedY, Full, Stage, OnMetadata}
+use Rattle.twkb_body.specs.Outline.{OnOption}
 use Rattle.twkb_body.specs.Outline.{OnCount, OnId, OnBody, Outline}
 
 -- ---- the rows of a stack
@@ -47,7 +48,7 @@ cut (WantY a) = cut_before a
 cut (Done v) = Some v
 
 -- The rows of a body with this value, at a depth and with an id.
-abbrev pub value_rows : ℕ → Option ℤ → Head → (f : Form) → Ids → Option (Nested (depth_of f)) → List Row
+abbrev pub value_rows : ℕ → Option ℤ → Head → (f : BodyForm) → Ids → Option (Nested (depth_of f)) → List Row
 value_rows d id h f ids None = []
 value_rows d id h f ids (Some v) = rows_with id d (simple h.precision (shape_of f ids v))
 
@@ -97,7 +98,7 @@ own_of d id k precision = whole_row d (row_kind k) id precision []
 
 -- The row of a list that begins, of values of depth `inner`, in a geometry with this depth, id
 -- and precision, and in a member with this id.
-abbrev pub list_row : ℕ → Option ℤ → ℤ → Form → Option ℤ → (inner : ℕ) → Row
+abbrev pub list_row : ℕ → Option ℤ → ℤ → BodyForm → Option ℤ → (inner : ℕ) → Row
 list_row d id precision PolygonForm member zero = plain_row (suc d) kinds.Ring None []
 list_row d id precision MultiLineForm member zero = plain_row (suc d) kinds.Linestring member []
 list_row d id precision MultiPolygonForm member zero = plain_row (suc (suc d)) kinds.Ring None []
@@ -105,13 +106,13 @@ list_row d id precision MultiPolygonForm member (suc zero) = plain_row (suc d) k
 list_row d id precision f member inner = own_of d id (SimpleKind f) precision
 
 -- The change of a point at this place.
-abbrev pub point_change : Point → ℕ → Option ℤ → ℤ → Form → Option ℤ → Change
+abbrev pub point_change : Point → ℕ → Option ℤ → ℤ → BodyForm → Option ℤ → Change
 point_change p d id precision PointForm member = NewRow (whole_row d kinds.Point id precision (p ∷ []))
 point_change p d id precision MultiPointForm member = NewRow (plain_row (suc d) kinds.Point member (p ∷ []))
 point_change p d id precision f member = NewPoint p
 
 -- The change of a number in a body that leads to position p.
-abbrev pub place_change : Point → ℕ → Option ℤ → ℤ → Form → Option ℤ → BodyPlace → Change
+abbrev pub place_change : Point → ℕ → Option ℤ → ℤ → BodyForm → Option ℤ → BodyPlace → Change
 place_change p d id precision f member (Wanted zero lefts) = Nothing
 place_change p d id precision f member (Wanted (suc inner) lefts) = NewRow (list_row d id precision f member inner)
 place_change p d id precision f member (WantedY lefts) = point_change p d id precision f member
@@ -136,19 +137,19 @@ count_change d id m h (suc n) = if bit h.meta 2 then Nothing else NewRow (own_of
 
 -- The change of an item with this number, which leads to position p, in a geometry with this
 -- depth and id.
-abbrev pub step_change : Point → ℕ → ℕ → Option ℤ → Step → Change
-step_change p n d id (OnMetadata k precision) = header_change d id k precision n (asked n)
-step_change p n d id (OnOption k h r rs) = header_change d id k h.precision h.meta rs
-step_change p n d id (OnCount m h) = count_change d id m h n
-step_change p n d id (OnId m h members ids zero) = NewRow (own_of d id (kind_with m) h.precision)
-step_change p n d id (OnBody h f ids s) = place_change p d id h.precision f (first_id ids) s
-step_change p n d id _ = Nothing
+abbrev pub stage_change : Point → ℕ → ℕ → Option ℤ → Stage → Change
+stage_change p n d id (OnMetadata k precision) = header_change d id k precision n (asked n)
+stage_change p n d id (OnOption k h r rs) = header_change d id k h.precision h.meta rs
+stage_change p n d id (OnCount m h) = count_change d id m h n
+stage_change p n d id (OnId m h members ids zero) = NewRow (own_of d id (kind_with m) h.precision)
+stage_change p n d id (OnBody h f ids s) = place_change p d id h.precision f (first_id ids) s
+stage_change p n d id _ = Nothing
 
 -- The id of the open geometry.
-abbrev pub id_in : List Group → Option ℤ
+abbrev pub id_in : List FrameOutline → Option ℤ
 id_in [] = None
 id_in (g ∷ gs) = first_id g.ids
 
 -- The change of an item.
 abbrev pub change_of : Point → ℕ → Outline → Change
-change_of p n o = step_change p n (length o.0) (id_in o.0) o.1
+change_of p n o = stage_change p n (length o.0) (id_in o.0) o.1

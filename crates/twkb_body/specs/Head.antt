@@ -19,7 +19,7 @@ kind_of kinds.MultiPolygon = SimpleKind MultiPolygonForm
 kind_of _ = CollectionKind
 
 -- the form of a body of this kind; a collection has none of its own
-abbrev pub form_of : row.Kind → machine.Form
+abbrev pub form_of : row.Kind → machine.BodyForm
 form_of kinds.Point = PointForm
 form_of kinds.Linestring = LineForm
 form_of kinds.Polygon = PolygonForm

@@ -1,7 +1,7 @@
 -- A header that is complete at the start of bytes.
 use Rattle.std.specs.Prelude.{◌≡◌, false, ℕ, ◌+◌, ◌≤◌, ◌<◌, ◌%◌, List, length, drop, get_or}
 use Rattle.twkb_grammar.specs.Bits.{bit}
-use Rattle.twkb_body.specs.Parts.{PartsInFront}
+use Rattle.twkb_body.specs.OptionalParts.{PartsInFront}
 use Rattle.twkb_body.specs.declared.header.FrontHeader.{FrontHeader}
 
 -- the first byte names a type, the second asks for a body, and after them are the parts that it asks for

@@ -2,7 +2,7 @@
 use Rattle.std.specs.Prelude.{ℕ, ◌<◌, ◌≤◌, List, ◌++◌, length, take, Result, Ok, Err, ⊤}
 use Rattle.twkb_tree.specs.Limits.{Allowance}
 use Rattle.twkb_grammar.specs.Fault.{Reason, IsPart, FirstFault, SizeMismatch}
-use Rattle.twkb_body.specs.Outline.{Outline, Step, OnHeader, OnMetadata, OnId, OnBody, OnFinished}
+use Rattle.twkb_body.specs.Outline.{Outline, Stage, OnHeader, OnMetadata, OnId, OnBody, OnFinished}
 
 -- The bytes are complete items of a part, and no size is found wrong at their end, whatever
 -- follows: the geometries that end there have exact sizes too.
@@ -19,7 +19,7 @@ pub record PartIn (limits : Allowance) (bs piece : List ℕ) : Type 0 where
   pub part : IsJudged limits (bs ++ take used piece)
 
 -- The next item is inside its geometry or at its beginning, or no item comes next.
-abbrev pub IsPastEnds : Step → Type 0
+abbrev pub IsPastEnds : Stage → Type 0
 IsPastEnds OnHeader = ⊤
 IsPastEnds (OnMetadata k p) = ⊤
 IsPastEnds (OnId m h members ids left) = ⊤

@@ -6,7 +6,7 @@ pub mod JudgedParts
 pub mod HeaderParts
 pub mod Admitting
 pub mod Front
-pub mod Parts
+pub mod OptionalParts
 pub mod Header
 pub mod Whole
 pub mod Head

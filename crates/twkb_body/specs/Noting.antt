@@ -4,25 +4,25 @@ use Rattle.twkb_tree.specs.Limits.{Allowance}
 use Rattle.twkb_tree.specs.Rows.{Row}
 use Rattle.twkb_grammar.specs.Machine.{Sums, nothing}
 use Rattle.twkb_grammar.specs.Noting.{Notes, no_notes, noted, note_header, note_metadata, IsQuiet}
-use Rattle.twkb_body.specs.Outline.{Step, OnHeader, OnMetadata, OnOption, Outline}
+use Rattle.twkb_body.specs.Outline.{Stage, OnHeader, OnMetadata, OnOption, Outline}
 use Rattle.twkb_body.specs.Reading.{Outlined}
 
 -- The notes that the next byte adds at once, if it belongs to a header.
-abbrev pub note_step : Step → (offset points byte : ℕ) → Notes → Notes
-note_step OnHeader offset points byte w = note_header offset points byte w
-note_step (OnMetadata k p) offset points byte w = note_metadata byte w
-note_step _ offset points byte w = w
+abbrev pub note_stage : Stage → (offset points byte : ℕ) → Notes → Notes
+note_stage OnHeader offset points byte w = note_header offset points byte w
+note_stage (OnMetadata k p) offset points byte w = note_metadata byte w
+note_stage _ offset points byte w = w
 
 -- The notes that items with these bytes add, if only the first item adds any: those of their
 -- first byte, if it belongs to a header.
-abbrev pub note_first : Step → (offset points : ℕ) → List ℕ → Notes → Notes
+abbrev pub note_first : Stage → (offset points : ℕ) → List ℕ → Notes → Notes
 note_first t offset points [] w = w
-note_first t offset points (byte ∷ bytes) w = note_step t offset points byte w
+note_first t offset points (byte ∷ bytes) w = note_stage t offset points byte w
 
 -- A part that a metadata byte asks for is neither a header nor an end.
-abbrev pub IsCalmStep : Step → Type 0
-IsCalmStep (OnOption k h r rs) = IsQuiet r
-IsCalmStep _ = ⊤
+abbrev pub IsCalmStage : Stage → Type 0
+IsCalmStage (OnOption k h r rs) = IsQuiet r
+IsCalmStage _ = ⊤
 
 -- The notes of the items so far, if the blob begins at offset `start`.
 abbrev pub notes_in : {limits : Allowance} {bytes : List ℕ} {e : Sums} {o : Outline} {rs : List Row}

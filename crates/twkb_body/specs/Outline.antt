@@ -8,7 +8,7 @@ use Rattle.twkb_grammar.specs.Bits.{bit}
 use Rattle.twkb_grammar.specs.Roles.{Role, Header, Metadata, Count, Id, X, Y, End}
 use Rattle.twkb_grammar.specs.Fault.{Reason, SizeMismatch}
 use Rattle.twkb_grammar.specs.PlainReader.{is_exact}
-use Rattle.twkb_grammar.specs.Machine.{Around, top, within, Body, Want, WantY, Done, Form, PointForm, LineForm}
+use Rattle.twkb_grammar.specs.Machine.{Around, top, within, Body, Want, WantY, Done, BodyForm, PointForm, LineForm}
 use Rattle.twkb_grammar.specs.Machine.{PolygonForm, MultiPointForm, MultiLineForm, MultiPolygonForm, Kind, SimpleKind}
 use Rattle.twkb_grammar.specs.Machine.{CollectionKind, kind_number, kind_at, Head, Frame, Many, ManyPoints, ManyLines}
 use Rattle.twkb_grammar.specs.Machine.{ManyPolygons, ManyGeometries, first_count, listed, Phase, AtHeader, AtMetadata}
@@ -25,9 +25,9 @@ abbrev pub ids_after : Ids → Trees → Ids
 ids_after ids end = ids
 ids_after ids (g ▷ gs) = ids_after (other_ids ids) gs
 
--- An open collection: its header, the ids from its open member on, and how many members are left
+-- The outline of a frame: its header, the ids from its open member on, and how many members are left
 -- after that one.
-pub record Group : Type 0 where
+pub record FrameOutline : Type 0 where
   pub head : Head
   pub ids : Ids
   pub left : ℕ
@@ -41,25 +41,25 @@ pub data BodyPlace : Type 0 where
   Full : BodyPlace
 
 -- What is expected next in the open geometry. For a body it has the ids from the open member on.
-pub data Step : Type 0 where
-  OnHeader : Step
-  OnMetadata : Kind → ℤ → Step
-  OnOption : Kind → Head → Role → List Role → Step
-  OnCount : Many → Head → Step
-  OnId : Many → Head → (members : ℕ) → (ids : List ℤ) → (left : ℕ) → Step
-  OnBody : Head → (f : Form) → Ids → BodyPlace → Step
-  OnEnd : Head → Step
-  OnFinished : Step
+pub data Stage : Type 0 where
+  OnHeader : Stage
+  OnMetadata : Kind → ℤ → Stage
+  OnOption : Kind → Head → Role → List Role → Stage
+  OnCount : Many → Head → Stage
+  OnId : Many → Head → (members : ℕ) → (ids : List ℤ) → (left : ℕ) → Stage
+  OnBody : Head → (f : BodyForm) → Ids → BodyPlace → Stage
+  OnEnd : Head → Stage
+  OnFinished : Stage
 
--- The open collections, innermost first, and the step of the geometry in the innermost.
+-- The open collections, innermost first, and the stage of the geometry in the innermost.
 abbrev pub Outline : Type 0
-Outline = List Group × Step
+Outline = List FrameOutline × Stage
 
 -- ---- the outline of a stack
 
 -- The outline of an open collection.
-abbrev pub group_of : Frame → Group
-group_of f = record { head = f.head; ids = ids_after f.ids f.done; left = f.left }
+abbrev pub frame_outline : Frame → FrameOutline
+frame_outline f = record { head = f.head; ids = ids_after f.ids f.done; left = f.left }
 
 -- The number of values left in each list around a value.
 abbrev pub lefts_of : {whole d : ℕ} → Around whole d → List ℕ
@@ -73,25 +73,25 @@ ids_left ids (within done left top) = ids_behind ids done
 ids_left ids (within done left (within others more a)) = ids_left ids (within others more a)
 
 -- The outline of a body.
-abbrev pub body_step : {whole : ℕ} → Head → Form → Ids → Body whole → Step
-body_step h f ids (Want d a) = OnBody h f (ids_left ids a) (Wanted d (lefts_of a))
-body_step h f ids (WantY a) = OnBody h f (ids_left ids a) (WantedY (lefts_of a))
-body_step h f ids (Done v) = OnBody h f ids Full
+abbrev pub body_stage : {whole : ℕ} → Head → BodyForm → Ids → Body whole → Stage
+body_stage h f ids (Want d a) = OnBody h f (ids_left ids a) (Wanted d (lefts_of a))
+body_stage h f ids (WantY a) = OnBody h f (ids_left ids a) (WantedY (lefts_of a))
+body_stage h f ids (Done v) = OnBody h f ids Full
 
 -- The outline of a phase.
-abbrev pub step_of : Phase → Step
-step_of AtHeader = OnHeader
-step_of (AtMetadata k p) = OnMetadata k p
-step_of (AtOption k h r rs) = OnOption k h r rs
-step_of (AtCount m h) = OnCount m h
-step_of (AtId m h n ids left) = OnId m h n ids left
-step_of (AtBody h f ids b) = body_step h f ids b
-step_of (AtEnd h g) = OnEnd h
-step_of (Finished g) = OnFinished
+abbrev pub stage_of : Phase → Stage
+stage_of AtHeader = OnHeader
+stage_of (AtMetadata k p) = OnMetadata k p
+stage_of (AtOption k h r rs) = OnOption k h r rs
+stage_of (AtCount m h) = OnCount m h
+stage_of (AtId m h n ids left) = OnId m h n ids left
+stage_of (AtBody h f ids b) = body_stage h f ids b
+stage_of (AtEnd h g) = OnEnd h
+stage_of (Finished g) = OnFinished
 
 -- The outline of a stack.
 abbrev pub outline_of : Stack → Outline
-outline_of st = (map group_of st.0, step_of st.1)
+outline_of st = (map frame_outline st.0, stage_of st.1)
 
 -- ---- the role of the next item
 
@@ -103,19 +103,19 @@ place_role (WantedY lefts) = Some Y
 place_role Full = None
 
 -- The role of the next item, inside `level` collections and after this many bytes.
-abbrev pub step_role : (level bytes : ℕ) → Step → Option Role
-step_role level bytes OnHeader = Some Header
-step_role level bytes (OnMetadata k p) = Some (Metadata (kind_number k))
-step_role level bytes (OnOption k h r rs) = Some r
-step_role level bytes (OnCount m h) = Some (Count (first_count m level))
-step_role level bytes (OnId m h n ids left) = Some Id
-step_role level bytes (OnBody h f ids s) = place_role s
-step_role level bytes (OnEnd h) = Some (End h.size (bytes - h.from))
-step_role level bytes OnFinished = None
+abbrev pub stage_role : (level bytes : ℕ) → Stage → Option Role
+stage_role level bytes OnHeader = Some Header
+stage_role level bytes (OnMetadata k p) = Some (Metadata (kind_number k))
+stage_role level bytes (OnOption k h r rs) = Some r
+stage_role level bytes (OnCount m h) = Some (Count (first_count m level))
+stage_role level bytes (OnId m h n ids left) = Some Id
+stage_role level bytes (OnBody h f ids s) = place_role s
+stage_role level bytes (OnEnd h) = Some (End h.size (bytes - h.from))
+stage_role level bytes OnFinished = None
 
 -- The role of the next item of an outline.
 abbrev pub outline_role : Sums → Outline → Option Role
-outline_role e o = step_role (length o.0) e.bytes o.1
+outline_role e o = stage_role (length o.0) e.bytes o.1
 
 -- ---- the outline after an item
 
@@ -125,25 +125,25 @@ next_ids [] ids = other_ids ids
 next_ids (left ∷ lefts) ids = ids
 
 -- A value of depth d is complete: the next one of its list is expected, or the list is complete too.
-abbrev pub shut : Head → Form → Ids → (d : ℕ) → List ℕ → Step
+abbrev pub shut : Head → BodyForm → Ids → (d : ℕ) → List ℕ → Stage
 shut h f ids d [] = OnEnd h
 shut h f ids d (zero ∷ lefts) = shut h f ids (suc d) lefts
 shut h f ids d (suc left ∷ lefts) = OnBody h f (next_ids lefts ids) (Wanted d (left ∷ lefts))
 
 -- A list of n values of depth d begins.
-abbrev pub listing : Head → Form → Ids → (d n : ℕ) → List ℕ → Step
+abbrev pub listing : Head → BodyForm → Ids → (d n : ℕ) → List ℕ → Stage
 listing h f ids d zero lefts = shut h f ids (suc d) lefts
 listing h f ids d (suc n) lefts = OnBody h f ids (Wanted d (n ∷ lefts))
 
--- The step after a number in a body.
-abbrev pub place_after : Head → Form → Ids → ℕ → BodyPlace → Step
+-- The stage after a number in a body.
+abbrev pub place_after : Head → BodyForm → Ids → ℕ → BodyPlace → Stage
 place_after h f ids n (Wanted zero lefts) = OnBody h f ids (WantedY lefts)
 place_after h f ids n (Wanted (suc d) lefts) = listing h f ids d n lefts
 place_after h f ids n (WantedY lefts) = shut h f ids 0 lefts
 place_after h f ids n Full = OnEnd h
 
 -- The body begins.
-abbrev pub begins : Kind → Head → Step
+abbrev pub begins : Kind → Head → Stage
 begins (SimpleKind PointForm) h = OnBody h PointForm None (Wanted 0 [])
 begins (SimpleKind LineForm) h = OnBody h LineForm None (Wanted 1 [])
 begins (SimpleKind PolygonForm) h = OnBody h PolygonForm None (Wanted 2 [])
@@ -154,12 +154,12 @@ begins CollectionKind h = OnCount ManyGeometries h
 
 -- The next optional part is expected; after the last one the body begins, unless bit 4 says that
 -- there is none.
-abbrev pub options : Kind → Head → List Role → Step
+abbrev pub options : Kind → Head → List Role → Stage
 options k h (r ∷ rs) = OnOption k h r rs
 options k h [] = if bit h.meta 4 then OnEnd h else begins k h
 
 -- The n members begin, after their ids.
-abbrev pub members_open : Many → Head → List Group → Ids → ℕ → Outline
+abbrev pub members_open : Many → Head → List FrameOutline → Ids → ℕ → Outline
 members_open ManyPoints h gs ids n = (gs, listing h MultiPointForm ids 0 n [])
 members_open ManyLines h gs ids n = (gs, listing h MultiLineForm ids 1 n [])
 members_open ManyPolygons h gs ids n = (gs, listing h MultiPolygonForm ids 2 n [])
@@ -167,12 +167,12 @@ members_open ManyGeometries h gs ids zero = (gs, OnEnd h)
 members_open ManyGeometries h gs ids (suc n) = (record { head = h; ids = ids; left = n } ∷ gs, OnHeader)
 
 -- A count of n members was read.
-abbrev pub many_counted : Many → Head → List Group → ℕ → Outline
+abbrev pub many_counted : Many → Head → List FrameOutline → ℕ → Outline
 many_counted m h gs zero = members_open m h gs None 0
 many_counted m h gs (suc n) = if bit h.meta 2 then (gs, OnId m h (suc n) [] n) else members_open m h gs None (suc n)
 
 -- A geometry is complete.
-abbrev pub outline_ended : List Group → Outline
+abbrev pub outline_ended : List FrameOutline → Outline
 outline_ended [] = ([], OnFinished)
 outline_ended (g ∷ gs) = elim g.left [
   | zero ↦ (gs, OnEnd g.head)
@@ -198,7 +198,7 @@ outline_advanced bytes n (gs, OnFinished) = (gs, OnFinished)
 
 -- A geometry ends after these bytes; its size is exact or not. With it ends each collection whose
 -- last member it is, as long as their sizes are exact.
-abbrev pub outline_past_end : Bool → ℕ → List Group → Result Outline Reason
+abbrev pub outline_past_end : Bool → ℕ → List FrameOutline → Result Outline Reason
 outline_past_end false bytes gs = Err SizeMismatch
 outline_past_end true bytes [] = Ok ([], OnFinished)
 outline_past_end true bytes (g ∷ gs) = elim g.left [

@@ -8,10 +8,10 @@ use Rattle.twkb_tree.specs.Limits.{Allowance}
 use Rattle.twkb_tree.specs.Rows.{Row, first_id}
 use Rattle.twkb_grammar.specs.Roles.{Role, Item}
 use Rattle.twkb_grammar.specs.Fault.{Reason, FirstFault, moved}
-use Rattle.twkb_grammar.specs.Machine.{Form, Head, depth_of, Sums, added, Stack}
+use Rattle.twkb_grammar.specs.Machine.{BodyForm, Head, depth_of, Sums, added, Stack}
 use Rattle.twkb_grammar.specs.PlainReader.{in_range, objection}
 use Rattle.twkb_grammar.specs.Reading.{Reached, IsGiven}
-use Rattle.twkb_body.specs.Outline.{Group, BodyPlace, Wanted, WantedY, Full, Step, OnHeader, OnBody, OnFinished}
+use Rattle.twkb_body.specs.Outline.{FrameOutline, BodyPlace, Wanted, WantedY, Full, Stage, OnHeader, OnBody, OnFinished}
 use Rattle.twkb_body.specs.Outline.{Outline, outline_of, outline_role, outline_advanced, shut}
 use Rattle.twkb_body.specs.Growing.{rows_so_far, Change, change_of, applied, point_change, id_in}
 
@@ -57,10 +57,10 @@ PlaceFits whole (Wanted d lefts) = d + length lefts ≡ whole
 PlaceFits whole (WantedY lefts) = length lefts ≡ whole
 PlaceFits whole Full = ⊤
 
--- The open lists of a step, and the value expected in them, are those of its form.
-abbrev pub StepFits : Step → Type 0
-StepFits (OnBody h f ids s) = PlaceFits (depth_of f) s
-StepFits _ = ⊤
+-- The open lists of a stage, and the value expected in them, are those of its form.
+abbrev pub StageFits : Stage → Type 0
+StageFits (OnBody h f ids s) = PlaceFits (depth_of f) s
+StageFits _ = ⊤
 
 -- The number of open geometries.
 abbrev pub open_count : Outline → ℕ
@@ -86,7 +86,7 @@ abbrev pub sums_past : Sums → List ℕ → Point → Sums
 sums_past e bytes to = record { bytes = e.bytes + length bytes; position = to; nodes = e.nodes; points = e.points }
 
 -- The change of a point.
-abbrev pub point_after : Point → List Group → Head → Form → Ids → Change
+abbrev pub point_after : Point → List FrameOutline → Head → BodyForm → Ids → Change
 point_after to gs h f ids = point_change to (length gs) (id_in gs) h.precision f (first_id ids)
 
 -- If `Known` is true of a place where a point is expected, and its two numbers come next, then
@@ -94,7 +94,7 @@ point_after to gs h f ids = point_change to (length gs) (id_in gs) h.precision f
 -- change and the rows.
 abbrev pub AtPoint : (List ℕ → Sums → Outline → List Row → Type 0)
     → (List ℕ → Sums → Outline → Change → List Row → Type 0) → Type 0
-AtPoint Known Holds = (front : List ℕ) (e : Sums) (gs : List Group) (h : Head) (f : Form)
+AtPoint Known Holds = (front : List ℕ) (e : Sums) (gs : List FrameOutline) (h : Head) (f : BodyForm)
     (ids : Ids) (lefts : List ℕ) (rs : List Row) (bytes : List ℕ) (to : Point)
     → Known front e (gs, OnBody h f ids (Wanted 0 lefts)) rs → Pair e.position bytes to
     → Holds (front ++ bytes) (sums_past e bytes to) (gs, shut h f ids 0 lefts) (point_after to gs h f ids) rs

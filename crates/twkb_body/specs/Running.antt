@@ -7,9 +7,9 @@ use Rattle.twkb_tree.specs.Tree.{Ids}
 use Rattle.twkb_tree.specs.Limits.{Allowance}
 use Rattle.twkb_tree.specs.Rows.{Row, row_points}
 use Rattle.twkb_tree.specs.RowGrowth.{EndsInLine}
-use Rattle.twkb_grammar.specs.Machine.{Form, PointForm, MultiPointForm, Many, Sums}
+use Rattle.twkb_grammar.specs.Machine.{BodyForm, PointForm, MultiPointForm, Many, Sums}
 use Rattle.twkb_grammar.specs.Noting.{Notes}
-use Rattle.twkb_body.specs.Outline.{Group, Step, OnId, OnBody, Wanted, next_ids}
+use Rattle.twkb_body.specs.Outline.{FrameOutline, Stage, OnId, OnBody, Wanted, next_ids}
 use Rattle.twkb_body.specs.Growing.{id_in}
 use Rattle.twkb_body.specs.Reading.{sums_past}
 use Rattle.twkb_body.specs.Noting.{NotedOutline}
@@ -19,47 +19,47 @@ use Rattle.twkb_body.specs.declared.head.Head.{Head}
 use Rattle.twkb_body.specs.declared.list_points.Taken.{Taken}
 
 -- a form that has its points in lists, and each list in a row
-abbrev pub HasLists : Form → Type 0
+abbrev pub HasLists : BodyForm → Type 0
 HasLists PointForm = ⊥
 HasLists MultiPointForm = ⊥
 HasLists f = ⊤
 
--- after these bytes and inside these collections this step comes next, in a geometry of this
+-- after these bytes and inside these collections this stage comes next, in a geometry of this
 -- header, and these are the notes of spans
-pub record WantedIn (limits : Allowance) (front : List ℕ) (e : Sums) (gs : List Group)
-    (told : ℕ → Notes) (h : Head) (s : Step) (rs : List Row) : Type 0 where
+pub record WantedIn (limits : Allowance) (front : List ℕ) (e : Sums) (gs : List FrameOutline)
+    (told : ℕ → Notes) (h : Head) (s : Stage) (rs : List Row) : Type 0 where
   pub outlined : NotedOutline limits front e (gs, s) rs told
   pub placed : IsHeadAt (length gs) (id_in gs) h
 
--- wherever the first step comes next, the bytes lead on to the other, from one position to another;
+-- wherever the first stage comes next, the bytes lead on to the other, from one position to another;
 -- they announce and note nothing
-abbrev pub StepRuns : Head → Step → List Row → Point → List ℕ → Step → List Row → Point → Type 0
-StepRuns h s rs from bytes next more to =
-    (limits : Allowance) (e : Sums) (front : List ℕ) (gs : List Group) (told : ℕ → Notes)
+abbrev pub StageRuns : Head → Stage → List Row → Point → List ℕ → Stage → List Row → Point → Type 0
+StageRuns h s rs from bytes next more to =
+    (limits : Allowance) (e : Sums) (front : List ℕ) (gs : List FrameOutline) (told : ℕ → Notes)
     → e.position ≡ from → WantedIn limits front e gs told h s rs
     → NotedOutline limits (front ++ bytes) (sums_past e bytes to) (gs, next) more told
 
--- wherever the step comes next, a prefix of the bytes ends a part that was judged
-abbrev pub StepStops : Head → Step → List Row → Point → List ℕ → Type 0
-StepStops h s rs from bytes = (limits : Allowance) (e : Sums) (front : List ℕ) (gs : List Group)
+-- wherever the stage comes next, a prefix of the bytes ends a part that was judged
+abbrev pub StageStops : Head → Stage → List Row → Point → List ℕ → Type 0
+StageStops h s rs from bytes = (limits : Allowance) (e : Sums) (front : List ℕ) (gs : List FrameOutline)
     (told : ℕ → Notes) → e.position ≡ from → WantedIn limits front e gs told h s rs
     → PartIn limits front bytes
 
 -- a point comes next in a list of this form and with these ids, with this number after it, inside other lists
-abbrev pub in_list : Head → Form → Ids → (left : ℕ) → (outer : List ℕ) → Step
+abbrev pub in_list : Head → BodyForm → Ids → (left : ℕ) → (outer : List ℕ) → Stage
 in_list h f ids left outer = OnBody (head_of h) f ids (Wanted 0 (left ∷ outer))
 
 -- wherever a point of a list comes to the last row, with `most` after it, the bytes lead on to a
 -- point with `left` after it
 abbrev pub ListRuns : List Row → Point → ℕ → List ℕ → ℕ → List Row → Point → Type 0
-ListRuns rs from most bytes left more to = (h : Head) (f : Form) (ids : Ids) (outer : List ℕ)
+ListRuns rs from most bytes left more to = (h : Head) (f : BodyForm) (ids : Ids) (outer : List ℕ)
     → HasLists f → next_ids outer ids ≡ ids
-    → StepRuns h (in_list h f ids most outer) rs from bytes (in_list h f ids left outer) more to
+    → StageRuns h (in_list h f ids most outer) rs from bytes (in_list h f ids left outer) more to
 
 -- wherever a point of a list comes to the last row, a prefix of the bytes ends a part that was judged
 abbrev pub ListStops : List Row → Point → ℕ → List ℕ → Type 0
-ListStops rs from most bytes = (h : Head) (f : Form) (ids : Ids) (outer : List ℕ) → HasLists f
-    → next_ids outer ids ≡ ids → StepStops h (in_list h f ids most outer) rs from bytes
+ListStops rs from most bytes = (h : Head) (f : BodyForm) (ids : Ids) (outer : List ℕ) → HasLists f
+    → next_ids outer ids ≡ ids → StageStops h (in_list h f ids most outer) rs from bytes
 
 -- these points of a list were taken, at most `most`, and the others are left
 pub record ListLeads (rs : List Row) (from : Point) (bytes : List ℕ) (most : ℕ) (t : Taken)
@@ -100,7 +100,7 @@ pub record MembersLead (rs : List Row) (ids : Ids) (depth : ℕ) (from : Point) 
     (most : ℕ) (t : Taken) (left : ℕ) (others : Ids) (more : List Row) : Type 0 where
   pub within : t.used ≤ length bytes
   pub few : left ≤ most
-  pub run : (h : Head) → suc h.depth ≡ depth → StepRuns h
+  pub run : (h : Head) → suc h.depth ≡ depth → StageRuns h
       (OnBody (head_of h) MultiPointForm ids (Wanted 0 (most ∷ []))) rs from (take t.used bytes)
       (OnBody (head_of h) MultiPointForm others (Wanted 0 (left ∷ []))) more t.position
 
@@ -110,12 +110,12 @@ abbrev pub TakesMembers : {E : Type 0} → List Row → Ids → (depth : ℕ) �
 TakesMembers rs ids depth from bytes most (Ok r) others more = MembersLead rs ids depth from bytes
     most r.0 r.1 others more
 TakesMembers rs ids depth from bytes most (Err e) others more = (h : Head) → suc h.depth ≡ depth
-    → StepStops h (OnBody (head_of h) MultiPointForm ids (Wanted 0 (most ∷ []))) rs from bytes
+    → StageStops h (OnBody (head_of h) MultiPointForm ids (Wanted 0 (most ∷ []))) rs from bytes
 
 -- wherever ids are read, with `left` after the next one, the bytes are further ones, with `further` left after them
 abbrev pub IdsRun : List ℤ → ℕ → List ℕ → List ℤ → ℕ → Type 0
 IdsRun ids left bytes more further = (h : Head) (m : Many) (members : ℕ) (rs : List Row)
-    (at : Point) → StepRuns h (OnId m (head_of h) members ids left) rs at bytes
+    (at : Point) → StageRuns h (OnId m (head_of h) members ids left) rs at bytes
     (OnId m (head_of h) members more further) rs at
 
 -- this number of bytes is further ids, at most `most`
@@ -126,4 +126,4 @@ IdsTaken ids most bytes used more = (left : ℕ) × (length more + left ≡ leng
 -- wherever ids are read, a prefix of the bytes ends a part that was judged
 abbrev pub IdsStop : List ℤ → ℕ → List ℕ → Type 0
 IdsStop ids left bytes = (h : Head) (m : Many) (members : ℕ) (rs : List Row) (at : Point)
-    → StepStops h (OnId m (head_of h) members ids left) rs at bytes
+    → StageStops h (OnId m (head_of h) members ids left) rs at bytes

@@ -2,7 +2,7 @@
 ghost use Rattle.std.specs.Prelude.{IfSome};
 ghost use Rattle.twkb_body.specs.Header.{HeaderInFront};
 
-use crate::parts::{Parts, front_parts};
+use crate::optional_parts::{OptionalParts, front_parts};
 use twkb_grammar::{Metadata, TypeByte};
 
 // Bytes of a header without optional parts: a type byte and a metadata byte.
@@ -14,7 +14,7 @@ pub(crate) const BARE: usize = 2;
 pub struct FrontHeader {
     pub type_byte: TypeByte,
     pub metadata: Metadata,
-    pub parts: Parts,
+    pub parts: OptionalParts,
     pub from: usize,
     pub used: usize,
 }

@@ -12,11 +12,11 @@ ghost use Rattle.twkb_grammar.specs.Fault.{Reason, Truncated, BadVarint, FirstFa
 ghost use Rattle.twkb_grammar.specs.Machine.{Sums, nothing, Stack, Finished, role_at, advanced};
 ghost use Rattle.twkb_grammar.specs.Reading.{Reached, FaultAt, AtNumber, ends, frame_count};
 ghost use Rattle.twkb_grammar.specs.Noting.{Notes, note_byte, IsCalm};
-ghost use Rattle.twkb_body.specs.Noting.{note_step, IsCalmStep, NotedOutline};
-ghost use Rattle.twkb_body.specs.Outline.{Outline, OnHeader, step_of, OnFinished, outline_of, outline_role};
+ghost use Rattle.twkb_body.specs.Noting.{note_stage, IsCalmStage, NotedOutline};
+ghost use Rattle.twkb_body.specs.Outline.{Outline, OnHeader, stage_of, OnFinished, outline_of, outline_role};
 ghost use Rattle.twkb_body.specs.Outline.{outline_advanced, outline_in, outline_ends};
 ghost use Rattle.twkb_body.specs.Growing.{rows_so_far, change_of, applied, Takes};
-ghost use Rattle.twkb_body.specs.Reading.{Outlined, OutlinedBehind, Wants, WithItem, OutlineLanded, StepFits};
+ghost use Rattle.twkb_body.specs.Reading.{Outlined, OutlinedBehind, Wants, WithItem, OutlineLanded, StageFits};
 ghost use Rattle.twkb_body.specs.Reading.{open_count, AtPoint, change_after};
 ghost use Rattle.twkb_body.specs.Admitting.{Admits};
 
@@ -80,7 +80,7 @@ pub fn reading()
     ensures takes { (limits : Allowance) (bytes : List ℕ) (e : Sums) (o : Outline) (rs : List Row)
         (p : Point) (n : ℕ) → Outlined limits bytes e o rs → Takes (change_of p n o) rs }
     ensures fits { (limits : Allowance) (bytes : List ℕ) (e : Sums) (o : Outline) (rs : List Row)
-        → Outlined limits bytes e o rs → StepFits o.1 }
+        → Outlined limits bytes e o rs → StageFits o.1 }
     ensures offset { (limits : Allowance) (bytes : List ℕ) (e : Sums) (o : Outline) (rs : List Row)
         → Outlined limits bytes e o rs → length bytes ≡ e.bytes }
     ensures depth { (limits : Allowance) (bytes : List ℕ) (e : Sums) (o : Outline) (rs : List Row)
@@ -125,7 +125,7 @@ pub fn points()
 /// the outline.
 pub fn noting()
     ensures note { (st : Stack) (offset points byte : ℕ) (w : Notes)
-        → note_byte st.1 offset points byte w ≡ note_step (step_of st.1) offset points byte w }
-    ensures calm { (st : Stack) → IsCalmStep (step_of st.1) → IsCalm st.1 }
+        → note_byte st.1 offset points byte w ≡ note_stage (stage_of st.1) offset points byte w }
+    ensures calm { (st : Stack) → IsCalmStage (stage_of st.1) → IsCalm st.1 }
     ensures count { (st : Stack) → frame_count st ≡ open_count (outline_of st) }
 {}

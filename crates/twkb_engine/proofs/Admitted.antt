@@ -14,13 +14,13 @@ use Rattle.twkb_body.proofs.Outlined.{outlined_depth}
 use Rattle.twkb_body.specs.Head.{IsHeadAt}
 use Rattle.twkb_body.specs.declared.head.Head as place
 use Rattle.twkb_engine.specs.State.{outline_in, sums_of, IsPlaced, IsNext}
-use Rattle.twkb_engine.specs.Collections.{groups_of}
+use Rattle.twkb_engine.specs.Collections.{frames_of}
 use Rattle.twkb_engine.specs.Fits.{depth_cap}
 use Rattle.twkb_engine.specs.Taking.{IsFree, brings}
 use Rattle.twkb_engine.specs.Standing.{IsAlive}
 use Rattle.twkb_engine.specs.declared.next_item.NextItem.{NextItem}
 use Rattle.twkb_engine.specs.declared.engine.Engine.{Engine}
-use Rattle.twkb_engine.proofs.Collections.{groups_length}
+use Rattle.twkb_engine.proofs.Collections.{frames_length}
 
 -- the rows take what the next item brings
 pub admitted : (rs : List Row) (d : Engine) (r : Role) (n : ℕ) (bytes : List ℕ) → IsAlive rs d
@@ -33,11 +33,11 @@ head_prop depth id h = Prim.hlevel (ℤ_set, props)
 
 -- its header is that of the geometry in the open collections
 pub alive_placed : (rs : List Row) (d : Engine) (item : NextItem) → d.next ≡ item
-    → (let gs = groups_of d.collections in (IsPlaced item d
+    → (let gs = frames_of d.collections in (IsPlaced item d
     → IsHeadAt (length gs) (id_in gs) d.head) → IsAlive rs d
     → IsHeadAt (length gs) (id_in gs) d.head)
 alive_placed rs d item is by alive =
-    let gs = groups_of d.collections in
+    let gs = frames_of d.collections in
     ∥∥₁_elim alive (head_prop (length gs) (id_in gs) d.head) (λ s. by (subst (λ n. IsPlaced n d) is s.1.placed))
 
 -- one collection more may be open
@@ -49,5 +49,5 @@ alive_room rs d alive =
       cap,
       outlined_depth d.limits s.1.front (sums_of d) (outline_in d) rs
           s.1.outlined,
-      groups_length [] d.collections,
+      frames_length [] d.collections,
     ))

@@ -16,7 +16,7 @@ use Rattle.twkb_grammar.specs.Noting.{Notes, note_header, note_metadata, shown}
 use Rattle.twkb_grammar.specs.PlainReader.{objection, unless}
 use Rattle.twkb_grammar.specs.Machine as machine
 use Rattle.twkb_grammar.specs.Machine.{Sums, kind_at, kind_number}
-use Rattle.twkb_body.specs.Outline.{Outline, Step, OnHeader, OnMetadata, begins}
+use Rattle.twkb_body.specs.Outline.{Outline, Stage, OnHeader, OnMetadata, begins}
 use Rattle.twkb_body.specs.Growing.{id_in}
 use Rattle.twkb_body.specs.Noting.{NotedOutline, notes_in}
 use Rattle.twkb_body.specs.JudgedParts.{IsJudged, PartIn}
@@ -24,12 +24,12 @@ use Rattle.twkb_body.proofs.Outlined.{noted_item}
 use Rattle.twkb_body.proofs.Judging.{outlined_judged}
 use Rattle.twkb_body.proofs.Pieces.{used_join}
 use Rattle.twkb_body.specs.Header.{HeaderInFront}
-use Rattle.twkb_body.specs.Parts.{PartsInFront, sized_head}
+use Rattle.twkb_body.specs.OptionalParts.{PartsInFront, sized_head}
 use Rattle.twkb_body.specs.declared.header.FrontHeader.{FrontHeader}
 use Rattle.twkb_body.proofs.PartsInFront.{read_ahead}
 use Rattle.twkb_body.specs.Head.{kind_of, IsHeadAt}
-use Rattle.twkb_engine.specs.State.{step_at, outline_in, sums_of, IsPlaced}
-use Rattle.twkb_engine.specs.Collections.{groups_of}
+use Rattle.twkb_engine.specs.State.{stage_at, outline_in, sums_of, IsPlaced}
+use Rattle.twkb_engine.specs.Collections.{frames_of}
 use Rattle.twkb_engine.specs.Standing.{StandsAt, LeadsOn, held_in, notes_at}
 use Rattle.twkb_engine.specs.Notes.{NotesGo}
 use Rattle.twkb_engine.specs.declared.next_item.NextItem.{NextItem}
@@ -69,17 +69,17 @@ second : (rest : List ℕ) → get_or (drop 1 rest) 0 0 ≡ get_or rest 1 0
 second [] = refl
 second (b ∷ rest) = refl
 
--- what a step says of a header
-abbrev pub step_kind : Step → machine.Kind
-step_kind (OnMetadata k p) = k
-step_kind _ = machine.CollectionKind
+-- what a stage says of a header
+abbrev pub stage_kind : Stage → machine.Kind
+stage_kind (OnMetadata k p) = k
+stage_kind _ = machine.CollectionKind
 
-abbrev pub step_precision : Step → ℤ
-step_precision (OnMetadata k p) = p
-step_precision _ = pos 0
+abbrev pub stage_precision : Stage → ℤ
+stage_precision (OnMetadata k p) = p
+stage_precision _ = pos 0
 
 -- its header is that of the geometry in the open collections, whatever comes next
-pub any_placed : (n : NextItem) (e : Engine) → (let gs = groups_of e.collections in
+pub any_placed : (n : NextItem) (e : Engine) → (let gs = frames_of e.collections in
     IsHeadAt (length gs) (id_in gs) e.head) → IsPlaced n e
 any_placed next.TypeByte e p = tt
 any_placed next.MetadataByte e p = tt
@@ -105,10 +105,10 @@ module _ (d : Engine) (rs : List Row) (rest : List ℕ) (h : FrontHeader)
 
   -- after its type byte
   after_type : NotedOutline d.limits (s.front ++ h.type_byte ∷ []) sums_there
-      (groups_of d.collections, OnMetadata kind_here precision_here) rs told_type
+      (frames_of d.collections, OnMetadata kind_here precision_here) rs told_type
   after_type =
-      noted_item d.limits s.front (sums_of d) (groups_of d.collections, OnHeader) rs _ type_item
-      (subst (λ n. NotedOutline d.limits s.front (sums_of d) (groups_of d.collections, step_at n d)
+      noted_item d.limits s.front (sums_of d) (frames_of d.collections, OnHeader) rs _ type_item
+      (subst (λ n. NotedOutline d.limits s.front (sums_of d) (frames_of d.collections, stage_at n d)
       rs (λ start. notes_in start s.outlined)) is (noted_at s))
       refl (subst (λ x. x < 256) (sym found.type_byte) low, refl)
       (type_free (h.type_byte % 16) found.some_type found.known_type)
@@ -127,7 +127,7 @@ module _ (d : Engine) (rs : List Row) (rest : List ℕ) (h : FrontHeader)
     within = (let two = found.two in omega (arith, two));
     part = subst (IsJudged d.limits) type_front (outlined_judged d.limits
         (s.front ++ h.type_byte ∷ []) _ (
-          groups_of d.collections,
+          frames_of d.collections,
           OnMetadata kind_here precision_here,
         ) rs after_type.outlined tt);
   }
@@ -178,7 +178,7 @@ module _ (d : Engine) (rs : List Row) (rest : List ℕ) (h : FrontHeader)
           points = d.points + points;
         }
         → outline_in e ≡ (
-          groups_of d.collections,
+          frames_of d.collections,
           begins kind_here
               (sized_head precision_here h.metadata h.parts.size (d.bytes + h.from)),
         )
@@ -187,7 +187,7 @@ module _ (d : Engine) (rs : List Row) (rest : List ℕ) (h : FrontHeader)
         → (t : StandsAt (front ++ take h.used rest) rs e) × (holds old (notes_at s) → holds new (notes_at t))
     header_leads holds old mid new e limits none start placed sums step first next_told =
         let read = read_ahead d.limits (s.front ++ h.type_byte ∷ []) sums_there
-        (groups_of d.collections) kind_here precision_here rs told_type left h.parts.size
+        (frames_of d.collections) kind_here precision_here rs told_type left h.parts.size
         h.parts.from h.parts.used (d.points + points)
         (let two = found.two in omega (arith, length-drop 1 rest, two)) said.0 said.1 said.2 said.3 said.4 after_type in
         let used : d.bytes + h.used ≡ sums_there.bytes + (1 + h.parts.used) = (let u = found.used in
@@ -195,7 +195,7 @@ module _ (d : Engine) (rs : List Row) (rest : List ℕ) (h : FrontHeader)
         let from : d.bytes + h.from ≡ (sums_there.bytes + 1) + h.parts.from = (let f = found.from in
         omega (arith, f)) in
         let o : ℕ → ℕ → Outline = λ x k.
-        (groups_of d.collections, begins kind_here (sized_head precision_here x h.parts.size k))
+        (frames_of d.collections, begins kind_here (sized_head precision_here x h.parts.size k))
         in
         let t = stands_whole (front ++ take h.used rest) rs e read limits
         (sums ∙ sums_as used refl (add_zero d.nodes) refl)

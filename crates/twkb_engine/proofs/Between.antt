@@ -9,12 +9,12 @@ use Rattle.twkb_grammar.specs.Fault.{FirstFault, Truncated}
 use Rattle.twkb_body.proofs.Outlined.{outlined_bytes, outlined_cut, outlined_depth, outlined_missing}
 use Rattle.twkb_body.specs.Reading.{open_count}
 use Rattle.twkb_engine.specs.Fits.{IsByte}
-use Rattle.twkb_engine.specs.Collections.{groups_of}
+use Rattle.twkb_engine.specs.Collections.{frames_of}
 use Rattle.twkb_engine.specs.Notes.{open_in}
 use Rattle.twkb_engine.specs.declared.next_item.NextItem.{NextItem}
 use Rattle.twkb_engine.specs.declared.next_item.NextItem.TheVariants as next
-use Rattle.twkb_engine.proofs.Collections.{groups_length}
-use Rattle.twkb_engine.specs.State.{sums_of, outline_in, step_at, allowance_of}
+use Rattle.twkb_engine.proofs.Collections.{frames_length}
+use Rattle.twkb_engine.specs.State.{sums_of, outline_in, stage_at, allowance_of}
 use Rattle.twkb_engine.specs.Standing.{StandsAt, IsEnd, held_in, offset_in}
 use Rattle.twkb_engine.specs.declared.engine.Engine.{Engine}
 use Rattle.twkb_engine.proofs.Steps.{next_role, next_number, next_no_end, all_whole}
@@ -82,18 +82,18 @@ cut_end bs rs d s begun n many some =
 pub few_open : (bs : List ℕ) (rs : List Row) (d : Engine) (s : StandsAt bs rs d) → length d.collections ≤ d.limits.nest
 few_open bs rs d s = omega (
   arith,
-  groups_length [] d.collections,
+  frames_length [] d.collections,
   outlined_depth d.limits s.front
       (sums_of d) (outline_in d) rs s.outlined,
 )
 
 open_outside : (i : NextItem) (d : Engine) → i ≡ next.TypeByte
-    → open_count (groups_of d.collections, step_at i d) ≡ length d.collections
-open_outside i d e = ap (λ j. open_count (groups_of d.collections, step_at j d)) e
-    ∙ omega (arith, groups_length [] d.collections)
+    → open_count (frames_of d.collections, stage_at i d) ≡ length d.collections
+open_outside i d e = ap (λ j. open_count (frames_of d.collections, stage_at j d)) e
+    ∙ omega (arith, frames_length [] d.collections)
 
 open_inside : (i : NextItem) (d : Engine) → (i ≡ next.TypeByte → ⊥)
-    → open_count (groups_of d.collections, step_at i d) ≡ suc (length (groups_of d.collections))
+    → open_count (frames_of d.collections, stage_at i d) ≡ suc (length (frames_of d.collections))
 open_inside next.TypeByte d n = absurd (n refl)
 open_inside _ d n = refl
 
@@ -101,4 +101,4 @@ pub open_at_type : (d : Engine) → d.next ≡ next.TypeByte → length d.collec
 open_at_type d e = sym (open_outside d.next d e)
 
 pub open_past_type : (d : Engine) → (d.next ≡ next.TypeByte → ⊥) → length d.collections + 1 ≡ open_in d
-open_past_type d n = omega (arith, groups_length [] d.collections, open_inside d.next d n)
+open_past_type d n = omega (arith, frames_length [] d.collections, open_inside d.next d n)

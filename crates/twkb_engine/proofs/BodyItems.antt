@@ -10,11 +10,11 @@ use Rattle.twkb_tree.specs.declared.kind.Kind.TheVariants as kinds
 use Rattle.twkb_grammar.specs.Roles as role
 use Rattle.twkb_grammar.specs.Fault.{moved}
 use Rattle.twkb_grammar.specs.Machine as machine
-use Rattle.twkb_body.specs.Outline.{Group, OnBody, Wanted, shut, outline_ends}
+use Rattle.twkb_body.specs.Outline.{FrameOutline, OnBody, Wanted, shut, outline_ends}
 use Rattle.twkb_body.specs.Growing.{NewPoint, point_change}
 use Rattle.twkb_body.specs.Head.{head_of, form_of}
 use Rattle.twkb_body.specs.Ids.{ids_of}
-use Rattle.twkb_engine.specs.Collections.{groups_of}
+use Rattle.twkb_engine.specs.Collections.{frames_of}
 use Rattle.twkb_engine.specs.State.{ids_in, body_at}
 use Rattle.twkb_engine.specs.Fits.{lists_of, left_fit, lists_fit, has_lines, has_members}
 use Rattle.twkb_engine.specs.Taking.{IsFree, shut_at, last_lists, point_row}
@@ -36,7 +36,7 @@ line_point kinds.Linestring p depth id precision member has = refl
 line_point k p depth id precision member has = cc
 
 -- and the next one comes
-line_goes_on : (k : Kind) (h : machine.Head) (ids : Ids) (gs : List Group) (bytes p r m : ℕ)
+line_goes_on : (k : Kind) (h : machine.Head) (ids : Ids) (gs : List FrameOutline) (bytes p r m : ℕ)
     → has_lines k ≡ true → (let there = if has_members k then ids else None in
     outline_ends bytes (gs, shut h (form_of k) there 0 (lists_of k (suc p) r m))
     ≡ Ok (gs, OnBody h (form_of k) there (Wanted 0 (lists_of k p r m))))
@@ -61,7 +61,7 @@ module _ {rs : List Row} {d : Engine} {n width : ℕ} {p : Point} (at : ComesNex
   -- another to the next one, and it comes to the last row
   pub y_more : 0 < d.points_left → Leads rs d role.Y n width
       (Ok (
-        groups_of d.collections,
+        frames_of d.collections,
         body_at d (Wanted 0
             (lists_of d.head.kind (d.points_left - 1) d.rings_left d.members_left)),
       )) (NewPoint p)
@@ -72,6 +72,6 @@ module _ {rs : List Row} {d : Engine} {n width : ℕ} {p : Point} (at : ComesNex
       let has = lines_left d.head.kind d.points_left d.rings_left d.members_left some fits in
       leads_as y_leads (ap (λ k. past_with width d (shut_at d 0 (lists_of d.head.kind k d.rings_left
       d.members_left))) one
-      ∙ line_goes_on d.head.kind (head_of d.head) (ids_of d.ids) (groups_of d.collections) _ _
+      ∙ line_goes_on d.head.kind (head_of d.head) (ids_of d.ids) (frames_of d.collections) _ _
       d.rings_left d.members_left has)
       (line_point d.head.kind p d.head.depth d.head.id d.head.precision (first_id (ids_in d)) has)

@@ -13,7 +13,7 @@ use Rattle.twkb_body.specs.Outline.{Outline, Wanted, listing}
 use Rattle.twkb_body.specs.Growing.{NewRow, list_row}
 use Rattle.twkb_body.specs.Head.{head_of, form_of}
 use Rattle.twkb_body.specs.Ids.{ids_of}
-use Rattle.twkb_engine.specs.Collections.{groups_of}
+use Rattle.twkb_engine.specs.Collections.{frames_of}
 use Rattle.twkb_engine.specs.State.{ids_in, body_at}
 use Rattle.twkb_engine.specs.Fits.{lists_of, line_lists_of, area_lists_of, left_fit, lists_fit, item_fits, has_lines}
 use Rattle.twkb_engine.specs.Fits.{has_areas, has_members}
@@ -91,7 +91,7 @@ module _ {i : NextItem} {rs : List Row} {d : Engine} {n width : ℕ} {member : O
   -- with others it begins
   abbrev Begins : ℕ → List ℕ → Type 0
   Begins inner lists = 0 < n → Leads rs d (role.Count (listed inner)) n width
-      (Ok (groups_of d.collections, body_at d (Wanted inner lists))) (NewRow row)
+      (Ok (frames_of d.collections, body_at d (Wanted inner lists))) (NewRow row)
 
   begins : (inner : ℕ) (lists here : List ℕ) → Counts inner lists → here ≡ (n - 1) ∷ lists
       → Begins inner here

@@ -6,17 +6,17 @@ use Rattle.std.proofs.lemmas.Result.{err_from_is_err_and}
 use Rattle.twkb_tree.specs.Tree.{Ids}
 use Rattle.twkb_tree.specs.Rows.{Row}
 use Rattle.twkb_grammar.specs.Machine as machine
-use Rattle.twkb_grammar.specs.Machine.{Form}
+use Rattle.twkb_grammar.specs.Machine.{BodyForm}
 use Rattle.twkb_grammar.specs.Fault.{Reason}
 use Rattle.twkb_grammar.specs.PlainReader.{is_exact}
 use Rattle.twkb_grammar.specs.Noting.{Notes, note_end, note_ends}
-use Rattle.twkb_body.specs.Outline.{Group, Outline, outline_past_end, outline_ends, shut}
+use Rattle.twkb_body.specs.Outline.{FrameOutline, Outline, outline_past_end, outline_ends, shut}
 use Rattle.twkb_body.specs.Growing.{Change, Nothing, applied, own_of}
 use Rattle.twkb_body.specs.JudgedParts.{IsPastEnds, Passes}
 use Rattle.twkb_body.specs.Head.{kind_of, head_of, form_of}
 use Rattle.twkb_body.specs.Reading.{open_count}
-use Rattle.twkb_engine.specs.Collections.{groups_of}
-use Rattle.twkb_engine.specs.State.{step_at, ids_in}
+use Rattle.twkb_engine.specs.Collections.{frames_of}
+use Rattle.twkb_engine.specs.State.{stage_at, ids_in}
 use Rattle.twkb_engine.specs.Fits.{IsInside}
 use Rattle.twkb_engine.specs.Taking.{Lands, own_row, past_end, past_value}
 use Rattle.twkb_engine.specs.declared.stop.Stop.{Stop}
@@ -26,21 +26,21 @@ use Rattle.twkb_engine.specs.declared.next_item.NextItem.{NextItem}
 use Rattle.twkb_engine.specs.declared.next_item.NextItem.TheVariants as next
 use Rattle.twkb_engine.specs.declared.engine.Engine.{Engine}
 use Rattle.twkb_engine.specs.declared.open_collections.OpenCollection.{OpenCollection}
-use Rattle.twkb_engine.proofs.Collections.{groups_length}
+use Rattle.twkb_engine.proofs.Collections.{frames_length}
 use Rattle.twkb_engine.proofs.Parts.{header_inside, header_shut}
 
 -- a geometry that is begun is open besides the collections
-inside_open : (n : NextItem) (d : Engine) (gs : List Group) → IsInside n
-    → open_count (gs, step_at n d) ≡ suc (length gs)
+inside_open : (n : NextItem) (d : Engine) (gs : List FrameOutline) → IsInside n
+    → open_count (gs, stage_at n d) ≡ suc (length gs)
 inside_open next.TypeByte d gs inside = absurd inside
 inside_open n d gs inside = refl
 
 -- how many geometries are open inside one
 pub many_open : (d : Engine) → IsInside d.next → open_in d ≡ suc (length d.collections)
 many_open d inside =
-    let opened : open_in d ≡ suc (length (groups_of d.collections)) = inside_open d.next d
-    (groups_of d.collections) inside in
-    omega (arith, opened, groups_length [] d.collections)
+    let opened : open_in d ≡ suc (length (frames_of d.collections)) = inside_open d.next d
+    (frames_of d.collections) inside in
+    omega (arith, opened, frames_length [] d.collections)
 
 -- all end
 pub all_ended : (d : Engine) (w : Notes) (gs : List OpenCollection) → IsInside d.next → AreOpen d w
@@ -50,8 +50,8 @@ all_ended d w gs inside are none = rw none (omega (arith, are, many_open d insid
 -- some end
 pub some_ended : (d : Engine) (w : Notes) (gs left : List OpenCollection) → IsInside d.next
     → AreOpen d w → length gs ≤ length d.collections → length left ≡ length gs
-    → length w.begun - length (groups_of left) ≡ suc (length d.collections - length gs)
-some_ended d w gs left inside are few same = omega (arith, are, many_open d inside, few, same, groups_length [] left)
+    → length w.begun - length (frames_of left) ≡ suc (length d.collections - length gs)
+some_ended d w gs left inside are few same = omega (arith, are, many_open d inside, few, same, frames_length [] left)
 
 -- one more end after as many bytes
 pub end_noted : {S : Type 0} (holds : S → Notes → Type 0) (new : S) (w : Notes)
@@ -66,7 +66,7 @@ end_noted holds new w k many offset points o p eo ep em held =
 -- ---- what comes with an end
 
 -- past the ends an item comes next, or none
-pub past_ends : (exact : Bool) (bytes : ℕ) (gs : List Group)
+pub past_ends : (exact : Bool) (bytes : ℕ) (gs : List FrameOutline)
     → IfOk (outline_past_end exact bytes gs) (λ o. IsPastEnds o.1)
 past_ends false bytes gs = tt
 past_ends true bytes [] = tt
@@ -120,7 +120,7 @@ module _ (way : Result Outline Reason) (d e : Engine) (rs : List Row) where
       (sym (p.1 ∙ ap (λ (s : Stop). let q : Result Bool Stop = Err s in q) (same p.0 p.2))) none
 
 -- past a value that is done, too
-pub past_shut : (h : machine.Head) (f : Form) (ids : Ids) (n bytes : ℕ) (gs : List Group)
+pub past_shut : (h : machine.Head) (f : BodyForm) (ids : Ids) (n bytes : ℕ) (gs : List FrameOutline)
     (lists : List ℕ) → IfOk (outline_ends bytes (gs, shut h f ids n lists)) (λ o. IsPastEnds o.1)
 past_shut h f ids n bytes gs [] = past_ends (is_exact h.size (bytes - h.from)) bytes gs
 past_shut h f ids n bytes gs (zero ∷ lists) = past_shut h f ids (suc n) bytes gs lists
@@ -129,7 +129,7 @@ past_shut h f ids n bytes gs (suc left ∷ lists) = tt
 -- past the lists of an engine
 pub past_lists : (d : Engine) (lists : List ℕ) → IfOk (past_value d 0 lists) (λ o. IsPastEnds o.1)
 past_lists d lists = past_shut (head_of d.head) (form_of d.head.kind) (ids_in d) 0 d.bytes
-    (groups_of d.collections) lists
+    (frames_of d.collections) lists
 
 -- nothing ends
 pub none_ended : {S : Type 0} (holds : S → Notes → Type 0) (s : S) (d e : Engine) (w : Notes)

@@ -12,12 +12,12 @@ use Rattle.twkb_grammar.specs.Fault.{Reason, moved}
 use Rattle.twkb_grammar.specs.Machine.{Sums}
 use Rattle.twkb_grammar.specs.Reading.{Gives}
 use Rattle.twkb_grammar.proofs.RoleBytes.{number_gives}
-use Rattle.twkb_body.specs.Outline.{Outline, Step, step_role, outline_ends, outline_advanced}
-use Rattle.twkb_body.specs.Growing.{Change, id_in, applied, step_change}
+use Rattle.twkb_body.specs.Outline.{Outline, Stage, stage_role, outline_ends, outline_advanced}
+use Rattle.twkb_body.specs.Growing.{Change, id_in, applied, stage_change}
 use Rattle.twkb_body.specs.Admitting.{Admits}
 use Rattle.twkb_body.specs.JudgedParts.{Passes}
-use Rattle.twkb_engine.specs.Collections.{groups_of}
-use Rattle.twkb_engine.specs.State.{IsHere, IsPlaced, step_at, outline_in, sums_of}
+use Rattle.twkb_engine.specs.Collections.{frames_of}
+use Rattle.twkb_engine.specs.State.{IsHere, IsPlaced, stage_at, outline_in, sums_of}
 use Rattle.twkb_engine.specs.Standing.{IsAlive}
 use Rattle.twkb_engine.specs.Taking.{Takes, Lands, IsFree, SameBlob, BeginsAt, way_of, brings, sums_with}
 use Rattle.twkb_engine.specs.declared.next_item.NextItem.{NextItem}
@@ -26,15 +26,15 @@ use Rattle.twkb_engine.specs.declared.stop.Stop.TheVariants.{Memory, Refused}
 use Rattle.twkb_engine.specs.declared.engine.Engine.{Engine}
 use Rattle.twkb_engine.proofs.Admitted.{admitted, alive_placed}
 
--- past a step after an item of this width
-abbrev pub past_with : (width : ℕ) → Engine → Step → Result Outline Reason
-past_with width d s = outline_ends (d.bytes + width) (groups_of d.collections, s)
+-- past a stage after an item of this width
+abbrev pub past_with : (width : ℕ) → Engine → Stage → Result Outline Reason
+past_with width d s = outline_ends (d.bytes + width) (frames_of d.collections, s)
 
--- past the step to which a number leads
-abbrev pub way_at : (n width : ℕ) → Engine → Step → Result Outline Reason
+-- past the stage to which a number leads
+abbrev pub way_at : (n width : ℕ) → Engine → Stage → Result Outline Reason
 way_at n width d s =
     outline_ends (d.bytes + width) (outline_advanced (d.bytes + width) n
-    (groups_of d.collections, s))
+    (frames_of d.collections, s))
 
 -- The next item has this role and this number, with no reason against it. It leads that way, with
 -- this change, and the rows take the change.
@@ -46,34 +46,34 @@ pub record Leads (rs : List Row) (d : Engine) (r : Role) (n width : ℕ) (way : 
   pub admits : Admits change rs
 
 module _ {rs : List Row} {d : Engine} {i : NextItem} (alive : IsAlive rs d) (is : d.next ≡ i)
-    (r : Role) (n width : ℕ) (says : step_role (length (groups_of d.collections)) d.bytes
-    (step_at i d) ≡ Some r) where
+    (r : Role) (n width : ℕ) (says : stage_role (length (frames_of d.collections)) d.bytes
+    (stage_at i d) ≡ Some r) where
   -- in a geometry with this depth and this id
   abbrev brings_in : ℕ → Option ℤ → Change
-  brings_in depth id = step_change (moved d.position r n) n depth id (step_at i d)
+  brings_in depth id = stage_change (moved d.position r n) n depth id (stage_at i d)
 
   abbrev LeadsIn : ℕ → Option ℤ → Type 0
-  LeadsIn depth id = Leads rs d r n width (way_at n width d (step_at i d)) (brings_in depth id)
+  LeadsIn depth id = Leads rs d r n width (way_at n width d (stage_at i d)) (brings_in depth id)
 
-  module _ {depth : ℕ} {id : Option ℤ} (deep : length (groups_of d.collections) ≡ depth)
-      (named : id_in (groups_of d.collections) ≡ id) where
+  module _ {depth : ℕ} {id : Option ℤ} (deep : length (frames_of d.collections) ≡ depth)
+      (named : id_in (frames_of d.collections) ≡ id) where
     brought : brings r n d ≡ brings_in depth id
-    brought = λ t. step_change (moved d.position r n) n (deep t) (named t) (step_at (is t) d)
+    brought = λ t. stage_change (moved d.position r n) n (deep t) (named t) (stage_at (is t) d)
 
     pub given_leads : IsFree r n d → Admits (brings_in depth id) rs → LeadsIn depth id
     given_leads free admits =
         record {
           free = free;
-          way_is = ap (λ j. way_at n width d (step_at j d)) is;
+          way_is = ap (λ j. way_at n width d (stage_at j d)) is;
           brings_is = brought;
           admits = admits;
         }
 
     pub item_leads : (bytes : List ℕ) → Gives r n bytes → IsFree r n d → LeadsIn depth id
     item_leads bytes gives free =
-        let level = length (groups_of d.collections) in
-        let next : step_role level d.bytes (step_at d.next d) ≡ Some r =
-        ap (λ j. step_role level d.bytes (step_at j d)) is ∙ says in
+        let level = length (frames_of d.collections) in
+        let next : stage_role level d.bytes (stage_at d.next d) ≡ Some r =
+        ap (λ j. stage_role level d.bytes (stage_at j d)) is ∙ says in
         given_leads free (subst (λ c. Admits c rs) brought (admitted rs d r n bytes alive next gives
         free))
 

@@ -9,12 +9,12 @@ use Rattle.twkb_tree.specs.declared.kind.Kind.{Kind}
 use Rattle.twkb_tree.specs.declared.kind.Kind.TheVariants as kinds
 use Rattle.twkb_grammar.specs.Machine as machine
 use Rattle.twkb_grammar.specs.Fault.{Reason}
-use Rattle.twkb_body.specs.Outline.{Outline, Group, shut, outline_ends}
+use Rattle.twkb_body.specs.Outline.{Outline, FrameOutline, shut, outline_ends}
 use Rattle.twkb_body.specs.Growing.{point_change}
 use Rattle.twkb_body.specs.Head.{head_of, form_of}
 use Rattle.twkb_body.specs.Ids.{ids_of}
-use Rattle.twkb_engine.specs.Collections.{groups_of}
-use Rattle.twkb_engine.specs.State.{step_at, outline_in, IsHere, IsPlaced}
+use Rattle.twkb_engine.specs.Collections.{frames_of}
+use Rattle.twkb_engine.specs.State.{stage_at, outline_in, IsHere, IsPlaced}
 use Rattle.twkb_engine.specs.Fits.{lists_of, left_fit, has_members, is_bodied, first_item, item_fits, lists_fit}
 use Rattle.twkb_engine.specs.Fits.{has_lines, has_areas, IsInside, IsBodyItem}
 use Rattle.twkb_engine.specs.Taking.{past_last, point_row}
@@ -73,15 +73,15 @@ body_inside i body = tt
 -- ---- after a list
 
 -- past the last list of a member, the next member begins
-begun_member : (k : Kind) (e : Engine) (h : machine.Head) (ids : Ids) (gs : List Group) (bytes : ℕ)
-    → has_members k ≡ true → is_bodied k ≡ true → e.head.kind ≡ k → groups_of e.collections ≡ gs
+begun_member : (k : Kind) (e : Engine) (h : machine.Head) (ids : Ids) (gs : List FrameOutline) (bytes : ℕ)
+    → has_members k ≡ true → is_bodied k ≡ true → e.head.kind ≡ k → frames_of e.collections ≡ gs
     → head_of e.head ≡ h
     → ids_of e.ids ≡ other_ids ids
     → outline_ends bytes (
       gs,
       shut h (form_of k) (if has_members k then ids else None) 0
           (lists_of k 0 0 (suc e.members_left)),
-    ) ≡ Ok (groups_of e.collections, step_at (first_item k) e)
+    ) ≡ Ok (frames_of e.collections, stage_at (first_item k) e)
 begun_member kinds.MultiPoint e h ids gs bytes has body ek eg eh ei = rw (ek, eg, eh, ei) refl
 begun_member kinds.MultiLinestring e h ids gs bytes has body ek eg eh ei = rw (ek, eg, eh, ei) refl
 begun_member kinds.MultiPolygon e h ids gs bytes has body ek eg eh ei = rw (ek, eg, eh, ei) refl
@@ -94,10 +94,10 @@ pub next_member : (d e : Engine) → d.rings_left ≡ 0 → has_members d.head.k
 next_member d e er has body some em eh eg ei en =
     let one : d.members_left ≡ suc e.members_left = omega (arith, some, em) in
     rw (er, one)
-    (begun_member d.head.kind e (head_of d.head) (ids_of d.ids) (groups_of d.collections) d.bytes
-    has body (ap (λ (h : Head). h.kind) eh) (ap (λ (c : List OpenCollection). groups_of c) eg)
+    (begun_member d.head.kind e (head_of d.head) (ids_of d.ids) (frames_of d.collections) d.bytes
+    has body (ap (λ (h : Head). h.kind) eh) (ap (λ (c : List OpenCollection). frames_of c) eg)
     (ap head_of eh) ei
-    ∙ ap (λ (n : NextItem). let o : Result Outline Reason = Ok (groups_of e.collections, step_at n e) in o) (sym en))
+    ∙ ap (λ (n : NextItem). let o : Result Outline Reason = Ok (frames_of e.collections, stage_at n e) in o) (sym en))
 
 -- what fits before it fits then
 pub next_fits : (k : Kind) (n : NextItem) → n ≡ first_item k → is_bodied k ≡ true → item_fits n k ≡ true

@@ -9,18 +9,18 @@ use Rattle.twkb_tree.specs.declared.kind.Kind.TheVariants as kinds
 use Rattle.twkb_tree.specs.Tree.{Ids}
 use Rattle.twkb_tree.specs.Rows.{Row}
 use Rattle.twkb_grammar.specs.Machine.{MultiPointForm}
-use Rattle.twkb_body.specs.Outline.{Step, OnId, OnBody, Wanted, next_ids}
+use Rattle.twkb_body.specs.Outline.{Stage, OnId, OnBody, Wanted, next_ids}
 use Rattle.twkb_body.specs.Growing.{id_in}
 use Rattle.twkb_body.specs.Noting.{NotedOutline, notes_in}
 use Rattle.twkb_body.specs.JudgedParts.{PartIn}
 use Rattle.twkb_body.specs.Head.{head_of, form_of, many_of, IsHeadAt}
 use Rattle.twkb_body.specs.Ids.{ids_of, ids_read}
 use Rattle.twkb_body.specs.declared.member_ids.MemberIds.{MemberIds}
-use Rattle.twkb_body.specs.Running.{HasLists, WantedIn, StepRuns, StepStops, ListRuns, ListStops, in_list, IdsTaken}
+use Rattle.twkb_body.specs.Running.{HasLists, WantedIn, StageRuns, StageStops, ListRuns, ListStops, in_list, IdsTaken}
 use Rattle.twkb_body.specs.Running.{IdsStop}
-use Rattle.twkb_engine.specs.Collections.{groups_of}
+use Rattle.twkb_engine.specs.Collections.{frames_of}
 use Rattle.twkb_engine.specs.Fits.{lists_of, line_lists_of, has_members, left_fit, lists_fit}
-use Rattle.twkb_engine.specs.State.{IsPlaced, sums_of, step_at, ids_in}
+use Rattle.twkb_engine.specs.State.{IsPlaced, sums_of, stage_at, ids_in}
 use Rattle.twkb_engine.specs.Taking.{Stays}
 use Rattle.twkb_engine.specs.Standing.{StandsAt, TakesMany, notes_at, held_in}
 use Rattle.twkb_engine.specs.declared.next_item.NextItem.{NextItem}
@@ -40,52 +40,52 @@ none_taken {rs = rs} {d = d} = record {
 }
 
 pub place_at : (d e : Engine) → e.collections ≡ d.collections → e.head ≡ d.head
-    → IsHeadAt (length (groups_of d.collections)) (id_in (groups_of d.collections)) d.head
-    → IsHeadAt (length (groups_of e.collections)) (id_in (groups_of e.collections)) e.head
-place_at d e cs h p = subst (λ c. IsHeadAt (length (groups_of c)) (id_in (groups_of c)) e.head)
-    (sym cs) (subst (IsHeadAt (length (groups_of d.collections)) (id_in (groups_of d.collections)))
+    → IsHeadAt (length (frames_of d.collections)) (id_in (frames_of d.collections)) d.head
+    → IsHeadAt (length (frames_of e.collections)) (id_in (frames_of e.collections)) e.head
+place_at d e cs h p = subst (λ c. IsHeadAt (length (frames_of c)) (id_in (frames_of c)) e.head)
+    (sym cs) (subst (IsHeadAt (length (frames_of d.collections)) (id_in (frames_of d.collections)))
     (sym h) p)
 
--- ---- many of one step
+-- ---- many of one stage
 
 abbrev Headed : Engine → Type 0
-Headed d = IsHeadAt (length (groups_of d.collections)) (id_in (groups_of d.collections)) d.head
+Headed d = IsHeadAt (length (frames_of d.collections)) (id_in (frames_of d.collections)) d.head
 
--- an engine at this item, whose step that is, and which has a header in the open collections
-module _ (rs : List Row) (d : Engine) (i : NextItem) (step : Fields → Step) (s : Step) (is : d.next ≡ i)
-    (at : (e : Engine) → step_at i e ≡ step (fields_of e)) (here : step (fields_of d) ≡ s) (none : held_in d ≡ [])
+-- an engine at this item, whose stage that is, and which has a header in the open collections
+module _ (rs : List Row) (d : Engine) (i : NextItem) (step : Fields → Stage) (s : Stage) (is : d.next ≡ i)
+    (at : (e : Engine) → stage_at i e ≡ step (fields_of e)) (here : step (fields_of d) ≡ s) (none : held_in d ≡ [])
     (placed : (e : Engine) → (IsPlaced i e → Headed e) × (Headed e → IsPlaced i e)) where
   headed : (front : List ℕ) → StandsAt front rs d → Headed d
   headed front t = (placed d).0 (subst (λ j. IsPlaced j d) is t.placed)
 
   wanted : (front : List ℕ) (t : StandsAt front rs d)
-      → WantedIn d.limits t.front (sums_of d) (groups_of d.collections)
+      → WantedIn d.limits t.front (sums_of d) (frames_of d.collections)
       (λ start. notes_in start t.outlined) d.head s rs
   wanted front t = record {
-    outlined = subst (λ p. NotedOutline d.limits t.front (sums_of d) (groups_of d.collections, p) rs
+    outlined = subst (λ p. NotedOutline d.limits t.front (sums_of d) (frames_of d.collections, p) rs
         (λ start. notes_in start t.outlined))
-        (ap (λ j. step_at j d) is ∙ (at d ∙ here)) (noted_at t);
+        (ap (λ j. stage_at j d) is ∙ (at d ∙ here)) (noted_at t);
     placed = headed front t;
   }
 
   -- there is no memory for one
-  step_stops : {E : Type 0} {why : E} {more : List Row} {e : Engine} {r : Result ℕ E} (rest : List ℕ)
-      → r ≡ Err why → Stays d e → StepStops d.head s rs d.position rest → TakesMany rs d rest r more e
-  step_stops {E} {why} {more} {e} rest failed stays stops =
+  stage_stops : {E : Type 0} {why : E} {more : List Row} {e : Engine} {r : Result ℕ E} (rest : List ℕ)
+      → r ≡ Err why → Stays d e → StageStops d.head s rs d.position rest → TakesMany rs d rest r more e
+  stage_stops {E} {why} {more} {e} rest failed stays stops =
       subst (λ x. TakesMany rs d rest x more e) (sym failed) (record {
         within = tt;
         led = tt;
         memory = λ front t. subst (λ l. PartIn d.limits l rest) (sym (all_whole front rs d none t))
-            (stops d.limits (sums_of d) t.front (groups_of d.collections) _ refl (wanted front t));
+            (stops d.limits (sums_of d) t.front (frames_of d.collections) _ refl (wanted front t));
         stays = stays;
       })
 
   -- they were taken
-  step_taken : {E : Type 0} {rest : List ℕ} (more : List Row) (e : Engine) (p : Step) (used : ℕ) (to : Point)
-      (ids : MemberIds) (members points : ℕ) → StepRuns d.head s rs d.position (take used rest) p more to
+  stage_taken : {E : Type 0} {rest : List ℕ} (more : List Row) (e : Engine) (p : Stage) (used : ℕ) (to : Point)
+      (ids : MemberIds) (members points : ℕ) → StageRuns d.head s rs d.position (take used rest) p more to
       → used ≤ length rest → fields_of e ≡ moved_to d used to ids members points
       → step (moved_to d used to ids members points) ≡ p → TakesMany {E = E} rs d rest (Ok used) more e
-  step_taken {E} {rest} more e p used to ids members points run within q there = record {
+  stage_taken {E} {rest} more e p used to ids members points run within q there = record {
     within = within;
     led = λ front t.
         let bytes = take used rest in
@@ -93,11 +93,11 @@ module _ (rs : List Row) (d : Engine) (i : NextItem) (step : Fields → Step) (s
         let n : (d.bytes + used) ≡ d.bytes + length bytes =
         ap (λ k. d.bytes + k) (sym (length-take-le used rest within)) in
         let u = stands_whole (front ++ bytes) more e (run d.limits (sums_of d) t.front
-        (groups_of d.collections) _ refl (wanted front t))
+        (frames_of d.collections) _ refl (wanted front t))
         (ap (λ (g : Fields). g.limits) q)
         (ap (λ (g : Fields). g.sums) q
         ∙ (λ j. record { bytes = n j; position = to; nodes = d.nodes; points = d.points }))
-        (λ j. (groups_of (q j).collections, (ap (λ k. step_at k e) next ∙ (at e ∙ (ap step q ∙ there))) j))
+        (λ j. (frames_of (q j).collections, (ap (λ k. stage_at k e) next ∙ (at e ∙ (ap step q ∙ there))) j))
         refl (subst (λ k. IsPlaced k e) (sym next) ((placed e).1
         (place_at d e (ap (λ (g : Fields). g.collections) q) (ap (λ (g : Fields). g.head) q)
         (headed front t))))
@@ -112,13 +112,13 @@ module _ (rs : List Row) (d : Engine) (i : NextItem) (step : Fields → Step) (s
   }
 
 -- a point comes next
-abbrev on_point : Fields → Step
+abbrev on_point : Fields → Stage
 on_point f = OnBody (head_of f.head) (form_of f.head.kind)
     (if has_members f.head.kind then ids_of f.ids else None)
     (Wanted 0 (lists_of f.head.kind f.points_left f.rings_left f.members_left))
 
 -- an id comes next
-abbrev on_id : Fields → Step
+abbrev on_id : Fields → Stage
 on_id f = OnId (many_of f.head.kind) (head_of f.head) (suc f.members_left) (ids_read f.ids)
     (f.members_left - length (ids_read f.ids))
 
@@ -144,7 +144,7 @@ module _ (rs : List Row) (d : Engine) (is : d.next ≡ next.X) (some : 0 < d.poi
       (subst (λ i. lists_fit i d.head.kind d.points_left d.rings_left d.members_left ≡ true) is
       d.lists_fit) some
 
-  abbrev point : ℕ → Step
+  abbrev point : ℕ → Stage
   point left = in_list d.head (form_of d.head.kind) (ids_in d) left
       (line_lists_of d.head.kind d.rings_left d.members_left)
 
@@ -155,7 +155,7 @@ module _ (rs : List Row) (d : Engine) (is : d.next ≡ next.X) (some : 0 < d.poi
   pub list_stops : {E : Type 0} {why : E} {more : List Row} {e : Engine} {rest : List ℕ} {r : Result ℕ E}
       → r ≡ Err why → Stays d e → ListStops rs d.position d.points_left rest → TakesMany rs d rest r more e
   list_stops {rest = rest} failed stays stops =
-      step_stops rs d next.X on_point (point d.points_left) is (λ e. refl) (listed d.points_left)
+      stage_stops rs d next.X on_point (point d.points_left) is (λ e. refl) (listed d.points_left)
       none (λ e. (λ p. p, λ p. p)) rest failed stays
       (stops d.head (form_of d.head.kind) (ids_in d) _ inside.form inside.same)
 
@@ -164,7 +164,7 @@ module _ (rs : List Row) (d : Engine) (is : d.next ≡ next.X) (some : 0 < d.poi
       → ListRuns rs d.position d.points_left (take used rest) left more to
       → TakesMany {E = E} rs d rest (Ok used) more e
   list_taken more e used left to q within run =
-      step_taken rs d next.X on_point (point d.points_left) is (λ e. refl) (listed d.points_left) none
+      stage_taken rs d next.X on_point (point d.points_left) is (λ e. refl) (listed d.points_left) none
       (λ e. (λ p. p, λ p. p)) more e (point left) used to d.ids d.members_left left
       (run d.head (form_of d.head.kind) (ids_in d) _ inside.form inside.same) within q (listed left)
 
@@ -172,10 +172,10 @@ module _ (rs : List Row) (d : Engine) (is : d.next ≡ next.X) (some : 0 < d.poi
 
 module _ (rs : List Row) (d : Engine) (is : d.next ≡ next.X) (kind : d.head.kind ≡ kinds.MultiPoint)
     (none : held_in d ≡ []) where
-  abbrev member : MemberIds → ℕ → Step
+  abbrev member : MemberIds → ℕ → Stage
   member ids left = OnBody (head_of d.head) MultiPointForm (ids_of ids) (Wanted 0 (left ∷ []))
 
-  -- the step there, by the kind
+  -- the stage there, by the kind
   of_kind : (ids : MemberIds) (left : ℕ) → OnBody (head_of d.head) (form_of d.head.kind)
       (if has_members d.head.kind then ids_of ids else None)
       (Wanted 0 (lists_of d.head.kind d.points_left d.rings_left left)) ≡ member ids left
@@ -184,18 +184,18 @@ module _ (rs : List Row) (d : Engine) (is : d.next ≡ next.X) (kind : d.head.ki
       (lists_of k d.points_left d.rings_left left))) kind
 
   pub members_stop : {E : Type 0} {why : E} {more : List Row} {e : Engine} {rest : List ℕ} {r : Result ℕ E}
-      → r ≡ Err why → Stays d e → StepStops d.head (member d.ids d.members_left) rs d.position rest
+      → r ≡ Err why → Stays d e → StageStops d.head (member d.ids d.members_left) rs d.position rest
       → TakesMany rs d rest r more e
   members_stop {rest = rest} failed stays stops =
-      step_stops rs d next.X on_point (member d.ids d.members_left) is (λ e. refl)
+      stage_stops rs d next.X on_point (member d.ids d.members_left) is (λ e. refl)
       (of_kind d.ids d.members_left) none (λ e. (λ p. p, λ p. p)) rest failed stays stops
 
   pub members_taken : {E : Type 0} {rest : List ℕ} (more : List Row) (e : Engine) (used left : ℕ) (to : Point)
       → fields_of e ≡ moved_to d used to e.ids left d.points_left → used ≤ length rest
-      → StepRuns d.head (member d.ids d.members_left) rs d.position (take used rest) (member e.ids left) more to
+      → StageRuns d.head (member d.ids d.members_left) rs d.position (take used rest) (member e.ids left) more to
       → TakesMany {E = E} rs d rest (Ok used) more e
   members_taken more e used left to q within run =
-      step_taken rs d next.X on_point (member d.ids d.members_left) is (λ e. refl)
+      stage_taken rs d next.X on_point (member d.ids d.members_left) is (λ e. refl)
       (of_kind d.ids d.members_left) none (λ e. (λ p. p, λ p. p))
       more e (member e.ids left) used to e.ids left d.points_left run within q (of_kind e.ids left)
 
@@ -203,16 +203,16 @@ module _ (rs : List Row) (d : Engine) (is : d.next ≡ next.X) (kind : d.head.ki
 
 module _ (rs : List Row) (d : Engine) (is : d.next ≡ next.Id) (none : held_in d ≡ []) (most : ℕ)
     (many : most ≡ d.members_left - length (ids_read d.ids)) where
-  abbrev id_step : List ℤ → ℕ → Step
-  id_step ids left = OnId (many_of d.head.kind) (head_of d.head) (suc d.members_left) ids left
+  abbrev id_stage : List ℤ → ℕ → Stage
+  id_stage ids left = OnId (many_of d.head.kind) (head_of d.head) (suc d.members_left) ids left
 
-  id_here : step_at next.Id d ≡ id_step (ids_read d.ids) most
-  id_here = ap (λ n. id_step (ids_read d.ids) n) (sym many)
+  id_here : stage_at next.Id d ≡ id_stage (ids_read d.ids) most
+  id_here = ap (λ n. id_stage (ids_read d.ids) n) (sym many)
 
   pub ids_stop : {E : Type 0} {why : E} {e : Engine} {rest : List ℕ} {r : Result ℕ E} → r ≡ Err why
       → Stays d e → IdsStop (ids_read d.ids) most rest → TakesMany rs d rest r rs e
   ids_stop {rest = rest} failed stays stops =
-      step_stops rs d next.Id on_id (id_step (ids_read d.ids) most) is (λ e. refl) id_here none
+      stage_stops rs d next.Id on_id (id_stage (ids_read d.ids) most) is (λ e. refl) id_here none
       (λ e. (λ p. p, λ p. p)) rest failed stays
       (stops d.head (many_of d.head.kind) (suc d.members_left) rs d.position)
 
@@ -221,7 +221,7 @@ module _ (rs : List Row) (d : Engine) (is : d.next ≡ next.Id) (none : held_in 
       → IdsTaken (ids_read d.ids) most rest used (ids_read e.ids) → TakesMany {E = E} rs d rest (Ok used) rs e
   ids_taken e used rest some within q taken =
       let left_is : d.members_left - length (ids_read e.ids) ≡ taken.0 = omega (arith, taken.1, many, some) in
-      step_taken rs d next.Id on_id (id_step (ids_read d.ids) most) is (λ e. refl) id_here none
-      (λ e. (λ p. p, λ p. p)) rs e (id_step (ids_read e.ids) taken.0) used d.position e.ids d.members_left
+      stage_taken rs d next.Id on_id (id_stage (ids_read d.ids) most) is (λ e. refl) id_here none
+      (λ e. (λ p. p, λ p. p)) rs e (id_stage (ids_read e.ids) taken.0) used d.position e.ids d.members_left
       d.points_left (taken.2 d.head (many_of d.head.kind) (suc d.members_left) rs d.position) within q
-      (ap (λ n. id_step (ids_read e.ids) n) left_is)
+      (ap (λ n. id_stage (ids_read e.ids) n) left_is)

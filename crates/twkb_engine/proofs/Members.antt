@@ -1,4 +1,4 @@
--- The members of a geometry: their count, their ids, and the step at which the first begins.
+-- The members of a geometry: their count, their ids, and the stage at which the first begins.
 use Rattle.std.proofs.Common.{◌≡◌, ℕ, zero, suc, ◌+◌, ◌-◌, ◌<◌, ◌≤◌, ◌⊎◌, List, [], ◌∷◌, ◌++◌, length, length-append}
 use Rattle.std.proofs.Common.{true, false, nat_lt, refl, sym, ap, subst, ◌∙◌, Ok, Some, None, arith}
 use Rattle.std.specs.Prelude.{ℤ, Bool, Option, if◌then◌else◌}
@@ -15,14 +15,14 @@ use Rattle.twkb_grammar.specs.PlainReader.{objection, unless}
 use Rattle.twkb_grammar.specs.Machine as machine
 use Rattle.twkb_grammar.specs.Machine.{Sums, Many, ManyPoints, ManyGeometries, first_count}
 use Rattle.twkb_grammar.proofs.Objections.{deep_allowed}
-use Rattle.twkb_body.specs.Outline.{Group, Outline, Step, OnId, OnEnd, members_open, many_counted, outline_ends}
-use Rattle.twkb_body.specs.Growing.{Change, Nothing, NewRow, count_change, step_change, own_of, kind_with}
+use Rattle.twkb_body.specs.Outline.{FrameOutline, Outline, Stage, OnId, OnEnd, members_open, many_counted, outline_ends}
+use Rattle.twkb_body.specs.Growing.{Change, Nothing, NewRow, count_change, stage_change, own_of, kind_with}
 use Rattle.twkb_body.specs.JudgedParts.{IsPastEnds, Passes}
 use Rattle.twkb_body.specs.Reading.{open_count}
 use Rattle.twkb_body.specs.Head.{head_of, kind_of, many_of}
 use Rattle.twkb_body.specs.Ids.{ids_read}
-use Rattle.twkb_engine.specs.State.{outline_in, step_at}
-use Rattle.twkb_engine.specs.Collections.{groups_of}
+use Rattle.twkb_engine.specs.State.{outline_in, stage_at}
+use Rattle.twkb_engine.specs.Collections.{frames_of}
 use Rattle.twkb_engine.specs.Fits.{has_members, item_fits}
 use Rattle.twkb_engine.specs.Standing.{ComesNext}
 use Rattle.twkb_engine.specs.Taking.{IsFree, own_row, counted_row, count_role}
@@ -34,12 +34,12 @@ use Rattle.twkb_engine.proofs.Items.{Leads, leads_as, number_leads, past_with, w
 -- ---- the first member
 
 -- no geometry ends before this outline, and as many are open as in this one
-pub record Begins (bytes : ℕ) (gs : List Group) (o : Outline) : Type 0 where
+pub record Begins (bytes : ℕ) (gs : List FrameOutline) (o : Outline) : Type 0 where
   pub past : outline_ends bytes o ≡ Ok o
   pub pass : IsPastEnds o.1
   pub count : open_count o ≡ suc (length gs)
 
-module _ {bytes : ℕ} {gs : List Group} (h : machine.Head) where
+module _ {bytes : ℕ} {gs : List FrameOutline} (h : machine.Head) where
   -- members begin
   pub members_begin : (m : Many) (ids : Ids) (n : ℕ)
       → Begins bytes gs (members_open m h gs ids (suc n))
@@ -57,13 +57,13 @@ module _ {bytes : ℕ} {gs : List Group} (h : machine.Head) where
       by_ids false = members_begin m None n
 
 -- a geometry without members ends
-members_none : (m : Many) (h : machine.Head) (gs : List Group)
+members_none : (m : Many) (h : machine.Head) (gs : List FrameOutline)
     → many_counted m h gs 0 ≡ (gs, OnEnd h)
 members_none ManyPoints h gs = refl
 members_none m h gs = refl
 
 -- without ids the first member begins
-pub counted_bare : (m : Many) (h : machine.Head) (gs : List Group) (n : ℕ) → 0 < n
+pub counted_bare : (m : Many) (h : machine.Head) (gs : List FrameOutline) (n : ℕ) → 0 < n
     → bit h.meta 2 ≡ false → members_open m h gs None (suc (n - 1)) ≡ many_counted m h gs n
 counted_bare m h gs zero some bare = absurd (omega (arith, some))
 counted_bare m h gs (suc n) some bare = let one : suc n - 1 ≡ n = omega arith in rw (one, bare) refl
@@ -112,32 +112,32 @@ members_allowed limits s m level n points o is deep says = rw is at says
 -- ---- the count and the ids
 
 -- ids come, of which these were read and this number is left after the next one
-abbrev pub on_id : Engine → List ℤ → ℕ → Step
+abbrev pub on_id : Engine → List ℤ → ℕ → Stage
 on_id d ids left = OnId (many_of d.head.kind) (head_of d.head) (suc d.members_left) ids left
 
--- what an item brings that leads to such a step
-abbrev id_change : ℕ → Engine → Step → Change
-id_change n d s = step_change d.position n d.head.depth d.head.id s
+-- what an item brings that leads to such a stage
+abbrev id_change : ℕ → Engine → Stage → Change
+id_change n d s = stage_change d.position n d.head.depth d.head.id s
 
 abbrev pub open_at : Engine → Ids → ℕ → Outline
-open_at d ids n = members_open (many_of d.head.kind) (head_of d.head) (groups_of d.collections) ids
+open_at d ids n = members_open (many_of d.head.kind) (head_of d.head) (frames_of d.collections) ids
     n
 
 abbrev pub counted_at : Engine → ℕ → Outline
-counted_at d n = many_counted (many_of d.head.kind) (head_of d.head) (groups_of d.collections) n
+counted_at d n = many_counted (many_of d.head.kind) (head_of d.head) (frames_of d.collections) n
 
 -- what some members announce
 pub count_nodes : (d : Engine) (n : ℕ) → d.nodes + n ≡ d.nodes + nodes_by (count_role d) n
 count_nodes d n = ap (λ x. d.nodes + x) (nodes_all (many_of d.head.kind)
-    (length (groups_of d.collections)) n)
+    (length (frames_of d.collections)) n)
 
 -- as many geometries are open after a count, or after the ids
-pub open_after : (d e : Engine) {gs : List Group} {o : Outline} → outline_in e ≡ o → Begins 0 gs o
+pub open_after : (d e : Engine) {gs : List FrameOutline} {o : Outline} → outline_in e ≡ o → Begins 0 gs o
     → open_in d ≡ suc (length gs) → open_in e ≡ open_in d
 open_after d e step b many = ap open_count step ∙ (b.count ∙ sym many)
 
 -- so it is with a count in an engine
-pub count_begins : (d : Engine) {n : ℕ} → 0 < n → Begins 0 (groups_of d.collections)
+pub count_begins : (d : Engine) {n : ℕ} → 0 < n → Begins 0 (frames_of d.collections)
     (counted_at d n)
 count_begins d {n} some = counted_begin (head_of d.head) (many_of d.head.kind) n some
 
@@ -155,7 +155,7 @@ module _ {rs : List Row} {d : Engine} {n width : ℕ} (at : ComesNext next.Membe
   count_none none =
       leads_as count_leads (ap (λ x. outline_ends (d.bytes + width) (counted_at d x)) none
       ∙ ap (outline_ends (d.bytes + width)) (members_none (many_of d.head.kind) (head_of d.head)
-      (groups_of d.collections)))
+      (frames_of d.collections)))
       (ap (λ x. count_change d.head.depth d.head.id (many_of d.head.kind) (head_of d.head) x) none
       ∙ own_is d many_fit)
 
@@ -166,14 +166,14 @@ module _ {rs : List Row} {d : Engine} {n width : ℕ} (at : ComesNext next.Membe
       ∙ ap (λ (r : Change). if bit d.head.metadata 2 then Nothing else r) (own_is d many_fit))
 
 module _ {rs : List Row} {d : Engine} {n width : ℕ} (at : ComesNext next.Id rs d n width) where
-  pub id_leads : Leads rs d role.Id n width (way_at n width d (step_at next.Id d)) (id_change n d
-      (step_at next.Id d))
+  pub id_leads : Leads rs d role.Id n width (way_at n width d (stage_at next.Id d)) (id_change n d
+      (stage_at next.Id d))
   id_leads = number_leads at.alive at.next role.Id n width refl (λ p. p) tt at.wide refl
 
   -- no geometry ends with an id
   pub id_passes : (left : ℕ) → Passes (way_at n width d (on_id d (ids_read d.ids) left))
   id_passes zero =
-      let b = members_begin {gs = groups_of d.collections} (head_of d.head) (many_of d.head.kind)
+      let b = members_begin {gs = frames_of d.collections} (head_of d.head) (many_of d.head.kind)
       (Some (ids_read d.ids ++ unzigzag_of n ∷ [])) d.members_left in
       subst Passes (sym b.past) b.pass
   id_passes (suc left) = tt
@@ -184,7 +184,7 @@ module _ {rs : List Row} {d : Engine} {n width : ℕ} (at : ComesNext next.Id rs
 
     -- others follow it
     pub id_more : length more ≤ d.members_left → Leads rs d role.Id n width
-        (Ok (groups_of d.collections, on_id d more (d.members_left - length more))) Nothing
+        (Ok (frames_of d.collections, on_id d more (d.members_left - length more))) Nothing
     id_more few =
         let left : d.members_left - length (ids_read d.ids) ≡ suc (d.members_left - length more) =
         omega (arith, longer, few) in

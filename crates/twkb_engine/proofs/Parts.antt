@@ -17,14 +17,14 @@ use Rattle.twkb_body.specs.Reading.{open_count}
 use Rattle.twkb_tree.specs.declared.kind.Kind.{Kind}
 use Rattle.twkb_tree.specs.declared.kind.Kind.TheVariants as kinds
 use Rattle.twkb_body.specs.Head.{head_of, kind_of}
-use Rattle.twkb_engine.specs.State.{step_at, outline_in, size_roles}
-use Rattle.twkb_engine.specs.Collections.{groups_of}
+use Rattle.twkb_engine.specs.State.{stage_at, outline_in, size_roles}
+use Rattle.twkb_engine.specs.Collections.{frames_of}
 use Rattle.twkb_engine.specs.Fits.{item_fits, lists_fit, are_shut, is_typed, header_item, IsHeaderItem, IsInside}
 use Rattle.twkb_engine.specs.Notes.{NotesGo, open_in}
 use Rattle.twkb_engine.specs.declared.next_item.NextItem.{NextItem}
 use Rattle.twkb_engine.specs.declared.next_item.NextItem.TheVariants as next
 use Rattle.twkb_engine.specs.declared.engine.Engine.{Engine}
-use Rattle.twkb_engine.proofs.Collections.{groups_length}
+use Rattle.twkb_engine.proofs.Collections.{frames_length}
 
 -- ---- what an item of a header says
 
@@ -64,14 +64,14 @@ header_lists k p r m t s = s
 
 -- with it the body begins
 header_begins_as : (d : Engine) (k : Kind) → d.head.kind ≡ k → is_typed k ≡ true
-    → step_at (header_item k) d ≡ begins (kind_of k) (head_of d.head)
+    → stage_at (header_item k) d ≡ begins (kind_of k) (head_of d.head)
 header_begins_as d kinds.Ring is t = absurd cc
 header_begins_as d k is t = rw is refl
 
 pub header_begins : (d : Engine) → d.next ≡ header_item d.head.kind → is_typed d.head.kind ≡ true
-    → outline_in d ≡ (groups_of d.collections, begins (kind_of d.head.kind) (head_of d.head))
-header_begins d is t = ap (λ n. (groups_of d.collections, step_at n d)) is
-    ∙ ap (λ s. (groups_of d.collections, s)) (header_begins_as d d.head.kind refl t)
+    → outline_in d ≡ (frames_of d.collections, begins (kind_of d.head.kind) (head_of d.head))
+header_begins d is t = ap (λ n. (frames_of d.collections, stage_at n d)) is
+    ∙ ap (λ s. (frames_of d.collections, s)) (header_begins_as d d.head.kind refl t)
 
 pub ruleset headers = (header_fits, header_lists, header_begins)
 
@@ -80,10 +80,10 @@ pub ruleset headers = (header_fits, header_lists, header_begins)
 -- before a type byte few geometries are open
 pub few_open : (d : Engine) → d.next ≡ next.TypeByte → open_in d < 2 ^ 32
 few_open d is =
-    let count : open_in d ≡ length (groups_of d.collections) =
-    ap (λ n. open_count (groups_of d.collections, step_at n d)) is in
+    let count : open_in d ≡ length (frames_of d.collections) =
+    ap (λ n. open_count (frames_of d.collections, stage_at n d)) is in
     let few = d.few_open in
-    omega (arith, count, groups_length [] d.collections, few)
+    omega (arith, count, frames_length [] d.collections, few)
 
 -- a geometry that begins is noted
 pub begun_noted : {S A E : Type 0} (holds : S → Notes → Type 0) (old new : S) (d : Engine)

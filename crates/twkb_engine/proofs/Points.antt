@@ -6,7 +6,7 @@ use Rattle.std.proofs.lemmas.List.{length-take-le}
 use Rattle.twkb_points.specs.Point.{Point}
 use Rattle.twkb_tree.specs.Rows.{Row, first_id}
 use Rattle.twkb_grammar.specs.Noting.{Notes}
-use Rattle.twkb_body.specs.Outline.{Outline, Step, Wanted, shut}
+use Rattle.twkb_body.specs.Outline.{Outline, Stage, Wanted, shut}
 use Rattle.twkb_body.specs.Growing.{Change, applied, point_change}
 use Rattle.twkb_body.specs.Admitting.{Admits}
 use Rattle.twkb_body.specs.Reading.{Outlined}
@@ -20,9 +20,9 @@ use Rattle.twkb_body.specs.declared.head.Head.{Head}
 use Rattle.twkb_body.specs.declared.member_ids.MemberIds.{MemberIds}
 use Rattle.twkb_body.proofs.PointRuns.{same_change}
 use Rattle.twkb_body.specs.Reading.{sums_past}
-use Rattle.twkb_engine.specs.Collections.{groups_of}
+use Rattle.twkb_engine.specs.Collections.{frames_of}
 use Rattle.twkb_engine.specs.Fits.{IsInside, lists_of, has_members}
-use Rattle.twkb_engine.specs.State.{IsHere, IsPlaced, sums_of, outline_in, step_at, ids_in, body_at}
+use Rattle.twkb_engine.specs.State.{IsHere, IsPlaced, sums_of, outline_in, stage_at, ids_in, body_at}
 use Rattle.twkb_engine.specs.Taking.{Lands, shut_at, last_lists, past_last, point_row}
 use Rattle.twkb_engine.specs.Notes.{NotesGo, notes_past, open_in}
 use Rattle.twkb_engine.specs.Standing.{StandsAt, IsAlive, FedBy, IsFed, with_used, notes_at, held_in}
@@ -37,9 +37,9 @@ use Rattle.twkb_engine.proofs.Steps.{all_whole, open_noted}
 use Rattle.twkb_engine.proofs.Fields.{Fields, fields_of, moved_to}
 use Rattle.twkb_engine.proofs.Many.{place_at}
 
--- the step after a point that is the last of its list, or in none
-abbrev step_past : Head → MemberIds → (rings members : ℕ) → Step
-step_past h ids r m = shut (head_of h) (form_of h.kind) (if has_members h.kind then ids_of ids else
+-- the stage after a point that is the last of its list, or in none
+abbrev stage_past : Head → MemberIds → (rings members : ℕ) → Stage
+stage_past h ids r m = shut (head_of h) (form_of h.kind) (if has_members h.kind then ids_of ids else
     None) 0 (lists_of h.kind 0 r m)
 
 -- what the point brings
@@ -48,10 +48,10 @@ brought to h ids = point_change to h.depth h.id h.precision (form_of h.kind)
     (first_id (if has_members h.kind then ids_of ids else None))
 
 module _ (rs : List Row) (d : Engine) (is : d.next ≡ next.X) (last : d.points_left ≡ 0) where
-  here : outline_in d ≡ (groups_of d.collections, body_at d (Wanted 0 (last_lists d)))
+  here : outline_in d ≡ (frames_of d.collections, body_at d (Wanted 0 (last_lists d)))
   here =
-      ap (λ i. (groups_of d.collections, step_at i d)) is ∙ ap (λ p.
-      (groups_of d.collections, body_at d (Wanted 0 (lists_of d.head.kind p d.rings_left d.members_left)))) last
+      ap (λ i. (frames_of d.collections, stage_at i d)) is ∙ ap (λ p.
+      (frames_of d.collections, body_at d (Wanted 0 (lists_of d.head.kind p d.rings_left d.members_left)))) last
 
   -- the header is that of the geometry in the open collections
   placed_at_x : {bs : List ℕ} → StandsAt bs rs d → IsHere d
@@ -61,7 +61,7 @@ module _ (rs : List Row) (d : Engine) (is : d.next ≡ next.X) (last : d.points_
     -- the rows take it
     pub front_admits : IsAlive rs d → Admits (point_row to d) rs
     front_admits alive = admitted_by ((bs : List ℕ) × StandsAt bs rs d) (point_row to d) rs alive (λ s.
-        let gs = groups_of d.collections in
+        let gs = frames_of d.collections in
         let f = form_of d.head.kind in
         let o = subst (λ o. Outlined d.limits s.1.front (sums_of d) o rs) here s.1.outlined in
         subst (λ c. Admits c rs) (same_change to gs d.head f (first_id (ids_in d))
@@ -89,7 +89,7 @@ module _ (rs : List Row) (d : Engine) (is : d.next ≡ next.X) (last : d.points_
         Known = holds old (told d.start)
 
         abbrev ended : Outline
-        ended = (groups_of m.collections, shut_at m 0 (last_lists m))
+        ended = (frames_of m.collections, shut_at m 0 (last_lists m))
 
         abbrev grown : List Row
         grown = applied (point_row to m) rs
@@ -99,9 +99,9 @@ module _ (rs : List Row) (d : Engine) (is : d.next ≡ next.X) (last : d.points_
 
         -- it was read, before the ends after it
         read : NotedOutline d.limits all (sums_past (sums_of d) (take used rest) to)
-            (groups_of d.collections, shut_at d 0 (last_lists d)) (applied (point_row to d) rs) told
+            (frames_of d.collections, shut_at d 0 (last_lists d)) (applied (point_row to d) rs) told
         read =
-            let gs = groups_of d.collections in
+            let gs = frames_of d.collections in
             let f = form_of d.head.kind in
             let stood = subst (λ o. NotedOutline d.limits s.front (sums_of d) o rs told) here
             (record { outlined = s.outlined; notes = λ start. refl }) in
@@ -117,12 +117,12 @@ module _ (rs : List Row) (d : Engine) (is : d.next ≡ next.X) (last : d.points_
             let size : d.bytes + length (take used rest) ≡ d.bytes + used =
             ap (λ n. d.bytes + n) (length-take-le used rest cut.within) in
             subst (λ (g : Fields). NotedOutline g.limits all g.sums (
-              groups_of g.collections,
-              step_past g.head g.ids g.rings_left g.members_left,
+              frames_of g.collections,
+              stage_past g.head g.ids g.rings_left g.members_left,
             ) (applied (brought to g.head g.ids) rs) told) (sym q)
             (subst (λ n. NotedOutline d.limits all
             (record { bytes = n; position = to; nodes = d.nodes; points = d.points })
-            (groups_of d.collections, shut_at d 0 (last_lists d)) (applied (point_row to d) rs) told) size read)
+            (frames_of d.collections, shut_at d 0 (last_lists d)) (applied (point_row to d) rs) told) size read)
 
         reads : Reads m.limits bs rest used (sums_of m) ended grown told
         reads = record {

@@ -25,7 +25,7 @@ use Rattle.twkb_body.proofs.Outlined.{outlined_start, outlined_ends, outlined_wh
 use Rattle.twkb_body.proofs.PointHeaders.{HeaderRead, sums_behind, bare_header_read, sized_header_read}
 use Rattle.twkb_body.proofs.PointHeaders.{header_point_read}
 use Rattle.twkb_body.specs.Whole.{WholePoint, metadata_with, header_bytes}
-use Rattle.twkb_engine.specs.State.{sums_of, outline_in, step_at}
+use Rattle.twkb_engine.specs.State.{sums_of, outline_in, stage_at}
 use Rattle.twkb_engine.specs.Taking.{BeginsAt}
 use Rattle.twkb_engine.specs.Notes.{point_span}
 use Rattle.twkb_engine.specs.Standing.{StandsAt, StopsIn, MadeIn, IsFed, notes_at, held_in}
@@ -145,7 +145,7 @@ no_items : (is : List Item) (st : Stack) → Runs nothing started is st → join
 no_items [] st r e = refl
 no_items (i ∷ is) st r e = absurd (first_item i is st r e)
 
-type_byte : (i : NextItem) (d : Engine) → step_at i d ≡ OnHeader → i ≡ next.TypeByte
+type_byte : (i : NextItem) (d : Engine) → stage_at i d ≡ OnHeader → i ≡ next.TypeByte
 type_byte next.TypeByte d e = refl
 type_byte i d e = cc
 

@@ -1,4 +1,4 @@
--- An item that comes next: its role, what it notes, and the step after it and the ends that follow.
+-- An item that comes next: its role, what it notes, and the stage after it and the ends that follow.
 use Rattle.std.proofs.Common.{◌≡◌, ◌⊎◌, inl, inr, ℕ, zero, suc, ◌+◌, ◌-◌, ◌<◌, List, [], ◌∷◌, ◌++◌, length, refl, sym}
 use Rattle.std.proofs.Common.{ap, ◌∙◌, subst, append-nil, arith, true, false, Bool, Result, Some, None, Ok, Err, IfOk}
 use Rattle.std.proofs.Math.Nat.{add-zero}
@@ -26,7 +26,8 @@ use Rattle.twkb_grammar.proofs.NotedEnds.{all_open, ends_to}
 use Rattle.twkb_grammar.proofs.Frames.{reached_frames}
 use Rattle.twkb_grammar.proofs.Running.{ran_blob}
 use Rattle.twkb_grammar.proofs.TreesBack.{runs_are_items}
-use Rattle.twkb_body.specs.Outline.{Outline, Group, group_of, Step, OnEnd, OnFinished, step_of, step_role}
+use Rattle.twkb_body.specs.Outline.{Outline, FrameOutline, frame_outline, Stage, OnEnd, OnFinished, stage_of}
+use Rattle.twkb_body.specs.Outline.{stage_role}
 use Rattle.twkb_body.specs.Outline.{outline_ended, outline_past_end, outline_ends}
 use Rattle.twkb_body.specs.Reading.{Outlined, open_count}
 use Rattle.twkb_body.specs.Growing.{rows_so_far, id_in}
@@ -34,9 +35,9 @@ use Rattle.twkb_body.specs.Noting.{NotedOutline, notes_in}
 use Rattle.twkb_body.proofs.Outlined.{outlined_start, noted_item}
 use Rattle.twkb_body.proofs.Notings.{same_count}
 use Rattle.twkb_body.specs.Head.{kind_of, many_of, IsHeadAt}
-use Rattle.twkb_engine.specs.Collections.{groups_of}
+use Rattle.twkb_engine.specs.Collections.{frames_of}
 use Rattle.twkb_engine.specs.Fits.{IsByte}
-use Rattle.twkb_engine.specs.State.{IsNext, IsPlaced, sums_of, outline_in, step_at}
+use Rattle.twkb_engine.specs.State.{IsNext, IsPlaced, sums_of, outline_in, stage_at}
 use Rattle.twkb_engine.specs.Taking.{BeginsAt}
 use Rattle.twkb_engine.specs.Notes.{NotesGo, notes_with, open_in}
 use Rattle.twkb_engine.specs.Standing.{StandsAt, notes_at, held_in}
@@ -63,7 +64,7 @@ pub x_noted : {S : Type 0} (holds : S → Notes → Type 0) (r : Role) (n width 
     → IfOk answer (λ ends. (ends ≡ false) × (open_in e ≡ open_in d))
     → IfOk answer (λ ends. NotesGo holds (notes_with r n width d e ends) d old old)
 x_noted holds r n width d e old (Ok false) is says same =
-    let x = ap (λ i. step_role (length (outline_in d).0) d.bytes (step_at i d)) (sym is) ∙ says in
+    let x = ap (λ i. stage_role (length (outline_in d).0) d.bytes (stage_at i d)) (sym is) ∙ says in
     quiet_noted holds r n width d e old (subst IsQuiet (sym (some_role role.X r x)) tt) same.1
 x_noted holds r n width d e old (Ok true) is says same = absurd (let f = same.0 in cc)
 x_noted holds r n width d e old (Err stop) is says same = tt
@@ -71,7 +72,7 @@ x_noted holds r n width d e old (Err stop) is says same = tt
 -- ---- the role of the next item
 
 has_role : (level bytes : ℕ) (i : NextItem) (d : Engine) → (r : Role)
-    × (step_role level bytes (step_at i d) ≡ Some r)
+    × (stage_role level bytes (stage_at i d) ≡ Some r)
     × ((IsByte i × IsByteRole r) ⊎ ((IsByte i → ⊥) × IsNumber r))
 has_role level bytes next.TypeByte d = (role.Header, refl, inl (tt, tt))
 has_role level bytes next.MetadataByte d = (role.Metadata (kind_number (kind_of d.head.kind)), refl, inl (tt, tt))
@@ -87,7 +88,7 @@ has_role level bytes next.RingCount d = (role.Count (listed 1), refl, inr (λ b.
 
 pub next_role : (d : Engine) → (r : Role) × IsNext r d
     × ((IsByte d.next × IsByteRole r) ⊎ ((IsByte d.next → ⊥) × IsNumber r))
-next_role d = has_role (length (groups_of d.collections)) d.bytes d.next d
+next_role d = has_role (length (frames_of d.collections)) d.bytes d.next d
 
 -- what may stand there, in the role that it has
 pub next_no_end : (d : Engine) → NoEnd (next_role d).0
@@ -126,7 +127,7 @@ open_noted limits bytes e o rs r start = all_open start r.reached.items nothing 
 
 module _ (limits : Allowance) (bytes : List ℕ) (e : Sums) (rs : List Row) where
   -- one geometry ends
-  noted_end : (gs : List Group) (h : Head) (told : ℕ → Notes)
+  noted_end : (gs : List FrameOutline) (h : Head) (told : ℕ → Notes)
       → is_exact h.size (e.bytes - h.from) ≡ true → NotedOutline limits bytes e
       (gs, OnEnd h) rs told
       → NotedOutline limits bytes e (outline_ended gs) rs (λ start. note_end (start + e.bytes) e.points (told start))
@@ -167,7 +168,7 @@ module _ (limits : Allowance) (bytes : List ℕ) (e : Sums) (rs : List Row) wher
       (0, subst (λ q. NotedOutline limits bytes e q rs told) (ok_same o p at) n)
 
   -- it ends, and the collections of which it is the last member
-  noted_past : (gs : List Group) (h : Head) (told : ℕ → Notes) (p : Outline) (b : Bool)
+  noted_past : (gs : List FrameOutline) (h : Head) (told : ℕ → Notes) (p : Outline) (b : Bool)
       → is_exact h.size (e.bytes - h.from) ≡ b → outline_past_end b e.bytes gs ≡ Ok p
       → NotedOutline limits bytes e (gs, OnEnd h) rs told → Past p told
   noted_past gs h told p false x at n = absurd cc
@@ -182,7 +183,7 @@ module _ (limits : Allowance) (bytes : List ℕ) (e : Sums) (rs : List Row) wher
         | suc k ↦ none_past (outline_ended (back (suc k))) p after
       ] at (noted_end (g ∷ gs) h told x n))
 
-  any_past : (gs : List Group) (s : Step) (p : Outline) (told : ℕ → Notes)
+  any_past : (gs : List FrameOutline) (s : Stage) (p : Outline) (told : ℕ → Notes)
       → outline_ends e.bytes (gs, s) ≡ Ok p → NotedOutline limits bytes e (gs, s) rs told
       → Past p told
   any_past gs (OnEnd h) p told at n =
@@ -228,7 +229,7 @@ Whole limits bytes items rs = (g : Tree) × (rs ≡ rows 0 g) × (b : Blob limit
     × ((start : ℕ) → (noted start nothing no_notes items).spans ≡ spans_of_blob start b)
 
 finished : (limits : Allowance) (bytes : List ℕ) (e : Sums) (fs : List Frame) (ph : Phase)
-    → Rattle.std.specs.Prelude.map group_of fs ≡ [] → step_of ph ≡ OnFinished
+    → Rattle.std.specs.Prelude.map frame_outline fs ≡ [] → stage_of ph ≡ OnFinished
     → (r : Reached limits bytes e (fs, ph)) → Whole limits bytes r.items (rows_so_far (fs, ph))
 finished limits bytes e [] (Finished g) none same r = let told = blob_told limits bytes g r.items
     r.ran r.spelled in (g, refl, told.0, told.1)
@@ -288,7 +289,7 @@ pub stands_begun : (offset : ℕ) (d : Engine) → BeginsAt offset d → held_in
 stands_begun offset d b none = (stands_whole [] [] d
     (record { outlined = outlined_start d.limits d.allowed; notes = λ start. refl }) refl
     (λ t. record { bytes = b.bytes t; position = b.position t; nodes = b.nodes t; points = b.points t })
-    (λ t. (b.collections t, step_at (b.next t) d)) refl
+    (λ t. (b.collections t, stage_at (b.next t) d)) refl
     (subst (λ j. IsPlaced j d) (sym b.next) tt) refl none).0
 
 -- if no byte is held the bytes are complete items
@@ -298,9 +299,9 @@ all_whole bytes rs d none s = s.whole ∙ (ap (λ l. s.front ++ l) none ∙ appe
 
 -- ---- the bytes of a number
 
-step_else : (i : NextItem) (d e : Engine) → SameItem d e → step_at i e ≡ step_at i d
-step_else next.TypeByte d e q = refl
-step_else i d e q =
+stage_else : (i : NextItem) (d e : Engine) → SameItem d e → stage_at i e ≡ stage_at i d
+stage_else next.TypeByte d e q = refl
+stage_else i d e q =
     simp (
       ap (λ (g : Fields). g.head) q,
       ap (λ (g : Fields). g.ids) q,
@@ -313,7 +314,7 @@ placed_else : (i : NextItem) (d e : Engine) → SameItem d e → IsPlaced i d �
 placed_else next.TypeByte d e q p = tt
 placed_else next.MetadataByte d e q p = tt
 placed_else i d e q p =
-    subst (λ (g : Fields). IsHeadAt (length (groups_of g.collections)) (id_in (groups_of g.collections)) g.head)
+    subst (λ (g : Fields). IsHeadAt (length (frames_of g.collections)) (id_in (frames_of g.collections)) g.head)
     (sym q) p
 
 pub stands_else : (bs all : List ℕ) (rs : List Row) (d e : Engine) → SameItem d e
@@ -322,7 +323,7 @@ pub stands_else : (bs all : List ℕ) (rs : List Row) (d e : Engine) → SameIte
 stands_else bs all rs d e q s whole spelled =
     let next = ap (λ (g : Fields). g.next) q in
     let outline : outline_in e ≡ outline_in d = λ t.
-    (groups_of (q t).collections, (ap (λ i. step_at i e) next ∙ step_else d.next d e q) t) in
+    (frames_of (q t).collections, (ap (λ i. stage_at i e) next ∙ stage_else d.next d e q) t) in
     let t = stands_there all rs e (noted_at s) (ap (λ (g : Fields). g.limits) q) (ap (λ (g : Fields). g.sums) q)
     outline refl (subst (λ i. IsPlaced i e) (sym next) (placed_else d.next d e q s.placed)) whole
     (subst (λ i. (IsByte i → ⊥) ⊎ (held_in e ≡ [])) (sym next) spelled) in

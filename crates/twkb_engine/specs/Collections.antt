@@ -6,14 +6,14 @@ use Rattle.twkb_body.specs.Ids.{ids_of}
 use Rattle.twkb_engine.specs.declared.open_collections.OpenCollection.{OpenCollection}
 
 -- an open collection
-abbrev pub group_of : OpenCollection → outline.Group
-group_of c = record { head = head_of c.head; ids = ids_of c.ids; left = c.members_left }
+abbrev pub frame_outline : OpenCollection → outline.FrameOutline
+frame_outline c = record { head = head_of c.head; ids = ids_of c.ids; left = c.members_left }
 
 -- open collections, the innermost last, before those that are round them
-abbrev pub groups_from : List outline.Group → List OpenCollection → List outline.Group
-groups_from below [] = below
-groups_from below (c ∷ cs) = groups_from (group_of c ∷ below) cs
+abbrev pub frames_from : List outline.FrameOutline → List OpenCollection → List outline.FrameOutline
+frames_from below [] = below
+frames_from below (c ∷ cs) = frames_from (frame_outline c ∷ below) cs
 
 -- the open collections, the innermost first
-abbrev pub groups_of : List OpenCollection → List outline.Group
-groups_of cs = groups_from [] cs
+abbrev pub frames_of : List OpenCollection → List outline.FrameOutline
+frames_of cs = frames_from [] cs

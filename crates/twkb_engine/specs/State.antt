@@ -1,4 +1,4 @@
--- What comes next, as a step of an outline.
+-- What comes next, as a stage of an outline.
 use Rattle.std.specs.Prelude.{◌≡◌, ◌-◌, ℕ, zero, suc, List, [], ◌∷◌, ◌++◌, length, if◌then◌else◌, Some, None, ⊤}
 use Rattle.twkb_tree.specs.Tree.{Ids}
 use Rattle.twkb_tree.specs.Limits.{Allowance}
@@ -6,12 +6,12 @@ use Rattle.twkb_grammar.specs.Bits.{bit}
 use Rattle.twkb_grammar.specs.Roles as role
 use Rattle.twkb_grammar.specs.Roles.{Role, where_set}
 use Rattle.twkb_grammar.specs.Machine.{Sums}
-use Rattle.twkb_body.specs.Outline.{Outline, Step, OnHeader, OnMetadata, OnOption, OnCount, OnId, OnBody, Wanted}
+use Rattle.twkb_body.specs.Outline.{Outline, Stage, OnHeader, OnMetadata, OnOption, OnCount, OnId, OnBody, Wanted}
 use Rattle.twkb_body.specs.Outline.{WantedY, BodyPlace, outline_role}
 use Rattle.twkb_body.specs.Growing.{id_in}
 use Rattle.twkb_body.specs.Head.{head_of, kind_of, form_of, many_of, IsHeadAt}
 use Rattle.twkb_body.specs.Ids.{ids_of, ids_read}
-use Rattle.twkb_engine.specs.Collections.{groups_of}
+use Rattle.twkb_engine.specs.Collections.{frames_of}
 use Rattle.twkb_engine.specs.Fits.{lists_of, line_lists_of, area_lists_of, has_members}
 use Rattle.twkb_engine.specs.declared.next_item.NextItem.{NextItem}
 use Rattle.twkb_engine.specs.declared.next_item.NextItem.TheVariants as next
@@ -39,30 +39,31 @@ abbrev pub ids_in : Engine → Ids
 ids_in d = if has_members d.head.kind then ids_of d.ids else None
 
 -- its body, at this place
-abbrev pub body_at : Engine → BodyPlace → Step
+abbrev pub body_at : Engine → BodyPlace → Stage
 body_at d s = OnBody (head_of d.head) (form_of d.head.kind) (ids_in d) s
 
--- the step of the grammar's machine at this item
-abbrev pub step_at : NextItem → Engine → Step
-step_at next.TypeByte d = OnHeader
-step_at next.MetadataByte d = OnMetadata (kind_of d.head.kind) d.head.precision
-step_at next.ExtendedByte d = OnOption (kind_of d.head.kind) (head_of d.head) role.Extended (size_roles d.head.metadata)
-step_at next.Size d = OnOption (kind_of d.head.kind) (head_of d.head) role.Size (box_roles d.head.metadata)
-step_at (next.BoxNumber left) d = OnOption (kind_of d.head.kind) (head_of d.head) role.Box (boxes left)
-step_at next.MemberCount d = OnCount (many_of d.head.kind) (head_of d.head)
-step_at next.Id d = OnId (many_of d.head.kind) (head_of d.head) (suc d.members_left)
+-- the stage of the grammar's machine at this item
+abbrev pub stage_at : NextItem → Engine → Stage
+stage_at next.TypeByte d = OnHeader
+stage_at next.MetadataByte d = OnMetadata (kind_of d.head.kind) d.head.precision
+stage_at next.ExtendedByte d = OnOption (kind_of d.head.kind) (head_of d.head) role.Extended
+    (size_roles d.head.metadata)
+stage_at next.Size d = OnOption (kind_of d.head.kind) (head_of d.head) role.Size (box_roles d.head.metadata)
+stage_at (next.BoxNumber left) d = OnOption (kind_of d.head.kind) (head_of d.head) role.Box (boxes left)
+stage_at next.MemberCount d = OnCount (many_of d.head.kind) (head_of d.head)
+stage_at next.Id d = OnId (many_of d.head.kind) (head_of d.head) (suc d.members_left)
     (ids_read d.ids) (d.members_left - length (ids_read d.ids))
-step_at next.X d = body_at d (Wanted 0 (lists_of d.head.kind d.points_left d.rings_left d.members_left))
-step_at next.Y d = body_at d (WantedY (lists_of d.head.kind d.points_left d.rings_left d.members_left))
-step_at next.PointCount d = body_at d (Wanted 1 (line_lists_of d.head.kind d.rings_left d.members_left))
-step_at next.RingCount d = body_at d (Wanted 2 (area_lists_of d.head.kind d.members_left))
+stage_at next.X d = body_at d (Wanted 0 (lists_of d.head.kind d.points_left d.rings_left d.members_left))
+stage_at next.Y d = body_at d (WantedY (lists_of d.head.kind d.points_left d.rings_left d.members_left))
+stage_at next.PointCount d = body_at d (Wanted 1 (line_lists_of d.head.kind d.rings_left d.members_left))
+stage_at next.RingCount d = body_at d (Wanted 2 (area_lists_of d.head.kind d.members_left))
 
-abbrev pub step_of : Engine → Step
-step_of d = step_at d.next d
+abbrev pub stage_of : Engine → Stage
+stage_of d = stage_at d.next d
 
 -- what is open
 abbrev pub outline_in : Engine → Outline
-outline_in d = (groups_of d.collections, step_of d)
+outline_in d = (frames_of d.collections, stage_of d)
 
 -- what its items so far sum to
 abbrev pub sums_of : Engine → Sums
@@ -76,7 +77,7 @@ allowance_of d = d.limits
 
 -- its header is that of the geometry in the open collections
 abbrev pub IsHere : Engine → Type 0
-IsHere d = IsHeadAt (length (groups_of d.collections)) (id_in (groups_of d.collections)) d.head
+IsHere d = IsHeadAt (length (frames_of d.collections)) (id_in (frames_of d.collections)) d.head
 
 -- after a header: its geometry is in the open collections
 abbrev pub IsPlaced : NextItem → Engine → Type 0

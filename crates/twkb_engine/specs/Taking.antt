@@ -8,12 +8,12 @@ use Rattle.twkb_grammar.specs.Roles.{Role, Count}
 use Rattle.twkb_grammar.specs.Fault.{Reason, moved, nodes_by, points_by}
 use Rattle.twkb_grammar.specs.Machine.{Sums, first_count}
 use Rattle.twkb_grammar.specs.PlainReader.{objection}
-use Rattle.twkb_body.specs.Outline.{Outline, OnFinished, Step, OnEnd, options, shut, outline_advanced, outline_ends}
+use Rattle.twkb_body.specs.Outline.{Outline, OnFinished, Stage, OnEnd, options, shut, outline_advanced, outline_ends}
 use Rattle.twkb_body.specs.Growing.{Change, NewRow, Nothing, change_of, applied, own_of, header_change, point_change}
 use Rattle.twkb_body.specs.JudgedParts.{Passes}
 use Rattle.twkb_body.specs.Head.{head_of, kind_of, form_of, many_of}
 use Rattle.twkb_engine.specs.State.{sums_of, outline_in, ids_in}
-use Rattle.twkb_engine.specs.Collections.{groups_of}
+use Rattle.twkb_engine.specs.Collections.{frames_of}
 use Rattle.twkb_engine.specs.Fits.{lists_of}
 use Rattle.twkb_engine.specs.Stops.{reason_of}
 use Rattle.twkb_engine.specs.declared.next_item.NextItem.TheVariants as next
@@ -50,7 +50,7 @@ pub record BeginsAt (offset : ℕ) (d : Engine) : Type 0 where
   pub nodes : d.nodes ≡ 1
   pub points : d.points ≡ 0
   pub position : d.position ≡ origin
-  pub collections : groups_of d.collections ≡ []
+  pub collections : frames_of d.collections ≡ []
 
 -- it stays in its blob, with the limits that it had
 pub record SameBlob (d e : Engine) : Type 0 where
@@ -107,9 +107,9 @@ Lands way change d rs (Ok true) e more = (way ≡ Ok ([], OnFinished)) × (more 
 Lands way change d rs (Err Memory) e more = Passes way
 Lands way change d rs (Err (Refused why)) e more = (way ≡ Err (reason_of why)) × (e.bytes ≡ d.bytes)
 
--- past this step of the geometry that is read
-abbrev pub past : Engine → Step → Result Outline Reason
-past d s = outline_ends d.bytes (groups_of d.collections, s)
+-- past this stage of the geometry that is read
+abbrev pub past : Engine → Stage → Result Outline Reason
+past d s = outline_ends d.bytes (frames_of d.collections, s)
 
 -- past the end of the geometry that is read, and of the collections that end with it
 abbrev pub past_end : Engine → Result Outline Reason
@@ -120,7 +120,7 @@ abbrev pub past_parts : Engine → List Role → Result Outline Reason
 past_parts d parts = past d (options (kind_of d.head.kind) (head_of d.head) parts)
 
 -- its body, after a value of this depth that is done, in these lists
-abbrev pub shut_at : Engine → (depth : ℕ) → List ℕ → Step
+abbrev pub shut_at : Engine → (depth : ℕ) → List ℕ → Stage
 shut_at d depth lists = shut (head_of d.head) (form_of d.head.kind) (ids_in d) depth lists
 
 -- past such a value
@@ -141,7 +141,7 @@ own_row d = NewRow (own_of d.head.depth d.head.id (kind_of d.head.kind) d.head.p
 
 -- the role of the count of its members
 abbrev pub count_role : Engine → Role
-count_role d = Count (first_count (many_of d.head.kind) (length (groups_of d.collections)))
+count_role d = Count (first_count (many_of d.head.kind) (length (frames_of d.collections)))
 
 -- the row that a count of members brings, if there are any: its own, unless their ids come first
 abbrev pub counted_row : Engine → Change

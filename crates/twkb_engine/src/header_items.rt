@@ -28,7 +28,7 @@ const BOX_REST: u8 = 3;
 
 impl Engine {
     ghost use Rattle.twkb_engine.specs.State.{IsPlaced, IsHere, outline_in, sums_of, size_roles, box_roles};
-    ghost use Rattle.twkb_engine.specs.Collections.{groups_of};
+    ghost use Rattle.twkb_engine.specs.Collections.{frames_of};
     ghost use Rattle.twkb_engine.specs.Fits.{IsHeaderItem, are_shut, is_typed};
     ghost use Rattle.twkb_engine.specs.Taking.{Takes, Lands, SameBlob, SameBut, Keeps, past_parts, header_row};
     ghost use Rattle.twkb_engine.specs.Notes.{NotesGo, notes_with, notes_past};
@@ -301,7 +301,7 @@ impl Engine {
         requires typed { is_typed self.old.head.kind ≡ true }
         requires shut { are_shut self.old.points_left self.old.rings_left self.old.members_left ≡ true }
         ensures step { outline_in self.new ≡ (
-          groups_of self.old.collections,
+          frames_of self.old.collections,
           begins (kind_of self.old.head.kind) (head_of self.old.head),
         ) }
         ensures head { self.new.head ≡ self.old.head }

@@ -39,7 +39,7 @@ fn push_id(ids: &mut MemberIds, number: u64) -> Result<(), AllocError>
 
 impl Engine {
     ghost use Rattle.twkb_engine.specs.State.{IsPlaced, outline_in, sums_of};
-    ghost use Rattle.twkb_engine.specs.Collections.{groups_of};
+    ghost use Rattle.twkb_engine.specs.Collections.{frames_of};
     ghost use Rattle.twkb_engine.specs.Fits.{depth_cap};
     ghost use Rattle.twkb_engine.specs.Taking.{Takes, SameBlob, Keeps, own_row, counted_row, count_role};
     ghost use Rattle.twkb_engine.specs.Notes.{NotesGo, notes_with, open_in};
@@ -125,7 +125,7 @@ impl Engine {
         requires row { bit self.old.head.metadata 2 ≡ false → Admits (own_row self.old) flat.old }
         requires room { length self.old.collections < depth_cap }
         ensures step { OnOk result (outline_in self.new ≡ many_counted (many_of self.old.head.kind)
-            (head_of self.old.head) (groups_of self.old.collections) count) }
+            (head_of self.old.head) (frames_of self.old.collections) count) }
         ensures rows { OnOk result (flat.new ≡ applied (counted_row self.old) flat.old) }
         ensures sums { sums_of self.new ≡ sums_of self.old }
         ensures same { SameBlob self.old self.new }
@@ -169,7 +169,7 @@ impl Engine {
         requires row { Admits (own_row self.old) flat.old }
         requires room { length self.old.collections < depth_cap }
         ensures step { OnOk result (outline_in self.new ≡ members_open (many_of self.old.head.kind)
-            (head_of self.old.head) (groups_of self.old.collections) (ids_of self.old.ids)
+            (head_of self.old.head) (frames_of self.old.collections) (ids_of self.old.ids)
             (suc self.old.members_left)) }
         ensures rows { OnOk result (flat.new ≡ applied (own_row self.old) flat.old) }
         ensures sums { sums_of self.new ≡ sums_of self.old }

@@ -3,7 +3,7 @@ ghost use Rattle.std.specs.Prelude.{◌≡◌, ◌≤◌, ◌+◌, ◌-◌, ◌+
 ghost use Rattle.twkb_grammar.specs.PlainReader.{is_exact as exact};
 ghost use Rattle.twkb_body.specs.Outline.{OnHeader, outline_past_end};
 ghost use Rattle.twkb_body.specs.Growing.{id_in};
-ghost use Rattle.twkb_engine.specs.Collections.{groups_of};
+ghost use Rattle.twkb_engine.specs.Collections.{frames_of};
 ghost use Rattle.twkb_engine.specs.Ends.{IfBlob, IfNext, IfCollection};
 ghost use Rattle.twkb_engine.specs.declared.open_collections.OpenCollection.{OpenCollection};
 
@@ -103,7 +103,7 @@ impl OpenCollections {
     // The id of the open member of the innermost collection, if it has one.
     #[inline(always)]
     pub(crate) fn id(&self) -> Option<i64>
-        ensures { result ≡ id_in (groups_of self.now) }
+        ensures { result ≡ id_in (frames_of self.now) }
     {
         if self.count == 0 {
             return None;
@@ -151,10 +151,10 @@ impl OpenCollections {
     pub(crate) fn end_member(&mut self, ids: &mut MemberIds) -> MemberEnd
         ensures blob { IfBlob result (self.old ≡ []) }
         ensures goes_on { IfNext result ((bytes : ℕ) → outline_past_end true bytes
-            (groups_of self.old) ≡ Ok (groups_of self.new, OnHeader)) }
+            (frames_of self.old) ≡ Ok (frames_of self.new, OnHeader)) }
         ensures goes_up { IfCollection result (λ h. (bytes : ℕ)
-            → outline_past_end (exact h.size (bytes - h.from)) bytes (groups_of self.new)
-            ≡ outline_past_end true bytes (groups_of self.old)) }
+            → outline_past_end (exact h.size (bytes - h.from)) bytes (frames_of self.new)
+            ≡ outline_past_end true bytes (frames_of self.old)) }
         ensures fewer { IfCollection result (λ h. length self.new + 1 ≡ length self.old) }
         ensures same { IfNext result (length self.new ≡ length self.old) }
         ensures as_many { length self.new ≤ length self.old }

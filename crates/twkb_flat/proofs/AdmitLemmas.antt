@@ -6,17 +6,17 @@ use Rattle.std.specs.Prelude.{reverse, ◌&&◌, ◌↔◌, IsTrue, is_none, nat
 use Rattle.std.proofs.lemmas.Bool.Decides.{nat_tests}
 use Rattle.twkb_points.specs.Point.{AreInRange}
 use Rattle.twkb_tree.specs.declared.open_rows.OpenRow.{OpenRow}
-use Rattle.twkb_tree.specs.declared.standing.Standing.{Standing}
+use Rattle.twkb_tree.specs.declared.row_place.RowPlace.{RowPlace}
 use Rattle.twkb_tree.specs.Limits.{Allowance, largest_limits}
 use Rattle.twkb_tree.specs.Rows.{Row, row_points}
 use Rattle.twkb_tree.specs.Admits.{has_place, id_in_range, id_allowed, has_same_ids}
-use Rattle.twkb_tree.specs.Admits.{precision_in_range, precision_fits, is_whole, points_fit, fits}
+use Rattle.twkb_tree.specs.Admits.{precision_in_range, precision_fits, is_geometry, points_fit, fits}
 use Rattle.twkb_tree.specs.Accepted.{nest_kept, Continues}
 use Rattle.twkb_tree.specs.Open.{AreOpen, IsOpenAt, open_count, row_of, child_of, open_parent}
 use Rattle.twkb_tree.specs.Open.{count_at, open_refusal, is_next, open_continues}
 use Rattle.twkb_tree.specs.RowLists.{AreValidRowsOfOne}
 use Rattle.twkb_tree.specs.Refusal.{checks_under, first_failed, continues}
-use Rattle.twkb_tree.specs.Standing.{standing_at}
+use Rattle.twkb_tree.specs.RowPlace.{row_place_at}
 use Rattle.twkb_tree.proofs.OpenRefusal.{stepless, no_open_parent, open_parent_at}
 use Rattle.twkb_tree.proofs.RefusalLaws.{passes, passed, joined, apart, none_is, continues_is, continues_true}
 use Rattle.twkb_tree.proofs.RowTests.{both_true, both, below_test, within_test, test_within}
@@ -36,7 +36,7 @@ alike false true to from = from refl
 alike false false to from = refl
 
 -- at its place a row is admitted exactly if it is not refused
-admitted_there : (l : Allowance) (d : ℕ) (steps : Bool) (s : Standing) (r : Row)
+admitted_there : (l : Allowance) (d : ℕ) (steps : Bool) (s : RowPlace) (r : Row)
     → AreInRange r.points → steps ≡ true → s.depth ≡ r.depth
     → is_admitted_at l s r ≡ is_none (first_failed
     (checks_under l steps (row_of s.parent) (child_of s.parent) s.nodes s.points r))
@@ -84,12 +84,12 @@ far : (m n : ℕ) → n < m → nat_le m n ≡ false
 far m n lt = grind (arith, nat_tests)
 
 -- the test at the row's place is the test by the open rows
-pub continues_there : (l : Allowance) (os : List OpenRow) (nodes points : ℕ) (s : Standing)
+pub continues_there : (l : Allowance) (os : List OpenRow) (nodes points : ℕ) (s : RowPlace)
     (r : Row) → AreInRange r.points → is_next os r ≡ true
-    → (r.depth ≤ length os) × (s ≡ standing_at r.depth os nodes points)
+    → (r.depth ≤ length os) × (s ≡ row_place_at r.depth os nodes points)
     → is_admitted_at l s r ≡ open_continues l os nodes points r
 continues_there l os nodes points s r in_range next stands =
-    let there = standing_at r.depth os nodes points in
+    let there = row_place_at r.depth os nodes points in
     ap (λ t. is_admitted_at l t r) stands.1
     ∙ admitted_there l r.depth (nat_le r.depth (length os)) there r in_range (near r.depth (length os) stands.0) refl
     ∙ sym (and_true (is_none (open_refusal l os nodes points r)) (is_next os r) next)
@@ -127,13 +127,13 @@ seventh a b c d e f g pa pb pc pd pe pf = rw (pa, pb, pc, pd, pe, pf) refl
 pub fits_by_count : (p f : Option Row) (r : Row) → has_place p r.kind ≡ true
     → id_in_range r.id ≡ true → (id_allowed p r.kind r.id && has_same_ids f r.id) ≡ true
     → (precision_in_range r.precision && precision_fits p r.precision) ≡ true
-    → points_fit r.kind (is_whole p) r.points ≡ fits p f r
+    → points_fit r.kind (is_geometry p) r.points ≡ fits p f r
 fits_by_count p f r place range id precision =
     let ids = both_true (id_allowed p r.kind r.id) (has_same_ids f r.id) id in
     let two = both_true (precision_in_range r.precision) (precision_fits p r.precision) precision in
     sym (seventh (has_place p r.kind) (id_in_range r.id) (id_allowed p r.kind r.id)
     (has_same_ids f r.id) (precision_in_range r.precision) (precision_fits p r.precision)
-    (points_fit r.kind (is_whole p) r.points) place range ids.0 ids.1 two.0 two.1)
+    (points_fit r.kind (is_geometry p) r.points) place range ids.0 ids.1 two.0 two.1)
 
 -- ---- the place of a row
 
@@ -151,7 +151,7 @@ open_is d before os blank o a lt h = open_alike d before (get_or os d blank) o (
 
 -- a root has no parent
 pub root_stands : (d nodes points : ℕ) (os : List OpenRow) → d ≡ 0
-    → record { depth = d; parent = None; nodes = 0; points = 0 } ≡ standing_at d os nodes points
+    → record { depth = d; parent = None; nodes = 0; points = 0 } ≡ row_place_at d os nodes points
 root_stands zero nodes points os e = ap (λ (o : Option OpenRow).
     record { depth = 0; parent = o; nodes = 0; points = 0 }) (sym (no_open_parent os))
 root_stands (suc d) nodes points os e = absurd (omega (arith, e))
@@ -159,7 +159,7 @@ root_stands (suc d) nodes points os e = absurd (omega (arith, e))
 -- any other row's parent is the open row above it
 child_stands : (d nodes points : ℕ) (before : List Row) (os : List OpenRow) (o : OpenRow) → 0 < d
     → AreOpen before os → d ≤ length os → IsOpenAt (d - 1) before o
-    → record { depth = d; parent = Some o; nodes = nodes; points = points } ≡ standing_at d os nodes points
+    → record { depth = d; parent = Some o; nodes = nodes; points = points } ≡ row_place_at d os nodes points
 child_stands zero nodes points before os o some a le h = absurd (omega arith)
 child_stands (suc d) nodes points before os o some a le h =
     let above : suc d - 1 ≡ d = omega arith in
@@ -176,7 +176,7 @@ child_stands (suc d) nodes points before os o some a le h =
 pub other_stands : (d n m nodes points : ℕ) (before : List Row) (os : List OpenRow) (o : OpenRow)
     → (d ≡ 0 → ⊥) → AreOpen before os → d ≤ open_count before → IsOpenAt (d - 1) before o
     → n ≡ nodes → m ≡ points
-    → record { depth = d; parent = Some o; nodes = n; points = m } ≡ standing_at d os nodes points
+    → record { depth = d; parent = Some o; nodes = n; points = m } ≡ row_place_at d os nodes points
 other_stands d n m nodes points before os o some a le h n_is m_is =
     ap (λ (k : ℕ). record { depth = d; parent = Some o; nodes = k; points = m }) n_is
     ∙ ap (λ (k : ℕ). record { depth = d; parent = Some o; nodes = nodes; points = k }) m_is

@@ -21,13 +21,13 @@ use Rattle.twkb_tree.proofs.RowFitting.{own_row-depth}
 use Rattle.twkb_tree.proofs.RowsOfTrees.{geometries_are}
 use Rattle.twkb_flat.specs.declared.node.Row.{Row as FlatRow}
 use Rattle.twkb_flat.specs.Rows.{row_with}
-use Rattle.twkb_flat.specs.Parts.{part_rows}
-use Rattle.twkb_flat.specs.Taking.{ItemAt, EachAt, TreeAt, IsAny, AreOf}
+use Rattle.twkb_flat.specs.Components.{component_rows}
+use Rattle.twkb_flat.specs.Taking.{OneAt, EachAt, TreeAt, IsAny, AreOf}
 use Rattle.twkb_flat.proofs.TakeLemmas.{drop_more}
-use Rattle.twkb_flat.proofs.BuildParts.{ids_below, points_below, lines_below, areas_below}
-use Rattle.twkb_flat.proofs.BuildParts.{members_below, length-members, is_point, is_line}
-use Rattle.twkb_flat.proofs.BuildParts.{is_polygon, is_multi_point, is_multi_line, is_multi_polygon}
-use Rattle.twkb_flat.proofs.BuildParts.{is_members}
+use Rattle.twkb_flat.proofs.BuildComponents.{ids_below, points_below, lines_below, areas_below}
+use Rattle.twkb_flat.proofs.BuildComponents.{members_below, length-members, is_point, is_line}
+use Rattle.twkb_flat.proofs.BuildComponents.{is_polygon, is_multi_point, is_multi_line, is_multi_polygon}
+use Rattle.twkb_flat.proofs.BuildComponents.{is_members}
 
 -- the precision of a geometry's own row is the geometry's
 own_row-precision : (id : Option ℤ) (d : ℕ) (g : Tree) → (own_row id d g).precision ≡ Some (precision_of g)
@@ -101,23 +101,23 @@ all_any (x ∷ xs) = (tt, all_any xs)
 -- the rings of a polygon come after its own row
 pub rings_at : (rows : List Row) (at d : ℕ) (id : Option ℤ) (g : Tree) (rest : List Row)
     (row : FlatRow) → TreeAt rows at d id g rest → Told rows at row → row.kind ≡ kind.Polygon
-    → EachAt IsAny (part_rows (λ (ps : List Point). ps) (λ k ps. []) kind.Ring (row.depth + 1)) rows
+    → EachAt IsAny (component_rows (λ (ps : List Point). ps) (λ k ps. []) kind.Ring (row.depth + 1)) rows
     (at + 1) (row.depth + 1) None (lines_below g) rest
 rings_at rows at d id g rest row it told k =
     let whole = is_polygon id d g (sym (read_kind rows at d id g rest row it told) ∙ k) in
-    each_below IsAny (part_rows (λ (ps : List Point). ps) (λ k ps. []) kind.Ring) rows at d id g
+    each_below IsAny (component_rows (λ (ps : List Point). ps) (λ k ps. []) kind.Ring) rows at d id g
     rest row.depth None (lines_below g) it (read_depth rows at d id g rest row it told)
     (all_any (lines_below g)) tt (ap (rows_under (suc d)) (sym whole))
 
 -- the points of a multipoint come after its own row
 pub points_at : (rows : List Row) (at d : ℕ) (id : Option ℤ) (g : Tree) (rest : List Row)
     (row : FlatRow) → TreeAt rows at d id g rest → Told rows at row → row.kind ≡ kind.MultiPoint
-    → EachAt IsAny (part_rows (λ (p : Point). p ∷ []) (λ k p. []) kind.Point (row.depth + 1)) rows
+    → EachAt IsAny (component_rows (λ (p : Point). p ∷ []) (λ k p. []) kind.Point (row.depth + 1)) rows
     (at + 1) (row.depth + 1) (ids_below g) (points_below g) rest
 points_at rows at d id g rest row it told k =
     let whole = is_multi_point id d g (sym (read_kind rows at d id g rest row it told) ∙ k) in
     let sound = subst IsTree (sym whole) it.is_sound in
-    each_below IsAny (part_rows (λ (p : Point). p ∷ []) (λ k p. []) kind.Point) rows at d id g rest
+    each_below IsAny (component_rows (λ (p : Point). p ∷ []) (λ k p. []) kind.Point) rows at d id g rest
     row.depth (ids_below g) (points_below g) it (read_depth rows at d id g rest row it told)
     (all_any (points_below g)) sound.1 (ap (rows_under (suc d)) (sym whole))
 
@@ -125,12 +125,12 @@ points_at rows at d id g rest row it told k =
 pub lines_at : (rows : List Row) (at d : ℕ) (id : Option ℤ) (g : Tree) (rest : List Row)
     (row : FlatRow) → TreeAt rows at d id g rest → Told rows at row
     → row.kind ≡ kind.MultiLinestring → EachAt IsAny
-    (part_rows (λ (ps : List Point). ps) (λ k ps. []) kind.Linestring (row.depth + 1)) rows (at + 1)
+    (component_rows (λ (ps : List Point). ps) (λ k ps. []) kind.Linestring (row.depth + 1)) rows (at + 1)
     (row.depth + 1) (ids_below g) (lines_below g) rest
 lines_at rows at d id g rest row it told k =
     let whole = is_multi_line id d g (sym (read_kind rows at d id g rest row it told) ∙ k) in
     let sound = subst IsTree (sym whole) it.is_sound in
-    each_below IsAny (part_rows (λ (ps : List Point). ps) (λ k ps. []) kind.Linestring) rows at d id
+    each_below IsAny (component_rows (λ (ps : List Point). ps) (λ k ps. []) kind.Linestring) rows at d id
     g rest row.depth (ids_below g) (lines_below g) it
     (read_depth rows at d id g rest row it told) (all_any (lines_below g)) sound.1
     (ap (rows_under (suc d)) (sym whole))
@@ -138,12 +138,12 @@ lines_at rows at d id g rest row it told k =
 -- the polygons of a multipolygon come after its own row
 pub areas_at : (rows : List Row) (at d : ℕ) (id : Option ℤ) (g : Tree) (rest : List Row)
     (row : FlatRow) → TreeAt rows at d id g rest → Told rows at row → row.kind ≡ kind.MultiPolygon
-    → EachAt IsAny (part_rows (λ (rings : List (List Point)). []) ring_rows kind.Polygon
+    → EachAt IsAny (component_rows (λ (rings : List (List Point)). []) ring_rows kind.Polygon
     (row.depth + 1)) rows (at + 1) (row.depth + 1) (ids_below g) (areas_below g) rest
 areas_at rows at d id g rest row it told k =
     let whole = is_multi_polygon id d g (sym (read_kind rows at d id g rest row it told) ∙ k) in
     let sound = subst IsTree (sym whole) it.is_sound in
-    each_below IsAny (part_rows (λ (rings : List (List Point)). []) ring_rows kind.Polygon) rows at
+    each_below IsAny (component_rows (λ (rings : List (List Point)). []) ring_rows kind.Polygon) rows at
     d id g rest row.depth (ids_below g) (areas_below g) it
     (read_depth rows at d id g rest row it told) (all_any (areas_below g)) sound.1
     (ap (rows_under (suc d)) (sym whole))
@@ -182,17 +182,17 @@ members_at rows at d id g rest row it told k =
     (ap (rows_under (suc d)) (sym (is_members id d g is))
     ∙ sym (member_rows_each (suc d) (ids_below g) (members_below g)))
 
--- the rings of a polygon that is a part come after its own row
-pub part_rings_at : (rows : List Row) (at : ℕ) (k : Kind) (d : ℕ) (id : Option ℤ)
+-- the rings of a polygon that is a component come after its own row
+pub component_rings_at : (rows : List Row) (at : ℕ) (k : Kind) (d : ℕ) (id : Option ℤ)
     (rings : List (List Point)) (rest : List Row) (row : FlatRow)
-    → ItemAt IsAny (part_rows (λ (r : List (List Point)). []) ring_rows k d) rows at d id rings rest
+    → OneAt IsAny (component_rows (λ (r : List (List Point)). []) ring_rows k d) rows at d id rings rest
     → Told rows at row
-    → EachAt IsAny (part_rows (λ (ps : List Point). ps) (λ j ps. []) kind.Ring (row.depth + 1)) rows
+    → EachAt IsAny (component_rows (λ (ps : List Point). ps) (λ j ps. []) kind.Ring (row.depth + 1)) rows
     (at + 1) (row.depth + 1) None rings rest
-part_rings_at rows at k d id rings rest row it told =
+component_rings_at rows at k d id rings rest row it told =
     let depth : row.depth ≡ d = ap (λ (r : Row). r.depth)
     (told (plain_row d k id []) (ring_rows (suc d) rings ++ rest) it.here) in
-    subst (λ j. EachAt IsAny (part_rows (λ (ps : List Point). ps) (λ i ps. []) kind.Ring j) rows
+    subst (λ j. EachAt IsAny (component_rows (λ (ps : List Point). ps) (λ i ps. []) kind.Ring j) rows
     (at + 1) j None rings rest) (sym (ap (λ j. j + 1) depth ∙ add-one d)) (record {
       are_sound = all_any rings;
       ids_fit = tt;

@@ -18,7 +18,7 @@ use Rattle.twkb_tree.proofs.RootLimits.{valid_list, continues_row, one_valid_fro
 use Rattle.twkb_tree.proofs.RowDepths.{valid_depths}
 use Rattle.twkb_tree.proofs.RowFitting.{own_row-depth}
 use Rattle.twkb_tree.proofs.RowMembers.{each_next, ids_from_start, member_rows_each, own_row_first, under_shape}
-use Rattle.twkb_flat.specs.Parts.{IsSimple, part_rows}
+use Rattle.twkb_flat.specs.Components.{IsSimple, component_rows}
 
 -- these are rows of one geometry within the largest limits
 abbrev pub AreFlatRows : List Row → Type 0
@@ -108,43 +108,43 @@ pub has_rows_all : {A : Type 0} (f : Option ℤ → A → List Row) (ids : Ids) 
 has_rows_all f ids xs i index old now has done = sym (append-nil now)
     ∙ ap (λ ys. now ++ rows_of_each f (ids_from i ids) ys) (sym (drop_all i xs done)) ∙ has.rows
 
--- ---- a part
+-- ---- a component
 
--- the part's own row may be pushed
-pub part_may_push : {A : Type 0} (own : A → List Point) (below : ℕ → A → List Row) (k : Kind)
+-- the component's own row may be pushed
+pub component_may_push : {A : Type 0} (own : A → List Point) (below : ℕ → A → List Row) (k : Kind)
     (d : ℕ) (id : Option ℤ) (x : A) (ps : List Point) (now : List Row)
-    → AreFlatRows (now ++ part_rows own below k d id x) → ps ≡ own x
+    → AreFlatRows (now ++ component_rows own below k d id x) → ps ≡ own x
     → Continues largest_limits now (plain_row d k id ps)
-part_may_push own below k d id x ps now v e =
+component_may_push own below k d id x ps now v e =
     subst (λ (qs : List Point). Continues largest_limits now (plain_row d k id qs)) (sym e)
     (may_push now (plain_row d k id (own x)) (below (suc d) x) v)
 
 -- after its own row the rows below it come next
-pub part_goes_on : {A : Type 0} (own : A → List Point) (below : ℕ → A → List Row) (k : Kind) (d : ℕ)
+pub component_goes_on : {A : Type 0} (own : A → List Point) (below : ℕ → A → List Row) (k : Kind) (d : ℕ)
     (id : Option ℤ) (x : A) (ps : List Point) (now after : List Row)
-    → AreFlatRows (now ++ part_rows own below k d id x) → ps ≡ own x
+    → AreFlatRows (now ++ component_rows own below k d id x) → ps ≡ own x
     → after ≡ now ++ plain_row d k id ps ∷ [] → AreFlatRows (after ++ below (d + 1) x)
-part_goes_on own below k d id x ps now after v e pushed =
+component_goes_on own below k d id x ps now after v e pushed =
     subst (λ j. AreFlatRows (after ++ below j x)) (sym (add-one d))
     (others_go_on now (plain_row d k id (own x)) (below (suc d) x) after v
     (pushed ∙ ap (λ (qs : List Point). now ++ plain_row d k id qs ∷ []) e))
 
--- with the rows below it, all rows of the part are pushed
-pub part_pushed : {A : Type 0} (own : A → List Point) (below : ℕ → A → List Row) (k : Kind) (d : ℕ)
+-- with the rows below it, all rows of the component are pushed
+pub component_pushed : {A : Type 0} (own : A → List Point) (below : ℕ → A → List Row) (k : Kind) (d : ℕ)
     (id : Option ℤ) (x : A) (ps : List Point) (now after last : List Row) → ps ≡ own x
     → after ≡ now ++ plain_row d k id ps ∷ [] → last ≡ after ++ below (d + 1) x
-    → last ≡ now ++ part_rows own below k d id x
-part_pushed own below k d id x ps now after last e pushed all =
+    → last ≡ now ++ component_rows own below k d id x
+component_pushed own below k d id x ps now after last e pushed all =
     all ∙ ap (λ j. after ++ below j x) (add-one d)
     ∙ ap (λ rs. rs ++ below (suc d) x)
     (pushed ∙ ap (λ (qs : List Point). now ++ plain_row d k id qs ∷ []) e)
     ∙ append_assoc now (plain_row d k id (own x) ∷ []) (below (suc d) x)
 
--- a part is no deeper than 34
-pub part_no_deeper : {A : Type 0} (own : A → List Point) (below : ℕ → A → List Row) (k : Kind)
+-- a component is no deeper than 34
+pub component_no_deeper : {A : Type 0} (own : A → List Point) (below : ℕ → A → List Row) (k : Kind)
     (d : ℕ) (id : Option ℤ) (x : A) (now : List Row)
-    → AreFlatRows (now ++ part_rows own below k d id x) → d ≤ 34
-part_no_deeper own below k d id x now v = no_deeper now (plain_row d k id (own x)) (below (suc d) x) v
+    → AreFlatRows (now ++ component_rows own below k d id x) → d ≤ 34
+component_no_deeper own below k d id x now v = no_deeper now (plain_row d k id (own x)) (below (suc d) x) v
 
 -- ---- a geometry
 

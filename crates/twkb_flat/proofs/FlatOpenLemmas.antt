@@ -1,4 +1,4 @@
--- The open rows of a form, by its entries.
+-- The open rows of a form, by its kept nodes.
 use Rattle.std.proofs.Common.{◌≡◌, ℕ, zero, suc, ◌+◌, ◌<◌, ◌≤◌, Bool, List, [], ◌∷◌, map, length}
 use Rattle.std.proofs.Common.{drop, get_or, Option, Some, None, refl, sym, ap, ◌∙◌, subst, arith}
 use Rattle.std.specs.Prelude.{reverse, slice_get, is_some}
@@ -8,12 +8,12 @@ use Rattle.std.proofs.lemmas.Option.{slice_get_past}
 use Rattle.twkb_points.specs.Point.{Point}
 use Rattle.twkb_tree.specs.Rows.{Row as TableRow}
 use Rattle.twkb_tree.specs.Open.{ids_by, open_count, IsOpenAt}
-use Rattle.twkb_flat.specs.declared.entries.PlacedRow.{PlacedRow}
-use Rattle.twkb_flat.specs.declared.entries.KeptNode.{KeptNode}
+use Rattle.twkb_flat.specs.declared.kept_nodes.PlacedRow.{PlacedRow}
+use Rattle.twkb_flat.specs.declared.kept_nodes.KeptNode.{KeptNode}
 use Rattle.twkb_flat.specs.declared.node.Row.{Row}
 use Rattle.twkb_flat.specs.Links.{levels, OpenPlace}
 use Rattle.twkb_flat.specs.Rows.{row_with, depth_of, depths}
-use Rattle.twkb_flat.specs.Entries.{IsFlat, listed, span_of, depths_in}
+use Rattle.twkb_flat.specs.KeptNodes.{IsFlat, listed, placed_of, depths_in}
 use Rattle.twkb_flat.proofs.RowLemmas.{length-listed, depths-listed}
 use Rattle.twkb_flat.proofs.ReadLemmas.{some_at}
 use Rattle.twkb_flat.proofs.LinkLemmas.{last_depth}
@@ -32,56 +32,56 @@ pub open_levels : (rows : List TableRow) → open_count (reverse rows) ≡ level
 open_levels [] = refl
 open_levels (r ∷ rest) = count_onto r rest []
 
--- the entries give the number of open rows
+-- the kept nodes give the number of open rows
 pub flat_levels : (es : List KeptNode) (ps : List Point) (rows : List TableRow)
-    → listed (map span_of es) ps ≡ rows → open_count (reverse rows) ≡ levels (depths_in es)
+    → listed (map placed_of es) ps ≡ rows → open_count (reverse rows) ≡ levels (depths_in es)
 flat_levels es ps rows view = open_levels rows
     ∙ (ap (λ (rs : List TableRow). levels (depths rs)) (sym view)
-    ∙ ap levels (depths-listed (map span_of es) ps))
+    ∙ ap levels (depths-listed (map placed_of es) ps))
 
 -- ---- one open row
 
--- whether the row of an entry has an id
+-- whether the row of a kept node has an id
 pub ids_there : (es : List KeptNode) (ps : List Point) (i : ℕ) (blank : KeptNode) → i < length es
-    → Some (is_some (get_or es i blank).span.row.id) ≡ ids_by
-    (slice_get (listed (map span_of es) ps) i)
+    → Some (is_some (get_or es i blank).placed.row.id) ≡ ids_by
+    (slice_get (listed (map placed_of es) ps) i)
 ids_there [] ps i blank h = absurd (omega arith)
 ids_there (e ∷ es) ps zero blank h = refl
-ids_there (e ∷ es) ps (suc i) blank h = ids_there es (drop e.span.points ps) i blank (omega arith)
+ids_there (e ∷ es) ps (suc i) blank h = ids_there es (drop e.placed.points ps) i blank (omega arith)
 
--- there is no id after the last entry
+-- there is no id after the last kept node
 pub no_ids : (es : List KeptNode) (ps : List Point) (i : ℕ) → i ≡ length es
-    → None ≡ ids_by (slice_get (listed (map span_of es) ps) i)
-no_ids es ps i end = sym (ap ids_by (slice_get_past (listed (map span_of es) ps) i
-    (omega (arith, end, length-listed (map span_of es) ps, length-map es span_of))))
+    → None ≡ ids_by (slice_get (listed (map placed_of es) ps) i)
+no_ids es ps i end = sym (ap ids_by (slice_get_past (listed (map placed_of es) ps) i
+    (omega (arith, end, length-listed (map placed_of es) ps, length-map es placed_of))))
 
--- the row of an entry
+-- the row of a kept node
 row_there : (es : List KeptNode) (ps : List Point) (i : ℕ) (blank : KeptNode) → i < length es
-    → (own : List Point) × (slice_get (listed (map span_of es) ps) i ≡ Some
-    (row_with (get_or es i blank).span.row own))
+    → (own : List Point) × (slice_get (listed (map placed_of es) ps) i ≡ Some
+    (row_with (get_or es i blank).placed.row own))
 row_there [] ps i blank h = absurd (omega arith)
 row_there (e ∷ es) ps zero blank h = (_, refl)
-row_there (e ∷ es) ps (suc i) blank h = row_there es (drop e.span.points ps) i blank (omega arith)
+row_there (e ∷ es) ps (suc i) blank h = row_there es (drop e.placed.points ps) i blank (omega arith)
 
 -- the test of a row sees this of the open row
 pub row_open : (es : List KeptNode) (ps : List Point) (rows : List TableRow) (d at : ℕ)
-    (e : KeptNode) (ids : Option Bool) → IsFlat es ps → listed (map span_of es) ps ≡ rows
+    (e : KeptNode) (ids : Option Bool) → IsFlat es ps → listed (map placed_of es) ps ≡ rows
     → OpenPlace (depths_in es) d at → e ≡ get_or es at e
-    → ids ≡ ids_by (slice_get (listed (map span_of es) ps) (at + 1))
-    → IsOpenAt d (reverse rows) (record { kind = e.span.row.kind; child_ids = ids })
+    → ids ≡ ids_by (slice_get (listed (map placed_of es) ps) (at + 1))
+    → IsOpenAt d (reverse rows) (record { kind = e.placed.row.kind; child_ids = ids })
 row_open es ps rows d at e ids flat view place is ids_are =
     let within : at < length es = omega (
       arith,
       place.within,
-      length-map es span_of,
-      length-map (map span_of es) (λ (s : PlacedRow). s.row.depth),
+      length-map es placed_of,
+      length-map (map placed_of es) (λ (s : PlacedRow). s.row.depth),
     ) in
     let here = row_there es ps at e within in
-    let kind : e.span.row.kind ≡ (get_or es at e).span.row.kind = ap (λ (f : KeptNode). f.span.row.kind) is in
-    let same = sym (depths-listed (map span_of es) ps) in
-    subst (λ (rs : List TableRow). IsOpenAt d (reverse rs) (record { kind = e.span.row.kind; child_ids = ids })) view
-    (open_there at d (listed (map span_of es) ps) (row_with (get_or es at e).span.row here.0)
-    (record { kind = e.span.row.kind; child_ids = ids })
+    let kind : e.placed.row.kind ≡ (get_or es at e).placed.row.kind = ap (λ (f : KeptNode). f.placed.row.kind) is in
+    let same = sym (depths-listed (map placed_of es) ps) in
+    subst (λ (rs : List TableRow). IsOpenAt d (reverse rs) (record { kind = e.placed.row.kind; child_ids = ids })) view
+    (open_there at d (listed (map placed_of es) ps) (row_with (get_or es at e).placed.row here.0)
+    (record { kind = e.placed.row.kind; child_ids = ids })
     (subst (λ (ds : List ℕ). OpenPlace ds d at) same place)
     (subst (λ (ds : List ℕ). (i : ℕ) → i + 1 < length ds
     → get_or ds (i + 1) 0 ≤ get_or ds i 0 + 1) same flat.linked.steps) here.1 kind ids_are)

@@ -1,4 +1,4 @@
--- The kinds of the last entry and of the last row.
+-- The kinds of the last kept node and of the last row.
 use Rattle.std.proofs.Common.{◌≡◌, ℕ, zero, suc, ◌+◌, List, [], ◌∷◌, ◌++◌, map, length, take, drop}
 use Rattle.std.proofs.Common.{get_or, refl, sym, ap, ◌∙◌, subst, arith}
 use Rattle.std.specs.Prelude.{◌<◌, IsTrue, ◌↔◌, Bool, nat_lt, true, false}
@@ -7,13 +7,13 @@ use Rattle.std.proofs.lemmas.List.{length-append}
 use Rattle.twkb_points.specs.Point.{Point}
 use Rattle.twkb_tree.specs.Rows.{Row as TableRow, row_points}
 use Rattle.twkb_tree.specs.RowGrowth.{EndsInLine}
-use Rattle.twkb_flat.specs.declared.entries.KeptNode.{KeptNode}
+use Rattle.twkb_flat.specs.declared.kept_nodes.KeptNode.{KeptNode}
 use Rattle.twkb_flat.specs.Rows.{row_with}
-use Rattle.twkb_flat.specs.Entries.{listed, span_of}
+use Rattle.twkb_flat.specs.KeptNodes.{listed, placed_of}
 use Rattle.twkb_flat.specs.Lasts.{IsLineKind, LastIsLine}
 
 pub last_of : (es : List KeptNode) (i : ℕ) (d : KeptNode) → i + 1 ≡ length es → LastIsLine es
-    → IsLineKind (get_or es i d).span.row.kind
+    → IsLineKind (get_or es i d).placed.row.kind
 last_of [] i d at h = absurd (omega arith)
 last_of (e ∷ []) zero d at h = h
 last_of (e ∷ []) (suc i) d at h = absurd (omega arith)
@@ -21,25 +21,25 @@ last_of (e ∷ f ∷ es) zero d at h = absurd (omega arith)
 last_of (e ∷ f ∷ es) (suc i) d at h = last_of (f ∷ es) i d (omega arith) h
 
 pub last_is : (es : List KeptNode) (i : ℕ) (d : KeptNode) → i + 1 ≡ length es
-    → IsLineKind (get_or es i d).span.row.kind → LastIsLine es
+    → IsLineKind (get_or es i d).placed.row.kind → LastIsLine es
 last_is [] i d at h = absurd (omega arith)
 last_is (e ∷ []) zero d at h = h
 last_is (e ∷ []) (suc i) d at h = absurd (omega arith)
 last_is (e ∷ f ∷ es) zero d at h = absurd (omega arith)
 last_is (e ∷ f ∷ es) (suc i) d at h = last_is (f ∷ es) i d (omega arith) h
 
--- the rows end in a line if the last entry is a line's
-pub rows_end : (es : List KeptNode) (ps : List Point) → LastIsLine es → EndsInLine (listed (map span_of es) ps)
+-- the rows end in a line if the last kept node is a line's
+pub rows_end : (es : List KeptNode) (ps : List Point) → LastIsLine es → EndsInLine (listed (map placed_of es) ps)
 rows_end [] ps h = absurd h
 rows_end (e ∷ []) ps h = record {
   front = [];
-  last = row_with e.span.row (take e.span.points ps);
+  last = row_with e.placed.row (take e.placed.points ps);
   line = h;
   whole = refl;
 }
 rows_end (e ∷ f ∷ es) ps h =
-    let more = rows_end (f ∷ es) (drop e.span.points ps) h in
-    let first = row_with e.span.row (take e.span.points ps) in
+    let more = rows_end (f ∷ es) (drop e.placed.points ps) h in
+    let first = row_with e.placed.row (take e.placed.points ps) in
     record {
       front = first ∷ more.front;
       last = more.last;
@@ -59,24 +59,24 @@ abbrev tail_of : List TableRow → List TableRow
 tail_of [] = []
 tail_of (s ∷ rs) = rs
 
--- the last entry is a line's if the rows end in a line
+-- the last kept node is a line's if the rows end in a line
 pub ends_rows : (es : List KeptNode) (ps : List Point) (front : List TableRow) (last : TableRow)
-    → listed (map span_of es) ps ≡ front ++ last ∷ [] → IsLineKind last.kind → LastIsLine es
+    → listed (map placed_of es) ps ≡ front ++ last ∷ [] → IsLineKind last.kind → LastIsLine es
 ends_rows [] ps front last whole line = absurd (some_behind front last whole)
 ends_rows (e ∷ []) ps [] last whole line = subst (λ (r : TableRow). IsLineKind r.kind)
     (sym (ap (head_or last) whole)) line
 ends_rows (e ∷ []) ps (r ∷ front) last whole line = absurd (some_behind front last (ap tail_of whole))
 ends_rows (e ∷ f ∷ es) ps [] last whole line = absurd
     (omega (arith, ap (λ (rs : List TableRow). length rs) (ap tail_of whole)))
-ends_rows (e ∷ f ∷ es) ps (r ∷ front) last whole line = ends_rows (f ∷ es) (drop e.span.points ps)
+ends_rows (e ∷ f ∷ es) ps (r ∷ front) last whole line = ends_rows (f ∷ es) (drop e.placed.points ps)
     front last (ap tail_of whole) line
 
 true_false : true ≡ false → ⊥
 true_false t = absurd (grind (arith, nat_tests))
 
--- the test of the last entry is a test of the last row
+-- the test of the last kept node is a test of the last row
 pub both : (b : Bool) (count most : ℕ) (es : List KeptNode) (ps : List Point) (rows : List TableRow)
-    → listed (map span_of es) ps ≡ rows → count ≡ length (row_points rows)
+    → listed (map placed_of es) ps ≡ rows → count ≡ length (row_points rows)
     → (IsTrue b ↔ LastIsLine es) → b ≡ true
     → IsTrue (nat_lt count most) ↔ (EndsInLine rows × (length (row_points rows) < most))
 both b count most es ps rows view total (forth, back) t = (
@@ -89,7 +89,7 @@ both b count most es ps rows view total (forth, back) t = (
 )
 
 pub neither : (b : Bool) (most : ℕ) (es : List KeptNode) (ps : List Point) (rows : List TableRow)
-    → listed (map span_of es) ps ≡ rows → (IsTrue b ↔ LastIsLine es) → b ≡ false
+    → listed (map placed_of es) ps ≡ rows → (IsTrue b ↔ LastIsLine es) → b ≡ false
     → IsTrue false ↔ (EndsInLine rows × (length (row_points rows) < most))
 neither b most es ps rows view (forth, back) f = (
   (λ t. absurd (true_false (sym t))),

@@ -1,11 +1,11 @@
--- The last entry gets its link, and the open entries that end before it get theirs.
+-- The last kept node gets its link, and the open kept nodes that end before it get theirs.
 use Rattle.std.proofs.Common.{◌≡◌, ℕ, ◌+◌, ◌-◌, ◌<◌, ◌≤◌, List, [], ◌∷◌, ◌++◌, map, length, take}
 use Rattle.std.proofs.Common.{set, get_or, refl, sym, ap, ◌∙◌, subst, arith}
 use Rattle.std.proofs.lemmas.List.{length-map, length-take-le, length-set, get_or-set_same}
 use Rattle.std.proofs.lemmas.List.{get_or-set_other, take_all, take_more}
-use Rattle.twkb_flat.specs.declared.entries.KeptNode.{KeptNode}
+use Rattle.twkb_flat.specs.declared.kept_nodes.KeptNode.{KeptNode}
 use Rattle.twkb_flat.specs.Links.{OpenPlace, Linked, AreClosed}
-use Rattle.twkb_flat.specs.Entries.{IsUnlinked, span_of, next_of, depths_in, links_in}
+use Rattle.twkb_flat.specs.KeptNodes.{IsUnlinked, placed_of, next_of, depths_in, links_in}
 use Rattle.twkb_flat.proofs.LinkLemmas.{linked_push}
 use Rattle.twkb_flat.proofs.ClosingLemmas.{length-depths_in, depth_in, read_here}
 
@@ -22,11 +22,11 @@ closed_set ds nexts after d next at up behind closed = record {
 }
 
 -- the links with the last one
-pub last_linked : (es mid : List KeptNode) (at up : ℕ) → IsUnlinked es at → map span_of mid ≡ map span_of es
+pub last_linked : (es mid : List KeptNode) (at up : ℕ) → IsUnlinked es at → map placed_of mid ≡ map placed_of es
     → AreClosed (take at (depths_in es)) (take at (links_in es)) (links_in mid) (get_or (depths_in es) at 0) at
     → up ≤ at → ((e : ℕ) → get_or (depths_in es) at 0 ≡ e + 1
     → OpenPlace (take at (depths_in es)) e up) → Linked (depths_in es) (set (links_in mid) at up)
-last_linked es mid at up unlinked spans closed before parent =
+last_linked es mid at up unlinked placed_rows closed before parent =
     let ds = take at (depths_in es) in
     let d = get_or (depths_in es) at 0 in
     let all : length (depths_in es) ≡ at + 1 = length-depths_in es ∙ unlinked.last in
@@ -35,9 +35,9 @@ last_linked es mid at up unlinked spans closed before parent =
       arith,
       unlinked.last,
       length-map mid next_of,
-      length-map mid span_of,
-      length-map es span_of,
-      ap length spans,
+      length-map mid placed_of,
+      length-map es placed_of,
+      ap length placed_rows,
     ) in
     let made : Linked (ds ++ d ∷ []) (set (links_in mid) at up) = linked_push ds
     (take at (links_in es)) (set (links_in mid) at up) d up unlinked.linked unlinked.place
@@ -63,26 +63,26 @@ root_linked es unlinked =
 
 -- the link of a row after others
 pub other_linked : (es mid : List KeptNode) (at up : ℕ) → IsUnlinked es at → (at ≡ 0 → ⊥)
-    → map span_of mid ≡ map span_of es
+    → map placed_of mid ≡ map placed_of es
     → AreClosed (take at (depths_in es)) (take at (links_in es)) (links_in mid) (get_or (depths_in es) at 0) at
     → ((e : ℕ) → get_or (depths_in es) at 0 ≡ e + 1 → OpenPlace (take at (depths_in es)) e up)
     → Linked (depths_in es) (set (links_in mid) at up)
-other_linked es mid at up unlinked some spans closed parent =
+other_linked es mid at up unlinked some placed_rows closed parent =
     let size : length (take at (depths_in es)) ≡ at = length-take-le at (depths_in es)
     (omega (arith, length-depths_in es, unlinked.last)) in
     let deep : 0 < get_or (depths_in es) at 0 = unlinked.place.below (omega (arith, size, some)) in
     let above = parent (get_or (depths_in es) at 0 - 1) (omega (arith, deep)) in
-    last_linked es mid at up unlinked spans closed (omega (arith, above.within, size)) parent
+    last_linked es mid at up unlinked placed_rows closed (omega (arith, above.within, size)) parent
 
 -- the link of a row after others, for a depth that was read
 pub read_linked : (es mid : List KeptNode) (at up : ℕ) (blank : KeptNode) → IsUnlinked es at
-    → (at ≡ 0 → ⊥) → map span_of mid ≡ map span_of es
-    → AreClosed (take at (depths_in es)) (take at (links_in es)) (links_in mid) (get_or es at blank).span.row.depth at
-    → ((e : ℕ) → (get_or es at blank).span.row.depth ≡ e + 1
+    → (at ≡ 0 → ⊥) → map placed_of mid ≡ map placed_of es
+    → AreClosed (take at (depths_in es)) (take at (links_in es)) (links_in mid) (get_or es at blank).placed.row.depth at
+    → ((e : ℕ) → (get_or es at blank).placed.row.depth ≡ e + 1
     → OpenPlace (take at (depths_in es)) e up) → Linked (depths_in es) (set (links_in mid) at up)
-read_linked es mid at up blank unlinked some spans closed parent =
+read_linked es mid at up blank unlinked some placed_rows closed parent =
     let h : at < length es = omega (arith, unlinked.last) in
     let depth = depth_in es at (get_or es at blank) h (read_here es at blank h) in
-    other_linked es mid at up unlinked some spans
+    other_linked es mid at up unlinked some placed_rows
     (subst (λ (d : ℕ). AreClosed (take at (depths_in es)) (take at (links_in es)) (links_in mid)
     d at) (sym depth) closed) (λ e is. parent e (sym depth ∙ is))

@@ -3,7 +3,7 @@ pub mod AdmitLemmas
 pub mod ClosingLemmas
 pub mod CountedMore
 pub mod CountedPoints
-pub mod EntryLemmas
+pub mod KeptNodeLemmas
 pub mod FlatLaws
 pub mod FlatOpenLemmas
 pub mod FillLemmas
@@ -20,5 +20,5 @@ pub mod RowLemmas
 pub mod ReadLemmas
 pub mod TakeLemmas
 pub mod BeginLemmas
-pub mod BuildParts
+pub mod BuildComponents
 pub mod BuildLemmas

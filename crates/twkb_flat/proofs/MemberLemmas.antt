@@ -24,12 +24,12 @@ use Rattle.twkb_tree.proofs.RowPoints.{length-row_points, row_points-append}
 use Rattle.twkb_tree.proofs.RowTests.{both, test_below, test_within}
 use Rattle.twkb_tree.proofs.RowsLocal.{continues_open}
 use Rattle.twkb_flat.specs.declared.node.Row.{Row}
-use Rattle.twkb_flat.specs.declared.entries.KeptNode.{KeptNode}
+use Rattle.twkb_flat.specs.declared.kept_nodes.KeptNode.{KeptNode}
 use Rattle.twkb_flat.specs.Links.{levels, Linked}
-use Rattle.twkb_flat.specs.Entries.{IsFlat, depths_in, links_in, listed, next_of, span_depth, span_of}
+use Rattle.twkb_flat.specs.KeptNodes.{IsFlat, depths_in, links_in, listed, next_of, placed_depth, placed_of}
 use Rattle.twkb_flat.specs.Members.{with_member, OpenInMember, EndsInMember}
 use Rattle.twkb_flat.proofs.AdmitLemmas.{later_next, open_is, rows_open}
-use Rattle.twkb_flat.proofs.ClosingLemmas.{length-depths_in, link_in, some_entry}
+use Rattle.twkb_flat.proofs.ClosingLemmas.{length-depths_in, link_in, some_node}
 use Rattle.twkb_flat.proofs.FlatOpenLemmas.{flat_levels}
 use Rattle.twkb_flat.proofs.LinkLemmas.{last_depth, linked_beside}
 use Rattle.twkb_flat.proofs.PushLemmas.{Pushed, depths_more, flat_after, view_after}
@@ -168,21 +168,21 @@ in_member rows d count b o p valid counted some last parent member parent_is mem
     (above ∙ parent_is) (ap (λ (k : ℕ). get_or found.0 k o) deep ∙ (below ∙ member_is)) in
     record { os = found.0; are_open = found.1; ends = subst (λ (k : ℕ). OpenInMember k b found.0) deep two }
 
--- there is a last entry, at the member's depth
-pub member_entry : (es : List KeptNode) (ps : List Point) (rows : List TableRow) (d : ℕ) (b : Bool)
-    → listed (map span_of es) ps ≡ rows → EndsInMember d b rows → (0 < length es)
+-- there is a last kept node, at the member's depth
+pub member_node : (es : List KeptNode) (ps : List Point) (rows : List TableRow) (d : ℕ) (b : Bool)
+    → listed (map placed_of es) ps ≡ rows → EndsInMember d b rows → (0 < length es)
     × (levels (depths_in es) ≡ d + 1)
-member_entry es ps rows d b view ends =
+member_node es ps rows d b view ends =
     let deepest : levels (depths_in es) ≡ d + 1 = sym (flat_levels es ps rows view) ∙ (member_last rows d b ends).1 in
-    (some_entry es d (omega (arith, deepest)), deepest)
+    (some_node es d (omega (arith, deepest)), deepest)
 
--- the entries with the new member, which gets the link of the last one
+-- the kept nodes with the new member, which gets the link of the last one
 pub member_pushed : (es mid after : List KeptNode) (ps now : List Point) (p : Point) (e : KeptNode)
     (last first total d : ℕ) (id : Option ℤ) (rows : List TableRow) → IsFlat es ps
-    → listed (map span_of es) ps ≡ rows → EndsInMember d (is_some id) rows
+    → listed (map placed_of es) ps ≡ rows → EndsInMember d (is_some id) rows
     → last + 1 ≡ total → length es ≡ total → length ps ≡ first → e ≡ get_or es last e
     → mid ≡ es ++ record {
-      span = record {
+      placed = record {
         row = record {
           depth = d;
           kind = Kind.Point;
@@ -194,14 +194,14 @@ pub member_pushed : (es mid after : List KeptNode) (ps now : List Point) (p : Po
       };
       next = e.next;
     } ∷ [] → now ≡ ps ++ p ∷ []
-    → map span_of after ≡ map span_of mid → links_in after ≡ set (links_in mid) last total
+    → map placed_of after ≡ map placed_of mid → links_in after ≡ set (links_in mid) last total
     → Pushed es after ps (p ∷ []) now
     (record { depth = d; kind = Kind.Point; id = id; precision = None })
 member_pushed es mid after ps now p e last first total d id rows flat view ends last_is total_is
-    first_is e_is mid_is now_is spans links =
+    first_is e_is mid_is now_is placed_rows links =
     let row : Row = record { depth = d; kind = Kind.Point; id = id; precision = None } in
-    let entry : KeptNode = record { span = record { row = row; first = first; points = 1 }; next = e.next } in
-    let deepest = (member_entry es ps rows d (is_some id) view ends).1 in
+    let kept_node : KeptNode = record { placed = record { row = row; first = first; points = 1 }; next = e.next } in
+    let deepest = (member_node es ps rows d (is_some id) view ends).1 in
     let size : length (depths_in es) ≡ total = length-depths_in es ∙ total_is in
     let end : last + 1 ≡ length (depths_in es) = omega (arith, last_is, size) in
     let here : get_or (depths_in es) last 0 ≡ d = omega (arith, last_depth (depths_in es) last end, deepest) in
@@ -210,16 +210,16 @@ member_pushed es mid after ps now p e last first total d id rows flat view ends 
     (links_in es ++ get_or (links_in es) last 0 ∷ []) last (length (depths_in es))) =
     linked_beside (depths_in es) (links_in es) d last flat.linked end here
     (member_last rows d (is_some id) ends).0 in
-    let depths : depths_in after ≡ depths_in es ++ d ∷ [] = ap (map span_depth) spans
-    ∙ (ap depths_in mid_is ∙ depths_more es entry) in
+    let depths : depths_in after ≡ depths_in es ++ d ∷ [] = ap (map placed_depth) placed_rows
+    ∙ (ap depths_in mid_is ∙ depths_more es kept_node) in
     let nexts : links_in after ≡ set (links_in es ++ get_or (links_in es) last 0 ∷ []) last (length (depths_in es)) =
     links ∙ (ap (λ (xs : List KeptNode). set (links_in xs) last total) mid_is
-    ∙ (ap (λ (ls : List ℕ). set ls last total) (map_push next_of es entry)
+    ∙ (ap (λ (ls : List ℕ). set ls last total) (map_push next_of es kept_node)
     ∙ (ap (λ (n : ℕ). set (links_in es ++ n ∷ []) last total) (sym up)
     ∙ ap (λ (n : ℕ). set (links_in es ++ get_or (links_in es) last 0 ∷ []) last n) (sym size)))) in
     record {
-      spans = spans ∙ (ap (map span_of) mid_is ∙ (map_push span_of es entry
-          ∙ ap (λ (n : ℕ). map span_of es ++ record { row = row; first = n; points = 1 } ∷ [])
+      placed_rows = placed_rows ∙ (ap (map placed_of) mid_is ∙ (map_push placed_of es kept_node
+          ∙ ap (λ (n : ℕ). map placed_of es ++ record { row = row; first = n; points = 1 } ∷ [])
           (sym first_is)));
       linked = subst (λ (ds : List ℕ). Linked ds (links_in after)) (sym depths)
           (subst (λ (ls : List ℕ). Linked (depths_in es ++ d ∷ []) ls) (sym nexts) made);
@@ -228,11 +228,11 @@ member_pushed es mid after ps now p e last first total d id rows flat view ends 
 
 -- the form after the new member, and its rows
 pub member_kept : (es after : List KeptNode) (ps now : List Point) (p : Point) (d : ℕ)
-    (id : Option ℤ) (rows : List TableRow) → IsFlat es ps → listed (map span_of es) ps ≡ rows
+    (id : Option ℤ) (rows : List TableRow) → IsFlat es ps → listed (map placed_of es) ps ≡ rows
     → EndsInMember d (is_some id) rows → id_in_range id ≡ true → IsInRange p → length rows < NODES_CAP
     → length (row_points rows) < POINTS_CAP
     → Pushed es after ps (p ∷ []) now (record { depth = d; kind = Kind.Point; id = id; precision = None })
-    → IsFlat after now × (listed (map span_of after) now ≡ rows ++ plain_row d Kind.Point id (p ∷ []) ∷ [])
+    → IsFlat after now × (listed (map placed_of after) now ≡ rows ++ plain_row d Kind.Point id (p ∷ []) ∷ [])
 member_kept es after ps now p d id rows flat view ends range in_range few room pushed =
     let row : Row = record { depth = d; kind = Kind.Point; id = id; precision = None } in
     let continues = member_continues rows d id p (subst (AreValidRowsOfOne largest_limits) view

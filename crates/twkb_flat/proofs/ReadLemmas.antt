@@ -1,4 +1,4 @@
--- The row at a place, by its entry.
+-- The row at a place, by its kept node.
 use Rattle.std.proofs.Common.{◌≡◌, ℕ, ◌+◌, ◌-◌, ◌<◌, ◌≤◌, List, [], ◌∷◌, ◌++◌, map, length, take}
 use Rattle.std.proofs.Common.{drop, get_or, refl, sym, ap, ◌∙◌, subst, arith, eq-eqb}
 use Rattle.std.specs.Prelude.{IsTrue, ◌↔◌, ◌==◌, slice_get, Some}
@@ -10,71 +10,73 @@ use Rattle.std.proofs.lemmas.Grind.{flat_map-append}
 use Rattle.twkb_points.specs.Point.{Point}
 use Rattle.twkb_tree.specs.Rows.{Row as TableRow, row_points}
 use Rattle.twkb_flat.specs.declared.node.Row.{Row}
-use Rattle.twkb_flat.specs.declared.entries.PlacedRow.{PlacedRow}
-use Rattle.twkb_flat.specs.declared.entries.KeptNode.{KeptNode}
+use Rattle.twkb_flat.specs.declared.kept_nodes.PlacedRow.{PlacedRow}
+use Rattle.twkb_flat.specs.declared.kept_nodes.KeptNode.{KeptNode}
 use Rattle.twkb_flat.specs.Rows.{row_with}
-use Rattle.twkb_flat.specs.Entries.{listed, Laid, span_of}
+use Rattle.twkb_flat.specs.KeptNodes.{listed, Laid, placed_of}
 use Rattle.twkb_flat.specs.Taking.{IsAt}
 use Rattle.twkb_tree.specs.Limits.{largest_limits}
 use Rattle.twkb_tree.specs.RowLists.{AreValidRowsOfOne}
 use Rattle.twkb_flat.proofs.FillLemmas.{no_deeper}
 use Rattle.twkb_flat.proofs.RowLemmas.{Here, row_at, flat_points, length-listed}
 
--- the rows from a place on, by the entry there
-pub entry_here : (es : List KeptNode) (ps : List Point) (i : ℕ) (e : KeptNode)
-    → Laid 0 (map span_of es) (length ps) → i < length es → e ≡ get_or es i e
-    → Here 0 (map span_of es) ps i e.span
-entry_here es ps i e all_laid h is =
-    let inside : i < length (map span_of es) = rw length-map h in
-    let laid : Laid 0 (map span_of es) (0 + length ps) =
-    subst (λ (n : ℕ). Laid 0 (map span_of es) n) (omega arith) all_laid in
-    let span : get_or (map span_of es) i e.span ≡ e.span = get_or-map span_of es i e e.span h ∙ sym (ap span_of is) in
-    subst (λ (s : PlacedRow). Here 0 (map span_of es) ps i s) span (row_at 0 (map span_of es) ps i e.span laid inside)
+-- the rows from a place on, by the kept node there
+pub node_here : (es : List KeptNode) (ps : List Point) (i : ℕ) (e : KeptNode)
+    → Laid 0 (map placed_of es) (length ps) → i < length es → e ≡ get_or es i e
+    → Here 0 (map placed_of es) ps i e.placed
+node_here es ps i e all_laid h is =
+    let inside : i < length (map placed_of es) = rw length-map h in
+    let laid : Laid 0 (map placed_of es) (0 + length ps) =
+    subst (λ (n : ℕ). Laid 0 (map placed_of es) n) (omega arith) all_laid in
+    let placed : get_or (map placed_of es) i e.placed ≡ e.placed = get_or-map placed_of es i e e.placed h
+    ∙ sym (ap placed_of is) in
+    subst (λ (s : PlacedRow). Here 0 (map placed_of es) ps i s) placed (row_at 0
+    (map placed_of es) ps i e.placed laid inside)
 
--- there is one entry for each row
+-- there is one kept node for each row
 pub length-rows : (es : List KeptNode) (ps : List Point) (rows : List TableRow)
-    → listed (map span_of es) ps ≡ rows → length rows ≡ length es
-length-rows es ps rows view = ap length (sym view) ∙ length-listed (map span_of es) ps ∙ length-map es span_of
+    → listed (map placed_of es) ps ≡ rows → length rows ≡ length es
+length-rows es ps rows view = ap length (sym view) ∙ length-listed (map placed_of es) ps ∙ length-map es placed_of
 
 -- the row at a place is the first of the rows from there on
 pub row_here : (es : List KeptNode) (ps : List Point) (i : ℕ) (e : KeptNode) (rows : List TableRow)
-    (r : TableRow) (rest : List TableRow) → Laid 0 (map span_of es) (length ps)
-    → listed (map span_of es) ps ≡ rows → i < length es → e ≡ get_or es i e → drop i rows ≡ r ∷ rest
-    → row_with e.span.row r.points ≡ r
+    (r : TableRow) (rest : List TableRow) → Laid 0 (map placed_of es) (length ps)
+    → listed (map placed_of es) ps ≡ rows → i < length es → e ≡ get_or es i e → drop i rows ≡ r ∷ rest
+    → row_with e.placed.row r.points ≡ r
 row_here es ps i e rows r rest laid view h is at =
-    let here = entry_here es ps i e laid h is in
-    let both : row_with e.span.row here.own ∷ here.rest ≡ r ∷ rest = sym here.here ∙ ap (drop i) view ∙ at in
-    let same : row_with e.span.row here.own ≡ r = cc both in
-    subst (λ (q : TableRow). row_with e.span.row q.points ≡ q) same refl
+    let here = node_here es ps i e laid h is in
+    let both : row_with e.placed.row here.own ∷ here.rest ≡ r ∷ rest = sym here.here ∙ ap (drop i) view ∙ at in
+    let same : row_with e.placed.row here.own ≡ r = cc both in
+    subst (λ (q : TableRow). row_with e.placed.row q.points ≡ q) same refl
 
 -- the points of the row at a place
 points_own : (es : List KeptNode) (ps : List Point) (i : ℕ) (e : KeptNode)
-    → Laid 0 (map span_of es) (length ps) → (h : Here 0 (map span_of es) ps i e.span)
-    → (before : List Point) × (after : List Point) × (length before ≡ e.span.first)
+    → Laid 0 (map placed_of es) (length ps) → (h : Here 0 (map placed_of es) ps i e.placed)
+    → (before : List Point) × (after : List Point) × (length before ≡ e.placed.first)
     × (before ++ (h.own ++ after) ≡ ps)
 points_own es ps i e laid h =
-    let rows = listed (map span_of es) ps in (
+    let rows = listed (map placed_of es) ps in (
       row_points (take i rows),
       row_points h.rest,
       omega (arith, h.first),
-      ap (λ (q : List TableRow). row_points (take i (listed (map span_of es) ps)) ++ row_points q) (sym h.here)
-          ∙ sym (flat_map-append (λ (r : TableRow). r.points) (take i (listed (map span_of es) ps))
-          (drop i (listed (map span_of es) ps)))
-          ∙ ap row_points (take-append-drop i (listed (map span_of es) ps))
-          ∙ flat_points (map span_of es) ps laid,
+      ap (λ (q : List TableRow). row_points (take i (listed (map placed_of es) ps)) ++ row_points q) (sym h.here)
+          ∙ sym (flat_map-append (λ (r : TableRow). r.points) (take i (listed (map placed_of es) ps))
+          (drop i (listed (map placed_of es) ps)))
+          ∙ ap row_points (take-append-drop i (listed (map placed_of es) ps))
+          ∙ flat_points (map placed_of es) ps laid,
     )
 
 -- the points of the row at a place are within all points
 pub points_inside : (es : List KeptNode) (ps : List Point) (i : ℕ) (e : KeptNode)
-    → Laid 0 (map span_of es) (length ps) → i < length es → e ≡ get_or es i e
-    → e.span.first + e.span.points ≤ length ps
+    → Laid 0 (map placed_of es) (length ps) → i < length es → e ≡ get_or es i e
+    → e.placed.first + e.placed.points ≤ length ps
 points_inside es ps i e laid within is =
-    let h = entry_here es ps i e laid within is in
+    let h = node_here es ps i e laid within is in
     let own = points_own es ps i e laid h in
     let own_list = h.own in
     omega (arith, own.2, h.count, ap length own.3, length-append own.0 (h.own ++ own.1), length-append h.own own.1)
 
--- a part of a list, cut out at its place
+-- a component of a list, cut out at its place
 cut_out : (before own after ps : List Point) (first count : ℕ) → length before ≡ first
     → length own ≡ count → before ++ (own ++ after) ≡ ps → take count (drop first ps) ≡ own
 cut_out before own after ps first count f n e =
@@ -84,30 +86,30 @@ cut_out before own after ps first count f n e =
 -- the points of the row at a place are those of the first row from there on
 pub points_here : (es : List KeptNode) (ps : List Point) (i : ℕ) (e : KeptNode)
     (rows : List TableRow) (r : TableRow) (rest : List TableRow)
-    → Laid 0 (map span_of es) (length ps) → listed (map span_of es) ps ≡ rows → i < length es
+    → Laid 0 (map placed_of es) (length ps) → listed (map placed_of es) ps ≡ rows → i < length es
     → e ≡ get_or es i e → drop i rows ≡ r ∷ rest
-    → take (e.span.first + e.span.points - e.span.first) (drop e.span.first ps) ≡ r.points
+    → take (e.placed.first + e.placed.points - e.placed.first) (drop e.placed.first ps) ≡ r.points
 points_here es ps i e rows r rest laid view within is at =
-    let h = entry_here es ps i e laid within is in
+    let h = node_here es ps i e laid within is in
     let own = points_own es ps i e laid h in
-    let both : row_with e.span.row h.own ∷ h.rest ≡ r ∷ rest = sym h.here ∙ ap (drop i) view ∙ at in
-    let same : row_with e.span.row h.own ≡ r = cc both in
-    let count : length h.own ≡ e.span.first + e.span.points - e.span.first = omega (arith, h.count) in
-    cut_out own.0 h.own own.1 ps e.span.first (e.span.first + e.span.points - e.span.first) own.2
+    let both : row_with e.placed.row h.own ∷ h.rest ≡ r ∷ rest = sym h.here ∙ ap (drop i) view ∙ at in
+    let same : row_with e.placed.row h.own ≡ r = cc both in
+    let count : length h.own ≡ e.placed.first + e.placed.points - e.placed.first = omega (arith, h.count) in
+    cut_out own.0 h.own own.1 ps e.placed.first (e.placed.first + e.placed.points - e.placed.first) own.2
     count own.3 ∙ ap (λ (q : TableRow). q.points) same
 
 -- no row is deeper than 34
 pub shallow_here : (es : List KeptNode) (ps : List Point) (i : ℕ) (e : KeptNode)
-    (rows : List TableRow) → AreValidRowsOfOne largest_limits (listed (map span_of es) ps)
-    → Laid 0 (map span_of es) (length ps) → i < length es → e ≡ get_or es i e
-    → e.span.row.depth < 35
+    (rows : List TableRow) → AreValidRowsOfOne largest_limits (listed (map placed_of es) ps)
+    → Laid 0 (map placed_of es) (length ps) → i < length es → e ≡ get_or es i e
+    → e.placed.row.depth < 35
 shallow_here es ps i e rows v laid within is =
-    let h = entry_here es ps i e laid within is in
-    let rows = listed (map span_of es) ps in
-    let split : take i rows ++ row_with e.span.row h.own ∷ h.rest ≡ rows =
-    ap (λ (q : List TableRow). take i (listed (map span_of es) ps) ++ q) (sym h.here)
+    let h = node_here es ps i e laid within is in
+    let rows = listed (map placed_of es) ps in
+    let split : take i rows ++ row_with e.placed.row h.own ∷ h.rest ≡ rows =
+    ap (λ (q : List TableRow). take i (listed (map placed_of es) ps) ++ q) (sym h.here)
     ∙ take-append-drop i rows in
-    let most = no_deeper (take i rows) (row_with e.span.row h.own) h.rest
+    let most = no_deeper (take i rows) (row_with e.placed.row h.own) h.rest
     (subst (AreValidRowsOfOne largest_limits) (sym split) v) in
     omega (arith, most)
 

@@ -1,25 +1,25 @@
--- The rows that entries stand for.
+-- The rows that kept nodes stand for.
 use Rattle.std.proofs.Common.{◌≡◌, ℕ, zero, suc, ◌+◌, ◌<◌, ◌≤◌, List, [], ◌∷◌, ◌++◌, map, length}
 use Rattle.std.proofs.Common.{take, drop, get_or, refl, sym, ap, ◌∙◌, subst, arith}
 use Rattle.std.proofs.lemmas.List.{length-append, length-take, length-drop, take_all}
 use Rattle.std.proofs.lemmas.List.{take-append-drop, take-append-le, drop-append-le}
 use Rattle.twkb_points.specs.Point.{Point}
 use Rattle.twkb_tree.specs.Rows.{Row as TableRow, row_points}
-use Rattle.twkb_flat.specs.declared.entries.PlacedRow.{PlacedRow}
+use Rattle.twkb_flat.specs.declared.kept_nodes.PlacedRow.{PlacedRow}
 use Rattle.twkb_flat.specs.Rows.{row_with, depths}
-use Rattle.twkb_flat.specs.Entries.{listed, Laid, span_depth}
+use Rattle.twkb_flat.specs.KeptNodes.{listed, Laid, placed_depth}
 
--- there is one row for each span
+-- there is one row for each placed row
 pub length-listed : (ss : List PlacedRow) (ps : List Point) → length (listed ss ps) ≡ length ss
 length-listed [] ps = refl
 length-listed (s ∷ ss) ps = ap suc (length-listed ss (drop s.points ps))
 
--- each row has the depth of its span
-pub depths-listed : (ss : List PlacedRow) (ps : List Point) → depths (listed ss ps) ≡ map span_depth ss
+-- each row has the depth of its placed row
+pub depths-listed : (ss : List PlacedRow) (ps : List Point) → depths (listed ss ps) ≡ map placed_depth ss
 depths-listed [] ps = refl
-depths-listed (s ∷ ss) ps = ap (λ (ds : List ℕ). span_depth s ∷ ds) (depths-listed ss (drop s.points ps))
+depths-listed (s ∷ ss) ps = ap (λ (ds : List ℕ). placed_depth s ∷ ds) (depths-listed ss (drop s.points ps))
 
--- the total is at least the place where the first span begins
+-- the total is at least the place where the first placed row begins
 pub laid_within : (at total : ℕ) (ss : List PlacedRow) → Laid at ss total → at ≤ total
 laid_within at total [] e = omega arith
 laid_within at total (s ∷ ss) (first, rest) = let more = laid_within (at + s.points) total ss rest in omega arith
@@ -41,7 +41,7 @@ points-listed at (s ∷ ss) ps (first, rest) =
 pub flat_points : (ss : List PlacedRow) (ps : List Point) → Laid 0 ss (length ps) → row_points (listed ss ps) ≡ ps
 flat_points ss ps laid = points-listed 0 ss ps (subst (λ (n : ℕ). Laid 0 ss n) (omega arith) laid)
 
--- the rows with one more span
+-- the rows with one more placed row
 pub listed-push : (at : ℕ) (ss : List PlacedRow) (ps qs : List Point) (s : PlacedRow)
     → Laid at ss (at + length ps) → s.points ≡ length qs
     → listed (ss ++ s ∷ []) (ps ++ qs) ≡ listed ss ps ++ row_with s.row qs ∷ []
@@ -57,7 +57,7 @@ listed-push at (t ∷ ss) ps qs s (first, rest) count =
     (listed-push (at + t.points) ss (drop t.points ps) qs s
     (subst (λ (k : ℕ). Laid (at + t.points) ss k) total rest) count))
 
--- the spans with one more, which comes after the others
+-- the placed rows with one more, which comes after the others
 pub laid-push : (at total : ℕ) (ss : List PlacedRow) (s : PlacedRow) → Laid at ss total
     → s.first ≡ total → Laid at (ss ++ s ∷ []) (total + s.points)
 laid-push at total [] s e first = (first ∙ sym e, ap (λ (k : ℕ). k + s.points) e)
@@ -103,12 +103,12 @@ row_at at (s ∷ ss) ps (suc i) d (first, rest) h =
       );
     }
 
--- without spans there are no rows
+-- without placed rows there are no rows
 pub nil_rows : (ss : List PlacedRow) (ps : List Point) → length ss ≡ 0 → listed ss ps ≡ []
 nil_rows [] ps e = refl
 nil_rows (s ∷ ss) ps e = absurd (omega arith)
 
--- with a span there is a row
+-- with a placed row there is a row
 pub some_rows : (ss : List PlacedRow) (ps : List Point) → listed ss ps ≡ [] → length ss ≡ 0
 some_rows [] ps e = refl
 some_rows (s ∷ ss) ps e = cc

@@ -11,10 +11,10 @@ use Rattle.twkb_tree.specs.declared.kind.Kind.{Kind}
 use Rattle.twkb_tree.specs.Rows.{Row, first_id, other_ids, rows_of_each, plain_row, own_row, rows_with, rows_under}
 use Rattle.twkb_tree.proofs.RowMembers.{own_row_first}
 use Rattle.twkb_tree.proofs.RowFitting.{own_row-depth, own_row-id}
-use Rattle.twkb_flat.specs.Parts.{part_rows}
+use Rattle.twkb_flat.specs.Components.{component_rows}
 use Rattle.twkb_tree.specs.RowLists.{IsAbove}
 use Rattle.twkb_tree.proofs.RowsApart.{above_less}
-use Rattle.twkb_flat.specs.Taking.{IsAt, ItemAt, EachAt, ids_in, id_list}
+use Rattle.twkb_flat.specs.Taking.{IsAt, OneAt, EachAt, ids_in, id_list}
 
 -- dropping one more row
 drop_suc : (rows : List Row) (at : ℕ) (r : Row) (more : List Row) → drop at rows ≡ r ∷ more → drop (suc at) rows ≡ more
@@ -43,7 +43,7 @@ Heads {A} f d = (id : Option ℤ) (x : A) → (r : Row) × (more : List Row) × 
 -- the first row of an item, among all rows
 pub head_at : {A : Type 0} (sound : A → Type 0) (f : Option ℤ → A → List Row) (rows : List Row)
     (at d : ℕ) (id : Option ℤ) (x : A) (rest : List Row) → Heads f d
-    → ItemAt sound f rows at d id x rest
+    → OneAt sound f rows at d id x rest
     → (r : Row) × (more : List Row) × (drop at rows ≡ r ∷ more) × (r.depth ≡ d) × (r.id ≡ id)
 head_at sound f rows at d id x rest heads it =
     let h = heads id x in
@@ -52,7 +52,7 @@ head_at sound f rows at d id x rest heads it =
 -- the place of an item is before the end
 pub item_within : {A : Type 0} (sound : A → Type 0) (f : Option ℤ → A → List Row) (rows : List Row)
     (at d : ℕ) (id : Option ℤ) (x : A) (rest : List Row) → Heads f d
-    → ItemAt sound f rows at d id x rest → at < length rows
+    → OneAt sound f rows at d id x rest → at < length rows
 item_within sound f rows at d id x rest heads it =
     let h = head_at sound f rows at d id x rest heads it in
     within rows at h.0 h.1 h.2
@@ -60,16 +60,16 @@ item_within sound f rows at d id x rest heads it =
 -- the id read there is the item's
 pub read_id : {A : Type 0} (sound : A → Type 0) (f : Option ℤ → A → List Row) (rows : List Row)
     (at d : ℕ) (id read : Option ℤ) (x : A) (rest : List Row) → Heads f d
-    → ItemAt sound f rows at d id x rest → ((r : Row) (more : List Row) → drop at rows ≡ r ∷ more
+    → OneAt sound f rows at d id x rest → ((r : Row) (more : List Row) → drop at rows ≡ r ∷ more
     → read ≡ r.id) → read ≡ id
 read_id sound f rows at d id read x rest heads it told =
     let h = head_at sound f rows at d id x rest heads it in
     told h.0 h.1 h.2 ∙ h.4
 
--- the rows of a part begin with its own row
-pub part_heads : {A : Type 0} (own : A → List Point) (below : ℕ → A → List Row) (k : Kind) (d : ℕ)
-    → Heads (part_rows own below k d) d
-part_heads own below k d = λ id x. (plain_row d k id (own x), below (suc d) x, refl, refl, refl)
+-- the rows of a component begin with its own row
+pub component_heads : {A : Type 0} (own : A → List Point) (below : ℕ → A → List Row) (k : Kind) (d : ℕ)
+    → Heads (component_rows own below k d) d
+component_heads own below k d = λ id x. (plain_row d k id (own x), below (suc d) x, refl, refl, refl)
 
 -- the rows of a geometry begin with its own row
 pub tree_heads : (d : ℕ) → Heads (λ id g. rows_with id d g) d
@@ -167,7 +167,7 @@ pub record Next {A : Type 0} (sound : A → Type 0) (f : Option ℤ → A → Li
   pub id : Option ℤ
   pub item : A
   pub after : List Row
-  pub stands : ItemAt sound f rows at d id item after
+  pub stands : OneAt sound f rows at d id item after
   pub step : (got : A) (next : ℕ) (more : List A) (now : List ℤ) (read : Option ℤ) → got ≡ item
       → drop next rows ≡ after → more ≡ items ++ got ∷ [] → now ≡ found ++ id_list read → read ≡ id
       → Left sound f rows ids xs rest next more now
@@ -250,7 +250,7 @@ left_none sound f rows d ids xs rest at items found heads fit left isnt = elim l
 -- an item has at least one row
 pub shorter : {A : Type 0} (sound : A → Type 0) (f : Option ℤ → A → List Row) (rows : List Row)
     (at d : ℕ) (id : Option ℤ) (x : A) (rest : List Row) (next : ℕ) → Heads f d
-    → ItemAt sound f rows at d id x rest → drop next rows ≡ rest
+    → OneAt sound f rows at d id x rest → drop next rows ≡ rest
     → length (drop next rows) < length (drop at rows)
 shorter sound f rows at d id x rest next heads it dropped =
     let h = heads id x in

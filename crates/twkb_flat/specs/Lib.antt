@@ -1,9 +1,9 @@
 -- The definitions of the crate, by their topic.
 pub mod Admitting
-pub mod Entries
+pub mod KeptNodes
 pub mod Lasts
 pub mod Links
 pub mod Members
-pub mod Parts
+pub mod Components
 pub mod Rows
 pub mod Taking

@@ -1,4 +1,4 @@
--- The place of the rows of a part, of parts or of a geometry among the rows.
+-- The place of the rows of a component, of components or of a geometry among the rows.
 use Rattle.std.specs.Prelude.{◌≡◌, ◌≢◌, ℕ, suc, ℤ, List, [], ◌∷◌, ◌++◌, length, drop, Option, None, Some, ⊤}
 use Rattle.std.specs.List.{AllByRecursion}
 use Rattle.twkb_points.specs.Point.{Point}
@@ -8,7 +8,7 @@ use Rattle.twkb_tree.specs.Shape.{tree_of}
 use Rattle.twkb_tree.specs.declared.geometry.Shape.{Shape}
 use Rattle.twkb_tree.specs.Rows.{Row, own_row, rows_with, rows_of_each}
 use Rattle.twkb_tree.specs.RowLists.{IsAbove}
-use Rattle.twkb_flat.specs.Parts.{part_rows}
+use Rattle.twkb_flat.specs.Components.{component_rows}
 
 -- there is a first row, and it is at this depth
 abbrev pub IsAt : ℕ → List Row → Type 0
@@ -17,7 +17,7 @@ IsAt d (r ∷ rs) = r.depth ≡ d
 
 -- the rows from a place on begin with those of one sound item at a depth, with an id, and the rest
 -- are not below it
-pub record ItemAt {A : Type 0} (sound : A → Type 0) (f : Option ℤ → A → List Row) (rows : List Row)
+pub record OneAt {A : Type 0} (sound : A → Type 0) (f : Option ℤ → A → List Row) (rows : List Row)
     (at d : ℕ) (id : Option ℤ) (item : A) (rest : List Row) : Type 0 where
   pub is_sound : sound item
   pub behind : IsAbove (suc d) rest
@@ -38,17 +38,18 @@ IsAny item = ⊤
 
 -- the rows of a geometry at a depth begin at a place
 abbrev pub TreeAt : List Row → ℕ → ℕ → Option ℤ → Tree → List Row → Type 0
-TreeAt rows at d id g rest = ItemAt IsTree (λ i h. rows_with i d h) rows at d id g rest
+TreeAt rows at d id g rest = OneAt IsTree (λ i h. rows_with i d h) rows at d id g rest
 
 -- the rows of a geometry that is not a collection begin at a place
 pub record SimpleAt (rows : List Row) (at d : ℕ) (id : Option ℤ) (g : Tree) (rest : List Row) : Type 0 where
   pub stands : TreeAt rows at d id g rest
   pub no_collection : (own_row id d g).kind ≢ Kind.Collection
 
--- the rows of parts of this kind at a depth begin at a place
-abbrev pub PartsAt : {A : Type 0} → (A → List Point) → (ℕ → A → List Row) → Kind → List Row → ℕ → ℕ
+-- the rows of components of this kind at a depth begin at a place
+abbrev pub ComponentsAt : {A : Type 0} → (A → List Point) → (ℕ → A → List Row) → Kind → List Row → ℕ → ℕ
     → Ids → List A → List Row → Type 0
-PartsAt own below kind rows at d ids parts rest = EachAt IsAny (part_rows own below kind d) rows at d ids parts rest
+ComponentsAt own below kind rows at d ids components rest = EachAt IsAny
+    (component_rows own below kind d) rows at d ids components rest
 
 -- a precision and a shape are those of this geometry
 pub record AreOf (precision : Option ℤ) (shape : Shape) (g : Tree) : Type 0 where

@@ -7,10 +7,10 @@ ghost use Rattle.twkb_tree.specs.RowGrowth.{EndsInLine, point_added, points_adde
 ghost use Rattle.twkb_flat.specs.Members.{EndsInMember};
 
 use crate::admitting::{MOST_POINTS, leaves_room, look, look_at_id};
-use crate::entries::{
+use crate::flat::Flat;
+use crate::kept_nodes::{
     KeptNode, PlacedRow, count_point, count_points, ends_in_line, link, put_point,
 };
-use crate::flat::Flat;
 use crate::node::Row;
 use crate::room::{make_room, put_reserved};
 use std::alloc::AllocError;
@@ -24,7 +24,7 @@ impl Flat {
     pub fn takes_point(&self) -> bool
         ensures { IsTrue result ↔ (EndsInLine self.now × (length (row_points self.now) < POINTS_CAP)) }
     {
-        if !ends_in_line(&self.entries) {
+        if !ends_in_line(&self.kept) {
             return false;
         }
         self.points.len() < MOST_POINTS as usize
@@ -53,7 +53,7 @@ impl Flat {
         if let Err(refused) = self.points.push(point) {
             return Err(refused.into());
         }
-        count_point(&mut self.entries);
+        count_point(&mut self.kept);
         Ok(())
     }
 
@@ -73,8 +73,8 @@ impl Flat {
         make_room(&mut self.points, 2)?;
         self.points.push_reserved(first);
         self.points.push_reserved(second);
-        count_point(&mut self.entries);
-        count_point(&mut self.entries);
+        count_point(&mut self.kept);
+        count_point(&mut self.kept);
         Ok(())
     }
 
@@ -90,7 +90,7 @@ impl Flat {
         look(points);
         make_room(&mut self.points, points.len())?;
         put_reserved(&mut self.points, points);
-        count_points(&mut self.entries, points.len() as u32);
+        count_points(&mut self.kept, points.len() as u32);
         Ok(())
     }
 
@@ -120,7 +120,7 @@ impl Flat {
         look_at_id(id);
         // lets proofs know that the point is in range
         let _learnt = point.x();
-        let next = self.entries.len() as u32;
+        let next = self.kept.len() as u32;
         let last = next - 1;
         let row = Row {
             depth,
@@ -128,20 +128,20 @@ impl Flat {
             id,
             precision: None,
         };
-        let span = PlacedRow {
+        let placed = PlacedRow {
             row,
             first: self.points.len() as u32,
             points: 1,
         };
         // the subtree of the last node ends here, and the new member has the same parent
         let node = KeptNode {
-            span,
-            next: self.entries[last as usize].next,
+            placed,
+            next: self.kept[last as usize].next,
         };
-        if let Err(refused) = put_point(&mut self.entries, &mut self.points, node, point) {
+        if let Err(refused) = put_point(&mut self.kept, &mut self.points, node, point) {
             return Err(refused);
         }
-        link(&mut self.entries, last, next);
+        link(&mut self.kept, last, next);
         Ok(())
     }
 }

@@ -12,7 +12,7 @@ ghost use Rattle.twkb_flat.specs.Rows.{row_with};
 use crate::node::Row;
 use twkb_points::Pt;
 use twkb_tree::{
-    GREATEST_PRECISION, Kind, LEAST_PRECISION, Limits, NODES_CAP, OpenRow, POINTS_CAP, Standing,
+    GREATEST_PRECISION, Kind, LEAST_PRECISION, Limits, NODES_CAP, OpenRow, POINTS_CAP, RowPlace,
     row_rules,
 };
 
@@ -46,7 +46,7 @@ fn id_fits(parent: Option<OpenRow>, kind: Kind, id: Option<i64>) -> bool
 fn precision_fits(parent: Option<OpenRow>, precision: Option<i8>) -> bool
     ensures { result ≡ (precision_in_range precision && precision_fits (row_of parent) precision) }
 {
-    let whole = row_rules::is_whole(parent);
+    let whole = row_rules::is_geometry(parent);
     match precision {
         None => !whole,
         Some(decimals) => { LEAST_PRECISION <= decimals && decimals <= GREATEST_PRECISION && whole }
@@ -68,27 +68,27 @@ fn fits(parent: Option<OpenRow>, row: &Row, count: usize) -> bool
     if !precision_fits(parent, row.precision) {
         return false;
     }
-    row_rules::count_fits(row.kind, row_rules::is_whole(parent), count)
+    row_rules::count_fits(row.kind, row_rules::is_geometry(parent), count)
 }
 
 // Whether the limits leave room for a row with `count` points at this place.
-fn has_room(limits: &Limits, standing: &Standing, count: usize) -> bool
-    ensures { result ≡ (nat_lt standing.now.nodes limits.now.nodes && nat_le
-        (standing.now.points + count) limits.now.points) }
+fn has_room(limits: &Limits, row_place: &RowPlace, count: usize) -> bool
+    ensures { result ≡ (nat_lt row_place.now.nodes limits.now.nodes && nat_le
+        (row_place.now.points + count) limits.now.points) }
 {
-    standing.nodes < limits.nodes()
-        && standing.points <= limits.points()
-        && count <= (limits.points() - standing.points) as usize
+    row_place.nodes < limits.nodes()
+        && row_place.points <= limits.points()
+        && count <= (limits.points() - row_place.points) as usize
 }
 
 // Whether the row with `count` points may come at this place.
-pub(crate) fn admits_at(limits: &Limits, standing: &Standing, row: &Row, count: usize) -> bool
+pub(crate) fn admits_at(limits: &Limits, row_place: &RowPlace, row: &Row, count: usize) -> bool
     ensures { (own : List Point) → length own ≡ count
-        → result ≡ is_admitted_at limits.now standing.now (row_with row.now own) }
+        → result ≡ is_admitted_at limits.now row_place.now (row_with row.now own) }
 {
-    row_rules::nest_kept(limits, standing.parent, standing.depth)
-        && has_room(limits, standing, count)
-        && fits(standing.parent, row, count)
+    row_rules::nest_kept(limits, row_place.parent, row_place.depth)
+        && has_room(limits, row_place, count)
+        && fits(row_place.parent, row, count)
 }
 
 // Whether a row at this depth is a root exactly if no row is open.

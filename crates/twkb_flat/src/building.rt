@@ -5,12 +5,12 @@ ghost use Rattle.twkb_tree.specs.Limits.{largest_limits, IsValid};
 ghost use Rattle.twkb_tree.specs.Shape.{tree_of};
 ghost use Rattle.twkb_tree.specs.Tree.{Ids, Tree, IsTree, precision_of};
 ghost use Rattle.twkb_tree.specs.Rows.{Row as TableRow, rows, rows_with};
-ghost use Rattle.twkb_flat.specs.Taking.{TreeAt, SimpleAt, EachAt, PartsAt, AreOf, ids_in, id_list};
+ghost use Rattle.twkb_flat.specs.Taking.{TreeAt, SimpleAt, EachAt, ComponentsAt, AreOf, ids_in, id_list};
 
+use crate::components::Component;
 use crate::flat::Flat;
-use crate::parts::Part;
 use std::alloc::{AllocError, Global};
-use twkb_tree::{Geometry, IdList, Ids, Items, Kind, Members, Pts, Shape};
+use twkb_tree::{Elements, Geometry, IdList, Ids, Kind, Members, Pts, Shape};
 
 impl Flat {
     /// Builds the geometry of these rows, of which there is at least one. Takes memory for each
@@ -138,31 +138,31 @@ fn take_members(
     Ok((Members::from_vec(members), found_ids(ids), at))
 }
 
-// Builds all parts that follow each other at this depth from a place on, and returns their ids and
+// Builds all components that follow each other at this depth from a place on, and returns their ids and
 // the place after them.
-pub(crate) fn take_each<T: Part>(
+pub(crate) fn take_each<T: Component>(
     flat: &Flat,
     alloc: Global,
     start: usize,
     depth: u32,
-) -> Result<(Items<T>, Ids, usize), AllocError>
-    requires { (kind : Kind) × (ids : Ids) × (parts : List T) × (rest : List TableRow)
-        × PartsAt T.own T.below kind flat.now start depth ids parts rest }
-    ensures { (kind : Kind) (ids : Ids) (parts : List T) (rest : List TableRow)
-        → PartsAt T.own T.below kind flat.now start depth ids parts rest
-        → IfOk result (λ taken. (taken.0 ≡ parts) × (taken.1 ≡ ids)
+) -> Result<(Elements<T>, Ids, usize), AllocError>
+    requires { (kind : Kind) × (ids : Ids) × (components : List T) × (rest : List TableRow)
+        × ComponentsAt T.own T.below kind flat.now start depth ids components rest }
+    ensures { (kind : Kind) (ids : Ids) (components : List T) (rest : List TableRow)
+        → ComponentsAt T.own T.below kind flat.now start depth ids components rest
+        → IfOk result (λ taken. (taken.0 ≡ components) × (taken.1 ≡ ids)
         × (drop taken.2 flat.now ≡ rest)) }
 {
-    let mut parts = Vec::new(alloc);
+    let mut components = Vec::new(alloc);
     let mut ids = Vec::new(alloc);
     let mut at = start;
     while flat.is_at(at, depth) {
         push_id(&mut ids, flat.row(at).id)?;
-        let (part, next) = T::take(flat, alloc, at)?;
-        parts.push(part)?;
+        let (component, next) = T::take(flat, alloc, at)?;
+        components.push(component)?;
         at = next;
     }
-    Ok((Items::from_vec(parts), found_ids(ids), at))
+    Ok((Elements::from_vec(components), found_ids(ids), at))
 }
 
 // Appends the id, if there is one.

@@ -4,12 +4,12 @@ ghost use Rattle.twkb_tree.specs.Limits.{largest_limits, IsValid};
 ghost use Rattle.twkb_tree.specs.Tree.{trees};
 ghost use Rattle.twkb_tree.specs.Rows.{rows, rows_with, rows_under, own_row, member_rows, rows_of_each};
 ghost use Rattle.twkb_tree.specs.RowLists.{AreValidRowsOfOne};
-ghost use Rattle.twkb_flat.specs.Parts.{IsSimple, part_rows};
+ghost use Rattle.twkb_flat.specs.Components.{IsSimple, component_rows};
 ghost use Rattle.twkb_flat.specs.Rows.{row_with};
 
+use crate::components::Component;
 use crate::flat::Flat;
 use crate::node::Row;
-use crate::parts::Part;
 use std::alloc::{AllocError, Global};
 use twkb_points::Pt;
 use twkb_tree::{Geometry, Ids, Kind, Members, Shape, id_at, own_parts};
@@ -67,12 +67,12 @@ fn push_under(geometry: &Geometry, depth: u32, flat: &mut Flat) -> Result<(), Al
 {
     match geometry.shape() {
         Shape::Collection(members, ids) => push_members(members, depth, ids, flat),
-        _ => push_parts(geometry, depth, flat),
+        _ => push_components(geometry, depth, flat),
     }
 }
 
 // Appends the rows of a geometry that is not a collection except its own, starting at this depth.
-fn push_parts(geometry: &Geometry, depth: u32, flat: &mut Flat) -> Result<(), AllocError>
+fn push_components(geometry: &Geometry, depth: u32, flat: &mut Flat) -> Result<(), AllocError>
     requires valid { AreValidRowsOfOne largest_limits (flat.old ++ rows_under depth geometry.now) }
     requires no_collection { IsSimple geometry.now }
     ensures { OnOk result (flat.new ≡ flat.old ++ rows_under depth geometry.now) }
@@ -109,20 +109,21 @@ fn push_members(members: &Members, depth: u32, ids: &Ids, flat: &mut Flat) -> Re
     Ok(())
 }
 
-// Appends the rows of parts, with these ids and at this depth.
-pub(crate) fn push_each<T: Part>(
+// Appends the rows of components, with these ids and at this depth.
+pub(crate) fn push_each<T: Component>(
     kind: Kind,
     depth: u32,
-    parts: &[T],
+    components: &[T],
     ids: &Ids,
     flat: &mut Flat,
 ) -> Result<(), AllocError>
     requires { AreValidRowsOfOne largest_limits (flat.old ++ rows_of_each
-        (part_rows T.own T.below kind depth) ids.now parts.now) }
-    ensures { OnOk result (flat.new ≡ flat.old ++ rows_of_each (part_rows T.own T.below kind depth) ids.now parts.now) }
+        (component_rows T.own T.below kind depth) ids.now components.now) }
+    ensures { OnOk result (flat.new ≡ flat.old ++ rows_of_each
+        (component_rows T.own T.below kind depth) ids.now components.now) }
 {
     let mut index = 0;
-    for part in parts {
+    for component in components {
         let id = id_at(ids, index);
         flat.push(
             Row {
@@ -131,9 +132,9 @@ pub(crate) fn push_each<T: Part>(
                 id,
                 precision: None,
             },
-            part.own_points(),
+            component.own_points(),
         )?;
-        part.push_below(depth + 1, flat)?;
+        component.push_below(depth + 1, flat)?;
         index += 1;
     }
     Ok(())

@@ -10,7 +10,7 @@ ghost use Rattle.twkb_tree.specs.RowLists.{AreValidRowsOfOne};
 ghost use Rattle.twkb_flat.specs.Rows.{IsNode, row_with};
 
 use crate::admitting::{admits_at, is_next, look};
-use crate::entries::{KeptNode, PlacedRow, link_last, put_point, put_row};
+use crate::kept_nodes::{KeptNode, PlacedRow, link_last, put_point, put_row};
 use crate::node::{Node, NodeId, PointId, Row};
 use crate::point_source::{Copied, PointSource};
 use crate::work::Work;
@@ -25,7 +25,7 @@ use twkb_tree::{Kind, Limits};
 #[derive(Drop)]
 pub struct Flat {
     // The nodes in preorder.
-    pub(crate) entries: Vec<KeptNode>,
+    pub(crate) kept: Vec<KeptNode>,
     // The points of all rows.
     pub(crate) points: Vec<Pt>,
 }
@@ -36,11 +36,11 @@ impl Model for Flat {
 
     ghost Value = { List TableRow };
 
-    ghost use Rattle.twkb_flat.specs.Entries.{IsFlat, listed, span_of};
+    ghost use Rattle.twkb_flat.specs.KeptNodes.{IsFlat, listed, placed_of};
 
-    ghost view = { λ f. listed (map span_of f.entries.items) f.points.items };
+    ghost view = { λ f. listed (map placed_of f.kept.items) f.points.items };
 
-    ghost invariant = { λ f. IsFlat f.entries.items f.points.items };
+    ghost invariant = { λ f. IsFlat f.kept.items f.points.items };
 }
 
 impl Flat {
@@ -49,7 +49,7 @@ impl Flat {
         ensures { result ≡ [] }
     {
         Flat {
-            entries: Vec::new(alloc),
+            kept: Vec::new(alloc),
             points: Vec::new(alloc),
         }
     }
@@ -58,7 +58,7 @@ impl Flat {
     pub fn clear(&mut self)
         ensures { self.new ≡ [] }
     {
-        self.entries.clear();
+        self.kept.clear();
         self.points.clear();
     }
 
@@ -67,7 +67,7 @@ impl Flat {
         ensures value { result ≡ length self.now }
         ensures sound { AreValidRowsOfOne largest_limits self.now }
     {
-        self.entries.len() as u32
+        self.kept.len() as u32
     }
 
     /// The number of points, 0 to 2^24. Takes no memory.
@@ -82,7 +82,7 @@ impl Flat {
         ensures value { IsTrue result ↔ (self.now ≡ []) }
         ensures sound { AreValidRowsOfOne largest_limits self.now }
     {
-        self.entries.is_empty()
+        self.kept.is_empty()
     }
 
     /// Whether the row with these points may be pushed: it is a root if there is no row yet, and
@@ -101,8 +101,8 @@ impl Flat {
         if row.depth > levels {
             return false;
         }
-        let standing = self.standing(row.depth);
-        admits_at(&Limits::largest(), &standing, row, points.len())
+        let row_place = self.row_place(row.depth);
+        admits_at(&Limits::largest(), &row_place, row, points.len())
     }
 
     /// Replaces all rows by one root, which must be able to begin a geometry, with the points of
@@ -117,13 +117,13 @@ impl Flat {
         ensures same { OnErr result (points.new.items ≡ points.old.items) }
     {
         self.clear();
-        let span = PlacedRow {
+        let placed = PlacedRow {
             row: root,
             first: 0,
             points: points.len() as u32,
         };
-        if let Err(refused) = self.entries.push(KeptNode {
-            span,
+        if let Err(refused) = self.kept.push(KeptNode {
+            placed,
             next: NodeId(0),
         }) {
             return Err(refused.into());
@@ -149,16 +149,16 @@ impl Flat {
             id: None,
             precision: Some(precision),
         };
-        let span = PlacedRow {
+        let placed = PlacedRow {
             row: root,
             first: 0,
             points: 1,
         };
         let node = KeptNode {
-            span,
+            placed,
             next: NodeId(0),
         };
-        if let Err(refused) = put_point(&mut self.entries, &mut self.points, node, point) {
+        if let Err(refused) = put_point(&mut self.kept, &mut self.points, node, point) {
             return Err(refused);
         }
         Ok(())
@@ -186,11 +186,11 @@ impl Flat {
         ensures refused { IfErr result (S.refuses source.now) }
         ensures same { OnErr result (self.new ≡ self.old) }
     {
-        let next = self.entries.len() as u32;
-        if let Err(fault) = put_row(&mut self.entries, &mut self.points, row, source) {
+        let next = self.kept.len() as u32;
+        if let Err(fault) = put_row(&mut self.kept, &mut self.points, row, source) {
             return Err(fault);
         }
-        link_last(&mut self.entries, next);
+        link_last(&mut self.kept, next);
         Ok(())
     }
 
@@ -202,17 +202,17 @@ impl Flat {
         ensures no_fewer { work.old.node_reads ≤ work.new.node_reads }
     {
         work.count_node();
-        let entry = self.entries[id.0 as usize];
-        let next = if entry.next.0 <= id.0 {
+        let kept_node = self.kept[id.0 as usize];
+        let next = if kept_node.next.0 <= id.0 {
             self.node_count()
         } else {
-            entry.next.0
+            kept_node.next.0
         };
         Node {
-            row: entry.span.row,
+            row: kept_node.placed.row,
             next: NodeId(next),
-            first: PointId(entry.span.first),
-            points: entry.span.points,
+            first: PointId(kept_node.placed.first),
+            points: kept_node.placed.points,
         }
     }
 

@@ -4,13 +4,13 @@
 mod adding;
 mod admitting;
 mod building;
-mod entries;
+mod components;
 mod filling;
 mod flat;
+mod kept_nodes;
 pub mod laws;
 mod node;
 mod open_rows;
-mod parts;
 mod point_source;
 mod reading;
 mod room;

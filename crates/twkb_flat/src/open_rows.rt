@@ -5,12 +5,12 @@ ghost use Rattle.twkb_tree.specs.Limits.{largest_limits};
 ghost use Rattle.twkb_tree.specs.RowLists.{AreValidRowsOfOne};
 ghost use Rattle.twkb_tree.specs.Open.{AreOpen, IsOpenAt, open_count};
 ghost use Rattle.twkb_tree.specs.Rows.{row_points};
-ghost use Rattle.twkb_tree.specs.Standing.{standing_at};
+ghost use Rattle.twkb_tree.specs.RowPlace.{row_place_at};
 ghost use Rattle.twkb_flat.specs.Members.{EndsInMember};
 
-use crate::entries::{child_ids, open_at};
 use crate::flat::Flat;
-use twkb_tree::{Kind, OpenRow, Standing};
+use crate::kept_nodes::{child_ids, open_at};
+use twkb_tree::{Kind, OpenRow, RowPlace};
 
 impl Flat {
     // The number of open rows: one for each depth, down to that of the last row.
@@ -30,28 +30,28 @@ impl Flat {
         requires { depth < open_count (reverse self.now) }
         ensures { IsOpenAt depth (reverse self.now) result }
     {
-        let at = open_at(&self.entries, depth);
+        let at = open_at(&self.kept, depth);
         OpenRow {
-            kind: self.entries[at].span.row.kind,
-            child_ids: child_ids(&self.entries, at),
+            kind: self.kept[at].placed.row.kind,
+            child_ids: child_ids(&self.kept, at),
         }
     }
 
     // The place of a row at this depth after the rows.
-    pub(crate) fn standing(&self, depth: u32) -> Standing
+    pub(crate) fn row_place(&self, depth: u32) -> RowPlace
         requires { depth ≤ open_count (reverse self.now) }
         ensures { (os : List OpenRow) → AreOpen (reverse self.now) os
-            → result ≡ standing_at depth os (length self.now) (length (row_points self.now)) }
+            → result ≡ row_place_at depth os (length self.now) (length (row_points self.now)) }
     {
         if depth == 0 {
-            return Standing {
+            return RowPlace {
                 depth,
                 parent: None,
                 nodes: 0,
                 points: 0,
             };
         }
-        Standing {
+        RowPlace {
             depth,
             parent: Some(self.open_row(depth - 1)),
             nodes: self.node_count(),
@@ -61,15 +61,15 @@ impl Flat {
 
     /// The place of a row at this depth after the rows; `None` if the depth is more than one below
     /// the last row. Takes no memory.
-    pub fn place(&self, depth: u32) -> Option<Standing>
+    pub fn place(&self, depth: u32) -> Option<RowPlace>
         ensures { MatchOption result (open_count (reverse self.now) < depth)
-            (λ standing. (os : List OpenRow) → AreOpen (reverse self.now) os → (depth ≤ length os)
-            × (standing ≡ standing_at depth os (length self.now) (length (row_points self.now)))) }
+            (λ row_place. (os : List OpenRow) → AreOpen (reverse self.now) os → (depth ≤ length os)
+            × (row_place ≡ row_place_at depth os (length self.now) (length (row_points self.now)))) }
     {
         if depth > self.levels() {
             return None;
         }
-        Some(self.standing(depth))
+        Some(self.row_place(depth))
     }
 
     // Whether the last row is at this depth and is a member of a multipoint, whose members all

@@ -28,7 +28,7 @@ impl Flat {
         ensures shallow { result.depth < 35 }
         ensures few { length self.now ≤ NODES_CAP }
     {
-        self.entries[at].span.row
+        self.kept[at].placed.row
     }
 
     // The points of the row at a place.
@@ -38,9 +38,9 @@ impl Flat {
             → result.now ≡ row.points }
         ensures few { length self.now ≤ NODES_CAP }
     {
-        let span = self.entries[at].span;
-        let first = span.first as usize;
-        let last = first + span.points as usize;
+        let placed = self.kept[at].placed;
+        let first = placed.first as usize;
+        let last = first + placed.points as usize;
         part(&self.points, first, last)
     }
 }

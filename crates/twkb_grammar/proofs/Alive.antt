@@ -18,7 +18,7 @@ use Rattle.twkb_grammar.proofs.Completing.{filler, filler_number}
 use Rattle.twkb_grammar.proofs.Parts.{run_is_front}
 use Rattle.twkb_grammar.proofs.Ranges.{Kept-append}
 use Rattle.twkb_grammar.proofs.Totals.{tree_total}
-use Rattle.twkb_grammar.proofs.PlaceTotals.{total, total_is, total-append}
+use Rattle.twkb_grammar.proofs.SlotTotals.{total, total_is, total-append}
 use Rattle.twkb_grammar.proofs.KeptItems.{tree_was}
 
 -- fillers move nothing and announce nothing
@@ -89,7 +89,7 @@ filler_nodes (r ∷ rs) = let t = filler_nodes rs in (omega (arith, t.0, (one r)
     count Counted.Vertices = (refl, refl)
     count Counted.Rings = (refl, refl)
     count Counted.Points = (refl, refl)
-    count Counted.Parts = (refl, refl)
+    count Counted.Components = (refl, refl)
     count (Geometries l) = (refl, refl)
 
     one : (r : Role) → (nodes_by r (filler_number r) ≡ 0) × (points_by r (filler_number r) ≡ 0)

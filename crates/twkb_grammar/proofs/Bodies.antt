@@ -10,27 +10,27 @@ use Rattle.twkb_tree.specs.Tree.{Ids, Simple, point, line, polygon, multi_point,
 use Rattle.twkb_tree.specs.Tree.{multi_polygon, simple, IdsFit, HasIds}
 use Rattle.twkb_grammar.specs.Bits.{bit}
 use Rattle.twkb_grammar.specs.Roles.{Item, Role, X, Y, Count, Id, Counted, Vertices, Rings, AreFields, join}
-use Rattle.twkb_grammar.specs.Items.{Place, OfCount, OfId, OfPoint, id_places, run_of, rings_of}
-use Rattle.twkb_grammar.specs.Items.{outline, flags, members, Agrees}
+use Rattle.twkb_grammar.specs.Items.{Slot, OfCount, OfId, OfPoint, id_slots, run_of, rings_of}
+use Rattle.twkb_grammar.specs.Items.{slots, flags, members, Agrees}
 use Rattle.twkb_grammar.specs.Fault.{moved}
 use Rattle.twkb_grammar.specs.Machine.{Nested, Around, top, within, Body, Want, closed, opened}
-use Rattle.twkb_grammar.specs.Machine.{listed, Form, depth_of, Head, Frame, settled, Many}
+use Rattle.twkb_grammar.specs.Machine.{listed, BodyForm, depth_of, Head, Frame, settled, Many}
 use Rattle.twkb_grammar.specs.Machine.{members_begin, ManyPoints, ManyLines, ManyPolygons, begun}
 use Rattle.twkb_grammar.specs.Machine.{SimpleKind, shape_of, PointForm, LineForm, PolygonForm}
 use Rattle.twkb_grammar.specs.Machine.{MultiPointForm, MultiLineForm, MultiPolygonForm, AtEnd}
 use Rattle.twkb_grammar.specs.Machine.{AtBody, first_count, counted, AtId, AtCount, Sums, added}
 use Rattle.twkb_grammar.specs.Machine.{Stack, Runs}
-use Rattle.twkb_grammar.proofs.Places.{steps, reached, reached-append, forth}
+use Rattle.twkb_grammar.proofs.Slots.{steps, reached, reached-append, forth}
 use Rattle.twkb_num.proofs.ZigzagLemmas.{unzigzag_of-zigzag_of}
 use Rattle.twkb_points.specs.Point.{origin}
 
--- the places of a value of depth d
-abbrev pub outline_of : (d : ℕ) → Nested d → List Place
-outline_of zero p = OfPoint p ∷ []
-outline_of (suc d) vs = OfCount (listed d) (length vs) ∷ flat_map (outline_of d) vs
+-- the slots of a value of depth d
+abbrev pub slots_of : (d : ℕ) → Nested d → List Slot
+slots_of zero p = OfPoint p ∷ []
+slots_of (suc d) vs = OfCount (listed d) (length vs) ∷ flat_map (slots_of d) vs
 
--- from this stack the machine runs through any items of these places, to the last stack
-abbrev pub Reaches : Stack → List Place → Point → ℕ → Stack → Type 0
+-- from this stack the machine runs through any items of these slots, to the last stack
+abbrev pub Reaches : Stack → List Slot → Point → ℕ → Stack → Type 0
 Reaches st more p total last = (e : Sums) (js : List Item) → e.position ≡ p
     → e.bytes + length (join js) ≡ total → AreFields (steps p more) js → Runs e st js last
 
@@ -47,12 +47,12 @@ pub moved_y : (e p q : Point) (r : Role) (n : ℕ) → e ≡ point_at q.x p.y �
     → n ≡ zigzag_of (q.y -ℤ p.y) → moved e r n ≡ q
 moved_y e p q r n he hr hn = rw (he, hr, hn, forth p.y q.y)
 
-module _ (h : Head) (f : Form) (ids : Ids) (fs : List Frame) (total : ℕ) (last : Stack) where
+module _ (h : Head) (f : BodyForm) (ids : Ids) (fs : List Frame) (total : ℕ) (last : Stack) where
   -- the stack with this body
   abbrev at_body : Body (depth_of f) → Stack
   at_body b = (fs, settled h f ids b)
 
-  point_runs : (a : Around (depth_of f) 0) (q : Point) (more : List Place) (p : Point)
+  point_runs : (a : Around (depth_of f) 0) (q : Point) (more : List Slot) (p : Point)
       → Reaches (at_body (closed a q)) more q total last → Reaches (at_body (Want 0 a)) (OfPoint q ∷ more) p total last
   point_runs a q more p k e [] here bytes are = absurd are
   point_runs a q more p k e (i ∷ []) here bytes are = absurd are.3
@@ -70,7 +70,7 @@ module _ (h : Head) (f : Form) (ids : Ids) (fs : List Frame) (total : ℕ) (last
         ),
       )
 
-  count_runs : (d n : ℕ) (a : Around (depth_of f) (suc d)) (more : List Place) (p : Point)
+  count_runs : (d n : ℕ) (a : Around (depth_of f) (suc d)) (more : List Slot) (p : Point)
       → Reaches (at_body (opened d n a)) more p total last
       → Reaches (at_body (Want (suc d) a)) (OfCount (listed d) n ∷ more) p total last
   count_runs d n a more p k e [] here bytes are = absurd are
@@ -83,41 +83,41 @@ module _ (h : Head) (f : Form) (ids : Ids) (fs : List Frame) (total : ℕ) (last
 
   -- the machine runs through any value of this depth
   abbrev RunsThrough : ℕ → Type 0
-  RunsThrough d = (v : Nested d) (a : Around (depth_of f) d) (more : List Place) (p : Point)
-      → Reaches (at_body (closed a v)) more (reached p (outline_of d v)) total last
-      → Reaches (at_body (Want d a)) (outline_of d v ++ more) p total last
+  RunsThrough d = (v : Nested d) (a : Around (depth_of f) d) (more : List Slot) (p : Point)
+      → Reaches (at_body (closed a v)) more (reached p (slots_of d v)) total last
+      → Reaches (at_body (Want d a)) (slots_of d v ++ more) p total last
 
   rest_runs : (d : ℕ) → RunsThrough d → (vs : List (Nested d)) (v : Nested d)
-      (done : List (Nested d)) (a : Around (depth_of f) (suc d)) (more : List Place) (p : Point)
-      → Reaches (at_body (closed a (done ++ v ∷ vs))) more (reached p (flat_map (outline_of d) (v ∷ vs))) total last
-      → Reaches (at_body (Want d (within done (length vs) a))) (flat_map (outline_of d) (v ∷ vs) ++ more) p total last
+      (done : List (Nested d)) (a : Around (depth_of f) (suc d)) (more : List Slot) (p : Point)
+      → Reaches (at_body (closed a (done ++ v ∷ vs))) more (reached p (flat_map (slots_of d) (v ∷ vs))) total last
+      → Reaches (at_body (Want d (within done (length vs) a))) (flat_map (slots_of d) (v ∷ vs) ++ more) p total last
   rest_runs d each [] v done a more p k =
       subst (λ ps. Reaches (at_body (Want d (within done 0 a))) ps p total last)
-      (sym (append_assoc (outline_of d v) [] more))
+      (sym (append_assoc (slots_of d v) [] more))
       (each v (within done 0 a) more p
       (subst (λ q. Reaches (at_body (closed a (done ++ v ∷ []))) more q total last)
-      (reached-append p (outline_of d v) []) k))
+      (reached-append p (slots_of d v) []) k))
   rest_runs d each (w ∷ ws) v done a more p k =
       subst (λ ps. Reaches (at_body (Want d (within done (suc (length ws)) a))) ps p total last)
-      (sym (append_assoc (outline_of d v) (flat_map (outline_of d) (w ∷ ws)) more))
-      (each v (within done (suc (length ws)) a) (flat_map (outline_of d) (w ∷ ws) ++ more) p
-      (rest_runs d each ws w (done ++ v ∷ []) a more (reached p (outline_of d v))
+      (sym (append_assoc (slots_of d v) (flat_map (slots_of d) (w ∷ ws)) more))
+      (each v (within done (suc (length ws)) a) (flat_map (slots_of d) (w ∷ ws) ++ more) p
+      (rest_runs d each ws w (done ++ v ∷ []) a more (reached p (slots_of d v))
       (subst (λ vs. Reaches (at_body (closed a vs)) more
-      (reached (reached p (outline_of d v)) (flat_map (outline_of d) (w ∷ ws))) total last)
+      (reached (reached p (slots_of d v)) (flat_map (slots_of d) (w ∷ ws))) total last)
       (sym (append_assoc done (v ∷ []) (w ∷ ws)))
       (subst (λ q. Reaches (at_body (closed a (done ++ v ∷ w ∷ ws))) more q total last)
-      (reached-append p (outline_of d v) (flat_map (outline_of d) (w ∷ ws))) k))))
+      (reached-append p (slots_of d v) (flat_map (slots_of d) (w ∷ ws))) k))))
 
   all_run : (d : ℕ) → RunsThrough d → (vs : List (Nested d)) (a : Around (depth_of f) (suc d))
-      (more : List Place) (p : Point)
-      → Reaches (at_body (closed a vs)) more (reached p (flat_map (outline_of d) vs)) total last
-      → Reaches (at_body (opened d (length vs) a)) (flat_map (outline_of d) vs ++ more) p total last
+      (more : List Slot) (p : Point)
+      → Reaches (at_body (closed a vs)) more (reached p (flat_map (slots_of d) vs)) total last
+      → Reaches (at_body (opened d (length vs) a)) (flat_map (slots_of d) vs ++ more) p total last
   all_run d each [] a more p k = k
   all_run d each (v ∷ vs) a more p k = rest_runs d each vs v [] a more p k
 
   value_runs : (d : ℕ) → RunsThrough d
   value_runs zero q a more p k = point_runs a q more p k
-  value_runs (suc d) vs a more p k = count_runs d (length vs) a (flat_map (outline_of d) vs ++ more)
+  value_runs (suc d) vs a more p k = count_runs d (length vs) a (flat_map (slots_of d) vs ++ more)
       p (all_run d (value_runs d) vs a more p k)
 
 -- a run through no items ends where it began
@@ -138,7 +138,7 @@ SaysIds h None (suc n) = bit h.meta 2 ≡ false
 SaysIds h (Some ids) (suc n) = (bit h.meta 2 ≡ true) × (length ids ≡ suc n)
 
 module _ (m : Many) (h : Head) (fs : List Frame) (total : ℕ) (last : Stack) where
-  ids_run : (n : ℕ) (xs : List ℤ) (x : ℤ) (done : List ℤ) (more : List Place) (p : Point)
+  ids_run : (n : ℕ) (xs : List ℤ) (x : ℤ) (done : List ℤ) (more : List Slot) (p : Point)
       → Reaches (members_begin m h fs (Some (done ++ x ∷ xs)) n) more p total last
       → Reaches (fs, AtId m h n done (length xs)) (map OfId (x ∷ xs) ++ more) p total last
   ids_run n xs x done more p k e [] here bytes are = absurd are
@@ -160,9 +160,9 @@ module _ (m : Many) (h : Head) (fs : List Frame) (total : ℕ) (last : Stack) wh
         (added e i) js (moved_id e.position i.role i.number are.0 ∙ here) (bytes_more e i js total bytes) are.3),
   )
 
-  counted_run : (n : ℕ) (ids : Ids) (more : List Place) (p : Point) → SaysIds h ids n
+  counted_run : (n : ℕ) (ids : Ids) (more : List Slot) (p : Point) → SaysIds h ids n
       → Reaches (members_begin m h fs ids n) more p total last
-      → Reaches (counted m h fs n) (id_places ids ++ more) p total last
+      → Reaches (counted m h fs n) (id_slots ids ++ more) p total last
   counted_run zero ids more p says k = rw says (rw says at k)
   counted_run (suc n) None more p says k = rw says k
   counted_run (suc n) (Some []) more p says k = absurd (let z : 0 ≡ suc n = says.1 in omega (arith, z))
@@ -173,9 +173,9 @@ module _ (m : Many) (h : Head) (fs : List Frame) (total : ℕ) (last : Stack) wh
       last) y (ids_run (suc n) xs x [] more p k))
 
   -- the machine runs through a count and its ids
-  pub first_run : (n : ℕ) (ids : Ids) (more : List Place) (p : Point) → SaysIds h ids n
+  pub first_run : (n : ℕ) (ids : Ids) (more : List Slot) (p : Point) → SaysIds h ids n
       → Reaches (members_begin m h fs ids n) more p total last
-      → Reaches (fs, AtCount m h) (OfCount (first_count m (length fs)) n ∷ id_places ids ++ more)
+      → Reaches (fs, AtCount m h) (OfCount (first_count m (length fs)) n ∷ id_slots ids ++ more)
       p total last
   first_run n ids more p says k e [] here bytes are = absurd are
   first_run n ids more p says k e (i ∷ js) here bytes are = (
@@ -187,37 +187,37 @@ module _ (m : Many) (h : Head) (fs : List Frame) (total : ℕ) (last : Stack) wh
         (bytes_more e i js total bytes) are.3),
   )
 
--- ---- places of an outline
+-- ---- slots of a value
 
--- functions that agree give the same list of places
-pub flat_map-same : {A : Type 0} (f g : A → List Place) → ((a : A) → f a ≡ g a) → (xs : List A)
+-- functions that agree give the same list of slots
+pub flat_map-same : {A : Type 0} (f g : A → List Slot) → ((a : A) → f a ≡ g a) → (xs : List A)
     → flat_map f xs ≡ flat_map g xs
 flat_map-same f g h [] = refl
 flat_map-same f g h (x ∷ xs) = ap (λ ys. ys ++ flat_map f xs) (h x) ∙ ap (λ ys. g x ++ ys) (flat_map-same f g h xs)
 
--- the places of points
-pub points_outline : (ps : List Point) → flat_map (outline_of 0) ps ≡ map OfPoint ps
-points_outline [] = refl
-points_outline (p ∷ ps) = ap (λ ys. OfPoint p ∷ ys) (points_outline ps)
+-- the slots of points
+pub points_slots : (ps : List Point) → flat_map (slots_of 0) ps ≡ map OfPoint ps
+points_slots [] = refl
+points_slots (p ∷ ps) = ap (λ ys. OfPoint p ∷ ys) (points_slots ps)
 
--- the places of a list of points
-pub run_outline : (ps : List Point) → outline_of 1 ps ≡ run_of ps
-run_outline ps = ap (λ ys. OfCount Vertices (length ps) ∷ ys) (points_outline ps)
+-- the slots of a list of points
+pub run_slots : (ps : List Point) → slots_of 1 ps ≡ run_of ps
+run_slots ps = ap (λ ys. OfCount Vertices (length ps) ∷ ys) (points_slots ps)
 
--- the places of lists of points
-pub runs_outline : (ls : List (List Point)) → flat_map (outline_of 1) ls ≡ flat_map run_of ls
-runs_outline ls = flat_map-same (outline_of 1) run_of run_outline ls
+-- the slots of lists of points
+pub runs_slots : (ls : List (List Point)) → flat_map (slots_of 1) ls ≡ flat_map run_of ls
+runs_slots ls = flat_map-same (slots_of 1) run_of run_slots ls
 
--- the places of a list of lists of points
-pub rings_outline : (ls : List (List Point)) → outline_of 2 ls ≡ rings_of ls
-rings_outline ls = ap (λ ys. OfCount Rings (length ls) ∷ ys) (runs_outline ls)
+-- the slots of a list of lists of points
+pub rings_slots : (ls : List (List Point)) → slots_of 2 ls ≡ rings_of ls
+rings_slots ls = ap (λ ys. OfCount Rings (length ls) ∷ ys) (runs_slots ls)
 
--- the places of several such lists
-pub areas_outline : (ls : List (List (List Point))) → flat_map (outline_of 2) ls ≡ flat_map rings_of ls
-areas_outline ls = flat_map-same (outline_of 2) rings_of rings_outline ls
+-- the slots of several such lists
+pub areas_slots : (ls : List (List (List Point))) → flat_map (slots_of 2) ls ≡ flat_map rings_of ls
+areas_slots ls = flat_map-same (slots_of 2) rings_of rings_slots ls
 
 -- the form of a shape
-abbrev pub form_of : Simple → Form
+abbrev pub form_of : Simple → BodyForm
 form_of (point o) = PointForm
 form_of (line ps) = LineForm
 form_of (polygon rings) = PolygonForm
@@ -226,16 +226,16 @@ form_of (multi_line ids lines) = MultiLineForm
 form_of (multi_polygon ids areas) = MultiPolygonForm
 
 -- the machine runs through a value of depth d with nothing after it
-whole_run : (h : Head) (f : Form) (ids : Ids) (fs : List Frame) (total : ℕ) (p : Point)
-    (v : Nested (depth_of f)) (ps : List Place) → outline_of (depth_of f) v ≡ ps
+whole_run : (h : Head) (f : BodyForm) (ids : Ids) (fs : List Frame) (total : ℕ) (p : Point)
+    (v : Nested (depth_of f)) (ps : List Slot) → slots_of (depth_of f) v ≡ ps
     → Reaches (fs, AtBody h f ids (Want (depth_of f) top)) ps p total
     (fs, AtEnd h (simple h.precision (shape_of f ids v)))
 whole_run h f ids fs total p v ps same =
     let done : Stack = (fs, AtEnd h (simple h.precision (shape_of f ids v))) in
     subst (λ qs. Reaches (fs, AtBody h f ids (Want (depth_of f) top)) qs p total done)
-    (append-nil (outline_of (depth_of f) v) ∙ same)
+    (append-nil (slots_of (depth_of f) v) ∙ same)
     (value_runs h f ids fs total done (depth_of f) v top [] p
-    (finish done (reached p (outline_of (depth_of f) v)) total))
+    (finish done (reached p (slots_of (depth_of f) v)) total))
 
 says_of : {A : Type 0} (h : Head) (ids : Ids) (xs : List A) → HasIds ids (length xs)
     → Agrees (members ids xs) h.meta → SaysIds h ids (length xs)
@@ -244,43 +244,43 @@ says_of h None (x ∷ xs) fit agrees = agrees.1
 says_of h (Some ids) [] fit agrees = absurd (let z : 0 < 0 = fit.0 in omega (arith, z))
 says_of h (Some ids) (x ∷ xs) fit agrees = (agrees.1, fit.1)
 
-parts_run : (m : Many) (h : Head) (f : Form) (ids : Ids) (fs : List Frame) (total : ℕ)
+parts_run : (m : Many) (h : Head) (f : BodyForm) (ids : Ids) (fs : List Frame) (total : ℕ)
     (last : Stack) (d : ℕ) (vs : List (Nested d)) (a : Around (depth_of f) (suc d))
-    (ps : List Place)
-    → flat_map (outline_of d) vs ≡ ps → (fs, settled h f ids (closed a vs)) ≡ last
+    (ps : List Slot)
+    → flat_map (slots_of d) vs ≡ ps → (fs, settled h f ids (closed a vs)) ≡ last
     → (fs, settled h f ids (opened d (length vs) a)) ≡ members_begin m h fs ids (length vs)
     → SaysIds h ids (length vs)
-    → Reaches (fs, AtCount m h) (OfCount (first_count m (length fs)) (length vs) ∷ id_places ids
+    → Reaches (fs, AtCount m h) (OfCount (first_count m (length fs)) (length vs) ∷ id_slots ids
     ++ ps) origin total last
 parts_run m h f ids fs total last d vs a ps same is_last begins says =
     first_run m h fs total last (length vs) ids ps origin says
     (subst (λ st. Reaches st ps origin total last) begins
     (subst (λ qs. Reaches (fs, settled h f ids (opened d (length vs) a)) qs origin total last)
-    (append-nil (flat_map (outline_of d) vs) ∙ same)
+    (append-nil (flat_map (slots_of d) vs) ∙ same)
     (all_run h f ids fs total last d (value_runs h f ids fs total last d) vs a [] origin
-    (subst (λ st. Reaches st [] (reached origin (flat_map (outline_of d) vs)) total last)
-    (sym is_last) (finish last (reached origin (flat_map (outline_of d) vs)) total)))))
+    (subst (λ st. Reaches st [] (reached origin (flat_map (slots_of d) vs)) total last)
+    (sym is_last) (finish last (reached origin (flat_map (slots_of d) vs)) total)))))
 
 -- the machine runs through the body of a shape
 pub shape_run : (h : Head) (fs : List Frame) (total : ℕ) (s : Simple) → IdsFit s
     → Agrees (flags s) h.meta → bit h.meta 4 ≡ false
-    → Reaches (fs, begun (SimpleKind (form_of s)) h) (outline s) origin total (fs, AtEnd h (simple h.precision s))
+    → Reaches (fs, begun (SimpleKind (form_of s)) h) (slots s) origin total (fs, AtEnd h (simple h.precision s))
 shape_run h fs total (point None) fit agrees full = absurd (false≢true (sym full ∙ agrees))
 shape_run h fs total (point (Some p)) fit agrees full = whole_run h PointForm None fs total origin p
     (OfPoint p ∷ []) refl
 shape_run h fs total (line ps) fit agrees full = whole_run h LineForm None fs total origin ps
-    (run_of ps) (run_outline ps)
+    (run_of ps) (run_slots ps)
 shape_run h fs total (polygon rings) fit agrees full = whole_run h PolygonForm None fs total origin
-    rings (rings_of rings) (rings_outline rings)
+    rings (rings_of rings) (rings_slots rings)
 shape_run h fs total (multi_point ids ps) fit agrees full =
     parts_run ManyPoints h MultiPointForm ids fs total
     (fs, AtEnd h (simple h.precision (multi_point ids ps))) 0 ps top (map OfPoint ps)
-    (points_outline ps) refl refl (says_of h ids ps fit agrees)
+    (points_slots ps) refl refl (says_of h ids ps fit agrees)
 shape_run h fs total (multi_line ids lines) fit agrees full =
     parts_run ManyLines h MultiLineForm ids fs total
     (fs, AtEnd h (simple h.precision (multi_line ids lines))) 1 lines top
-    (flat_map run_of lines) (runs_outline lines) refl refl (says_of h ids lines fit agrees)
+    (flat_map run_of lines) (runs_slots lines) refl refl (says_of h ids lines fit agrees)
 shape_run h fs total (multi_polygon ids areas) fit agrees full =
     parts_run ManyPolygons h MultiPolygonForm ids fs total
     (fs, AtEnd h (simple h.precision (multi_polygon ids areas))) 2 areas top
-    (flat_map rings_of areas) (areas_outline areas) refl refl (says_of h ids areas fit agrees)
+    (flat_map rings_of areas) (areas_slots areas) refl refl (says_of h ids areas fit agrees)

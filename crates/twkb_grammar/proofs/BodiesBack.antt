@@ -9,13 +9,13 @@ use Rattle.twkb_num.specs.Zigzag.{zigzag_of, unzigzag_of}
 use Rattle.twkb_points.specs.Point.{Point, point_at}
 use Rattle.twkb_tree.specs.Tree.{Tree, Ids}
 use Rattle.twkb_grammar.specs.Roles.{Item, Role, X, Y, Count, Id, Field, AreFields}
-use Rattle.twkb_grammar.specs.Items.{Place, OfCount, OfId, OfPoint}
+use Rattle.twkb_grammar.specs.Items.{Slot, OfCount, OfId, OfPoint}
 use Rattle.twkb_grammar.specs.Fault.{moved}
 use Rattle.twkb_grammar.specs.Machine.{Nested, Around, within, Body, Want, WantY, closed, opened}
-use Rattle.twkb_grammar.specs.Machine.{listed, Form, depth_of, Head, Frame, Phase, Finished}
+use Rattle.twkb_grammar.specs.Machine.{listed, BodyForm, depth_of, Head, Frame, Phase, Finished}
 use Rattle.twkb_grammar.specs.Machine.{settled, Sums, added, Stack, Runs}
-use Rattle.twkb_grammar.proofs.Places.{steps, reached, reached-append}
-use Rattle.twkb_grammar.proofs.Bodies.{outline_of, moved_count}
+use Rattle.twkb_grammar.proofs.Slots.{steps, reached, reached-append}
+use Rattle.twkb_grammar.proofs.Bodies.{slots_of, moved_count}
 use Rattle.twkb_grammar.proofs.Headers.{sums_after}
 
 -- the items of joined fields are joined items
@@ -26,8 +26,8 @@ AreFields-append [] (i ∷ is) gs js a b = absurd a
 AreFields-append (f ∷ fs) [] gs js a b = absurd a
 AreFields-append (f ∷ fs) (i ∷ is) gs js a b = (a.0, a.1, a.2, AreFields-append fs is gs js a.3 b)
 
--- the fields of joined places
-pub steps-append : (p : Point) (xs ys : List Place) → steps p (xs ++ ys) ≡ steps p xs ++ steps (reached p xs) ys
+-- the fields of joined slots
+pub steps-append : (p : Point) (xs ys : List Slot) → steps p (xs ++ ys) ≡ steps p xs ++ steps (reached p xs) ys
 steps-append p [] ys = refl
 steps-append p (OfCount c n ∷ xs) ys = ap (λ fs. (Count c, n) ∷ fs) (steps-append p xs ys)
 steps-append p (OfId id ∷ xs) ys = ap (λ fs. (Id, zigzag_of id) ∷ fs) (steps-append p xs ys)
@@ -54,7 +54,7 @@ both_moved : (p : Point) (r s : Role) (m n : ℕ) → r ≡ X → s ≡ Y
     → moved (moved p r m) s n ≡ point_at (p.x +ℤ unzigzag_of m) (p.y +ℤ unzigzag_of n)
 both_moved p r s m n hr hs = rw (hr, hs)
 
-module _ (h : Head) (f : Form) (ids : Ids) (fs : List Frame) (tree : Tree) where
+module _ (h : Head) (f : BodyForm) (ids : Ids) (fs : List Frame) (tree : Tree) where
   abbrev body_at : Body (depth_of f) → Stack
   body_at b = (fs, settled h f ids b)
 
@@ -67,8 +67,8 @@ module _ (h : Head) (f : Form) (ids : Ids) (fs : List Frame) (tree : Tree) where
     pub front : List Item
     pub rest : List Item
     pub whole : is ≡ front ++ rest
-    pub are : AreFields (steps e.position (outline_of d value)) front
-    pub here : (sums_after e front).position ≡ reached e.position (outline_of d value)
+    pub are : AreFields (steps e.position (slots_of d value)) front
+    pub here : (sums_after e front).position ≡ reached e.position (slots_of d value)
     pub runs : Runs (sums_after e front) (body_at (closed a value)) rest finished
 
   -- the items begin with values one after another, and the machine goes on after them
@@ -79,8 +79,8 @@ module _ (h : Head) (f : Form) (ids : Ids) (fs : List Frame) (tree : Tree) where
     pub front : List Item
     pub rest : List Item
     pub whole : is ≡ front ++ rest
-    pub are : AreFields (steps e.position (flat_map (outline_of d) values)) front
-    pub here : (sums_after e front).position ≡ reached e.position (flat_map (outline_of d) values)
+    pub are : AreFields (steps e.position (flat_map (slots_of d) values)) front
+    pub here : (sums_after e front).position ≡ reached e.position (flat_map (slots_of d) values)
     pub runs : Runs (sums_after e front) (body_at (closed a (done ++ values))) rest finished
 
   point_back : (a : Around (depth_of f) 0) (e : Sums) (is : List Item)
@@ -129,8 +129,8 @@ module _ (h : Head) (f : Form) (ids : Ids) (fs : List Frame) (tree : Tree) where
         front = v.front;
         rest = v.rest;
         whole = v.whole;
-        are = subst (λ ps. AreFields (steps e.position ps) v.front) (sym (append-nil (outline_of d v.value))) v.are;
-        here = v.here ∙ ap (λ ps. reached e.position ps) (sym (append-nil (outline_of d v.value)));
+        are = subst (λ ps. AreFields (steps e.position ps) v.front) (sym (append-nil (slots_of d v.value))) v.are;
+        here = v.here ∙ ap (λ ps. reached e.position ps) (sym (append-nil (slots_of d v.value)));
         runs = v.runs;
       }
   within_back d each (suc left) done a e is r =
@@ -143,16 +143,16 @@ module _ (h : Head) (f : Form) (ids : Ids) (fs : List Frame) (tree : Tree) where
         rest = ws.rest;
         whole = v.whole ∙ (ap (λ l. v.front ++ l) ws.whole ∙ sym (append_assoc v.front ws.front ws.rest));
         are = subst (λ fs. AreFields fs (v.front ++ ws.front))
-            (sym (steps-append e.position (outline_of d v.value)
-            (flat_map (outline_of d) ws.values)))
-            (AreFields-append (steps e.position (outline_of d v.value)) v.front
-            (steps (reached e.position (outline_of d v.value))
-            (flat_map (outline_of d) ws.values)) ws.front v.are
-            (subst (λ p. AreFields (steps p (flat_map (outline_of d) ws.values)) ws.front) v.here ws.are));
+            (sym (steps-append e.position (slots_of d v.value)
+            (flat_map (slots_of d) ws.values)))
+            (AreFields-append (steps e.position (slots_of d v.value)) v.front
+            (steps (reached e.position (slots_of d v.value))
+            (flat_map (slots_of d) ws.values)) ws.front v.are
+            (subst (λ p. AreFields (steps p (flat_map (slots_of d) ws.values)) ws.front) v.here ws.are));
         here = ap (λ (s : Sums). s.position) (sums_after-append v.front ws.front e)
-            ∙ (ws.here ∙ (ap (λ p. reached p (flat_map (outline_of d) ws.values)) v.here
-            ∙ sym (reached-append e.position (outline_of d v.value)
-            (flat_map (outline_of d) ws.values))));
+            ∙ (ws.here ∙ (ap (λ p. reached p (flat_map (slots_of d) ws.values)) v.here
+            ∙ sym (reached-append e.position (slots_of d v.value)
+            (flat_map (slots_of d) ws.values))));
         runs = subst (λ s. Runs s (body_at (closed a (done ++ v.value ∷ ws.values))) ws.rest
             finished) (sym (sums_after-append v.front ws.front e))
             (subst (λ vs. Runs (sums_after (sums_after e v.front) ws.front) (body_at (closed a vs))
@@ -193,8 +193,8 @@ module _ (h : Head) (f : Form) (ids : Ids) (fs : List Frame) (tree : Tree) where
           sym vs.many,
           r.1,
           subst (λ p. AreFields
-              (steps p (flat_map (outline_of d) vs.values)) vs.front) same vs.are,
+              (steps p (flat_map (slots_of d) vs.values)) vs.front) same vs.are,
         );
-        here = vs.here ∙ ap (λ p. reached p (flat_map (outline_of d) vs.values)) same;
+        here = vs.here ∙ ap (λ p. reached p (flat_map (slots_of d) vs.values)) same;
         runs = vs.runs;
       }

@@ -8,7 +8,7 @@ use Rattle.twkb_tree.specs.Tree.{Tree, Trees, Ids, simple, collection}
 use Rattle.twkb_grammar.specs.Bits.{bit}
 use Rattle.twkb_grammar.specs.Roles.{Item, Role, Header, Metadata, Extended, Size, Box, Count, Id, X, Y, End, IsItem}
 use Rattle.twkb_grammar.specs.Machine.{Nested, Around, top, within, Body, Want, WantY, Done, closed}
-use Rattle.twkb_grammar.specs.Machine.{opened, listed, Form, depth_of, shape_of, Kind, SimpleKind}
+use Rattle.twkb_grammar.specs.Machine.{opened, listed, BodyForm, depth_of, shape_of, Kind, SimpleKind}
 use Rattle.twkb_grammar.specs.Machine.{CollectionKind, PointForm, LineForm, PolygonForm}
 use Rattle.twkb_grammar.specs.Machine.{MultiPointForm, MultiLineForm, MultiPolygonForm, kind_number}
 use Rattle.twkb_grammar.specs.Machine.{Head, Frame, Phase, AtHeader, AtMetadata, AtOption, AtCount}
@@ -101,7 +101,7 @@ pub ended_done : (fs : List Frame) (g : Tree) → Completes (ended fs g)
 ended_done [] g e = record { roles = []; tree = g; runs = refl }
 ended_done (f ∷ fs) g e = frame_done fs (ended_done fs) f.left f.head f.ids f.done g e
 
-module _ (h : Head) (f : Form) (ids : Ids) (fs : List Frame) where
+module _ (h : Head) (f : BodyForm) (ids : Ids) (fs : List Frame) where
   abbrev body_st : Body (depth_of f) → Stack
   body_st b = (fs, settled h f ids b)
 
@@ -207,7 +207,7 @@ completes (fs, AtBody h f ids (Done v)) p = absurd p
 completes (fs, AtEnd h g) p = end_done h g fs (ended_done fs g)
 completes (fs, Finished g) p = λ e. record { roles = []; tree = g; runs = ap (λ l. (l, Finished g)) p }
 
-settled_proper : (fs : List Frame) (h : Head) (f : Form) (ids : Ids) (b : Body (depth_of f))
+settled_proper : (fs : List Frame) (h : Head) (f : BodyForm) (ids : Ids) (b : Body (depth_of f))
     → IsProper (fs, settled h f ids b)
 settled_proper fs h f ids (Want d a) = tt
 settled_proper fs h f ids (WantY a) = tt

@@ -7,7 +7,7 @@ use Rattle.twkb_tree.specs.Limits.{Allowance}
 use Rattle.twkb_grammar.specs.Bits.{bit}
 use Rattle.twkb_grammar.specs.Roles.{Role, Count, Geometries, Item}
 use Rattle.twkb_grammar.specs.Fault.{moved}
-use Rattle.twkb_grammar.specs.Machine.{Form, PointForm, LineForm, PolygonForm, MultiPointForm}
+use Rattle.twkb_grammar.specs.Machine.{BodyForm, PointForm, LineForm, PolygonForm, MultiPointForm}
 use Rattle.twkb_grammar.specs.Machine.{MultiLineForm, MultiPolygonForm, depth_of, Kind, SimpleKind}
 use Rattle.twkb_grammar.specs.Machine.{CollectionKind, Body, Want, WantY, Done, opened, top, Head}
 use Rattle.twkb_grammar.specs.Machine.{Frame, Many, ManyPoints, ManyLines, ManyPolygons}
@@ -29,7 +29,7 @@ abbrev Shallow : ℕ → Stack → Type 0
 Shallow nest (fs, AtId ManyGeometries h members ids left) = (0 < members → length fs < nest) × (length fs ≤ nest)
 Shallow nest (fs, ph) = length fs ≤ nest
 
-shallow_settled : (nest : ℕ) (fs : List Frame) (h : Head) (f : Form) (ids : Ids)
+shallow_settled : (nest : ℕ) (fs : List Frame) (h : Head) (f : BodyForm) (ids : Ids)
     (b : Body (depth_of f)) → length fs ≤ nest → Shallow nest (fs, settled h f ids b)
 shallow_settled nest fs h f ids (Want d a) few = few
 shallow_settled nest fs h f ids (WantY a) few = few

@@ -20,7 +20,7 @@ use Rattle.twkb_grammar.proofs.BodiesBack.{some_role, sums_after-append}
 use Rattle.twkb_grammar.proofs.Headers.{bytes_after}
 use Rattle.twkb_grammar.proofs.Trees.{tree_runs}
 use Rattle.twkb_grammar.proofs.Totals.{tree_total}
-use Rattle.twkb_grammar.proofs.PlaceTotals.{total}
+use Rattle.twkb_grammar.proofs.SlotTotals.{total}
 use Rattle.twkb_grammar.proofs.Parts.{runs_same}
 use Rattle.twkb_grammar.proofs.Frames.{reached_frames}
 use Rattle.twkb_grammar.proofs.TwoFronts.{Compared, longer, shorter, same, two_fronts, none_beyond}

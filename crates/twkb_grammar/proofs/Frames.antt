@@ -8,7 +8,7 @@ use Rattle.twkb_tree.specs.Limits.{Allowance}
 use Rattle.twkb_grammar.specs.Bits.{bit}
 use Rattle.twkb_grammar.specs.Roles.{Role, Header, Metadata, Extended, Size, Box, Count, Id, X, Y, End, Item, where_set}
 use Rattle.twkb_grammar.specs.Fault.{moved}
-use Rattle.twkb_grammar.specs.Machine.{Form, PointForm, LineForm, PolygonForm, MultiPointForm}
+use Rattle.twkb_grammar.specs.Machine.{BodyForm, PointForm, LineForm, PolygonForm, MultiPointForm}
 use Rattle.twkb_grammar.specs.Machine.{MultiLineForm, MultiPolygonForm, depth_of, Kind, kind_number}
 use Rattle.twkb_grammar.specs.Machine.{SimpleKind, CollectionKind, Body, Want, WantY, Done, opened}
 use Rattle.twkb_grammar.specs.Machine.{top, listed, body_role, body_after, Head, Frame, Many}
@@ -64,7 +64,7 @@ Has n (fs, Finished g) = length fs ≡ n
 Has n (fs, AtOption k h r rs) = (suc (length fs) ≡ n) × Leaves (r ∷ rs)
 Has n (fs, ph) = suc (length fs) ≡ n
 
-has_settled : (fs : List Frame) (h : Head) (f : Form) (ids : Ids) (b : Body (depth_of f))
+has_settled : (fs : List Frame) (h : Head) (f : BodyForm) (ids : Ids) (b : Body (depth_of f))
     → Has (suc (length fs)) (fs, settled h f ids b)
 has_settled fs h f ids (Want d a) = refl
 has_settled fs h f ids (WantY a) = refl

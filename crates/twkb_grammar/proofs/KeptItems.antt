@@ -13,14 +13,14 @@ use Rattle.twkb_tree.specs.Tree.{nest_all}
 use Rattle.twkb_grammar.specs.Bits.{bit}
 use Rattle.twkb_grammar.specs.Roles.{Item, Header, Metadata, Extended, Size, Box, Count, Geometries}
 use Rattle.twkb_grammar.specs.Roles.{AreFields, where_set, item}
-use Rattle.twkb_grammar.specs.Items.{Place, OfCount, OfId, OfPoint, id_places, fields, outline}
+use Rattle.twkb_grammar.specs.Items.{Slot, OfCount, OfId, OfPoint, id_slots, fields, slots}
 use Rattle.twkb_grammar.specs.Items.{declared, end_item, header_byte, Flags, Agrees, flags}
 use Rattle.twkb_grammar.specs.Items.{flags_all, BodyAt, Framed, Follow, Items, ItemsOfAll, kind_of}
 use Rattle.twkb_grammar.specs.Items.{id_fields}
 use Rattle.twkb_grammar.specs.Fault.{IsDeep}
 use Rattle.twkb_grammar.specs.Machine.{Kind, SimpleKind, CollectionKind, Sums, added, sums_after}
 use Rattle.twkb_grammar.specs.Reading.{Here, Kept}
-use Rattle.twkb_grammar.proofs.Places.{steps, places, points_are, fields_are, forth}
+use Rattle.twkb_grammar.proofs.Slots.{steps, slot_points, points_are, fields_are, forth}
 use Rattle.twkb_points.specs.Point.{origin}
 use Rattle.twkb_grammar.proofs.Bodies.{form_of, moved_x, moved_y, moved_id, moved_count}
 use Rattle.twkb_grammar.proofs.Headers.{still_after, still_where}
@@ -32,15 +32,15 @@ pub kept_split : (most : ℕ) (is js : List Item) (e : Sums) → Kept most e (is
 kept_split most [] js e k = (tt, k)
 kept_split most (i ∷ is) js e k = let t = kept_split most is js (added e i) k.1 in ((k.0, t.0), t.1)
 
--- the counts and places of a body that was kept
-abbrev PlacesKept : ℕ → List Place → Type 0
-PlacesKept most [] = ⊤
-PlacesKept most (OfCount k n ∷ ps) = (IsDeep k most → n ≡ 0) × PlacesKept most ps
-PlacesKept most (OfId id ∷ ps) = PlacesKept most ps
-PlacesKept most (OfPoint q ∷ ps) = IsInRange q × PlacesKept most ps
+-- the counts and slots of a body that was kept
+abbrev SlotsKept : ℕ → List Slot → Type 0
+SlotsKept most [] = ⊤
+SlotsKept most (OfCount k n ∷ ps) = (IsDeep k most → n ≡ 0) × SlotsKept most ps
+SlotsKept most (OfId id ∷ ps) = SlotsKept most ps
+SlotsKept most (OfPoint q ∷ ps) = IsInRange q × SlotsKept most ps
 
-body_was : (most : ℕ) (p : Point) (ps : List Place) (is : List Item) (e : Sums)
-    → AreFields (steps p ps) is → e.position ≡ p → Kept most e is → PlacesKept most ps
+body_was : (most : ℕ) (p : Point) (ps : List Slot) (is : List Item) (e : Sums)
+    → AreFields (steps p ps) is → e.position ≡ p → Kept most e is → SlotsKept most ps
 body_was most p [] is e are here k = tt
 body_was most p (OfCount c n ∷ ps) [] e are here k = absurd are
 body_was most p (OfCount c n ∷ ps) (i ∷ is) e are here k =
@@ -70,11 +70,11 @@ body_was most p (OfPoint q ∷ ps) (i ∷ j ∷ is) e are here k =
       body_was most q ps is (added (added e i) j) are.3.3 y k.1.1,
     )
 
-all_places : (most : ℕ) (ps : List Place) → PlacesKept most ps → AllByRecursion IsInRange (places ps)
-all_places most [] k = tt
-all_places most (OfCount c n ∷ ps) k = all_places most ps k.1
-all_places most (OfId id ∷ ps) k = all_places most ps k
-all_places most (OfPoint q ∷ ps) k = (k.0, all_places most ps k.1)
+all_slots : (most : ℕ) (ps : List Slot) → SlotsKept most ps → AllByRecursion IsInRange (slot_points ps)
+all_slots most [] k = tt
+all_slots most (OfCount c n ∷ ps) k = all_slots most ps k.1
+all_slots most (OfId id ∷ ps) k = all_slots most ps k
+all_slots most (OfPoint q ∷ ps) k = (k.0, all_slots most ps k.1)
 
 all_append : (xs ys : List Point) → AllByRecursion IsInRange xs → AllByRecursion IsInRange ys
     → AllByRecursion IsInRange (xs ++ ys)
@@ -131,14 +131,14 @@ framed_was most kind p own Body is e f k = (d.1, there)
         ∙ still_after (where_set (bit f.meta 3) (Extended ∷ [])) f.extended e1
         f.optional.extended_is (still_where (bit f.meta 3) (Extended ∷ []) ((λ p n. refl), tt)))
 
-no_places : (k : Kind) (p : ℤ) → AllByRecursion IsInRange (flat (Rattle.twkb_grammar.specs.Machine.empty_of k p))
-no_places (SimpleKind Rattle.twkb_grammar.specs.Machine.PointForm) p = tt
-no_places (SimpleKind Rattle.twkb_grammar.specs.Machine.LineForm) p = tt
-no_places (SimpleKind Rattle.twkb_grammar.specs.Machine.PolygonForm) p = tt
-no_places (SimpleKind Rattle.twkb_grammar.specs.Machine.MultiPointForm) p = tt
-no_places (SimpleKind Rattle.twkb_grammar.specs.Machine.MultiLineForm) p = tt
-no_places (SimpleKind Rattle.twkb_grammar.specs.Machine.MultiPolygonForm) p = tt
-no_places CollectionKind p = tt
+no_slots : (k : Kind) (p : ℤ) → AllByRecursion IsInRange (flat (Rattle.twkb_grammar.specs.Machine.empty_of k p))
+no_slots (SimpleKind Rattle.twkb_grammar.specs.Machine.PointForm) p = tt
+no_slots (SimpleKind Rattle.twkb_grammar.specs.Machine.LineForm) p = tt
+no_slots (SimpleKind Rattle.twkb_grammar.specs.Machine.PolygonForm) p = tt
+no_slots (SimpleKind Rattle.twkb_grammar.specs.Machine.MultiPointForm) p = tt
+no_slots (SimpleKind Rattle.twkb_grammar.specs.Machine.MultiLineForm) p = tt
+no_slots (SimpleKind Rattle.twkb_grammar.specs.Machine.MultiPolygonForm) p = tt
+no_slots CollectionKind p = tt
 
 simple_was : (most : ℕ) (s : Simple) (p : ℤ) (meta : ℕ) (body : List Item) (e : Sums) → IdsFit s
     → Agrees (flags s) meta → (b : Bool) → bit meta 4 ≡ b → BodyAt b (AreFields (fields s)) body
@@ -146,10 +146,10 @@ simple_was : (most : ℕ) (s : Simple) (p : ℤ) (meta : ℕ) (body : List Item)
     → AllByRecursion IsInRange (points_in s)
 simple_was most s p meta body e fit agrees true bare is here k =
     subst (λ g. AllByRecursion IsInRange (flat g)) (left_out s p meta fit agrees bare)
-    (no_places (SimpleKind (form_of s)) p)
+    (no_slots (SimpleKind (form_of s)) p)
 simple_was most s p meta body e fit agrees false full is here k =
     subst (λ l. AllByRecursion IsInRange l) (points_are s)
-    (all_places most (outline s) (body_was most origin (outline s) body e
+    (all_slots most (slots s) (body_was most origin (slots s) body e
     (subst (λ fs. AreFields fs body) (fields_are s) is) here k))
 
 abbrev MembersWere : ℕ → ℕ → Trees → Type 0
@@ -173,7 +173,7 @@ gathered_was most level None (g ▷ gs) meta body e fits low agrees each true ba
 gathered_was most level (Some ids) (g ▷ gs) meta body e fits low agrees each true bare is here k =
     absurd (false≢true (sym agrees.0 ∙ bare))
 gathered_was most level ids (g ▷ gs) meta body e fits low agrees each false full is here k =
-    let head : List Place = OfCount (Geometries level) (suc (count gs)) ∷ id_places ids ++ [] in
+    let head : List Slot = OfCount (Geometries level) (suc (count gs)) ∷ id_slots ids ++ [] in
     let two = kept_split most is.front is.rest e (subst (λ l. Kept most e l) is.whole k) in
     let was = body_was most origin head is.front e
     (subst (λ l. AreFields ((Count (Geometries level), suc (count gs)) ∷ l) is.front)

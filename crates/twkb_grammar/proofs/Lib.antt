@@ -1,5 +1,5 @@
 -- Lemmas of the crate, by their topic.
-pub mod Places
+pub mod Slots
 pub mod Small
 pub mod Bodies
 pub mod Headers
@@ -13,14 +13,14 @@ pub mod TreesBack
 pub mod Parts
 pub mod Completing
 pub mod Dead
-pub mod PlaceTotals
+pub mod SlotTotals
 pub mod Totals
 pub mod Refusing
 pub mod Ranges
 pub mod KeptItems
 pub mod Alive
 pub mod NumberItems
-pub mod OutlineFits
+pub mod SlotNumbers
 pub mod BoxItems
 pub mod Framing
 pub mod WrittenBlobs

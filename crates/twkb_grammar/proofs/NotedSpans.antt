@@ -14,7 +14,7 @@ use Rattle.twkb_tree.specs.Limits.{Allowance}
 use Rattle.twkb_grammar.specs.Bits.{bit}
 use Rattle.twkb_grammar.specs.Roles.{Item, Header, Metadata, Extended, Size, Box, Count, Counted}
 use Rattle.twkb_grammar.specs.Roles.{Geometries, AreFields, where_set, item, join}
-use Rattle.twkb_grammar.specs.Items.{fields, id_fields, id_places, outline, declared, end_item}
+use Rattle.twkb_grammar.specs.Items.{fields, id_fields, id_slots, slots, declared, end_item}
 use Rattle.twkb_grammar.specs.Items.{header_byte, Flags, flags, flags_all, Framed, Follow, BodyAt}
 use Rattle.twkb_grammar.specs.Items.{Items, ItemsOfAll, kind_of}
 use Rattle.twkb_grammar.specs.Fault.{points_by}
@@ -27,7 +27,7 @@ use Rattle.twkb_grammar.proofs.Small.{zigzag_small}
 use Rattle.twkb_grammar.proofs.Headers.{bytes_after}
 use Rattle.twkb_grammar.proofs.BodiesBack.{sums_after-append}
 use Rattle.twkb_grammar.proofs.Totals.{tree_total}
-use Rattle.twkb_grammar.proofs.PlaceTotals.{total, total-append}
+use Rattle.twkb_grammar.proofs.SlotTotals.{total, total-append}
 use Rattle.twkb_grammar.proofs.QuietItems.{changed-behind, noted-append, points_total, quiet_where}
 use Rattle.twkb_grammar.proofs.QuietItems.{quiet_roles, quiet_filled, quiet_fields}
 
@@ -216,7 +216,7 @@ simple_body : (start : ℕ) (s : Simple) (b : Bool) (body : List Item) (e : Sums
     → BodyAt b (AreFields (fields s)) body → noted start e w body ≡ w
 simple_body start s true body e w h = ap (λ l. noted start e w l) h
 simple_body start s false body e w h = quiet_fields start (fields s) body e w h
-    (quiet_filled (outline s) (Rattle.twkb_points.specs.Differences.differences
+    (quiet_filled (slots s) (Rattle.twkb_points.specs.Differences.differences
     (Rattle.twkb_tree.specs.Tree.points_in s)))
 
 -- the notes of the members are their spans
@@ -237,7 +237,7 @@ below_noted gs each c n ids start false body e w h =
     ∙ (noted-append start h.front h.rest e w
     ∙ (ap (λ v. noted start (sums_after e h.front) v h.rest)
     (quiet_fields start ((Count c, n) ∷ id_fields ids) h.front e w h.first
-    (tt, quiet_filled (id_places ids) []))
+    (tt, quiet_filled (id_slots ids) []))
     ∙ (each start (sums_after e h.front) w h.rest h.second
     ∙ ap (λ o. notes (w.spans ++ spans_of_all (length w.begun) o gs h.rest h.second) w.begun)
     (let b : (sums_after e h.front).bytes ≡ e.bytes + length (join h.front) = bytes_after h.front

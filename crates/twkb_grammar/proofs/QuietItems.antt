@@ -3,11 +3,11 @@ use Rattle.std.proofs.Common.{Bool, true, false, ◌≡◌, ℕ, ◌+◌, List, 
 use Rattle.std.specs.Prelude.{ℤ, ⊤}
 use Rattle.twkb_grammar.specs.Roles.{Item, Role, Header, Metadata, Extended, Size, Box, Count, Id}
 use Rattle.twkb_grammar.specs.Roles.{X, Y, End, Field, AreFields, HaveRoles, where_set}
-use Rattle.twkb_grammar.specs.Items.{Place, OfCount, OfId, OfPoint, filled}
+use Rattle.twkb_grammar.specs.Items.{Slot, OfCount, OfId, OfPoint, filled}
 use Rattle.twkb_grammar.specs.Fault.{points_by}
 use Rattle.twkb_grammar.specs.Machine.{Sums, added, sums_after}
 use Rattle.twkb_grammar.specs.Noting.{Notes, changed_at, IsQuiet, noted_by, noted}
-use Rattle.twkb_grammar.proofs.PlaceTotals.{total, total_is}
+use Rattle.twkb_grammar.proofs.SlotTotals.{total, total_is}
 use Rattle.twkb_grammar.proofs.Running.{points_after}
 
 -- changing the item after some others
@@ -60,7 +60,7 @@ abbrev QuietFields : List Field → Type 0
 QuietFields [] = ⊤
 QuietFields (f ∷ fs) = IsQuiet f.0 × QuietFields fs
 
-pub quiet_filled : (ps : List Place) (ds : List (ℤ × ℤ)) → QuietFields (filled ps ds)
+pub quiet_filled : (ps : List Slot) (ds : List (ℤ × ℤ)) → QuietFields (filled ps ds)
 quiet_filled [] ds = tt
 quiet_filled (OfCount c n ∷ ps) ds = (tt, quiet_filled ps ds)
 quiet_filled (OfId id ∷ ps) ds = (tt, quiet_filled ps ds)

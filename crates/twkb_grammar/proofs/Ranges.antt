@@ -12,16 +12,16 @@ use Rattle.twkb_tree.specs.Tree.{Ids, flat, flat_all, points_in, nest, nest_all}
 use Rattle.twkb_tree.specs.Limits.{Allowance, IsValid}
 use Rattle.twkb_grammar.specs.Bits.{bit}
 use Rattle.twkb_grammar.specs.Roles.{Item, Role, Header, Metadata, Extended, Size, Box, Count}
-use Rattle.twkb_grammar.specs.Roles.{Vertices, Rings, Points, Parts, Geometries, Id, X, Y, End}
+use Rattle.twkb_grammar.specs.Roles.{Vertices, Rings, Points, Components, Geometries, Id, X, Y, End}
 use Rattle.twkb_grammar.specs.Roles.{AreFields, HaveRoles, where_set, item}
-use Rattle.twkb_grammar.specs.Items.{Place, OfCount, OfId, OfPoint, id_places, fields, outline}
+use Rattle.twkb_grammar.specs.Items.{Slot, OfCount, OfId, OfPoint, id_slots, fields, slots}
 use Rattle.twkb_grammar.specs.Items.{run_of, rings_of, declared, end_item, header_byte, Flags}
 use Rattle.twkb_grammar.specs.Items.{flags, flags_all, BodyAt, Framed, Follow, Items, ItemsOfAll}
 use Rattle.twkb_grammar.specs.Items.{kind_of, id_fields}
 use Rattle.twkb_grammar.specs.Fault.{IsDeep, position, position_from}
 use Rattle.twkb_grammar.specs.Machine.{Sums, nothing, added}
 use Rattle.twkb_grammar.specs.Reading.{Here, Kept}
-use Rattle.twkb_grammar.proofs.Places.{steps, places, points_are, fields_are, forth}
+use Rattle.twkb_grammar.proofs.Slots.{steps, slot_points, points_are, fields_are, forth}
 use Rattle.twkb_points.specs.Point.{origin}
 use Rattle.twkb_grammar.proofs.Bodies.{moved_x, moved_y, moved_id, moved_count}
 use Rattle.twkb_grammar.proofs.Headers.{sums_after, still_after, still_where}
@@ -61,15 +61,15 @@ roles_kept most (r ∷ rs) (i ∷ is) e have easy = (
   roles_kept most rs is (added e i) have.2 easy.1,
 )
 
--- the counts and points of a body's places are allowed there
-abbrev PlacesFit : ℕ → List Place → Type 0
-PlacesFit most [] = ⊤
-PlacesFit most (OfCount k n ∷ ps) = (IsDeep k most → n ≡ 0) × PlacesFit most ps
-PlacesFit most (OfId id ∷ ps) = PlacesFit most ps
-PlacesFit most (OfPoint q ∷ ps) = IsInRange q × PlacesFit most ps
+-- the counts and points of a body's slots are allowed there
+abbrev SlotsFit : ℕ → List Slot → Type 0
+SlotsFit most [] = ⊤
+SlotsFit most (OfCount k n ∷ ps) = (IsDeep k most → n ≡ 0) × SlotsFit most ps
+SlotsFit most (OfId id ∷ ps) = SlotsFit most ps
+SlotsFit most (OfPoint q ∷ ps) = IsInRange q × SlotsFit most ps
 
-body_kept : (most : ℕ) (p : Point) (ps : List Place) (is : List Item) (e : Sums)
-    → AreFields (steps p ps) is → e.position ≡ p → PlacesFit most ps → Kept most e is
+body_kept : (most : ℕ) (p : Point) (ps : List Slot) (is : List Item) (e : Sums)
+    → AreFields (steps p ps) is → e.position ≡ p → SlotsFit most ps → Kept most e is
 body_kept most p [] [] e are here fit = tt
 body_kept most p [] (i ∷ is) e are here fit = absurd are
 body_kept most p (OfCount k n ∷ ps) [] e are here fit = absurd are
@@ -100,54 +100,54 @@ body_kept most p (OfPoint q ∷ ps) (i ∷ j ∷ is) e are here fit =
       ),
     )
 
--- none of the places is a count of geometries
-abbrev Plain : List Place → Type 0
+-- none of the slots is a count of geometries
+abbrev Plain : List Slot → Type 0
 Plain [] = ⊤
 Plain (OfCount Vertices n ∷ ps) = Plain ps
 Plain (OfCount Rings n ∷ ps) = Plain ps
 Plain (OfCount Points n ∷ ps) = Plain ps
-Plain (OfCount Parts n ∷ ps) = Plain ps
+Plain (OfCount Components n ∷ ps) = Plain ps
 Plain (OfCount (Geometries l) n ∷ ps) = ⊥
 Plain (OfId id ∷ ps) = Plain ps
 Plain (OfPoint q ∷ ps) = Plain ps
 
-plain_fit : (most : ℕ) (ps : List Place) → Plain ps → AllByRecursion IsInRange (places ps) → PlacesFit most ps
+plain_fit : (most : ℕ) (ps : List Slot) → Plain ps → AllByRecursion IsInRange (slot_points ps) → SlotsFit most ps
 plain_fit most [] plain all = tt
 plain_fit most (OfCount Vertices n ∷ ps) plain all = (λ h. absurd h, plain_fit most ps plain all)
 plain_fit most (OfCount Rings n ∷ ps) plain all = (λ h. absurd h, plain_fit most ps plain all)
 plain_fit most (OfCount Points n ∷ ps) plain all = (λ h. absurd h, plain_fit most ps plain all)
-plain_fit most (OfCount Parts n ∷ ps) plain all = (λ h. absurd h, plain_fit most ps plain all)
+plain_fit most (OfCount Components n ∷ ps) plain all = (λ h. absurd h, plain_fit most ps plain all)
 plain_fit most (OfCount (Geometries l) n ∷ ps) plain all = absurd plain
 plain_fit most (OfId id ∷ ps) plain all = plain_fit most ps plain all
 plain_fit most (OfPoint q ∷ ps) plain all = (all.0, plain_fit most ps plain all.1)
 
-plain_points : (ps : List Point) (qs : List Place) → Plain qs → Plain (map OfPoint ps ++ qs)
+plain_points : (ps : List Point) (qs : List Slot) → Plain qs → Plain (map OfPoint ps ++ qs)
 plain_points [] qs h = h
 plain_points (p ∷ ps) qs h = plain_points ps qs h
 
-plain_runs : (ls : List (List Point)) (qs : List Place) → Plain qs → Plain (flat_map run_of ls ++ qs)
+plain_runs : (ls : List (List Point)) (qs : List Slot) → Plain qs → Plain (flat_map run_of ls ++ qs)
 plain_runs [] qs h = h
 plain_runs (ps ∷ ls) qs h = subst (λ l. Plain l)
     (sym (append_assoc (run_of ps) (flat_map run_of ls) qs))
     (plain_points ps (flat_map run_of ls ++ qs) (plain_runs ls qs h))
 
-plain_areas : (areas : List (List (List Point))) (qs : List Place) → Plain qs → Plain (flat_map rings_of areas ++ qs)
+plain_areas : (areas : List (List (List Point))) (qs : List Slot) → Plain qs → Plain (flat_map rings_of areas ++ qs)
 plain_areas [] qs h = h
 plain_areas (ls ∷ areas) qs h = subst (λ l. Plain l)
     (sym (append_assoc (rings_of ls) (flat_map rings_of areas) qs))
     (plain_runs ls (flat_map rings_of areas ++ qs) (plain_areas areas qs h))
 
-plain_ids : (ids : List ℤ) (qs : List Place) → Plain qs → Plain (map OfId ids ++ qs)
+plain_ids : (ids : List ℤ) (qs : List Slot) → Plain qs → Plain (map OfId ids ++ qs)
 plain_ids [] qs h = h
 plain_ids (id ∷ ids) qs h = plain_ids ids qs h
 
--- the places of ids have no count of geometries
-pub plain_names : (ids : Ids) (qs : List Place) → Plain qs → Plain (id_places ids ++ qs)
+-- the slots of ids have no count of geometries
+pub plain_names : (ids : Ids) (qs : List Slot) → Plain qs → Plain (id_slots ids ++ qs)
 plain_names None qs h = h
 plain_names (Some ids) qs h = plain_ids ids qs h
 
--- the places of a simple shape have no count of geometries
-pub plain_shape : (s : Simple) → Plain (outline s)
+-- the slots of a simple shape have no count of geometries
+pub plain_shape : (s : Simple) → Plain (slots s)
 plain_shape (point None) = tt
 plain_shape (point (Some q)) = tt
 plain_shape (line ps) = subst (λ l. Plain l) (append-nil (map OfPoint ps)) (plain_points ps [] tt)
@@ -214,8 +214,8 @@ simple_kept : (most : ℕ) (s : Simple) (body : List Item) → AllByRecursion Is
     → Kept most e body
 simple_kept most s body all true is e here = subst (λ l. Kept most e l) (sym is) tt
 simple_kept most s body all false is e here =
-    body_kept most origin (outline s) body e (subst (λ fs. AreFields fs body) (fields_are s) is)
-    here (plain_fit most (outline s) (plain_shape s)
+    body_kept most origin (slots s) body e (subst (λ fs. AreFields fs body) (fields_are s) is)
+    here (plain_fit most (slots s) (plain_shape s)
     (subst (λ l. AllByRecursion IsInRange l) (sym (points_are s)) all))
 
 -- the points of the first list are in range if all are
@@ -239,7 +239,7 @@ gathered_kept : (most level : ℕ) (ids : Ids) (gs : Trees) (body : List Item)
     (ItemsOfAll (suc level) gs)) body → (e : Sums) → e.position ≡ origin → Kept most e body
 gathered_kept most level ids gs body deep all each true is e here = subst (λ l. Kept most e l) (sym is) tt
 gathered_kept most level ids gs body deep all each false is e here =
-    let head : List Place = OfCount (Geometries level) (count gs) ∷ id_places ids ++ [] in
+    let head : List Slot = OfCount (Geometries level) (count gs) ∷ id_slots ids ++ [] in
     let are : AreFields (steps origin head) is.front =
     subst (λ l. AreFields ((Count (Geometries level), count gs) ∷ l) is.front) (names_steps ids)
     is.first in
@@ -248,11 +248,11 @@ gathered_kept most level ids gs body deep all each false is e here =
     ((λ h. deep_count most level gs deep h), names_fit most ids))
     (each is.rest (sums_after e is.front) (omega (arith, deep)) all is.second))
   where
-    ids_fit : (most : ℕ) (xs : List ℤ) → PlacesFit most (map OfId xs ++ [])
+    ids_fit : (most : ℕ) (xs : List ℤ) → SlotsFit most (map OfId xs ++ [])
     ids_fit most [] = tt
     ids_fit most (x ∷ xs) = ids_fit most xs
 
-    names_fit : (most : ℕ) (ids : Ids) → PlacesFit most (id_places ids ++ [])
+    names_fit : (most : ℕ) (ids : Ids) → SlotsFit most (id_slots ids ++ [])
     names_fit most None = tt
     names_fit most (Some xs) = ids_fit most xs
 

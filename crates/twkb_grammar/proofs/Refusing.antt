@@ -18,7 +18,7 @@ use Rattle.twkb_grammar.proofs.Trees.{tree_runs}
 use Rattle.twkb_grammar.proofs.Parts.{runs_split, runs_same, next_role, run_is_front}
 use Rattle.twkb_grammar.proofs.Dead.{Allowed, no_reason}
 use Rattle.twkb_grammar.proofs.Totals.{tree_total}
-use Rattle.twkb_grammar.proofs.PlaceTotals.{total, total_is, total-append}
+use Rattle.twkb_grammar.proofs.SlotTotals.{total, total_is, total-append}
 
 -- what depth and range allow for an item of a valid geometry (nodes and points are below)
 abbrev pub AllowedElse : Allowance → List Item → Role → ℕ → Type 0

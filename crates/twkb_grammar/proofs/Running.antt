@@ -24,7 +24,7 @@ use Rattle.twkb_grammar.proofs.Dead.{Allowed}
 use Rattle.twkb_grammar.proofs.Refusing.{refusal_is_first}
 use Rattle.twkb_grammar.proofs.Ranges.{Kept-append, position_is, allowed_else, tree_kept}
 use Rattle.twkb_grammar.proofs.Totals.{tree_total}
-use Rattle.twkb_grammar.proofs.PlaceTotals.{total, total_is, total-append}
+use Rattle.twkb_grammar.proofs.SlotTotals.{total, total_is, total-append}
 use Rattle.twkb_grammar.proofs.Alive.{alive}
 use Rattle.twkb_grammar.proofs.KeptItems.{kept_split}
 use Rattle.twkb_grammar.proofs.NumberItems.{AreExact-append}

@@ -13,17 +13,17 @@ use Rattle.twkb_tree.specs.Tree.{multi_line, multi_polygon, simple, IdsFit}
 use Rattle.twkb_grammar.proofs.Small.{id_small}
 use Rattle.twkb_grammar.specs.Bits.{bit}
 use Rattle.twkb_grammar.specs.Roles.{Item, Count, Id, AreFields, IsItem, Spells, Counted}
-use Rattle.twkb_grammar.specs.Items.{Place, OfCount, OfId, id_places, outline, members, parts, flags, Agrees}
-use Rattle.twkb_grammar.specs.Machine.{Nested, Around, top, Want, closed, opened, Form, PointForm}
+use Rattle.twkb_grammar.specs.Items.{Slot, OfCount, OfId, id_slots, slots, members, parts, flags, Agrees}
+use Rattle.twkb_grammar.specs.Machine.{Nested, Around, top, Want, closed, opened, BodyForm, PointForm}
 use Rattle.twkb_grammar.specs.Machine.{LineForm, PolygonForm, MultiPointForm, MultiLineForm}
 use Rattle.twkb_grammar.specs.Machine.{MultiPolygonForm, depth_of, Head, Frame, Finished, AtCount}
 use Rattle.twkb_grammar.specs.Machine.{AtId, AtEnd, AtBody, Many, ManyPoints, ManyLines}
 use Rattle.twkb_grammar.specs.Machine.{ManyPolygons, first_count, counted, members_begin, begun}
 use Rattle.twkb_grammar.specs.Machine.{SimpleKind, settled, Sums, added, Stack, Runs}
-use Rattle.twkb_grammar.proofs.Places.{steps, reached}
-use Rattle.twkb_grammar.proofs.Bodies.{outline_of, moved_count, moved_id, SaysIds, form_of}
-use Rattle.twkb_grammar.proofs.Bodies.{points_outline, run_outline, runs_outline, rings_outline}
-use Rattle.twkb_grammar.proofs.Bodies.{areas_outline}
+use Rattle.twkb_grammar.proofs.Slots.{steps, reached}
+use Rattle.twkb_grammar.proofs.Bodies.{slots_of, moved_count, moved_id, SaysIds, form_of}
+use Rattle.twkb_grammar.proofs.Bodies.{points_slots, run_slots, runs_slots, rings_slots}
+use Rattle.twkb_grammar.proofs.Bodies.{areas_slots}
 use Rattle.twkb_grammar.proofs.Headers.{sums_after}
 use Rattle.twkb_grammar.proofs.BodiesBack.{AreFields-append, steps-append, sums_after-append}
 use Rattle.twkb_grammar.proofs.BodiesBack.{some_role, Value, value_back, opened_back}
@@ -95,7 +95,7 @@ module _ (m : Many) (h : Head) (fs : List Frame) (tree : Tree) where
     pub front : List Item
     pub rest : List Item
     pub whole : is ≡ front ++ rest
-    pub are : AreFields (steps e.position (OfCount (first_count m (length fs)) count ∷ id_places ids)) front
+    pub are : AreFields (steps e.position (OfCount (first_count m (length fs)) count ∷ id_slots ids)) front
     pub here : (sums_after e front).position ≡ e.position
     pub runs : Runs (sums_after e front) (members_begin m h fs ids count) rest ([], Finished tree)
 
@@ -154,7 +154,7 @@ module _ (m : Many) (h : Head) (fs : List Frame) (tree : Tree) where
       (bit h.meta 2) refl r.2
 
 -- the items begin with the body of a shape of this form
-pub record Shaped (h : Head) (f : Form) (fs : List Frame) (tree : Tree) (e : Sums) (is : List Item) : Type 0 where
+pub record Shaped (h : Head) (f : BodyForm) (fs : List Frame) (tree : Tree) (e : Sums) (is : List Item) : Type 0 where
   pub shape : Simple
   pub form : form_of shape ≡ f
   pub fit : IdsFit shape
@@ -162,11 +162,11 @@ pub record Shaped (h : Head) (f : Form) (fs : List Frame) (tree : Tree) (e : Sum
   pub front : List Item
   pub rest : List Item
   pub whole : is ≡ front ++ rest
-  pub are : AreFields (steps e.position (outline shape)) front
+  pub are : AreFields (steps e.position (slots shape)) front
   pub runs : Runs (sums_after e front) (fs, AtEnd h (simple h.precision shape)) rest ([], Finished tree)
 
 -- the items begin with the members of a multi type
-record Parted (m : Many) (h : Head) (f : Form) (d : ℕ) (a : Around (depth_of f) (suc d))
+record Parted (m : Many) (h : Head) (f : BodyForm) (d : ℕ) (a : Around (depth_of f) (suc d))
     (fs : List Frame) (tree : Tree) (e : Sums) (is : List Item) : Type 0 where
   ids : Ids
   values : List (Nested d)
@@ -176,7 +176,7 @@ record Parted (m : Many) (h : Head) (f : Form) (d : ℕ) (a : Around (depth_of f
   rest : List Item
   whole : is ≡ front ++ rest
   are : AreFields (steps e.position (OfCount (first_count m (length fs)) (length values)
-      ∷ id_places ids ++ flat_map (outline_of d) values)) front
+      ∷ id_slots ids ++ flat_map (slots_of d) values)) front
   runs : Runs (sums_after e front) (fs, settled h f ids (closed a values)) rest ([], Finished tree)
 
 agrees_of : {A : Type 0} (h : Head) (ids : Ids) (xs : List A) → SaysIds h ids (length xs)
@@ -189,7 +189,7 @@ parts_agree : {A : Type 0} (xs : List A) (meta : ℕ) → bit meta 4 ≡ false �
 parts_agree [] meta full = tt
 parts_agree (x ∷ xs) meta full = full
 
-parts_back : (m : Many) (h : Head) (f : Form) (d : ℕ) (a : Around (depth_of f) (suc d))
+parts_back : (m : Many) (h : Head) (f : BodyForm) (d : ℕ) (a : Around (depth_of f) (suc d))
     (fs : List Frame) (tree : Tree) (e : Sums) (is : List Item)
     → ((ids : Ids) (n : ℕ) → members_begin m h fs ids n ≡ (fs, settled h f ids (opened d n a))) → bit h.meta 4 ≡ false
     → Runs e (fs, AtCount m h) is ([], Finished tree) → Parted m h f d a fs tree e is
@@ -197,7 +197,7 @@ parts_back m h f d a fs tree e is begins full r =
     let c = first_back m h fs tree e is r in
     let vs = opened_back h f c.ids fs tree d (value_back h f c.ids fs tree d) c.count a (sums_after e c.front) c.rest
     (subst (λ st. Runs (sums_after e c.front) st c.rest ([], Finished tree)) (begins c.ids c.count) c.runs) in
-    let head : List Place = OfCount (first_count m (length fs)) c.count ∷ id_places c.ids in
+    let head : List Slot = OfCount (first_count m (length fs)) c.count ∷ id_slots c.ids in
     record {
       ids = c.ids;
       values = vs.values;
@@ -207,13 +207,13 @@ parts_back m h f d a fs tree e is begins full r =
       rest = vs.rest;
       whole = c.whole ∙ (ap (λ l. c.front ++ l) vs.whole ∙ sym (append_assoc c.front vs.front vs.rest));
       are = subst (λ n. AreFields (steps e.position
-          (OfCount (first_count m (length fs)) n ∷ id_places c.ids ++ flat_map (outline_of d)
+          (OfCount (first_count m (length fs)) n ∷ id_slots c.ids ++ flat_map (slots_of d)
           vs.values)) (c.front ++ vs.front)) (sym vs.many)
           (subst (λ l. AreFields l (c.front ++ vs.front))
-          (sym (steps-append e.position head (flat_map (outline_of d) vs.values)))
+          (sym (steps-append e.position head (flat_map (slots_of d) vs.values)))
           (AreFields-append (steps e.position head) c.front
-          (steps (reached e.position head) (flat_map (outline_of d) vs.values)) vs.front c.are
-          (subst (λ p. AreFields (steps p (flat_map (outline_of d) vs.values)) vs.front)
+          (steps (reached e.position head) (flat_map (slots_of d) vs.values)) vs.front c.are
+          (subst (λ p. AreFields (steps p (flat_map (slots_of d) vs.values)) vs.front)
           (c.here ∙ sym (reached_names e.position c.ids)) vs.are)));
       runs = subst (λ s. Runs s (fs, settled h f c.ids (closed a vs.values)) vs.rest
           ([], Finished tree)) (sym (sums_after-append c.front vs.front e)) vs.runs;
@@ -223,19 +223,19 @@ parts_back m h f d a fs tree e is begins full r =
     reached_ids p [] = refl
     reached_ids p (x ∷ xs) = reached_ids p xs
 
-    reached_names : (p : Point) (ids : Ids) → reached p (id_places ids) ≡ p
+    reached_names : (p : Point) (ids : Ids) → reached p (id_slots ids) ≡ p
     reached_names p None = refl
     reached_names p (Some xs) = reached_ids p xs
 
-flat_back : (h : Head) (f : Form) (fs : List Frame) (tree : Tree) (e : Sums) (is : List Item)
+flat_back : (h : Head) (f : BodyForm) (fs : List Frame) (tree : Tree) (e : Sums) (is : List Item)
     → Runs e (fs, AtBody h f None (Want (depth_of f) top)) is ([], Finished tree)
     → Value h f None fs tree (depth_of f) top e is
 flat_back h f fs tree e is r = value_back h f None fs tree (depth_of f) top e is r
 
 -- what items begin with, if their fields are those of a shape
-shaped : {h : Head} {f : Form} {fs : List Frame} {tree : Tree} {e : Sums} {is : List Item}
+shaped : {h : Head} {f : BodyForm} {fs : List Frame} {tree : Tree} {e : Sums} {is : List Item}
     (shape : Simple) (front rest : List Item) → form_of shape ≡ f → IdsFit shape → Agrees (flags shape) h.meta
-    → AreFields (steps e.position (outline shape)) front → is ≡ front ++ rest
+    → AreFields (steps e.position (slots shape)) front → is ≡ front ++ rest
     → Runs (sums_after e front) (fs, AtEnd h (simple h.precision shape)) rest ([], Finished tree)
     → Shaped h f fs tree e is
 shaped shape front rest form fit agrees are whole runs = record {
@@ -251,7 +251,7 @@ shaped shape front rest form fit agrees are whole runs = record {
 }
 
 -- items that begin with a body
-pub shape_back : (f : Form) (h : Head) (fs : List Frame) (tree : Tree) (e : Sums) (is : List Item)
+pub shape_back : (f : BodyForm) (h : Head) (fs : List Frame) (tree : Tree) (e : Sums) (is : List Item)
     → bit h.meta 4 ≡ false
     → Runs e (fs, begun (SimpleKind f) h) is ([], Finished tree) → Shaped h f fs tree e is
 shape_back PointForm h fs tree e is full r =
@@ -260,23 +260,23 @@ shape_back PointForm h fs tree e is full r =
 shape_back LineForm h fs tree e is full r =
     let v = flat_back h LineForm fs tree e is r in
     shaped (line v.value) v.front v.rest refl tt (parts_agree v.value h.meta full)
-    (subst (λ ps. AreFields (steps e.position ps) v.front) (run_outline v.value) v.are) v.whole v.runs
+    (subst (λ ps. AreFields (steps e.position ps) v.front) (run_slots v.value) v.are) v.whole v.runs
 shape_back PolygonForm h fs tree e is full r =
     let v = flat_back h PolygonForm fs tree e is r in
     shaped (polygon v.value) v.front v.rest refl tt (parts_agree v.value h.meta full)
-    (subst (λ ps. AreFields (steps e.position ps) v.front) (rings_outline v.value) v.are) v.whole v.runs
+    (subst (λ ps. AreFields (steps e.position ps) v.front) (rings_slots v.value) v.are) v.whole v.runs
 shape_back MultiPointForm h fs tree e is full r =
     let v = parts_back ManyPoints h MultiPointForm 0 top fs tree e is (λ ids n. refl) full r in
     shaped (multi_point v.ids v.values) v.front v.rest refl v.fit v.agrees
-    (subst (λ ps. AreFields (steps e.position (OfCount Counted.Points (length v.values) ∷ id_places v.ids
-    ++ ps)) v.front) (points_outline v.values) v.are) v.whole v.runs
+    (subst (λ ps. AreFields (steps e.position (OfCount Counted.Points (length v.values) ∷ id_slots v.ids
+    ++ ps)) v.front) (points_slots v.values) v.are) v.whole v.runs
 shape_back MultiLineForm h fs tree e is full r =
     let v = parts_back ManyLines h MultiLineForm 1 top fs tree e is (λ ids n. refl) full r in
     shaped (multi_line v.ids v.values) v.front v.rest refl v.fit v.agrees
-    (subst (λ ps. AreFields (steps e.position (OfCount Counted.Parts (length v.values) ∷ id_places v.ids
-    ++ ps)) v.front) (runs_outline v.values) v.are) v.whole v.runs
+    (subst (λ ps. AreFields (steps e.position (OfCount Counted.Components (length v.values) ∷ id_slots v.ids
+    ++ ps)) v.front) (runs_slots v.values) v.are) v.whole v.runs
 shape_back MultiPolygonForm h fs tree e is full r =
     let v = parts_back ManyPolygons h MultiPolygonForm 2 top fs tree e is (λ ids n. refl) full r in
     shaped (multi_polygon v.ids v.values) v.front v.rest refl v.fit v.agrees
-    (subst (λ ps. AreFields (steps e.position (OfCount Counted.Parts (length v.values) ∷ id_places v.ids
-    ++ ps)) v.front) (areas_outline v.values) v.are) v.whole v.runs
+    (subst (λ ps. AreFields (steps e.position (OfCount Counted.Components (length v.values) ∷ id_slots v.ids
+    ++ ps)) v.front) (areas_slots v.values) v.are) v.whole v.runs

@@ -12,7 +12,7 @@ use Rattle.twkb_num.specs.Varint.{IsVarint}
 use Rattle.twkb_points.specs.declared.point.TheConstants.{COORDINATE_BOUND}
 use Rattle.twkb_points.specs.Point.{IsCoordinate}
 use Rattle.twkb_tree.specs.Limits.{Allowance}
-use Rattle.twkb_grammar.specs.Roles.{Counted, Vertices, Rings, Points, Parts, Geometries, Item}
+use Rattle.twkb_grammar.specs.Roles.{Counted, Vertices, Rings, Points, Components, Geometries, Item}
 use Rattle.twkb_grammar.specs.Roles.{Role, Header, Metadata, Extended, Count, X, Y, End}
 use Rattle.twkb_grammar.specs.Blob.{IsExact}
 use Rattle.twkb_grammar.specs.Fault.{Reason, BadType, ExtraDimensions, TooDeep, TooManyNodes}
@@ -137,7 +137,7 @@ module _ (limits : Allowance) (before : List Item) (rest : List ℕ) where
   deep_true Vertices n e = cc
   deep_true Rings n e = cc
   deep_true Points n e = cc
-  deep_true Parts n e = cc
+  deep_true Components n e = cc
   deep_true (Geometries level) n e = let h = both (nat_le limits.nest level) (nat_lt 0 n) e in
       (le_true limits.nest level h.0, ltb-true 0 n h.1)
 
@@ -145,7 +145,7 @@ module _ (limits : Allowance) (before : List Item) (rest : List ℕ) where
   deep_false Vertices n e d = absurd d
   deep_false Rings n e d = absurd d
   deep_false Points n e d = absurd d
-  deep_false Parts n e d = absurd d
+  deep_false Components n e d = absurd d
   deep_false (Geometries level) n e d = go (nat_le limits.nest level) refl
     where
       go : (b : Bool) → nat_le limits.nest level ≡ b → n ≡ 0

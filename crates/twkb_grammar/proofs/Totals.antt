@@ -11,97 +11,97 @@ use Rattle.twkb_tree.specs.Tree.{Ids, HasIds, IdsFit, IsTree, AreTrees, nodes, n
 use Rattle.twkb_tree.specs.Tree.{area_nodes, flat, flat_all, points_in, flatten}
 use Rattle.twkb_grammar.specs.Bits.{bit}
 use Rattle.twkb_grammar.specs.Roles.{Item, Metadata, Count, Geometries, AreFields}
-use Rattle.twkb_grammar.specs.Items.{Place, OfCount, OfPoint, id_places, fields, outline, run_of}
+use Rattle.twkb_grammar.specs.Items.{Slot, OfCount, OfPoint, id_slots, fields, slots, run_of}
 use Rattle.twkb_grammar.specs.Items.{rings_of, Flags, Agrees, flags, flags_all, BodyAt, Framed}
 use Rattle.twkb_grammar.specs.Items.{Follow, Items, ItemsOfAll, kind_of, id_fields}
 use Rattle.twkb_grammar.specs.Fault.{nodes_by, points_by, nodes_of, points_of}
 use Rattle.twkb_grammar.specs.Machine.{Kind, SimpleKind, CollectionKind, empty_of}
-use Rattle.twkb_grammar.proofs.Places.{steps, fields_are}
+use Rattle.twkb_grammar.proofs.Slots.{steps, fields_are}
 use Rattle.twkb_points.specs.Point.{origin}
 use Rattle.twkb_grammar.proofs.Bodies.{form_of}
 use Rattle.twkb_grammar.proofs.Trees.{left_out, names_steps}
-use Rattle.twkb_grammar.proofs.PlaceTotals.{total, total-append, by_places, by_places-append}
-use Rattle.twkb_grammar.proofs.PlaceTotals.{by_points, by_names, by_flat, body_total, framed_total}
+use Rattle.twkb_grammar.proofs.SlotTotals.{total, total-append, by_slots, by_slots-append}
+use Rattle.twkb_grammar.proofs.SlotTotals.{by_points, by_names, by_flat, body_total, framed_total}
 
-nodes_runs : (ls : List (List Point)) → by_places nodes_of (flat_map run_of ls) ≡ 0
+nodes_runs : (ls : List (List Point)) → by_slots nodes_of (flat_map run_of ls) ≡ 0
 nodes_runs [] = refl
 nodes_runs (ps ∷ ls) = omega (
   arith,
-  by_places-append nodes_of (run_of ps) (flat_map run_of ls),
+  by_slots-append nodes_of (run_of ps) (flat_map run_of ls),
   by_points nodes_of ps,
   nodes_runs ls,
 )
 
 nodes_areas : (areas : List (List (List Point)))
-    → length areas + by_places nodes_of (flat_map rings_of areas) ≡ area_nodes areas
+    → length areas + by_slots nodes_of (flat_map rings_of areas) ≡ area_nodes areas
 nodes_areas [] = refl
 nodes_areas (rings ∷ areas) =
     let one : length (rings ∷ areas) ≡ suc (length areas) = refl in
     omega (
       arith,
       one,
-      by_places-append nodes_of (rings_of rings) (flat_map rings_of areas),
+      by_slots-append nodes_of (rings_of rings) (flat_map rings_of areas),
       nodes_runs rings,
       nodes_areas areas,
     )
 
-shape_nodes : (s : Simple) → by_places nodes_of (outline s) + 1 ≡ nodes_in s
+shape_nodes : (s : Simple) → by_slots nodes_of (slots s) + 1 ≡ nodes_in s
 shape_nodes (point None) = refl
 shape_nodes (point (Some q)) = refl
 shape_nodes (line ps) = omega (arith, by_points nodes_of ps)
 shape_nodes (polygon rings) = omega (arith, nodes_runs rings)
 shape_nodes (multi_point ids ps) = omega (
   arith,
-  by_places-append nodes_of (id_places ids)
+  by_slots-append nodes_of (id_slots ids)
       (map OfPoint ps),
   by_names nodes_of ids,
   by_points nodes_of ps,
 )
 shape_nodes (multi_line ids ls) = omega (
   arith,
-  by_places-append nodes_of (id_places ids)
+  by_slots-append nodes_of (id_slots ids)
       (flat_map run_of ls),
   by_names nodes_of ids,
   nodes_runs ls,
 )
 shape_nodes (multi_polygon ids areas) = omega (
   arith,
-  by_places-append nodes_of (id_places ids) (flat_map rings_of areas),
+  by_slots-append nodes_of (id_slots ids) (flat_map rings_of areas),
   by_names nodes_of ids,
   nodes_areas areas,
 )
 
-points_run : (ps : List Point) → by_places points_of (run_of ps) ≡ length ps
+points_run : (ps : List Point) → by_slots points_of (run_of ps) ≡ length ps
 points_run ps = omega (arith, by_points points_of ps)
 
-points_rings : (ls : List (List Point)) → by_places points_of (flat_map run_of ls) ≡ length (flatten ls)
+points_rings : (ls : List (List Point)) → by_slots points_of (flat_map run_of ls) ≡ length (flatten ls)
 points_rings ls = by_flat points_of run_of length points_run ls ∙ sym (length-flat_map (λ ps. ps) ls)
 
-points_of_rings : (rings : List (List Point)) → by_places points_of (rings_of rings) ≡ length (flatten rings)
+points_of_rings : (rings : List (List Point)) → by_slots points_of (rings_of rings) ≡ length (flatten rings)
 points_of_rings rings = omega (arith, points_rings rings)
 
 shape_points : (s : Simple) (meta : ℕ) → bit meta 4 ≡ false → Agrees (flags s) meta
-    → points_by (Metadata (kind_of s)) meta + by_places points_of (outline s) ≡ length (points_in s)
+    → points_by (Metadata (kind_of s)) meta + by_slots points_of (slots s) ≡ length (points_in s)
 shape_points (point None) meta full agrees = absurd (false≢true (sym full ∙ agrees))
 shape_points (point (Some q)) meta full agrees = rw full refl
 shape_points (line ps) meta full agrees = omega (arith, by_points points_of ps)
 shape_points (polygon rings) meta full agrees = omega (arith, points_rings rings)
 shape_points (multi_point ids ps) meta full agrees = omega (
   arith,
-  by_places-append points_of (id_places ids) (map OfPoint ps),
+  by_slots-append points_of (id_slots ids) (map OfPoint ps),
   by_names points_of ids,
   by_points points_of ps,
 )
 shape_points (multi_line ids ls) meta full agrees = omega (
   arith,
-  by_places-append points_of (id_places ids) (flat_map run_of ls),
+  by_slots-append points_of (id_slots ids) (flat_map run_of ls),
   by_names points_of ids,
   points_rings ls,
 )
 shape_points (multi_polygon ids areas) meta full agrees =
     omega (
       arith,
-      by_places-append points_of (id_places ids) (flat_map rings_of areas),
+      by_slots-append points_of (id_slots ids) (flat_map rings_of areas),
       by_names points_of ids,
       by_flat points_of rings_of (λ rings. length (flatten rings))
           (λ rings. points_of_rings rings) areas,
@@ -133,13 +133,13 @@ no_point kind meta bare = go (Rattle.std.specs.Prelude.nat_eq kind 1) refl
     go true e = rw (e, bare) refl
     go false e = rw e refl
 
-nodes_body : (p : Point) (ps : List Place) (is : List Item) → AreFields (steps p ps) is
-    → total nodes_by is ≡ by_places nodes_of ps
+nodes_body : (p : Point) (ps : List Slot) (is : List Item) → AreFields (steps p ps) is
+    → total nodes_by is ≡ by_slots nodes_of ps
 nodes_body p ps is are = body_total nodes_by nodes_of (λ k n. refl) (λ n. refl) (λ n. refl)
     (λ n. refl) (λ n. refl) (λ n. refl) (λ n. refl) (λ n. refl) (λ d m n. refl) p ps is are
 
-points_body : (p : Point) (ps : List Place) (is : List Item) → AreFields (steps p ps) is
-    → total points_by is ≡ by_places points_of ps
+points_body : (p : Point) (ps : List Slot) (is : List Item) → AreFields (steps p ps) is
+    → total points_by is ≡ by_slots points_of ps
 points_body p ps is are = body_total points_by points_of (λ k n. refl) (λ n. refl) (λ n. refl)
     (λ n. refl) (λ n. refl) (λ n. refl) (λ n. refl) (λ n. refl) (λ d m n. refl) p ps is are
 
@@ -169,7 +169,7 @@ simple_nodes s p meta body fit agrees true bare is = omega (
 )
 simple_nodes s p meta body fit agrees false full is = omega (
   arith,
-  nodes_body origin (outline s) body (subst (λ fs. AreFields fs body) (fields_are s) is),
+  nodes_body origin (slots s) body (subst (λ fs. AreFields fs body) (fields_are s) is),
   shape_nodes s,
 )
 
@@ -187,7 +187,7 @@ simple_points s p meta body fit agrees true bare is =
     )
 simple_points s p meta body fit agrees false full is = omega (
   arith,
-  points_body origin (outline s) body (subst (λ fs. AreFields fs body) (fields_are s) is),
+  points_body origin (slots s) body (subst (λ fs. AreFields fs body) (fields_are s) is),
   shape_points s meta full agrees,
 )
 
@@ -207,8 +207,8 @@ gathered_total level p None (g ▷ gs) meta body fit agrees each true bare is = 
 gathered_total level p (Some ids) (g ▷ gs) meta body fit agrees each true bare is = absurd
     (false≢true (sym agrees.0 ∙ bare))
 gathered_total level p ids gs meta body fit agrees each false full is =
-    let places : List Place = OfCount (Geometries level) (count gs) ∷ id_places ids ++ [] in
-    let are : AreFields (steps origin places) is.front =
+    let own_slots : List Slot = OfCount (Geometries level) (count gs) ∷ id_slots ids ++ [] in
+    let are : AreFields (steps origin own_slots) is.front =
     subst (λ l. AreFields ((Count (Geometries level), count gs) ∷ l) is.front) (names_steps ids)
     is.first in
     let m = each is.rest is.second in (
@@ -216,8 +216,8 @@ gathered_total level p ids gs meta body fit agrees each false full is =
         arith,
         ap (total nodes_by) is.whole,
         total-append nodes_by is.front is.rest,
-        nodes_body origin places is.front are,
-        by_places-append nodes_of (id_places ids) [],
+        nodes_body origin own_slots is.front are,
+        by_slots-append nodes_of (id_slots ids) [],
         by_names nodes_of ids,
         m.0,
       ),
@@ -225,8 +225,8 @@ gathered_total level p ids gs meta body fit agrees each false full is =
         arith,
         ap (total points_by) is.whole,
         total-append points_by is.front is.rest,
-        points_body origin places is.front are,
-        by_places-append points_of (id_places ids) [],
+        points_body origin own_slots is.front are,
+        by_slots-append points_of (id_slots ids) [],
         by_names points_of ids,
         m.1,
       ),

@@ -8,12 +8,12 @@ use Rattle.twkb_tree.specs.Tree.{multi_polygon, Tree, simple, collection, Trees,
 use Rattle.twkb_tree.specs.Tree.{Ids, HasIds, IdsFit, IsTree, AreTrees}
 use Rattle.twkb_grammar.specs.Bits.{bit}
 use Rattle.twkb_grammar.specs.Roles.{Item, Count, Geometries, AreFields, join}
-use Rattle.twkb_grammar.specs.Items.{OfId, id_places, filled, fields, Agrees, flags, flags_all}
+use Rattle.twkb_grammar.specs.Items.{OfId, id_slots, filled, fields, Agrees, flags, flags_all}
 use Rattle.twkb_grammar.specs.Items.{BodyAt, Framed, Follow, Items, ItemsOfAll, kind_of, id_fields}
 use Rattle.twkb_grammar.specs.Machine.{SimpleKind, CollectionKind, kind_number, Head, Frame}
 use Rattle.twkb_grammar.specs.Machine.{AtHeader, AtEnd, AtCount, ManyGeometries, empty_of, wanting}
 use Rattle.twkb_grammar.specs.Machine.{ended, snoc, members_begin, Sums, Stack, Runs}
-use Rattle.twkb_grammar.proofs.Places.{steps, fields_are}
+use Rattle.twkb_grammar.proofs.Slots.{steps, fields_are}
 use Rattle.twkb_points.specs.Point.{origin}
 use Rattle.twkb_grammar.proofs.Bodies.{form_of, shape_run, first_run, finish, SaysIds}
 use Rattle.twkb_grammar.proofs.Headers.{sums_after, Runs-append, head, RunsBody, framed_run}
@@ -88,7 +88,7 @@ says_all h ids end fit agrees = sym (none_left ids fit)
 says_all h None (g ▷ gs) fit agrees = agrees.1
 says_all h (Some ids) (g ▷ gs) fit agrees = (agrees.1, fit.1)
 
--- the fields of ids, along their places
+-- the fields of ids, along their slots
 pub ids_steps : (ids : List ℤ) → filled (Rattle.std.specs.Prelude.map OfId ids) [] ≡ steps origin
     (Rattle.std.specs.Prelude.map OfId ids ++ [])
 ids_steps [] = refl
@@ -96,8 +96,8 @@ ids_steps (id ∷ ids) =
     ap (λ fs. (Rattle.twkb_grammar.specs.Roles.Id, Rattle.twkb_num.specs.Zigzag.zigzag_of id) ∷ fs)
     (ids_steps ids)
 
--- the fields of optional ids, along their places
-pub names_steps : (ids : Ids) → id_fields ids ≡ steps origin (id_places ids ++ [])
+-- the fields of optional ids, along their slots
+pub names_steps : (ids : Ids) → id_fields ids ≡ steps origin (id_slots ids ++ [])
 names_steps None = refl
 names_steps (Some ids) = ids_steps ids
 

@@ -8,14 +8,14 @@ use Rattle.twkb_tree.specs.Tree.{Tree, simple, collection, Trees, end, ◌▷◌
 use Rattle.twkb_tree.specs.Tree.{IsPrecision, IsTree, AreTrees}
 use Rattle.twkb_grammar.specs.Bits.{bit}
 use Rattle.twkb_grammar.specs.Roles.{Item, Extended, Size, Box, Count, Geometries, AreFields, HaveRoles, where_set}
-use Rattle.twkb_grammar.specs.Items.{id_places, outline, fields, Agrees, Flags, flags_all, Items, ItemsOfAll}
+use Rattle.twkb_grammar.specs.Items.{id_slots, slots, fields, Agrees, Flags, flags_all, Items, ItemsOfAll}
 use Rattle.twkb_grammar.specs.Items.{id_fields, BodyAt, Framed}
-use Rattle.twkb_grammar.specs.Machine.{Kind, SimpleKind, CollectionKind, Form, PointForm, LineForm}
+use Rattle.twkb_grammar.specs.Machine.{Kind, SimpleKind, CollectionKind, BodyForm, PointForm, LineForm}
 use Rattle.twkb_grammar.specs.Machine.{PolygonForm, MultiPointForm, MultiLineForm, MultiPolygonForm}
 use Rattle.twkb_grammar.specs.Machine.{kind_number, Head, Frame, AtHeader, AtEnd, Finished}
 use Rattle.twkb_grammar.specs.Machine.{ManyGeometries, empty_of, wanting, snoc, members_begin, Sums}
 use Rattle.twkb_grammar.specs.Machine.{nothing, started, Stack, Runs}
-use Rattle.twkb_grammar.proofs.Places.{steps, fields_are}
+use Rattle.twkb_grammar.proofs.Slots.{steps, fields_are}
 use Rattle.twkb_points.specs.Point.{origin}
 use Rattle.twkb_grammar.proofs.Bodies.{SaysIds}
 use Rattle.twkb_grammar.proofs.Headers.{sums_after, head}
@@ -98,7 +98,7 @@ module _ (tree : Tree) where
     bare_items : bit meta 4 ≡ true → Agrees own meta → Framed kind p own Body (framed kind p meta x s o [])
     bare_items bare agrees = framed_items [] agrees (subst (λ e. BodyAt e Body []) (sym bare) refl)
 
-  empty_items : (f : Form) (level : ℕ) (p : ℤ) (meta : ℕ) (x s o : List Item) → bit meta 4 ≡ true → meta < 256
+  empty_items : (f : BodyForm) (level : ℕ) (p : ℤ) (meta : ℕ) (x s o : List Item) → bit meta 4 ≡ true → meta < 256
       → HaveRoles (where_set (bit meta 3) (Extended ∷ [])) x
       → HaveRoles (where_set (bit meta 1) (Size ∷ [])) s
       → HaveRoles (where_set (bit meta 0) (Box ∷ Box ∷ Box ∷ Box ∷ [])) o
@@ -110,7 +110,7 @@ module _ (tree : Tree) where
   empty_items MultiLineForm level p meta x s o bare b hx hs ho = bare_items meta x s o b hx hs ho bare tt
   empty_items MultiPolygonForm level p meta x s o bare b hx hs ho = bare_items meta x s o b hx hs ho bare tt
 
-  empty_fits : (f : Form) (p : ℤ) → IsPrecision p → IsTree (empty_of (SimpleKind f) p)
+  empty_fits : (f : BodyForm) (p : ℤ) → IsPrecision p → IsTree (empty_of (SimpleKind f) p)
   empty_fits PointForm p h = (h, tt)
   empty_fits LineForm p h = (h, tt)
   empty_fits PolygonForm p h = (h, tt)
@@ -118,7 +118,7 @@ module _ (tree : Tree) where
   empty_fits MultiLineForm p h = (h, tt)
   empty_fits MultiPolygonForm p h = (h, tt)
 
-  flat_back : (f : Form) (p : ℤ) (meta : ℕ) (size : Option ℕ) (from : ℕ) (fs : List Frame)
+  flat_back : (f : BodyForm) (p : ℤ) (meta : ℕ) (size : Option ℕ) (from : ℕ) (fs : List Frame)
       (e : Sums) (is : List Item) → e.position ≡ origin
       → (b : Bool) → bit meta 4 ≡ b → Runs e (fs, wanting (SimpleKind f) (head p meta size from) [])
       is (fin tree) → Bodied tree (SimpleKind f) p meta (head p meta size from) fs e is
@@ -145,7 +145,7 @@ module _ (tree : Tree) where
             ∙ ap (λ g. kind_number (SimpleKind g)) v.form)
             (framed_items meta x s o b hx hs ho v.front v.agrees
             (subst (λ e. BodyAt e (AreFields (fields v.shape)) v.front) (sym full)
-            (subst (λ l. AreFields l v.front) (ap (λ q. steps q (outline v.shape)) here
+            (subst (λ l. AreFields l v.front) (ap (λ q. steps q (slots v.shape)) here
             ∙ sym (fields_are v.shape)) v.are)));
         runs = v.runs;
       }
@@ -208,8 +208,8 @@ module _ (tree : Tree) where
               first = subst (λ n. AreFields ((Count (Geometries (length fs)), n) ∷ id_fields c.ids) c.front)
                   (sym m.many)
                   (subst (λ l. AreFields ((Count (Geometries (length fs)), c.count) ∷ l) c.front)
-                  (ap (λ q. steps q (id_places c.ids)) here
-                  ∙ (ap (λ ps. steps origin ps) (sym (append-nil (id_places c.ids)))
+                  (ap (λ q. steps q (id_slots c.ids)) here
+                  ∙ (ap (λ ps. steps origin ps) (sym (append-nil (id_slots c.ids)))
                   ∙ sym (names_steps c.ids))) c.are);
             }));
         runs = subst (λ s. Runs s (fs, AtEnd h (collection p c.ids m.members)) m.rest (fin tree))

@@ -7,7 +7,7 @@ use Rattle.twkb_points.specs.Point.{Point}
 use Rattle.twkb_tree.specs.Tree.{Ids, Tree}
 use Rattle.twkb_grammar.specs.Bits.{bit}
 use Rattle.twkb_grammar.specs.Roles.{Role, Header, Metadata, Extended, Size, Box, Count, Id, X, Y, Spells, where_set}
-use Rattle.twkb_grammar.specs.Machine.{Body, Want, WantY, Done, opened, body_after, listed, Form}
+use Rattle.twkb_grammar.specs.Machine.{Body, Want, WantY, Done, opened, body_after, listed, BodyForm}
 use Rattle.twkb_grammar.specs.Machine.{depth_of, Kind, SimpleKind, CollectionKind, PointForm}
 use Rattle.twkb_grammar.specs.Machine.{LineForm, PolygonForm, MultiPointForm, MultiLineForm}
 use Rattle.twkb_grammar.specs.Machine.{MultiPolygonForm, kind_number, Head, Frame, Phase, AtHeader}
@@ -35,7 +35,7 @@ some_marks (b ∷ bytes) m = omega arith
 one_byte : (n : ℕ) (bytes : List ℕ) → bytes ≡ n ∷ [] → 1 ≤ length bytes
 one_byte n bytes e = omega (arith, ap length e)
 
-pending-settled : (fs : List Frame) (h : Head) (f : Form) (ids : Ids) (b : Body (depth_of f))
+pending-settled : (fs : List Frame) (h : Head) (f : BodyForm) (ids : Ids) (b : Body (depth_of f))
     → pending (fs, settled h f ids b) ≡ length fs + 1
 pending-settled fs h f ids (Want d a) = refl
 pending-settled fs h f ids (WantY a) = refl

@@ -11,17 +11,17 @@ use Rattle.twkb_tree.specs.Tree.{flat, flat_all, nodes, nodes_all, nodes_in, poi
 use Rattle.twkb_tree.specs.Tree.{IsTree, AreTrees}
 use Rattle.twkb_tree.specs.Limits.{Allowance, IsAllowance, IsValid}
 use Rattle.twkb_grammar.specs.Roles.{Item, Count, Id, Geometries, Field, AreFields, join}
-use Rattle.twkb_grammar.specs.Items.{Follow, Items, ItemsOfAll, fields, id_fields, id_places, filled, OfId}
+use Rattle.twkb_grammar.specs.Items.{Follow, Items, ItemsOfAll, fields, id_fields, id_slots, filled, OfId}
 use Rattle.twkb_grammar.specs.Blob.{Blob}
 use Rattle.twkb_grammar.specs.Written.{canonical_blob, canonical_members, varints}
 use Rattle.twkb_grammar.specs.declared.style.Style.{Style}
-use Rattle.twkb_grammar.proofs.Places.{steps}
+use Rattle.twkb_grammar.proofs.Slots.{steps}
 use Rattle.twkb_grammar.proofs.Ranges.{all_front}
 use Rattle.twkb_grammar.proofs.NumberItems.{AllFit, number_items, fields-number_items}
 use Rattle.twkb_grammar.proofs.NumberItems.{exact-number_items, join-number_items, length-varints}
 use Rattle.twkb_grammar.proofs.NumberItems.{AreExact-append, join-append}
-use Rattle.twkb_grammar.proofs.OutlineFits.{fit-fields, length-fields, fit-id_places, fit-steps}
-use Rattle.twkb_grammar.proofs.OutlineFits.{origin_in_range, length-id_places}
+use Rattle.twkb_grammar.proofs.SlotNumbers.{fit-fields, length-fields, fit-id_slots, fit-steps}
+use Rattle.twkb_grammar.proofs.SlotNumbers.{origin_in_range, length-id_slots}
 use Rattle.twkb_grammar.proofs.Framing.{Spelling, frame, length-written}
 
 -- fields that can be spelled, as items
@@ -54,12 +54,12 @@ ids_are_steps (id ∷ ids) = ap (λ fs. (Id, zigzag_of id) ∷ fs) (ids_are_step
 id_fields_fit : (ids : Ids) (n : ℕ) → HasIds ids n → AllFit (id_fields ids)
 id_fields_fit None n h = tt
 id_fields_fit (Some ids) n h = subst AllFit (sym (ids_are_steps ids))
-    (fit-steps (id_places (Some ids)) origin origin_in_range (fit-id_places (Some ids) n h))
+    (fit-steps (id_slots (Some ids)) origin origin_in_range (fit-id_slots (Some ids) n h))
 
 length-id_fields : (ids : Ids) (n : ℕ) → HasIds ids n → length (id_fields ids) ≤ n
 length-id_fields None n h = omega arith
 length-id_fields (Some ids) n h = subst (λ fs. length fs ≤ n) (sym (ids_are_steps ids))
-    (length-id_places (Some ids) n h)
+    (length-id_slots (Some ids) n h)
 
 -- the most bytes of a blob with this many nodes and points
 abbrev room : ℕ → ℕ → ℕ

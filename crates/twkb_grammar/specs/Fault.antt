@@ -9,7 +9,7 @@ use Rattle.twkb_points.specs.Point.{Point, IsCoordinate, origin, point_at}
 use Rattle.twkb_tree.specs.Tree.{Tree, IsTree}
 use Rattle.twkb_tree.specs.Limits.{Allowance, IsValid}
 use Rattle.twkb_grammar.specs.Bits.{bit}
-use Rattle.twkb_grammar.specs.Roles.{Counted, Vertices, Rings, Points, Parts, Geometries, Role}
+use Rattle.twkb_grammar.specs.Roles.{Counted, Vertices, Rings, Points, Components, Geometries, Role}
 use Rattle.twkb_grammar.specs.Roles.{Header, Metadata, Extended, Size, Box, Count, Id, X, Y, End}
 use Rattle.twkb_grammar.specs.Roles.{Item, join}
 use Rattle.twkb_grammar.specs.Items.{Items}
@@ -39,7 +39,7 @@ abbrev pub nodes_of : Counted → ℕ → ℕ
 nodes_of Vertices n = 0
 nodes_of Rings n = n
 nodes_of Points n = n
-nodes_of Parts n = n
+nodes_of Components n = n
 nodes_of (Geometries level) n = n
 
 -- The number of points that a count of n announces (profile).
@@ -47,7 +47,7 @@ abbrev pub points_of : Counted → ℕ → ℕ
 points_of Vertices n = n
 points_of Rings n = 0
 points_of Points n = n
-points_of Parts n = 0
+points_of Components n = 0
 points_of (Geometries level) n = 0
 
 -- This metadata byte announces a point: the type is point, and bit 4 is not set (profile).
@@ -130,7 +130,7 @@ IsDeep (Geometries level) nest = nest ≤ level
 IsDeep Vertices nest = ⊥
 IsDeep Rings nest = ⊥
 IsDeep Points nest = ⊥
-IsDeep Parts nest = ⊥
+IsDeep Components nest = ⊥
 
 -- r is this reason if P holds; if not, the other reasons decide.
 abbrev pub When : Reason → Type 0 → Reason → Type 0 → Type 0

@@ -9,44 +9,44 @@ use Rattle.twkb_tree.specs.Tree.{Simple, point, line, polygon, multi_point, mult
 use Rattle.twkb_tree.specs.Tree.{multi_polygon, Tree, simple, collection, Trees, end, ◌▷◌, count}
 use Rattle.twkb_tree.specs.Tree.{points_in, Ids}
 use Rattle.twkb_grammar.specs.Bits.{bit}
-use Rattle.twkb_grammar.specs.Roles.{Counted, Vertices, Rings, Points, Parts, Geometries, Header}
+use Rattle.twkb_grammar.specs.Roles.{Counted, Vertices, Rings, Points, Components, Geometries, Header}
 use Rattle.twkb_grammar.specs.Roles.{Metadata, Extended, Size, Box, Count, Id, X, Y, End, Item}
 use Rattle.twkb_grammar.specs.Roles.{join, Field, AreFields, HaveRoles, where_set, item}
 
--- A place in a body: a count, an id, or a point with its absolute coordinates.
-pub data Place : Type 0 where
-  OfCount : Counted → ℕ → Place
-  OfId : ℤ → Place
-  OfPoint : Point → Place
+-- A slot of a body: a count, an id, or a point with its absolute coordinates.
+pub data Slot : Type 0 where
+  OfCount : Counted → ℕ → Slot
+  OfId : ℤ → Slot
+  OfPoint : Point → Slot
 
--- The places of an id list, which exists only if there are ids (TWKB, metadata header, bit 2).
-abbrev pub id_places : Ids → List Place
-id_places None = []
-id_places (Some ids) = map OfId ids
+-- The slots of an id list, which exists only if there are ids (TWKB, metadata header, bit 2).
+abbrev pub id_slots : Ids → List Slot
+id_slots None = []
+id_slots (Some ids) = map OfId ids
 
--- The places of a linestring or ring: npoints, and its points (TWKB, linestring).
-abbrev pub run_of : List Point → List Place
+-- The slots of a linestring or ring: npoints, and its points (TWKB, linestring).
+abbrev pub run_of : List Point → List Slot
 run_of ps = OfCount Vertices (length ps) ∷ map OfPoint ps
 
--- The places of a polygon: nrings, and each ring as it is (TWKB, polygon; profile: nothing is
+-- The slots of a polygon: nrings, and each ring as it is (TWKB, polygon; profile: nothing is
 -- closed or checked).
-abbrev pub rings_of : List (List Point) → List Place
+abbrev pub rings_of : List (List Point) → List Slot
 rings_of rings = OfCount Rings (length rings) ∷ flat_map run_of rings
 
--- The places of a body; in a multi type the count, then the ids, then the members (TWKB,
+-- The slots of a body; in a multi type the count, then the ids, then the members (TWKB,
 -- description of types).
-abbrev pub outline : Simple → List Place
-outline (point None) = []
-outline (point (Some p)) = OfPoint p ∷ []
-outline (line ps) = run_of ps
-outline (polygon rings) = rings_of rings
-outline (multi_point ids ps) = OfCount Points (length ps) ∷ id_places ids ++ map OfPoint ps
-outline (multi_line ids lines) = OfCount Parts (length lines) ∷ id_places ids ++ flat_map run_of lines
-outline (multi_polygon ids areas) = OfCount Parts (length areas) ∷ id_places ids ++ flat_map rings_of areas
+abbrev pub slots : Simple → List Slot
+slots (point None) = []
+slots (point (Some p)) = OfPoint p ∷ []
+slots (line ps) = run_of ps
+slots (polygon rings) = rings_of rings
+slots (multi_point ids ps) = OfCount Points (length ps) ∷ id_slots ids ++ map OfPoint ps
+slots (multi_line ids lines) = OfCount Components (length lines) ∷ id_slots ids ++ flat_map run_of lines
+slots (multi_polygon ids areas) = OfCount Components (length areas) ∷ id_slots ids ++ flat_map rings_of areas
 
--- The fields of these places, if the points have these differences in order. Ids and differences
+-- The fields of these slots, if the points have these differences in order. Ids and differences
 -- are zigzag numbers (TWKB, zigzag).
-abbrev pub filled : List Place → List (ℤ × ℤ) → List Field
+abbrev pub filled : List Slot → List (ℤ × ℤ) → List Field
 filled [] ds = []
 filled (OfCount c n ∷ ps) ds = (Count c, n) ∷ filled ps ds
 filled (OfId id ∷ ps) ds = (Id, zigzag_of id) ∷ filled ps ds
@@ -57,11 +57,11 @@ filled (OfPoint p ∷ ps) (d ∷ ds) = (X, zigzag_of d.0) ∷ (Y, zigzag_of d.1)
 -- polygons (TWKB, point arrays; profile: the position is carried through the whole geometry, and
 -- each collection member begins at the origin).
 abbrev pub fields : Simple → List Field
-fields s = filled (outline s) (differences (points_in s))
+fields s = filled (slots s) (differences (points_in s))
 
 -- The fields of an id list.
 abbrev pub id_fields : Ids → List Field
-id_fields ids = filled (id_places ids) []
+id_fields ids = filled (id_slots ids) []
 
 -- The number of a type (TWKB, type and precision).
 abbrev pub kind_of : Simple → ℕ

@@ -9,7 +9,7 @@ use Rattle.twkb_points.specs.Point.{Point, origin}
 use Rattle.twkb_tree.specs.Tree.{Simple, point, line, polygon, multi_point, multi_line}
 use Rattle.twkb_tree.specs.Tree.{multi_polygon, Tree, simple, collection, Trees, end, ◌▷◌, Ids}
 use Rattle.twkb_grammar.specs.Bits.{bit}
-use Rattle.twkb_grammar.specs.Roles.{Counted, Vertices, Rings, Points, Parts, Geometries, Role}
+use Rattle.twkb_grammar.specs.Roles.{Counted, Vertices, Rings, Points, Components, Geometries, Role}
 use Rattle.twkb_grammar.specs.Roles.{Header, Metadata, Extended, Size, Box, Count, Id, X, Y, End}
 use Rattle.twkb_grammar.specs.Roles.{Item, IsItem, where_set}
 use Rattle.twkb_grammar.specs.Fault.{nodes_by, points_by, moved}
@@ -52,12 +52,12 @@ body_after p n (WantY a) = closed a p
 body_after p n (Done v) = Done v
 
 -- The six simple types (TWKB, description of types).
-pub data Form : Type 0 where
-  PointForm LineForm PolygonForm MultiPointForm MultiLineForm MultiPolygonForm : Form
+pub data BodyForm : Type 0 where
+  PointForm LineForm PolygonForm MultiPointForm MultiLineForm MultiPolygonForm : BodyForm
 
 -- The seven types: the simple ones, and the collection (TWKB, type and precision).
 pub data Kind : Type 0 where
-  SimpleKind : Form → Kind
+  SimpleKind : BodyForm → Kind
   CollectionKind : Kind
 
 -- The number of a type (TWKB, type and precision).
@@ -81,7 +81,7 @@ kind_at (suc (suc (suc (suc (suc (suc zero)))))) = SimpleKind MultiPolygonForm
 kind_at _ = CollectionKind
 
 -- How deep the lists of a form are nested.
-abbrev pub depth_of : Form → ℕ
+abbrev pub depth_of : BodyForm → ℕ
 depth_of PointForm = 0
 depth_of LineForm = 1
 depth_of PolygonForm = 2
@@ -90,7 +90,7 @@ depth_of MultiLineForm = 2
 depth_of MultiPolygonForm = 3
 
 -- The shape of a form, with these ids and this value.
-abbrev pub shape_of : (f : Form) → Ids → Nested (depth_of f) → Simple
+abbrev pub shape_of : (f : BodyForm) → Ids → Nested (depth_of f) → Simple
 shape_of PointForm ids p = point (Some p)
 shape_of LineForm ids ps = line ps
 shape_of PolygonForm ids rings = polygon rings
@@ -135,7 +135,7 @@ pub data Phase : Type 0 where
   AtOption : Kind → Head → Role → List Role → Phase  -- the optional part expected next, and those after it
   AtCount : Many → Head → Phase  -- the count before ids
   AtId : Many → Head → (members : ℕ) → (ids : List ℤ) → (left : ℕ) → Phase  -- `left` ids follow this one
-  AtBody : Head → (f : Form) → Ids → Body (depth_of f) → Phase
+  AtBody : Head → (f : BodyForm) → Ids → Body (depth_of f) → Phase
   AtEnd : Head → Tree → Phase
   Finished : Tree → Phase
 
@@ -175,8 +175,8 @@ started = ([], AtHeader)
 -- What the count before the ids counts.
 abbrev pub first_count : Many → ℕ → Counted
 first_count ManyPoints level = Points
-first_count ManyLines level = Parts
-first_count ManyPolygons level = Parts
+first_count ManyLines level = Components
+first_count ManyPolygons level = Components
 first_count ManyGeometries level = Geometries level
 
 -- What the count of a list of values of depth d counts.
@@ -208,7 +208,7 @@ role_at e st = phase_role (length st.0) e.bytes st.1
 
 -- The phase with this body: at the geometry's end if the body is complete, otherwise inside the
 -- body.
-abbrev pub settled : Head → (f : Form) → Ids → Body (depth_of f) → Phase
+abbrev pub settled : Head → (f : BodyForm) → Ids → Body (depth_of f) → Phase
 settled h f ids (Want d a) = AtBody h f ids (Want d a)
 settled h f ids (WantY a) = AtBody h f ids (WantY a)
 settled h f ids (Done v) = AtEnd h (simple h.precision (shape_of f ids v))

@@ -8,7 +8,7 @@ pub data Counted : Type 0 where
   Vertices : Counted  -- the points of a linestring or ring
   Rings : Counted  -- the rings of a polygon
   Points : Counted  -- the members of a multipoint
-  Parts : Counted  -- the members of a multilinestring or multipolygon
+  Components : Counted  -- the members of a multilinestring or multipolygon
   Geometries : (level : ℕ) → Counted  -- the members of a collection inside `level` collections
 
 -- What is at a place of a blob (TWKB, structure).

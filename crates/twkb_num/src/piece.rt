@@ -154,7 +154,7 @@ impl<const ROOM: usize> Piece<ROOM> {
     /// Appends the first `count` of these bytes. Stores of a fixed size write all `N`; those past
     /// `count` are not counted. Takes no memory.
     #[inline(always)]
-    pub fn push_front<const N: usize>(&mut self, bytes: &[u8; N], count: usize)
+    pub fn push_prefix<const N: usize>(&mut self, bytes: &[u8; N], count: usize)
         requires few { count ≤ N }
         requires room { length self.old + N ≤ ROOM }
         ensures { self.new ≡ self.old ++ take count bytes.now }

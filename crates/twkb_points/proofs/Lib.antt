@@ -3,5 +3,5 @@ pub mod DifferenceLemmas
 pub mod PointLemmas
 pub mod NearLemmas
 pub mod ExtentLemmas
-pub mod SpanLemmas
+pub mod BoxLemmas
 pub mod TailLemmas

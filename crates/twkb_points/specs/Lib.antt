@@ -3,4 +3,4 @@ pub mod Differences
 pub mod Extent
 pub mod Near
 pub mod Point
-pub mod Spans
+pub mod Boxes

@@ -3,7 +3,7 @@ ghost use Rattle.std.specs.Prelude.{◌≡◌, ◌↔◌, ℤ, List, [], ◌∷�
 ghost use Rattle.twkb_points.specs.Point.{Point};
 ghost use Rattle.twkb_points.specs.Differences.{differences, points_of, AreDifferences};
 ghost use Rattle.twkb_points.specs.Extent.{Extent, joined, joined_options, extent, tight};
-ghost use Rattle.twkb_points.specs.Spans.{Spans, IsBox};
+ghost use Rattle.twkb_points.specs.Boxes.{IsExtentOf, IsBox};
 
 /// The differences of a list are, place by place, its first point, and then each point less the
 /// one before it, as in TWKB and the Encoded Polyline Algorithm Format.
@@ -24,7 +24,7 @@ pub fn one_list()
 
 /// The corners of a list's extent hold the least and the greatest coordinates of its points.
 pub fn extent_by_bounds()
-    ensures { (ps : List Point) (e : Extent) → (extent ps ≡ Some e) ↔ Spans e ps }
+    ensures { (ps : List Point) (e : Extent) → (extent ps ≡ Some e) ↔ IsExtentOf e ps }
 {}
 
 /// The extent of two lists, one after the other, is the join of their extents.
@@ -34,7 +34,8 @@ pub fn extents_join()
 
 /// The join of the extents of two lists spans both lists.
 pub fn spans_join()
-    ensures { (a b : Extent) (ps qs : List Point) → Spans a ps → Spans b qs → Spans (joined a b) (ps ++ qs) }
+    ensures { (a b : Extent) (ps qs : List Point) → IsExtentOf a ps → IsExtentOf b qs
+        → IsExtentOf (joined a b) (ps ++ qs) }
 {}
 
 /// The box numbers of a list are those of the box that holds its points and is reached on each

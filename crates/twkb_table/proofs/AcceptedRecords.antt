@@ -10,7 +10,7 @@ use Rattle.twkb_tree.specs.Tree.{IsPrecision}
 use Rattle.twkb_tree.specs.Rows.{Row}
 use Rattle.twkb_tree.specs.Limits.{Allowance}
 use Rattle.twkb_tree.specs.Admits.{parent, first_child, steps_to, has_place, id_allowed}
-use Rattle.twkb_tree.specs.Admits.{has_same_ids, is_whole, points_fit, precision_in_range}
+use Rattle.twkb_tree.specs.Admits.{has_same_ids, is_geometry, points_fit, precision_in_range}
 use Rattle.twkb_tree.specs.Admits.{precision_fits, fits}
 use Rattle.twkb_tree.specs.Accepted.{nest_kept, geometry_rows, point_count, since_root, Accepts, AreAccepted}
 use Rattle.twkb_tree.proofs.RowFacts.{fits_by}
@@ -30,11 +30,11 @@ use Rattle.twkb_table.specs.declared.reason.RowReason.TheVariants.{PointCount}
 use Rattle.twkb_table.proofs.Verdicts.{not_false, both_true, both, accepted_apart, same_accepted, passed, found}
 
 -- a row that is a geometry itself has its precision, and any other row has none
-precision_ok : (p : Option Row) (q : Option ℤ) → ((is_whole p ≡ true) × (is_some q ≡ false) → ⊥)
-    → ((is_whole p ≡ false) × (is_some q ≡ true) → ⊥) → precision_fits p q ≡ true
-precision_ok p None missing extra = elim (cases_Bool (is_whole p))
+precision_ok : (p : Option Row) (q : Option ℤ) → ((is_geometry p ≡ true) × (is_some q ≡ false) → ⊥)
+    → ((is_geometry p ≡ false) × (is_some q ≡ true) → ⊥) → precision_fits p q ≡ true
+precision_ok p None missing extra = elim (cases_Bool (is_geometry p))
     [ inl w ↦ absurd (missing (w, refl)) | inr w ↦ rw w refl ]
-precision_ok p (Some n) missing extra = elim (cases_Bool (is_whole p))
+precision_ok p (Some n) missing extra = elim (cases_Bool (is_geometry p))
     [ inl w ↦ rw w refl | inr w ↦ absurd (extra (w, refl)) ]
 
 pub precision_in_range-true : (q : Option ℤ) → IfSome q IsPrecision → precision_in_range q ≡ true
@@ -59,7 +59,7 @@ record PointsPassed (l : Allowance) (before : List Row) (d : ℕ) (k : Kind) (id
     (text : List ℕ) (r : Row) : Type 0 where
   points : List Point
   decoded : DecodesTo text (points_left l (place_of d before)) points
-  fit : points_fit k (is_whole (parent d before)) points ≡ true
+  fit : points_fit k (is_geometry (parent d before)) points ≡ true
   row : r ≡ record { depth = d; kind = k; id = id; precision = q; points = points }
 
 judged_points : (l : Allowance) (before : List Row) (d : ℕ) (k : Kind) (id q : Option ℤ)
@@ -72,7 +72,7 @@ judged_points l before d k id q text r h = elim (passed r PolylineNotAllowed h).
       record {
         points = some.0;
         decoded = some.1;
-        fit = not_false (points_fit k (is_whole (parent d before)) some.0) last.0;
+        fit = not_false (points_fit k (is_geometry (parent d before)) some.0) last.0;
         row = same_accepted r (record { depth = d; kind = k; id = id; precision = q; points = some.0 }) last.1;
       }
 ]
@@ -136,8 +136,8 @@ judged_row l before (a ∷ b ∷ c ∷ e ∷ f ∷ []) r room h =
     let allowed = passed r IdNotAllowed ids.2 in
     let same = passed r MixedIds allowed.1 in
     let precisions = found (IsOptionalPrecision e)
-    (λ q. When (Accepted r) ((is_whole p ≡ true) × (is_some q ≡ false)) PrecisionMissing
-    (When (Accepted r) ((is_whole p ≡ false) × (is_some q ≡ true)) PrecisionNotAllowed
+    (λ q. When (Accepted r) ((is_geometry p ≡ true) × (is_some q ≡ false)) PrecisionMissing
+    (When (Accepted r) ((is_geometry p ≡ false) × (is_some q ≡ true)) PrecisionNotAllowed
     (JudgedByPoints l (place_of d before) k id q f (Accepted r)))) r BadPrecision same.1 in
     let q = precisions.0 in
     let missing = passed r PrecisionMissing precisions.2 in

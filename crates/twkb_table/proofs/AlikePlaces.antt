@@ -12,7 +12,7 @@ use Rattle.twkb_tree.specs.Accepted.{geometry_rows, point_count}
 use Rattle.twkb_tree.specs.Open.{ids_by, open_parent, row_of, child_of, count_at}
 use Rattle.twkb_tree.proofs.OpenDecides.{kind_by, head_kind, head_id, steps_open}
 use Rattle.twkb_table.specs.Judged.{Verdict, place_of, JudgedByPlace}
-use Rattle.twkb_tree.specs.Standing.{standing_at}
+use Rattle.twkb_tree.specs.RowPlace.{row_place_at}
 use Rattle.twkb_tree.proofs.OpenRefusal.{kind_under, ids_under, nodes_under, points_under}
 use Rattle.twkb_table.specs.Standing.{place_seen, StandsAfter}
 
@@ -73,7 +73,7 @@ far d n lt = grind (arith, nat_tests)
 pub judged_there : (l : Allowance) (before : List Row) (rows : List OpenRow) (nodes points d : ℕ)
     (k : Kind) (id_field field text : List ℕ) (v : Verdict) → StandsAfter before rows nodes points
     → d ≤ length rows
-    → JudgedByPlace l (place_seen (standing_at d rows nodes points)) k id_field field text v
+    → JudgedByPlace l (place_seen (row_place_at d rows nodes points)) k id_field field text v
     → JudgedByPlace l (place_of d before) k id_field field text v
 judged_there l before rows nodes points d k id_field field text v stands le j =
     let p = row_of (open_parent d rows) in

@@ -11,7 +11,7 @@ use Rattle.twkb_tree.specs.declared.kind.Kind.{Kind}
 use Rattle.twkb_tree.specs.Tree.{Tree}
 use Rattle.twkb_tree.specs.Rows.{Row}
 use Rattle.twkb_tree.specs.Limits.{Allowance, IsAllowance}
-use Rattle.twkb_tree.specs.Admits.{has_place, id_allowed, has_same_ids, is_whole, points_fit, has_points}
+use Rattle.twkb_tree.specs.Admits.{has_place, id_allowed, has_same_ids, is_geometry, points_fit, has_points}
 use Rattle.twkb_tree.specs.Accepted.{nest_kept}
 use Rattle.twkb_table.specs.Fields.{IsDepthField, IsOptionalId, IsOptionalPrecision}
 use Rattle.twkb_tree.specs.Kind.{word_of}
@@ -96,11 +96,11 @@ by_points l here k id q text =
       points = ps;
     })) in
     let Counted : List Point → Verdict → Type 0 = λ ps v.
-    When v (points_fit k (is_whole here.parent) ps ≡ false) PointCount (Last ps v) in
+    When v (points_fit k (is_geometry here.parent) ps ≡ false) PointCount (Last ps v) in
     told_when _ (λ v. UnlessFaulty text (points_left l here) v (λ ps. Counted ps v))
     PolylineNotAllowed (both_decided (some_text text) (is_false (has_points k)))
     (told_text text (points_left l here) Counted (text_or_fault text (points_left l here))
-    (λ ps. told_when _ (Last ps) PointCount (is_false (points_fit k (is_whole here.parent) ps)) (
+    (λ ps. told_when _ (Last ps) PointCount (is_false (points_fit k (is_geometry here.parent) ps)) (
       Accepted (record { depth = here.depth; kind = k; id = id; precision = q; points = ps }),
       refl,
     )))
@@ -108,7 +108,7 @@ by_points l here k id q text =
 by_precision : (l : Allowance) (here : Place) (k : Kind) (id : Option ℤ) (field text : List ℕ)
     → Told (JudgedByPrecision l here k id field text)
 by_precision l here k id field text =
-    let w = is_whole here.parent in
+    let w = is_geometry here.parent in
     told_unless (IsOptionalPrecision field)
     (λ q v. When v ((w ≡ true) × (is_some q ≡ false)) PrecisionMissing
     (When v ((w ≡ false) × (is_some q ≡ true)) PrecisionNotAllowed

@@ -12,7 +12,7 @@ use Rattle.twkb_polyline.specs.declared.fault.PolyFault.{PolyFault}
 use Rattle.twkb_polyline.specs.declared.fault.PolyFault.TheVariants.{At}
 use Rattle.twkb_polyline.specs.declared.fault.PolyReason.{PolyReason}
 use Rattle.twkb_tree.specs.declared.kind.Kind.TheVariants as kind
-use Rattle.twkb_tree.specs.Admits.{has_points, is_whole, points_fit}
+use Rattle.twkb_tree.specs.Admits.{has_points, is_geometry, points_fit}
 use Rattle.twkb_tree.specs.Limits.{Allowance}
 use Rattle.twkb_tree.specs.Rows.{Row}
 use Rattle.twkb_tree.specs.RowLists.{AreValidRowsOfOne}
@@ -55,11 +55,11 @@ comes_next l rows fields head row own of_one read row_is given =
 
 -- a text of one point is that of a row of kind point, if there is room for it
 one_accepted : (head : RowHead) (p : Point) → head.kind ≡ kind.Point
-    → head.standing.points < head.limits.points → DecodesTo head.text.now 1 (p ∷ [])
+    → head.row_place.points < head.limits.points → DecodesTo head.text.now 1 (p ∷ [])
     → JudgedAs head (Accepted (row_with (head_row head) (p ∷ [])))
 one_accepted head p is room read =
-    let fits : points_fit head.kind (is_whole (place_seen head.standing).parent) (p ∷ []) ≡ true =
-    ap (λ k. points_fit k (is_whole (place_seen head.standing).parent) (p ∷ [])) is in
+    let fits : points_fit head.kind (is_geometry (place_seen head.row_place).parent) (p ∷ []) ≡ true =
+    ap (λ k. points_fit k (is_geometry (place_seen head.row_place).parent) (p ∷ [])) is in
     inr (
       λ bare. true≢false (sym (ap has_points is) ∙ bare.1),
       inr (
@@ -74,7 +74,7 @@ one_accepted head p is room read =
     )
 
 pub one_judged : (head : RowHead) (r : Option Point) → head.kind ≡ kind.Point
-    → head.standing.points < head.limits.points → IfSome r (λ p. DecodesTo head.text.now 1 (p ∷ []))
+    → head.row_place.points < head.limits.points → IfSome r (λ p. DecodesTo head.text.now 1 (p ∷ []))
     → IfSome r (λ p. JudgedAs head (Accepted (row_with (head_row head) (p ∷ []))))
 one_judged head None is room read = tt
 one_judged head (Some p) is room read = one_accepted head p is room read
@@ -104,11 +104,11 @@ not_allowed head empty has is some of_kind none =
 
 -- this many points are left for the row
 abbrev pub AreLeft : RowHead → ℕ → ℕ → Type 0
-AreLeft head points left = (points ≡ head.limits.points) × (left ≡ points - head.standing.points)
+AreLeft head points left = (points ≡ head.limits.points) × (left ≡ points - head.row_place.points)
 
 left_is : (head : RowHead) (points left : ℕ) → AreLeft head points left
-    → left ≡ head.limits.points - head.standing.points
-left_is head points left (most, is) = is ∙ ap (λ m. m - head.standing.points) most
+    → left ≡ head.limits.points - head.row_place.points
+left_is head points left (most, is) = is ∙ ap (λ m. m - head.row_place.points) most
 
 pub text_refused : (head : RowHead) (points left offset : ℕ) (why : PolyReason) (f : PolyFault)
     → (HasNeedlessText head → ⊥) → AreLeft head points left → f ≡ At offset why
@@ -138,20 +138,20 @@ cut_back text left held old new back a before cut = cut ∙ ap (take held) a.app
 
 -- whether the row may have as many points as the list grew by
 abbrev pub TellsFit : RowHead → Bool → ℕ → Bool → Type 0
-TellsFit head whole count fits = (whole ≡ is_whole (place_seen head.standing).parent)
+TellsFit head whole count fits = (whole ≡ is_geometry (place_seen head.row_place).parent)
     × ((ps : List Point) → length ps ≡ count → points_fit head.kind whole ps ≡ fits)
 
 fit_is : (head : RowHead) (left held count : ℕ) (whole fits : Bool) (old new : List Point)
     (a : AppendsDecoded head.text.now left old new) → held ≡ length old → count ≡ length new
     → TellsFit head whole (count - held) fits
-    → points_fit head.kind (is_whole (place_seen head.standing).parent) a.ps ≡ fits
+    → points_fit head.kind (is_geometry (place_seen head.row_place).parent) a.ps ≡ fits
 fit_is head left held count whole fits old new a before after (is, tells) =
     subst (λ w. points_fit head.kind w a.ps ≡ fits) is
     (tells a.ps (omega (arith, before, after, ap length a.appended, length-append old a.ps)))
 
 decoded_left : (head : RowHead) (points left : ℕ) (ps : List Point) → AreLeft head points left
     → DecodesTo head.text.now left ps → DecodesTo head.text.now
-    (head.limits.points - head.standing.points) ps
+    (head.limits.points - head.row_place.points) ps
 decoded_left head points left ps are_left = subst (λ m. DecodesTo head.text.now m ps)
     (left_is head points left are_left)
 

@@ -60,12 +60,12 @@ given_all remaining old new fields set_up read (Some text) records given = (
 )
 
 -- the text begins with the records given
-pub standing_begins : {R : Type 0} (remaining : R → Option (List ℕ)) (told : Option (List ℕ))
+pub row_place_begins : {R : Type 0} (remaining : R → Option (List ℕ)) (told : Option (List ℕ))
     (records : List Record) (ended : Bool) (reader : Reader (MutBor (Tap R)))
     → standing remaining told records ended reader → IfSome told (λ text. BeginWith text records)
-standing_begins remaining None records ended reader s = tt
-standing_begins remaining (Some text) records false reader s = (reader_state reader, s.1.0, s.1.2)
-standing_begins remaining (Some text) records true reader s = (s.0, s.1, s.2)
+row_place_begins remaining None records ended reader s = tt
+row_place_begins remaining (Some text) records false reader s = (reader_state reader, s.1.0, s.1.2)
+row_place_begins remaining (Some text) records true reader s = (s.0, s.1, s.2)
 
 -- ---- a source
 
@@ -91,7 +91,7 @@ pub source_faults : {R : Type 0} (remaining : R → Option (List ℕ)) (old : Re
     → IfErr r (λ f. Faults remaining old f)
 source_faults remaining old (Ok found) h = tt
 source_faults remaining old (Err f) h = λ told records s.
-    (h, standing_begins remaining told records old.ended old.reader s.0)
+    (h, row_place_begins remaining told records old.ended old.reader s.0)
 
 pub never_spent : (r : Result Bool SourceFault) → IfErr r (λ f. f ≡ fault.Source) → r ≡ Err fault.Spent → ⊥
 never_spent (Ok found) h e = cc e

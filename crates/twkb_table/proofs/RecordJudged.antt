@@ -13,9 +13,9 @@ use Rattle.twkb_table.specs.Fields.{IsDepthField}
 use Rattle.twkb_tree.specs.Kind.{word_of}
 use Rattle.twkb_table.specs.Record.{Record}
 use Rattle.twkb_table.specs.Judged.{Verdict, Refused, JudgedByPlace, Judged}
-use Rattle.twkb_tree.specs.Standing.{standing_at}
+use Rattle.twkb_tree.specs.RowPlace.{row_place_at}
 use Rattle.twkb_table.specs.Standing.{place_seen, StandsAfter, IfRefused}
-use Rattle.twkb_tree.specs.declared.standing.Standing.{Standing}
+use Rattle.twkb_tree.specs.declared.row_place.RowPlace.{RowPlace}
 use Rattle.twkb_table.specs.declared.judging.JudgeFault.{JudgeFault}
 use Rattle.twkb_table.specs.declared.judging.JudgeFault.TheVariants.{Memory}
 use Rattle.twkb_table.specs.declared.judging.JudgeFault.TheVariants as Fault
@@ -92,13 +92,13 @@ bad_place l before rows nodes points a b c e f d k depth word lt stands =
 
 -- the verdict by the place that the open rows give
 pub judged_of : (l : Allowance) (before : List Row) (rows : List OpenRow) (nodes points : ℕ)
-    (a b c e f : List ℕ) (d : ℕ) (k : Kind) (standing : Standing) (v : Verdict) → IsDepthField a d
+    (a b c e f : List ℕ) (d : ℕ) (k : Kind) (row_place : RowPlace) (v : Verdict) → IsDepthField a d
     → b ≡ word_of k
-    → (d ≤ length rows) × (standing ≡ standing_at d rows nodes points)
-    → JudgedByPlace l (place_seen standing) k c e f v → StandsAfter before rows nodes points
+    → (d ≤ length rows) × (row_place ≡ row_place_at d rows nodes points)
+    → JudgedByPlace l (place_seen row_place) k c e f v → StandsAfter before rows nodes points
     → Judged l before (a ∷ b ∷ c ∷ e ∷ f ∷ []) v
-judged_of l before rows nodes points a b c e f d k standing v depth word at j stands =
-    let there = subst (λ (s : Standing). JudgedByPlace l (place_seen s) k c e f v) at.1 j in
+judged_of l before rows nodes points a b c e f d k row_place v depth word at j stands =
+    let there = subst (λ (s : RowPlace). JudgedByPlace l (place_seen s) k c e f v) at.1 j in
     inr (d, depth, inr (k, word, judged_there l before rows nodes points d k c e f v stands at.0 there))
 
 -- ---- answers

@@ -9,7 +9,7 @@ use Rattle.twkb_tree.specs.Tree.{IsPrecision}
 use Rattle.twkb_tree.specs.Rows.{Row}
 use Rattle.twkb_tree.specs.Limits.{Allowance}
 use Rattle.twkb_tree.specs.Admits.{parent, first_child, steps_to, has_place, id_allowed}
-use Rattle.twkb_tree.specs.Admits.{has_same_ids, is_whole, has_points, points_fit}
+use Rattle.twkb_tree.specs.Admits.{has_same_ids, is_geometry, has_points, points_fit}
 use Rattle.twkb_tree.specs.Admits.{precision_in_range, precision_fits, fits}
 use Rattle.twkb_tree.specs.Accepted.{nest_kept, geometry_rows, Accepts}
 use Rattle.twkb_tree.proofs.RowFacts.{Facts, facts, no_points_of}
@@ -30,12 +30,13 @@ use Rattle.twkb_polyline.proofs.OneFault.{one_polyline, text_fault_none}
 use Rattle.twkb_table.proofs.FieldLemmas.{one_depth, one_word, one_optional, precision-ids}
 use Rattle.twkb_table.proofs.Verdicts.{both_true, both, stays_true, skip, pick}
 
-whole_known : (p : Option Row) (q : Option ℤ) → precision_fits p q ≡ true → (is_whole p ≡ true)
+whole_known : (p : Option Row) (q : Option ℤ) → precision_fits p q ≡ true → (is_geometry p ≡ true)
     × (is_some q ≡ false) → ⊥
 whole_known p None h e = true≢false (sym (rw e.0 at h))
 whole_known p (Some n) h e = true≢false e.1
 
-part_known : (p : Option Row) (q : Option ℤ) → precision_fits p q ≡ true → (is_whole p ≡ false) × (is_some q ≡ true) → ⊥
+part_known : (p : Option Row) (q : Option ℤ) → precision_fits p q ≡ true
+    → (is_geometry p ≡ false) × (is_some q ≡ true) → ⊥
 part_known p None h e = false≢true e.1
 part_known p (Some n) h e = true≢false (sym (rw e.0 at h))
 
@@ -58,7 +59,7 @@ judged_polyline : (l : Allowance) (before : List Row) (r : Row) (v : Verdict)
     → JudgedByPoints l (place_of r.depth before) r.kind r.id r.precision (polyline r.points) v → v ≡ Accepted r
 judged_polyline l before r v h own j =
     let k = r.kind in
-    let w = is_whole (parent r.depth before) in
+    let w = is_geometry (parent r.depth before) in
     let Last : List Point → Type 0 = λ (ps : List Point). When v (points_fit k w ps ≡ false)
     PointCount (v ≡ Accepted
     (record { depth = r.depth; kind = k; id = r.id; precision = r.precision; points = ps })) in
@@ -100,8 +101,8 @@ judged_only l before r v a le j =
     let allowed = skip v IdNotAllowed ids (stays_true (id_allowed p k r.id) h.id) in
     let same = skip v MixedIds allowed (stays_true (has_same_ids f r.id) h.same) in
     let precisions = pick (IsOptionalPrecision (optional r.precision))
-    (λ q. When v ((is_whole p ≡ true) × (is_some q ≡ false)) PrecisionMissing
-    (When v ((is_whole p ≡ false) × (is_some q ≡ true)) PrecisionNotAllowed
+    (λ q. When v ((is_geometry p ≡ true) × (is_some q ≡ false)) PrecisionMissing
+    (When v ((is_geometry p ≡ false) × (is_some q ≡ true)) PrecisionNotAllowed
     (JudgedByPoints l (place_of d before) k r.id q (polyline r.points) v))) v BadPrecision
     r.precision same (refl, precise)
     (λ q e. sym (one_optional r.precision q (precision-ids r.precision precise) (precision-ids q e.1) e.0)) in
@@ -119,14 +120,14 @@ row_judged l before r a le =
     let two = both_true (steps_to d before) (fits p f r) a.admitted in
     let h = facts p f r two.1 in
     let no_text : (polyline r.points ≡ [] → ⊥) × (has_points k ≡ false)
-    → ⊥ = λ e. e.0 (ap polyline (no_points_of k k (is_whole p) r.points refl e.1 h.points)) in
+    → ⊥ = λ e. e.0 (ap polyline (no_points_of k k (is_geometry p) r.points refl e.1 h.points)) in
     let placed = stays_true (steps_to d before && has_place p k)
     (both (steps_to d before) (has_place p k) two.0 h.place) in
     let few : l.nodes ≤ length (geometry_rows d before)
     → ⊥ = λ over. (let under = a.nodes in omega (arith, over, under)) in
     let id = optional_id_is r.id h.id_range in
     let precise = optional_precision_is r.precision h.range in
-    let counted = inr (stays_true (points_fit k (is_whole p) r.points) h.points, refl) in
+    let counted = inr (stays_true (points_fit k (is_geometry p) r.points) h.points, refl) in
     let points = inr (no_text, inr (r.points, decoded l before r a, counted)) in
     let precisions = inr (
       r.precision,

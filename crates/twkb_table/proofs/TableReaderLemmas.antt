@@ -18,7 +18,7 @@ use Rattle.twkb_table.specs.TableReading.{NameSoFar, Extends, GivesNext, Explain
 use Rattle.twkb_table.specs.declared.table_fault.TableFault.{TableFault}
 use Rattle.twkb_table.specs.declared.table_fault.TableFault.TheVariants as fault
 use Rattle.twkb_table.specs.declared.table_reader.TableReader.{TableReader}
-use Rattle.twkb_table.proofs.RecordFacts.{standing_begins}
+use Rattle.twkb_table.proofs.RecordFacts.{row_place_begins}
 
 -- ---- the text begins with the records read
 
@@ -30,7 +30,7 @@ begins_none (Some text) = (st.StartRecord, strip_bom text, (refl, refl))
 pub text_begins : {R : Type 0} (remaining : R → Option (List ℕ)) (told : Option (List ℕ))
     (records : List Record) (reader : TableReader R) → HasRead remaining told records reader
     → IfSome told (λ text. BeginWith text records)
-text_begins remaining told records reader s = standing_begins remaining told records (is_ended reader) reader.reader s
+text_begins remaining told records reader s = row_place_begins remaining told records (is_ended reader) reader.reader s
 
 -- ---- one call after another
 

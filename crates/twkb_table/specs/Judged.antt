@@ -10,7 +10,7 @@ use Rattle.twkb_tree.specs.declared.kind.Kind.{Kind}
 use Rattle.twkb_tree.specs.Rows.{Row}
 use Rattle.twkb_tree.specs.Limits.{Allowance}
 use Rattle.twkb_tree.specs.Admits.{parent, first_child, steps_to, has_place, id_allowed}
-use Rattle.twkb_tree.specs.Admits.{has_same_ids, is_whole, points_fit, has_points}
+use Rattle.twkb_tree.specs.Admits.{has_same_ids, is_geometry, points_fit, has_points}
 use Rattle.twkb_tree.specs.Accepted.{nest_kept, geometry_rows, point_count}
 use Rattle.twkb_table.specs.Fields.{IsDepthField, IsOptionalId, IsOptionalPrecision}
 use Rattle.twkb_tree.specs.Kind.{word_of}
@@ -75,7 +75,7 @@ abbrev pub JudgedByPoints : Allowance → Place → Kind → Option ℤ → Opti
 JudgedByPoints l here k id precision text v =
     When v ((text ≢ []) × (has_points k ≡ false)) PolylineNotAllowed
     (UnlessFaulty text (points_left l here) v (λ ps.
-    When v (points_fit k (is_whole here.parent) ps ≡ false) PointCount
+    When v (points_fit k (is_geometry here.parent) ps ≡ false) PointCount
     (v ≡ Accepted (record { depth = here.depth; kind = k; id = id; precision = precision; points = ps }))))
 
 -- the reasons BadPrecision, PrecisionMissing and PrecisionNotAllowed, followed by those of the
@@ -83,8 +83,8 @@ JudgedByPoints l here k id precision text v =
 abbrev pub JudgedByPrecision : Allowance → Place → Kind → Option ℤ → List ℕ → List ℕ → Verdict → Type 0
 JudgedByPrecision l here k id precision_field text v =
     Unless v (IsOptionalPrecision precision_field) BadPrecision (λ precision.
-    When v ((is_whole here.parent ≡ true) × (is_some precision ≡ false)) PrecisionMissing
-    (When v ((is_whole here.parent ≡ false) × (is_some precision ≡ true)) PrecisionNotAllowed
+    When v ((is_geometry here.parent ≡ true) × (is_some precision ≡ false)) PrecisionMissing
+    (When v ((is_geometry here.parent ≡ false) × (is_some precision ≡ true)) PrecisionNotAllowed
     (JudgedByPoints l here k id precision text v)))
 
 -- the reasons BadId, IdNotAllowed and MixedIds, followed by those of the precision

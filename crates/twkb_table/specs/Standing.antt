@@ -8,17 +8,17 @@ use Rattle.twkb_table.specs.Judged.{Place}
 use Rattle.twkb_table.specs.declared.judging.JudgeFault.{JudgeFault}
 use Rattle.twkb_table.specs.declared.judging.JudgeFault.TheVariants.{Memory, Refused}
 use Rattle.twkb_table.specs.declared.reason.RowReason.{RowReason}
-use Rattle.twkb_tree.specs.declared.standing.Standing.{Standing}
+use Rattle.twkb_tree.specs.declared.row_place.RowPlace.{RowPlace}
 
 -- the place of a row, with a parent of the open row's kind and a first child with an id or without
-abbrev pub place_seen : Standing → Place
-place_seen standing = record {
-  depth = standing.depth;
+abbrev pub place_seen : RowPlace → Place
+place_seen row_place = record {
+  depth = row_place.depth;
   steps = true;
-  parent = row_of standing.parent;
-  first = child_of standing.parent;
-  nodes = standing.nodes;
-  points = standing.points;
+  parent = row_of row_place.parent;
+  first = child_of row_place.parent;
+  nodes = row_place.nodes;
+  points = row_place.points;
 }
 
 -- The open rows and the two counts are those of the rows so far, last one first.

@@ -4,14 +4,14 @@ use crate::reason::RowReason;
 use twkb_flat::{PointSource, Row};
 use twkb_points::{PointTail, Pt};
 use twkb_polyline::{PolyFault, decode_into, decode_one};
-use twkb_tree::row_rules::{count_fits, has_points, is_whole};
-use twkb_tree::{Kind, Limits, Standing};
+use twkb_tree::row_rules::{count_fits, has_points, is_geometry};
+use twkb_tree::{Kind, Limits, RowPlace};
 
 // A row that was read except for its points: its place, its fields, and the text of its points.
 #[derive(Clone, Copy)]
 pub(crate) struct RowHead<'a> {
     pub(crate) limits: Limits,
-    pub(crate) standing: Standing,
+    pub(crate) row_place: RowPlace,
     pub(crate) kind: Kind,
     pub(crate) id: Option<i64>,
     pub(crate) precision: Option<i8>,
@@ -30,7 +30,7 @@ impl RowHead<'_> {
         ensures { result ≡ head_row self.now }
     {
         Row {
-            depth: self.standing.depth,
+            depth: self.row_place.depth,
             kind: self.kind,
             id: self.id,
             precision: self.precision,
@@ -47,7 +47,7 @@ impl RowHead<'_> {
         if self.kind != Kind::Point {
             return None;
         }
-        if self.limits.points() <= self.standing.points {
+        if self.limits.points() <= self.row_place.points {
             return None;
         }
         decode_one(self.text)
@@ -77,7 +77,7 @@ impl PointSource for RowHead<'_> {
         if !self.text.is_empty() && !has_points(self.kind) {
             return Err(JudgeFault::Refused(RowReason::PolylineNotAllowed));
         }
-        let left = self.limits.points().saturating_sub(self.standing.points);
+        let left = self.limits.points().saturating_sub(self.row_place.points);
         let held = points.count();
         match decode_into(self.text, left, points) {
             Ok(()) => {}
@@ -86,7 +86,7 @@ impl PointSource for RowHead<'_> {
                 return Err(JudgeFault::Refused(RowReason::Polyline(offset, reason)));
             }
         }
-        let whole = is_whole(self.standing.parent);
+        let whole = is_geometry(self.row_place.parent);
         if count_fits(self.kind, whole, points.count() - held) {
             Ok(())
         } else {

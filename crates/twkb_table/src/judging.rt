@@ -18,7 +18,7 @@ use csv::ByteRecord;
 use thiserror::Error;
 use twkb_flat::{PointSource, Row};
 use twkb_points::Pt;
-use twkb_tree::{Kind, Limits, OpenRow, Standing};
+use twkb_tree::{Kind, Limits, OpenRow, RowPlace};
 
 /// Why a record gave no row.
 #[derive(Clone, Copy, Debug, PartialEq, Eq, Error)]
@@ -34,34 +34,34 @@ pub enum JudgeFault {
 // Reads the row of these fields except for its points, given its kind and place, or finds the
 // reason to refuse it.
 #[inline(always)]
-fn judge_standing<'a>(
+fn judge_at<'a>(
     limits: &Limits,
-    standing: &Standing,
+    row_place: &RowPlace,
     kind: Kind,
     id_field: &[u8],
     precision_field: &[u8],
     text: &'a [u8],
 ) -> Result<RowHead<'a>, RowReason>
     ensures read { IfOk result (λ head. (v : Verdict) → JudgedAs head v
-        → JudgedByPlace limits.now (place_seen standing.now) kind id_field.now precision_field.now
+        → JudgedByPlace limits.now (place_seen row_place.now) kind id_field.now precision_field.now
         text.now v) }
-    ensures refused { IfErr result (λ reason. JudgedByPlace limits.now (place_seen standing.now)
+    ensures refused { IfErr result (λ reason. JudgedByPlace limits.now (place_seen row_place.now)
         kind id_field.now precision_field.now text.now (Refused reason)) }
 {
-    if let Err(reason) = check_place(limits, standing, kind) {
+    if let Err(reason) = check_place(limits, row_place, kind) {
         return Err(reason);
     }
-    let id = match read_id(standing, kind, id_field) {
+    let id = match read_id(row_place, kind, id_field) {
         Ok(id) => id,
         Err(reason) => return Err(reason),
     };
-    let precision = match read_precision(standing, precision_field) {
+    let precision = match read_precision(row_place, precision_field) {
         Ok(precision) => precision,
         Err(reason) => return Err(reason),
     };
     Ok(RowHead {
         limits: *limits,
-        standing: *standing,
+        row_place: *row_place,
         kind,
         id,
         precision,
@@ -92,12 +92,12 @@ fn judge_fields<'a>(
     let Some(kind) = parse_kind(fields.kind) else {
         return Err(RowReason::BadKind);
     };
-    let Some(standing) = Standing::at(depth, rows, nodes, held) else {
+    let Some(row_place) = RowPlace::at(depth, rows, nodes, held) else {
         return Err(RowReason::BadPlace);
     };
-    judge_standing(
+    judge_at(
         limits,
-        &standing,
+        &row_place,
         kind,
         fields.id,
         fields.precision,

@@ -80,6 +80,6 @@ pub fn push_kind(kind: Kind, around: u8, piece: &mut Piece<128>)
     let (word, count) = kind.padded_name();
     piece.push(around);
     // the word is copied with its padding, so that each copy has one size
-    piece.push_front(word, count);
+    piece.push_prefix(word, count);
     piece.push(around);
 }

@@ -41,4 +41,4 @@ pub mod RowsGrow
 pub mod RowsLocal
 pub mod RowsOfTrees
 pub mod Shapes
-pub mod StandingLemmas
+pub mod RowPlaceLemmas

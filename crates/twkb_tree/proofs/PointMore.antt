@@ -8,7 +8,7 @@ use Rattle.twkb_tree.specs.declared.kind.Kind.{Kind}
 use Rattle.twkb_tree.specs.declared.kind.Kind.TheVariants as kinds
 use Rattle.twkb_tree.specs.Rows.{Row, row_points}
 use Rattle.twkb_tree.specs.RowGrowth.{with_point, point_added, EndsInLine}
-use Rattle.twkb_tree.specs.Admits.{points_fit, fits, is_whole, has_place, id_in_range, id_allowed}
+use Rattle.twkb_tree.specs.Admits.{points_fit, fits, is_geometry, has_place, id_in_range, id_allowed}
 use Rattle.twkb_tree.specs.Admits.{has_same_ids, precision_in_range, precision_fits, steps_to}
 use Rattle.twkb_tree.specs.Admits.{parent, first_child}
 use Rattle.twkb_tree.specs.Accepted.{Accepts, IsOneRoot, geometry_rows, point_count}
@@ -40,7 +40,7 @@ pub fits_same : (p f : Option Row) (r : Row) (q : Point) → (r.kind ≡ kinds.L
 fits_same p f r q line =
     ap (λ b. has_place p r.kind && id_in_range r.id && id_allowed p r.kind r.id && has_same_ids f
     r.id && precision_in_range r.precision && precision_fits p r.precision && b)
-    (line_fits r.kind (is_whole p) r.points line ∙ sym (line_fits r.kind (is_whole p) (r.points ++ q ∷ []) line))
+    (line_fits r.kind (is_geometry p) r.points line ∙ sym (line_fits r.kind (is_geometry p) (r.points ++ q ∷ []) line))
 
 in_range_snoc : (ps : List Point) (q : Point) → AreInRange ps → IsInRange q → AreInRange (ps ++ q ∷ [])
 in_range_snoc [] q h k = (k, tt)

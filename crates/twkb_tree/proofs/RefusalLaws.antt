@@ -9,7 +9,7 @@ use Rattle.twkb_points.specs.Point.{Point, AreInRange}
 use Rattle.twkb_tree.specs.declared.kind.Kind.{Kind}
 use Rattle.twkb_tree.specs.Limits.{Allowance}
 use Rattle.twkb_tree.specs.Rows.{Row}
-use Rattle.twkb_tree.specs.Admits.{steps_to, parent, first_child, has_place, is_whole, has_points}
+use Rattle.twkb_tree.specs.Admits.{steps_to, parent, first_child, has_place, is_geometry, has_points}
 use Rattle.twkb_tree.specs.Admits.{id_in_range, id_allowed, has_same_ids, precision_in_range}
 use Rattle.twkb_tree.specs.Admits.{precision_fits, points_fit, fits}
 use Rattle.twkb_tree.specs.Accepted.{nest_kept, geometry_rows, point_count, Accepts, IsOneRoot, Continues}
@@ -46,13 +46,13 @@ none_fails (c ∷ cs) h = rw (h.0) (none_fails cs h.1)
 -- ---- the tests and what a row must be
 
 -- a precision that passes both tests fits
-precision_joined : (w : Bool) (p : Option Row) (q : Option ℤ) → is_whole p ≡ w
+precision_joined : (w : Bool) (p : Option Row) (q : Option ℤ) → is_geometry p ≡ w
     → (not w || is_some q) ≡ true → (w || is_none q) ≡ true → precision_fits p q ≡ true
 precision_joined true p q e a b = rw e a
 precision_joined false p q e a b = rw e b
 
 -- a precision that fits passes both tests
-missing_test : (w : Bool) (p : Option Row) (q : Option ℤ) → is_whole p ≡ w
+missing_test : (w : Bool) (p : Option Row) (q : Option ℤ) → is_geometry p ≡ w
     → precision_fits p q ≡ true → ((not w || is_some q) ≡ true) × ((w || is_none q) ≡ true)
 missing_test true p q e h = (rw e at h, refl)
 missing_test false p q e h = (refl, rw e at h)
@@ -79,12 +79,12 @@ pub record Passes (l : Allowance) (steps : Bool) (p f : Option Row) (nodes point
   pub id : id_allowed p r.kind r.id ≡ true
   pub same : has_same_ids f r.id ≡ true
   pub range : precision_in_range r.precision ≡ true
-  pub missing : (not (is_whole p) || is_some r.precision) ≡ true
-  pub extra : (is_whole p || is_none r.precision) ≡ true
+  pub missing : (not (is_geometry p) || is_some r.precision) ≡ true
+  pub extra : (is_geometry p || is_none r.precision) ≡ true
   pub allowed : (has_points r.kind || has_none r.points) ≡ true
   pub in_range : are_in_range r.points ≡ true
   pub points_left : nat_le (points + length r.points) l.points ≡ true
-  pub number : points_fit r.kind (is_whole p) r.points ≡ true
+  pub number : points_fit r.kind (is_geometry p) r.points ≡ true
 
 -- each test holds if none fails, by name
 pub passes : (l : Allowance) (steps : Bool) (p f : Option Row) (nodes points : ℕ) (r : Row)
@@ -152,7 +152,7 @@ joined l steps p f nodes points r h =
       id = h.id;
       same = h.same;
       range = h.range;
-      precision = precision_joined (is_whole p) p r.precision refl h.missing h.extra;
+      precision = precision_joined (is_geometry p) p r.precision refl h.missing h.extra;
       points = h.number;
     }))
 
@@ -163,7 +163,7 @@ pub apart : (l : Allowance) (steps : Bool) (p f : Option Row) (nodes points : �
 apart l steps p f nodes points r e nest few in_range room =
     let two = both_true steps (fits p f r) e in
     let h = facts p f r two.1 in
-    let precision = missing_test (is_whole p) p r.precision refl h.precision in
+    let precision = missing_test (is_geometry p) p r.precision refl h.precision in
     record {
       place = both steps (has_place p r.kind) two.0 h.place;
       nest = nest;
@@ -174,7 +174,7 @@ apart l steps p f nodes points r e nest few in_range room =
       range = h.range;
       missing = precision.0;
       extra = precision.1;
-      allowed = points_test r.kind (is_whole p) r.points h.points;
+      allowed = points_test r.kind (is_geometry p) r.points h.points;
       in_range = are_in_range-true r.points in_range;
       points_left = test_within (points + length r.points) l.points room;
       number = h.points;

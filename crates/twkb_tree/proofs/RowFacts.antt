@@ -8,7 +8,7 @@ use Rattle.twkb_tree.specs.Rows.{Row, own_points}
 use Rattle.twkb_tree.specs.Tree.{point}
 use Rattle.twkb_tree.specs.Admits.{fits, has_same_ids, is_collection, may_have, has_place}
 use Rattle.twkb_tree.specs.Admits.{id_in_range, id_allowed, precision_in_range, precision_fits}
-use Rattle.twkb_tree.specs.Admits.{points_fit, is_whole, has_points}
+use Rattle.twkb_tree.specs.Admits.{points_fit, is_geometry, has_points}
 use Rattle.twkb_tree.proofs.RowTests.{both_true}
 use Rattle.twkb_tree.proofs.RowForest.{Nodes, none, node, Fit, number_in, point_in}
 
@@ -20,7 +20,7 @@ pub record Facts (p f : Option Row) (r : Row) : Type 0 where
   pub same : has_same_ids f r.id ≡ true
   pub range : precision_in_range r.precision ≡ true
   pub precision : precision_fits p r.precision ≡ true
-  pub points : points_fit r.kind (is_whole p) r.points ≡ true
+  pub points : points_fit r.kind (is_geometry p) r.points ≡ true
 
 -- a conjunction of seven tests gives each of them
 all_true : (a b c d e f g : Bool) → (a && b && c && d && e && f && g) ≡ true → (a ≡ true)
@@ -39,7 +39,7 @@ pub facts : (p f : Option Row) (r : Row) → fits p f r ≡ true → Facts p f r
 facts p f r h =
     let t = all_true (has_place p r.kind) (id_in_range r.id) (id_allowed p r.kind r.id)
     (has_same_ids f r.id) (precision_in_range r.precision) (precision_fits p r.precision)
-    (points_fit r.kind (is_whole p) r.points) h in
+    (points_fit r.kind (is_geometry p) r.points) h in
     record { place = t.0; id_range = t.1; id = t.2; same = t.3; range = t.4; precision = t.5; points = t.6 }
 
 -- a row that has all facts fits
@@ -109,7 +109,7 @@ part_kind p r f k l h e only = only r.kind (ap (λ m. may_have m r.kind) (sym e)
 pub part_precision : (p r : Row) (f : Option Row) (k : Kind) → Facts (Some p) f r → p.kind ≡ k
     → is_collection k ≡ false → r.precision ≡ None
 part_precision p r f k h e lacks =
-    let w : is_whole (Some p) ≡ false = ap is_collection e ∙ lacks in
+    let w : is_geometry (Some p) ≡ false = ap is_collection e ∙ lacks in
     is_none-none r.precision (rw w at h.precision)
 
 -- a row has no rows below it if its kind may have no child

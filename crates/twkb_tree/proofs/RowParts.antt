@@ -5,7 +5,7 @@ use Rattle.std.specs.Prelude.{ℤ, is_some}
 use Rattle.std.proofs.lemmas.Bool.{cases_Bool}
 use Rattle.twkb_tree.specs.declared.kind.Kind.TheVariants as kind
 use Rattle.twkb_tree.specs.Rows.{Row, plain_row, first_id, other_ids}
-use Rattle.twkb_tree.specs.Admits.{is_collection, is_whole, points_fit}
+use Rattle.twkb_tree.specs.Admits.{is_collection, is_geometry, points_fit}
 use Rattle.twkb_tree.proofs.RowForest.{Nodes, none, node, next_first, Fit, each_nodes, ring_nodes}
 use Rattle.twkb_tree.proofs.RowForest.{ids_when, first_has_id, lines_of, points_of, areas_of}
 use Rattle.twkb_tree.proofs.RowFacts.{Facts, facts, row_is, is_none-none, is_some-none}
@@ -108,7 +108,7 @@ areas_back d p f (node r c l) b e fit m =
     each_step (λ id rings. plain_row d kind.Polygon id []) (ring_nodes (suc d)) b r c l (lines_of c)
     (areas_of l) (mode_here (Some p) f r c l h ∙ m)
     (ap (λ ps. plain_row d kind.Polygon r.id ps) (sym
-    (no_points_of kind.Polygon r.kind (is_whole (Some p)) r.points k refl h.points)) ∙ sym is)
+    (no_points_of kind.Polygon r.kind (is_geometry (Some p)) r.points k refl h.points)) ∙ sym is)
     (rings_back (suc d) r None c k fit.2)
     (areas_back d p (next_first (Some p) f r) l b e fit.3 (deeper_mode p f r c l b m))
 
@@ -121,7 +121,7 @@ points_back d p f (node r c l) b e fit m =
     let h = facts (Some p) f r fit.1 in
     let k = part_kind p r f kind.MultiPoint kind.Point h e under_multi_point in
     let is = row_is r d kind.Point None fit.0 k (part_precision p r f kind.MultiPoint h e refl) in
-    let w : is_whole (Some p) ≡ false = ap is_collection e in
+    let w : is_geometry (Some p) ≡ false = ap is_collection e in
     let one = one_point r.points (ap (λ j. points_fit j false r.points) (sym k)
     ∙ ap (λ j. points_fit r.kind j r.points) (sym w) ∙ h.points) in
     ap (λ ps. each_nodes (λ id q. plain_row d kind.Point id (q ∷ [])) (λ q. none)

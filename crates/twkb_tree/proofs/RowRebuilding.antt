@@ -10,7 +10,7 @@ use Rattle.twkb_tree.specs.Tree.{Tree, Simple, Ids, simple, collection, ◌▷�
 use Rattle.twkb_tree.specs.Tree.{AreIds, IsPrecision, HasIds, IdsFit, count}
 use Rattle.twkb_tree.specs.Rows.{Row, plain_row, own_row, first_id, other_ids, kind_in, own_points}
 use Rattle.twkb_tree.specs.Admits.{is_collection, is_ring, may_have, id_in_range}
-use Rattle.twkb_tree.specs.Admits.{precision_in_range, points_fit, is_whole}
+use Rattle.twkb_tree.specs.Admits.{precision_in_range, points_fit, is_geometry}
 use Rattle.twkb_tree.proofs.RowForest.{Nodes, none, node, next_first, Fit, each_nodes, simple_below}
 use Rattle.twkb_tree.proofs.RowForest.{tree_below, member_nodes, number_in, all_ids, ids_when}
 use Rattle.twkb_tree.proofs.RowForest.{ids_of, first_has_id, lines_of, points_of, areas_of}
@@ -86,7 +86,7 @@ precision_known None h in_range = cc h
 precision_known (Some q) h in_range = (refl, precision_is q in_range)
 
 -- a row that is a geometry itself has a precision in range
-whole_precision : (p f : Option Row) (r : Row) → is_whole p ≡ true → Facts p f r
+whole_precision : (p f : Option Row) (r : Row) → is_geometry p ≡ true → Facts p f r
     → (r.precision ≡ Some (number_in r.precision)) × IsPrecision (number_in r.precision)
 whole_precision p f r w h = precision_known r.precision (rw w at h.precision) h.range
 
@@ -110,7 +110,7 @@ under_collection : (j k : Kind) → is_collection j ≡ true → may_have j k �
 under_collection j k w h = in_collection k (ap (λ i. may_have i k) (sym (collection_kind j w)) ∙ h)
 
 -- a row that is a geometry itself is not a ring
-no_ring : (p f : Option Row) (r : Row) → is_whole p ≡ true → Facts p f r → is_ring r.kind ≡ false
+no_ring : (p f : Option Row) (r : Row) → is_geometry p ≡ true → Facts p f r → is_ring r.kind ≡ false
 no_ring None f r w h = not_ring r.kind h.place
 no_ring (Some p) f r w h = under_collection p.kind r.kind w h.place
 
@@ -183,7 +183,7 @@ record Rebuilt (d : ℕ) (r : Row) (c : Nodes) (g : Tree) : Type 0 where
   pub below : tree_below (suc d) g ≡ c
 
 -- they make a simple shape
-rebuilt_simple : (d : ℕ) (p f : Option Row) (r : Row) (c : Nodes) → is_whole p ≡ true → r.depth ≡ d
+rebuilt_simple : (d : ℕ) (p f : Option Row) (r : Row) (c : Nodes) → is_geometry p ≡ true → r.depth ≡ d
     → Facts p f r → is_collection r.kind ≡ false → Fit (suc d) (Some r) None c
     → Rebuilt d r c (simple (number_in r.precision) (simple_from r.kind r.points c))
 rebuilt_simple d p f r c w e h coll fit =
@@ -212,7 +212,7 @@ rebuilt_simple d p f r c w e h coll fit =
     }
 
 -- they make a collection
-rebuilt_collection : (d : ℕ) (p f : Option Row) (r : Row) (c : Nodes) → is_whole p ≡ true
+rebuilt_collection : (d : ℕ) (p f : Option Row) (r : Row) (c : Nodes) → is_geometry p ≡ true
     → r.depth ≡ d → Facts p f r → is_collection r.kind ≡ true → Fit (suc d) (Some r) None c
     → AreTrees (trees_from c) → member_nodes (suc d) (ids_of c) (trees_from c) ≡ c
     → Rebuilt d r c (collection (number_in r.precision) (ids_of c) (trees_from c))
@@ -228,7 +228,7 @@ rebuilt_collection d p f r c w e h coll fit trees below =
         precision = Some (number_in r.precision);
         points = ps;
       })
-          (sym (no_points_of kind.Collection r.kind (is_whole p) r.points k refl h.points))
+          (sym (no_points_of kind.Collection r.kind (is_geometry p) r.points k refl h.points))
           ∙ sym (row_is r d kind.Collection (Some (number_in r.precision)) e k q.0);
       below = below;
     }
@@ -251,7 +251,7 @@ members_step d b r c l g h one rest = (
 )
 
 -- a forest that fits is that of the geometries that it gives
-pub rebuilt : (d : ℕ) (p f : Option Row) (n : Nodes) (b : Bool) → is_whole p ≡ true → Fit d p f n
+pub rebuilt : (d : ℕ) (p f : Option Row) (n : Nodes) (b : Bool) → is_geometry p ≡ true → Fit d p f n
     → mode p f n ≡ b → Members d b n
 rebuilt d p f none b w fit m = record { trees = tt; nodes = refl }
 rebuilt d p f (node r c l) b w fit m =

@@ -78,9 +78,9 @@ is_collection _ = false
 -- ---- what a row must be under its parent
 
 -- a row under this parent is a geometry itself: a root, or a member of a collection
-abbrev pub is_whole : Option Row → Bool
-is_whole None = true
-is_whole (Some p) = is_collection p.kind
+abbrev pub is_geometry : Option Row → Bool
+is_geometry None = true
+is_geometry (Some p) = is_collection p.kind
 
 -- a root is not a ring, and another row has a kind that its parent may have
 abbrev pub has_place : Option Row → Kind → Bool
@@ -120,7 +120,7 @@ precision_in_range (Some n) = is_precision n
 
 -- a geometry itself has a precision, and no other row has one
 abbrev pub precision_fits : Option Row → Option ℤ → Bool
-precision_fits p precision = if is_whole p then is_some precision else is_none precision
+precision_fits p precision = if is_geometry p then is_some precision else is_none precision
 
 -- a row has a number of points that its kind allows; a point that is part of a geometry has one
 abbrev pub points_fit : Kind → Bool → List Point → Bool
@@ -135,7 +135,7 @@ points_fit k whole (p ∷ ps) = false
 abbrev pub fits : Option Row → Option Row → Row → Bool
 fits p f r =
     has_place p r.kind && id_in_range r.id && id_allowed p r.kind r.id && has_same_ids f r.id
-    && precision_in_range r.precision && precision_fits p r.precision && points_fit r.kind (is_whole p) r.points
+    && precision_in_range r.precision && precision_fits p r.precision && points_fit r.kind (is_geometry p) r.points
 
 -- ---- the row may come next
 

@@ -15,7 +15,7 @@ pub mod Rows
 pub mod Shape
 pub mod Size
 pub mod SizeFalls
-pub mod Standing
+pub mod RowPlace
 pub mod Tree
 pub mod TreeCode
 pub mod Uniform

@@ -8,7 +8,7 @@ use Rattle.twkb_points.specs.Point.{Point}
 use Rattle.twkb_tree.specs.Limits.{Allowance}
 use Rattle.twkb_tree.specs.Rows.{Row}
 use Rattle.twkb_tree.specs.Admits.{parent, first_child, steps_to, has_place, id_in_range}
-use Rattle.twkb_tree.specs.Admits.{id_allowed, has_same_ids, precision_in_range, is_whole}
+use Rattle.twkb_tree.specs.Admits.{id_allowed, has_same_ids, precision_in_range, is_geometry}
 use Rattle.twkb_tree.specs.Admits.{has_points, points_fit}
 use Rattle.twkb_tree.specs.Accepted.{nest_kept, geometry_rows, point_count}
 
@@ -52,8 +52,8 @@ id_checks p f r = check (id_in_range r.id) BadId ∷ check (id_allowed p r.kind 
 abbrev pub precision_checks : Option Row → Row → List Check
 precision_checks p r =
     check (precision_in_range r.precision) BadPrecision
-    ∷ check (not (is_whole p) || is_some r.precision) PrecisionMissing
-    ∷ check (is_whole p || is_none r.precision) PrecisionNotAllowed
+    ∷ check (not (is_geometry p) || is_some r.precision) PrecisionMissing
+    ∷ check (is_geometry p || is_none r.precision) PrecisionNotAllowed
     ∷ []
 
 -- the tests of a row's points under this parent, in a geometry that has `points` points so far
@@ -62,7 +62,7 @@ point_checks l p points r =
     check (has_points r.kind || has_none r.points) PointsNotAllowed
     ∷ check (are_in_range r.points) CoordinateRange
     ∷ check (nat_le (points + length r.points) l.points) TooManyPoints
-    ∷ check (points_fit r.kind (is_whole p) r.points) PointCount
+    ∷ check (points_fit r.kind (is_geometry p) r.points) PointCount
     ∷ []
 
 -- all tests of a row in order, from its parent and first child, whether it is not too deep, and

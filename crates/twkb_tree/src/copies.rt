@@ -3,7 +3,7 @@ ghost use Rattle.std.specs.Prelude.{◌≡◌, IfOk};
 ghost use Rattle.twkb_tree.specs.declared.geometry.Shape.{Shape};
 
 use crate::geometry::{Geometry, Members, Shape};
-use crate::lists::{Areas, Ids, Item, Lines, Pts};
+use crate::lists::{Areas, Element, Ids, Lines, Pts};
 use std::alloc::{AllocError, Global};
 
 impl Members {

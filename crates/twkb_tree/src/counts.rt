@@ -5,7 +5,7 @@ ghost use Rattle.twkb_tree.specs.Rows.{rows};
 
 use crate::geometry::{Geometry, Members, Shape};
 use crate::lists::Areas;
-use crate::placed::Placed;
+use crate::with_points::WithPoints;
 
 // The number of rows of polygons: one for each polygon and one for each ring.
 fn rows_of(areas: &Areas) -> u64

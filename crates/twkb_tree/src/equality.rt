@@ -3,7 +3,7 @@ ghost use Rattle.std.specs.Prelude.{◌≡◌, ◌↔◌, IsTrue};
 ghost use Rattle.twkb_tree.specs.Equal.{tree_eq, tree_eq_partial, tree_eq_equiv};
 
 use crate::geometry::{Geometry, Members, Shape};
-use crate::lists::{Ids, Item, Items};
+use crate::lists::{Element, Elements, Ids};
 use twkb_points::Pt;
 
 fn same_points(a: &Option<Pt>, b: &Option<Pt>) -> bool
@@ -26,7 +26,7 @@ fn same_ids(a: &Ids, b: &Ids) -> bool
     }
 }
 
-fn same_with<T: Item>(a: &Items<T>, b: &Items<T>, ids: &Ids, others: &Ids) -> bool
+fn same_with<T: Element>(a: &Elements<T>, b: &Elements<T>, ids: &Ids, others: &Ids) -> bool
     ensures { IsTrue result ↔ ((a.now ≡ b.now) × (ids.now ≡ others.now)) }
 {
     a.same(b) && same_ids(ids, others)

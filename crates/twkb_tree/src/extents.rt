@@ -4,7 +4,7 @@ ghost use Rattle.twkb_points.specs.Extent.{extent};
 ghost use Rattle.twkb_tree.specs.Tree.{trees, flat, flat_all};
 
 use crate::geometry::{Geometry, Members, Shape};
-use crate::placed::Placed;
+use crate::with_points::WithPoints;
 use twkb_points::{Bounds, merged};
 
 impl Members {

@@ -1,4 +1,4 @@
-//! Lists of points, lines, polygons and ids. A contract sees each as the list of its items.
+//! Lists of points, lines, polygons and ids. A contract sees each as the list of its elements.
 ghost use Rattle.std.specs.Prelude.{◌≡◌, ◌↔◌, IsTrue, IfOk};
 ghost use Rattle.std.specs.List.{AllByRecursion};
 ghost use Rattle.twkb_points.specs.Point.{IsInRange};
@@ -8,29 +8,29 @@ use std::alloc::{AllocError, Global};
 use std::marker::Model;
 use twkb_points::Pt;
 
-/// The argument of `look`. It is not exported, so no other crate can add types of items.
+/// The argument of `look`. It is not exported, so no other crate can add types of elements.
 #[derive(Clone, Copy)]
 pub struct Look;
 
 /// What a list may hold: a point, an id, or another list, and nothing else.
-pub trait Item: Drop {
-    // The fact that is known of each item.
+pub trait Element: Drop {
+    // The fact that is known of each element.
     ghost Fits: { Self → Type 0 };
 
-    /// Lets a proof know that the item fits. Does nothing at run time.
+    /// Lets a proof know that the element fits. Does nothing at run time.
     fn look(&self, look: Look)
         ensures { Fits self.now };
 
-    /// Whether the two items are equal.
+    /// Whether the two elements are equal.
     fn same(&self, other: &Self) -> bool
         ensures { IsTrue result ↔ (self.now ≡ other.now) };
 
-    /// Makes an item equal to this one. A list takes memory for its items.
+    /// Makes an element equal to this one. A list takes memory for its elements.
     fn copy(&self, alloc: Global) -> Result<Self, AllocError>
         ensures { IfOk result (λ copy. copy ≡ self.now) };
 }
 
-impl Item for Pt {
+impl Element for Pt {
     ghost Fits = { IsInRange };
 
     fn look(&self, _look: Look) {
@@ -47,7 +47,7 @@ impl Item for Pt {
     }
 }
 
-impl Item for i64 {
+impl Element for i64 {
     ghost Fits = { IsId };
 
     fn look(&self, _look: Look) {
@@ -64,13 +64,13 @@ impl Item for i64 {
     }
 }
 
-/// Items in their order, possibly none.
+/// Elements in their order, possibly none.
 #[derive(Debug, Drop)]
-pub struct Items<T: Item> {
+pub struct Elements<T: Element> {
     items: Vec<T>,
 }
 
-impl<T: Item> Model for Items<T> {
+impl<T: Element> Model for Elements<T> {
     ghost use Rattle.std.specs.Prelude.{List};
     ghost use Rattle.std.specs.List.{AllByRecursion};
 
@@ -81,26 +81,26 @@ impl<T: Item> Model for Items<T> {
     ghost invariant = { λ a. AllByRecursion T.Fits a.items.items };
 }
 
-impl<T: Item> Items<T> {
-    /// Makes the list of these items. Takes no memory.
-    pub fn from_vec(items: Vec<T>) -> Items<T>
+impl<T: Element> Elements<T> {
+    /// Makes the list of these elements. Takes no memory.
+    pub fn from_vec(items: Vec<T>) -> Elements<T>
         ensures { result ≡ items.items }
     {
         for item in &items {
-            // lets proofs know that the item fits
+            // lets proofs know that the element fits
             let _learnt = item.look(Look);
         }
-        Items { items }
+        Elements { items }
     }
 
-    /// The items as a vector. Takes no memory.
+    /// The elements as a vector. Takes no memory.
     pub fn into_vec(self) -> Vec<T>
         ensures { result.items ≡ self }
     {
         self.items
     }
 
-    /// The items as a slice, each of which fits. Takes no memory.
+    /// The elements as a slice, each of which fits. Takes no memory.
     pub fn as_slice(&self) -> &[T]
         ensures items { result.now ≡ self.now }
         ensures fit { AllByRecursion T.Fits self.now }
@@ -109,15 +109,15 @@ impl<T: Item> Items<T> {
     }
 }
 
-impl<T: Item> Item for Items<T> {
+impl<T: Element> Element for Elements<T> {
     ghost Fits = { AllByRecursion T.Fits };
 
     fn look(&self, _look: Look) {
-        // lets proofs know that each of its items fits
+        // lets proofs know that each of its elements fits
         let _learnt = self.as_slice();
     }
 
-    fn same(&self, other: &Items<T>) -> bool {
+    fn same(&self, other: &Elements<T>) -> bool {
         let items = self.as_slice();
         let others = other.as_slice();
         if items.len() != others.len() {
@@ -131,27 +131,27 @@ impl<T: Item> Item for Items<T> {
         true
     }
 
-    fn copy(&self, alloc: Global) -> Result<Items<T>, AllocError> {
+    fn copy(&self, alloc: Global) -> Result<Elements<T>, AllocError> {
         let own = self.as_slice();
         let mut items = Vec::with_capacity(alloc, own.len())?;
         for item in own {
             items.push_reserved(item.copy(alloc)?);
         }
-        Ok(Items { items })
+        Ok(Elements { items })
     }
 }
 
 /// The points of a line or ring, or of a multipoint.
-pub type Pts = Items<Pt>;
+pub type Pts = Elements<Pt>;
 
 /// Lines, or the rings of a polygon.
-pub type Lines = Items<Pts>;
+pub type Lines = Elements<Pts>;
 
 /// Polygons, each a list of its rings.
-pub type Areas = Items<Lines>;
+pub type Areas = Elements<Lines>;
 
 /// The ids of members, in the order of the members.
-pub type IdList = Items<i64>;
+pub type IdList = Elements<i64>;
 
 /// The ids of members, if they have any.
 pub type Ids = Option<IdList>;

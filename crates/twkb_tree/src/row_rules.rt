@@ -1,7 +1,7 @@
 //! The rules for a row under its parent, by the parent's open row.
 ghost use Rattle.std.specs.Prelude.{◌≡◌, ℤ, List, length, Option, is_some};
 ghost use Rattle.twkb_points.specs.Point.{Point};
-ghost use Rattle.twkb_tree.specs.Admits.{may_have, has_place, is_whole, id_allowed, has_same_ids};
+ghost use Rattle.twkb_tree.specs.Admits.{may_have, has_place, is_geometry, id_allowed, has_same_ids};
 ghost use Rattle.twkb_tree.specs.Admits.{points_fit, has_points};
 ghost use Rattle.twkb_tree.specs.Accepted.{nest_kept};
 ghost use Rattle.twkb_tree.specs.Open.{row_of, child_of};
@@ -37,8 +37,8 @@ pub fn has_place(parent: Option<OpenRow>, kind: Kind) -> bool
 
 /// Whether a row under this parent is a geometry itself: a root, or a member of a collection.
 /// Takes no memory.
-pub fn is_whole(parent: Option<OpenRow>) -> bool
-    ensures value { result ≡ is_whole (row_of parent) }
+pub fn is_geometry(parent: Option<OpenRow>) -> bool
+    ensures value { result ≡ is_geometry (row_of parent) }
 {
     match parent {
         None => true,

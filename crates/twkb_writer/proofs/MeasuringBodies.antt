@@ -10,18 +10,18 @@ use Rattle.twkb_tree.specs.declared.kind.Kind.TheVariants as kind
 use Rattle.twkb_tree.specs.Tree.{Ids, Simple, point, line, polygon, multi_point, multi_line}
 use Rattle.twkb_tree.specs.Tree.{multi_polygon, points_in, IdsFit}
 use Rattle.twkb_tree.specs.Rows.{kind_in, own_points}
-use Rattle.twkb_grammar.specs.Items.{Place, OfCount, OfId, OfPoint, fields, outline, run_of}
-use Rattle.twkb_grammar.specs.Items.{rings_of, id_places, flags, members, parts}
+use Rattle.twkb_grammar.specs.Items.{Slot, OfCount, OfId, OfPoint, fields, slots, run_of}
+use Rattle.twkb_grammar.specs.Items.{rings_of, id_slots, flags, members, parts}
 use Rattle.twkb_grammar.specs.Written.{varints, is_empty}
-use Rattle.twkb_grammar.proofs.Places.{steps, places, fields_are, points_are}
+use Rattle.twkb_grammar.proofs.Slots.{steps, slot_points, fields_are, points_are}
 use Rattle.twkb_writer.specs.declared.levels.Level.{Level}
 use Rattle.twkb_writer.specs.Levels.{blank, lead_len, is_bare}
 use Rattle.twkb_writer.specs.Sizes.{parts_in, ids_in}
 use Rattle.twkb_writer.specs.Tails.{number_len, signed_len, way_len, from_origin, tail_of}
-use Rattle.twkb_writer.proofs.MeasuringParts.{rings_level, parts_level}
+use Rattle.twkb_writer.proofs.MeasuringParts.{rings_level, components_level}
 use Rattle.twkb_writer.proofs.MeasuringTotals.{ids_sum, ids_len, total, IsTotal, total_each}
 
--- ---- the bytes of places
+-- ---- the bytes of slots
 
 -- the length of a number
 pub length-number : (n : ℕ) → length (varint_of n) ≡ number_len n
@@ -29,15 +29,16 @@ unfolding number_len
 length-number n = refl
 
 -- the number of bytes of counts and ids
-abbrev pub places_len : List Place → ℕ
-places_len [] = 0
-places_len (OfCount c n ∷ ps) = number_len n + places_len ps
-places_len (OfId id ∷ ps) = signed_len id + places_len ps
-places_len (OfPoint p ∷ ps) = places_len ps
+abbrev pub slots_len : List Slot → ℕ
+slots_len [] = 0
+slots_len (OfCount c n ∷ ps) = number_len n + slots_len ps
+slots_len (OfId id ∷ ps) = signed_len id + slots_len ps
+slots_len (OfPoint p ∷ ps) = slots_len ps
 
--- the bytes of places are those of their counts and ids, and of the differences through their
+-- the bytes of slots are those of their counts and ids, and of the differences through their
 -- points
-pub length-steps : (p : Point) (ps : List Place) → length (varints (steps p ps)) ≡ places_len ps + way_len p (places ps)
+pub length-steps : (p : Point) (ps : List Slot)
+    → length (varints (steps p ps)) ≡ slots_len ps + way_len p (slot_points ps)
 length-steps p [] = refl
 length-steps p (OfCount c n ∷ ps) = omega
     (arith, length-append (varint_of n) (varints (steps p ps)), length-number n, length-steps p ps)
@@ -61,52 +62,52 @@ length-steps p (OfPoint q ∷ ps) =
     )
 
 -- the length of a simple geometry's body
-pub length-fields : (s : Simple) → length (varints (fields s)) ≡ places_len (outline s) + way_len origin (points_in s)
-length-fields s = ap (λ fs. length (varints fs)) (fields_are s) ∙ length-steps origin (outline s)
-    ∙ ap (λ ps. places_len (outline s) + way_len origin ps) (points_are s)
+pub length-fields : (s : Simple) → length (varints (fields s)) ≡ slots_len (slots s) + way_len origin (points_in s)
+length-fields s = ap (λ fs. length (varints fs)) (fields_are s) ∙ length-steps origin (slots s)
+    ∙ ap (λ ps. slots_len (slots s) + way_len origin ps) (points_are s)
 
 -- the bytes of the differences of a tail
 pub from_origin-tail_of : (ps : List Point) → from_origin (tail_of ps) ≡ way_len origin ps
 from_origin-tail_of [] = refl
 from_origin-tail_of (p ∷ ps) = refl
 
-places_len-append : (ps qs : List Place) → places_len (ps ++ qs) ≡ places_len ps + places_len qs
-places_len-append [] qs = omega arith
-places_len-append (OfCount c n ∷ ps) qs = omega (arith, places_len-append ps qs)
-places_len-append (OfId id ∷ ps) qs = omega (arith, places_len-append ps qs)
-places_len-append (OfPoint p ∷ ps) qs = places_len-append ps qs
+slots_len-append : (ps qs : List Slot) → slots_len (ps ++ qs) ≡ slots_len ps + slots_len qs
+slots_len-append [] qs = omega arith
+slots_len-append (OfCount c n ∷ ps) qs = omega (arith, slots_len-append ps qs)
+slots_len-append (OfId id ∷ ps) qs = omega (arith, slots_len-append ps qs)
+slots_len-append (OfPoint p ∷ ps) qs = slots_len-append ps qs
 
-places_len-points : (ps : List Point) → places_len (map OfPoint ps) ≡ 0
-places_len-points [] = refl
-places_len-points (p ∷ ps) = places_len-points ps
+slots_len-points : (ps : List Point) → slots_len (map OfPoint ps) ≡ 0
+slots_len-points [] = refl
+slots_len-points (p ∷ ps) = slots_len-points ps
 
-places_len-ids : (ids : List ℤ) → places_len (map OfId ids) ≡ ids_sum ids
-places_len-ids [] = refl
-places_len-ids (id ∷ ids) = ap (λ n. signed_len id + n) (places_len-ids ids)
+slots_len-ids : (ids : List ℤ) → slots_len (map OfId ids) ≡ ids_sum ids
+slots_len-ids [] = refl
+slots_len-ids (id ∷ ids) = ap (λ n. signed_len id + n) (slots_len-ids ids)
 
-places_len-id_places : (ids : Ids) → places_len (id_places ids) ≡ ids_len ids
-places_len-id_places None = refl
-places_len-id_places (Some ids) = places_len-ids ids
+slots_len-id_slots : (ids : Ids) → slots_len (id_slots ids) ≡ ids_len ids
+slots_len-id_slots None = refl
+slots_len-id_slots (Some ids) = slots_len-ids ids
 
-places_len-each : {A : Type 0} (f : A → List Place) (xs : List A)
-    → places_len (flat_map f xs) ≡ total (λ x. places_len (f x)) xs
-places_len-each f [] = refl
-places_len-each f (x ∷ xs) = places_len-append (f x) (flat_map f xs)
-    ∙ ap (λ n. places_len (f x) + n) (places_len-each f xs)
+slots_len-each : {A : Type 0} (f : A → List Slot) (xs : List A)
+    → slots_len (flat_map f xs) ≡ total (λ x. slots_len (f x)) xs
+slots_len-each f [] = refl
+slots_len-each f (x ∷ xs) = slots_len-append (f x) (flat_map f xs)
+    ∙ ap (λ n. slots_len (f x) + n) (slots_len-each f xs)
 
-places_len-run : (ps : List Point) → number_len (length ps) + 0 ≡ places_len (run_of ps)
-places_len-run ps = ap (λ n. number_len (length ps) + n) (sym (places_len-points ps))
+slots_len-run : (ps : List Point) → number_len (length ps) + 0 ≡ slots_len (run_of ps)
+slots_len-run ps = ap (λ n. number_len (length ps) + n) (sym (slots_len-points ps))
 
 -- ---- the totals of the parts of a shape
 
--- the number of bytes of the places of its parts
+-- the number of bytes of the slots of its parts
 abbrev pub parts_bytes : Simple → ℕ
 parts_bytes (point o) = 0
 parts_bytes (line ps) = 0
-parts_bytes (polygon rings) = total (λ ps. places_len (run_of ps)) rings
+parts_bytes (polygon rings) = total (λ ps. slots_len (run_of ps)) rings
 parts_bytes (multi_point ids ps) = total (λ (p : Point). 0) ps
-parts_bytes (multi_line ids lines) = total (λ ps. places_len (run_of ps)) lines
-parts_bytes (multi_polygon ids areas) = total (λ rings. places_len (rings_of rings)) areas
+parts_bytes (multi_line ids lines) = total (λ ps. slots_len (run_of ps)) lines
+parts_bytes (multi_polygon ids areas) = total (λ rings. slots_len (rings_of rings)) areas
 
 no_parts : IsTotal blank 0 None 0
 no_parts = record {
@@ -119,9 +120,9 @@ no_parts = record {
 }
 
 total_rings : (rings : List (List Point)) → IsTotal (rings_level rings) (length rings) None
-    (total (λ ps. places_len (run_of ps)) rings)
+    (total (λ ps. slots_len (run_of ps)) rings)
 total_rings rings = total_each kind.Ring (λ ps. length ps) (λ ps. blank)
-    (λ ps. places_len (run_of ps)) places_len-run None rings tt
+    (λ ps. slots_len (run_of ps)) slots_len-run None rings tt
 
 -- the totals of a count, ids and parts
 lead_total : (l : Level) (n : ℕ) (ids : Ids) (bytes : ℕ) → IsTotal l n ids bytes
@@ -129,57 +130,57 @@ lead_total : (l : Level) (n : ℕ) (ids : Ids) (bytes : ℕ) → IsTotal l n ids
 lead_total l n ids bytes t = λ i. number_len (t.members i) + t.ids_are i + t.bytes_are i
 
 lead_rings : (rings : List (List Point)) → number_len (rings_level rings).members
-    + (rings_level rings).ids + (rings_level rings).bytes ≡ places_len (rings_of rings)
+    + (rings_level rings).ids + (rings_level rings).bytes ≡ slots_len (rings_of rings)
 lead_rings rings = omega (
   arith,
   lead_total (rings_level rings) (length rings) None
-      (total (λ ps. places_len (run_of ps)) rings) (total_rings rings),
-  places_len-each run_of rings,
+      (total (λ ps. slots_len (run_of ps)) rings) (total_rings rings),
+  slots_len-each run_of rings,
 )
 
 -- the totals of the parts of a shape
-pub total_parts : (s : Simple) → IdsFit s → IsTotal (parts_level s) (parts_in s) (ids_in s) (parts_bytes s)
+pub total_parts : (s : Simple) → IdsFit s → IsTotal (components_level s) (parts_in s) (ids_in s) (parts_bytes s)
 total_parts (point o) h = no_parts
 total_parts (line ps) h = no_parts
 total_parts (polygon rings) h = total_rings rings
 total_parts (multi_point ids ps) h = total_each kind.Point (λ p. length (p ∷ [])) (λ p. blank)
     (λ p. 0) (λ p. refl) ids ps h
 total_parts (multi_line ids lines) h = total_each kind.Linestring (λ ps. length ps) (λ ps. blank)
-    (λ ps. places_len (run_of ps)) places_len-run ids lines h
+    (λ ps. slots_len (run_of ps)) slots_len-run ids lines h
 total_parts (multi_polygon ids areas) h = total_each kind.Polygon (λ rings. 0) rings_level
-    (λ rings. places_len (rings_of rings)) lead_rings ids areas h
+    (λ rings. slots_len (rings_of rings)) lead_rings ids areas h
 
 total_none : (ps : List Point) → total (λ (p : Point). 0) ps ≡ 0
 total_none [] = refl
 total_none (p ∷ ps) = omega (arith, total_none ps)
 
--- the bytes of a count, ids and the places after them
-places_behind : (n : ℕ) (ids : Ids) (ps : List Place) → number_len n + ids_len ids + places_len ps
-    ≡ number_len n + places_len (id_places ids ++ ps)
-places_behind n ids ps = omega (arith, places_len-append (id_places ids) ps, places_len-id_places ids)
+-- the bytes of a count, ids and the slots after them
+slots_behind : (n : ℕ) (ids : Ids) (ps : List Slot) → number_len n + ids_len ids + slots_len ps
+    ≡ number_len n + slots_len (id_slots ids ++ ps)
+slots_behind n ids ps = omega (arith, slots_len-append (id_slots ids) ps, slots_len-id_slots ids)
 
--- the bytes of the count and ids of a shape's row, and of its parts, are those of its places
+-- the bytes of the count and ids of a shape's row, and of its parts, are those of its slots
 pub lead_parts : (s : Simple) → IdsFit s → lead_len (kind_in s) (length (own_points s))
-    (parts_level s) + (parts_level s).bytes ≡ places_len (outline s)
+    (components_level s) + (components_level s).bytes ≡ slots_len (slots s)
 lead_parts (point None) h = refl
 lead_parts (point (Some p)) h = refl
-lead_parts (line ps) h = places_len-run ps
+lead_parts (line ps) h = slots_len-run ps
 lead_parts (polygon rings) h = lead_rings rings
 lead_parts (multi_point ids ps) h =
-    lead_total (parts_level (multi_point ids ps)) (length ps) ids (total (λ (p : Point). 0) ps)
+    lead_total (components_level (multi_point ids ps)) (length ps) ids (total (λ (p : Point). 0) ps)
     (total_parts (multi_point ids ps) h)
-    ∙ ap (λ n. number_len (length ps) + ids_len ids + n) (total_none ps ∙ sym (places_len-points ps))
-    ∙ places_behind (length ps) ids (map OfPoint ps)
+    ∙ ap (λ n. number_len (length ps) + ids_len ids + n) (total_none ps ∙ sym (slots_len-points ps))
+    ∙ slots_behind (length ps) ids (map OfPoint ps)
 lead_parts (multi_line ids lines) h =
-    lead_total (parts_level (multi_line ids lines)) (length lines) ids
+    lead_total (components_level (multi_line ids lines)) (length lines) ids
     (parts_bytes (multi_line ids lines)) (total_parts (multi_line ids lines) h)
-    ∙ ap (λ n. number_len (length lines) + ids_len ids + n) (sym (places_len-each run_of lines))
-    ∙ places_behind (length lines) ids (flat_map run_of lines)
+    ∙ ap (λ n. number_len (length lines) + ids_len ids + n) (sym (slots_len-each run_of lines))
+    ∙ slots_behind (length lines) ids (flat_map run_of lines)
 lead_parts (multi_polygon ids areas) h =
-    lead_total (parts_level (multi_polygon ids areas)) (length areas) ids
+    lead_total (components_level (multi_polygon ids areas)) (length areas) ids
     (parts_bytes (multi_polygon ids areas)) (total_parts (multi_polygon ids areas) h)
-    ∙ ap (λ n. number_len (length areas) + ids_len ids + n) (sym (places_len-each rings_of areas))
-    ∙ places_behind (length areas) ids (flat_map rings_of areas)
+    ∙ ap (λ n. number_len (length areas) + ids_len ids + n) (sym (slots_len-each rings_of areas))
+    ∙ slots_behind (length areas) ids (flat_map rings_of areas)
 
 -- ---- whether there is a body
 
@@ -200,16 +201,16 @@ and_true true = refl
 and_true false = refl
 
 -- the row is bare exactly if its shape has no body
-pub bare_shape : (s : Simple) → IdsFit s → is_bare (length (own_points s)) (parts_level s) ≡ is_empty (flags s)
+pub bare_shape : (s : Simple) → IdsFit s → is_bare (length (own_points s)) (components_level s) ≡ is_empty (flags s)
 bare_shape (point None) h = refl
 bare_shape (point (Some p)) h = refl
 bare_shape (line ps) h = and_true (nat_eq (length ps) 0) ∙ bare_parts ps (length ps) refl
-bare_shape (polygon rings) h = bare_parts rings (parts_level (polygon rings)).members
+bare_shape (polygon rings) h = bare_parts rings (components_level (polygon rings)).members
     (total_parts (polygon rings) h).members
-bare_shape (multi_point ids ps) h = bare_members ids ps (parts_level (multi_point ids ps)).members
+bare_shape (multi_point ids ps) h = bare_members ids ps (components_level (multi_point ids ps)).members
     (total_parts (multi_point ids ps) h).members
 bare_shape (multi_line ids lines) h = bare_members ids lines
-    (parts_level (multi_line ids lines)).members (total_parts (multi_line ids lines) h).members
+    (components_level (multi_line ids lines)).members (total_parts (multi_line ids lines) h).members
 bare_shape (multi_polygon ids areas) h = bare_members ids areas
-    (parts_level (multi_polygon ids areas)).members
+    (components_level (multi_polygon ids areas)).members
     (total_parts (multi_polygon ids areas) h).members

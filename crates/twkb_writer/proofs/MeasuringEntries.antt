@@ -16,7 +16,7 @@ use Rattle.twkb_grammar.specs.Items.{header_byte}
 use Rattle.twkb_grammar.specs.declared.style.Style.{Style}
 use Rattle.twkb_grammar.specs.declared.style.Style.TheVariants.{Full, Plain}
 use Rattle.twkb_writer.specs.declared.levels.Level.{Level}
-use Rattle.twkb_writer.specs.declared.tails.Tail.{Tail}
+use Rattle.twkb_writer.specs.declared.tails.TailTotals.{TailTotals}
 use Rattle.twkb_writer.specs.Bytes.{signed, box_bytes}
 use Rattle.twkb_writer.specs.Levels.{lead_len, is_bare, body_len, all_bounds, is_point, box_for}
 use Rattle.twkb_writer.specs.Levels.{box_len, entry_for, blob_len}
@@ -82,7 +82,7 @@ blob_length Plain g =
 
 -- the row of a geometry: its kind, the number of its points, and the totals of the rows below it
 -- and of the points up to its end
-pub record IsMeasured (style : Style) (g : Tree) (k : Kind) (own : ℕ) (below : Level) (t : Tail) : Type 0 where
+pub record IsMeasured (style : Style) (g : Tree) (k : Kind) (own : ℕ) (below : Level) (t : TailTotals) : Type 0 where
   pub point : is_point k ≡ is_point_tree g
   pub members : below.members ≡ part_count g
   pub named : below.named ≡ is_some (ids_of g)
@@ -91,7 +91,7 @@ pub record IsMeasured (style : Style) (g : Tree) (k : Kind) (own : ℕ) (below :
   pub bare : is_bare own below ≡ is_empty (flags_of_tree g)
   pub body : lead_len k own below + below.bytes + from_origin t ≡ length (body_of style g)
 
-box_is : (style : Style) (g : Tree) (k : Kind) (own : ℕ) (below : Level) (t : Tail)
+box_is : (style : Style) (g : Tree) (k : Kind) (own : ℕ) (below : Level) (t : TailTotals)
     → IsMeasured style g k own below t → box_for style k (precision_of g) below t
     ≡ bounds_of style g
 box_is Full g k own below t m =
@@ -104,7 +104,7 @@ size_is : (b : Option Extent) (e : Bool) (n : ℕ) (bytes : List ℕ) → n ≡ 
 size_is b true n bytes h = omega (arith, length-append (box_bytes b) [], length-box b)
 size_is b false n bytes h = omega (arith, length-append (box_bytes b) bytes, length-box b)
 
-content_is : (style : Style) (g : Tree) (k : Kind) (own : ℕ) (below : Level) (t : Tail)
+content_is : (style : Style) (g : Tree) (k : Kind) (own : ℕ) (below : Level) (t : TailTotals)
     → IsMeasured style g k own below t
     → box_len (box_for style k (precision_of g) below t) + body_len k own below t ≡ length (content_of style g)
 content_is style g k own below t m =
@@ -114,7 +114,7 @@ content_is style g k own below t m =
     (lead_len k own below + below.bytes + from_origin t) (body_of style g) m.body
 
 -- the entry of such a row is the geometry's
-pub entry_is : (style : Style) (g : Tree) (k : Kind) (own : ℕ) (below : Level) (t : Tail)
+pub entry_is : (style : Style) (g : Tree) (k : Kind) (own : ℕ) (below : Level) (t : TailTotals)
     → IsMeasured style g k own below t
     → entry_for style k (precision_of g) own below t ≡ entry_of style g
 entry_is style g k own below t m = λ i. record {

@@ -15,7 +15,7 @@ use Rattle.twkb_flat.specs.Rows.{IsNode, row_with}
 use Rattle.twkb_grammar.specs.declared.style.Style.{Style}
 use Rattle.twkb_writer.specs.declared.levels.Level.{Level}
 use Rattle.twkb_writer.specs.declared.sizes.Entry.{Entry}
-use Rattle.twkb_writer.specs.declared.tails.Tail.{Tail}
+use Rattle.twkb_writer.specs.declared.tails.TailTotals.{TailTotals}
 use Rattle.twkb_writer.specs.Levels.{blank, entry_for}
 use Rattle.twkb_writer.specs.Measuring.{measured, row_entry, points_at, option_list}
 use Rattle.twkb_writer.specs.Reads.{ReadsExactly}
@@ -49,7 +49,8 @@ none_behind rs node is one = rest_is rs 0 node is ∙ drop_all 1 rs (omega (arit
 -- ---- its points
 
 -- the points up to the end are the node's own
-pub all_points : (rs : List Row) (node : Node) (is : IsNode rs 0 node) (points before : Tail) → before ≡ tail_of []
+pub all_points : (rs : List Row) (node : Node) (is : IsNode rs 0 node) (points before : TailTotals)
+    → before ≡ tail_of []
     → ((ahead : List Point) → before ≡ tail_of ahead
     → points ≡ tail_of (points_at (drop 0 rs) ++ ahead)) → points ≡ tail_of is.own
 all_points rs node is points before none found = found [] none
@@ -96,7 +97,7 @@ measured_one style rs node is one =
 
 -- the entry of the only node is all sizes
 pub sizes_of_one : (style : Style) (rs : List Row) (node : Node) (p : ℤ) (below : Level)
-    (points : Tail) (e : Entry) → AreValidRowsOfOne largest_limits rs → length rs ≡ 1
+    (points : TailTotals) (e : Entry) → AreValidRowsOfOne largest_limits rs → length rs ≡ 1
     → (is : IsNode rs 0 node) → node.row.precision ≡ Some p → below ≡ blank
     → points ≡ tail_of is.own → e ≡ entry_for style node.row.kind p node.points below points
     → AreSizes style rs (e ∷ [])
@@ -104,7 +105,7 @@ sizes_of_one style rs node p below points e valid one is whole no_rows points_ar
     let entry : e ≡ entry_for style node.row.kind p node.points blank (tail_of is.own) =
     entry_is
     ∙ ap (λ (l : Level). entry_for style node.row.kind p node.points l points) no_rows
-    ∙ ap (λ (t : Tail). entry_for style node.row.kind p node.points blank t) points_are in
+    ∙ ap (λ (t : TailTotals). entry_for style node.row.kind p node.points blank t) points_are in
     sizes_are style rs (e ∷ []) valid
     (ap (λ (x : Entry). x ∷ []) entry
     ∙ ap (λ (q : Option ℤ). option_list (row_entry style node.row.kind node.points q blank

@@ -29,7 +29,7 @@ above_less d (r ∷ rs) h = omega arith
 
 -- what is true of the rows of one part at depth d: their totals are given by w, they have the
 -- points g, and none of them is a geometry
-pub record IsPart {A : Type 0} (style : Style) (d : ℕ) (f : Option ℤ → A → List Row)
+pub record IsComponent {A : Type 0} (style : Style) (d : ℕ) (f : Option ℤ → A → List Row)
     (w : Option ℤ → A → Level → Level) (g : A → List Point) : Type 0 where
   pub begins : (id : Option ℤ) (x : A) (more : List Row) → IsAbove (suc d) (f id x ++ more)
   pub counts : (id : Option ℤ) (x : A) (more : List Row) → IsAbove (suc d) more
@@ -39,7 +39,7 @@ pub record IsPart {A : Type 0} (style : Style) (d : ℕ) (f : Option ℤ → A �
 
 -- the first row of parts is no deeper than d
 above_each : {A : Type 0} (style : Style) (d : ℕ) (f : Option ℤ → A → List Row)
-    (w : Option ℤ → A → Level → Level) (g : A → List Point) → IsPart style d f w g
+    (w : Option ℤ → A → Level → Level) (g : A → List Point) → IsComponent style d f w g
     → (ids : Ids) (xs : List A) (rest : List Row) → IsAbove (suc d) rest
     → IsAbove (suc d) (rows_of_each f ids xs ++ rest)
 above_each style d f w g part ids [] rest h = h
@@ -50,7 +50,7 @@ above_each style d f w g part ids (x ∷ xs) rest h =
 
 -- the totals of parts
 pub level_each : {A : Type 0} (style : Style) (d : ℕ) (f : Option ℤ → A → List Row)
-    (w : Option ℤ → A → Level → Level) (g : A → List Point) → IsPart style d f w g
+    (w : Option ℤ → A → Level → Level) (g : A → List Point) → IsComponent style d f w g
     → (ids : Ids) (xs : List A) (rest : List Row) → IsAbove (suc d) rest
     → level style d (rows_of_each f ids xs ++ rest) ≡ with_each w ids xs (level style d rest)
 level_each style d f w g part ids [] rest h = refl
@@ -62,7 +62,7 @@ level_each style d f w g part ids (x ∷ xs) rest h =
 
 -- the points of parts
 pub ahead_each : {A : Type 0} (style : Style) (d : ℕ) (f : Option ℤ → A → List Row)
-    (w : Option ℤ → A → Level → Level) (g : A → List Point) → IsPart style d f w g
+    (w : Option ℤ → A → Level → Level) (g : A → List Point) → IsComponent style d f w g
     → (ids : Ids) (xs : List A) (rest : List Row) → points_ahead (rows_of_each f ids xs ++ rest)
     ≡ flat_map g xs ++ points_ahead rest
 ahead_each style d f w g part ids [] rest = refl
@@ -75,7 +75,7 @@ ahead_each style d f w g part ids (x ∷ xs) rest =
 
 -- none of the parts is a geometry
 pub no_entry_each : {A : Type 0} (style : Style) (d : ℕ) (f : Option ℤ → A → List Row)
-    (w : Option ℤ → A → Level → Level) (g : A → List Point) → IsPart style d f w g
+    (w : Option ℤ → A → Level → Level) (g : A → List Point) → IsComponent style d f w g
     → (ids : Ids) (xs : List A) (rest : List Row) → measured style (rows_of_each f ids xs ++ rest) ≡ measured style rest
 no_entry_each style d f w g part ids [] rest = refl
 no_entry_each style d f w g part ids (x ∷ xs) rest =
@@ -99,7 +99,7 @@ counts_one style d k id ps more h =
 
 -- one such row is a part
 pub one_part : {A : Type 0} (style : Style) (d : ℕ) (k : Kind) (g : A → List Point)
-    → IsPart style d (λ id x. plain_row d k id (g x) ∷ []) (with_row_of k g) g
+    → IsComponent style d (λ id x. plain_row d k id (g x) ∷ []) (with_row_of k g) g
 one_part style d k g = record {
   begins = λ id x more. (let le : d < suc d = omega arith in le);
   counts = λ id x more h. counts_one style d k id (g x) more h;
@@ -135,7 +135,7 @@ counts_polygon style d id rings more h =
     (level_past style d (ring_rows (suc d) rings) more (deep-rings (suc d) rings) i))
 
 -- a polygon with its rings is a part
-pub polygon_part : (style : Style) (d : ℕ) → IsPart style d (polygon_rows d) with_polygon flatten
+pub polygon_part : (style : Style) (d : ℕ) → IsComponent style d (polygon_rows d) with_polygon flatten
 polygon_part style d = record {
   begins = λ id rings more. (let le : d < suc d = omega arith in le);
   counts = λ id rings more h. counts_polygon style d id rings more h;
@@ -150,17 +150,17 @@ polygon_part style d = record {
 -- ---- the parts of a simple shape
 
 -- the totals of the parts of a shape
-abbrev pub parts_level : Simple → Level
-parts_level (point o) = blank
-parts_level (line ps) = blank
-parts_level (polygon rings) = rings_level rings
-parts_level (multi_point ids ps) = with_each (with_row_of kind.Point (λ p. p ∷ [])) ids ps blank
-parts_level (multi_line ids lines) = with_each (with_row_of kind.Linestring (λ ps. ps)) ids lines blank
-parts_level (multi_polygon ids areas) = with_each with_polygon ids areas blank
+abbrev pub components_level : Simple → Level
+components_level (point o) = blank
+components_level (line ps) = blank
+components_level (polygon rings) = rings_level rings
+components_level (multi_point ids ps) = with_each (with_row_of kind.Point (λ p. p ∷ [])) ids ps blank
+components_level (multi_line ids lines) = with_each (with_row_of kind.Linestring (λ ps. ps)) ids lines blank
+components_level (multi_polygon ids areas) = with_each with_polygon ids areas blank
 
 -- the rows of the parts have these totals
 pub level_parts : (style : Style) (d : ℕ) (s : Simple) (rest : List Row) → IsAbove d rest
-    → level style d (rows_below d s ++ rest) ≡ parts_level s
+    → level style d (rows_below d s ++ rest) ≡ components_level s
 level_parts style d (point o) rest h = level_none style d rest h
 level_parts style d (line ps) rest h = level_none style d rest h
 level_parts style d (polygon rings) rest h = level_rings style d rings rest h

@@ -12,7 +12,7 @@ use Rattle.twkb_flat.specs.Rows.{IsNode, row_with}
 use Rattle.twkb_grammar.specs.declared.style.Style.{Style}
 use Rattle.twkb_writer.specs.declared.levels.Level.{Level}
 use Rattle.twkb_writer.specs.declared.sizes.Entry.{Entry}
-use Rattle.twkb_writer.specs.declared.tails.Tail.{Tail}
+use Rattle.twkb_writer.specs.declared.tails.TailTotals.{TailTotals}
 use Rattle.twkb_writer.specs.Caps.{point_bytes_cap}
 use Rattle.twkb_writer.specs.Levels.{blank, IsSmall}
 use Rattle.twkb_writer.specs.Measuring.{measured, points_ahead, points_at, option_list, tail_after, TakenRow}
@@ -27,7 +27,7 @@ use Rattle.twkb_writer.proofs.MeasuringTrees.{measured_rows}
 use Rattle.twkb_writer.proofs.RowStep.{rest_is, points_step}
 
 -- at the start of the pass there is no row after the place
-pub pass_start : (style : Style) (rs : List Row) (n : ℕ) (levels : List Level) (t : Tail)
+pub pass_start : (style : Style) (rs : List Row) (n : ℕ) (levels : List Level) (t : TailTotals)
     (es : List Entry) → length rs ≤ n → length levels ≡ 36
     → ((k : ℕ) → k < 36 → get_or levels k blank ≡ blank)
     → t ≡ tail_of [] → es ≡ [] → Pass style (drop n rs) levels t es
@@ -38,20 +38,20 @@ pass_start style rs n levels t es all whole blanks no_tail no_entries =
     (pass_none style levels whole blanks)))
 
 -- the totals kept for a depth are small
-pub pass_small : (style : Style) (rs : List Row) (levels : List Level) (t : Tail) (es : List Entry)
+pub pass_small : (style : Style) (rs : List Row) (levels : List Level) (t : TailTotals) (es : List Entry)
     → IsCapped rs → Pass style rs levels t es → (k : ℕ) → k < 36 → IsSmall (get_or levels k blank)
 pass_small style rs levels t es caps pass k small = subst IsSmall (sym (pass.stands k small))
     (level_small style k rs pass.bounded caps.nodes caps.points)
 
 -- the points up to the next geometry are few
-pub tail_short : (style : Style) (rs : List Row) (levels : List Level) (t : Tail) (es : List Entry)
+pub tail_short : (style : Style) (rs : List Row) (levels : List Level) (t : TailTotals) (es : List Entry)
     → IsCapped rs → Pass style rs levels t es → t.bytes ≤ point_bytes_cap
 tail_short style rs levels t es caps pass = omega
     (arith, pass.tail_small, costs_within 0 rs, caps.nodes, caps.points, points_fit)
 
 -- the pass after one more node, before the rows already seen
 pub pass_back : (style : Style) (rows : List Row) (i : ℕ) (node : Node) (levels new : List Level)
-    (tail points : Tail) (e : Option Entry) (es : List Entry)
+    (tail points : TailTotals) (e : Option Entry) (es : List Entry)
     → IsCapped rows → (is : IsNode rows i node) → Pass style (drop (i + 1) rows) levels tail es
     → ((ahead : List Point) → tail ≡ tail_of ahead
     → points ≡ tail_of (points_at (drop i rows) ++ ahead))
@@ -87,7 +87,7 @@ pass_back style rows i node levels new tail points e es caps is pass found short
 
 -- the pass after one more node, with its place counted from the end
 pub pass_step : (style : Style) (rows : List Row) (total back : ℕ) (node : Node)
-    (levels new : List Level) (tail points before : Tail) (e : Option Entry) (es kept : List Entry)
+    (levels new : List Level) (tail points before : TailTotals) (e : Option Entry) (es kept : List Entry)
     → back < total → IsCapped rows → IsNode rows (total - 1 - back) node
     → Pass style (drop (total - back) rows) levels tail es
     → ((ahead : List Point) → tail ≡ tail_of ahead
@@ -104,7 +104,8 @@ pass_step style rows total back node levels new tail points before e es kept som
     (subst (λ n. Pass style (drop n rows) levels tail es) here pass) found short taken in
     subst (λ n. Pass style (drop n rows) new before kept) there
     (subst (λ (l : List Entry). Pass style (drop (total - 1 - back) rows) new before l) (sym kept_are)
-    (subst (λ (t : Tail). Pass style (drop (total - 1 - back) rows) new t (es ++ option_list e)) (sym tail_is) step))
+    (subst (λ (t : TailTotals). Pass style (drop (total - 1 - back) rows) new t (es ++ option_list e))
+    (sym tail_is) step))
 
 -- the number of points from a node on
 pub points_back : (rows : List Row) (total back : ℕ) (node : Node) → back < total → IsNode rows (total - 1 - back) node
@@ -138,7 +139,7 @@ sizes_are style (r ∷ rs) sizes valid e = (
 )
 
 -- at the first row the entries, reversed, are the sizes
-pub pass_end : (style : Style) (rows : List Row) (n : ℕ) (levels : List Level) (t : Tail)
+pub pass_end : (style : Style) (rows : List Row) (n : ℕ) (levels : List Level) (t : TailTotals)
     (es sizes : List Entry) → AreValidRowsOfOne largest_limits rows → n ≡ 0
     → Pass style (drop n rows) levels t es → sizes ≡ reverse es → AreSizes style rows sizes
 pass_end style rows n levels t es sizes valid first pass turned =

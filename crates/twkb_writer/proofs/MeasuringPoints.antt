@@ -8,7 +8,7 @@ use Rattle.twkb_points.specs.Point.{Point}
 use Rattle.twkb_tree.specs.Rows.{Row, row_points}
 use Rattle.twkb_flat.specs.declared.node.Node.{Node}
 use Rattle.twkb_flat.specs.Rows.{IsNode}
-use Rattle.twkb_writer.specs.declared.tails.Tail.{Tail}
+use Rattle.twkb_writer.specs.declared.tails.TailTotals.{TailTotals}
 use Rattle.twkb_writer.specs.Measuring.{points_at}
 use Rattle.twkb_writer.specs.Tails.{tail_of}
 use Rattle.twkb_writer.proofs.RowStep.{points_split}
@@ -35,7 +35,7 @@ read_back rows i node is j p within read =
 
 -- the tail with that point before the others
 pub tail_back : (rows : List Row) (i : ℕ) (node : Node) → IsNode rows i node
-    → (count back : ℕ) (p : Point) (ahead : List Point) (new : Tail) → count ≡ node.points
+    → (count back : ℕ) (p : Point) (ahead : List Point) (new : TailTotals) → count ≡ node.points
     → back < count
     → slice_get (row_points rows) (node.first.0 + (count - 1 - back)) ≡ Some p
     → new ≡ tail_of (p ∷ (drop (count - back) (points_at (drop i rows)) ++ ahead))
@@ -51,7 +51,7 @@ tail_back rows i node is count back p ahead new counted below read new_is =
 
 -- the tail with two points before the others
 pub tail_two : (rows : List Row) (i : ℕ) (node : Node) → IsNode rows i node
-    → (back j k : ℕ) (p q : Point) (ahead : List Point) (new : Tail) → back + 2 ≤ node.points
+    → (back j k : ℕ) (p q : Point) (ahead : List Point) (new : TailTotals) → back + 2 ≤ node.points
     → j ≡ node.first.0 + (node.points - 1 - back) → k + 1 ≡ j
     → slice_get (row_points rows) j ≡ Some q → slice_get (row_points rows) k ≡ Some p
     → new ≡ tail_of (p ∷ q ∷ (drop (node.points - back) (points_at (drop i rows)) ++ ahead))
@@ -74,7 +74,7 @@ tail_two rows i node is back j k p q ahead new within j_is k_is last before new_
 
 -- the tail with the node's first point before the others
 pub tail_first : (rows : List Row) (i : ℕ) (node : Node) → IsNode rows i node
-    → (count back : ℕ) (p : Point) (ahead : List Point) (new : Tail) → count ≡ node.points
+    → (count back : ℕ) (p : Point) (ahead : List Point) (new : TailTotals) → count ≡ node.points
     → back + 1 ≡ count
     → slice_get (row_points rows) node.first.0 ≡ Some p
     → new ≡ tail_of (p ∷ (drop (count - back) (points_at (drop i rows)) ++ ahead))
@@ -89,7 +89,7 @@ tail_first rows i node is count back p ahead new counted last read new_is =
 
 -- the tail with the node's last point before those after the node
 pub tail_last : (rows : List Row) (i : ℕ) (node : Node) → IsNode rows i node
-    → (p : Point) (ahead : List Point) (new : Tail) → 1 ≤ node.points
+    → (p : Point) (ahead : List Point) (new : TailTotals) → 1 ≤ node.points
     → slice_get (row_points rows) (node.first.0 + (node.points - 1)) ≡ Some p
     → new ≡ tail_of (p ∷ ahead)
     → new ≡ tail_of (drop (node.points - 1) (points_at (drop i rows)) ++ ahead)

@@ -12,7 +12,7 @@ use Rattle.twkb_flat.specs.Rows.{depths}
 use Rattle.twkb_grammar.specs.declared.style.Style.{Style}
 use Rattle.twkb_writer.specs.declared.levels.Level.{Level}
 use Rattle.twkb_writer.specs.declared.sizes.Entry.{Entry}
-use Rattle.twkb_writer.specs.declared.tails.Tail.{Tail}
+use Rattle.twkb_writer.specs.declared.tails.TailTotals.{TailTotals}
 use Rattle.twkb_writer.specs.Levels.{blank}
 use Rattle.twkb_writer.specs.Measuring.{level, measured, points_ahead, ahead_of, row_level}
 use Rattle.twkb_writer.specs.Measuring.{row_entry, option_list, tail_after, cost_of, load}
@@ -74,7 +74,7 @@ tail_by : (p : Option ℤ) (ps : List Point) → tail_after p (tail_of ps) ≡ t
 tail_by None ps = refl
 tail_by (Some p) ps = refl
 
-tail_small_by : (p : Option ℤ) (ps : List Point) (t : Tail) → t.bytes ≤ 20 * length ps
+tail_small_by : (p : Option ℤ) (ps : List Point) (t : TailTotals) → t.bytes ≤ 20 * length ps
     → (tail_after p t).bytes ≤ 20 * length (ahead_of p ps)
 tail_small_by None ps t h = h
 tail_small_by (Some p) ps t h = omega arith
@@ -90,7 +90,8 @@ reverse-option (Some e) = refl
 
 -- What a pass knows after a place: the totals at each depth, the points up to the next geometry,
 -- and the entries, last one first.
-pub record Pass (style : Style) (rs : List Row) (levels : List Level) (tail : Tail) (es : List Entry) : Type 0 where
+pub record Pass (style : Style) (rs : List Row) (levels : List Level) (tail : TailTotals)
+    (es : List Entry) : Type 0 where
   pub whole : length levels ≡ 36
   pub stands : Stands style levels rs
   pub bounded : IsBounded style rs
@@ -100,7 +101,7 @@ pub record Pass (style : Style) (rs : List Row) (levels : List Level) (tail : Ta
 
 -- what a pass adds with one more row: its points, the totals at its depth, and its entry
 pub record TakesIn (style : Style) (r : Row) (n : ℕ) (rs : List Row) (levels : List Level)
-    (tail points : Tail) (own : Level) (e : Option Entry) : Type 0 where
+    (tail points : TailTotals) (own : Level) (e : Option Entry) : Type 0 where
   pub deep : r.depth < 35
   pub child : IsAbove (r.depth + 2) rs
   pub count : length r.points ≡ n
@@ -114,7 +115,7 @@ pub record TakesIn (style : Style) (r : Row) (n : ℕ) (rs : List Row) (levels :
 
 -- the pass after one more row before the others
 pub pass_cons : (style : Style) (r : Row) (n : ℕ) (rs : List Row) (levels : List Level)
-    (tail points : Tail) (own : Level) (e : Option Entry) (es : List Entry)
+    (tail points : TailTotals) (own : Level) (e : Option Entry) (es : List Entry)
     → Pass style rs levels tail es → TakesIn style r n rs levels tail points own e
     → Pass style (r ∷ rs) (set_row levels r.depth own) (tail_after r.precision points) (es ++ option_list e)
 pass_cons style r n rs levels tail points own e es pass t =

@@ -32,7 +32,7 @@ use Rattle.twkb_writer.specs.Sizes.{entry_of, sizes_of, sizes_of_all, content_of
 use Rattle.twkb_writer.specs.Tails.{number_len, tail_of}
 use Rattle.twkb_writer.proofs.LevelLemmas.{level_at, level_none, level_past}
 use Rattle.twkb_writer.proofs.BelowLemmas.{deep-below}
-use Rattle.twkb_writer.proofs.MeasuringParts.{with_each, above_less, parts_level, level_parts}
+use Rattle.twkb_writer.proofs.MeasuringParts.{with_each, above_less, components_level, level_parts}
 use Rattle.twkb_writer.proofs.MeasuringParts.{ahead_parts, no_entry_parts}
 use Rattle.twkb_writer.proofs.MeasuringTotals.{IsCounted, members_each, ids_each, named_each, ids_sum, ids_len}
 use Rattle.twkb_writer.proofs.MeasuringBodies.{length-number, length-fields, from_origin-tail_of}
@@ -93,7 +93,7 @@ simple_point (multi_line ids lines) p = refl
 simple_point (multi_polygon ids areas) p = refl
 
 pub simple_measured : (style : Style) (p : ℤ) (s : Simple) → IdsFit s
-    → IsMeasured style (simple p s) (kind_in s) (length (own_points s)) (parts_level s)
+    → IsMeasured style (simple p s) (kind_in s) (length (own_points s)) (components_level s)
     (tail_of (points_in s))
 simple_measured style p s h =
     let t = total_parts s h in
@@ -233,7 +233,7 @@ mutual
       let own = own_row id d (simple p s) in
       level_at style d own (rows_below (suc d) s ++ rest) refl
       ∙ row_is style (simple p s) own (level style (suc d) (rows_below (suc d) s ++ rest))
-      (level style d (rows_below (suc d) s ++ rest)) (parts_level s) (level style d rest)
+      (level style d (rows_below (suc d) s ++ rest)) (components_level s) (level style d rest)
       (points_ahead (rows_below (suc d) s ++ rest)) (points_in s) (level_parts style (suc d) s rest h.above)
       (level_past style d (rows_below (suc d) s) rest (deep-below (suc d) (simple p s)))
       (simple_points style (suc d) s rest h.no_part)
@@ -271,7 +271,7 @@ mutual
   measured_tree style d id (simple p s) rest fits h =
       let own = own_row id d (simple p s) in
       (λ i. row_entry_is style (simple p s) own (level style (suc d) (rows_below (suc d) s ++ rest))
-      (parts_level s) (points_ahead (rows_below (suc d) s ++ rest)) (points_in s)
+      (components_level s) (points_ahead (rows_below (suc d) s ++ rest)) (points_in s)
       (level_parts style (suc d) s rest h.above) (simple_points style (suc d) s rest h.no_part)
       (simple_measured style p s fits.1) i
       ∷ no_entry_parts style (suc d) s rest i)

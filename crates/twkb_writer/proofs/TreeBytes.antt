@@ -13,12 +13,12 @@ use Rattle.twkb_tree.specs.Rows.{rows_below, member_rows, ring_rows, polygon_row
 use Rattle.twkb_tree.specs.Rows.{first_id, other_ids}
 use Rattle.twkb_tree.proofs.RowFitting.{own_row-depth, own_row-id}
 use Rattle.twkb_tree.proofs.RootLaws.{AreDeep}
-use Rattle.twkb_grammar.specs.Roles.{Counted, Points, Parts, Count, Geometries}
-use Rattle.twkb_grammar.specs.Items.{Place, OfCount, OfPoint, id_places, id_fields, fields, outline}
+use Rattle.twkb_grammar.specs.Roles.{Counted, Points, Components, Count, Geometries}
+use Rattle.twkb_grammar.specs.Items.{Slot, OfCount, OfPoint, id_slots, id_fields, fields, slots}
 use Rattle.twkb_grammar.specs.Items.{run_of, rings_of, members as flags_of, flags_all}
 use Rattle.twkb_grammar.specs.Written.{varints, is_empty, canonical_blob, canonical_members}
 use Rattle.twkb_grammar.specs.declared.style.Style.{Style}
-use Rattle.twkb_grammar.proofs.Places.{reached, fields_are}
+use Rattle.twkb_grammar.proofs.Slots.{reached, fields_are}
 use Rattle.twkb_writer.specs.declared.sizes.Entry.{Entry}
 use Rattle.twkb_writer.specs.Bytes.{rows_bytes, counts_bytes, members_below, ids_bytes, way_bytes}
 use Rattle.twkb_writer.specs.Bytes.{way_end, is_bare, header}
@@ -32,15 +32,15 @@ use Rattle.twkb_writer.proofs.HeaderLemmas.{headed}
 
 -- ---- id lists
 
--- the bytes of an id list, and of places after it
-walked-id_places : (at : Point) (ids : Ids) (ms : List Place)
-    → walked at (id_places ids ++ ms) ≡ walked at (id_places ids) ++ walked at ms
-walked-id_places at None ms = refl
-walked-id_places at (Some ids) ms = walked-ids at ids ms
+-- the bytes of an id list, and of slots after it
+walked-id_slots : (at : Point) (ids : Ids) (ms : List Slot)
+    → walked at (id_slots ids ++ ms) ≡ walked at (id_slots ids) ++ walked at ms
+walked-id_slots at None ms = refl
+walked-id_slots at (Some ids) ms = walked-ids at ids ms
 
-reached-id_places : (at : Point) (ids : Ids) (ms : List Place) → reached at (id_places ids ++ ms) ≡ reached at ms
-reached-id_places at None ms = refl
-reached-id_places at (Some ids) ms = reached-ids at ids ms
+reached-id_slots : (at : Point) (ids : Ids) (ms : List Slot) → reached at (id_slots ids ++ ms) ≡ reached at ms
+reached-id_slots at None ms = refl
+reached-id_slots at (Some ids) ms = reached-ids at ids ms
 
 -- the ids of the rows below, if there are ids
 part_ids : {A : Type 0} (d : ℕ) (f : Option ℤ → A → List Row) (own : Option ℤ → A → Row)
@@ -51,7 +51,7 @@ part_ids : {A : Type 0} (d : ℕ) (f : Option ℤ → A → List Row) (own : Opt
     → ((id : Option ℤ) (x : A) → (own id x).id ≡ id)
     → (at : Point) (ids : Ids) (xs : List A) (rs : List Row) → Stops d rs → HasIds ids (length xs)
     → (if is_some ids then ids_bytes (members_below d (rows_of_each f ids xs ++ rs)) else [])
-    ≡ walked at (id_places ids)
+    ≡ walked at (id_slots ids)
 part_ids d f own deeper is level deep same at None xs rs stops h = refl
 part_ids d f own deeper is level deep same at (Some ids) xs rs stops h =
     ap ids_bytes (members-each d f own deeper is level deep (Some ids) xs rs
@@ -79,16 +79,16 @@ collection_body None g gs body = refl
 collection_body (Some ids) g gs body = refl
 
 -- the body of a multi type
-multi_body : (c : Counted) (n : ℕ) (ids : Ids) (ms : List Place) (body : List ℕ)
-    → body ≡ walked origin (OfCount c n ∷ id_places ids ++ ms)
-    → body ≡ varint_of n ++ (walked origin (id_places ids) ++ walked origin ms)
-multi_body c n ids ms body e = e ∙ ap (λ l. varint_of n ++ l) (walked-id_places origin ids ms)
+multi_body : (c : Counted) (n : ℕ) (ids : Ids) (ms : List Slot) (body : List ℕ)
+    → body ≡ walked origin (OfCount c n ∷ id_slots ids ++ ms)
+    → body ≡ varint_of n ++ (walked origin (id_slots ids) ++ walked origin ms)
+multi_body c n ids ms body e = e ∙ ap (λ l. varint_of n ++ l) (walked-id_slots origin ids ms)
 
 -- the point after the body of a multi type
-multi_end : (style : Style) (ids : Ids) (ms : List Place) (es : List Entry) (rs : List Row)
+multi_end : (style : Style) (ids : Ids) (ms : List Slot) (es : List Entry) (rs : List Row)
     → rows_bytes style (reached origin ms) es rs ≡ rows_bytes style
-    (reached origin (id_places ids ++ ms)) es rs
-multi_end style ids ms es rs = ap (λ p. rows_bytes style p es rs) (sym (reached-id_places origin ids ms))
+    (reached origin (id_slots ids ++ ms)) es rs
+multi_end style ids ms es rs = ap (λ p. rows_bytes style p es rs) (sym (reached-id_slots origin ids ms))
 
 -- the bytes after the header of a simple shape at depth d, before other rows
 abbrev put_body : Style → ℤ → Simple → ℕ → List Entry → List Row → List ℕ
@@ -101,7 +101,7 @@ put_body style p s d es rs =
     (rows_below (suc d) s ++ rs))
 
 simple_body : (style : Style) (p : ℤ) (s : Simple) (d : ℕ) (es : List Entry) (rs : List Row) → IdsFit s → Stops d rs
-    → put_body style p s d es rs ≡ own_body style (simple p s) ++ rows_bytes style (reached origin (outline s)) es rs
+    → put_body style p s d es rs ≡ own_body style (simple p s) ++ rows_bytes style (reached origin (slots s)) es rs
 simple_body style p (point None) d es rs fit stops = refl
 simple_body style p (point (Some q)) d es rs fit stops =
     ap (λ l. l ++ rows_bytes style q es rs) (sym (ap varints (fields_are (point (Some q)))
@@ -119,7 +119,7 @@ simple_body style p (polygon (ring ∷ rings)) d es rs fit stops =
     many_body (varint_of (length (ring ∷ rings))) [] [] _ (walked origin (flat_map run_of (ring ∷ rings))) _ _ refl
     (ring_rows-bytes style (suc d) (ring ∷ rings) origin es rs) (ap varints (fields_are (polygon (ring ∷ rings))))
 simple_body style p (multi_point ids []) d es rs fit stops = ap (λ at. rows_bytes style at es rs)
-    (sym (reached-id_places origin ids []))
+    (sym (reached-id_slots origin ids []))
 simple_body style p (multi_point ids (q ∷ ps)) d es rs fit stops =
     let own : Option ℤ → Point → Row = λ id x. plain_row (suc d) kind.Point id (x ∷ []) in
     many_body (varint_of (length (q ∷ ps))) _ _ _ _ _ _
@@ -128,11 +128,11 @@ simple_body style p (multi_point ids (q ∷ ps)) d es rs fit stops =
     (point_rows style (suc d) ids (q ∷ ps) origin es rs
     ∙ ap (λ l. l ++ rows_bytes style (way_end q ps) es rs) (sym (walked-way origin (q ∷ ps)))
     ∙ ap (λ at. walked origin (map OfPoint (q ∷ ps)) ++ rows_bytes style at es rs)
-    (sym (reached-way origin (q ∷ ps)) ∙ sym (reached-id_places origin ids (map OfPoint (q ∷ ps)))))
+    (sym (reached-way origin (q ∷ ps)) ∙ sym (reached-id_slots origin ids (map OfPoint (q ∷ ps)))))
     (has_body ids q ps _ ∙ multi_body Points (length (q ∷ ps)) ids (map OfPoint (q ∷ ps)) _
     (ap varints (fields_are (multi_point ids (q ∷ ps)))))
 simple_body style p (multi_line ids []) d es rs fit stops = ap (λ at. rows_bytes style at es rs)
-    (sym (reached-id_places origin ids []))
+    (sym (reached-id_slots origin ids []))
 simple_body style p (multi_line ids (ps ∷ lines)) d es rs fit stops =
     let own : Option ℤ → List Point → Row = λ id x. plain_row (suc d) kind.Linestring id x in
     let ms = flat_map run_of (ps ∷ lines) in
@@ -141,10 +141,10 @@ simple_body style p (multi_line ids (ps ∷ lines)) d es rs fit stops =
     (λ id x. refl) origin ids (ps ∷ lines) rs stops fit)
     (run_rows style (suc d) kind.Linestring (λ own members ids. refl) ids (ps ∷ lines) origin es rs
     ∙ ap (λ l. walked origin ms ++ l) (multi_end style ids ms es rs))
-    (has_body ids ps lines _ ∙ multi_body Parts (length (ps ∷ lines)) ids ms _
+    (has_body ids ps lines _ ∙ multi_body Components (length (ps ∷ lines)) ids ms _
     (ap varints (fields_are (multi_line ids (ps ∷ lines)))))
 simple_body style p (multi_polygon ids []) d es rs fit stops = ap (λ at. rows_bytes style at es rs)
-    (sym (reached-id_places origin ids []))
+    (sym (reached-id_slots origin ids []))
 simple_body style p (multi_polygon ids (rings ∷ areas)) d es rs fit stops =
     let own : Option ℤ → List (List Point) → Row = λ id x. plain_row (suc d) kind.Polygon id [] in
     let ms = flat_map rings_of (rings ∷ areas) in
@@ -154,7 +154,7 @@ simple_body style p (multi_polygon ids (rings ∷ areas)) d es rs fit stops =
     (rings ∷ areas) rs stops fit)
     (area_rows style (suc d) ids (rings ∷ areas) origin es rs (stops_deeper d rs stops)
     ∙ ap (λ l. walked origin ms ++ l) (multi_end style ids ms es rs))
-    (has_body ids rings areas _ ∙ multi_body Parts (length (rings ∷ areas)) ids ms _
+    (has_body ids rings areas _ ∙ multi_body Components (length (rings ∷ areas)) ids ms _
     (ap varints (fields_are (multi_polygon ids (rings ∷ areas)))))
 
 -- ---- geometries
@@ -189,7 +189,7 @@ has_members ids gs h = subst (HasIds ids) (sym (length-members gs)) h
 -- the ids of the members of a collection
 collection_ids : (d : ℕ) (ids : Ids) (gs : Trees) (rs : List Row) → Stops d rs → HasIds ids (count gs)
     → (if is_some ids then ids_bytes (members_below d (member_rows (suc d) ids gs ++ rs)) else [])
-    ≡ walked origin (id_places ids)
+    ≡ walked origin (id_slots ids)
 collection_ids d ids gs rs stops h =
     ap (λ (l : List Row). if is_some ids then ids_bytes (members_below d (l ++ rs)) else [])
     (member_rows-each (suc d) ids gs)
@@ -200,7 +200,7 @@ collection_ids d ids gs rs stops h =
     rs stops (has_members ids gs h)
 
 -- an id list by its fields
-id_fields-walked : (ids : Ids) → varints (id_fields ids) ≡ walked origin (id_places ids)
+id_fields-walked : (ids : Ids) → varints (id_fields ids) ≡ walked origin (id_slots ids)
 id_fields-walked None = refl
 id_fields-walked (Some ids) = filled-ids origin ids
 
@@ -237,9 +237,9 @@ mutual
       (es : List Entry) (rs : List Row) → IsTree g → Stops d rs
       → Spelled style (canonical_blob style g) at (sizes_of style g ++ es) (rows_with id d g ++ rs) es rs
   tree_spelled style (simple p s) id d at es rs t stops = (
-    reached origin (outline s),
+    reached origin (slots s),
     geometry_spelled style (simple p s) id d at es (rows_below (suc d) s ++ rs)
-        (rows_bytes style (reached origin (outline s)) es rs) t
+        (rows_bytes style (reached origin (slots s)) es rs) t
         (simple_body style p s d es rs t.1 stops),
   )
   tree_spelled style (collection p ids end) id d at es rs t stops = (
@@ -255,7 +255,7 @@ mutual
         geometry_spelled style (collection p ids (g ▷ gs)) id d at
             (sizes_of_all style (g ▷ gs) ++ es) (member_rows (suc d) ids (g ▷ gs) ++ rs) tail t
             (many_body n (if is_some ids then ids_bytes (members_below d
-            (member_rows (suc d) ids (g ▷ gs) ++ rs)) else []) (walked origin (id_places ids))
+            (member_rows (suc d) ids (g ▷ gs) ++ rs)) else []) (walked origin (id_slots ids))
             (rows_bytes style origin (sizes_of_all style (g ▷ gs) ++ es)
             (member_rows (suc d) ids (g ▷ gs) ++ rs)) all tail
             (own_body style (collection p ids (g ▷ gs)))

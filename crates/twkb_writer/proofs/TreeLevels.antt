@@ -23,15 +23,15 @@ use Rattle.twkb_grammar.specs.declared.style.Style.TheVariants.{Full}
 use Rattle.twkb_writer.specs.declared.levels.Level.{Level}
 use Rattle.twkb_writer.specs.declared.precisions.Precisions.TheVariants.{One}
 use Rattle.twkb_writer.specs.declared.sizes.Entry.{Entry}
-use Rattle.twkb_writer.specs.declared.tails.Tail.{Tail}
+use Rattle.twkb_writer.specs.declared.tails.TailTotals.{TailTotals}
 use Rattle.twkb_writer.specs.Levels.{blank, entry_for, with_part, with_geometry}
 use Rattle.twkb_writer.specs.Measuring.{level, row_level, points_ahead}
 use Rattle.twkb_writer.specs.Precisions.{agreed}
 use Rattle.twkb_writer.specs.Tails.{tail_of}
 use Rattle.twkb_writer.specs.TreeMeasuring.{way_of, level_under, tree_level}
 use Rattle.twkb_writer.proofs.MeasuringBodies.{total_parts}
-use Rattle.twkb_writer.proofs.MeasuringParts.{with_each, with_row_of, with_polygon, IsPart}
-use Rattle.twkb_writer.proofs.MeasuringParts.{one_part, polygon_part, level_each, parts_level}
+use Rattle.twkb_writer.proofs.MeasuringParts.{with_each, with_row_of, with_polygon, IsComponent}
+use Rattle.twkb_writer.proofs.MeasuringParts.{one_part, polygon_part, level_each, components_level}
 use Rattle.twkb_writer.proofs.MeasuringParts.{level_parts, rings_level, level_rings}
 use Rattle.twkb_writer.proofs.MeasuringTotals.{IsCounted, members_each}
 use Rattle.twkb_writer.proofs.MeasuringTrees.{with_tree, trees_level, row_is, simple_points}
@@ -90,7 +90,7 @@ count_back f xs k x some within read = ap (λ ys. length (flat_map f ys))
 
 -- a tail with the points of a part before it
 pub tail_back : {A : Type 0} (f : A → List Point) (xs : List A) (k : ℕ) (x : A) (ahead : List Point)
-    (new : Tail) → 0 < k → k ≤ length xs → x ≡ get_or xs (k - 1) x
+    (new : TailTotals) → 0 < k → k ≤ length xs → x ≡ get_or xs (k - 1) x
     → new ≡ tail_of (f x ++ (flat_map f (drop k xs) ++ ahead)) → new ≡ tail_of (flat_map f (drop (k - 1) xs) ++ ahead)
 tail_back f xs k x ahead new some within read is =
     is ∙ ap tail_of (sym (append_assoc (f x) (flat_map f (drop k xs)) ahead))
@@ -98,7 +98,7 @@ tail_back f xs k x ahead new some within read is =
 
 -- from the end on there are no points
 pub tail_end : {A : Type 0} (f : A → List Point) (xs : List A) (k : ℕ) (ahead : List Point)
-    (t : Tail) → length xs ≤ k → t ≡ tail_of ahead → t ≡ tail_of (flat_map f (drop k xs) ++ ahead)
+    (t : TailTotals) → length xs ≤ k → t ≡ tail_of ahead → t ≡ tail_of (flat_map f (drop k xs) ++ ahead)
 tail_end f xs k ahead t past is = is ∙ ap (λ ys. tail_of (flat_map f ys ++ ahead)) (sym (drop_all k xs past))
 
 -- the number of parts from a place on
@@ -177,7 +177,7 @@ by_shape p shape told g whole is = ap (tree_of p) (sym is) ∙ whole
 -- ---- the rows of parts
 
 level_end : {A : Type 0} (d : ℕ) (f : Option ℤ → A → List Row) (w : Option ℤ → A → Level → Level)
-    (g : A → List Point) → IsPart Full d f w g → (ids : Ids) (xs : List A)
+    (g : A → List Point) → IsComponent Full d f w g → (ids : Ids) (xs : List A)
     → with_each w ids xs blank ≡ level Full d (rows_of_each f ids xs)
 level_end d f w g part ids xs = sym (level_each Full d f w g part ids xs [] tt)
     ∙ ap (level Full d) (append-nil (rows_of_each f ids xs))
@@ -242,7 +242,7 @@ polygon_more ids j x id below l new ei eb is = is ∙ (λ i. with_part kinds.Pol
 
 -- the totals with one more geometry, by its own row, the rows below it and its points
 pub geometry_more : (g : Tree) (id : Option ℤ) (kind : Kind) (ps : List Point) (p : ℤ)
-    (below : Level) (t : Tail) (e : Entry) (l new : Level)
+    (below : Level) (t : TailTotals) (e : Entry) (l new : Level)
     → own_row id 0 g ≡ whole_row 0 kind id (precision_of g) ps → p ≡ precision_of g
     → below ≡ level_under g → t ≡ tail_of (way_of g)
     → e ≡ entry_for Full kind p (length ps) below t → new ≡ with_geometry Full e.size p id below t l
@@ -261,11 +261,11 @@ tree_level_is id (simple p s) l fits =
     let own = own_row id 0 (simple p s) in
     let ahead = points_ahead (rows_below 0 s ++ []) in
     let whole = simple_points Full 0 s [] refl in
-    let below : level Full 0 (rows_below 0 s) ≡ parts_level s = ap (level Full 0)
+    let below : level Full 0 (rows_below 0 s) ≡ components_level s = ap (level Full 0)
     (sym (append-nil (rows_below 0 s))) ∙ level_parts Full 0 s [] tt in
     ap (λ ps. row_level Full own.kind (length own.points) id (Some p)
     (level Full 0 (rows_below 0 s)) (tail_of ps) l) (sym whole)
-    ∙ row_is Full (simple p s) own (level Full 0 (rows_below 0 s)) l (parts_level s) l ahead
+    ∙ row_is Full (simple p s) own (level Full 0 (rows_below 0 s)) l (components_level s) l ahead
     (points_in s) below refl whole (simple_measured Full p s fits.1)
     (ap (agreed (One p)) (total_parts s fits.1).no_precisions)
 tree_level_is id (collection p ids gs) l fits =

@@ -11,7 +11,7 @@ use Rattle.twkb_grammar.specs.declared.style.Style.TheVariants.{Full, Plain}
 use Rattle.twkb_writer.specs.declared.levels.Level.{Level}
 use Rattle.twkb_writer.specs.declared.precisions.Precisions.TheVariants.{Absent, One}
 use Rattle.twkb_writer.specs.declared.sizes.Entry.{Entry}
-use Rattle.twkb_writer.specs.declared.tails.Tail.{Tail}
+use Rattle.twkb_writer.specs.declared.tails.TailTotals.{TailTotals}
 use Rattle.twkb_writer.specs.Caps.{sums_cap}
 use Rattle.twkb_writer.specs.Precisions.{all_are, agreed}
 use Rattle.twkb_writer.specs.Tails.{number_len, signed_len, from_origin}
@@ -48,11 +48,11 @@ abbrev pub is_bare : ℕ → Level → Bool
 is_bare own below = nat_eq own 0 && nat_eq below.members 0
 
 -- the number of bytes of a geometry's body: none if it is bare
-abbrev pub body_len : Kind → ℕ → Level → Tail → ℕ
+abbrev pub body_len : Kind → ℕ → Level → TailTotals → ℕ
 body_len k own below t = if is_bare own below then 0 else lead_len k own below + below.bytes + from_origin t
 
 -- the extent of the geometry's points, those of members included
-abbrev pub all_bounds : Level → Tail → Option Extent
+abbrev pub all_bounds : Level → TailTotals → Option Extent
 all_bounds below t = joined_options t.bounds below.bounds
 
 -- the row is a point
@@ -61,13 +61,13 @@ is_point kind.Point = true
 is_point _ = false
 
 -- the extent of the geometry's box, if it has one
-abbrev pub box_for : Style → Kind → ℤ → Level → Tail → Option Extent
+abbrev pub box_for : Style → Kind → ℤ → Level → TailTotals → Option Extent
 box_for Full k p below t = if not (is_point k) && all_are p below.precisions then all_bounds below t else None
 box_for Plain k p below t = None
 
 -- the entry of a geometry: its own row has `own` points, `below` totals the rows under it, and `t`
 -- totals its points, except those of collection members
-abbrev pub entry_for : Style → Kind → ℤ → ℕ → Level → Tail → Entry
+abbrev pub entry_for : Style → Kind → ℤ → ℕ → Level → TailTotals → Entry
 entry_for style k p own below t = record {
   size = box_len (box_for style k p below t) + body_len k own below t;
   bounds = box_for style k p below t;
@@ -93,7 +93,7 @@ with_part k own id below l = record {
 }
 
 -- the totals after a geometry is added before the rows; its box and body have this many bytes
-abbrev pub with_geometry : Style → ℕ → ℤ → Option ℤ → Level → Tail → Level → Level
+abbrev pub with_geometry : Style → ℕ → ℤ → Option ℤ → Level → TailTotals → Level → Level
 with_geometry style size p id below t l = record {
   members = l.members + 1;
   ids = id_len id + l.ids;

@@ -10,7 +10,7 @@ use Rattle.twkb_flat.specs.declared.work.Work.{Work}
 use Rattle.twkb_grammar.specs.declared.style.Style.{Style}
 use Rattle.twkb_writer.specs.declared.levels.Level.{Level}
 use Rattle.twkb_writer.specs.declared.sizes.Entry.{Entry}
-use Rattle.twkb_writer.specs.declared.tails.Tail.{Tail}
+use Rattle.twkb_writer.specs.declared.tails.TailTotals.{TailTotals}
 use Rattle.twkb_writer.specs.Levels.{blank, entry_for, with_part, with_geometry}
 use Rattle.twkb_writer.specs.Tails.{tail_of}
 
@@ -26,12 +26,12 @@ points_ahead (r ∷ rs) = ahead_of r.precision (r.points ++ points_ahead rs)
 
 -- the totals after one more row is added before the rows: it has `own` points, `below` totals the
 -- rows under it, and `t` totals the points up to the end of its geometry
-abbrev pub row_level : Style → Kind → ℕ → Option ℤ → Option ℤ → Level → Tail → Level → Level
+abbrev pub row_level : Style → Kind → ℕ → Option ℤ → Option ℤ → Level → TailTotals → Level → Level
 row_level style k own id None below t l = with_part k own id below l
 row_level style k own id (Some p) below t l = with_geometry style (entry_for style k p own below t).size p id below t l
 
 -- the entry of the row, if it is a geometry itself
-abbrev pub row_entry : Style → Kind → ℕ → Option ℤ → Level → Tail → Option Entry
+abbrev pub row_entry : Style → Kind → ℕ → Option ℤ → Level → TailTotals → Option Entry
 row_entry style k own None below t = None
 row_entry style k own (Some p) below t = Some (entry_for style k p own below t)
 
@@ -50,7 +50,7 @@ level style k (r ∷ rs) =
     (level style k rs)
 
 -- the totals of points that the row before this one adds to: none if this row begins a geometry
-abbrev pub tail_after : Option ℤ → Tail → Tail
+abbrev pub tail_after : Option ℤ → TailTotals → TailTotals
 tail_after None t = t
 tail_after (Some p) t = tail_of []
 
@@ -84,7 +84,7 @@ points_at (r ∷ rs) = r.points
 
 -- One row is added: the totals at each depth after it, and its entry, given the points up to the
 -- end of its geometry.
-pub record TakenRow (style : Style) (node : Node) (points : Tail) (old new : List Level)
+pub record TakenRow (style : Style) (node : Node) (points : TailTotals) (old new : List Level)
     (entry : Option Entry) : Type 0 where
   pub own : Level
   pub own_is : own ≡ row_level style node.row.kind node.points node.row.id node.row.precision

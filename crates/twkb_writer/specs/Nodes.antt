@@ -6,30 +6,30 @@ use Rattle.twkb_tree.specs.Rows.{Row, row_points}
 use Rattle.twkb_flat.specs.declared.node.Node.{Node}
 use Rattle.twkb_grammar.specs.declared.style.Style.{Style}
 use Rattle.twkb_writer.specs.declared.job.Job.{Job}
-use Rattle.twkb_writer.specs.declared.job.Placed.{Placed}
-use Rattle.twkb_writer.specs.declared.members.MemberIds.{MemberIds}
+use Rattle.twkb_writer.specs.declared.job.PlacedNode.{PlacedNode}
+use Rattle.twkb_writer.specs.declared.members.MemberList.{MemberList}
 use Rattle.twkb_writer.specs.declared.sizes.Entry.{Entry}
 use Rattle.twkb_writer.specs.Bytes.{members_below, ids_bytes, counts_bytes, is_bare, header}
 use Rattle.twkb_writer.specs.Bytes.{part_lead, lead, rows_bytes}
 
 -- the rows after the node
-abbrev pub rows_after : List Row → Placed → List Row
+abbrev pub rows_after : List Row → PlacedNode → List Row
 rows_after rows at = drop (at.id.0 + 1) rows
 
 -- the members of the node
-abbrev pub members_of : List Row → Placed → List Row
+abbrev pub members_of : List Row → PlacedNode → List Row
 members_of rows at = members_below at.node.row.depth (rows_after rows at)
 
 -- the ids of its members, if they are written
-abbrev pub ids_of : Bool → List Row → Placed → List ℕ
+abbrev pub ids_of : Bool → List Row → PlacedNode → List ℕ
 ids_of named rows at = if named then ids_bytes (members_of rows at) else []
 
 -- the count of its members, and their ids if they are written
-abbrev pub listed_of : MemberIds → List Row → Placed → List ℕ
+abbrev pub listed_of : MemberList → List Row → PlacedNode → List ℕ
 listed_of members rows at = varint_of members.count ++ ids_of members.named rows at
 
 -- its counts, and the ids of its members if they are written
-abbrev pub counts_of : MemberIds → List Row → Placed → List ℕ
+abbrev pub counts_of : MemberList → List Row → PlacedNode → List ℕ
 counts_of members rows at = counts_bytes at.node.row.kind at.node.points members.count (ids_of members.named rows at)
 
 -- the header of a node that is a geometry itself
@@ -37,16 +37,16 @@ abbrev pub header_of : Style → ℤ → Entry → Node → List ℕ
 header_of style p e node = header style node.row.kind p node.points e
 
 -- the bytes between the header of a geometry and its points: none if it has no body
-abbrev pub own_of : Entry → List Row → Placed → List ℕ
+abbrev pub own_of : Entry → List Row → PlacedNode → List ℕ
 own_of e rows at = if is_bare at.node.points e then [] else counts_of
     (record { count = e.members; named = e.named }) rows at
 
 -- the counts of a node that is a part of a geometry
-abbrev pub part_of : List Row → Placed → List ℕ
-part_of rows at = part_lead at.node.row.kind at.node.row.depth at.node.points (rows_after rows at)
+abbrev pub component_of : List Row → PlacedNode → List ℕ
+component_of rows at = part_lead at.node.row.kind at.node.row.depth at.node.points (rows_after rows at)
 
 -- the bytes before the node's points, given the entries from this index on
-abbrev pub lead_of : Job → ℕ → Placed → List ℕ
+abbrev pub lead_of : Job → ℕ → PlacedNode → List ℕ
 lead_of job entry at =
     lead job.style at.node.row.precision (drop entry job.sizes.now) at.node.row.kind
     at.node.row.depth at.node.points (rows_after job.flat.now at)

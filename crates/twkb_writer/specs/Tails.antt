@@ -4,8 +4,8 @@ use Rattle.twkb_num.specs.Zigzag.{zigzag_of}
 use Rattle.twkb_num.specs.Varint.{varint_of}
 use Rattle.twkb_points.specs.Point.{Point, origin}
 use Rattle.twkb_points.specs.Extent.{extent}
-use Rattle.twkb_writer.specs.declared.tails.NonEmptyTail.{NonEmptyTail}
-use Rattle.twkb_writer.specs.declared.tails.Tail.{Tail}
+use Rattle.twkb_writer.specs.declared.tails.NonEmptyTailTotals.{NonEmptyTailTotals}
+use Rattle.twkb_writer.specs.declared.tails.TailTotals.{TailTotals}
 
 -- the number of bytes of a number
 unfoldable pub number_len : ℕ → ℕ
@@ -35,13 +35,13 @@ first_of [] = None
 first_of (p ∷ ps) = Some p
 
 -- the totals of the last points of a geometry
-abbrev pub tail_of : List Point → Tail
+abbrev pub tail_of : List Point → TailTotals
 tail_of ps = record { first = first_of ps; bytes = inner_len ps; bounds = extent ps }
 
 -- the number of bytes of all differences, the first of them from the origin
-abbrev pub from_origin : Tail → ℕ
+abbrev pub from_origin : TailTotals → ℕ
 from_origin t = elim t.first [ None ↦ 0 | Some p ↦ step_len origin p + t.bytes ]
 
 -- the totals of at least one point, as totals of any number of points
-abbrev pub tail_from : NonEmptyTail → Tail
+abbrev pub tail_from : NonEmptyTailTotals → TailTotals
 tail_from t = record { first = Some t.first; bytes = t.bytes; bounds = Some t.bounds }

@@ -16,7 +16,7 @@ use crate::lengths::signed_len;
 use crate::levels::Level;
 use crate::measuring::{keep, look_at_reads, take_points};
 use crate::sizes::Entry;
-use crate::tails::Tail;
+use crate::tails::TailTotals;
 use std::alloc::AllocError;
 use twkb_flat::{Flat, Node, NodeId, Work};
 use twkb_grammar::Style;
@@ -54,7 +54,7 @@ fn row_entry(flat: &Flat, style: Style, node: &Node, precision: i8, work: &mut W
     ensures sizes { AreSizes style flat.now (result ∷ []) }
     ensures reads { ReadsExactly work.old 0 node.now.points work.new }
 {
-    let points = take_points(flat, NodeId(0), node, Tail::none(), work);
+    let points = take_points(flat, NodeId(0), node, TailTotals::none(), work);
     Level::blank().entry_for(style, node.row.kind, precision, node.points, &points)
 }
 

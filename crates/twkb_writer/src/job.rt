@@ -13,7 +13,7 @@ pub(crate) struct Job<'a> {
 
 // A node of the flat form, with its place.
 #[derive(Clone, Copy)]
-pub(crate) struct Placed {
+pub(crate) struct PlacedNode {
     pub(crate) id: NodeId,
     pub(crate) node: Node,
 }

@@ -10,7 +10,7 @@ ghost use Rattle.twkb_grammar.specs.declared.style.Style.TheVariants.{Full};
 use crate::lengths::{number_len, signed_len};
 use crate::precisions::Precisions;
 use crate::sizes::Entry;
-use crate::tails::Tail;
+use crate::tails::TailTotals;
 use twkb_grammar::Style;
 use twkb_points::{Bounds, merged};
 use twkb_tree::Kind;
@@ -112,7 +112,7 @@ impl Level {
 
     // The number of bytes of the body of a geometry above these rows. Its own row has `own` points.
     #[inline(always)]
-    fn body_len(&self, kind: Kind, own: u32, tail: &Tail) -> u64
+    fn body_len(&self, kind: Kind, own: u32, tail: &TailTotals) -> u64
         requires ids { self.now.ids ≤ sums_cap }
         requires bytes { self.now.bytes ≤ sums_cap }
         requires points { tail.now.bytes ≤ sums_cap }
@@ -127,7 +127,7 @@ impl Level {
 
     // The bounds of all points of a geometry above these rows.
     #[inline(always)]
-    fn all_bounds(&self, tail: &Tail) -> Option<Bounds>
+    fn all_bounds(&self, tail: &TailTotals) -> Option<Bounds>
         ensures { result ≡ all_bounds self.now tail.now }
     {
         merged(tail.bounds, self.bounds)
@@ -135,7 +135,7 @@ impl Level {
 
     // The bounds of the box of a geometry above these rows; `None` if it has no box in this style.
     #[inline(always)]
-    fn box_for(&self, style: Style, kind: Kind, precision: i8, tail: &Tail) -> Option<Bounds>
+    fn box_for(&self, style: Style, kind: Kind, precision: i8, tail: &TailTotals) -> Option<Bounds>
         ensures { result ≡ box_for style kind precision self.now tail.now }
     {
         match style {
@@ -147,7 +147,7 @@ impl Level {
     // The bounds of the box of a geometry above these rows, in a full blob; `None` if it has no
     // box.
     #[inline(always)]
-    fn full_box(&self, kind: Kind, precision: i8, tail: &Tail) -> Option<Bounds>
+    fn full_box(&self, kind: Kind, precision: i8, tail: &TailTotals) -> Option<Bounds>
         ensures { result ≡ box_for Full kind precision self.now tail.now }
     {
         if is_point(kind) || !self.precisions.all_are(precision) {
@@ -165,7 +165,7 @@ impl Level {
         kind: Kind,
         precision: i8,
         own: u32,
-        tail: &Tail,
+        tail: &TailTotals,
     ) -> Entry
         requires ids { self.now.ids ≤ sums_cap }
         requires bytes { self.now.bytes ≤ sums_cap }
@@ -215,7 +215,7 @@ impl Level {
         precision: i8,
         id: Option<i64>,
         below: &Level,
-        tail: &Tail,
+        tail: &TailTotals,
     ) -> Level
         requires members { self.members ≤ NODES_CAP }
         requires ids { self.ids ≤ sums_cap }

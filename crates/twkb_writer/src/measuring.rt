@@ -6,7 +6,7 @@ ghost use Rattle.twkb_tree.specs.declared.limits.TheConstants.{POINTS_CAP};
 ghost use Rattle.twkb_tree.specs.Rows.{row_points};
 ghost use Rattle.twkb_flat.specs.Rows.{IsNode};
 ghost use Rattle.twkb_grammar.specs.declared.style.Style.{Style as InStyle};
-ghost use Rattle.twkb_writer.specs.declared.tails.Tail.{Tail as PointsAhead};
+ghost use Rattle.twkb_writer.specs.declared.tails.TailTotals.{TailTotals as PointsAhead};
 ghost use Rattle.twkb_writer.specs.Caps.{point_bytes_cap, sums_cap};
 ghost use Rattle.twkb_writer.specs.Levels.{blank, IsSmall};
 ghost use Rattle.twkb_writer.specs.Measuring.{option_list, tail_after, points_at, TakenRow, Counted, Measures};
@@ -17,7 +17,7 @@ ghost use Rattle.twkb_writer.specs.Tails.{tail_of};
 use crate::alone::measure_one;
 use crate::depths::Depths;
 use crate::sizes::{Entry, Sizes};
-use crate::tails::Tail;
+use crate::tails::TailTotals;
 use std::alloc::{AllocError, Global};
 use twkb_flat::{Flat, Node, NodeId, PointId, Work};
 use twkb_grammar::Style;
@@ -35,7 +35,13 @@ pub(crate) fn look_at_reads(work: &Work)
 // Adds the points of a row to the totals of the points after them in its geometry. Reads each point
 // once, two at a time, from the last to the first.
 #[inline(always)]
-pub(crate) fn take_points(flat: &Flat, id: NodeId, node: &Node, tail: Tail, work: &mut Work) -> Tail
+pub(crate) fn take_points(
+    flat: &Flat,
+    id: NodeId,
+    node: &Node,
+    tail: TailTotals,
+    work: &mut Work,
+) -> TailTotals
     requires node { IsNode flat.now id.0 node.now }
     requires few { length (row_points flat.now) ≤ POINTS_CAP }
     requires room { tail.bytes ≤ point_bytes_cap }
@@ -70,7 +76,7 @@ fn take_geometry(
     style: Style,
     node: &Node,
     precision: i8,
-    points: &Tail,
+    points: &TailTotals,
     levels: &mut Depths,
 ) -> Entry
     requires deep { node.now.row.depth < 35 }
@@ -106,7 +112,7 @@ fn take_part(node: &Node, levels: &mut Depths)
 // Adds a row to the totals at its depth, drops the totals below it, and returns its entry if it is
 // a geometry itself.
 #[inline(always)]
-fn take_row(style: Style, node: &Node, points: &Tail, levels: &mut Depths) -> Option<Entry>
+fn take_row(style: Style, node: &Node, points: &TailTotals, levels: &mut Depths) -> Option<Entry>
     requires deep { node.now.row.depth < 35 }
     requires small { (k : ℕ) → k < 36 → IsSmall (slice_index_or levels.old k blank) }
     requires points { points.now.bytes ≤ sums_cap }
@@ -141,11 +147,11 @@ pub(crate) fn keep(
 }
 
 // The totals of points that the row before this one adds to: none if this row begins a geometry.
-fn before_row(node: &Node, points: Tail) -> Tail
+fn before_row(node: &Node, points: TailTotals) -> TailTotals
     ensures { result ≡ tail_after node.now.row.precision points }
 {
     match node.row.precision {
-        Some(_) => Tail::none(),
+        Some(_) => TailTotals::none(),
         None => points,
     }
 }
@@ -166,7 +172,7 @@ fn measure_rows(
     depths.clear();
     entries.clear();
     look_at_reads(work);
-    let mut tail = Tail::none();
+    let mut tail = TailTotals::none();
     for back in 0..total {
         let id = NodeId(total - 1 - back);
         let node = flat.node(id, work);

@@ -7,13 +7,13 @@ ghost use Rattle.twkb_writer.specs.Putting.{Put};
 ghost use Rattle.twkb_writer.specs.Reads.{Reads};
 
 use crate::gatherer::Gatherer;
-use crate::job::Placed;
+use crate::job::PlacedNode;
 use twkb_flat::{Flat, NodeId, Work};
 use twkb_io::Sink;
 
 // How many members a node has, and whether their ids are written.
 #[derive(Clone, Copy)]
-pub(crate) struct MemberIds {
+pub(crate) struct MemberList {
     pub(crate) count: u32,
     pub(crate) named: bool,
 }
@@ -21,7 +21,7 @@ pub(crate) struct MemberIds {
 // Puts the ids of a node's members. Reads each member once.
 pub(crate) fn put_ids<S: Sink>(
     flat: &Flat,
-    at: &Placed,
+    at: &PlacedNode,
     gatherer: &mut Gatherer<'_, '_, '_, S, S::Fault>,
     work: &mut Work,
 )
@@ -39,7 +39,7 @@ pub(crate) fn put_ids<S: Sink>(
 }
 
 // Counts the members of a node. Reads each once.
-pub(crate) fn count_members(flat: &Flat, at: &Placed, work: &mut Work) -> u32
+pub(crate) fn count_members(flat: &Flat, at: &PlacedNode, work: &mut Work) -> u32
     requires { IsNode flat.now at.now.id.0 at.now.node }
     ensures count { result ≡ length (members_of flat.now at.now) }
     ensures reads { Reads work.old (length (members_of flat.now at.now)) 0 work.new }

@@ -3,14 +3,14 @@ ghost use Rattle.std.specs.Prelude.{◌≡◌, ◌+◌, ◌*◌, ◌≤◌, ◌<
 ghost use Rattle.twkb_tree.specs.Rows.{row_points};
 ghost use Rattle.twkb_flat.specs.Rows.{IsNode};
 ghost use Rattle.twkb_writer.specs.Bytes.{way_start, entry_count, entries_in};
-ghost use Rattle.twkb_writer.specs.Nodes.{members_of, listed_of, counts_of, own_of, part_of, lead_of, bytes_of};
+ghost use Rattle.twkb_writer.specs.Nodes.{members_of, listed_of, counts_of, own_of, component_of, lead_of, bytes_of};
 ghost use Rattle.twkb_writer.specs.Putting.{Put};
 ghost use Rattle.twkb_writer.specs.Reads.{Reads};
 
 use crate::gatherer::Gatherer;
 use crate::header::{has_no_body, put_header};
-use crate::job::{Job, Placed};
-use crate::members::{MemberIds, count_members, put_ids};
+use crate::job::{Job, PlacedNode};
+use crate::members::{MemberList, count_members, put_ids};
 use crate::points::put_points;
 use crate::sizes::Entry;
 use twkb_flat::{Flat, NodeId, Work};
@@ -21,8 +21,8 @@ use twkb_tree::Kind;
 // Puts the count of a node's members, and their ids if they are written.
 fn put_members<S: Sink>(
     flat: &Flat,
-    at: &Placed,
-    members: MemberIds,
+    at: &PlacedNode,
+    members: MemberList,
     gatherer: &mut Gatherer<'_, '_, '_, S, S::Fault>,
     work: &mut Work,
 )
@@ -41,8 +41,8 @@ fn put_members<S: Sink>(
 #[inline(always)]
 fn put_counts<S: Sink>(
     flat: &Flat,
-    at: &Placed,
-    members: MemberIds,
+    at: &PlacedNode,
+    members: MemberList,
     gatherer: &mut Gatherer<'_, '_, '_, S, S::Fault>,
     work: &mut Work,
 )
@@ -65,7 +65,7 @@ fn put_counts<S: Sink>(
 #[inline(always)]
 fn put_own<S: Sink>(
     flat: &Flat,
-    at: &Placed,
+    at: &PlacedNode,
     entry: &Entry,
     gatherer: &mut Gatherer<'_, '_, '_, S, S::Fault>,
     work: &mut Work,
@@ -77,7 +77,7 @@ fn put_own<S: Sink>(
     if has_no_body(at.node.points, entry) {
         return;
     }
-    let members = MemberIds {
+    let members = MemberList {
         count: entry.members,
         named: entry.named,
     };
@@ -86,44 +86,44 @@ fn put_own<S: Sink>(
 
 // Puts the bytes before the points of a part of a geometry.
 #[inline(always)]
-fn put_part<S: Sink>(
+fn put_component<S: Sink>(
     flat: &Flat,
-    at: &Placed,
+    at: &PlacedNode,
     gatherer: &mut Gatherer<'_, '_, '_, S, S::Fault>,
     work: &mut Work,
 )
     requires { IsNode flat.now at.now.id.0 at.now.node }
-    ensures put { Put S.took S.refused gatherer.old (part_of flat.now at.now) gatherer.new }
+    ensures put { Put S.took S.refused gatherer.old (component_of flat.now at.now) gatherer.new }
     ensures reads { Reads work.old (length (members_of flat.now at.now)) 0 work.new }
 {
     let count = count_members(flat, at, work);
-    let members = MemberIds {
+    let members = MemberList {
         count,
         named: false,
     };
     put_counts(flat, at, members, gatherer, work);
 }
 
-// The cursor's place, and the index of the next geometry's entry.
+// Where the next row starts: the cursor, and the index of the next geometry's entry.
 #[derive(Clone, Copy)]
-struct Place {
+struct RowStart {
     cursor: Cursor,
     entry: usize,
 }
 
-// The place where the points of a row with this precision begin, and the index of the next entry.
+// Where the points of a row with this precision start, and the index of the entry after it.
 #[inline(always)]
-fn place_of_points(precision: Option<i8>, place: Place) -> Place
-    requires { place.entry + entry_count precision < 2 ^ 64 }
-    ensures at { result.cursor ≡ way_start precision place.cursor }
-    ensures entry { result.entry ≡ place.entry + entry_count precision }
+fn start_of_points(precision: Option<i8>, start: RowStart) -> RowStart
+    requires { start.entry + entry_count precision < 2 ^ 64 }
+    ensures at { result.cursor ≡ way_start precision start.cursor }
+    ensures entry { result.entry ≡ start.entry + entry_count precision }
 {
     match precision {
-        Some(_) => Place {
+        Some(_) => RowStart {
             cursor: Cursor::origin(),
-            entry: place.entry + 1,
+            entry: start.entry + 1,
         },
-        None => place,
+        None => start,
     }
 }
 
@@ -131,7 +131,7 @@ fn place_of_points(precision: Option<i8>, place: Place) -> Place
 #[inline(always)]
 fn put_lead<S: Sink>(
     job: &Job<'_>,
-    at: &Placed,
+    at: &PlacedNode,
     entry: usize,
     gatherer: &mut Gatherer<'_, '_, '_, S, S::Fault>,
     work: &mut Work,
@@ -148,7 +148,7 @@ fn put_lead<S: Sink>(
             put_header(job.style, &at.node, precision, &entry, gatherer);
             put_own(job.flat, at, &entry, gatherer, work);
         }
-        None => put_part(job.flat, at, gatherer, work),
+        None => put_component(job.flat, at, gatherer, work),
     }
 }
 
@@ -165,7 +165,7 @@ pub(crate) fn put_rows<S: Sink>(
     // lets proofs know that there are fewer than 2^64 entries
     let _learnt = job.sizes.len();
     let flat = job.flat;
-    let mut place = Place {
+    let mut start = RowStart {
         cursor: Cursor::origin(),
         entry: 0,
     };
@@ -175,9 +175,9 @@ pub(crate) fn put_rows<S: Sink>(
         }
         let id = NodeId(index);
         let node = flat.node(id, work);
-        let at = Placed { id, node };
-        put_lead(job, &at, place.entry, gatherer, work);
-        place = place_of_points(node.row.precision, place);
-        put_points(flat, &node, &mut place.cursor, gatherer, work);
+        let at = PlacedNode { id, node };
+        put_lead(job, &at, start.entry, gatherer, work);
+        start = start_of_points(node.row.precision, start);
+        put_points(flat, &node, &mut start.cursor, gatherer, work);
     }
 }

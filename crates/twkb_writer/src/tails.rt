@@ -11,7 +11,7 @@ use twkb_points::{Bounds, Cursor, Pt, merged};
 
 // Totals of the points of a geometry from one point on.
 #[derive(Clone, Copy)]
-pub(crate) struct Tail {
+pub(crate) struct TailTotals {
     // The first of the points.
     pub(crate) first: Option<Pt>,
     // The number of bytes of the differences of all points but the first, each from the point
@@ -23,7 +23,7 @@ pub(crate) struct Tail {
 
 // The totals of at least one point.
 #[derive(Drop)]
-pub(crate) struct NonEmptyTail {
+pub(crate) struct NonEmptyTailTotals {
     pub(crate) first: Pt,
     pub(crate) bytes: VarintLens,
     pub(crate) bounds: Bounds,
@@ -55,12 +55,12 @@ fn add_two_steps(bytes: &mut VarintLens, from: Pt, by: Pt, to: Pt)
     bytes.add_four(zigzag(x), zigzag(y), zigzag(next_x), zigzag(next_y));
 }
 
-impl Tail {
+impl TailTotals {
     // Makes the totals of no points.
-    pub(crate) fn none() -> Tail
+    pub(crate) fn none() -> TailTotals
         ensures { result ≡ tail_of [] }
     {
-        Tail {
+        TailTotals {
             first: None,
             bytes: 0,
             bounds: None,
@@ -68,7 +68,7 @@ impl Tail {
     }
 
     // Adds a point before these points.
-    pub(crate) fn with_first(self, point: Pt) -> Tail
+    pub(crate) fn with_first(self, point: Pt) -> TailTotals
         requires room { self.bytes ≤ sums_cap }
         ensures value { (ps : List Point) → self ≡ tail_of ps → result ≡ tail_of (point ∷ ps) }
         ensures most { result.bytes ≤ self.bytes + 20 }
@@ -77,7 +77,7 @@ impl Tail {
             Some(next) => step_len(point, next),
             None => 0,
         };
-        Tail {
+        TailTotals {
             first: Some(point),
             bytes: step + self.bytes,
             bounds: merged(Some(Bounds::of(point)), self.bounds),
@@ -86,7 +86,7 @@ impl Tail {
 
     // Adds a point before these points, so that there is at least one.
     #[inline(always)]
-    pub(crate) fn begun(self, point: Pt) -> NonEmptyTail
+    pub(crate) fn begun(self, point: Pt) -> NonEmptyTailTotals
         requires room { self.bytes ≤ sums_cap }
         ensures value { (ps : List Point) → self ≡ tail_of ps → tail_from result ≡ tail_of (point ∷ ps) }
         ensures most { result.bytes ≤ self.bytes + 20 }
@@ -99,7 +99,7 @@ impl Tail {
         if let Some(others) = self.bounds {
             bounds.merge(&others);
         }
-        NonEmptyTail {
+        NonEmptyTailTotals {
             first: point,
             bytes: VarintLens::from(step + self.bytes),
             bounds,
@@ -122,10 +122,10 @@ impl Tail {
     }
 }
 
-impl NonEmptyTail {
+impl NonEmptyTailTotals {
     // Adds two points before these points.
     #[inline(always)]
-    pub(crate) fn with_first_two(self, point: Pt, next: Pt) -> NonEmptyTail
+    pub(crate) fn with_first_two(self, point: Pt, next: Pt) -> NonEmptyTailTotals
         requires room { self.bytes ≤ lanes_cap }
         ensures value { (ps : List Point) → tail_from self ≡ tail_of ps
             → tail_from result ≡ tail_of (point ∷ next ∷ ps) }
@@ -137,7 +137,7 @@ impl NonEmptyTail {
         bounds.merge(&others);
         let mut bytes = self.bytes;
         add_two_steps(&mut bytes, point, next, self.first);
-        NonEmptyTail {
+        NonEmptyTailTotals {
             first: point,
             bytes,
             bounds,
@@ -146,11 +146,11 @@ impl NonEmptyTail {
 
     // Turns totals of at least one point into totals of any number of points.
     #[inline(always)]
-    pub(crate) fn tail(self) -> Tail
+    pub(crate) fn tail(self) -> TailTotals
         requires { self.bytes ≤ lanes_cap }
         ensures { result ≡ tail_from self }
     {
-        Tail {
+        TailTotals {
             first: Some(self.first),
             bytes: self.bytes.total(),
             bounds: Some(self.bounds),

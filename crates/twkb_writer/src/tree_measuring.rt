@@ -13,26 +13,26 @@ ghost use Rattle.twkb_writer.specs.Tails.{tail_of};
 ghost use Rattle.twkb_writer.specs.TreeMeasuring.{way_of, level_under, tree_level, most_of, IsWithinCaps};
 
 use crate::levels::Level;
-use crate::tails::Tail;
+use crate::tails::TailTotals;
 use std::slice::from_ref;
 use twkb_grammar::Style;
 use twkb_points::Pt;
-use twkb_tree::{Geometry, Ids, Item, Kind, Lines, Members, Pts, Shape, id_at, own_parts};
+use twkb_tree::{Element, Geometry, Ids, Kind, Lines, Members, Pts, Shape, id_at, own_parts};
 
-// A part of a geometry whose length is measured: a point, line, ring or polygon.
-trait MeasuredPart: Item {
-    // The points of the part's own row.
+// A component of a geometry whose length is measured: a point, line, ring or polygon.
+trait MeasuredPart: Element {
+    // The points of the component's own row.
     ghost own: { Self → List Point };
 
-    // All points of the part, in order.
+    // All points of the component, in order.
     ghost all: { Self → List Point };
 
-    // The points of the part's own row. Takes no memory.
+    // The points of the component's own row. Takes no memory.
     fn own_points(&self) -> &[Pt]
         ensures { result.now ≡ own self.now };
 
-    // Adds the part's points before those after it in the geometry.
-    fn in_front_of(&self, tail: Tail) -> Tail
+    // Adds the component's points before those after it in the geometry.
+    fn in_front_of(&self, tail: TailTotals) -> TailTotals
         requires room { tail.bytes + 20 * length (all self.now) ≤ sums_cap }
         ensures value { (ahead : List Point) → tail ≡ tail_of ahead → result ≡ tail_of (all self.now ++ ahead) }
         ensures most { result.bytes ≤ tail.bytes + 20 * length (all self.now) };
@@ -47,7 +47,7 @@ impl MeasuredPart for Pt {
         from_ref(self)
     }
 
-    fn in_front_of(&self, tail: Tail) -> Tail {
+    fn in_front_of(&self, tail: TailTotals) -> TailTotals {
         tail.with_first(*self)
     }
 }
@@ -61,7 +61,7 @@ impl MeasuredPart for Pts {
         self.as_slice()
     }
 
-    fn in_front_of(&self, tail: Tail) -> Tail {
+    fn in_front_of(&self, tail: TailTotals) -> TailTotals {
         tail_before(self.as_slice(), tail)
     }
 }
@@ -75,35 +75,36 @@ impl MeasuredPart for Lines {
         &[]
     }
 
-    fn in_front_of(&self, tail: Tail) -> Tail {
+    fn in_front_of(&self, tail: TailTotals) -> TailTotals {
         tail_before(self.as_slice(), tail)
     }
 }
 
-// Adds the points of parts before those after them in the geometry.
-fn tail_before<T: MeasuredPart>(parts: &[T], tail: Tail) -> Tail
-    requires room { tail.bytes + 20 * length (flat_map T.all parts.now) ≤ sums_cap }
-    ensures value { (ahead : List Point) → tail ≡ tail_of ahead → result ≡ tail_of (flat_map T.all parts.now ++ ahead) }
-    ensures most { result.bytes ≤ tail.bytes + 20 * length (flat_map T.all parts.now) }
+// Adds the points of components before those after them in the geometry.
+fn tail_before<T: MeasuredPart>(components: &[T], tail: TailTotals) -> TailTotals
+    requires room { tail.bytes + 20 * length (flat_map T.all components.now) ≤ sums_cap }
+    ensures value { (ahead : List Point) → tail ≡ tail_of ahead
+        → result ≡ tail_of (flat_map T.all components.now ++ ahead) }
+    ensures most { result.bytes ≤ tail.bytes + 20 * length (flat_map T.all components.now) }
 {
     let mut tail = tail;
-    for index in (0..parts.len()).rev() {
-        tail = parts[index].in_front_of(tail);
+    for index in (0..components.len()).rev() {
+        tail = components[index].in_front_of(tail);
     }
     tail
 }
 
 // The totals of rings, or of members that are points or linestrings.
-fn parts_level<T: MeasuredPart>(kind: Kind, parts: &[T], ids: &Ids) -> Level
-    requires few { length parts.now ≤ NODES_CAP }
-    requires few_points { length (flat_map T.own parts.now) ≤ POINTS_CAP }
+fn components_level<T: MeasuredPart>(kind: Kind, components: &[T], ids: &Ids) -> Level
+    requires few { length components.now ≤ NODES_CAP }
+    requires few_points { length (flat_map T.own components.now) ≤ POINTS_CAP }
     ensures value { result ≡ level Full 0 (rows_of_each
-        (λ id part. plain_row 0 kind id (T.own part) ∷ []) ids.now parts.now) }
-    ensures most { load result ≤ 20 * length parts.now }
+        (λ id component. plain_row 0 kind id (T.own component) ∷ []) ids.now components.now) }
+    ensures most { load result ≤ 20 * length components.now }
 {
     let mut level = Level::blank();
-    for index in (0..parts.len()).rev() {
-        let own = parts[index].own_points().len() as u32;
+    for index in (0..components.len()).rev() {
+        let own = components[index].own_points().len() as u32;
         level = level.with_part(kind, own, id_at(ids, index), &Level::blank());
     }
     level
@@ -118,24 +119,26 @@ fn areas_level(areas: &[Lines], ids: &Ids) -> Level
 {
     let mut level = Level::blank();
     for index in (0..areas.len()).rev() {
-        let rings = parts_level(Kind::Ring, areas[index].as_slice(), &None);
+        let rings = components_level(Kind::Ring, areas[index].as_slice(), &None);
         level = level.with_part(Kind::Polygon, 0, id_at(ids, index), &rings);
     }
     level
 }
 
-// The points of the geometry itself, those of its parts included.
-fn own_tail(geometry: &Geometry) -> Tail
+// The points of the geometry itself, those of its components included.
+fn own_tail(geometry: &Geometry) -> TailTotals
     requires few { length (flat geometry.now) ≤ POINTS_CAP }
     ensures value { result ≡ tail_of (way_of geometry.now) }
     ensures most { result.bytes ≤ 20 * length (way_of geometry.now) }
 {
     match geometry.shape() {
-        Shape::Point(None) | Shape::Collection(_, _) => Tail::none(),
-        Shape::Point(Some(point)) => Tail::none().with_first(*point),
-        Shape::Line(points) | Shape::MultiPoint(points, _) => points.in_front_of(Tail::none()),
-        Shape::Polygon(lines) | Shape::MultiLine(lines, _) => lines.in_front_of(Tail::none()),
-        Shape::MultiPolygon(areas, _) => tail_before(areas.as_slice(), Tail::none()),
+        Shape::Point(None) | Shape::Collection(_, _) => TailTotals::none(),
+        Shape::Point(Some(point)) => TailTotals::none().with_first(*point),
+        Shape::Line(points) | Shape::MultiPoint(points, _) => points.in_front_of(
+            TailTotals::none(),
+        ),
+        Shape::Polygon(lines) | Shape::MultiLine(lines, _) => lines.in_front_of(TailTotals::none()),
+        Shape::MultiPolygon(areas, _) => tail_before(areas.as_slice(), TailTotals::none()),
     }
 }
 
@@ -165,9 +168,9 @@ fn below(geometry: &Geometry) -> Level
 {
     match geometry.shape() {
         Shape::Point(_) | Shape::Line(_) => Level::blank(),
-        Shape::Polygon(rings) => parts_level(Kind::Ring, rings.as_slice(), &None),
-        Shape::MultiPoint(points, ids) => parts_level(Kind::Point, points.as_slice(), ids),
-        Shape::MultiLine(lines, ids) => parts_level(Kind::Linestring, lines.as_slice(), ids),
+        Shape::Polygon(rings) => components_level(Kind::Ring, rings.as_slice(), &None),
+        Shape::MultiPoint(points, ids) => components_level(Kind::Point, points.as_slice(), ids),
+        Shape::MultiLine(lines, ids) => components_level(Kind::Linestring, lines.as_slice(), ids),
         Shape::MultiPolygon(areas, ids) => areas_level(areas.as_slice(), ids),
         Shape::Collection(members, ids) => members_level(members, ids),
     }

@@ -2,9 +2,9 @@
 //! rows of the program `vectors`.
 use crate::fixtures::{POINT_AND_LINE, form};
 use twkb_tree::row_rules::{
-    count_fits, has_place, has_points, has_same_ids, id_allowed, is_whole, may_have, nest_kept,
+    count_fits, has_place, has_points, has_same_ids, id_allowed, is_geometry, may_have, nest_kept,
 };
-use twkb_tree::{Kind, Limits, OpenRow, Standing};
+use twkb_tree::{Kind, Limits, OpenRow, RowPlace};
 
 // An open row of this kind, and whether its first child has an id, if it has a child.
 fn under(kind: Kind, child_ids: Option<bool>) -> Option<OpenRow> {
@@ -17,7 +17,7 @@ fn parents_and_children(rt: HostRuntime) {
     let multipoint = under(Kind::MultiPoint, None);
     let may_be = may_have(Kind::Polygon, Kind::Ring) & !may_have(Kind::Point, Kind::Point);
     let may_stand = has_place(None, Kind::Collection) & !has_place(collection, Kind::Ring);
-    let are_whole = is_whole(None) & is_whole(collection) & !is_whole(multipoint);
+    let are_whole = is_geometry(None) & is_geometry(collection) & !is_geometry(multipoint);
     let limits = Limits::largest();
     let are_nested = nest_kept(&limits, collection, 32) & !nest_kept(&limits, collection, 33);
     assert!(rt; may_be & may_stand & are_whole & are_nested);
@@ -46,27 +46,27 @@ fn a_row_stands_under_the_last_row_above_its_depth(rt: HostRuntime) {
     let child_ids = None;
     let kind = Kind::MultiPoint;
     let rows = [OpenRow::default(), OpenRow { kind, child_ids }];
-    let below = Standing {
+    let below = RowPlace {
         depth: 2,
         parent: Some(rows[1]),
         nodes: 5,
         points: 3,
     };
-    let is_below = Standing::at(2, &rows, 5, 3) == Some(below);
-    assert!(rt; is_below & Standing::at(3, &rows, 5, 3).is_none());
+    let is_below = RowPlace::at(2, &rows, 5, 3) == Some(below);
+    assert!(rt; is_below & RowPlace::at(3, &rows, 5, 3).is_none());
 }
 
 // The rows of the form are a collection, a point with an id, and a linestring with an id.
 #[test]
 fn places_after_the_rows_of_a_form(rt: HostRuntime) {
     let flat = form(rt.alloc(), POINT_AND_LINE);
-    let member = Standing {
+    let member = RowPlace {
         depth: 1,
         parent: under(Kind::Collection, Some(true)),
         nodes: 3,
         points: 1,
     };
-    let below = Standing {
+    let below = RowPlace {
         depth: 2,
         parent: under(Kind::Linestring, None),
         nodes: 3,
@@ -74,7 +74,7 @@ fn places_after_the_rows_of_a_form(rt: HostRuntime) {
     };
     let are_members = (flat.place(1) == Some(member)) & (flat.place(2) == Some(below));
     assert!(rt;
-        are_members & (flat.place(0) == Standing::at(0, &[], 0, 0)) & flat.place(3).is_none()
+        are_members & (flat.place(0) == RowPlace::at(0, &[], 0, 0)) & flat.place(3).is_none()
     );
 }
 

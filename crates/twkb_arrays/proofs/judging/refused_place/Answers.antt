@@ -17,10 +17,10 @@ returns-then-not-nest_kept c = (
   refl,
 )
 
-pub returns-then-nodes-standing : goal.returns-then-nodes-standing
-returns-then-nodes-standing c =
-    let full : nat_lt c.args.standing.now.nodes c.args.limits.now.nodes ≡ false = grind
-    (arith, nat_tests, c.nodes.ensures, c.if-nodes-standing.true) in (
+pub returns-then-nodes-row_place : goal.returns-then-nodes-row_place
+returns-then-nodes-row_place c =
+    let full : nat_lt c.args.row_place.now.nodes c.args.limits.now.nodes ≡ false = grind
+    (arith, nat_tests, c.nodes.ensures, c.if-nodes-row_place.true) in (
       TooManyNodes,
       rw (
         sym c.has_place.ensures.value ∙ c.if-not-has_place.false,

@@ -28,13 +28,13 @@ pub returns-then-room-2 : goal.returns-then-room-2
 returns-then-room-2 c =
     let own = points_of c.args.own.now in
     let as_many = length-map c.args.own.now point_of in
-    let room = ap (λ (n : ℕ). nat_le (c.args.standing.now.points + n) c.args.limits.now.points) as_many
+    let room = ap (λ (n : ℕ). nat_le (c.args.row_place.now.points + n) c.args.limits.now.points) as_many
     ∙ sym c.has_room-room.ensures ∙ c.if-room-2.true in
     let misfits : c.count_fits-fits.result ≡ false = elim c.else-room.branch [
       | else-room-via-then-room+else-fits w ↦ w.if-fits.false
       | else-room-via-else-room w ↦ cc (w.if-room.false, c.if-room-2.true)
     ] in
-    let fits = ap (λ whole. points_fit c.args.row.now.kind whole own) (sym c.is_whole.ensures.value)
+    let fits = ap (λ whole. points_fit c.args.row.now.kind whole own) (sym c.is_geometry.ensures.value)
     ∙ c.count_fits-fits.ensures.value own as_many ∙ misfits in (
       PointCount,
       rw (
@@ -48,7 +48,7 @@ returns-then-room-2 c =
 
 pub returns-else-room-2 : goal.returns-else-room-2
 returns-else-room-2 c =
-    let room = ap (λ (n : ℕ). nat_le (c.args.standing.now.points + n) c.args.limits.now.points)
+    let room = ap (λ (n : ℕ). nat_le (c.args.row_place.now.points + n) c.args.limits.now.points)
     (length-map c.args.own.now point_of) ∙ sym c.has_room-room.ensures ∙ c.if-room-2.false in (
       TooManyPoints,
       rw (

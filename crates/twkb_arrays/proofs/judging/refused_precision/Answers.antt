@@ -1,5 +1,5 @@
 use Rattle.std.proofs.Common.{◌∙◌, sym, refl}
-use Rattle.twkb_tree.specs.Admits.{is_whole}
+use Rattle.twkb_tree.specs.Admits.{is_geometry}
 use Rattle.twkb_tree.specs.Open.{row_of}
 use Rattle.twkb_tree.specs.Refusal.{BadPrecision, PrecisionMissing, PrecisionNotAllowed}
 use Rattle.twkb_arrays.proofs.JudgingLemmas.{not_allowed}
@@ -17,7 +17,7 @@ returns-else-has_precision c = (
   PrecisionMissing,
   rw (
     sym c.is_right_precision.ensures ∙ c.if-not-is_right_precision.false,
-    sym c.is_whole.ensures.value ∙ c.if-is_whole.true,
+    sym c.is_geometry.ensures.value ∙ c.if-is_geometry.true,
     sym c.is_some-has_precision.ensures ∙ c.if-has_precision.false,
   ) refl,
   refl,
@@ -25,12 +25,12 @@ returns-else-has_precision c = (
 
 pub returns-then-has_precision-2 : goal.returns-then-has_precision-2
 returns-then-has_precision-2 c =
-    let under = sym c.is_whole.ensures.value ∙ c.if-is_whole.false in
+    let under = sym c.is_geometry.ensures.value ∙ c.if-is_geometry.false in
     let has = sym c.is_some-has_precision.ensures ∙ c.if-has_precision-2.true in (
       PrecisionNotAllowed,
       rw (
         sym c.is_right_precision.ensures ∙ c.if-not-is_right_precision.false,
-        not_allowed (is_whole (row_of c.args.parent)) c.args.row.now.precision under has,
+        not_allowed (is_geometry (row_of c.args.parent)) c.args.row.now.precision under has,
         under,
       ) refl,
       refl,

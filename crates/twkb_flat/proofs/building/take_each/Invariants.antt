@@ -1,20 +1,20 @@
--- The parts so far were taken, and the others are at the place.
+-- The components so far were taken, and the others are at the place.
 use Rattle.std.proofs.Common.{List, length, drop}
 use Rattle.twkb_tree.specs.declared.kind.Kind.{Kind}
 use Rattle.twkb_tree.specs.Tree.{Ids}
 use Rattle.twkb_tree.specs.Rows.{Row}
-use Rattle.twkb_flat.specs.Parts.{part_rows}
+use Rattle.twkb_flat.specs.Components.{component_rows}
 use Rattle.twkb_flat.specs.Taking.{EachAt, IsAny}
 use Rattle.twkb_flat.proofs.TakeLemmas.{Left}
 use Rattle.twkb_flat.proofs.building.take_each.Given as goal
 
 abbrev pub invariant-loop-alloc : goal.invariant-loop-alloc
 invariant-loop-alloc g l =
-    (kind : Kind) (ids : Ids) (parts : List g.row.T.Denot) (rest : List Row)
-    → EachAt IsAny (part_rows g.T.Part.own g.T.Part.below kind l.depth) l.flat l.start l.depth
-    ids parts rest
-    → Left IsAny (part_rows g.T.Part.own g.T.Part.below kind l.depth) l.flat ids parts rest l.at
-    l.parts.items l.ids.items
+    (kind : Kind) (ids : Ids) (components : List g.row.T.Denot) (rest : List Row)
+    → EachAt IsAny (component_rows g.T.Component.own g.T.Component.below kind l.depth) l.flat l.start l.depth
+    ids components rest
+    → Left IsAny (component_rows g.T.Component.own g.T.Component.below kind l.depth) l.flat ids components rest l.at
+    l.components.items l.ids.items
 
 abbrev pub decreases-loop-alloc : goal.decreases-loop-alloc
 decreases-loop-alloc g l = length (drop l.at l.flat)

@@ -6,9 +6,9 @@ use Rattle.twkb_tree.specs.Rows.{rows_with, rows_under, own_row}
 use Rattle.twkb_flat.proofs.TakeLemmas.{tree_heads, item_within}
 use Rattle.twkb_flat.proofs.BuildLemmas.{point_taken, line_taken, read_kind, own_here, rings_at}
 use Rattle.twkb_flat.proofs.BuildLemmas.{points_at, lines_at, areas_at}
-use Rattle.twkb_flat.proofs.BuildParts.{ids_below, points_below, lines_below, areas_below}
-use Rattle.twkb_flat.proofs.BuildParts.{is_polygon, is_multi_point, is_multi_line, is_multi_polygon}
-use Rattle.twkb_flat.proofs.BuildParts.{is_no_ring}
+use Rattle.twkb_flat.proofs.BuildComponents.{ids_below, points_below, lines_below, areas_below}
+use Rattle.twkb_flat.proofs.BuildComponents.{is_polygon, is_multi_point, is_multi_line, is_multi_polygon}
+use Rattle.twkb_flat.proofs.BuildComponents.{is_no_ring}
 use Rattle.twkb_flat.proofs.building.take_simple.Goals as goal
 
 pub row-row-requires : goal.row-row-requires

@@ -59,8 +59,8 @@ pub push_under-returns-in-Collection : goal.push_under-returns-in-Collection
 push_under-returns-in-Collection t c = under_pushed _ _ _ _ _ _
     (under_shape _ _ _ _ _ c.shape.ensures c.in-Collection.is) c.push_members.ensures
 
-pub push_under-push_parts-requires : goal.push_under-push_parts-requires
-push_under-push_parts-requires t c = record {
+pub push_under-push_components-requires : goal.push_under-push_components-requires
+push_under-push_components-requires t c = record {
   valid = c.requires;
   no_collection = is_simple _ _ _ c.shape.ensures c.in_default.not-Collection;
 }

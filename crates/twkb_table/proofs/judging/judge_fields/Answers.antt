@@ -15,16 +15,16 @@ returns-in_default-at-clause-refused c =
 
 pub returns-clause-read : goal.returns-clause-read
 returns-clause-read c =
-    if_ok _ _ c.judge_standing.result (λ head h v j before stands.
+    if_ok _ _ c.judge_at.result (λ head h v j before stands.
     judged_of c.args.limits.now before c.args.rows.now c.args.nodes c.args.held _ _ _ _ _
-    c.in-Some.depth c.in-Some-parse_kind.kind c.in-Some-at.standing v c.in-Some.ensures.reads
+    c.in-Some.depth c.in-Some-parse_kind.kind c.in-Some-at.row_place v c.in-Some.ensures.reads
     c.in-Some-parse_kind.ensures.reads c.in-Some-at.ensures.stands (h v j) stands)
-    c.judge_standing.ensures.read
+    c.judge_at.ensures.read
 
 pub returns-clause-refused : goal.returns-clause-refused
 returns-clause-refused c =
-    if_err _ _ c.judge_standing.result (λ reason j before stands. judged_of c.args.limits.now before
+    if_err _ _ c.judge_at.result (λ reason j before stands. judged_of c.args.limits.now before
     c.args.rows.now c.args.nodes c.args.held _ _ _ _ _ c.in-Some.depth c.in-Some-parse_kind.kind
-    c.in-Some-at.standing (Refused reason) c.in-Some.ensures.reads
+    c.in-Some-at.row_place (Refused reason) c.in-Some.ensures.reads
     c.in-Some-parse_kind.ensures.reads c.in-Some-at.ensures.stands j stands)
-    c.judge_standing.ensures.refused
+    c.judge_at.ensures.refused

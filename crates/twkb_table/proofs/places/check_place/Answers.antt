@@ -7,8 +7,8 @@ returns-then-not-has_place c = search rules
 pub returns-then-not-nest_kept : goal.returns-then-not-nest_kept
 returns-then-not-nest_kept c = search rules
 
-pub returns-then-nodes-standing : goal.returns-then-nodes-standing
-returns-then-nodes-standing c = search rules
+pub returns-then-nodes-row_place : goal.returns-then-nodes-row_place
+returns-then-nodes-row_place c = search rules
 
 pub returns : goal.returns
 returns c = search rules

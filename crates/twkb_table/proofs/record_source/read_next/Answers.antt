@@ -1,7 +1,7 @@
 use Rattle.std.proofs.Common.{[], ◌∷◌, ◌++◌, ap, false, not, subst, sym}
 use Rattle.csv.specs.Records.{fields_of}
 use Rattle.twkb_table.specs.CsvRecords.{HasGiven, standing}
-use Rattle.twkb_table.proofs.RecordFacts.{given_all, given_more, standing_begins, still_set_up}
+use Rattle.twkb_table.proofs.RecordFacts.{given_all, given_more, row_place_begins, still_set_up}
 use Rattle.twkb_table.proofs.record_source.read_next.Goals as goal
 
 pub returns-clause-gives : goal.returns-clause-gives
@@ -19,7 +19,7 @@ returns-clause-gives g c more told records s =
     ) in (
       subst (λ e. standing g.R.Read.remaining told (records ++ fields ∷ []) e new)
           (sym (ap not more)) stands,
-      standing_begins g.R.Read.remaining told (records ++ fields ∷ [])
+      row_place_begins g.R.Read.remaining told (records ++ fields ∷ [])
           false new stands,
     )
 

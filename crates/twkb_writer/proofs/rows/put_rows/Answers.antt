@@ -15,8 +15,8 @@ loop-index-init g c = record {
   read = (0, 0, omega arith, omega arith, reads_none _ _ _);
 }
 
-pub place_of_points-place-requires : goal.place_of_points-place-requires
-place_of_points-place-requires g c = omega (
+pub start_of_points-start-requires : goal.start_of_points-start-requires
+start_of_points-start-requires g c = omega (
   arith,
   entries_step _ _ _ c.node-node.ensures.node,
   c.loop-index.invariant.room,
@@ -35,15 +35,15 @@ loop-index-preserved g c =
     let node = c.node-node.ensures.node in
     let (n, m, walked, seen, reads) = c.loop-index.invariant.read in
     let e = rows_step c.args.job.now.style c.args.job.now.flat.now c.loop-index.index
-    c.node-node.result node c.loop-index.place.cursor
-    (drop c.loop-index.place.entry c.args.job.now.sizes.now) in
+    c.node-node.result node c.loop-index.start.cursor
+    (drop c.loop-index.start.entry c.args.job.now.sizes.now) in
     let after = step g.S.Sink.took g.S.Sink.refused _ _ _ _ _ _ _ e c.loop-index.invariant.progress
     c.put_lead.ensures.put in
     let next = next_rows c.args.job.now.style c.node-node.result.row.precision
-    c.args.job.now.sizes.now c.loop-index.place.entry c.place_of_points-place.result.entry
-    c.loop-index.place.cursor _ c.place_of_points-place.result.cursor _
+    c.args.job.now.sizes.now c.loop-index.start.entry c.start_of_points-start.result.entry
+    c.loop-index.start.cursor _ c.start_of_points-start.result.cursor _
     (drop (c.loop-index.index + 1) c.args.job.now.flat.now)
-    c.place_of_points-place.ensures.entry c.place_of_points-place.ensures.at
+    c.start_of_points-start.ensures.entry c.start_of_points-start.ensures.at
     c.put_points.ensures.moved in
     let members_read = length (members_below c.node-node.result.row.depth
     (drop (c.loop-index.index + 1) c.args.job.now.flat.now)) in
@@ -51,7 +51,7 @@ loop-index-preserved g c =
     let see = points_step c.args.job.now.flat.now c.loop-index.index c.node-node.result node in
     record {
       progress = step g.S.Sink.took g.S.Sink.refused _ _ _ _ _ _ _ next after c.put_points.ensures.put;
-      room = omega (arith, entries_step _ _ _ node, c.place_of_points-place.ensures.entry, c.loop-index.invariant.room);
+      room = omega (arith, entries_step _ _ _ node, c.start_of_points-start.ensures.entry, c.loop-index.invariant.room);
       read = (
         n + (1 + members_read),
         m + c.node-node.result.points,
@@ -75,8 +75,8 @@ returns-then-is_some-clause-reads g c =
 pub returns-clause-put : goal.returns-clause-put
 returns-clause-put g c =
     finished g.S.Sink.took g.S.Sink.refused _ _ _ _
-    (ap (rows_bytes c.args.job.now.style c.loop-index.place.cursor
-    (drop c.loop-index.place.entry c.args.job.now.sizes.now))
+    (ap (rows_bytes c.args.job.now.style c.loop-index.start.cursor
+    (drop c.loop-index.start.entry c.args.job.now.sizes.now))
     (drop_all c.loop-index.index c.args.job.now.flat.now (omega arith)))
     c.loop-index.invariant.progress
 

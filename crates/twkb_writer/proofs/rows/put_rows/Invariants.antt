@@ -12,8 +12,8 @@ invariant-loop-index g l =
     record {
       progress : Progress g.S.Sink.took g.S.Sink.refused l.fn.gatherer
           (rows_bytes l.job.style origin l.job.sizes.now l.job.flat.now) l.gatherer
-          (rows_bytes l.job.style l.place.cursor (drop l.place.entry l.job.sizes.now) (drop l.index l.job.flat.now));
-      room : l.place.entry + entries_in (drop l.index l.job.flat.now) ≤ length l.job.sizes.now;
+          (rows_bytes l.job.style l.start.cursor (drop l.start.entry l.job.sizes.now) (drop l.index l.job.flat.now));
+      room : l.start.entry + entries_in (drop l.index l.job.flat.now) ≤ length l.job.sizes.now;
       read : (n m : ℕ) × (n + walks (drop l.index l.job.flat.now) ≡ walks l.job.flat.now)
           × (m + length (row_points (drop l.index l.job.flat.now)) ≡ length
           (row_points l.job.flat.now)) × Reads l.fn.work n m l.work;

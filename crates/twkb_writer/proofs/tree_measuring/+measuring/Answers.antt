@@ -80,9 +80,9 @@ members_level-returns-clause-value t c =
     (omega arith) c.loop-index.invariant.value
     ∙ ap (λ (ms : List Tree). level Full 0 (member_rows 0 c.args.ids.now (trees ms))) items
 
-pub below-parts_level-requires-in-MultiPoint-clause-few_points
-    : goal.below-parts_level-requires-in-MultiPoint-clause-few_points
-below-parts_level-requires-in-MultiPoint-clause-few_points t c =
+pub below-components_level-requires-in-MultiPoint-clause-few_points
+    : goal.below-components_level-requires-in-MultiPoint-clause-few_points
+below-components_level-requires-in-MultiPoint-clause-few_points t c =
     let ones = flat_map_ones c.as_slice-in-MultiPoint.result.now ∙ c.as_slice-in-MultiPoint.ensures.items in
     let few : length (flat_map (λ (p : Point). p ∷ []) c.as_slice-in-MultiPoint.result.now) ≤ POINTS_CAP = omega (
       arith,

@@ -13,8 +13,8 @@ use Rattle.twkb_writer.proofs.TreeLevels.{areas_back, fewer_areas, area_within, 
 use Rattle.twkb_writer.proofs.TreeLevels.{counted_from, areas_are}
 use Rattle.twkb_writer.proofs.tree_measuring.areas_level.Goals as goal
 
-pub parts_level-rings-requires-clause-few : goal.parts_level-rings-requires-clause-few
-parts_level-rings-requires-clause-few c =
+pub components_level-rings-requires-clause-few : goal.components_level-rings-requires-clause-few
+components_level-rings-requires-clause-few c =
     omega (
       arith,
       c.requires.few,
@@ -23,8 +23,8 @@ parts_level-rings-requires-clause-few c =
       ap (λ (rings : List (List Point)). length rings) c.as_slice.ensures.items,
     )
 
-pub parts_level-rings-requires-clause-few_points : goal.parts_level-rings-requires-clause-few_points
-parts_level-rings-requires-clause-few_points c =
+pub components_level-rings-requires-clause-few_points : goal.components_level-rings-requires-clause-few_points
+components_level-rings-requires-clause-few_points c =
     let k = c.loop-index.index in
     let few : length (flatten c.as_slice.result.now) ≤ POINTS_CAP = omega (
       arith,
@@ -59,7 +59,7 @@ with_part-level-requires-clause-ids_below c =
     omega (
       arith,
       c.requires.few,
-      c.parts_level-rings.ensures.most,
+      c.components_level-rings.ensures.most,
       area_within c.args.areas.now c.loop-index.index c.index-areas-index.result
           c.loop-index-test.true c.loop-index.auto.index c.index-areas-index.is,
       ap (λ (rings : List (List Point)). length rings) c.as_slice.ensures.items,
@@ -70,7 +70,7 @@ with_part-level-requires-clause-bytes_below c =
     omega (
       arith,
       c.requires.few,
-      c.parts_level-rings.ensures.most,
+      c.components_level-rings.ensures.most,
       area_within c.args.areas.now c.loop-index.index c.index-areas-index.result
           c.loop-index-test.true c.loop-index.auto.index c.index-areas-index.is,
       ap (λ (rings : List (List Point)). length rings) c.as_slice.ensures.items,
@@ -84,12 +84,12 @@ loop-index-preserved c =
       value = each_back with_polygon c.args.ids.now c.args.areas.now k area.result _ _
           c.loop-index-test.true c.loop-index.auto.index area.is c.loop-index.invariant.value
           (polygon_more c.args.ids.now (k - 1) area.result _ _ _ _ c.id_at.ensures
-          (c.parts_level-rings.ensures.value ∙ ap (λ rings. level Full 0 (ring_rows 0 rings))
+          (c.components_level-rings.ensures.value ∙ ap (λ rings. level Full 0 (ring_rows 0 rings))
           c.as_slice.ensures.items) c.with_part-level.ensures.value);
       most = omega (
         arith,
         c.loop-index.invariant.most,
-        c.parts_level-rings.ensures.most,
+        c.components_level-rings.ensures.most,
         c.with_part-level.ensures.most,
         ap (λ (rings : List (List Point)). length rings) c.as_slice.ensures.items,
         areas_back c.args.areas.now k area.result c.loop-index-test.true c.loop-index.auto.index area.is,

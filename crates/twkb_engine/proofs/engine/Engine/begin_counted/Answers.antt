@@ -3,7 +3,7 @@ use Rattle.std.specs.Prelude.{if◌then◌else◌}
 use Rattle.twkb_grammar.specs.Bits.{bit}
 use Rattle.twkb_body.specs.Growing.{Nothing, applied}
 use Rattle.twkb_body.specs.Head.{head_of, many_of}
-use Rattle.twkb_engine.specs.Collections.{groups_of}
+use Rattle.twkb_engine.specs.Collections.{frames_of}
 use Rattle.twkb_engine.specs.Taking.{own_row}
 use Rattle.twkb_engine.proofs.Members.{counted_bare, open_at}
 use Rattle.twkb_engine.proofs.engine.Engine.begin_counted.Goals as goal
@@ -15,7 +15,7 @@ returns-clause-step c =
     let none = c.restart.ensures.ids ∙ ap (λ b. if b then Some [] else None) c.if-has_ids.false in
     c.in_ok-begin_members.ensures.step
     ∙ (ap (λ ids. open_at d ids (suc (c.args.count - 1))) none ∙ counted_bare (many_of d.head.kind)
-    (head_of d.head) (groups_of d.collections) c.args.count c.requires.some bare)
+    (head_of d.head) (frames_of d.collections) c.args.count c.requires.some bare)
 
 pub returns-clause-rows : goal.returns-clause-rows
 returns-clause-rows c =

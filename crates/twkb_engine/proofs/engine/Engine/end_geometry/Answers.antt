@@ -1,6 +1,6 @@
 use Rattle.std.proofs.Common.{◌+◌, ◌-◌, ap, length, arith}
 use Rattle.twkb_grammar.specs.Machine.{Sums}
-use Rattle.twkb_engine.specs.Collections.{groups_of}
+use Rattle.twkb_engine.specs.Collections.{frames_of}
 use Rattle.twkb_engine.proofs.Ends.{all_ended, some_ended, end_noted}
 use Rattle.twkb_engine.proofs.engine.Engine.end_geometry.Goals as goal
 
@@ -26,7 +26,7 @@ returns-in-NextMember-clause-noted g c = λ w are held.
     let l = c.loop-spans in
     end_noted g.S.SpanNotes.holds c.end.new.self w
     (length d.collections - length l.self.collections)
-    (length w.begun - length (groups_of c.end_member.new.self)) (d.start + d.bytes) d.points
+    (length w.begun - length (frames_of c.end_member.new.self)) (d.start + d.bytes) d.points
     c.offset.result l.self.points
     (omega (
       arith,

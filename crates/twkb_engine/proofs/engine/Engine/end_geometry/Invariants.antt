@@ -2,7 +2,7 @@ use Rattle.std.proofs.Common.{◌≡◌, ◌-◌, ◌+◌, ◌≤◌, true, leng
 use Rattle.twkb_grammar.specs.Noting.{Notes, note_ends}
 use Rattle.twkb_grammar.specs.PlainReader.{is_exact as exact}
 use Rattle.twkb_body.specs.Outline.{outline_past_end}
-use Rattle.twkb_engine.specs.Collections.{groups_of}
+use Rattle.twkb_engine.specs.Collections.{frames_of}
 use Rattle.twkb_engine.specs.Fits.{are_shut}
 use Rattle.twkb_engine.specs.State.{sums_of}
 use Rattle.twkb_engine.specs.Taking.{past_end}
@@ -19,7 +19,7 @@ invariant-loop-spans g l = record {
   shut : are_shut l.self.points_left l.self.rings_left l.self.members_left ≡ true;
   few : length l.self.collections ≤ length l.initial.self.collections;
   way : outline_past_end (exact l.head.size (l.self.bytes - l.head.from)) l.self.bytes
-      (groups_of l.self.collections) ≡ past_end l.initial.self;
+      (frames_of l.self.collections) ≡ past_end l.initial.self;
   noted : (w : Notes) → g.S.SpanNotes.holds l.initial.spans w
       → g.S.SpanNotes.holds l.spans
       (note_ends (length l.initial.self.collections - length l.self.collections)

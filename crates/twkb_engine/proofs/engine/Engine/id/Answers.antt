@@ -1,8 +1,8 @@
 use Rattle.std.proofs.Common.{◌∙◌, Ok, refl, sym, ap, arith}
 use Rattle.twkb_body.specs.Reading.{open_count}
 use Rattle.twkb_body.specs.Head.{head_of, many_of}
-use Rattle.twkb_engine.specs.State.{step_at}
-use Rattle.twkb_engine.specs.Collections.{groups_of}
+use Rattle.twkb_engine.specs.State.{stage_at}
+use Rattle.twkb_engine.specs.Collections.{frames_of}
 use Rattle.twkb_engine.proofs.Admitted.{alive_room}
 use Rattle.twkb_engine.proofs.Items.{takes_on, takes_none}
 use Rattle.twkb_engine.proofs.Parts.{sums_as, add_zero}
@@ -45,4 +45,4 @@ returns-clause-begun c =
     let d = c.args.self.now in
     open_after d c.begin_members.new.self c.in_ok-begin_members.ensures.step
     (members_begin (head_of d.head) (many_of d.head.kind) _ d.members_left)
-    (ap (λ i. open_count (groups_of d.collections, step_at i d)) c.requires.next)
+    (ap (λ i. open_count (frames_of d.collections, stage_at i d)) c.requires.next)

@@ -3,8 +3,8 @@ use Rattle.std.specs.Prelude.{if◌then◌else◌}
 use Rattle.twkb_body.specs.Growing.{Nothing}
 use Rattle.twkb_body.specs.Admitting.{Admits}
 use Rattle.twkb_body.specs.Reading.{open_count}
-use Rattle.twkb_engine.specs.State.{step_at}
-use Rattle.twkb_engine.specs.Collections.{groups_of}
+use Rattle.twkb_engine.specs.State.{stage_at}
+use Rattle.twkb_engine.specs.Collections.{frames_of}
 use Rattle.twkb_engine.specs.Taking.{own_row, count_role}
 use Rattle.twkb_engine.proofs.Admitted.{alive_room}
 use Rattle.twkb_engine.proofs.Items.{takes, takes_on, takes_none}
@@ -55,4 +55,4 @@ returns-clause-noted g c =
     quiet_noted g.S.SpanNotes.holds (count_role d) c.args.count c.args.width d
     c.begin_counted.new.self c.args.spans.now tt (open_after d c.begin_counted.new.self
     c.in_ok-begin_counted.ensures.step (count_begins d (omega (arith, c.if-count-eq0.false)))
-    (ap (λ i. open_count (groups_of d.collections, step_at i d)) c.requires.next))
+    (ap (λ i. open_count (frames_of d.collections, stage_at i d)) c.requires.next))

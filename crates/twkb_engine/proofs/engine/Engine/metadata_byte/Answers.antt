@@ -10,7 +10,7 @@ use Rattle.twkb_grammar.specs.Roles as role
 use Rattle.twkb_body.specs.Outline.{options, outline_ends}
 use Rattle.twkb_body.specs.Growing.{id_in, header_change}
 use Rattle.twkb_body.specs.Head.{head_of, kind_of}
-use Rattle.twkb_engine.specs.Collections.{groups_of}
+use Rattle.twkb_engine.specs.Collections.{frames_of}
 use Rattle.twkb_engine.specs.State.{IsHere, size_roles}
 use Rattle.twkb_engine.specs.Standing.{IsAlive}
 use Rattle.twkb_engine.specs.Taking.{Takes, past_parts, header_row}
@@ -36,8 +36,8 @@ metadata_leads : {rs : List Row} {d : Engine} (m : Engine) (meta points : ℕ) �
     → IsHere m → Leads rs d (role.Metadata (kind_in d)) meta 1 (past_parts m
     (size_roles m.head.metadata)) (header_row m (size_roles m.head.metadata))
 metadata_leads {d = d} m meta points alive is low one fits none collections bytes kind head here =
-    let deep = sym (here.depth_is ∙ ap (λ cs. length (groups_of cs)) collections) in
-    let named = sym (here.id_is ∙ ap (λ cs. id_in (groups_of cs)) collections) in
+    let deep = sym (here.depth_is ∙ ap (λ cs. length (frames_of cs)) collections) in
+    let named = sym (here.id_is ∙ ap (λ cs. id_in (frames_of cs)) collections) in
     let free = point_allowed (announces_point (kind_in d) meta) d.limits.points d.points points one
     d.points_kept fits in
     let bare = header_with d meta in
@@ -45,7 +45,7 @@ metadata_leads {d = d} m meta points alive is low one fits none collections byte
     free)
     (ap (λ parts. past_with 1 d (options (kind_of d.head.kind) bare parts)) (asked_sizes meta none)
     ∙ sym (λ t. outline_ends (bytes t)
-    (groups_of (collections t), options (kind_of (kind t)) (head t) (size_roles (head t).meta))))
+    (frames_of (collections t), options (kind_of (kind t)) (head t) (size_roles (head t).meta))))
     (ap (λ parts. header_change m.head.depth m.head.id (kind_of d.head.kind) d.head.precision meta
     parts) (asked_sizes meta none)
     ∙ sym (λ t. header_change m.head.depth m.head.id (kind_of (kind t)) (head t).precision

@@ -7,11 +7,11 @@ use Rattle.twkb_grammar.specs.Machine.{kind_at, kind_number}
 use Rattle.twkb_body.specs.Outline.{begins}
 use Rattle.twkb_body.specs.Growing.{id_in}
 use Rattle.twkb_body.proofs.Judging.{on_err}
-use Rattle.twkb_body.specs.Parts.{sized_head}
+use Rattle.twkb_body.specs.OptionalParts.{sized_head}
 use Rattle.twkb_body.specs.Head.{kind_of, IsHeadAt}
 use Rattle.twkb_body.specs.declared.head.Head as place
-use Rattle.twkb_engine.specs.Collections.{groups_of}
-use Rattle.twkb_engine.proofs.Ahead.{leads_nowhere, kind_shown, step_kind, step_precision, any_placed, type_stops}
+use Rattle.twkb_engine.specs.Collections.{frames_of}
+use Rattle.twkb_engine.proofs.Ahead.{leads_nowhere, kind_shown, stage_kind, stage_precision, any_placed, type_stops}
 use Rattle.twkb_engine.proofs.Ahead.{header_leads}
 use Rattle.twkb_engine.proofs.Parts.{sums_as}
 use Rattle.twkb_engine.proofs.engine.Engine.take_header.Goals as goal
@@ -50,17 +50,17 @@ returns-clause-led g c = λ rs front s.
     let e = c.go_to_body.new.self in
     let collections : sm.collections ≡ d.collections = t.same.collections ∙ b.same.collections in
     let bytes : sm.bytes ≡ d.bytes = t.same.bytes ∙ b.same.bytes in
-    let kind_is : kind_of sm.head.kind ≡ kind = ap kind_of t.kind ∙ ap step_kind b.step in
+    let kind_is : kind_of sm.head.kind ≡ kind = ap kind_of t.kind ∙ ap stage_kind b.step in
     let precision : sm.head.precision ≡ unzigzag_of (h.type_byte / 16) =
-    ap (λ (x : machine.Head). x.precision) t.head ∙ ap step_precision b.step in
+    ap (λ (x : machine.Head). x.precision) t.head ∙ ap stage_precision b.step in
     let meta : sm.head.metadata ≡ h.metadata = ap (λ (x : machine.Head). x.meta) t.head in
-    let at : IsHeadAt (length (groups_of sm.collections)) (id_in (groups_of sm.collections)) e.head =
+    let at : IsHeadAt (length (frames_of sm.collections)) (id_in (frames_of sm.collections)) e.head =
     record {
       depth_is = ap (λ (x : place.Head). x.depth) last.head ∙ t.placed.depth_is;
       id_is = ap (λ (x : place.Head). x.id) last.head ∙ t.placed.id_is;
     } in
     let placed = any_placed e.next e
-    (subst (λ cs. IsHeadAt (length (groups_of cs)) (id_in (groups_of cs)) e.head)
+    (subst (λ cs. IsHeadAt (length (frames_of cs)) (id_in (frames_of cs)) e.head)
     (sym last.collections) at) in
     header_leads d rs rest h c.requires.next c.requires.alone c.in-Some.ensures low front s low_meta
     points announced few g.S.SpanNotes.holds c.args.spans.now c.begin_geometry.new.spans
@@ -71,7 +71,7 @@ returns-clause-led g c = λ rs front s.
     (last.sums ∙ sums_as (ap (λ x. x + h.used) bytes) (t.position ∙ b.position)
     (t.same.nodes ∙ b.same.nodes) (t.same.points ∙ ap (λ x. x + points) b.same.points))
     (last.step ∙ (λ i. (
-      groups_of (collections i),
+      frames_of (collections i),
       begins (kind_is i) (sized_head (precision i) (meta i) h.parts.size (bytes i + h.from)),
     )))
     b.noted t.told

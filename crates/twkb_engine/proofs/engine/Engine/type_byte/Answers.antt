@@ -3,8 +3,8 @@ use Rattle.std.proofs.lemmas.Result.{err_from_is_err_and}
 use Rattle.twkb_grammar.specs.Roles as role
 use Rattle.twkb_body.specs.Outline.{outline_ends, outline_advanced}
 use Rattle.twkb_body.specs.JudgedParts.{Passes}
-use Rattle.twkb_engine.specs.State.{step_at}
-use Rattle.twkb_engine.specs.Collections.{groups_of}
+use Rattle.twkb_engine.specs.State.{stage_at}
+use Rattle.twkb_engine.specs.Collections.{frames_of}
 use Rattle.twkb_engine.specs.Taking.{IsFree}
 use Rattle.twkb_engine.proofs.engine.Engine.type_byte.Goals as goal
 
@@ -17,6 +17,6 @@ returns-in_err-begin_geometry-clause-taken g c = λ rs.
     rw (p.1, p.2) (
       free,
       subst (λ i. Passes (outline_ends (d.bytes + 1)
-          (outline_advanced (d.bytes + 1) n (groups_of d.collections, step_at i d))))
+          (outline_advanced (d.bytes + 1) n (frames_of d.collections, stage_at i d))))
           (sym c.requires.next) tt,
     )

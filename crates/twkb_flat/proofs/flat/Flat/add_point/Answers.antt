@@ -6,12 +6,12 @@ use Rattle.twkb_flat.proofs.flat.Flat.add_point.Goals as goal
 
 -- after the point
 behind : (c : After-count_point) → StandFor (point_added c.args.point c.args.self.now)
-    (with_items c.self.inside.entries c.count_point.new.entries).items c.push.new.self.items
+    (with_items c.self.inside.kept c.count_point.new.kept).items c.push.new.self.items
 behind c =
-    let before : StandFor c.args.self.now c.self.inside.entries.items c.self.inside.points.items =
+    let before : StandFor c.args.self.now c.self.inside.kept.items c.self.inside.points.items =
     record { flat = c.self.invariant; view = c.self.view_is; line = c.requires.line } in
-    let counted = vec_counted c.self.inside.entries c.deref_mut.result.now c.count_point.new.entries
-    c.deref_mut.ensures.value c.count_point.ensures.spans c.count_point.ensures.links in
+    let counted = vec_counted c.self.inside.kept c.deref_mut.result.now c.count_point.new.kept
+    c.deref_mut.ensures.value c.count_point.ensures.placed_rows c.count_point.ensures.links in
     one_more _ _ _ _ _ c.args.point before c.requires.room c.x-learnt.ensures.in_range counted
     c.in_default.ensures.items
 

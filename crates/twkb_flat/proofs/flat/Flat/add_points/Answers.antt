@@ -8,17 +8,17 @@ use Rattle.twkb_flat.proofs.flat.Flat.add_points.Goals.{After-self, After-count_
 use Rattle.twkb_flat.proofs.flat.Flat.add_points.Goals as goal
 
 -- before anything is appended
-before : (c : After-self) → StandFor c.args.self.now c.self.inside.entries.items c.self.inside.points.items
+before : (c : After-self) → StandFor c.args.self.now c.self.inside.kept.items c.self.inside.points.items
 before c = record { flat = c.self.invariant; view = c.self.view_is; line = c.requires.line }
 
 -- after the points
 behind : (c : After-count_points) → StandFor (points_added c.args.points.now c.args.self.now)
-    (with_items c.self.inside.entries c.count_points.new.entries).items
+    (with_items c.self.inside.kept c.count_points.new.kept).items
     c.put_reserved.new.points.items
 behind c =
-    let counted = vec_counted_by (length c.args.points.now) c.self.inside.entries
-    c.deref_mut.result.now c.count_points.new.entries c.deref_mut.ensures.value
-    c.count_points.ensures.spans c.count_points.ensures.links in
+    let counted = vec_counted_by (length c.args.points.now) c.self.inside.kept
+    c.deref_mut.result.now c.count_points.new.kept c.deref_mut.ensures.value
+    c.count_points.ensures.placed_rows c.count_points.ensures.links in
     let appended = c.put_reserved.ensures ∙ ap (λ (ps : List Point). ps ++ c.args.points.now)
     c.in_ok-make_room.ensures.same in
     points_more c.args.points.now _ _ _ _ _

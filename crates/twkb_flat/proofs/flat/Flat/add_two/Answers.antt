@@ -7,7 +7,7 @@ use Rattle.twkb_flat.proofs.flat.Flat.add_two.Goals.{After-self, After-push_rese
 use Rattle.twkb_flat.proofs.flat.Flat.add_two.Goals as goal
 
 -- before anything is appended
-before : (c : After-self) → StandFor c.args.self.now c.self.inside.entries.items c.self.inside.points.items
+before : (c : After-self) → StandFor c.args.self.now c.self.inside.kept.items c.self.inside.points.items
 before c = record { flat = c.self.invariant; view = c.self.view_is; line = c.requires.line }
 
 -- the first point is appended
@@ -16,21 +16,21 @@ appended c = c.push_reserved.ensures.items ∙ ap (λ (ps : List Point). ps ++ c
     c.in_ok-make_room.ensures.same
 
 -- the first point is counted
-counted : (c : After-count_point) → HasCounted c.self.inside.entries.items
-    (with_items c.self.inside.entries c.count_point.new.entries).items
-counted c = vec_counted c.self.inside.entries c.deref_mut.result.now c.count_point.new.entries
-    c.deref_mut.ensures.value c.count_point.ensures.spans c.count_point.ensures.links
+counted : (c : After-count_point) → HasCounted c.self.inside.kept.items
+    (with_items c.self.inside.kept c.count_point.new.kept).items
+counted c = vec_counted c.self.inside.kept c.deref_mut.result.now c.count_point.new.kept
+    c.deref_mut.ensures.value c.count_point.ensures.placed_rows c.count_point.ensures.links
 
 -- after both points
 both : (c : goal.After-self-2-1)
     → StandFor (point_added c.args.second (point_added c.args.first c.args.self.now))
-    (with_items (with_items c.self.inside.entries c.count_point.new.entries)
-    c.count_point-2.new.entries).items c.push_reserved-2.new.self.items
+    (with_items (with_items c.self.inside.kept c.count_point.new.kept)
+    c.count_point-2.new.kept).items c.push_reserved-2.new.self.items
 both c =
     let at = goal.at.invariant_of-self-2 c in
-    let counted_too = vec_counted (with_items c.self.inside.entries c.count_point.new.entries)
-    c.deref_mut-2.result.now c.count_point-2.new.entries c.deref_mut-2.ensures.value
-    c.count_point-2.ensures.spans c.count_point-2.ensures.links in
+    let counted_too = vec_counted (with_items c.self.inside.kept c.count_point.new.kept)
+    c.deref_mut-2.result.now c.count_point-2.new.kept c.deref_mut-2.ensures.value
+    c.count_point-2.ensures.placed_rows c.count_point-2.ensures.links in
     two_more _ _ _ _ _ c.push_reserved.new.self.items _ c.args.first c.args.second
     (before at.After-self) c.requires.room c.x-learnt.ensures.in_range
     c.x-learnt-2.ensures.in_range (counted at.After-count_point) counted_too

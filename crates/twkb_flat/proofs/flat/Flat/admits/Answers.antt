@@ -34,12 +34,12 @@ returns c =
     let os = rows_open rows c.levels-levels.ensures.sound in
     decides rows r c.admits_at.result (
     c.admits_at.ensures c.args.points.now refl
-    ∙ ap (λ (l : Allowance). is_admitted_at l c.standing-standing.result r) c.largest.ensures
+    ∙ ap (λ (l : Allowance). is_admitted_at l c.row_place-row_place.result r) c.largest.ensures
     ∙ continues_there largest_limits os.0 (length rows) (length (row_points rows))
-    c.standing-standing.result r c.look.ensures (sym
+    c.row_place-row_place.result r c.look.ensures (sym
     (c.is_next.ensures os.0 r (os.1.all ∙ sym c.levels-levels.ensures.value) refl)
     ∙ c.if-not-is_next.false) (
       omega (arith, os.1.all, c.levels-levels.ensures.value, c.if-row-levels.false),
-      c.standing-standing.ensures os.0 os.1,
+      c.row_place-row_place.ensures os.0 os.1,
     )
     ∙ kept_continues rows os.0 (length rows) (length (row_points rows)) r c.levels-levels.ensures.sound os.1 refl refl)

@@ -1,5 +1,5 @@
 use Rattle.std.proofs.Common.{◌≡◌, map, length, sym, ap, ◌∙◌, subst}
-use Rattle.twkb_flat.specs.Entries.{IsFlat, listed, span_of}
+use Rattle.twkb_flat.specs.KeptNodes.{IsFlat, listed, placed_of}
 use Rattle.twkb_flat.proofs.BeginLemmas.{begun_flat, begun_rows, no_points}
 use Rattle.twkb_flat.proofs.flat.Flat.begin.Goals as goal
 
@@ -17,7 +17,7 @@ invariant_of-self-2 c =
 
 pub returns-clause-begun : goal.returns-clause-begun
 returns-clause-begun c =
-    ap (λ ps. listed (map span_of c.push.new.self.items) ps) (points_are c)
+    ap (λ ps. listed (map placed_of c.push.new.self.items) ps) (points_are c)
     ∙ begun_rows _ _ _ c.args.points.now.items c.len.result c.args.root
     (c.self.view_is ∙ c.clear.ensures) c.requires (counted c) c.in_default.ensures.items
 

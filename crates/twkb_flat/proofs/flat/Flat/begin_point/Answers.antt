@@ -3,7 +3,7 @@ use Rattle.std.proofs.lemmas.Int.{to_z-of_z}
 use Rattle.twkb_points.specs.Point.{Point}
 use Rattle.twkb_tree.specs.declared.kind.Kind.{Kind}
 use Rattle.twkb_flat.specs.declared.node.Row.{Row}
-use Rattle.twkb_flat.specs.Entries.{IsFlat, listed, span_of}
+use Rattle.twkb_flat.specs.KeptNodes.{IsFlat, listed, placed_of}
 use Rattle.twkb_flat.proofs.BeginLemmas.{begun_flat, begun_rows, no_points, point_begins}
 use Rattle.twkb_flat.proofs.PushLemmas.{kept_flat, kept_view}
 use Rattle.twkb_flat.proofs.flat.Flat.begin_point.Goals as goal
@@ -25,7 +25,7 @@ returns-in-Err-clause-none c = kept_view _ _ _ _ _ (c.self.view_is ∙ c.clear.e
 pub invariant_of-self-2 : goal.invariant_of-self-2
 invariant_of-self-2 c =
     let put = simp (to_z-of_z, c.ranges.precision) at c.in_default.ensures.node in
-    subst (λ (ps : List Point). IsFlat c.put_point.new.entries.items ps) (sym (points_are c))
+    subst (λ (ps : List Point). IsFlat c.put_point.new.kept.items ps) (sym (points_are c))
     (begun_flat _ _ _ (c.args.point ∷ []) 1 (row_is c) (c.self.view_is ∙ c.clear.ensures)
     (point_begins c.args.precision c.args.point c.requires c.x-learnt.ensures.in_range) refl
     put)
@@ -33,6 +33,6 @@ invariant_of-self-2 c =
 pub returns-clause-begun : goal.returns-clause-begun
 returns-clause-begun c =
     let put = simp (to_z-of_z, c.ranges.precision) at c.in_default.ensures.node in
-    ap (λ (ps : List Point). listed (map span_of c.put_point.new.entries.items) ps) (points_are c)
+    ap (λ (ps : List Point). listed (map placed_of c.put_point.new.kept.items) ps) (points_are c)
     ∙ begun_rows _ _ _ (c.args.point ∷ []) 1 (row_is c) (c.self.view_is ∙ c.clear.ensures)
     (point_begins c.args.precision c.args.point c.requires c.x-learnt.ensures.in_range) refl put

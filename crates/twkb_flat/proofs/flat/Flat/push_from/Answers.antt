@@ -1,8 +1,8 @@
 use Rattle.std.proofs.Common.{◌≡◌, List, length, map, sym, ap, ◌∙◌, subst}
 use Rattle.std.proofs.lemmas.List.{with_items_is}
-use Rattle.twkb_flat.specs.declared.entries.KeptNode.{KeptNode}
+use Rattle.twkb_flat.specs.declared.kept_nodes.KeptNode.{KeptNode}
 use Rattle.twkb_flat.specs.Links.{Linked}
-use Rattle.twkb_flat.specs.Entries.{IsFlat, IsUnlinked, depths_in, links_in, listed, span_of}
+use Rattle.twkb_flat.specs.KeptNodes.{IsFlat, IsUnlinked, depths_in, links_in, listed, placed_of}
 use Rattle.twkb_flat.proofs.PushLemmas.{flat_after, kept_flat, kept_view, points_left, pushed_by}
 use Rattle.twkb_flat.proofs.PushLemmas.{same_count, unlinked, view_after}
 use Rattle.twkb_flat.proofs.flat.Flat.push_from.Goals as goal
@@ -25,41 +25,41 @@ link_last-requires g c =
     let own = c.in_default.ensures.put in
     subst (λ (es : List KeptNode). IsUnlinked es c.len-next.result) (sym c.deref_mut.ensures.value)
     (unlinked _ _ _ own.0 _ _ c.args.row _ c.self.invariant c.self.view_is (c.requires own.0 own.2)
-    own.1 (c.len-next.ensures ∙ c.self.inside.entries.ok.0))
+    own.1 (c.len-next.ensures ∙ c.self.inside.kept.ok.0))
 
 pub invariant_of-self-2 : goal.invariant_of-self-2
 invariant_of-self-2 g c =
     let own = c.in_default.ensures.put in
-    let spans : map span_of c.link_last.new.entries ≡ map span_of c.put_row.new.entries.items =
-    c.link_last.ensures.spans ∙ ap (λ (es : List KeptNode). map span_of es)
+    let placed_rows : map placed_of c.link_last.new.kept ≡ map placed_of c.put_row.new.kept.items =
+    c.link_last.ensures.placed_rows ∙ ap (λ (es : List KeptNode). map placed_of es)
     c.deref_mut.ensures.value in
     let linked = subst (λ (es : List KeptNode). Linked (depths_in es)
-    (links_in c.link_last.new.entries)) c.deref_mut.ensures.value c.link_last.ensures.links in
-    let pushed = pushed_by c.self.inside.entries.items c.put_row.new.entries.items
-    c.link_last.new.entries c.self.inside.points.items own.0 c.put_row.new.points.items
-    c.args.row own.1 spans linked in
-    let same : length c.link_last.new.entries ≡ c.put_row.new.entries.len = same_count _ _ spans
-    ∙ sym c.put_row.new.entries.ok.0 in
+    (links_in c.link_last.new.kept)) c.deref_mut.ensures.value c.link_last.ensures.links in
+    let pushed = pushed_by c.self.inside.kept.items c.put_row.new.kept.items
+    c.link_last.new.kept c.self.inside.points.items own.0 c.put_row.new.points.items
+    c.args.row own.1 placed_rows linked in
+    let same : length c.link_last.new.kept ≡ c.put_row.new.kept.len = same_count _ _ placed_rows
+    ∙ sym c.put_row.new.kept.ok.0 in
     subst (λ (es : List KeptNode). IsFlat es c.put_row.new.points.items)
-    (sym (with_items_is c.put_row.new.entries c.link_last.new.entries same))
+    (sym (with_items_is c.put_row.new.kept c.link_last.new.kept same))
     (flat_after _ _ _ own.0 _ c.args.row _ c.self.invariant c.self.view_is (c.requires own.0 own.2) pushed)
 
 pub returns-clause-pushed : goal.returns-clause-pushed
 returns-clause-pushed g c =
     let own = c.in_default.ensures.put in
-    let spans : map span_of c.link_last.new.entries ≡ map span_of c.put_row.new.entries.items =
-    c.link_last.ensures.spans ∙ ap (λ (es : List KeptNode). map span_of es)
+    let placed_rows : map placed_of c.link_last.new.kept ≡ map placed_of c.put_row.new.kept.items =
+    c.link_last.ensures.placed_rows ∙ ap (λ (es : List KeptNode). map placed_of es)
     c.deref_mut.ensures.value in
     let linked = subst (λ (es : List KeptNode). Linked (depths_in es)
-    (links_in c.link_last.new.entries)) c.deref_mut.ensures.value c.link_last.ensures.links in
-    let pushed = pushed_by c.self.inside.entries.items c.put_row.new.entries.items
-    c.link_last.new.entries c.self.inside.points.items own.0 c.put_row.new.points.items
-    c.args.row own.1 spans linked in
-    let same : length c.link_last.new.entries ≡ c.put_row.new.entries.len = same_count _ _ spans
-    ∙ sym c.put_row.new.entries.ok.0 in (
+    (links_in c.link_last.new.kept)) c.deref_mut.ensures.value c.link_last.ensures.links in
+    let pushed = pushed_by c.self.inside.kept.items c.put_row.new.kept.items
+    c.link_last.new.kept c.self.inside.points.items own.0 c.put_row.new.points.items
+    c.args.row own.1 placed_rows linked in
+    let same : length c.link_last.new.kept ≡ c.put_row.new.kept.len = same_count _ _ placed_rows
+    ∙ sym c.put_row.new.kept.ok.0 in (
       own.0,
-      ap (λ (es : List KeptNode). listed (map span_of es) c.put_row.new.points.items)
-          (with_items_is c.put_row.new.entries c.link_last.new.entries same)
+      ap (λ (es : List KeptNode). listed (map placed_of es) c.put_row.new.points.items)
+          (with_items_is c.put_row.new.kept c.link_last.new.kept same)
           ∙ view_after _ _ _ own.0 _ c.args.row _ c.self.invariant c.self.view_is pushed,
       own.2,
     )

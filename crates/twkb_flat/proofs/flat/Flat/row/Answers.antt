@@ -3,7 +3,7 @@ use Rattle.twkb_flat.proofs.ReadLemmas.{length-rows, row_here, shallow_here}
 use Rattle.twkb_flat.proofs.flat.Flat.row.Goals as goal
 
 pub index-requires : goal.index-requires
-index-requires c = omega (arith, c.requires, length-rows _ _ _ c.self.view_is, c.self.inside.entries.ok.0)
+index-requires c = omega (arith, c.requires, length-rows _ _ _ c.self.view_is, c.self.inside.kept.ok.0)
 
 pub returns-clause-row : goal.returns-clause-row
 returns-clause-row c =

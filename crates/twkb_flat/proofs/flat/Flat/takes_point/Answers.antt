@@ -2,7 +2,7 @@ use Rattle.std.proofs.Common.{sym, ap, subst, ◌∙◌, length, List}
 use Rattle.std.specs.Prelude.{◌↔◌, IsTrue}
 use Rattle.twkb_tree.specs.declared.limits.TheConstants.{POINTS_CAP}
 use Rattle.twkb_tree.specs.Rows.{row_points}
-use Rattle.twkb_flat.specs.declared.entries.KeptNode.{KeptNode}
+use Rattle.twkb_flat.specs.declared.kept_nodes.KeptNode.{KeptNode}
 use Rattle.twkb_flat.specs.Lasts.{LastIsLine}
 use Rattle.twkb_flat.proofs.LastKinds.{both, neither}
 use Rattle.twkb_flat.proofs.RowLemmas.{flat_points}
@@ -12,7 +12,7 @@ pub returns-then-not-ends_in_line : goal.returns-then-not-ends_in_line
 returns-then-not-ends_in_line c =
     let same = subst (λ (es : List KeptNode). IsTrue c.ends_in_line.result ↔ LastIsLine es)
     c.deref.ensures.value c.ends_in_line.ensures in
-    neither c.ends_in_line.result POINTS_CAP c.self.inside.entries.items c.self.inside.points.items
+    neither c.ends_in_line.result POINTS_CAP c.self.inside.kept.items c.self.inside.points.items
     c.args.self.now c.self.view_is same c.if-not-ends_in_line.true
 
 pub returns : goal.returns
@@ -22,6 +22,6 @@ returns c =
     let total = c.len.ensures ∙ c.self.inside.points.ok.0
     ∙ sym (ap length (flat_points _ _ c.self.invariant.laid))
     ∙ ap (λ rs. length (row_points rs)) c.self.view_is in
-    both c.ends_in_line.result c.len.result POINTS_CAP c.self.inside.entries.items
+    both c.ends_in_line.result c.len.result POINTS_CAP c.self.inside.kept.items
     c.self.inside.points.items c.args.self.now c.self.view_is total same
     c.if-not-ends_in_line.false

@@ -63,10 +63,10 @@ returns-then-count_fits g c = record {
             c.is_empty.ensures w.if-not-is_empty.false
       ] in
       points_accepted head c.points.result c.saturating_sub-left.result c.count-held.result
-      c.count.result c.is_whole-whole.result c.count_fits.result _ _ needed
+      c.count.result c.is_geometry-whole.result c.count_fits.result _ _ needed
       (c.points.ensures, c.saturating_sub-left.ensures) c.in-Ok-decode_into.ensures.decodes
       c.count-held.ensures c.count.ensures
-      (c.is_whole-whole.ensures.value, c.count_fits.ensures.value) c.if-count_fits.true);
+      (c.is_geometry-whole.ensures.value, c.count_fits.ensures.value) c.if-count_fits.true);
   refused = search rules;
   same = search rules;
 }
@@ -82,9 +82,9 @@ returns-else-count_fits g c = record {
             c.is_empty.ensures w.if-not-is_empty.false
       ] in
       points_refused head c.points.result c.saturating_sub-left.result c.count-held.result
-      c.count.result c.is_whole-whole.result c.count_fits.result _ _ needed
+      c.count.result c.is_geometry-whole.result c.count_fits.result _ _ needed
       (c.points.ensures, c.saturating_sub-left.ensures) c.in-Ok-decode_into.ensures.decodes
       c.count-held.ensures c.count.ensures
-      (c.is_whole-whole.ensures.value, c.count_fits.ensures.value) c.if-count_fits.false);
+      (c.is_geometry-whole.ensures.value, c.count_fits.ensures.value) c.if-count_fits.false);
   same = cut_back _ _ _ _ _ _ c.in-Ok-decode_into.ensures.decodes c.count-held.ensures c.cut.ensures;
 }

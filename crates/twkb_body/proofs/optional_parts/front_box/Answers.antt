@@ -1,0 +1,21 @@
+use Rattle.std.proofs.Common.{◌≡◌, subst, sym, ◌∙◌, arith}
+use Rattle.twkb_body.specs.OptionalParts.{SidesInFront}
+use Rattle.twkb_body.proofs.PartsInFront.{sides_none, sides_more, box_whole}
+use Rattle.twkb_body.proofs.optional_parts.front_box.Goals as goal
+
+pub loop-count-init : goal.loop-count-init
+loop-count-init c = record { few = omega arith; sides = sides_none c.args.bytes.now }
+
+pub loop-count-preserved : goal.loop-count-preserved
+loop-count-preserved c = record {
+  few = omega arith;
+  sides = sides_more c.loop-count.count c.args.bytes.now c.loop-count.used c.in_ok-width.field-0-0
+      c.in_ok-width.width c.loop-count.invariant.sides c.in_ok-width.ensures;
+}
+
+pub returns : goal.returns
+returns c =
+    let all : c.loop-count.count ≡ 4 = omega (arith, c.loop-count.invariant.few) in
+    box_whole c.args.metadata c.args.bytes.now c.loop-count.used (sym c.has_box.ensures
+    ∙ c.if-not-has_box.false) (subst (λ n. SidesInFront n c.args.bytes.now c.loop-count.used)
+    all c.loop-count.invariant.sides)

@@ -1,0 +1,65 @@
+//! The optional parts of a header that are complete at the start of bytes.
+ghost use Rattle.std.specs.Prelude.{IfSome};
+ghost use Rattle.twkb_body.specs.OptionalParts.{SizeInFront, BoxInFront, PartsInFront};
+
+use crate::numbers::front_number;
+use twkb_grammar::Metadata;
+
+// Sides of a box (TWKB, bounding box).
+const SIDES: usize = 4;
+
+/// The optional parts of a header: the size that it declares, if any, after how many of their bytes
+/// that counts, and how many bytes they have.
+#[derive(Clone, Copy, Debug)]
+pub struct OptionalParts {
+    pub size: Option<u64>,
+    pub from: usize,
+    pub used: usize,
+}
+
+// The size, if this metadata byte asks for one, and how many bytes it has.
+#[inline(always)]
+fn front_size(metadata: Metadata, bytes: &[u8]) -> Option<(Option<u64>, usize)>
+    ensures { IfSome result (λ front. SizeInFront metadata bytes.now front.0 front.1) }
+{
+    if !metadata.has_size() {
+        return Some((None, 0));
+    }
+    let (size, width) = front_number(bytes)?;
+    Some((Some(size), width))
+}
+
+// How many bytes the box has, if this metadata byte asks for one.
+#[inline(always)]
+fn front_box(metadata: Metadata, bytes: &[u8]) -> Option<usize>
+    ensures { IfSome result (λ used. BoxInFront metadata bytes.now used) }
+{
+    if !metadata.has_box() {
+        return Some(0);
+    }
+    let mut used = 0;
+    let mut count = 0;
+    while count < SIDES {
+        let (_, width) = front_number(&bytes[used..])?;
+        used += width;
+        count += 1;
+    }
+    Some(used)
+}
+
+/// The optional parts that this metadata byte asks for, all of them; `None` too if one is the extended dimensions byte.
+#[inline(always)]
+pub fn front_parts(metadata: Metadata, bytes: &[u8]) -> Option<OptionalParts>
+    ensures { IfSome result (λ parts. PartsInFront metadata bytes.now parts.size parts.from parts.used) }
+{
+    if metadata.has_extended() {
+        return None;
+    }
+    let (size, from) = front_size(metadata, bytes)?;
+    let sides = front_box(metadata, &bytes[from..])?;
+    Some(OptionalParts {
+        size,
+        from,
+        used: from + sides,
+    })
+}

@@ -1,0 +1,102 @@
+//! Components of geometries that are not geometries themselves: points, lines, rings and polygons.
+ghost use Rattle.std.specs.Prelude.{◌≡◌, ◌++◌, ◌∷◌, [], ℕ, ℤ, List, Option, drop, OnOk, IfOk};
+ghost use Rattle.twkb_points.specs.Point.{Point};
+ghost use Rattle.twkb_tree.specs.Limits.{largest_limits};
+ghost use Rattle.twkb_tree.specs.Rows.{Row as TableRow, ring_rows};
+ghost use Rattle.twkb_tree.specs.RowLists.{AreValidRowsOfOne};
+ghost use Rattle.twkb_tree.specs.declared.kind.Kind.{Kind};
+ghost use Rattle.twkb_flat.specs.Components.{component_rows};
+ghost use Rattle.twkb_flat.specs.Taking.{OneAt, IsAny};
+
+use crate::building::take_each;
+use crate::filling::push_each;
+use crate::flat::Flat;
+use std::alloc::{AllocError, Global};
+use std::slice::from_ref;
+use twkb_points::Pt;
+use twkb_tree::{Element, Kind, Lines, Pts};
+
+// A member of a multi geometry, or a ring of a polygon.
+pub(crate) trait Component: Element {
+    // The points of the component's own row.
+    ghost own: { Self → List Point };
+
+    // The rows below the component's own, starting at a depth.
+    ghost below: { ℕ → Self → List TableRow };
+
+    // The points of the component's own row. Takes no memory.
+    fn own_points(&self) -> &[Pt]
+        ensures { result.now ≡ own self.now };
+
+    // Appends the rows below the component's own, at this depth.
+    fn push_below(&self, depth: u32, flat: &mut Flat) -> Result<(), AllocError>
+        requires valid { AreValidRowsOfOne largest_limits (flat.old ++ below depth self.now) }
+        ensures { OnOk result (flat.new ≡ flat.old ++ below depth self.now) };
+
+    // Builds the component whose rows begin at a place, and returns the place after them.
+    fn take(flat: &Flat, alloc: Global, at: usize) -> Result<(Self, usize), AllocError>
+        requires stands { (kind : Kind) × (d : ℕ) × (id : Option ℤ) × (component : Self)
+            × (rest : List TableRow) × OneAt IsAny (component_rows own below kind d) flat.now at d id
+            component rest }
+        ensures { (kind : Kind) (d : ℕ) (id : Option ℤ) (component : Self) (rest : List TableRow)
+            → OneAt IsAny (component_rows own below kind d) flat.now at d id component rest
+            → IfOk result (λ taken. (taken.0 ≡ component) × (drop taken.1 flat.now ≡ rest)) };
+}
+
+impl Component for Pt {
+    ghost own = { λ point. point ∷ [] };
+
+    ghost below = { λ depth point. [] };
+
+    fn own_points(&self) -> &[Pt] {
+        from_ref(self)
+    }
+
+    fn push_below(&self, _depth: u32, _flat: &mut Flat) -> Result<(), AllocError> {
+        Ok(())
+    }
+
+    fn take(flat: &Flat, _alloc: Global, at: usize) -> Result<(Pt, usize), AllocError> {
+        let point = flat.own_points(at)[0];
+        Ok((point, at + 1))
+    }
+}
+
+impl Component for Pts {
+    ghost own = { λ points. points };
+
+    ghost below = { λ depth points. [] };
+
+    fn own_points(&self) -> &[Pt] {
+        self.as_slice()
+    }
+
+    fn push_below(&self, _depth: u32, _flat: &mut Flat) -> Result<(), AllocError> {
+        Ok(())
+    }
+
+    fn take(flat: &Flat, alloc: Global, at: usize) -> Result<(Pts, usize), AllocError> {
+        let points = Vec::from_slice(alloc, flat.own_points(at))?;
+        Ok((Pts::from_vec(points), at + 1))
+    }
+}
+
+impl Component for Lines {
+    ghost own = { λ rings. [] };
+
+    ghost below = { ring_rows };
+
+    fn own_points(&self) -> &[Pt] {
+        &[]
+    }
+
+    fn push_below(&self, depth: u32, flat: &mut Flat) -> Result<(), AllocError> {
+        push_each(Kind::Ring, depth, self.as_slice(), &None, flat)
+    }
+
+    fn take(flat: &Flat, alloc: Global, at: usize) -> Result<(Lines, usize), AllocError> {
+        let row = flat.row(at);
+        let (rings, _ids, next) = take_each(flat, alloc, at + 1, row.depth + 1)?;
+        Ok((rings, next))
+    }
+}

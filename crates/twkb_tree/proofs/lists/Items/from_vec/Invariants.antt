@@ -1,6 +1,0 @@
-use Rattle.std.proofs.Common.{take}
-use Rattle.std.specs.List.{AllByRecursion}
-use Rattle.twkb_tree.proofs.lists.Items.from_vec.Given as goal
-
-abbrev pub invariant-loop-item : goal.invariant-loop-item
-invariant-loop-item g l = AllByRecursion g.T.Item.Fits (take l.item-index l.item-items)

@@ -1,9 +1,0 @@
-use Rattle.std.proofs.Common.{◌≡◌, drop}
-use Rattle.std.specs.Prelude.{flat_map}
-use Rattle.twkb_points.specs.Extent.{extent, joined_options}
-use Rattle.twkb_tree.proofs.placed.joined_bounds.Given as goal
-
-abbrev pub invariant-loop-item : goal.invariant-loop-item
-invariant-loop-item g l =
-    joined_options (l.bounds) (extent (flat_map g.T.Placed.points_of (drop l.item-index l.items)))
-    ≡ extent (flat_map g.T.Placed.points_of l.items)
