@@ -301,7 +301,7 @@ impl Session {
 
     /// Ends the stream: `Ok` if no blob is begun, else `Truncated`; `Spent` after an `Err` or an
     /// earlier end. Afterwards each feed and `finish` return `Spent`. Takes no memory.
-    #[tactic(auto, using(crate::proofs::RowPlace::finished))]
+    #[tactic(auto, using(crate::proofs::Standing::finished))]
     pub fn finish(&mut self) -> Result<(), BlobFault>
         ensures unread { failed_by_read result ≡ false }
         ensures limits { session_limits self.new ≡ session_limits self.old }
