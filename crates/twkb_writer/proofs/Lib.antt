@@ -3,7 +3,7 @@ pub mod BelowLemmas
 pub mod CapLemmas
 pub mod DepthLemmas
 pub mod HeaderLemmas
-pub mod LevelLemmas
+pub mod TotalsLemmas
 pub mod MeasuringBodies
 pub mod MeasuringBounds
 pub mod MeasuringCaps
@@ -26,7 +26,7 @@ pub mod ReadLemmas
 pub mod RowStep
 pub mod SizeCounts
 pub mod TreeBytes
-pub mod TreeLevels
+pub mod TreeTotals
 pub mod WalkLemmas
 pub mod WayLemmas
 pub mod WrittenRows

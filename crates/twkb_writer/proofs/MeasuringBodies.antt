@@ -14,11 +14,11 @@ use Rattle.twkb_grammar.specs.Items.{Slot, OfCount, OfId, OfPoint, fields, slots
 use Rattle.twkb_grammar.specs.Items.{rings_of, id_slots, flags, members, parts}
 use Rattle.twkb_grammar.specs.Written.{varints, is_empty}
 use Rattle.twkb_grammar.proofs.Slots.{steps, slot_points, fields_are, points_are}
-use Rattle.twkb_writer.specs.declared.levels.Level.{Level}
-use Rattle.twkb_writer.specs.Levels.{blank, lead_len, is_bare}
+use Rattle.twkb_writer.specs.declared.totals.RowTotals.{RowTotals}
+use Rattle.twkb_writer.specs.Totals.{blank, lead_len, is_bare}
 use Rattle.twkb_writer.specs.Sizes.{parts_in, ids_in}
 use Rattle.twkb_writer.specs.Tails.{number_len, signed_len, way_len, from_origin, tail_of}
-use Rattle.twkb_writer.proofs.MeasuringParts.{rings_level, components_level}
+use Rattle.twkb_writer.proofs.MeasuringParts.{rings_totals, components_totals}
 use Rattle.twkb_writer.proofs.MeasuringTotals.{ids_sum, ids_len, total, IsTotal, total_each}
 
 -- ---- the bytes of slots
@@ -119,27 +119,27 @@ no_parts = record {
   no_precisions = refl;
 }
 
-total_rings : (rings : List (List Point)) → IsTotal (rings_level rings) (length rings) None
+total_rings : (rings : List (List Point)) → IsTotal (rings_totals rings) (length rings) None
     (total (λ ps. slots_len (run_of ps)) rings)
 total_rings rings = total_each kind.Ring (λ ps. length ps) (λ ps. blank)
     (λ ps. slots_len (run_of ps)) slots_len-run None rings tt
 
 -- the totals of a count, ids and parts
-lead_total : (l : Level) (n : ℕ) (ids : Ids) (bytes : ℕ) → IsTotal l n ids bytes
+lead_total : (l : RowTotals) (n : ℕ) (ids : Ids) (bytes : ℕ) → IsTotal l n ids bytes
     → number_len l.members + l.ids + l.bytes ≡ number_len n + ids_len ids + bytes
 lead_total l n ids bytes t = λ i. number_len (t.members i) + t.ids_are i + t.bytes_are i
 
-lead_rings : (rings : List (List Point)) → number_len (rings_level rings).members
-    + (rings_level rings).ids + (rings_level rings).bytes ≡ slots_len (rings_of rings)
+lead_rings : (rings : List (List Point)) → number_len (rings_totals rings).members
+    + (rings_totals rings).ids + (rings_totals rings).bytes ≡ slots_len (rings_of rings)
 lead_rings rings = omega (
   arith,
-  lead_total (rings_level rings) (length rings) None
+  lead_total (rings_totals rings) (length rings) None
       (total (λ ps. slots_len (run_of ps)) rings) (total_rings rings),
   slots_len-each run_of rings,
 )
 
 -- the totals of the parts of a shape
-pub total_parts : (s : Simple) → IdsFit s → IsTotal (components_level s) (parts_in s) (ids_in s) (parts_bytes s)
+pub total_parts : (s : Simple) → IdsFit s → IsTotal (components_totals s) (parts_in s) (ids_in s) (parts_bytes s)
 total_parts (point o) h = no_parts
 total_parts (line ps) h = no_parts
 total_parts (polygon rings) h = total_rings rings
@@ -147,7 +147,7 @@ total_parts (multi_point ids ps) h = total_each kind.Point (λ p. length (p ∷ 
     (λ p. 0) (λ p. refl) ids ps h
 total_parts (multi_line ids lines) h = total_each kind.Linestring (λ ps. length ps) (λ ps. blank)
     (λ ps. slots_len (run_of ps)) slots_len-run ids lines h
-total_parts (multi_polygon ids areas) h = total_each kind.Polygon (λ rings. 0) rings_level
+total_parts (multi_polygon ids areas) h = total_each kind.Polygon (λ rings. 0) rings_totals
     (λ rings. slots_len (rings_of rings)) lead_rings ids areas h
 
 total_none : (ps : List Point) → total (λ (p : Point). 0) ps ≡ 0
@@ -161,23 +161,23 @@ slots_behind n ids ps = omega (arith, slots_len-append (id_slots ids) ps, slots_
 
 -- the bytes of the count and ids of a shape's row, and of its parts, are those of its slots
 pub lead_parts : (s : Simple) → IdsFit s → lead_len (kind_in s) (length (own_points s))
-    (components_level s) + (components_level s).bytes ≡ slots_len (slots s)
+    (components_totals s) + (components_totals s).bytes ≡ slots_len (slots s)
 lead_parts (point None) h = refl
 lead_parts (point (Some p)) h = refl
 lead_parts (line ps) h = slots_len-run ps
 lead_parts (polygon rings) h = lead_rings rings
 lead_parts (multi_point ids ps) h =
-    lead_total (components_level (multi_point ids ps)) (length ps) ids (total (λ (p : Point). 0) ps)
+    lead_total (components_totals (multi_point ids ps)) (length ps) ids (total (λ (p : Point). 0) ps)
     (total_parts (multi_point ids ps) h)
     ∙ ap (λ n. number_len (length ps) + ids_len ids + n) (total_none ps ∙ sym (slots_len-points ps))
     ∙ slots_behind (length ps) ids (map OfPoint ps)
 lead_parts (multi_line ids lines) h =
-    lead_total (components_level (multi_line ids lines)) (length lines) ids
+    lead_total (components_totals (multi_line ids lines)) (length lines) ids
     (parts_bytes (multi_line ids lines)) (total_parts (multi_line ids lines) h)
     ∙ ap (λ n. number_len (length lines) + ids_len ids + n) (sym (slots_len-each run_of lines))
     ∙ slots_behind (length lines) ids (flat_map run_of lines)
 lead_parts (multi_polygon ids areas) h =
-    lead_total (components_level (multi_polygon ids areas)) (length areas) ids
+    lead_total (components_totals (multi_polygon ids areas)) (length areas) ids
     (parts_bytes (multi_polygon ids areas)) (total_parts (multi_polygon ids areas) h)
     ∙ ap (λ n. number_len (length areas) + ids_len ids + n) (sym (slots_len-each rings_of areas))
     ∙ slots_behind (length areas) ids (flat_map rings_of areas)
@@ -201,16 +201,16 @@ and_true true = refl
 and_true false = refl
 
 -- the row is bare exactly if its shape has no body
-pub bare_shape : (s : Simple) → IdsFit s → is_bare (length (own_points s)) (components_level s) ≡ is_empty (flags s)
+pub bare_shape : (s : Simple) → IdsFit s → is_bare (length (own_points s)) (components_totals s) ≡ is_empty (flags s)
 bare_shape (point None) h = refl
 bare_shape (point (Some p)) h = refl
 bare_shape (line ps) h = and_true (nat_eq (length ps) 0) ∙ bare_parts ps (length ps) refl
-bare_shape (polygon rings) h = bare_parts rings (components_level (polygon rings)).members
+bare_shape (polygon rings) h = bare_parts rings (components_totals (polygon rings)).members
     (total_parts (polygon rings) h).members
-bare_shape (multi_point ids ps) h = bare_members ids ps (components_level (multi_point ids ps)).members
+bare_shape (multi_point ids ps) h = bare_members ids ps (components_totals (multi_point ids ps)).members
     (total_parts (multi_point ids ps) h).members
 bare_shape (multi_line ids lines) h = bare_members ids lines
-    (components_level (multi_line ids lines)).members (total_parts (multi_line ids lines) h).members
+    (components_totals (multi_line ids lines)).members (total_parts (multi_line ids lines) h).members
 bare_shape (multi_polygon ids areas) h = bare_members ids areas
-    (components_level (multi_polygon ids areas)).members
+    (components_totals (multi_polygon ids areas)).members
     (total_parts (multi_polygon ids areas) h).members

@@ -9,12 +9,12 @@ use Rattle.twkb_points.specs.Point.{Point}
 use Rattle.twkb_tree.specs.declared.limits.TheConstants.{NODES_CAP, POINTS_CAP}
 use Rattle.twkb_tree.specs.Rows.{Row, row_points}
 use Rattle.twkb_grammar.specs.declared.style.Style.{Style}
-use Rattle.twkb_writer.specs.declared.levels.Level.{Level}
-use Rattle.twkb_writer.specs.Levels.{IsSmall}
-use Rattle.twkb_writer.specs.Measuring.{level, points_ahead, row_level, ahead_of, cost_of, load}
+use Rattle.twkb_writer.specs.declared.totals.RowTotals.{RowTotals}
+use Rattle.twkb_writer.specs.Totals.{IsSmall}
+use Rattle.twkb_writer.specs.Measuring.{totals, points_ahead, row_totals, ahead_of, cost_of, load}
 use Rattle.twkb_writer.specs.Tails.{tail_of}
 use Rattle.twkb_writer.proofs.CapLemmas.{sums_fit}
-use Rattle.twkb_writer.proofs.LevelLemmas.{level_above, level_at, level_below}
+use Rattle.twkb_writer.proofs.TotalsLemmas.{totals_above, totals_at, totals_below}
 
 -- the costs of the rows at a depth and below, up to the first row above it
 abbrev pub chosen_cost : ℕ → ℕ → ℕ → ℕ
@@ -38,16 +38,16 @@ chosen_cost-le d k n = elim (cases_lt d k) [
 
 -- the totals at each depth are at most the costs of its rows, without the rows below it
 abbrev pub IsBounded : Style → List Row → Type 0
-IsBounded style rs = (k : ℕ) → load (level style k rs) + costs (suc k) rs ≤ costs k rs
+IsBounded style rs = (k : ℕ) → load (totals style k rs) + costs (suc k) rs ≤ costs k rs
 
 pub bounded_none : (style : Style) → IsBounded style []
 bounded_none style k = omega arith
 
 -- the bound with one more row before the others, if the row adds at most its cost
 pub bounded_step : (style : Style) (r : Row) (rs : List Row) → IsBounded style rs
-    → load (row_level style r.kind (length r.points) r.id r.precision (level style (suc r.depth) rs)
-    (tail_of (r.points ++ points_ahead rs)) (level style r.depth rs))
-    ≤ load (level style (suc r.depth) rs) + load (level style r.depth rs) + cost_of r.precision
+    → load (row_totals style r.kind (length r.points) r.id r.precision (totals style (suc r.depth) rs)
+    (tail_of (r.points ++ points_ahead rs)) (totals style r.depth rs))
+    ≤ load (totals style (suc r.depth) rs) + load (totals style r.depth rs) + cost_of r.precision
     (20 * length (r.points ++ points_ahead rs))
     → IsBounded style (r ∷ rs)
 bounded_step style r rs bounded own k =
@@ -55,18 +55,18 @@ bounded_step style r rs bounded own k =
     elim (cases_lt r.depth k) [
       | inl above ↦ omega (
         arith,
-        ap load (level_above style k r rs above),
+        ap load (totals_above style k r rs above),
         costs_above r.depth (suc k) (cost + costs (suc k) rs) (omega arith),
       )
       | inr upper ↦ elim (cases_eq r.depth k) [
         | inl same ↦
-            (let below : load (level style (suc r.depth) rs) ≡ load (level style (suc k) rs) =
-            ap (λ d. load (level style (suc d) rs)) same in
-            let others : load (level style r.depth rs) ≡ load (level style k rs) =
-            ap (λ d. load (level style d rs)) same in
-            let here : load (level style r.depth (r ∷ rs)) ≡ load (level style k (r ∷ rs)) =
-            ap (λ d. load (level style d (r ∷ rs))) same in
-            let at = ap load (level_at style r.depth r rs refl) in
+            (let below : load (totals style (suc r.depth) rs) ≡ load (totals style (suc k) rs) =
+            ap (λ d. load (totals style (suc d) rs)) same in
+            let others : load (totals style r.depth rs) ≡ load (totals style k rs) =
+            ap (λ d. load (totals style d rs)) same in
+            let here : load (totals style r.depth (r ∷ rs)) ≡ load (totals style k (r ∷ rs)) =
+            ap (λ d. load (totals style d (r ∷ rs))) same in
+            let at = ap load (totals_at style r.depth r rs refl) in
             omega (
               arith,
               own,
@@ -81,7 +81,7 @@ bounded_step style r rs bounded own k =
             ))
         | inr other ↦ omega (
           arith,
-          ap load (level_below style k r rs (omega arith)),
+          ap load (totals_below style k r rs (omega arith)),
           bounded k,
           costs_here r.depth (suc k) (cost + costs (suc k) rs) (omega arith),
           costs_here r.depth k (cost + costs k rs) upper,
@@ -112,37 +112,37 @@ costs_within k (r ∷ rs) =
 
 -- ---- members
 
-members_row : (style : Style) (r : Row) (p : Option ℤ) (below others : Level) (ps : List Point)
-    → (row_level style r.kind (length r.points) r.id p below (tail_of ps) others).members
+members_row : (style : Style) (r : Row) (p : Option ℤ) (below others : RowTotals) (ps : List Point)
+    → (row_totals style r.kind (length r.points) r.id p below (tail_of ps) others).members
     ≡ others.members + 1
 members_row style r None below others ps = refl
 members_row style r (Some p) below others ps = refl
 
 -- there are at most as many members as rows
-members_within : (style : Style) (k : ℕ) (rs : List Row) → (level style k rs).members ≤ length rs
+members_within : (style : Style) (k : ℕ) (rs : List Row) → (totals style k rs).members ≤ length rs
 members_within style k [] = omega arith
 members_within style k (r ∷ rs) = elim (cases_lt r.depth k) [
-  | inl above ↦ omega (arith, ap (λ (l : Level). l.members) (level_above style k r rs above))
+  | inl above ↦ omega (arith, ap (λ (l : RowTotals). l.members) (totals_above style k r rs above))
   | inr upper ↦ elim (cases_eq r.depth k) [
     | inl same ↦ omega (
       arith,
-      ap (λ (l : Level). l.members) (level_at style k r rs same),
-      members_row style r r.precision (level style (suc k) rs) (level style k rs) (r.points ++ points_ahead rs),
+      ap (λ (l : RowTotals). l.members) (totals_at style k r rs same),
+      members_row style r r.precision (totals style (suc k) rs) (totals style k rs) (r.points ++ points_ahead rs),
       members_within style k rs,
     )
     | inr other ↦ omega (
       arith,
-      ap (λ (l : Level). l.members)
-          (level_below style k r rs (omega arith)),
+      ap (λ (l : RowTotals). l.members)
+          (totals_below style k r rs (omega arith)),
       members_within style k rs,
     )
   ]
 ]
 
 -- the totals of rows within the caps are small
-pub level_small : (style : Style) (k : ℕ) (rs : List Row) → IsBounded style rs → length rs ≤ NODES_CAP
-    → length (row_points rs) ≤ POINTS_CAP → IsSmall (level style k rs)
-level_small style k rs bounded few few_points = record {
+pub totals_small : (style : Style) (k : ℕ) (rs : List Row) → IsBounded style rs → length rs ≤ NODES_CAP
+    → length (row_points rs) ≤ POINTS_CAP → IsSmall (totals style k rs)
+totals_small style k rs bounded few few_points = record {
   members = omega (arith, members_within style k rs, few);
   ids = omega (arith, bounded k, costs_within k rs, few, few_points, sums_fit);
   bytes = omega (arith, bounded k, costs_within k rs, few, few_points, sums_fit);

@@ -15,11 +15,11 @@ use Rattle.twkb_grammar.specs.Written.{is_point as is_point_tree}
 use Rattle.twkb_grammar.specs.Items.{header_byte}
 use Rattle.twkb_grammar.specs.declared.style.Style.{Style}
 use Rattle.twkb_grammar.specs.declared.style.Style.TheVariants.{Full, Plain}
-use Rattle.twkb_writer.specs.declared.levels.Level.{Level}
+use Rattle.twkb_writer.specs.declared.totals.RowTotals.{RowTotals}
 use Rattle.twkb_writer.specs.declared.tails.TailTotals.{TailTotals}
 use Rattle.twkb_writer.specs.Bytes.{signed, box_bytes}
-use Rattle.twkb_writer.specs.Levels.{lead_len, is_bare, body_len, all_bounds, is_point, box_for}
-use Rattle.twkb_writer.specs.Levels.{box_len, entry_for, blob_len}
+use Rattle.twkb_writer.specs.Totals.{lead_len, is_bare, body_len, all_bounds, is_point, box_for}
+use Rattle.twkb_writer.specs.Totals.{box_len, entry_for, blob_len}
 use Rattle.twkb_writer.specs.Precisions.{all_are}
 use Rattle.twkb_writer.specs.Sizes.{body_of, own_body, bounds_of, content_of, part_count, ids_of, entry_of}
 use Rattle.twkb_writer.specs.Tails.{number_len, from_origin}
@@ -82,7 +82,8 @@ blob_length Plain g =
 
 -- the row of a geometry: its kind, the number of its points, and the totals of the rows below it
 -- and of the points up to its end
-pub record IsMeasured (style : Style) (g : Tree) (k : Kind) (own : ℕ) (below : Level) (t : TailTotals) : Type 0 where
+pub record IsMeasured (style : Style) (g : Tree) (k : Kind) (own : ℕ) (below : RowTotals) (t : TailTotals)
+    : Type 0 where
   pub point : is_point k ≡ is_point_tree g
   pub members : below.members ≡ part_count g
   pub named : below.named ≡ is_some (ids_of g)
@@ -91,7 +92,7 @@ pub record IsMeasured (style : Style) (g : Tree) (k : Kind) (own : ℕ) (below :
   pub bare : is_bare own below ≡ is_empty (flags_of_tree g)
   pub body : lead_len k own below + below.bytes + from_origin t ≡ length (body_of style g)
 
-box_is : (style : Style) (g : Tree) (k : Kind) (own : ℕ) (below : Level) (t : TailTotals)
+box_is : (style : Style) (g : Tree) (k : Kind) (own : ℕ) (below : RowTotals) (t : TailTotals)
     → IsMeasured style g k own below t → box_for style k (precision_of g) below t
     ≡ bounds_of style g
 box_is Full g k own below t m =
@@ -104,7 +105,7 @@ size_is : (b : Option Extent) (e : Bool) (n : ℕ) (bytes : List ℕ) → n ≡ 
 size_is b true n bytes h = omega (arith, length-append (box_bytes b) [], length-box b)
 size_is b false n bytes h = omega (arith, length-append (box_bytes b) bytes, length-box b)
 
-content_is : (style : Style) (g : Tree) (k : Kind) (own : ℕ) (below : Level) (t : TailTotals)
+content_is : (style : Style) (g : Tree) (k : Kind) (own : ℕ) (below : RowTotals) (t : TailTotals)
     → IsMeasured style g k own below t
     → box_len (box_for style k (precision_of g) below t) + body_len k own below t ≡ length (content_of style g)
 content_is style g k own below t m =
@@ -114,7 +115,7 @@ content_is style g k own below t m =
     (lead_len k own below + below.bytes + from_origin t) (body_of style g) m.body
 
 -- the entry of such a row is the geometry's
-pub entry_is : (style : Style) (g : Tree) (k : Kind) (own : ℕ) (below : Level) (t : TailTotals)
+pub entry_is : (style : Style) (g : Tree) (k : Kind) (own : ℕ) (below : RowTotals) (t : TailTotals)
     → IsMeasured style g k own below t
     → entry_for style k (precision_of g) own below t ≡ entry_of style g
 entry_is style g k own below t m = λ i. record {

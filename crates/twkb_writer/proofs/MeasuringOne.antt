@@ -13,10 +13,10 @@ use Rattle.twkb_flat.specs.declared.node.Node.{Node}
 use Rattle.twkb_flat.specs.declared.work.Work.{Work}
 use Rattle.twkb_flat.specs.Rows.{IsNode, row_with}
 use Rattle.twkb_grammar.specs.declared.style.Style.{Style}
-use Rattle.twkb_writer.specs.declared.levels.Level.{Level}
+use Rattle.twkb_writer.specs.declared.totals.RowTotals.{RowTotals}
 use Rattle.twkb_writer.specs.declared.sizes.Entry.{Entry}
 use Rattle.twkb_writer.specs.declared.tails.TailTotals.{TailTotals}
-use Rattle.twkb_writer.specs.Levels.{blank, entry_for}
+use Rattle.twkb_writer.specs.Totals.{blank, entry_for}
 use Rattle.twkb_writer.specs.Measuring.{measured, row_entry, points_at, option_list}
 use Rattle.twkb_writer.specs.Reads.{ReadsExactly}
 use Rattle.twkb_writer.specs.Sizes.{AreSizes}
@@ -96,7 +96,7 @@ measured_one style rs node is one =
     ∙ ap (λ (ps : List Point). entry_with node.points ps) (append-nil is.own)
 
 -- the entry of the only node is all sizes
-pub sizes_of_one : (style : Style) (rs : List Row) (node : Node) (p : ℤ) (below : Level)
+pub sizes_of_one : (style : Style) (rs : List Row) (node : Node) (p : ℤ) (below : RowTotals)
     (points : TailTotals) (e : Entry) → AreValidRowsOfOne largest_limits rs → length rs ≡ 1
     → (is : IsNode rs 0 node) → node.row.precision ≡ Some p → below ≡ blank
     → points ≡ tail_of is.own → e ≡ entry_for style node.row.kind p node.points below points
@@ -104,7 +104,7 @@ pub sizes_of_one : (style : Style) (rs : List Row) (node : Node) (p : ℤ) (belo
 sizes_of_one style rs node p below points e valid one is whole no_rows points_are entry_is =
     let entry : e ≡ entry_for style node.row.kind p node.points blank (tail_of is.own) =
     entry_is
-    ∙ ap (λ (l : Level). entry_for style node.row.kind p node.points l points) no_rows
+    ∙ ap (λ (l : RowTotals). entry_for style node.row.kind p node.points l points) no_rows
     ∙ ap (λ (t : TailTotals). entry_for style node.row.kind p node.points blank t) points_are in
     sizes_are style rs (e ∷ []) valid
     (ap (λ (x : Entry). x ∷ []) entry

@@ -11,14 +11,14 @@ use Rattle.twkb_tree.specs.Rows.{Row, rows_of_each, rows_below, ring_rows, polyg
 use Rattle.twkb_tree.specs.Rows.{first_id, other_ids, own_points}
 use Rattle.twkb_tree.specs.RowLists.{IsAbove}
 use Rattle.twkb_grammar.specs.declared.style.Style.{Style}
-use Rattle.twkb_writer.specs.declared.levels.Level.{Level}
-use Rattle.twkb_writer.specs.Levels.{blank, with_part}
-use Rattle.twkb_writer.specs.Measuring.{level, points_ahead, measured}
-use Rattle.twkb_writer.proofs.LevelLemmas.{level_at, level_none, level_past}
+use Rattle.twkb_writer.specs.declared.totals.RowTotals.{RowTotals}
+use Rattle.twkb_writer.specs.Totals.{blank, with_part}
+use Rattle.twkb_writer.specs.Measuring.{totals, points_ahead, measured}
+use Rattle.twkb_writer.proofs.TotalsLemmas.{totals_at, totals_none, totals_past}
 use Rattle.twkb_writer.proofs.BelowLemmas.{deep-rings}
 
 -- the totals after each of these parts is added before the rows
-abbrev pub with_each : {A : Type 0} → (Option ℤ → A → Level → Level) → Ids → List A → Level → Level
+abbrev pub with_each : {A : Type 0} → (Option ℤ → A → RowTotals → RowTotals) → Ids → List A → RowTotals → RowTotals
 with_each w ids [] l = l
 with_each w ids (x ∷ xs) l = w (first_id ids) x (with_each w (other_ids ids) xs l)
 
@@ -30,16 +30,16 @@ above_less d (r ∷ rs) h = omega arith
 -- what is true of the rows of one part at depth d: their totals are given by w, they have the
 -- points g, and none of them is a geometry
 pub record IsComponent {A : Type 0} (style : Style) (d : ℕ) (f : Option ℤ → A → List Row)
-    (w : Option ℤ → A → Level → Level) (g : A → List Point) : Type 0 where
+    (w : Option ℤ → A → RowTotals → RowTotals) (g : A → List Point) : Type 0 where
   pub begins : (id : Option ℤ) (x : A) (more : List Row) → IsAbove (suc d) (f id x ++ more)
   pub counts : (id : Option ℤ) (x : A) (more : List Row) → IsAbove (suc d) more
-      → level style d (f id x ++ more) ≡ w id x (level style d more)
+      → totals style d (f id x ++ more) ≡ w id x (totals style d more)
   pub ahead : (id : Option ℤ) (x : A) (more : List Row) → points_ahead (f id x ++ more) ≡ g x ++ points_ahead more
   pub no_entry : (id : Option ℤ) (x : A) (more : List Row) → measured style (f id x ++ more) ≡ measured style more
 
 -- the first row of parts is no deeper than d
 above_each : {A : Type 0} (style : Style) (d : ℕ) (f : Option ℤ → A → List Row)
-    (w : Option ℤ → A → Level → Level) (g : A → List Point) → IsComponent style d f w g
+    (w : Option ℤ → A → RowTotals → RowTotals) (g : A → List Point) → IsComponent style d f w g
     → (ids : Ids) (xs : List A) (rest : List Row) → IsAbove (suc d) rest
     → IsAbove (suc d) (rows_of_each f ids xs ++ rest)
 above_each style d f w g part ids [] rest h = h
@@ -49,20 +49,20 @@ above_each style d f w g part ids (x ∷ xs) rest h =
     (part.begins (first_id ids) x (rows_of_each f (other_ids ids) xs ++ rest))
 
 -- the totals of parts
-pub level_each : {A : Type 0} (style : Style) (d : ℕ) (f : Option ℤ → A → List Row)
-    (w : Option ℤ → A → Level → Level) (g : A → List Point) → IsComponent style d f w g
+pub totals_each : {A : Type 0} (style : Style) (d : ℕ) (f : Option ℤ → A → List Row)
+    (w : Option ℤ → A → RowTotals → RowTotals) (g : A → List Point) → IsComponent style d f w g
     → (ids : Ids) (xs : List A) (rest : List Row) → IsAbove (suc d) rest
-    → level style d (rows_of_each f ids xs ++ rest) ≡ with_each w ids xs (level style d rest)
-level_each style d f w g part ids [] rest h = refl
-level_each style d f w g part ids (x ∷ xs) rest h =
+    → totals style d (rows_of_each f ids xs ++ rest) ≡ with_each w ids xs (totals style d rest)
+totals_each style d f w g part ids [] rest h = refl
+totals_each style d f w g part ids (x ∷ xs) rest h =
     let others = rows_of_each f (other_ids ids) xs ++ rest in
-    ap (level style d) (append_assoc (f (first_id ids) x) (rows_of_each f (other_ids ids) xs) rest)
+    ap (totals style d) (append_assoc (f (first_id ids) x) (rows_of_each f (other_ids ids) xs) rest)
     ∙ part.counts (first_id ids) x others (above_each style d f w g part (other_ids ids) xs rest h)
-    ∙ ap (w (first_id ids) x) (level_each style d f w g part (other_ids ids) xs rest h)
+    ∙ ap (w (first_id ids) x) (totals_each style d f w g part (other_ids ids) xs rest h)
 
 -- the points of parts
 pub ahead_each : {A : Type 0} (style : Style) (d : ℕ) (f : Option ℤ → A → List Row)
-    (w : Option ℤ → A → Level → Level) (g : A → List Point) → IsComponent style d f w g
+    (w : Option ℤ → A → RowTotals → RowTotals) (g : A → List Point) → IsComponent style d f w g
     → (ids : Ids) (xs : List A) (rest : List Row) → points_ahead (rows_of_each f ids xs ++ rest)
     ≡ flat_map g xs ++ points_ahead rest
 ahead_each style d f w g part ids [] rest = refl
@@ -75,7 +75,7 @@ ahead_each style d f w g part ids (x ∷ xs) rest =
 
 -- none of the parts is a geometry
 pub no_entry_each : {A : Type 0} (style : Style) (d : ℕ) (f : Option ℤ → A → List Row)
-    (w : Option ℤ → A → Level → Level) (g : A → List Point) → IsComponent style d f w g
+    (w : Option ℤ → A → RowTotals → RowTotals) (g : A → List Point) → IsComponent style d f w g
     → (ids : Ids) (xs : List A) (rest : List Row) → measured style (rows_of_each f ids xs ++ rest) ≡ measured style rest
 no_entry_each style d f w g part ids [] rest = refl
 no_entry_each style d f w g part ids (x ∷ xs) rest =
@@ -87,15 +87,15 @@ no_entry_each style d f w g part ids (x ∷ xs) rest =
 -- ---- parts of one row each: rings, points, linestrings
 
 -- the totals with one such row before the others
-abbrev pub with_row_of : {A : Type 0} → Kind → (A → List Point) → Option ℤ → A → Level → Level
+abbrev pub with_row_of : {A : Type 0} → Kind → (A → List Point) → Option ℤ → A → RowTotals → RowTotals
 with_row_of k g id x l = with_part k (length (g x)) id blank l
 
 counts_one : (style : Style) (d : ℕ) (k : Kind) (id : Option ℤ) (ps : List Point) (more : List Row)
     → IsAbove (suc d) more
-    → level style d (plain_row d k id ps ∷ more) ≡ with_part k (length ps) id blank (level style d more)
+    → totals style d (plain_row d k id ps ∷ more) ≡ with_part k (length ps) id blank (totals style d more)
 counts_one style d k id ps more h =
-    level_at style d (plain_row d k id ps) more refl
-    ∙ ap (λ (l : Level). with_part k (length ps) id l (level style d more)) (level_none style (suc d) more h)
+    totals_at style d (plain_row d k id ps) more refl
+    ∙ ap (λ (l : RowTotals). with_part k (length ps) id l (totals style d more)) (totals_none style (suc d) more h)
 
 -- one such row is a part
 pub one_part : {A : Type 0} (style : Style) (d : ℕ) (k : Kind) (g : A → List Point)
@@ -110,29 +110,29 @@ one_part style d k g = record {
 -- ---- polygons with their rings
 
 -- the totals of rings
-abbrev pub rings_level : List (List Point) → Level
-rings_level rings = with_each (with_row_of kind.Ring (λ ps. ps)) None rings blank
+abbrev pub rings_totals : List (List Point) → RowTotals
+rings_totals rings = with_each (with_row_of kind.Ring (λ ps. ps)) None rings blank
 
 -- the totals with a polygon before the others
-abbrev pub with_polygon : Option ℤ → List (List Point) → Level → Level
-with_polygon id rings l = with_part kind.Polygon 0 id (rings_level rings) l
+abbrev pub with_polygon : Option ℤ → List (List Point) → RowTotals → RowTotals
+with_polygon id rings l = with_part kind.Polygon 0 id (rings_totals rings) l
 
 -- the totals of rings before rows that are above them
-pub level_rings : (style : Style) (d : ℕ) (rings : List (List Point)) (rest : List Row)
-    → IsAbove d rest → level style d (ring_rows d rings ++ rest) ≡ rings_level rings
-level_rings style d rings rest h =
-    level_each style d (λ none ring. plain_row d kind.Ring none ring ∷ [])
+pub totals_rings : (style : Style) (d : ℕ) (rings : List (List Point)) (rest : List Row)
+    → IsAbove d rest → totals style d (ring_rows d rings ++ rest) ≡ rings_totals rings
+totals_rings style d rings rest h =
+    totals_each style d (λ none ring. plain_row d kind.Ring none ring ∷ [])
     (with_row_of kind.Ring (λ ps. ps)) (λ ps. ps) (one_part style d kind.Ring (λ ps. ps)) None
     rings rest (above_less d rest h)
-    ∙ ap (with_each (with_row_of kind.Ring (λ ps. ps)) None rings) (level_none style d rest h)
+    ∙ ap (with_each (with_row_of kind.Ring (λ ps. ps)) None rings) (totals_none style d rest h)
 
 counts_polygon : (style : Style) (d : ℕ) (id : Option ℤ) (rings : List (List Point))
     (more : List Row) → IsAbove (suc d) more
-    → level style d (polygon_rows d id rings ++ more) ≡ with_polygon id rings (level style d more)
+    → totals style d (polygon_rows d id rings ++ more) ≡ with_polygon id rings (totals style d more)
 counts_polygon style d id rings more h =
-    level_at style d (plain_row d kind.Polygon id []) (ring_rows (suc d) rings ++ more) refl
-    ∙ (λ i. with_part kind.Polygon 0 id (level_rings style (suc d) rings more h i)
-    (level_past style d (ring_rows (suc d) rings) more (deep-rings (suc d) rings) i))
+    totals_at style d (plain_row d kind.Polygon id []) (ring_rows (suc d) rings ++ more) refl
+    ∙ (λ i. with_part kind.Polygon 0 id (totals_rings style (suc d) rings more h i)
+    (totals_past style d (ring_rows (suc d) rings) more (deep-rings (suc d) rings) i))
 
 -- a polygon with its rings is a part
 pub polygon_part : (style : Style) (d : ℕ) → IsComponent style d (polygon_rows d) with_polygon flatten
@@ -150,33 +150,34 @@ polygon_part style d = record {
 -- ---- the parts of a simple shape
 
 -- the totals of the parts of a shape
-abbrev pub components_level : Simple → Level
-components_level (point o) = blank
-components_level (line ps) = blank
-components_level (polygon rings) = rings_level rings
-components_level (multi_point ids ps) = with_each (with_row_of kind.Point (λ p. p ∷ [])) ids ps blank
-components_level (multi_line ids lines) = with_each (with_row_of kind.Linestring (λ ps. ps)) ids lines blank
-components_level (multi_polygon ids areas) = with_each with_polygon ids areas blank
+abbrev pub components_totals : Simple → RowTotals
+components_totals (point o) = blank
+components_totals (line ps) = blank
+components_totals (polygon rings) = rings_totals rings
+components_totals (multi_point ids ps) = with_each (with_row_of kind.Point (λ p. p ∷ [])) ids ps blank
+components_totals (multi_line ids lines) = with_each (with_row_of kind.Linestring (λ ps. ps)) ids lines blank
+components_totals (multi_polygon ids areas) = with_each with_polygon ids areas blank
 
 -- the rows of the parts have these totals
-pub level_parts : (style : Style) (d : ℕ) (s : Simple) (rest : List Row) → IsAbove d rest
-    → level style d (rows_below d s ++ rest) ≡ components_level s
-level_parts style d (point o) rest h = level_none style d rest h
-level_parts style d (line ps) rest h = level_none style d rest h
-level_parts style d (polygon rings) rest h = level_rings style d rings rest h
-level_parts style d (multi_point ids ps) rest h =
-    level_each style d (λ id p. plain_row d kind.Point id (p ∷ []) ∷ [])
+pub totals_parts : (style : Style) (d : ℕ) (s : Simple) (rest : List Row) → IsAbove d rest
+    → totals style d (rows_below d s ++ rest) ≡ components_totals s
+totals_parts style d (point o) rest h = totals_none style d rest h
+totals_parts style d (line ps) rest h = totals_none style d rest h
+totals_parts style d (polygon rings) rest h = totals_rings style d rings rest h
+totals_parts style d (multi_point ids ps) rest h =
+    totals_each style d (λ id p. plain_row d kind.Point id (p ∷ []) ∷ [])
     (with_row_of kind.Point (λ p. p ∷ [])) (λ p. p ∷ [])
     (one_part style d kind.Point (λ p. p ∷ [])) ids ps rest (above_less d rest h)
-    ∙ ap (with_each (with_row_of kind.Point (λ p. p ∷ [])) ids ps) (level_none style d rest h)
-level_parts style d (multi_line ids lines) rest h =
-    level_each style d (λ id ps. plain_row d kind.Linestring id ps ∷ [])
+    ∙ ap (with_each (with_row_of kind.Point (λ p. p ∷ [])) ids ps) (totals_none style d rest h)
+totals_parts style d (multi_line ids lines) rest h =
+    totals_each style d (λ id ps. plain_row d kind.Linestring id ps ∷ [])
     (with_row_of kind.Linestring (λ ps. ps)) (λ ps. ps)
     (one_part style d kind.Linestring (λ ps. ps)) ids lines rest (above_less d rest h)
-    ∙ ap (with_each (with_row_of kind.Linestring (λ ps. ps)) ids lines) (level_none style d rest h)
-level_parts style d (multi_polygon ids areas) rest h =
-    level_each style d (polygon_rows d) with_polygon flatten (polygon_part style d) ids areas rest (above_less d rest h)
-    ∙ ap (with_each with_polygon ids areas) (level_none style d rest h)
+    ∙ ap (with_each (with_row_of kind.Linestring (λ ps. ps)) ids lines) (totals_none style d rest h)
+totals_parts style d (multi_polygon ids areas) rest h =
+    totals_each style d (polygon_rows d) with_polygon flatten (polygon_part style d) ids areas rest
+    (above_less d rest h)
+    ∙ ap (with_each with_polygon ids areas) (totals_none style d rest h)
 
 pub flat_map_ones : (ps : List Point) → flat_map (λ p. p ∷ []) ps ≡ ps
 flat_map_ones [] = refl

@@ -10,16 +10,16 @@ use Rattle.twkb_tree.specs.RowLists.{AreValidRowsOfOne, IsAbove}
 use Rattle.twkb_flat.specs.declared.node.Node.{Node}
 use Rattle.twkb_flat.specs.Rows.{IsNode, row_with}
 use Rattle.twkb_grammar.specs.declared.style.Style.{Style}
-use Rattle.twkb_writer.specs.declared.levels.Level.{Level}
+use Rattle.twkb_writer.specs.declared.totals.RowTotals.{RowTotals}
 use Rattle.twkb_writer.specs.declared.sizes.Entry.{Entry}
 use Rattle.twkb_writer.specs.declared.tails.TailTotals.{TailTotals}
 use Rattle.twkb_writer.specs.Caps.{point_bytes_cap}
-use Rattle.twkb_writer.specs.Levels.{blank, IsSmall}
+use Rattle.twkb_writer.specs.Totals.{blank, IsSmall}
 use Rattle.twkb_writer.specs.Measuring.{measured, points_ahead, points_at, option_list, tail_after, TakenRow}
 use Rattle.twkb_writer.specs.Sizes.{AreSizes}
 use Rattle.twkb_writer.specs.Tails.{tail_of}
 use Rattle.twkb_writer.proofs.CapLemmas.{points_fit}
-use Rattle.twkb_writer.proofs.MeasuringBounds.{costs_within, level_small}
+use Rattle.twkb_writer.proofs.MeasuringBounds.{costs_within, totals_small}
 use Rattle.twkb_writer.proofs.MeasuringCaps.{IsCapped, node_depth}
 use Rattle.twkb_writer.proofs.MeasuringPoints.{own_at}
 use Rattle.twkb_writer.proofs.MeasuringSteps.{Pass, set_row, pass_cons, pass_none, above_drop}
@@ -27,49 +27,49 @@ use Rattle.twkb_writer.proofs.MeasuringTrees.{measured_rows}
 use Rattle.twkb_writer.proofs.RowStep.{rest_is, points_step}
 
 -- at the start of the pass there is no row after the place
-pub pass_start : (style : Style) (rs : List Row) (n : ℕ) (levels : List Level) (t : TailTotals)
-    (es : List Entry) → length rs ≤ n → length levels ≡ 36
-    → ((k : ℕ) → k < 36 → get_or levels k blank ≡ blank)
-    → t ≡ tail_of [] → es ≡ [] → Pass style (drop n rs) levels t es
-pass_start style rs n levels t es all whole blanks no_tail no_entries =
-    subst (λ l. Pass style (drop n rs) levels t l) (sym no_entries)
-    (subst (λ u. Pass style (drop n rs) levels u []) (sym no_tail)
-    (subst (λ (l : List Row). Pass style l levels (tail_of []) []) (sym (drop_all n rs all))
-    (pass_none style levels whole blanks)))
+pub pass_start : (style : Style) (rs : List Row) (n : ℕ) (by_depth : List RowTotals) (t : TailTotals)
+    (es : List Entry) → length rs ≤ n → length by_depth ≡ 36
+    → ((k : ℕ) → k < 36 → get_or by_depth k blank ≡ blank)
+    → t ≡ tail_of [] → es ≡ [] → Pass style (drop n rs) by_depth t es
+pass_start style rs n by_depth t es all whole blanks no_tail no_entries =
+    subst (λ l. Pass style (drop n rs) by_depth t l) (sym no_entries)
+    (subst (λ u. Pass style (drop n rs) by_depth u []) (sym no_tail)
+    (subst (λ (l : List Row). Pass style l by_depth (tail_of []) []) (sym (drop_all n rs all))
+    (pass_none style by_depth whole blanks)))
 
 -- the totals kept for a depth are small
-pub pass_small : (style : Style) (rs : List Row) (levels : List Level) (t : TailTotals) (es : List Entry)
-    → IsCapped rs → Pass style rs levels t es → (k : ℕ) → k < 36 → IsSmall (get_or levels k blank)
-pass_small style rs levels t es caps pass k small = subst IsSmall (sym (pass.stands k small))
-    (level_small style k rs pass.bounded caps.nodes caps.points)
+pub pass_small : (style : Style) (rs : List Row) (by_depth : List RowTotals) (t : TailTotals) (es : List Entry)
+    → IsCapped rs → Pass style rs by_depth t es → (k : ℕ) → k < 36 → IsSmall (get_or by_depth k blank)
+pass_small style rs by_depth t es caps pass k small = subst IsSmall (sym (pass.stands k small))
+    (totals_small style k rs pass.bounded caps.nodes caps.points)
 
 -- the points up to the next geometry are few
-pub tail_short : (style : Style) (rs : List Row) (levels : List Level) (t : TailTotals) (es : List Entry)
-    → IsCapped rs → Pass style rs levels t es → t.bytes ≤ point_bytes_cap
-tail_short style rs levels t es caps pass = omega
+pub tail_short : (style : Style) (rs : List Row) (by_depth : List RowTotals) (t : TailTotals) (es : List Entry)
+    → IsCapped rs → Pass style rs by_depth t es → t.bytes ≤ point_bytes_cap
+tail_short style rs by_depth t es caps pass = omega
     (arith, pass.tail_small, costs_within 0 rs, caps.nodes, caps.points, points_fit)
 
 -- the pass after one more node, before the rows already seen
-pub pass_back : (style : Style) (rows : List Row) (i : ℕ) (node : Node) (levels new : List Level)
+pub pass_back : (style : Style) (rows : List Row) (i : ℕ) (node : Node) (by_depth new : List RowTotals)
     (tail points : TailTotals) (e : Option Entry) (es : List Entry)
-    → IsCapped rows → (is : IsNode rows i node) → Pass style (drop (i + 1) rows) levels tail es
+    → IsCapped rows → (is : IsNode rows i node) → Pass style (drop (i + 1) rows) by_depth tail es
     → ((ahead : List Point) → tail ≡ tail_of ahead
     → points ≡ tail_of (points_at (drop i rows) ++ ahead))
     → points.bytes ≤ tail.bytes + 20 * node.points
-    → TakenRow style node points levels new e
+    → TakenRow style node points by_depth new e
     → Pass style (drop i rows) new (tail_after node.row.precision points) (es ++ option_list e)
-pass_back style rows i node levels new tail points e es caps is pass found short taken =
+pass_back style rows i node by_depth new tail points e es caps is pass found short taken =
     let r : Row = row_with node.row is.own in
     let rest : is.rest ≡ drop (i + 1) rows = rest_is rows i node is in
-    let behind : Pass style is.rest levels tail es =
-    subst (λ (l : List Row). Pass style l levels tail es) (sym rest) pass in
+    let behind : Pass style is.rest by_depth tail es =
+    subst (λ (l : List Row). Pass style l by_depth tail es) (sym rest) pass in
     let child : IsAbove (node.row.depth + 2) is.rest =
     subst (IsAbove (node.row.depth + 2)) (sym rest)
     (above_drop rows (i + 1) (node.row.depth + 2) (λ some. let c = is.child some in
     omega (arith, c))) in
-    let here : Pass style (r ∷ is.rest) (set_row levels node.row.depth taken.own)
+    let here : Pass style (r ∷ is.rest) (set_row by_depth node.row.depth taken.own)
     (tail_after node.row.precision points) (es ++ option_list e) =
-    pass_cons style r node.points is.rest levels tail points taken.own e es behind (record {
+    pass_cons style r node.points is.rest by_depth tail points taken.own e es behind (record {
       deep = omega (arith, node_depth rows i node caps is);
       child = child;
       count = is.count;
@@ -80,28 +80,28 @@ pass_back style rows i node levels new tail points e es caps is pass found short
       own_small = taken.own_small;
       entry_is = taken.entry_is;
     }) in
-    subst (λ (l : List Level). Pass style (drop i rows) l (tail_after node.row.precision points)
+    subst (λ (l : List RowTotals). Pass style (drop i rows) l (tail_after node.row.precision points)
     (es ++ option_list e)) (sym taken.set_both)
-    (subst (λ (l : List Row). Pass style l (set_row levels node.row.depth taken.own)
+    (subst (λ (l : List Row). Pass style l (set_row by_depth node.row.depth taken.own)
     (tail_after node.row.precision points) (es ++ option_list e)) (sym is.here) here)
 
 -- the pass after one more node, with its place counted from the end
 pub pass_step : (style : Style) (rows : List Row) (total back : ℕ) (node : Node)
-    (levels new : List Level) (tail points before : TailTotals) (e : Option Entry) (es kept : List Entry)
+    (by_depth new : List RowTotals) (tail points before : TailTotals) (e : Option Entry) (es kept : List Entry)
     → back < total → IsCapped rows → IsNode rows (total - 1 - back) node
-    → Pass style (drop (total - back) rows) levels tail es
+    → Pass style (drop (total - back) rows) by_depth tail es
     → ((ahead : List Point) → tail ≡ tail_of ahead
     → points ≡ tail_of (points_at (drop (total - 1 - back) rows) ++ ahead))
     → points.bytes ≤ tail.bytes + 20 * node.points
-    → TakenRow style node points levels new e → before ≡ tail_after node.row.precision points
+    → TakenRow style node points by_depth new e → before ≡ tail_after node.row.precision points
     → kept ≡ es ++ option_list e
     → Pass style (drop (total - (back + 1)) rows) new before kept
-pass_step style rows total back node levels new tail points before e es kept some caps is pass found
+pass_step style rows total back node by_depth new tail points before e es kept some caps is pass found
     short taken tail_is kept_are =
     let here : total - back ≡ total - 1 - back + 1 = omega arith in
     let there : total - 1 - back ≡ total - (back + 1) = omega arith in
-    let step = pass_back style rows (total - 1 - back) node levels new tail points e es caps is
-    (subst (λ n. Pass style (drop n rows) levels tail es) here pass) found short taken in
+    let step = pass_back style rows (total - 1 - back) node by_depth new tail points e es caps is
+    (subst (λ n. Pass style (drop n rows) by_depth tail es) here pass) found short taken in
     subst (λ n. Pass style (drop n rows) new before kept) there
     (subst (λ (l : List Entry). Pass style (drop (total - 1 - back) rows) new before l) (sym kept_are)
     (subst (λ (t : TailTotals). Pass style (drop (total - 1 - back) rows) new t (es ++ option_list e))
@@ -139,10 +139,10 @@ sizes_are style (r ∷ rs) sizes valid e = (
 )
 
 -- at the first row the entries, reversed, are the sizes
-pub pass_end : (style : Style) (rows : List Row) (n : ℕ) (levels : List Level) (t : TailTotals)
+pub pass_end : (style : Style) (rows : List Row) (n : ℕ) (by_depth : List RowTotals) (t : TailTotals)
     (es sizes : List Entry) → AreValidRowsOfOne largest_limits rows → n ≡ 0
-    → Pass style (drop n rows) levels t es → sizes ≡ reverse es → AreSizes style rows sizes
-pass_end style rows n levels t es sizes valid first pass turned =
+    → Pass style (drop n rows) by_depth t es → sizes ≡ reverse es → AreSizes style rows sizes
+pass_end style rows n by_depth t es sizes valid first pass turned =
     sizes_are style rows sizes valid (turned ∙ ap reverse
     (pass.kept ∙ ap (λ m. reverse (measured style (drop m rows))) first)
     ∙ reverse-reverse (measured style rows))

@@ -4,9 +4,9 @@ use Rattle.std.specs.Prelude.{ℤ, is_some, ◌||◌}
 use Rattle.twkb_tree.specs.declared.kind.Kind.{Kind}
 use Rattle.twkb_tree.specs.Tree.{Ids, HasIds}
 use Rattle.twkb_tree.specs.Rows.{first_id, other_ids}
-use Rattle.twkb_writer.specs.declared.levels.Level.{Level}
+use Rattle.twkb_writer.specs.declared.totals.RowTotals.{RowTotals}
 use Rattle.twkb_writer.specs.declared.precisions.Precisions.TheVariants.{Absent}
-use Rattle.twkb_writer.specs.Levels.{blank, id_len, lead_len, with_part}
+use Rattle.twkb_writer.specs.Totals.{blank, id_len, lead_len, with_part}
 use Rattle.twkb_writer.specs.Tails.{signed_len}
 use Rattle.twkb_writer.proofs.MeasuringParts.{with_each}
 
@@ -21,18 +21,18 @@ ids_len None = 0
 ids_len (Some ids) = ids_sum ids
 
 -- a row is counted with its id
-pub record IsCounted {A : Type 0} (w : Option ℤ → A → Level → Level) : Type 0 where
-  pub members : (id : Option ℤ) (x : A) (l : Level) → (w id x l).members ≡ l.members + 1
-  pub ids : (id : Option ℤ) (x : A) (l : Level) → (w id x l).ids ≡ id_len id + l.ids
-  pub named : (id : Option ℤ) (x : A) (l : Level) → (w id x l).named ≡ (is_some id || l.named)
+pub record IsCounted {A : Type 0} (w : Option ℤ → A → RowTotals → RowTotals) : Type 0 where
+  pub members : (id : Option ℤ) (x : A) (l : RowTotals) → (w id x l).members ≡ l.members + 1
+  pub ids : (id : Option ℤ) (x : A) (l : RowTotals) → (w id x l).ids ≡ id_len id + l.ids
+  pub named : (id : Option ℤ) (x : A) (l : RowTotals) → (w id x l).named ≡ (is_some id || l.named)
 
 -- a part is counted
-pub part_counted : {A : Type 0} (k : Kind) (own : A → ℕ) (below : A → Level)
+pub part_counted : {A : Type 0} (k : Kind) (own : A → ℕ) (below : A → RowTotals)
     → IsCounted (λ id x l. with_part k (own x) id (below x) l)
 part_counted k own below = record { members = λ id x l. refl; ids = λ id x l. refl; named = λ id x l. refl }
 
 -- there are as many members as parts
-pub members_each : {A : Type 0} (w : Option ℤ → A → Level → Level) → IsCounted w
+pub members_each : {A : Type 0} (w : Option ℤ → A → RowTotals → RowTotals) → IsCounted w
     → (ids : Ids) (xs : List A) → (with_each w ids xs blank).members ≡ length xs
 members_each w counted ids [] = refl
 members_each w counted ids (x ∷ xs) =
@@ -42,12 +42,12 @@ members_each w counted ids (x ∷ xs) =
       members_each w counted (other_ids ids) xs,
     )
 
-no_ids_each : {A : Type 0} (w : Option ℤ → A → Level → Level) → IsCounted w → (xs : List A)
+no_ids_each : {A : Type 0} (w : Option ℤ → A → RowTotals → RowTotals) → IsCounted w → (xs : List A)
     → (with_each w None xs blank).ids ≡ 0
 no_ids_each w counted [] = refl
 no_ids_each w counted (x ∷ xs) = omega (arith, counted.ids None x (with_each w None xs blank), no_ids_each w counted xs)
 
-some_ids_each : {A : Type 0} (w : Option ℤ → A → Level → Level) → IsCounted w
+some_ids_each : {A : Type 0} (w : Option ℤ → A → RowTotals → RowTotals) → IsCounted w
     → (ids : List ℤ) (xs : List A) → length ids ≡ length xs
     → (with_each w (Some ids) xs blank).ids ≡ ids_sum ids
 some_ids_each w counted [] [] e = refl
@@ -58,19 +58,19 @@ some_ids_each w counted (id ∷ ids) (x ∷ xs) e =
     ∙ ap (λ n. signed_len id + n) (some_ids_each w counted ids xs (omega (arith, e)))
 
 -- the bytes of the ids are those of the parts' ids
-pub ids_each : {A : Type 0} (w : Option ℤ → A → Level → Level) → IsCounted w
+pub ids_each : {A : Type 0} (w : Option ℤ → A → RowTotals → RowTotals) → IsCounted w
     → (ids : Ids) (xs : List A) → HasIds ids (length xs)
     → (with_each w ids xs blank).ids ≡ ids_len ids
 ids_each w counted None xs h = no_ids_each w counted xs
 ids_each w counted (Some ids) xs h = some_ids_each w counted ids xs h.1
 
-no_names_each : {A : Type 0} (w : Option ℤ → A → Level → Level) → IsCounted w → (xs : List A)
+no_names_each : {A : Type 0} (w : Option ℤ → A → RowTotals → RowTotals) → IsCounted w → (xs : List A)
     → (with_each w None xs blank).named ≡ false
 no_names_each w counted [] = refl
 no_names_each w counted (x ∷ xs) = counted.named None x (with_each w None xs blank) ∙ no_names_each w counted xs
 
 -- the members have ids exactly if the parts have
-pub named_each : {A : Type 0} (w : Option ℤ → A → Level → Level) → IsCounted w
+pub named_each : {A : Type 0} (w : Option ℤ → A → RowTotals → RowTotals) → IsCounted w
     → (ids : Ids) (xs : List A) → HasIds ids (length xs)
     → (with_each w ids xs blank).named ≡ is_some ids
 named_each w counted None xs h = no_names_each w counted xs
@@ -84,7 +84,7 @@ total f [] = 0
 total f (x ∷ xs) = f x + total f xs
 
 -- the bytes of parts
-bytes_each : {A : Type 0} (k : Kind) (own : A → ℕ) (below : A → Level) (f : A → ℕ)
+bytes_each : {A : Type 0} (k : Kind) (own : A → ℕ) (below : A → RowTotals) (f : A → ℕ)
     → ((x : A) → lead_len k (own x) (below x) + (below x).bytes ≡ f x)
     → (ids : Ids) (xs : List A) → (with_each (λ id x l. with_part k (own x) id (below x) l) ids xs
     blank).bytes ≡ total f xs
@@ -93,19 +93,19 @@ bytes_each k own below f is ids (x ∷ xs) =
     (λ i. is x i + bytes_each k own below f is (other_ids ids) xs i)
 
 -- parts are not geometries, so they add no bounds
-bounds_each : {A : Type 0} (k : Kind) (own : A → ℕ) (below : A → Level) (ids : Ids) (xs : List A)
+bounds_each : {A : Type 0} (k : Kind) (own : A → ℕ) (below : A → RowTotals) (ids : Ids) (xs : List A)
     → (with_each (λ id x l. with_part k (own x) id (below x) l) ids xs blank).bounds ≡ None
 bounds_each k own below ids [] = refl
 bounds_each k own below ids (x ∷ xs) = bounds_each k own below (other_ids ids) xs
 
 -- parts add no precisions
-precisions_each : {A : Type 0} (k : Kind) (own : A → ℕ) (below : A → Level) (ids : Ids) (xs : List A)
+precisions_each : {A : Type 0} (k : Kind) (own : A → ℕ) (below : A → RowTotals) (ids : Ids) (xs : List A)
     → (with_each (λ id x l. with_part k (own x) id (below x) l) ids xs blank).precisions ≡ Absent
 precisions_each k own below ids [] = refl
 precisions_each k own below ids (x ∷ xs) = precisions_each k own below (other_ids ids) xs
 
 -- the totals of parts: this many, with these ids and bytes
-pub record IsTotal (l : Level) (n : ℕ) (ids : Ids) (bytes : ℕ) : Type 0 where
+pub record IsTotal (l : RowTotals) (n : ℕ) (ids : Ids) (bytes : ℕ) : Type 0 where
   pub members : l.members ≡ n
   pub ids_are : l.ids ≡ ids_len ids
   pub named : l.named ≡ is_some ids
@@ -114,7 +114,7 @@ pub record IsTotal (l : Level) (n : ℕ) (ids : Ids) (bytes : ℕ) : Type 0 wher
   pub no_precisions : l.precisions ≡ Absent
 
 -- the totals of parts, each with this many bytes
-pub total_each : {A : Type 0} (k : Kind) (own : A → ℕ) (below : A → Level) (f : A → ℕ)
+pub total_each : {A : Type 0} (k : Kind) (own : A → ℕ) (below : A → RowTotals) (f : A → ℕ)
     → ((x : A) → lead_len k (own x) (below x) + (below x).bytes ≡ f x)
     → (ids : Ids) (xs : List A) → HasIds ids (length xs)
     → IsTotal (with_each (λ id x l. with_part k (own x) id (below x) l) ids xs blank) (length xs)

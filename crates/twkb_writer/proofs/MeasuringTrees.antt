@@ -21,18 +21,18 @@ use Rattle.twkb_grammar.specs.Roles.{Count, Geometries}
 use Rattle.twkb_grammar.specs.Items.{id_fields, flags_all, filled, OfId}
 use Rattle.twkb_grammar.specs.Written.{canonical_blob, canonical_members, varints, is_empty, is_point}
 use Rattle.twkb_grammar.specs.declared.style.Style.{Style}
-use Rattle.twkb_writer.specs.declared.levels.Level.{Level}
+use Rattle.twkb_writer.specs.declared.totals.RowTotals.{RowTotals}
 use Rattle.twkb_writer.specs.declared.precisions.Precisions.TheVariants.{One}
 use Rattle.twkb_writer.specs.declared.sizes.Entry.{Entry}
-use Rattle.twkb_writer.specs.Levels.{blank, id_len, is_bare, with_geometry, entry_for, blob_len}
-use Rattle.twkb_writer.specs.Levels.{is_point as is_point_kind}
-use Rattle.twkb_writer.specs.Measuring.{level, measured, points_ahead, row_level}
+use Rattle.twkb_writer.specs.Totals.{blank, id_len, is_bare, with_geometry, entry_for, blob_len}
+use Rattle.twkb_writer.specs.Totals.{is_point as is_point_kind}
+use Rattle.twkb_writer.specs.Measuring.{totals, measured, points_ahead, row_totals}
 use Rattle.twkb_writer.specs.Precisions.{all_are, agreed}
 use Rattle.twkb_writer.specs.Sizes.{entry_of, sizes_of, sizes_of_all, content_of, body_of}
 use Rattle.twkb_writer.specs.Tails.{number_len, tail_of}
-use Rattle.twkb_writer.proofs.LevelLemmas.{level_at, level_none, level_past}
+use Rattle.twkb_writer.proofs.TotalsLemmas.{totals_at, totals_none, totals_past}
 use Rattle.twkb_writer.proofs.BelowLemmas.{deep-below}
-use Rattle.twkb_writer.proofs.MeasuringParts.{with_each, above_less, components_level, level_parts}
+use Rattle.twkb_writer.proofs.MeasuringParts.{with_each, above_less, components_totals, totals_parts}
 use Rattle.twkb_writer.proofs.MeasuringParts.{ahead_parts, no_entry_parts}
 use Rattle.twkb_writer.proofs.MeasuringTotals.{IsCounted, members_each, ids_each, named_each, ids_sum, ids_len}
 use Rattle.twkb_writer.proofs.MeasuringBodies.{length-number, length-fields, from_origin-tail_of}
@@ -41,7 +41,7 @@ use Rattle.twkb_writer.proofs.MeasuringEntries.{IsMeasured, entry_is, blob_lengt
 use Rattle.twkb_writer.proofs.PrecisionLemmas.{precisions_of, precisions_of_all, all_are-uniform}
 
 -- the totals after a geometry is added before the rows
-abbrev pub with_tree : Style → Option ℤ → Tree → Level → Level
+abbrev pub with_tree : Style → Option ℤ → Tree → RowTotals → RowTotals
 with_tree style id g l = record {
   members = l.members + 1;
   ids = id_len id + l.ids;
@@ -52,8 +52,8 @@ with_tree style id g l = record {
 }
 
 -- the totals of the members of a collection
-abbrev pub trees_level : Style → Ids → Trees → Level
-trees_level style ids gs = with_each (with_tree style) ids (members gs) blank
+abbrev pub trees_totals : Style → Ids → Trees → RowTotals
+trees_totals style ids gs = with_each (with_tree style) ids (members gs) blank
 
 pub tree_counted : (style : Style) → IsCounted (with_tree style)
 tree_counted style = record { members = λ id g l. refl; ids = λ id g l. refl; named = λ id g l. refl }
@@ -63,7 +63,7 @@ length-members end = refl
 length-members (g ▷ gs) = ap suc (length-members gs)
 
 trees_bytes : (style : Style) (ids : Ids) (gs : Trees)
-    → (trees_level style ids gs).bytes ≡ length (canonical_members style gs)
+    → (trees_totals style ids gs).bytes ≡ length (canonical_members style gs)
 trees_bytes style ids end = refl
 trees_bytes style ids (g ▷ gs) = omega (
   arith,
@@ -72,13 +72,13 @@ trees_bytes style ids (g ▷ gs) = omega (
   trees_bytes style (other_ids ids) gs,
 )
 
-trees_bounds : (style : Style) (ids : Ids) (gs : Trees) → (trees_level style ids gs).bounds ≡ extent (flat_all gs)
+trees_bounds : (style : Style) (ids : Ids) (gs : Trees) → (trees_totals style ids gs).bounds ≡ extent (flat_all gs)
 trees_bounds style ids end = refl
 trees_bounds style ids (g ▷ gs) = ap (joined_options (extent (flat g)))
     (trees_bounds style (other_ids ids) gs) ∙ sym (extent-append (flat g) (flat_all gs))
 
 pub trees_precisions : (style : Style) (ids : Ids) (gs : Trees)
-    → (trees_level style ids gs).precisions ≡ precisions_of_all gs
+    → (trees_totals style ids gs).precisions ≡ precisions_of_all gs
 trees_precisions style ids end = refl
 trees_precisions style ids (g ▷ gs) = ap (agreed (precisions_of g)) (trees_precisions style (other_ids ids) gs)
 
@@ -93,7 +93,7 @@ simple_point (multi_line ids lines) p = refl
 simple_point (multi_polygon ids areas) p = refl
 
 pub simple_measured : (style : Style) (p : ℤ) (s : Simple) → IdsFit s
-    → IsMeasured style (simple p s) (kind_in s) (length (own_points s)) (components_level s)
+    → IsMeasured style (simple p s) (kind_in s) (length (own_points s)) (components_totals s)
     (tail_of (points_in s))
 simple_measured style p s h =
     let t = total_parts s h in
@@ -131,16 +131,16 @@ nat_eq_more : (n : ℕ) → nat_eq (n + 1) 0 ≡ false
 nat_eq_more n = grind (arith, nat_tests)
 
 bare_trees : (style : Style) (ids : Ids) (gs : Trees)
-    → is_bare 0 (trees_level style ids gs) ≡ is_empty (flags_all ids gs)
+    → is_bare 0 (trees_totals style ids gs) ≡ is_empty (flags_all ids gs)
 bare_trees style ids end = refl
-bare_trees style None (g ▷ gs) = nat_eq_more (trees_level style None gs).members
-bare_trees style (Some ids) (g ▷ gs) = nat_eq_more (trees_level style (other_ids (Some ids)) gs).members
+bare_trees style None (g ▷ gs) = nat_eq_more (trees_totals style None gs).members
+bare_trees style (Some ids) (g ▷ gs) = nat_eq_more (trees_totals style (other_ids (Some ids)) gs).members
 
 body_trees : (style : Style) (p : ℤ) (ids : Ids) (gs : Trees) → HasIds ids (length (members gs))
-    → number_len (trees_level style ids gs).members + (trees_level style ids gs).ids
-    + (trees_level style ids gs).bytes + 0 ≡ length (body_of style (collection p ids gs))
+    → number_len (trees_totals style ids gs).members + (trees_totals style ids gs).ids
+    + (trees_totals style ids gs).bytes + 0 ≡ length (body_of style (collection p ids gs))
 body_trees style p ids gs h =
-    let few : number_len (trees_level style ids gs).members ≡ number_len (count gs) = ap number_len
+    let few : number_len (trees_totals style ids gs).members ≡ number_len (count gs) = ap number_len
     (members_each (with_tree style) (tree_counted style) ids (members gs)
     ∙ length-members gs) in
     omega (
@@ -155,7 +155,7 @@ body_trees style p ids gs h =
     )
 
 pub collection_measured : (style : Style) (p : ℤ) (ids : Ids) (gs : Trees) → HasIds ids (length (members gs))
-    → IsMeasured style (collection p ids gs) kind.Collection 0 (trees_level style ids gs) (tail_of [])
+    → IsMeasured style (collection p ids gs) kind.Collection 0 (trees_totals style ids gs) (tail_of [])
 collection_measured style p ids gs h = record {
   point = refl;
   members = members_each (with_tree style) (tree_counted style) ids (members gs) ∙ length-members gs;
@@ -169,11 +169,11 @@ collection_measured style p ids gs h = record {
 -- ---- the rows of a geometry, one after the other
 
 -- rows whose totals are those of a geometry
-pub row_is : (style : Style) (g : Tree) (r : Row) (below others below' others' : Level)
+pub row_is : (style : Style) (g : Tree) (r : Row) (below others below' others' : RowTotals)
     (ahead ps : List Point) → below ≡ below' → others ≡ others' → r.points ++ ahead ≡ ps
     → IsMeasured style g r.kind (length r.points) below' (tail_of ps)
     → agreed (One (precision_of g)) below'.precisions ≡ precisions_of g
-    → row_level style r.kind (length r.points) r.id (Some (precision_of g)) below
+    → row_totals style r.kind (length r.points) r.id (Some (precision_of g)) below
     (tail_of (r.points ++ ahead)) others ≡ with_tree style r.id g others'
 row_is style g r below others below' others' ahead ps eb eo ep m precisions =
     let size : (entry_for style r.kind (precision_of g) (length r.points) below' (tail_of ps)).size
@@ -191,7 +191,7 @@ row_is style g r below others below' others' ahead ps eb eo ep m precisions =
     })
 
 -- the entry of such rows is the geometry's
-pub row_entry_is : (style : Style) (g : Tree) (r : Row) (below below' : Level)
+pub row_entry_is : (style : Style) (g : Tree) (r : Row) (below below' : RowTotals)
     (ahead ps : List Point) → below ≡ below' → r.points ++ ahead ≡ ps
     → IsMeasured style g r.kind (length r.points) below' (tail_of ps)
     → entry_for style r.kind (precision_of g) (length r.points) below (tail_of (r.points ++ ahead))
@@ -226,42 +226,44 @@ simple_points style d s rest h = ahead_parts style d s rest ∙ ap (λ ps. point
 
 mutual
   -- the totals of the rows of a geometry
-  pub level_tree : (style : Style) (d : ℕ) (id : Option ℤ) (g : Tree) (rest : List Row) → IsTree g
-      → IsBehind d rest → level style d (rows_with id d g ++ rest) ≡ with_tree style id g
-      (level style d rest)
-  level_tree style d id (simple p s) rest fits h =
+  pub totals_tree : (style : Style) (d : ℕ) (id : Option ℤ) (g : Tree) (rest : List Row) → IsTree g
+      → IsBehind d rest → totals style d (rows_with id d g ++ rest) ≡ with_tree style id g
+      (totals style d rest)
+  totals_tree style d id (simple p s) rest fits h =
       let own = own_row id d (simple p s) in
-      level_at style d own (rows_below (suc d) s ++ rest) refl
-      ∙ row_is style (simple p s) own (level style (suc d) (rows_below (suc d) s ++ rest))
-      (level style d (rows_below (suc d) s ++ rest)) (components_level s) (level style d rest)
-      (points_ahead (rows_below (suc d) s ++ rest)) (points_in s) (level_parts style (suc d) s rest h.above)
-      (level_past style d (rows_below (suc d) s) rest (deep-below (suc d) (simple p s)))
+      totals_at style d own (rows_below (suc d) s ++ rest) refl
+      ∙ row_is style (simple p s) own (totals style (suc d) (rows_below (suc d) s ++ rest))
+      (totals style d (rows_below (suc d) s ++ rest)) (components_totals s) (totals style d rest)
+      (points_ahead (rows_below (suc d) s ++ rest)) (points_in s) (totals_parts style (suc d) s rest h.above)
+      (totals_past style d (rows_below (suc d) s) rest (deep-below (suc d) (simple p s)))
       (simple_points style (suc d) s rest h.no_part)
       (simple_measured style p s fits.1) (ap (agreed (One p)) (total_parts s fits.1).no_precisions)
-  level_tree style d id (collection p ids gs) rest fits h =
+  totals_tree style d id (collection p ids gs) rest fits h =
       let own = own_row id d (collection p ids gs) in
-      level_at style d own (member_rows (suc d) ids gs ++ rest) refl
-      ∙ row_is style (collection p ids gs) own (level style (suc d)
-      (member_rows (suc d) ids gs ++ rest)) (level style d (member_rows (suc d) ids gs ++ rest))
-      (trees_level style ids gs) (level style d rest)
+      totals_at style d own (member_rows (suc d) ids gs ++ rest) refl
+      ∙ row_is style (collection p ids gs) own (totals style (suc d)
+      (member_rows (suc d) ids gs ++ rest)) (totals style d (member_rows (suc d) ids gs ++ rest))
+      (trees_totals style ids gs) (totals style d rest)
       (points_ahead (member_rows (suc d) ids gs ++ rest)) []
-      (level_members style (suc d) ids gs rest fits.2 (behind_deeper d rest h)
+      (totals_members style (suc d) ids gs rest fits.2 (behind_deeper d rest h)
       ∙ ap (with_each (with_tree style) ids (members gs))
-      (level_none style (suc d) rest h.above))
-      (level_past style d (member_rows (suc d) ids gs) rest
+      (totals_none style (suc d) rest h.above))
+      (totals_past style d (member_rows (suc d) ids gs) rest
       (deep-below (suc d) (collection p ids gs))) (behind_members (suc d) ids gs rest
       (behind_deeper d rest h)).no_part
       (collection_measured style p ids gs (ids_fit ids gs fits.1)) (ap (agreed (One p)) (trees_precisions style ids gs))
 
   -- the totals of the rows of members, one after another
-  pub level_members : (style : Style) (d : ℕ) (ids : Ids) (gs : Trees) (rest : List Row) → AreTrees gs → IsBehind d rest
-      → level style d (member_rows d ids gs ++ rest) ≡ with_each (with_tree style) ids (members gs) (level style d rest)
-  level_members style d ids end rest fits h = refl
-  level_members style d ids (g ▷ gs) rest fits h =
+  pub totals_members : (style : Style) (d : ℕ) (ids : Ids) (gs : Trees) (rest : List Row) → AreTrees gs
+      → IsBehind d rest
+      → totals style d (member_rows d ids gs ++ rest)
+      ≡ with_each (with_tree style) ids (members gs) (totals style d rest)
+  totals_members style d ids end rest fits h = refl
+  totals_members style d ids (g ▷ gs) rest fits h =
       let others = member_rows d (other_ids ids) gs ++ rest in
-      ap (level style d) (append_assoc (rows_with (first_id ids) d g) (member_rows d (other_ids ids) gs) rest)
-      ∙ level_tree style d (first_id ids) g others fits.0 (behind_members d (other_ids ids) gs rest h)
-      ∙ ap (with_tree style (first_id ids) g) (level_members style d (other_ids ids) gs rest fits.1 h)
+      ap (totals style d) (append_assoc (rows_with (first_id ids) d g) (member_rows d (other_ids ids) gs) rest)
+      ∙ totals_tree style d (first_id ids) g others fits.0 (behind_members d (other_ids ids) gs rest h)
+      ∙ ap (with_tree style (first_id ids) g) (totals_members style d (other_ids ids) gs rest fits.1 h)
 
 mutual
   -- the entries of a geometry and of all members in it
@@ -270,19 +272,19 @@ mutual
       ++ measured style rest
   measured_tree style d id (simple p s) rest fits h =
       let own = own_row id d (simple p s) in
-      (λ i. row_entry_is style (simple p s) own (level style (suc d) (rows_below (suc d) s ++ rest))
-      (components_level s) (points_ahead (rows_below (suc d) s ++ rest)) (points_in s)
-      (level_parts style (suc d) s rest h.above) (simple_points style (suc d) s rest h.no_part)
+      (λ i. row_entry_is style (simple p s) own (totals style (suc d) (rows_below (suc d) s ++ rest))
+      (components_totals s) (points_ahead (rows_below (suc d) s ++ rest)) (points_in s)
+      (totals_parts style (suc d) s rest h.above) (simple_points style (suc d) s rest h.no_part)
       (simple_measured style p s fits.1) i
       ∷ no_entry_parts style (suc d) s rest i)
   measured_tree style d id (collection p ids gs) rest fits h =
       let own = own_row id d (collection p ids gs) in
       (λ i. row_entry_is style (collection p ids gs) own
-      (level style (suc d) (member_rows (suc d) ids gs ++ rest)) (trees_level style ids gs)
+      (totals style (suc d) (member_rows (suc d) ids gs ++ rest)) (trees_totals style ids gs)
       (points_ahead (member_rows (suc d) ids gs ++ rest)) []
-      (level_members style (suc d) ids gs rest fits.2 (behind_deeper d rest h)
+      (totals_members style (suc d) ids gs rest fits.2 (behind_deeper d rest h)
       ∙ ap (with_each (with_tree style) ids (members gs))
-      (level_none style (suc d) rest h.above))
+      (totals_none style (suc d) rest h.above))
       (behind_members (suc d) ids gs rest (behind_deeper d rest h)).no_part
       (collection_measured style p ids gs (ids_fit ids gs fits.1)) i
       ∷ measured_members style (suc d) ids gs rest fits.2 (behind_deeper d rest h) i)

@@ -35,7 +35,7 @@ depths_drop (r ∷ rs) (suc i) j =
 -- a place of the walk is at a member, or at the end
 pub record At (rows : List Row) (d end i : ℕ) : Type 0 where
   pub within : i ≤ end
-  pub level : i < end → get_or (depths rows) i 0 ≡ d + 1
+  pub totals : i < end → get_or (depths rows) i 0 ≡ d + 1
 
 -- the rows below a row at this depth end there
 pub record Ends (rows : List Row) (d first end : ℕ) : Type 0 where
@@ -68,7 +68,7 @@ first_at rows i node is =
     let ends = node_ends rows i node is in
     record {
       within = omega (arith, is.next.after);
-      level = λ h. let low = ends.deeper (i + 1) (omega arith) h in
+      totals = λ h. let low = ends.deeper (i + 1) (omega arith) h in
           let high = is.child (omega (arith, ends.fits)) in omega arith;
     }
 
@@ -76,7 +76,7 @@ pub next_at : (rows : List Row) (d first end i : ℕ) (node : Node) → Ends row
     → At rows d end i → i < end → first ≤ i → IsNode rows i node
     → At rows d end node.next.0
 next_at rows d first end i node ends at before after is =
-    let level = at.level before in
+    let totals = at.totals before in
     let own = node_ends rows i node is in
     let depth = row_depth rows i node is in
     let within : node.next.0 ≤ end = elim (cases_lt end node.next.0) [
@@ -86,7 +86,7 @@ next_at rows d first end i node ends at before after is =
     ] in
     record {
       within = within;
-      level = λ h. let low = ends.deeper node.next.0 (omega (arith, is.next.after)) h in
+      totals = λ h. let low = ends.deeper node.next.0 (omega (arith, is.next.after)) h in
           let high = own.ends (omega (arith, ends.fits)) in omega arith;
     }
 
@@ -94,7 +94,7 @@ pub members_step : (rows : List Row) (d first end i : ℕ) (node : Node) (is : I
     → At rows d end i → i < end
     → members_below d (drop i rows) ≡ row_with node.row is.own ∷ members_below d (drop node.next.0 rows)
 members_step rows d first end i node is at before =
-    let level = at.level before in
+    let totals = at.totals before in
     let own = node_ends rows i node is in
     let depth = row_depth rows i node is in
     let after = is.next.after in
@@ -106,7 +106,7 @@ members_step rows d first end i node is at before =
     let shift : i + 1 + (node.next.0 - (i + 1)) ≡ node.next.0 = omega arith in
     let r : Row = row_with node.row is.own in
     ap (members_below d) is.here
-    ∙ members-one d r is.rest (omega (arith, level, depth))
+    ∙ members-one d r is.rest (omega (arith, totals, depth))
     ∙ ap (λ (rs : List Row). r ∷ members_below d rs) rest
     ∙ ap (λ (rs : List Row). r ∷ rs) (members_skip d (drop (i + 1) rows) (node.next.0 - (i + 1)) deep)
     ∙ ap (λ (rs : List Row). r ∷ members_below d rs) (drop-drop (node.next.0 - (i + 1)) (i + 1) rows)

@@ -52,9 +52,9 @@ part_ids : {A : Type 0} (d : ℕ) (f : Option ℤ → A → List Row) (own : Opt
     → (at : Point) (ids : Ids) (xs : List A) (rs : List Row) → Stops d rs → HasIds ids (length xs)
     → (if is_some ids then ids_bytes (members_below d (rows_of_each f ids xs ++ rs)) else [])
     ≡ walked at (id_slots ids)
-part_ids d f own deeper is level deep same at None xs rs stops h = refl
-part_ids d f own deeper is level deep same at (Some ids) xs rs stops h =
-    ap ids_bytes (members-each d f own deeper is level deep (Some ids) xs rs
+part_ids d f own deeper is totals deep same at None xs rs stops h = refl
+part_ids d f own deeper is totals deep same at (Some ids) xs rs stops h =
+    ap ids_bytes (members-each d f own deeper is totals deep (Some ids) xs rs
     ∙ ap (λ (l : List Row). rows_of_each (λ id x. own id x ∷ []) (Some ids) xs ++ l) (members-stop d rs stops)
     ∙ append-nil (rows_of_each (λ id x. own id x ∷ []) (Some ids) xs))
     ∙ ids-each own same at ids xs h.1

@@ -12,7 +12,7 @@ abbrev pub walks : List Row → ℕ
 walks [] = 0
 walks (r ∷ rs) = 1 + length (members_below r.depth rs) + walks rs
 
--- the number of rows whose parent is not among these rows, at the levels below n
+-- the number of rows whose parent is not among these rows, at the depths below n
 abbrev opens : ℕ → List Row → ℕ
 opens zero rs = 0
 opens (suc n) rs = opens n rs + length (members_below n rs)
@@ -52,9 +52,9 @@ opens_more (suc n) r rs =
             let same = opens_above (suc n) r rs (omega arith) in
             let rise = opens_rise (suc n) (r.depth) rs (omega arith) in omega arith)
         | inr at ↦
-            (let level : r.depth ≡ n + 1 = omega arith in
+            (let totals : r.depth ≡ n + 1 = omega arith in
             let before = opens_above n r rs deep in
-            let one = ap length (members-one n r rs (omega (arith, level))) in
+            let one = ap length (members-one n r rs (omega (arith, totals))) in
             let rise = opens_rise (suc n) (r.depth) rs (omega arith) in omega (arith, before, one, rise))
       ]
       | inr shallow ↦ (let before = opens_more n r rs in

@@ -3,7 +3,7 @@ pub mod Bytes
 pub mod Caps
 pub mod Depths
 pub mod Encoding
-pub mod Levels
+pub mod Totals
 pub mod Measuring
 pub mod Nodes
 pub mod PointBlob

@@ -8,10 +8,10 @@ use Rattle.twkb_tree.specs.Tree.{saturated}
 use Rattle.twkb_flat.specs.declared.node.Node.{Node}
 use Rattle.twkb_flat.specs.declared.work.Work.{Work}
 use Rattle.twkb_grammar.specs.declared.style.Style.{Style}
-use Rattle.twkb_writer.specs.declared.levels.Level.{Level}
+use Rattle.twkb_writer.specs.declared.totals.RowTotals.{RowTotals}
 use Rattle.twkb_writer.specs.declared.sizes.Entry.{Entry}
 use Rattle.twkb_writer.specs.declared.tails.TailTotals.{TailTotals}
-use Rattle.twkb_writer.specs.Levels.{blank, entry_for, with_part, with_geometry}
+use Rattle.twkb_writer.specs.Totals.{blank, entry_for, with_part, with_geometry}
 use Rattle.twkb_writer.specs.Tails.{tail_of}
 
 -- the points up to the next geometry, if the row is a part; none if it is a geometry itself
@@ -26,28 +26,28 @@ points_ahead (r ∷ rs) = ahead_of r.precision (r.points ++ points_ahead rs)
 
 -- the totals after one more row is added before the rows: it has `own` points, `below` totals the
 -- rows under it, and `t` totals the points up to the end of its geometry
-abbrev pub row_level : Style → Kind → ℕ → Option ℤ → Option ℤ → Level → TailTotals → Level → Level
-row_level style k own id None below t l = with_part k own id below l
-row_level style k own id (Some p) below t l = with_geometry style (entry_for style k p own below t).size p id below t l
+abbrev pub row_totals : Style → Kind → ℕ → Option ℤ → Option ℤ → RowTotals → TailTotals → RowTotals → RowTotals
+row_totals style k own id None below t l = with_part k own id below l
+row_totals style k own id (Some p) below t l = with_geometry style (entry_for style k p own below t).size p id below t l
 
 -- the entry of the row, if it is a geometry itself
-abbrev pub row_entry : Style → Kind → ℕ → Option ℤ → Level → TailTotals → Option Entry
+abbrev pub row_entry : Style → Kind → ℕ → Option ℤ → RowTotals → TailTotals → Option Entry
 row_entry style k own None below t = None
 row_entry style k own (Some p) below t = Some (entry_for style k p own below t)
 
 -- the totals at depth k of a row at depth d and the rows after it: none if the row is above k,
 -- `own` if it is at k, those of the rows after it if it is below k
-abbrev pub chosen : ℕ → ℕ → Level → Level → Level
+abbrev pub chosen : ℕ → ℕ → RowTotals → RowTotals → RowTotals
 chosen d k own others = if nat_lt d k then blank else if nat_eq d k then own else others
 
 -- the totals of the rows at a depth, up to the first row above it
-abbrev pub level : Style → ℕ → List Row → Level
-level style k [] = blank
-level style k (r ∷ rs) =
+abbrev pub totals : Style → ℕ → List Row → RowTotals
+totals style k [] = blank
+totals style k (r ∷ rs) =
     chosen r.depth k
-    (row_level style r.kind (length r.points) r.id r.precision (level style (suc k) rs)
-    (tail_of (r.points ++ points_ahead rs)) (level style k rs))
-    (level style k rs)
+    (row_totals style r.kind (length r.points) r.id r.precision (totals style (suc k) rs)
+    (tail_of (r.points ++ points_ahead rs)) (totals style k rs))
+    (totals style k rs)
 
 -- the totals of points that the row before this one adds to: none if this row begins a geometry
 abbrev pub tail_after : Option ℤ → TailTotals → TailTotals
@@ -55,7 +55,7 @@ tail_after None t = t
 tail_after (Some p) t = tail_of []
 
 -- the number of bytes of rows and of their ids
-abbrev pub load : Level → ℕ
+abbrev pub load : RowTotals → ℕ
 load l = l.ids + l.bytes
 
 -- the most bytes that a row adds to those of the rows below and after it, if the points up to the
@@ -73,7 +73,7 @@ option_list (Some e) = e ∷ []
 abbrev pub measured : Style → List Row → List Entry
 measured style [] = []
 measured style (r ∷ rs) =
-    option_list (row_entry style r.kind (length r.points) r.precision (level style (suc r.depth) rs)
+    option_list (row_entry style r.kind (length r.points) r.precision (totals style (suc r.depth) rs)
     (tail_of (r.points ++ points_ahead rs)))
     ++ measured style rs
 
@@ -84,10 +84,10 @@ points_at (r ∷ rs) = r.points
 
 -- One row is added: the totals at each depth after it, and its entry, given the points up to the
 -- end of its geometry.
-pub record TakenRow (style : Style) (node : Node) (points : TailTotals) (old new : List Level)
+pub record TakenRow (style : Style) (node : Node) (points : TailTotals) (old new : List RowTotals)
     (entry : Option Entry) : Type 0 where
-  pub own : Level
-  pub own_is : own ≡ row_level style node.row.kind node.points node.row.id node.row.precision
+  pub own : RowTotals
+  pub own_is : own ≡ row_totals style node.row.kind node.points node.row.id node.row.precision
       (slice_index_or old (node.row.depth + 1) blank) points (slice_index_or old node.row.depth blank)
   pub own_small : load own ≤ load (slice_index_or old (node.row.depth + 1) blank) + load
       (slice_index_or old node.row.depth blank) + cost_of node.row.precision points.bytes

@@ -5,8 +5,8 @@ use Rattle.twkb_tree.specs.declared.limits.TheConstants.{NODES_CAP, POINTS_CAP}
 use Rattle.twkb_tree.specs.Tree.{Tree, simple, collection, points_in, precision_of}
 use Rattle.twkb_tree.specs.Rows.{own_row, rows_under}
 use Rattle.twkb_grammar.specs.declared.style.Style.TheVariants.{Full}
-use Rattle.twkb_writer.specs.declared.levels.Level.{Level}
-use Rattle.twkb_writer.specs.Measuring.{level, row_level}
+use Rattle.twkb_writer.specs.declared.totals.RowTotals.{RowTotals}
+use Rattle.twkb_writer.specs.Measuring.{totals, row_totals}
 use Rattle.twkb_writer.specs.Tails.{tail_of}
 
 -- the points of the geometry itself, those of its parts included; a collection has none
@@ -15,14 +15,14 @@ way_of (simple p s) = points_in s
 way_of (collection p ids gs) = []
 
 -- the totals of the rows below a geometry's own row
-abbrev pub level_under : Tree → Level
-level_under g = level Full 0 (rows_under 0 g)
+abbrev pub totals_under : Tree → RowTotals
+totals_under g = totals Full 0 (rows_under 0 g)
 
 -- the totals after the geometry is added before the rows at its depth
-abbrev pub tree_level : Option ℤ → Tree → Level → Level
-tree_level id g others =
-    row_level Full (own_row id 0 g).kind (length (own_row id 0 g).points) id (Some (precision_of g))
-    (level_under g) (tail_of (way_of g)) others
+abbrev pub tree_totals : Option ℤ → Tree → RowTotals → RowTotals
+tree_totals id g others =
+    row_totals Full (own_row id 0 g).kind (length (own_row id 0 g).points) id (Some (precision_of g))
+    (totals_under g) (tail_of (way_of g)) others
 
 -- a bound on the bytes of this many rows and points
 abbrev pub most_of : ℕ → ℕ → ℕ

@@ -1,4 +1,4 @@
-//! The sizes of a flat form of one row, measured without levels.
+//! The sizes of a flat form of one row, measured without totals by depth.
 ghost use Rattle.std.specs.Prelude.{◌≡◌, ◌≤◌, ◌↔◌, ◌∷◌, [], ℤ, length, Some, IsTrue, OnOk};
 ghost use Rattle.twkb_tree.specs.declared.limits.TheConstants.{POINTS_CAP};
 ghost use Rattle.twkb_tree.specs.Limits.{largest_limits};
@@ -7,16 +7,16 @@ ghost use Rattle.twkb_tree.specs.RowLists.{AreValidRowsOfOne};
 ghost use Rattle.twkb_tree.specs.declared.kind.Kind.TheVariants.{Point as PointKind};
 ghost use Rattle.twkb_flat.specs.Rows.{IsNode};
 ghost use Rattle.twkb_grammar.specs.declared.style.Style.{Style as InStyle};
-ghost use Rattle.twkb_writer.specs.Levels.{blank, entry_for};
+ghost use Rattle.twkb_writer.specs.Totals.{blank, entry_for};
 ghost use Rattle.twkb_writer.specs.Reads.{ReadsExactly};
 ghost use Rattle.twkb_writer.specs.Sizes.{AreSizes};
 ghost use Rattle.twkb_writer.specs.Tails.{tail_of};
 
 use crate::lengths::signed_len;
-use crate::levels::Level;
 use crate::measuring::{keep, look_at_reads, take_points};
 use crate::sizes::Entry;
 use crate::tails::TailTotals;
+use crate::totals::RowTotals;
 use std::alloc::AllocError;
 use twkb_flat::{Flat, Node, NodeId, Work};
 use twkb_grammar::Style;
@@ -55,7 +55,7 @@ fn row_entry(flat: &Flat, style: Style, node: &Node, precision: i8, work: &mut W
     ensures reads { ReadsExactly work.old 0 node.now.points work.new }
 {
     let points = take_points(flat, NodeId(0), node, TailTotals::none(), work);
-    Level::blank().entry_for(style, node.row.kind, precision, node.points, &points)
+    RowTotals::blank().entry_for(style, node.row.kind, precision, node.points, &points)
 }
 
 // Replaces all entries by this one; if there is just one, it is overwritten in place.

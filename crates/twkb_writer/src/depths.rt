@@ -1,8 +1,8 @@
 //! The totals of the rows at each depth, reused from one flat form to the next.
 ghost use Rattle.std.specs.Prelude.{◌≡◌, ◌<◌, ◌+◌, slice_index_or, slice_set};
-ghost use Rattle.twkb_writer.specs.Levels.{blank};
+ghost use Rattle.twkb_writer.specs.Totals.{blank};
 
-use crate::levels::Level;
+use crate::totals::RowTotals;
 use std::marker::Model;
 
 // The number of depths that rows may have, and one more below them.
@@ -12,21 +12,21 @@ const DEPTHS: usize = 36;
 /// contract sees the list of these totals.
 #[derive(Drop)]
 pub struct Depths {
-    levels: [Level; DEPTHS],
+    by_depth: [RowTotals; DEPTHS],
     // From this depth on there are no rows.
     used: usize,
 }
 
 impl Model for Depths {
     ghost use Rattle.std.specs.Prelude.{List};
-    ghost use Rattle.twkb_writer.specs.declared.levels.Level.{Level};
+    ghost use Rattle.twkb_writer.specs.declared.totals.RowTotals.{RowTotals};
     ghost use Rattle.twkb_writer.specs.Depths.{IsBlankFrom};
 
-    ghost Value = { List Level };
+    ghost Value = { List RowTotals };
 
-    ghost view = { λ d. d.levels };
+    ghost view = { λ d. d.by_depth };
 
-    ghost invariant = { λ d. IsBlankFrom d.used d.levels };
+    ghost invariant = { λ d. IsBlankFrom d.used d.by_depth };
 }
 
 impl Depths {
@@ -37,7 +37,7 @@ impl Depths {
         ensures { IsBlankFrom 0 result }
     {
         Depths {
-            levels: [Level::blank(); DEPTHS],
+            by_depth: [RowTotals::blank(); DEPTHS],
             used: 0,
         }
     }
@@ -48,18 +48,18 @@ impl Depths {
     {
         while self.used > 0 {
             let last = self.used - 1;
-            self.levels[last] = Level::blank();
+            self.by_depth[last] = RowTotals::blank();
             self.used = last;
         }
     }
 
     // The totals of the rows at a depth.
     #[inline(always)]
-    pub(crate) fn at(&self, depth: usize) -> &Level
+    pub(crate) fn at(&self, depth: usize) -> &RowTotals
         requires { depth < 36 }
         ensures { result.now ≡ slice_index_or self.now depth blank }
     {
-        &self.levels[depth]
+        &self.by_depth[depth]
     }
 
     // Drops the rows at a depth, if there are any.
@@ -69,18 +69,18 @@ impl Depths {
         ensures { self.new ≡ slice_set self.old depth blank }
     {
         if self.used > depth {
-            self.levels[depth] = Level::blank();
+            self.by_depth[depth] = RowTotals::blank();
         }
     }
 
     // Sets the totals of the rows at a depth, and drops the rows below it.
     #[inline(always)]
-    pub(crate) fn put(&mut self, depth: usize, own: Level)
+    pub(crate) fn put(&mut self, depth: usize, own: RowTotals)
         requires { depth < 35 }
         ensures { self.new ≡ slice_set (slice_set self.old (depth + 1) blank) depth own }
     {
         self.blank_at(depth + 1);
-        self.levels[depth] = own;
+        self.by_depth[depth] = own;
         if self.used <= depth {
             self.used = depth + 1;
         }

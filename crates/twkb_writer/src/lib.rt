@@ -9,7 +9,6 @@ mod header;
 mod job;
 pub mod laws;
 mod lengths;
-mod levels;
 mod measuring;
 mod members;
 mod piece;
@@ -19,6 +18,7 @@ mod precisions;
 mod rows;
 mod sizes;
 mod tails;
+mod totals;
 mod tree_measuring;
 mod writing;
 

@@ -8,7 +8,7 @@ ghost use Rattle.twkb_flat.specs.Rows.{IsNode};
 ghost use Rattle.twkb_grammar.specs.declared.style.Style.{Style as InStyle};
 ghost use Rattle.twkb_writer.specs.declared.tails.TailTotals.{TailTotals as PointsAhead};
 ghost use Rattle.twkb_writer.specs.Caps.{point_bytes_cap, sums_cap};
-ghost use Rattle.twkb_writer.specs.Levels.{blank, IsSmall};
+ghost use Rattle.twkb_writer.specs.Totals.{blank, IsSmall};
 ghost use Rattle.twkb_writer.specs.Measuring.{option_list, tail_after, points_at, TakenRow, Counted, Measures};
 ghost use Rattle.twkb_writer.specs.Reads.{ReadsExactly};
 ghost use Rattle.twkb_writer.specs.Sizes.{AreSizes};
@@ -77,51 +77,51 @@ fn take_geometry(
     node: &Node,
     precision: i8,
     points: &TailTotals,
-    levels: &mut Depths,
+    by_depth: &mut Depths,
 ) -> Entry
     requires deep { node.now.row.depth < 35 }
-    requires small { (k : ℕ) → k < 36 → IsSmall (slice_index_or levels.old k blank) }
+    requires small { (k : ℕ) → k < 36 → IsSmall (slice_index_or by_depth.old k blank) }
     requires points { points.now.bytes ≤ sums_cap }
     requires whole { node.now.row.precision ≡ Some precision }
-    ensures { TakenRow style node.now points.now levels.old levels.new (Some result) }
+    ensures { TakenRow style node.now points.now by_depth.old by_depth.new (Some result) }
 {
     let depth = node.row.depth as usize;
-    let below = levels.at(depth + 1);
+    let below = by_depth.at(depth + 1);
     let entry = below.entry_for(style, node.row.kind, precision, node.points, points);
-    let others = *levels.at(depth);
+    let others = *by_depth.at(depth);
     let own = others.with_geometry(style, entry.size, precision, node.row.id, below, points);
-    levels.put(depth, own);
+    by_depth.put(depth, own);
     entry
 }
 
 // Adds a row that is a part of a geometry.
 #[inline(always)]
-fn take_part(node: &Node, levels: &mut Depths)
+fn take_part(node: &Node, by_depth: &mut Depths)
     requires deep { node.now.row.depth < 35 }
-    requires small { (k : ℕ) → k < 36 → IsSmall (slice_index_or levels.old k blank) }
+    requires small { (k : ℕ) → k < 36 → IsSmall (slice_index_or by_depth.old k blank) }
     requires part { node.now.row.precision ≡ None }
-    ensures { (style : InStyle) (points : PointsAhead) → TakenRow style node.now points levels.old levels.new None }
+    ensures { (style : InStyle) (points : PointsAhead) → TakenRow style node.now points by_depth.old by_depth.new None }
 {
     let depth = node.row.depth as usize;
-    let others = *levels.at(depth);
-    let below = levels.at(depth + 1);
+    let others = *by_depth.at(depth);
+    let below = by_depth.at(depth + 1);
     let own = others.with_part(node.row.kind, node.points, node.row.id, below);
-    levels.put(depth, own);
+    by_depth.put(depth, own);
 }
 
 // Adds a row to the totals at its depth, drops the totals below it, and returns its entry if it is
 // a geometry itself.
 #[inline(always)]
-fn take_row(style: Style, node: &Node, points: &TailTotals, levels: &mut Depths) -> Option<Entry>
+fn take_row(style: Style, node: &Node, points: &TailTotals, by_depth: &mut Depths) -> Option<Entry>
     requires deep { node.now.row.depth < 35 }
-    requires small { (k : ℕ) → k < 36 → IsSmall (slice_index_or levels.old k blank) }
+    requires small { (k : ℕ) → k < 36 → IsSmall (slice_index_or by_depth.old k blank) }
     requires points { points.now.bytes ≤ sums_cap }
-    ensures { TakenRow style node.now points.now levels.old levels.new result }
+    ensures { TakenRow style node.now points.now by_depth.old by_depth.new result }
 {
     match node.row.precision {
-        Some(precision) => Some(take_geometry(style, node, precision, points, levels)),
+        Some(precision) => Some(take_geometry(style, node, precision, points, by_depth)),
         None => {
-            take_part(node, levels);
+            take_part(node, by_depth);
             None
         }
     }

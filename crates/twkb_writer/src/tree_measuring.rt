@@ -8,12 +8,12 @@ ghost use Rattle.twkb_tree.specs.Tree.{IsTree, flatten, trees, area_nodes, nodes
 ghost use Rattle.twkb_grammar.specs.Written.{canonical_blob};
 ghost use Rattle.twkb_grammar.specs.declared.style.Style.TheVariants.{Full};
 ghost use Rattle.twkb_writer.specs.Caps.{sums_cap};
-ghost use Rattle.twkb_writer.specs.Measuring.{level, load};
+ghost use Rattle.twkb_writer.specs.Measuring.{totals, load};
 ghost use Rattle.twkb_writer.specs.Tails.{tail_of};
-ghost use Rattle.twkb_writer.specs.TreeMeasuring.{way_of, level_under, tree_level, most_of, IsWithinCaps};
+ghost use Rattle.twkb_writer.specs.TreeMeasuring.{way_of, totals_under, tree_totals, most_of, IsWithinCaps};
 
-use crate::levels::Level;
 use crate::tails::TailTotals;
+use crate::totals::RowTotals;
 use std::slice::from_ref;
 use twkb_grammar::Style;
 use twkb_points::Pt;
@@ -95,34 +95,34 @@ fn tail_before<T: MeasuredPart>(components: &[T], tail: TailTotals) -> TailTotal
 }
 
 // The totals of rings, or of members that are points or linestrings.
-fn components_level<T: MeasuredPart>(kind: Kind, components: &[T], ids: &Ids) -> Level
+fn components_totals<T: MeasuredPart>(kind: Kind, components: &[T], ids: &Ids) -> RowTotals
     requires few { length components.now ≤ NODES_CAP }
     requires few_points { length (flat_map T.own components.now) ≤ POINTS_CAP }
-    ensures value { result ≡ level Full 0 (rows_of_each
+    ensures value { result ≡ totals Full 0 (rows_of_each
         (λ id component. plain_row 0 kind id (T.own component) ∷ []) ids.now components.now) }
     ensures most { load result ≤ 20 * length components.now }
 {
-    let mut level = Level::blank();
+    let mut totals = RowTotals::blank();
     for index in (0..components.len()).rev() {
         let own = components[index].own_points().len() as u32;
-        level = level.with_part(kind, own, id_at(ids, index), &Level::blank());
+        totals = totals.with_part(kind, own, id_at(ids, index), &RowTotals::blank());
     }
-    level
+    totals
 }
 
 // The totals of members that are polygons.
-fn areas_level(areas: &[Lines], ids: &Ids) -> Level
+fn areas_totals(areas: &[Lines], ids: &Ids) -> RowTotals
     requires few { area_nodes areas.now ≤ NODES_CAP }
     requires few_points { length (flat_map flatten areas.now) ≤ POINTS_CAP }
-    ensures value { result ≡ level Full 0 (rows_of_each (polygon_rows 0) ids.now areas.now) }
+    ensures value { result ≡ totals Full 0 (rows_of_each (polygon_rows 0) ids.now areas.now) }
     ensures most { load result ≤ 20 * area_nodes areas.now }
 {
-    let mut level = Level::blank();
+    let mut totals = RowTotals::blank();
     for index in (0..areas.len()).rev() {
-        let rings = components_level(Kind::Ring, areas[index].as_slice(), &None);
-        level = level.with_part(Kind::Polygon, 0, id_at(ids, index), &rings);
+        let rings = components_totals(Kind::Ring, areas[index].as_slice(), &None);
+        totals = totals.with_part(Kind::Polygon, 0, id_at(ids, index), &rings);
     }
-    level
+    totals
 }
 
 // The points of the geometry itself, those of its components included.
@@ -145,44 +145,44 @@ fn own_tail(geometry: &Geometry) -> TailTotals
 // The totals of the members of a collection, with these ids.
 #[cycle(measuring)]
 #[tactic(auto, using(twkb_tree::specs::Size::member_smaller))]
-fn members_level(members: &Members, ids: &Ids) -> Level
+fn members_totals(members: &Members, ids: &Ids) -> RowTotals
     requires { IsWithinCaps (nodes_all (trees members.now)) (length (flat_all (trees members.now))) }
-    ensures value { result ≡ level Full 0 (member_rows 0 ids.now (trees members.now)) }
+    ensures value { result ≡ totals Full 0 (member_rows 0 ids.now (trees members.now)) }
     ensures most { load result ≤ most_of (nodes_all (trees members.now)) (length (flat_all (trees members.now))) }
 {
     let items = members.as_slice();
-    let mut level = Level::blank();
+    let mut totals = RowTotals::blank();
     for index in (0..items.len()).rev() {
-        level = with_member(&items[index], id_at(ids, index), level);
+        totals = with_member(&items[index], id_at(ids, index), totals);
     }
-    level
+    totals
 }
 
 // The totals of the rows below a geometry's own row.
 #[cycle(measuring)]
-fn below(geometry: &Geometry) -> Level
+fn below(geometry: &Geometry) -> RowTotals
     requires { IsWithinCaps (nodes geometry.now) (length (flat geometry.now)) }
-    ensures value { result ≡ level_under geometry.now }
+    ensures value { result ≡ totals_under geometry.now }
     ensures most { load result + 20 * length (way_of geometry.now) + 100 ≤ most_of
         (nodes geometry.now) (length (flat geometry.now)) }
 {
     match geometry.shape() {
-        Shape::Point(_) | Shape::Line(_) => Level::blank(),
-        Shape::Polygon(rings) => components_level(Kind::Ring, rings.as_slice(), &None),
-        Shape::MultiPoint(points, ids) => components_level(Kind::Point, points.as_slice(), ids),
-        Shape::MultiLine(lines, ids) => components_level(Kind::Linestring, lines.as_slice(), ids),
-        Shape::MultiPolygon(areas, ids) => areas_level(areas.as_slice(), ids),
-        Shape::Collection(members, ids) => members_level(members, ids),
+        Shape::Point(_) | Shape::Line(_) => RowTotals::blank(),
+        Shape::Polygon(rings) => components_totals(Kind::Ring, rings.as_slice(), &None),
+        Shape::MultiPoint(points, ids) => components_totals(Kind::Point, points.as_slice(), ids),
+        Shape::MultiLine(lines, ids) => components_totals(Kind::Linestring, lines.as_slice(), ids),
+        Shape::MultiPolygon(areas, ids) => areas_totals(areas.as_slice(), ids),
+        Shape::Collection(members, ids) => members_totals(members, ids),
     }
 }
 
 // Adds a geometry with this id before the rows at its depth.
 #[cycle(measuring)]
-fn with_member(geometry: &Geometry, id: Option<i64>, others: Level) -> Level
+fn with_member(geometry: &Geometry, id: Option<i64>, others: RowTotals) -> RowTotals
     requires caps { IsWithinCaps (nodes geometry.now) (length (flat geometry.now)) }
     requires members { others.members ≤ NODES_CAP }
     requires room { load others ≤ 2 ^ 39 }
-    ensures value { result ≡ tree_level id geometry.now others }
+    ensures value { result ≡ tree_totals id geometry.now others }
     ensures most { load result ≤ load others + most_of (nodes geometry.now) (length (flat geometry.now)) }
     ensures sound { IsTree geometry.now }
 {
@@ -190,9 +190,9 @@ fn with_member(geometry: &Geometry, id: Option<i64>, others: Level) -> Level
     let own = points.len() as u32;
     let precision = geometry.precision();
     let tail = own_tail(geometry);
-    let level = below(geometry);
-    let entry = level.entry_for(Style::Full, kind, precision, own, &tail);
-    others.with_geometry(Style::Full, entry.size, precision, id, &level, &tail)
+    let totals = below(geometry);
+    let entry = totals.entry_for(Style::Full, kind, precision, own, &tail);
+    others.with_geometry(Style::Full, entry.size, precision, id, &totals, &tail)
 }
 
 /// The length of the full canonical blob of a geometry within `Limits::largest()`, as `encode`
@@ -201,5 +201,5 @@ pub fn measure(geometry: &Geometry) -> u64
     requires { IsValid largest_limits geometry.now }
     ensures { result ≡ length (canonical_blob Full geometry.now) }
 {
-    with_member(geometry, None, Level::blank()).bytes
+    with_member(geometry, None, RowTotals::blank()).bytes
 }

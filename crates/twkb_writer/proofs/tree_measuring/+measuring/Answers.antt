@@ -7,16 +7,16 @@ use Rattle.twkb_tree.specs.Tree.{Tree, AreTrees, trees, flat, flat_all, nodes_al
 use Rattle.twkb_tree.specs.Rows.{Row, own_row, member_rows}
 use Rattle.twkb_tree.specs.Size.{member_smaller}
 use Rattle.twkb_grammar.specs.declared.style.Style.TheVariants.{Full}
-use Rattle.twkb_writer.specs.Measuring.{level}
+use Rattle.twkb_writer.specs.Measuring.{totals}
 use Rattle.twkb_writer.proofs.MeasuringParts.{flat_map_ones}
 use Rattle.twkb_writer.proofs.MeasuringTrees.{with_tree, tree_counted}
-use Rattle.twkb_writer.proofs.TreeLevels.{each_back, member_more, geometry_more, nodes_back}
-use Rattle.twkb_writer.proofs.TreeLevels.{flat_back, fewer_nodes, fewer_flat, members_have_rows}
-use Rattle.twkb_writer.proofs.TreeLevels.{counted_from, members_are, own_within, by_shape}
+use Rattle.twkb_writer.proofs.TreeTotals.{each_back, member_more, geometry_more, nodes_back}
+use Rattle.twkb_writer.proofs.TreeTotals.{flat_back, fewer_nodes, fewer_flat, members_have_rows}
+use Rattle.twkb_writer.proofs.TreeTotals.{counted_from, members_are, own_within, by_shape}
 use Rattle.twkb_writer.proofs.tree_measuring.+measuring.Goals as goal
 
-pub members_level-with_member-level-requires : goal.members_level-with_member-level-requires
-members_level-with_member-level-requires t c =
+pub members_totals-with_member-totals-requires : goal.members_totals-with_member-totals-requires
+members_totals-with_member-totals-requires t c =
     let k = c.loop-index.index in
     let member = c.index-items-index in
     let gs = c.as_slice-items.result.now in
@@ -53,36 +53,36 @@ members_level-with_member-level-requires t c =
       ),
     )
 
-pub members_level-loop-index-preserved : goal.members_level-loop-index-preserved
-members_level-loop-index-preserved t c =
+pub members_totals-loop-index-preserved : goal.members_totals-loop-index-preserved
+members_totals-loop-index-preserved t c =
     let k = c.loop-index.index in
     let member = c.index-items-index in
     let gs = c.as_slice-items.result.now in
     record {
       value = each_back (with_tree Full) c.args.ids.now gs k member.result _ _
           c.loop-index-test.true c.loop-index.auto.index member.is c.loop-index.invariant.value
-          (member_more c.args.ids.now (k - 1) member.result _ _ _ c.with_member-level.ensures.sound
-          c.id_at.ensures c.with_member-level.ensures.value);
+          (member_more c.args.ids.now (k - 1) member.result _ _ _ c.with_member-totals.ensures.sound
+          c.id_at.ensures c.with_member-totals.ensures.value);
       most = omega (
         arith,
         c.loop-index.invariant.most,
-        c.with_member-level.ensures.most,
+        c.with_member-totals.ensures.most,
         nodes_back gs k member.result c.loop-index-test.true c.loop-index.auto.index member.is,
         flat_back gs k member.result c.loop-index-test.true c.loop-index.auto.index member.is,
       );
     }
 
-pub members_level-returns-clause-value : goal.members_level-returns-clause-value
-members_level-returns-clause-value t c =
+pub members_totals-returns-clause-value : goal.members_totals-returns-clause-value
+members_totals-returns-clause-value t c =
     let items = c.as_slice-items.ensures.items in
     members_are c.args.ids.now c.as_slice-items.result.now _ _
     (subst (λ (ms : List Tree). AreTrees (trees ms)) (sym items) c.as_slice-items.ensures.trees)
     (omega arith) c.loop-index.invariant.value
-    ∙ ap (λ (ms : List Tree). level Full 0 (member_rows 0 c.args.ids.now (trees ms))) items
+    ∙ ap (λ (ms : List Tree). totals Full 0 (member_rows 0 c.args.ids.now (trees ms))) items
 
-pub below-components_level-requires-in-MultiPoint-clause-few_points
-    : goal.below-components_level-requires-in-MultiPoint-clause-few_points
-below-components_level-requires-in-MultiPoint-clause-few_points t c =
+pub below-components_totals-requires-in-MultiPoint-clause-few_points
+    : goal.below-components_totals-requires-in-MultiPoint-clause-few_points
+below-components_totals-requires-in-MultiPoint-clause-few_points t c =
     let ones = flat_map_ones c.as_slice-in-MultiPoint.result.now ∙ c.as_slice-in-MultiPoint.ensures.items in
     let few : length (flat_map (λ (p : Point). p ∷ []) c.as_slice-in-MultiPoint.result.now) ≤ POINTS_CAP = omega (
       arith,
@@ -111,5 +111,5 @@ with_member-returns-clause-value t c =
     let whole = ap (own_row c.args.id 0) (sym c.shape.ensures)
     ∙ c.own_parts-kind.ensures (precision_of c.args.geometry.now) c.args.id 0 in
     geometry_more c.args.geometry.now c.args.id _ _ _ _ _ _ c.args.others _ whole
-    c.precision-precision.ensures.value c.below-level.ensures.value
+    c.precision-precision.ensures.value c.below-totals.ensures.value
     c.own_tail-tail.ensures.value entry more

@@ -1,8 +1,8 @@
-use Rattle.twkb_writer.proofs.DepthLemmas.{blank_levels}
+use Rattle.twkb_writer.proofs.DepthLemmas.{blank_totals}
 use Rattle.twkb_writer.proofs.depths.Depths.new.Goals as goal
 
 pub invariant_of-result : goal.invariant_of-result
-invariant_of-result c = blank_levels c.blank.result c.blank.ensures
+invariant_of-result c = blank_totals c.blank.result c.blank.ensures
 
 pub returns : goal.returns
-returns c = blank_levels c.blank.result c.blank.ensures
+returns c = blank_totals c.blank.result c.blank.ensures

@@ -20,23 +20,23 @@ use Rattle.twkb_tree.proofs.RowMembers.{other_from, ids_from_start}
 use Rattle.twkb_tree.proofs.RowsOfTrees.{members-trees}
 use Rattle.twkb_grammar.specs.Written.{canonical_blob}
 use Rattle.twkb_grammar.specs.declared.style.Style.TheVariants.{Full}
-use Rattle.twkb_writer.specs.declared.levels.Level.{Level}
+use Rattle.twkb_writer.specs.declared.totals.RowTotals.{RowTotals}
 use Rattle.twkb_writer.specs.declared.precisions.Precisions.TheVariants.{One}
 use Rattle.twkb_writer.specs.declared.sizes.Entry.{Entry}
 use Rattle.twkb_writer.specs.declared.tails.TailTotals.{TailTotals}
-use Rattle.twkb_writer.specs.Levels.{blank, entry_for, with_part, with_geometry}
-use Rattle.twkb_writer.specs.Measuring.{level, row_level, points_ahead}
+use Rattle.twkb_writer.specs.Totals.{blank, entry_for, with_part, with_geometry}
+use Rattle.twkb_writer.specs.Measuring.{totals, row_totals, points_ahead}
 use Rattle.twkb_writer.specs.Precisions.{agreed}
 use Rattle.twkb_writer.specs.Tails.{tail_of}
-use Rattle.twkb_writer.specs.TreeMeasuring.{way_of, level_under, tree_level}
+use Rattle.twkb_writer.specs.TreeMeasuring.{way_of, totals_under, tree_totals}
 use Rattle.twkb_writer.proofs.MeasuringBodies.{total_parts}
 use Rattle.twkb_writer.proofs.MeasuringParts.{with_each, with_row_of, with_polygon, IsComponent}
-use Rattle.twkb_writer.proofs.MeasuringParts.{one_part, polygon_part, level_each, components_level}
-use Rattle.twkb_writer.proofs.MeasuringParts.{level_parts, rings_level, level_rings}
+use Rattle.twkb_writer.proofs.MeasuringParts.{one_part, polygon_part, totals_each, components_totals}
+use Rattle.twkb_writer.proofs.MeasuringParts.{totals_parts, rings_totals, totals_rings}
 use Rattle.twkb_writer.proofs.MeasuringTotals.{IsCounted, members_each}
-use Rattle.twkb_writer.proofs.MeasuringTrees.{with_tree, trees_level, row_is, simple_points}
+use Rattle.twkb_writer.proofs.MeasuringTrees.{with_tree, trees_totals, row_is, simple_points}
 use Rattle.twkb_writer.proofs.MeasuringTrees.{simple_measured, collection_measured}
-use Rattle.twkb_writer.proofs.MeasuringTrees.{trees_precisions, ids_fit, level_members}
+use Rattle.twkb_writer.proofs.MeasuringTrees.{trees_precisions, ids_fit, totals_members}
 
 -- ---- lists from a place on
 
@@ -54,8 +54,8 @@ other_before k ids some = let next : suc (k - 1) ≡ k = omega arith in other_fr
     ∙ ap (λ n. ids_from n ids) next
 
 -- the totals with the part before those after it
-pub each_back : {A : Type 0} (w : Option ℤ → A → Level → Level) (ids : Ids) (xs : List A) (k : ℕ)
-    (x : A) (l new : Level) → 0 < k → k ≤ length xs → x ≡ get_or xs (k - 1) x
+pub each_back : {A : Type 0} (w : Option ℤ → A → RowTotals → RowTotals) (ids : Ids) (xs : List A) (k : ℕ)
+    (x : A) (l new : RowTotals) → 0 < k → k ≤ length xs → x ≡ get_or xs (k - 1) x
     → l ≡ with_each w (ids_from k ids) (drop k xs) blank
     → new ≡ w (first_id (ids_from (k - 1) ids)) x l
     → new ≡ with_each w (ids_from (k - 1) ids) (drop (k - 1) xs) blank
@@ -66,8 +66,8 @@ each_back w ids xs k x l new some within read behind is =
     ∙ ap (λ ys. with_each w (ids_from (k - 1) ids) ys blank) (sym (from_before xs k x some within read))
 
 -- from the start on there are all parts
-pub each_all : {A : Type 0} (w : Option ℤ → A → Level → Level) (ids : Ids) (xs : List A) (k : ℕ)
-    (l : Level) → k ≤ 0 → l ≡ with_each w (ids_from k ids) (drop k xs) blank
+pub each_all : {A : Type 0} (w : Option ℤ → A → RowTotals → RowTotals) (ids : Ids) (xs : List A) (k : ℕ)
+    (l : RowTotals) → k ≤ 0 → l ≡ with_each w (ids_from k ids) (drop k xs) blank
     → l ≡ with_each w ids xs blank
 each_all w ids xs k l start is =
     let none : k ≡ 0 = omega arith in
@@ -176,49 +176,50 @@ by_shape p shape told g whole is = ap (tree_of p) (sym is) ∙ whole
 
 -- ---- the rows of parts
 
-level_end : {A : Type 0} (d : ℕ) (f : Option ℤ → A → List Row) (w : Option ℤ → A → Level → Level)
+totals_end : {A : Type 0} (d : ℕ) (f : Option ℤ → A → List Row) (w : Option ℤ → A → RowTotals → RowTotals)
     (g : A → List Point) → IsComponent Full d f w g → (ids : Ids) (xs : List A)
-    → with_each w ids xs blank ≡ level Full d (rows_of_each f ids xs)
-level_end d f w g part ids xs = sym (level_each Full d f w g part ids xs [] tt)
-    ∙ ap (level Full d) (append-nil (rows_of_each f ids xs))
+    → with_each w ids xs blank ≡ totals Full d (rows_of_each f ids xs)
+totals_end d f w g part ids xs = sym (totals_each Full d f w g part ids xs [] tt)
+    ∙ ap (totals Full d) (append-nil (rows_of_each f ids xs))
 
 -- the totals of parts of one row each
 pub parts_are : {A : Type 0} (kind : Kind) (own : A → List Point) (ids : Ids) (xs : List A) (k : ℕ)
-    (l : Level) → k ≤ 0 → l ≡ with_each (with_row_of kind own) (ids_from k ids) (drop k xs) blank
-    → l ≡ level Full 0 (rows_of_each (λ id part. plain_row 0 kind id (own part) ∷ []) ids xs)
+    (l : RowTotals) → k ≤ 0 → l ≡ with_each (with_row_of kind own) (ids_from k ids) (drop k xs) blank
+    → l ≡ totals Full 0 (rows_of_each (λ id part. plain_row 0 kind id (own part) ∷ []) ids xs)
 parts_are kind own ids xs k l start is =
     each_all (with_row_of kind own) ids xs k l start is
-    ∙ level_end 0 (λ id part. plain_row 0 kind id (own part) ∷ []) (with_row_of kind own) own
+    ∙ totals_end 0 (λ id part. plain_row 0 kind id (own part) ∷ []) (with_row_of kind own) own
     (one_part Full 0 kind own) ids xs
 
 -- the totals of polygons
-pub areas_are : (ids : Ids) (xs : List (List (List Point))) (k : ℕ) (l : Level) → k ≤ 0
+pub areas_are : (ids : Ids) (xs : List (List (List Point))) (k : ℕ) (l : RowTotals) → k ≤ 0
     → l ≡ with_each with_polygon (ids_from k ids) (drop k xs) blank
-    → l ≡ level Full 0 (rows_of_each (polygon_rows 0) ids xs)
+    → l ≡ totals Full 0 (rows_of_each (polygon_rows 0) ids xs)
 areas_are ids xs k l start is = each_all with_polygon ids xs k l start is
-    ∙ level_end 0 (polygon_rows 0) with_polygon flatten (polygon_part Full 0) ids xs
+    ∙ totals_end 0 (polygon_rows 0) with_polygon flatten (polygon_part Full 0) ids xs
 
 -- the totals of the rings of one polygon
-pub rings_are : (rings : List (List Point)) (l : Level) → l ≡ level Full 0 (ring_rows 0 rings) → l ≡ rings_level rings
-rings_are rings l is = is ∙ ap (level Full 0) (sym (append-nil (ring_rows 0 rings))) ∙ level_rings Full 0 rings [] tt
+pub rings_are : (rings : List (List Point)) (l : RowTotals) → l ≡ totals Full 0 (ring_rows 0 rings)
+    → l ≡ rings_totals rings
+rings_are rings l is = is ∙ ap (totals Full 0) (sym (append-nil (ring_rows 0 rings))) ∙ totals_rings Full 0 rings [] tt
 
 -- the totals of the members of a collection
-pub members_are : (ids : Ids) (xs : List Tree) (k : ℕ) (l : Level) → AreTrees (trees xs) → k ≤ 0
+pub members_are : (ids : Ids) (xs : List Tree) (k : ℕ) (l : RowTotals) → AreTrees (trees xs) → k ≤ 0
     → l ≡ with_each (with_tree Full) (ids_from k ids) (drop k xs) blank
-    → l ≡ level Full 0 (member_rows 0 ids (trees xs))
+    → l ≡ totals Full 0 (member_rows 0 ids (trees xs))
 members_are ids xs k l fits start is =
     each_all (with_tree Full) ids xs k l start is
     ∙ ap (λ gs. with_each (with_tree Full) ids gs blank) (sym (members-trees xs))
-    ∙ sym (level_members Full 0 ids (trees xs) [] fits (record { above = tt; no_part = refl }))
-    ∙ ap (level Full 0) (append-nil (member_rows 0 ids (trees xs)))
+    ∙ sym (totals_members Full 0 ids (trees xs) [] fits (record { above = tt; no_part = refl }))
+    ∙ ap (totals Full 0) (append-nil (member_rows 0 ids (trees xs)))
 
 -- at most as many parts are counted as there are
-pub counted_from : {A : Type 0} (w : Option ℤ → A → Level → Level) → IsCounted w
-    → (ids : Ids) (k : ℕ) (xs : List A) (l : Level)
+pub counted_from : {A : Type 0} (w : Option ℤ → A → RowTotals → RowTotals) → IsCounted w
+    → (ids : Ids) (k : ℕ) (xs : List A) (l : RowTotals)
     → l ≡ with_each w (ids_from k ids) (drop k xs) blank → l.members ≤ length xs
 counted_from w counted ids k xs l is = omega (
   arith,
-  ap (λ (m : Level). m.members) is,
+  ap (λ (m : RowTotals). m.members) is,
   members_each w counted (ids_from k ids) (drop k xs),
   fewer k xs,
 )
@@ -227,63 +228,64 @@ counted_from w counted ids k xs l is = omega (
 
 -- the totals with one more part of one row
 pub part_more : {A : Type 0} (kind : Kind) (own : A → List Point) (ids : Ids) (j : ℕ) (x : A)
-    (ps : List Point) (id : Option ℤ) (below l new : Level)
+    (ps : List Point) (id : Option ℤ) (below l new : RowTotals)
     → ps ≡ own x → id ≡ first_id (ids_from j ids) → below ≡ blank
     → new ≡ with_part kind (length ps) id below l
     → new ≡ with_row_of kind own (first_id (ids_from j ids)) x l
 part_more kind own ids j x ps id below l new ep ei eb is = is ∙ (λ i. with_part kind (length (ep i)) (ei i) (eb i) l)
 
 -- the totals with one more polygon
-pub polygon_more : (ids : Ids) (j : ℕ) (x : List (List Point)) (id : Option ℤ) (below l new : Level)
-    → id ≡ first_id (ids_from j ids) → below ≡ level Full 0 (ring_rows 0 x)
+pub polygon_more : (ids : Ids) (j : ℕ) (x : List (List Point)) (id : Option ℤ) (below l new : RowTotals)
+    → id ≡ first_id (ids_from j ids) → below ≡ totals Full 0 (ring_rows 0 x)
     → new ≡ with_part kinds.Polygon 0 id below l → new ≡ with_polygon
     (first_id (ids_from j ids)) x l
 polygon_more ids j x id below l new ei eb is = is ∙ (λ i. with_part kinds.Polygon 0 (ei i) (rings_are x below eb i) l)
 
 -- the totals with one more geometry, by its own row, the rows below it and its points
 pub geometry_more : (g : Tree) (id : Option ℤ) (kind : Kind) (ps : List Point) (p : ℤ)
-    (below : Level) (t : TailTotals) (e : Entry) (l new : Level)
+    (below : RowTotals) (t : TailTotals) (e : Entry) (l new : RowTotals)
     → own_row id 0 g ≡ whole_row 0 kind id (precision_of g) ps → p ≡ precision_of g
-    → below ≡ level_under g → t ≡ tail_of (way_of g)
+    → below ≡ totals_under g → t ≡ tail_of (way_of g)
     → e ≡ entry_for Full kind p (length ps) below t → new ≡ with_geometry Full e.size p id below t l
-    → new ≡ tree_level id g l
+    → new ≡ tree_totals id g l
 geometry_more g id kind ps p below t e l new er ep eb et ee is =
     let back = sym er in
     is
     ∙ (λ i. with_geometry Full (ee i).size p id below t l)
-    ∙ (λ i. row_level Full (back i).kind (length (back i).points) id (Some (ep i)) (eb i) (et i) l)
+    ∙ (λ i. row_totals Full (back i).kind (length (back i).points) id (Some (ep i)) (eb i) (et i) l)
 
 -- ---- geometries
 
 -- the totals of rows with a geometry before them
-pub tree_level_is : (id : Option ℤ) (g : Tree) (l : Level) → IsTree g → tree_level id g l ≡ with_tree Full id g l
-tree_level_is id (simple p s) l fits =
+pub tree_totals_is : (id : Option ℤ) (g : Tree) (l : RowTotals) → IsTree g → tree_totals id g l ≡ with_tree Full id g l
+tree_totals_is id (simple p s) l fits =
     let own = own_row id 0 (simple p s) in
     let ahead = points_ahead (rows_below 0 s ++ []) in
     let whole = simple_points Full 0 s [] refl in
-    let below : level Full 0 (rows_below 0 s) ≡ components_level s = ap (level Full 0)
-    (sym (append-nil (rows_below 0 s))) ∙ level_parts Full 0 s [] tt in
-    ap (λ ps. row_level Full own.kind (length own.points) id (Some p)
-    (level Full 0 (rows_below 0 s)) (tail_of ps) l) (sym whole)
-    ∙ row_is Full (simple p s) own (level Full 0 (rows_below 0 s)) l (components_level s) l ahead
+    let below : totals Full 0 (rows_below 0 s) ≡ components_totals s = ap (totals Full 0)
+    (sym (append-nil (rows_below 0 s))) ∙ totals_parts Full 0 s [] tt in
+    ap (λ ps. row_totals Full own.kind (length own.points) id (Some p)
+    (totals Full 0 (rows_below 0 s)) (tail_of ps) l) (sym whole)
+    ∙ row_is Full (simple p s) own (totals Full 0 (rows_below 0 s)) l (components_totals s) l ahead
     (points_in s) below refl whole (simple_measured Full p s fits.1)
     (ap (agreed (One p)) (total_parts s fits.1).no_precisions)
-tree_level_is id (collection p ids gs) l fits =
+tree_totals_is id (collection p ids gs) l fits =
     let own = own_row id 0 (collection p ids gs) in
-    let below : level Full 0 (member_rows 0 ids gs) ≡ trees_level Full ids gs =
-    ap (level Full 0) (sym (append-nil (member_rows 0 ids gs)))
-    ∙ level_members Full 0 ids gs [] fits.2 (record { above = tt; no_part = refl }) in
-    row_is Full (collection p ids gs) own (level Full 0 (member_rows 0 ids gs)) l
-    (trees_level Full ids gs) l [] [] below refl refl
+    let below : totals Full 0 (member_rows 0 ids gs) ≡ trees_totals Full ids gs =
+    ap (totals Full 0) (sym (append-nil (member_rows 0 ids gs)))
+    ∙ totals_members Full 0 ids gs [] fits.2 (record { above = tt; no_part = refl }) in
+    row_is Full (collection p ids gs) own (totals Full 0 (member_rows 0 ids gs)) l
+    (trees_totals Full ids gs) l [] [] below refl refl
     (collection_measured Full p ids gs (ids_fit ids gs fits.1))
     (ap (agreed (One p)) (trees_precisions Full ids gs))
 
 -- the totals with one more member
-pub member_more : (ids : Ids) (j : ℕ) (g : Tree) (id : Option ℤ) (l new : Level) → IsTree g
-    → id ≡ first_id (ids_from j ids) → new ≡ tree_level id g l
+pub member_more : (ids : Ids) (j : ℕ) (g : Tree) (id : Option ℤ) (l new : RowTotals) → IsTree g
+    → id ≡ first_id (ids_from j ids) → new ≡ tree_totals id g l
     → new ≡ with_tree Full (first_id (ids_from j ids)) g l
-member_more ids j g id l new fits ei is = is ∙ tree_level_is id g l fits ∙ ap (λ o. with_tree Full o g l) ei
+member_more ids j g id l new fits ei is = is ∙ tree_totals_is id g l fits ∙ ap (λ o. with_tree Full o g l) ei
 
 -- the length of a geometry's blob
-pub blob_is : (g : Tree) (l : Level) → IsTree g → l ≡ tree_level None g blank → l.bytes ≡ length (canonical_blob Full g)
-blob_is g l fits is = omega (arith, ap (λ (m : Level). m.bytes) (is ∙ tree_level_is None g blank fits))
+pub blob_is : (g : Tree) (l : RowTotals) → IsTree g → l ≡ tree_totals None g blank
+    → l.bytes ≡ length (canonical_blob Full g)
+blob_is g l fits is = omega (arith, ap (λ (m : RowTotals). m.bytes) (is ∙ tree_totals_is None g blank fits))

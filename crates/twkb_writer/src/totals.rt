@@ -2,9 +2,9 @@
 ghost use Rattle.std.specs.Prelude.{◌≡◌, ◌+◌, ◌≤◌, ◌^◌};
 ghost use Rattle.twkb_tree.specs.declared.limits.TheConstants.{NODES_CAP};
 ghost use Rattle.twkb_writer.specs.Caps.{sums_cap};
-ghost use Rattle.twkb_writer.specs.Levels.{blank, lead_len, body_len, all_bounds, box_for, box_len};
-ghost use Rattle.twkb_writer.specs.Levels.{id_len, is_point, entry_for, blob_len, with_part};
-ghost use Rattle.twkb_writer.specs.Levels.{with_geometry};
+ghost use Rattle.twkb_writer.specs.Totals.{blank, lead_len, body_len, all_bounds, box_for, box_len};
+ghost use Rattle.twkb_writer.specs.Totals.{id_len, is_point, entry_for, blob_len, with_part};
+ghost use Rattle.twkb_writer.specs.Totals.{with_geometry};
 ghost use Rattle.twkb_grammar.specs.declared.style.Style.TheVariants.{Full};
 
 use crate::lengths::{number_len, signed_len};
@@ -18,7 +18,7 @@ use twkb_tree::Kind;
 // Totals of a row, of the rows after it at its depth, and of all rows below these: of all rows before
 // the next one at a smaller depth.
 #[derive(Clone, Copy)]
-pub(crate) struct Level {
+pub(crate) struct RowTotals {
     // The number of rows at this depth.
     pub(crate) members: u32,
     // The number of bytes of the ids of these rows.
@@ -80,12 +80,12 @@ fn blob_len(style: Style, size: u64) -> u64
     }
 }
 
-impl Level {
+impl RowTotals {
     // Makes the totals of no rows.
-    pub(crate) fn blank() -> Level
+    pub(crate) fn blank() -> RowTotals
         ensures { result ≡ blank }
     {
-        Level {
+        RowTotals {
             members: 0,
             ids: 0,
             named: false,
@@ -186,7 +186,13 @@ impl Level {
     // Adds a part of a geometry before these rows: its own row has `own` points, and `below` totals
     // the rows under it.
     #[inline(always)]
-    pub(crate) fn with_part(self, kind: Kind, own: u32, id: Option<i64>, below: &Level) -> Level
+    pub(crate) fn with_part(
+        self,
+        kind: Kind,
+        own: u32,
+        id: Option<i64>,
+        below: &RowTotals,
+    ) -> RowTotals
         requires members { self.members ≤ NODES_CAP }
         requires ids { self.ids ≤ sums_cap }
         requires bytes { self.bytes ≤ sums_cap }
@@ -195,7 +201,7 @@ impl Level {
         ensures value { result ≡ with_part kind own id below.now self }
         ensures most { result.ids + result.bytes ≤ (below.now.ids + below.now.bytes) + (self.ids + self.bytes) + 20 }
     {
-        Level {
+        RowTotals {
             members: self.members + 1,
             ids: id_len(id) + self.ids,
             named: id.is_some() || self.named,
@@ -214,9 +220,9 @@ impl Level {
         size: u64,
         precision: i8,
         id: Option<i64>,
-        below: &Level,
+        below: &RowTotals,
         tail: &TailTotals,
-    ) -> Level
+    ) -> RowTotals
         requires members { self.members ≤ NODES_CAP }
         requires ids { self.ids ≤ sums_cap }
         requires bytes { self.bytes ≤ sums_cap }
@@ -224,7 +230,7 @@ impl Level {
         ensures value { result ≡ with_geometry style size precision id below.now tail.now self }
         ensures most { result.ids + result.bytes ≤ self.ids + self.bytes + size + 22 }
     {
-        Level {
+        RowTotals {
             members: self.members + 1,
             ids: id_len(id) + self.ids,
             named: id.is_some() || self.named,

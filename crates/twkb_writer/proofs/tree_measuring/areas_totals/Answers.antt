@@ -5,16 +5,16 @@ use Rattle.twkb_tree.specs.Tree.{flatten}
 use Rattle.twkb_tree.specs.Rows.{ring_rows}
 use Rattle.twkb_tree.specs.declared.kind.Kind.TheVariants as kind
 use Rattle.twkb_grammar.specs.declared.style.Style.TheVariants.{Full}
-use Rattle.twkb_writer.specs.Measuring.{level}
-use Rattle.twkb_writer.proofs.MeasuringParts.{with_polygon, rings_level}
+use Rattle.twkb_writer.specs.Measuring.{totals}
+use Rattle.twkb_writer.proofs.MeasuringParts.{with_polygon, rings_totals}
 use Rattle.twkb_writer.proofs.MeasuringTotals.{part_counted}
-use Rattle.twkb_writer.proofs.TreeLevels.{each_back, polygon_more, count_back, fewer_points}
-use Rattle.twkb_writer.proofs.TreeLevels.{areas_back, fewer_areas, area_within, areas_have_rows}
-use Rattle.twkb_writer.proofs.TreeLevels.{counted_from, areas_are}
-use Rattle.twkb_writer.proofs.tree_measuring.areas_level.Goals as goal
+use Rattle.twkb_writer.proofs.TreeTotals.{each_back, polygon_more, count_back, fewer_points}
+use Rattle.twkb_writer.proofs.TreeTotals.{areas_back, fewer_areas, area_within, areas_have_rows}
+use Rattle.twkb_writer.proofs.TreeTotals.{counted_from, areas_are}
+use Rattle.twkb_writer.proofs.tree_measuring.areas_totals.Goals as goal
 
-pub components_level-rings-requires-clause-few : goal.components_level-rings-requires-clause-few
-components_level-rings-requires-clause-few c =
+pub components_totals-rings-requires-clause-few : goal.components_totals-rings-requires-clause-few
+components_totals-rings-requires-clause-few c =
     omega (
       arith,
       c.requires.few,
@@ -23,8 +23,8 @@ components_level-rings-requires-clause-few c =
       ap (λ (rings : List (List Point)). length rings) c.as_slice.ensures.items,
     )
 
-pub components_level-rings-requires-clause-few_points : goal.components_level-rings-requires-clause-few_points
-components_level-rings-requires-clause-few_points c =
+pub components_totals-rings-requires-clause-few_points : goal.components_totals-rings-requires-clause-few_points
+components_totals-rings-requires-clause-few_points c =
     let k = c.loop-index.index in
     let few : length (flatten c.as_slice.result.now) ≤ POINTS_CAP = omega (
       arith,
@@ -36,41 +36,41 @@ components_level-rings-requires-clause-few_points c =
     ) in
     few
 
-pub with_part-level-requires-clause-members : goal.with_part-level-requires-clause-members
-with_part-level-requires-clause-members c =
+pub with_part-totals-requires-clause-members : goal.with_part-totals-requires-clause-members
+with_part-totals-requires-clause-members c =
     omega (
       arith,
       c.requires.few,
       areas_have_rows c.args.areas.now,
-      counted_from with_polygon (part_counted kind.Polygon (λ rings. 0) rings_level) c.args.ids.now
+      counted_from with_polygon (part_counted kind.Polygon (λ rings. 0) rings_totals) c.args.ids.now
           c.loop-index.index c.args.areas.now _ c.loop-index.invariant.value,
     )
 
-pub with_part-level-requires-clause-ids : goal.with_part-level-requires-clause-ids
-with_part-level-requires-clause-ids c =
+pub with_part-totals-requires-clause-ids : goal.with_part-totals-requires-clause-ids
+with_part-totals-requires-clause-ids c =
     omega (arith, c.requires.few, c.loop-index.invariant.most, fewer_areas c.loop-index.index c.args.areas.now)
 
-pub with_part-level-requires-clause-bytes : goal.with_part-level-requires-clause-bytes
-with_part-level-requires-clause-bytes c =
+pub with_part-totals-requires-clause-bytes : goal.with_part-totals-requires-clause-bytes
+with_part-totals-requires-clause-bytes c =
     omega (arith, c.requires.few, c.loop-index.invariant.most, fewer_areas c.loop-index.index c.args.areas.now)
 
-pub with_part-level-requires-clause-ids_below : goal.with_part-level-requires-clause-ids_below
-with_part-level-requires-clause-ids_below c =
+pub with_part-totals-requires-clause-ids_below : goal.with_part-totals-requires-clause-ids_below
+with_part-totals-requires-clause-ids_below c =
     omega (
       arith,
       c.requires.few,
-      c.components_level-rings.ensures.most,
+      c.components_totals-rings.ensures.most,
       area_within c.args.areas.now c.loop-index.index c.index-areas-index.result
           c.loop-index-test.true c.loop-index.auto.index c.index-areas-index.is,
       ap (λ (rings : List (List Point)). length rings) c.as_slice.ensures.items,
     )
 
-pub with_part-level-requires-clause-bytes_below : goal.with_part-level-requires-clause-bytes_below
-with_part-level-requires-clause-bytes_below c =
+pub with_part-totals-requires-clause-bytes_below : goal.with_part-totals-requires-clause-bytes_below
+with_part-totals-requires-clause-bytes_below c =
     omega (
       arith,
       c.requires.few,
-      c.components_level-rings.ensures.most,
+      c.components_totals-rings.ensures.most,
       area_within c.args.areas.now c.loop-index.index c.index-areas-index.result
           c.loop-index-test.true c.loop-index.auto.index c.index-areas-index.is,
       ap (λ (rings : List (List Point)). length rings) c.as_slice.ensures.items,
@@ -84,13 +84,13 @@ loop-index-preserved c =
       value = each_back with_polygon c.args.ids.now c.args.areas.now k area.result _ _
           c.loop-index-test.true c.loop-index.auto.index area.is c.loop-index.invariant.value
           (polygon_more c.args.ids.now (k - 1) area.result _ _ _ _ c.id_at.ensures
-          (c.components_level-rings.ensures.value ∙ ap (λ rings. level Full 0 (ring_rows 0 rings))
-          c.as_slice.ensures.items) c.with_part-level.ensures.value);
+          (c.components_totals-rings.ensures.value ∙ ap (λ rings. totals Full 0 (ring_rows 0 rings))
+          c.as_slice.ensures.items) c.with_part-totals.ensures.value);
       most = omega (
         arith,
         c.loop-index.invariant.most,
-        c.components_level-rings.ensures.most,
-        c.with_part-level.ensures.most,
+        c.components_totals-rings.ensures.most,
+        c.with_part-totals.ensures.most,
         ap (λ (rings : List (List Point)). length rings) c.as_slice.ensures.items,
         areas_back c.args.areas.now k area.result c.loop-index-test.true c.loop-index.auto.index area.is,
       );

@@ -8,7 +8,7 @@ use Rattle.twkb_tree.specs.declared.kind.Kind.TheVariants as kind
 use Rattle.twkb_tree.specs.declared.limits.TheConstants.{NODES_CAP}
 use Rattle.twkb_grammar.specs.declared.style.Style.{Style}
 use Rattle.twkb_grammar.specs.declared.style.Style.TheVariants.{Full, Plain}
-use Rattle.twkb_writer.specs.declared.levels.Level.{Level}
+use Rattle.twkb_writer.specs.declared.totals.RowTotals.{RowTotals}
 use Rattle.twkb_writer.specs.declared.precisions.Precisions.TheVariants.{Absent, One}
 use Rattle.twkb_writer.specs.declared.sizes.Entry.{Entry}
 use Rattle.twkb_writer.specs.declared.tails.TailTotals.{TailTotals}
@@ -17,7 +17,7 @@ use Rattle.twkb_writer.specs.Precisions.{all_are, agreed}
 use Rattle.twkb_writer.specs.Tails.{number_len, signed_len, from_origin}
 
 -- the totals of no rows
-abbrev pub blank : Level
+abbrev pub blank : RowTotals
 blank = record { members = 0; ids = 0; named = false; bytes = 0; bounds = None; precisions = Absent }
 
 -- the number of bytes of an id, 0 if there is none
@@ -33,7 +33,7 @@ box_len (Some e) = signed_len e.least.x + signed_len (e.greatest.x -ℤ e.least.
 
 -- the number of bytes of a row's count, and of the ids if it counts members (TWKB, description of
 -- types)
-abbrev pub lead_len : Kind → ℕ → Level → ℕ
+abbrev pub lead_len : Kind → ℕ → RowTotals → ℕ
 lead_len kind.Point own below = 0
 lead_len kind.Linestring own below = number_len own
 lead_len kind.Ring own below = number_len own
@@ -44,15 +44,15 @@ lead_len kind.MultiPolygon own below = number_len below.members + below.ids
 lead_len kind.Collection own below = number_len below.members + below.ids
 
 -- the row has no points, no members and no parts
-abbrev pub is_bare : ℕ → Level → Bool
+abbrev pub is_bare : ℕ → RowTotals → Bool
 is_bare own below = nat_eq own 0 && nat_eq below.members 0
 
 -- the number of bytes of a geometry's body: none if it is bare
-abbrev pub body_len : Kind → ℕ → Level → TailTotals → ℕ
+abbrev pub body_len : Kind → ℕ → RowTotals → TailTotals → ℕ
 body_len k own below t = if is_bare own below then 0 else lead_len k own below + below.bytes + from_origin t
 
 -- the extent of the geometry's points, those of members included
-abbrev pub all_bounds : Level → TailTotals → Option Extent
+abbrev pub all_bounds : RowTotals → TailTotals → Option Extent
 all_bounds below t = joined_options t.bounds below.bounds
 
 -- the row is a point
@@ -61,13 +61,13 @@ is_point kind.Point = true
 is_point _ = false
 
 -- the extent of the geometry's box, if it has one
-abbrev pub box_for : Style → Kind → ℤ → Level → TailTotals → Option Extent
+abbrev pub box_for : Style → Kind → ℤ → RowTotals → TailTotals → Option Extent
 box_for Full k p below t = if not (is_point k) && all_are p below.precisions then all_bounds below t else None
 box_for Plain k p below t = None
 
 -- the entry of a geometry: its own row has `own` points, `below` totals the rows under it, and `t`
 -- totals its points, except those of collection members
-abbrev pub entry_for : Style → Kind → ℤ → ℕ → Level → TailTotals → Entry
+abbrev pub entry_for : Style → Kind → ℤ → ℕ → RowTotals → TailTotals → Entry
 entry_for style k p own below t = record {
   size = box_len (box_for style k p below t) + body_len k own below t;
   bounds = box_for style k p below t;
@@ -82,7 +82,7 @@ blob_len Full size = 2 + number_len size + size
 blob_len Plain size = 2 + size
 
 -- the totals after a part of a geometry is added before the rows
-abbrev pub with_part : Kind → ℕ → Option ℤ → Level → Level → Level
+abbrev pub with_part : Kind → ℕ → Option ℤ → RowTotals → RowTotals → RowTotals
 with_part k own id below l = record {
   members = l.members + 1;
   ids = id_len id + l.ids;
@@ -93,7 +93,7 @@ with_part k own id below l = record {
 }
 
 -- the totals after a geometry is added before the rows; its box and body have this many bytes
-abbrev pub with_geometry : Style → ℕ → ℤ → Option ℤ → Level → TailTotals → Level → Level
+abbrev pub with_geometry : Style → ℕ → ℤ → Option ℤ → RowTotals → TailTotals → RowTotals → RowTotals
 with_geometry style size p id below t l = record {
   members = l.members + 1;
   ids = id_len id + l.ids;
@@ -104,7 +104,7 @@ with_geometry style size p id below t l = record {
 }
 
 -- all totals are so small that their sums fit 64 bits
-pub record IsSmall (l : Level) : Type 0 where
+pub record IsSmall (l : RowTotals) : Type 0 where
   pub members : l.members ≤ NODES_CAP
   pub ids : l.ids ≤ sums_cap
   pub bytes : l.bytes ≤ sums_cap

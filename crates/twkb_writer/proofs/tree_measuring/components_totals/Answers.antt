@@ -1,13 +1,13 @@
 use Rattle.std.proofs.Common.{◌-◌, List, length, ap, arith}
 use Rattle.twkb_points.specs.Point.{Point}
-use Rattle.twkb_writer.specs.declared.levels.Level.{Level}
-use Rattle.twkb_writer.specs.Levels.{blank}
+use Rattle.twkb_writer.specs.declared.totals.RowTotals.{RowTotals}
+use Rattle.twkb_writer.specs.Totals.{blank}
 use Rattle.twkb_writer.specs.Measuring.{load}
 use Rattle.twkb_writer.proofs.MeasuringParts.{with_row_of}
 use Rattle.twkb_writer.proofs.MeasuringTotals.{part_counted}
-use Rattle.twkb_writer.proofs.TreeLevels.{each_back, part_more, count_back, fewer, fewer_points}
-use Rattle.twkb_writer.proofs.TreeLevels.{length_back, counted_from, parts_are}
-use Rattle.twkb_writer.proofs.tree_measuring.components_level.Goals as goal
+use Rattle.twkb_writer.proofs.TreeTotals.{each_back, part_more, count_back, fewer, fewer_points}
+use Rattle.twkb_writer.proofs.TreeTotals.{length_back, counted_from, parts_are}
+use Rattle.twkb_writer.proofs.tree_measuring.components_totals.Goals as goal
 
 pub overflow_cast-own : goal.overflow_cast-own
 overflow_cast-own g c =
@@ -21,8 +21,8 @@ overflow_cast-own g c =
       ap (λ (ps : List Point). length ps) c.own_points.ensures,
     )
 
-pub with_part-level-requires-clause-members : goal.with_part-level-requires-clause-members
-with_part-level-requires-clause-members g c =
+pub with_part-totals-requires-clause-members : goal.with_part-totals-requires-clause-members
+with_part-totals-requires-clause-members g c =
     omega (
       arith,
       c.requires.few,
@@ -31,19 +31,19 @@ with_part-level-requires-clause-members g c =
           c.loop-index.index c.args.components.now _ c.loop-index.invariant.value,
     )
 
-pub with_part-level-requires-clause-ids : goal.with_part-level-requires-clause-ids
-with_part-level-requires-clause-ids g c = omega
+pub with_part-totals-requires-clause-ids : goal.with_part-totals-requires-clause-ids
+with_part-totals-requires-clause-ids g c = omega
     (arith, c.requires.few, c.loop-index.invariant.most, fewer c.loop-index.index c.args.components.now)
 
-pub with_part-level-requires-clause-bytes : goal.with_part-level-requires-clause-bytes
-with_part-level-requires-clause-bytes g c = omega
+pub with_part-totals-requires-clause-bytes : goal.with_part-totals-requires-clause-bytes
+with_part-totals-requires-clause-bytes g c = omega
     (arith, c.requires.few, c.loop-index.invariant.most, fewer c.loop-index.index c.args.components.now)
 
-pub with_part-level-requires-clause-ids_below : goal.with_part-level-requires-clause-ids_below
-with_part-level-requires-clause-ids_below g c = omega (arith, ap (λ (l : Level). l.ids) c.blank.ensures)
+pub with_part-totals-requires-clause-ids_below : goal.with_part-totals-requires-clause-ids_below
+with_part-totals-requires-clause-ids_below g c = omega (arith, ap (λ (l : RowTotals). l.ids) c.blank.ensures)
 
-pub with_part-level-requires-clause-bytes_below : goal.with_part-level-requires-clause-bytes_below
-with_part-level-requires-clause-bytes_below g c = omega (arith, ap (λ (l : Level). l.bytes) c.blank.ensures)
+pub with_part-totals-requires-clause-bytes_below : goal.with_part-totals-requires-clause-bytes_below
+with_part-totals-requires-clause-bytes_below g c = omega (arith, ap (λ (l : RowTotals). l.bytes) c.blank.ensures)
 
 pub loop-index-preserved : goal.loop-index-preserved
 loop-index-preserved g c =
@@ -54,12 +54,12 @@ loop-index-preserved g c =
           component.result _ _ c.loop-index-test.true c.loop-index.auto.index component.is
           c.loop-index.invariant.value
           (part_more c.args.kind g.T.MeasuredPart.own c.args.ids.now (k - 1) component.result _ _ _ _ _
-          c.own_points.ensures c.id_at.ensures c.blank.ensures c.with_part-level.ensures.value);
+          c.own_points.ensures c.id_at.ensures c.blank.ensures c.with_part-totals.ensures.value);
       most = omega (
         arith,
         c.loop-index.invariant.most,
-        c.with_part-level.ensures.most,
-        ap (λ (l : Level). load l) c.blank.ensures,
+        c.with_part-totals.ensures.most,
+        ap (λ (l : RowTotals). load l) c.blank.ensures,
         length_back c.args.components.now k component.result c.loop-index-test.true c.loop-index.auto.index
             component.is,
       );

@@ -2,13 +2,13 @@
 use Rattle.std.proofs.Common.{◌≡◌, ◌*◌, ◌≤◌, drop}
 use Rattle.twkb_tree.specs.Rows.{ids_from}
 use Rattle.twkb_tree.specs.Tree.{area_nodes}
-use Rattle.twkb_writer.specs.Levels.{blank}
+use Rattle.twkb_writer.specs.Totals.{blank}
 use Rattle.twkb_writer.specs.Measuring.{load}
 use Rattle.twkb_writer.proofs.MeasuringParts.{with_each, with_polygon}
-use Rattle.twkb_writer.proofs.tree_measuring.areas_level.Given as goal
+use Rattle.twkb_writer.proofs.tree_measuring.areas_totals.Given as goal
 
 abbrev pub invariant-loop-index : goal.invariant-loop-index
 invariant-loop-index l = record {
-  value : l.level ≡ with_each with_polygon (ids_from l.index l.ids) (drop l.index l.areas) blank;
-  most : load l.level ≤ 20 * area_nodes (drop l.index l.areas);
+  value : l.totals ≡ with_each with_polygon (ids_from l.index l.ids) (drop l.index l.areas) blank;
+  most : load l.totals ≤ 20 * area_nodes (drop l.index l.areas);
 }
