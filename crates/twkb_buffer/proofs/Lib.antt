@@ -4,3 +4,5 @@ pub mod LengthLemmas
 pub mod MeasureLemmas
 pub mod TextLemmas
 pub mod PolylineLemmas
+pub mod FractionLemmas
+pub mod RoundingLemmas
