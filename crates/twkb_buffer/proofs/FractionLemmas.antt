@@ -3,7 +3,7 @@ use Rattle.std.proofs.Common.{◌≡◌, ◌∙◌, ℕ, ◌+◌, ◌-◌, ◌*�
 use Rattle.std.proofs.Common.{ap, refl, subst, sym, arith, inl, inr}
 use Rattle.std.proofs.Math.Nat.{mul-le-mul_left, pow-le-pow_right}
 use Rattle.std.proofs.lemmas.Bool.{cases_lt}
-use Rattle.std.proofs.lemmas.Nat.{div-add-mod', div-mul-add, mod_below, mul-le, one_shl, pow-add, pow_pos, shl_whole}
+use Rattle.std.proofs.lemmas.Nat.{div-add-mod', div-mul-add, mod_below, mul-le, one_shl, pow-add, pow_pos, shl_whole, shr-shr}
 use Rattle.std.specs.Prelude.{Option}
 use Rattle.twkb_points.specs.declared.point.TheConstants.{COORDINATE_BOUND}
 use Rattle.twkb_buffer.specs.Fractions.{FindsNearest, IsNearest}
@@ -97,21 +97,14 @@ doubled : (k : ℕ) → 2 ^ (k + 1) ≡ 2 * 2 ^ k
 doubled k = omega (arith, pow-add 2 k 1)
 
 -- the product over a power of two, by its upper part
-pub small_product : (number factor places half all k : ℕ) → k ≤ 52 → places ≡ k + 28 → half ≡ k → all ≡ k + 1
+pub small_product : (number factor places less k : ℕ) → places ≡ k + 28 → less ≡ k
     → IsNearest (number * factor) (2 ^ places)
-    ((number / 2 ^ 27 * factor + number % 2 ^ 27 * factor / 2 ^ 27 + 1 * 2 ^ half % 2 ^ 64) / 2 ^ all)
-small_product number factor places half all k few places_are half_is all_are =
-    rw (
-      places_are,
-      half_is,
-      all_are,
-      one_shl k 64 (omega arith),
-      product_of_parts number factor (2 ^ 27) (omega arith),
-      doubled k,
-    )
-    (subst (λ (below : ℕ). IsNearest (number * factor) below ((number * factor / 2 ^ 27 + 2 ^ k) / (2 * 2 ^ k)))
-    (omega (arith, pow-add 2 k 28))
-    (IsNearest-cut (number * factor) (2 ^ 27) (2 ^ k) (omega arith) (pow_pos k)))
+    (((number / 2 ^ 27 * factor + number % 2 ^ 27 * factor / 2 ^ 27) / 2 ^ less + 1) / 2)
+small_product number factor places less k places_are less_is =
+    rw (places_are, less_is, product_of_parts number factor (2 ^ 27) (omega arith), shr-shr (number * factor) 27 k)
+    (subst (λ (below : ℕ). IsNearest (number * factor) below ((number * factor / 2 ^ (27 + k) + 1) / 2))
+    (omega (arith, pow-add 2 k 28, pow-add 2 27 k))
+    (IsNearest-cut (number * factor) (2 ^ (27 + k)) 1 (pow_pos (27 + k)) (omega arith)))
 
 -- the quotient by a power of two and a divisor
 pub small_quotient : (number divisor places less k : ℕ) → 0 < divisor → places ≡ k + 1 → less ≡ k

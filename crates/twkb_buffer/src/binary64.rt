@@ -50,16 +50,17 @@ pub(crate) fn exponent(number: u64) -> u64
 pub(crate) fn with_sign(number: u64, size: u64) -> Option<i64>
     ensures { SomeIff result (IsCoordinate (with_sign number size)) (with_sign number size) }
 {
-    if number >= SIGN_BIT {
-        return if size > COORDINATE_BOUND {
-            None
-        } else {
-            Some(-(size as i64))
-        };
+    if size > COORDINATE_BOUND {
+        return None;
     }
-    if size >= COORDINATE_BOUND {
-        None
+    let unit = if number >= SIGN_BIT {
+        -(size as i64)
     } else {
-        Some(size as i64)
+        size as i64
+    };
+    if unit < COORDINATE_BOUND as i64 {
+        Some(unit)
+    } else {
+        None
     }
 }

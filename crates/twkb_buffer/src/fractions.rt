@@ -68,8 +68,7 @@ fn small_product(number: u64, factor: u64, places: u64) -> u64
 {
     let low = (number % (1 << LOW_BITS)) * factor;
     let high = (number >> LOW_BITS) * factor + (low >> LOW_BITS);
-    let half = 1 << (places - LOW_BITS - 1);
-    (high + half) >> (places - LOW_BITS)
+    ((high >> (places - LOW_BITS - 1)) + 1) >> 1
 }
 
 // The whole number nearest to a number over a power of two and a divisor.
