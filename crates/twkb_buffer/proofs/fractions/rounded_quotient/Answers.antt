@@ -1,5 +1,5 @@
-use Rattle.twkb_buffer.proofs.FractionLemmas.{IsNearest-halves}
+use Rattle.std.proofs.Common.{rules}
 use Rattle.twkb_buffer.proofs.fractions.rounded_quotient.Goals as goal
 
 pub returns : goal.returns
-returns c = IsNearest-halves c.args.above c.args.below c.requires.positive
+returns c = search rules
