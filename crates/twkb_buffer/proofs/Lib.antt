@@ -6,3 +6,4 @@ pub mod TextLemmas
 pub mod PolylineLemmas
 pub mod FractionLemmas
 pub mod RoundingLemmas
+pub mod DoubleLemmas

@@ -36,17 +36,19 @@ fn rounded_quotient(above: u64, below: u64) -> u64
 
 // The product, if it is not beyond the coordinates.
 fn product(one: u64, other: u64) -> Option<u64>
+    requires { 0 < other }
     ensures { SomeIff result (one * other ≤ COORDINATE_BOUND) (one * other) }
 {
-    let product = one.checked_mul(other)?;
-    if product > COORDINATE_BOUND {
-        return None;
+    if one > COORDINATE_BOUND / other {
+        None
+    } else {
+        Some(one * other)
     }
-    Some(product)
 }
 
 // The whole number nearest to a number times a factor over a divisor, one of which is small.
 fn large(number: u64, factor: u64, divisor: u64) -> Option<u64>
+    requires some { 0 < factor }
     requires positive { 0 < divisor }
     requires divisor { divisor ≤ 2 ^ 27 }
     requires small { divisor * factor + divisor ≤ 2 ^ 63 }

@@ -5,6 +5,7 @@ mod binary64;
 mod filler;
 mod filling;
 mod fractions;
+pub mod laws;
 mod measuring;
 mod point;
 mod polylines;
