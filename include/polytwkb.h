@@ -36,7 +36,7 @@ extern "C" {
 /* The status of a call. 0, 1, 3 and 4 are those of the command. */
 #define POLYTWKB_DONE 0u      /* all was converted */
 #define POLYTWKB_REFUSED 1u   /* the input is refused: reason and place say why and where */
-#define POLYTWKB_ARGUMENTS 2u /* a limit, the style or the conversion is out of range; nothing was done */
+#define POLYTWKB_ARGUMENTS 2u /* a limit, the style, the conversion or the precision is out of range; nothing was done */
 #define POLYTWKB_DEVICE 3u    /* the input could not be read; this has never been seen with a buffer */
 #define POLYTWKB_MEMORY 4u    /* memory was refused */
 #define POLYTWKB_TOO_SMALL 5u /* the output is too small: needed is the size needed */
@@ -110,11 +110,11 @@ typedef struct polytwkb_report {
     uint32_t status;      /* POLYTWKB_DONE to POLYTWKB_TOO_SMALL */
     uint32_t reason;      /* why the input is refused, 1 to 72; 0 if it is not */
     uint64_t place;       /* the refused record, from 1, or the offset of the refused item, the refused point of
-                             polytwkb_encode or the refused row of polytwkb_write, from 0; else 0 */
+                             polytwkb_encode, number of polytwkb_round or row of polytwkb_write, from 0; else 0 */
     uint64_t text_offset; /* where the polyline of the refused record or of polytwkb_decode is refused, in bytes; else 0 */
     uint64_t done;        /* geometries whose whole output is in the buffer */
     uint64_t sent;        /* bytes at the start of the buffer: a prefix of the right output; of
-                             polytwkb_decode points */
+                             polytwkb_decode points, of polytwkb_round numbers */
     uint64_t needed;      /* POLYTWKB_TOO_SMALL: bytes of the whole output, more than the buffer has, or 0
                              if they are not known (no memory); else as many as sent. polytwkb_write says
                              below what it counts */
@@ -164,6 +164,16 @@ polytwkb_report polytwkb_encode(const polytwkb_point *points, size_t count, uint
  * points), and text_offset the byte of the text. Takes memory for the points, twice.
  */
 polytwkb_report polytwkb_decode(const uint8_t *text, size_t length, polytwkb_point *points, size_t room);
+
+/*
+ * Rounds numbers, such as degrees, to coordinates in units of 10^-precision; precision is -8 to 7. Each becomes the
+ * whole number nearest to it times 10^precision, of two the one farther from 0, with no error of floating point on
+ * the way: 0.15 is a little less than that as a double, and 1 at precision 1. Status 0: sent is count. 1: a number
+ * is not finite, or its coordinate is outside -2^62 to 2^62 - 1; reason is POLYTWKB_POLYLINE_RANGE, place the first
+ * such number, counted from 0, and sent as many: the coordinates before it are written. 5: the room is too small,
+ * needed is count, and nothing is written. Places after those written stay as they were. Takes no memory.
+ */
+polytwkb_report polytwkb_round(const double *numbers, size_t count, int8_t precision, int64_t *units, size_t room);
 
 /* Kinds of rows: the numbers of TWKB and WKB, and one for the rings of polygons. */
 #define POLYTWKB_KIND_POINT 1u
@@ -297,6 +307,13 @@ static inline polytwkb_report polytwkb_decode_any(const uint8_t *text, size_t le
     return polytwkb_decode(polytwkb_input(text, length), length, room == 0 ? &none : points, room);
 }
 
+static inline polytwkb_report polytwkb_round_any(const double *numbers, size_t count, int8_t precision,
+                                                 int64_t *units, size_t room) {
+    static const double none = 0;
+    static int64_t no_unit;
+    return polytwkb_round(count == 0 ? &none : numbers, count, precision, room == 0 ? &no_unit : units, room);
+}
+
 static inline polytwkb_counts polytwkb_read_any(const uint8_t *blobs, size_t length, polytwkb_row *rows,
                                                 size_t row_room, polytwkb_point *points, size_t point_room,
                                                 polytwkb_limits limits) {
@@ -329,6 +346,7 @@ static inline size_t polytwkb_version_any(char *text, size_t room) {
 #define polytwkb_measure polytwkb_measure_any
 #define polytwkb_encode polytwkb_encode_any
 #define polytwkb_decode polytwkb_decode_any
+#define polytwkb_round polytwkb_round_any
 #define polytwkb_read polytwkb_read_any
 #define polytwkb_write polytwkb_write_any
 #define polytwkb_reason_text polytwkb_reason_text_any

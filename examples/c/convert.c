@@ -1,6 +1,7 @@
 // Packs, shows and unpacks a line in memory, with guard bytes round each buffer; then its polyline and its points, the texts of reasons and of the version.
 #include <polytwkb.h>
 
+#include <math.h>
 #include <stdio.h>
 #include <stdlib.h>
 #include <string.h>
@@ -154,12 +155,33 @@ static void polylines(void) {
     check(polytwkb_encode(NULL, 0, NULL, 0).status == POLYTWKB_DONE && polytwkb_decode(NULL, 0, NULL, 0).status == POLYTWKB_DONE, "no points");
 }
 
+// Into each room from none to one more than is needed, all numbers are rounded, halves away from 0, or none is.
+static void degrees(void) {
+    static const double numbers[] = {7.44781, -0.000005, 0.25}, endless[] = {1.5, -2.5, HUGE_VAL, 0.0};
+    static const int64_t units[] = {744781, -1, 25000};
+    for (size_t room = 0; room <= 4; room++) {
+        uint8_t *made = guarded(room * sizeof *units);
+        polytwkb_report report = polytwkb_round(numbers, 3, 5, (int64_t *)(void *)made, room);
+        int whole = room >= 3;
+        check(report.status == (whole ? POLYTWKB_DONE : POLYTWKB_TOO_SMALL) && report.needed == 3, "round");
+        check(report.sent == (whole ? 3u : 0u) && memcmp(made, units, (size_t)report.sent * sizeof *units) == 0, "the units");
+        release(made, room * sizeof *units, (size_t)report.sent * sizeof *units);
+    }
+    int64_t made[] = {7, 7, 7, 7};
+    polytwkb_report refused = polytwkb_round(endless, 4, 0, made, 4);
+    check(refused.status == POLYTWKB_REFUSED && refused.reason == POLYTWKB_POLYLINE_RANGE && refused.place == 2 && refused.sent == 2, "an infinity");
+    check(made[0] == 2 && made[1] == -3 && made[2] == 7 && made[3] == 7, "the units before it");
+    check(polytwkb_round(numbers, 3, 8, made, 4).status == POLYTWKB_ARGUMENTS && made[0] == 2, "a precision out of range");
+    check(polytwkb_round(NULL, 0, -8, NULL, 0).status == POLYTWKB_DONE, "no numbers");
+}
+
 int main(void) {
     each_room(POLYTWKB_PACK, table, sizeof table - 1, blob, sizeof blob);
     each_room(POLYTWKB_UNPACK, blob, sizeof blob, table, sizeof table - 1);
     each_room(POLYTWKB_SHOW, blob, sizeof blob, lines, sizeof lines - 1);
 
     polylines();
+    degrees();
     texts();
     versions();
     no_buffers();

@@ -55,6 +55,7 @@ def _loaded(path):
         call = getattr(library, "polytwkb_" + name)
         call.argtypes, call.restype = buffers + more, Report
     library.polytwkb_encode.argtypes = [ctypes.c_void_p, *buffers[1:]]
+    library.polytwkb_round.argtypes, library.polytwkb_round.restype = [ctypes.c_void_p, ctypes.c_size_t, ctypes.c_int8, *buffers[2:]], Report
     measure = library.polytwkb_measure
     measure.argtypes, measure.restype = [ctypes.c_uint32, ctypes.c_void_p, ctypes.c_size_t, CLimits, ctypes.c_uint32], Report
     arrays = [ctypes.c_void_p, ctypes.c_size_t] * 2

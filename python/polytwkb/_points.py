@@ -1,5 +1,6 @@
 """Points as they are given, as pairs or in a buffer, to whole numbers in a buffer; units to degrees and back."""
 import operator
+import sys
 from array import array
 from decimal import Decimal
 from itertools import islice
@@ -7,7 +8,7 @@ from typing import Iterable, Tuple, Union
 
 from ._conversions import Buffer
 from ._refused import Refused
-from ._rounding import nearest, numpy_of, power, rounded
+from ._rounding import nearest, power, rounded
 
 LEAST, MOST = -(1 << 62), (1 << 62) - 1
 POINT = 16
@@ -18,6 +19,11 @@ _PIECE = 1 << 13
 _WHOLE = 1 << 53
 
 Points = Union[Buffer, array, Iterable[Tuple]]
+
+
+def numpy_of():
+    """The module numpy if the program has imported it. The package does not need it, and does not import it."""
+    return sys.modules.get("numpy")
 
 
 def outside(place):

@@ -4,6 +4,7 @@ import math
 import os
 import random
 import struct
+import sys
 import time
 import unittest
 from array import array
@@ -12,7 +13,6 @@ from fractions import Fraction
 from unittest import mock
 
 import polytwkb
-from polytwkb import _rounding
 
 try:
     import numpy
@@ -41,7 +41,7 @@ def halves(precision):
     for whole in [*range(200), *(10**power + place for power in range(3, 19) for place in (-1, 0, 1))]:
         middle = Fraction(2 * whole + 1, 2) / Fraction(10) ** precision
         numbers += beside(float(middle))
-    numbers += [0.0, 5e-324, 0.49999999999999994, 2.0**51 + 0.5, 2.0**52 - 0.5, 2.0**52, 2.0**52 + 1, 2.0**53 + 2, 2.0**61]
+    numbers += [0.0, 5e-324, 2.225073858507201e-308, 2.2250738585072014e-308, 0.49999999999999994, 2.0**51 + 0.5, 2.0**52 - 0.5, 2.0**52, 2.0**52 + 1, 2.0**53 + 2, 2.0**61]
     limit = (1 << 62) / 10.0**precision
     return [number * sign for number in numbers if number < 0.99 * limit for sign in (1, -1)]
 
@@ -60,19 +60,16 @@ def random_numbers(chance, count, precision):
 
 class Rounding(unittest.TestCase):
     def alike(self, numbers, precision):
-        """The numbers are rounded exactly in each form that takes them, with numpy and without."""
+        """The numbers are rounded exactly in each form that takes them."""
         numbers = numbers + numbers[: len(numbers) % 2]
         with decimal.localcontext() as context:
             context.prec = 1200
             expected = [exact(number, precision) for number in numbers]
-        forms = [array("d", numbers), list(zip(numbers[::2], numbers[1::2]))]
-        for module in [None, numpy] if numpy else [None]:
-            with mock.patch.object(_rounding, "numpy_of", lambda: module):
-                for form in forms + ([numpy.array(numbers).reshape(-1, 2)] if module else []):
-                    found = polytwkb.in_units(form, precision).cast("B").cast("q").tolist()
-                    if found != expected:
-                        place = next(place for place, pair in enumerate(zip(found, expected)) if pair[0] != pair[1])
-                        self.fail(f"seed {SEED}: {numbers[place]!r} at precision {precision} is {found[place]}, not {expected[place]}")
+        for form in [array("d", numbers), list(zip(numbers[::2], numbers[1::2]))] + ([numpy.array(numbers).reshape(-1, 2)] if numpy else []):
+            found = polytwkb.in_units(form, precision).cast("B").cast("q").tolist()
+            if found != expected:
+                place = next(place for place, pair in enumerate(zip(found, expected)) if pair[0] != pair[1])
+                self.fail(f"seed {SEED}: {numbers[place]!r} at precision {precision} is {found[place]}, not {expected[place]}")
 
     def test_halves_and_numbers_beside_them(self):
         for precision in PRECISIONS:
@@ -85,6 +82,21 @@ class Rounding(unittest.TestCase):
         chance = random.Random(SEED)
         for precision in PRECISIONS:
             self.alike(random_numbers(chance, CASES // len(PRECISIONS), precision), precision)
+
+    def test_the_least_and_the_greatest(self):
+        for precision in PRECISIONS:
+            scale = 10.0**precision
+            self.alike([0.0, -0.0, sys.float_info.min, 0.99 * 2.0**62 / scale, 0.99 * -(2.0**62) / scale], precision)
+            for number in (float("inf"), float("-inf"), float("nan")):
+                with self.assertRaisesRegex(ValueError, "point 1: a coordinate is a finite number"):
+                    polytwkb.in_units(array("d", [0, 0, number, 0]), precision)
+            for number in (sys.float_info.max, -sys.float_info.max, 1.01 * 2.0**62 / scale, 1.01 * -(2.0**62) / scale):
+                with self.assertRaises(polytwkb.Refused) as caught:
+                    polytwkb.in_units(array("d", [0, 0, 0, number]), precision)
+                self.assertEqual((caught.exception.place, caught.exception.name), (1, "POLYLINE_RANGE"))
+        self.assertEqual(polytwkb.in_units([(2.0**62 - 512, -(2.0**62))], 0).tolist(), [[(1 << 62) - 512, -(1 << 62)]])
+        with self.assertRaises(polytwkb.Refused):
+            polytwkb.in_units([(0.0, 2.0**62)], 0)
 
     def test_whole_numbers_beside_floats(self):
         self.assertEqual(polytwkb.in_units([(7, 46.5), (True, -0.5)], 0).tolist(), [[7, 47], [1, -1]])

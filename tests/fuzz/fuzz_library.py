@@ -1,6 +1,6 @@
 #!/usr/bin/env python3
 """Compares calls of the library and of the package for Python with the second implementation: rows and points in arrays are read from random
-streams, and written as streams, by the library into rooms of all sizes, and random shapes are packed and tables checked.
+streams, and written as streams, by the library into rooms of all sizes, doubles are rounded, and random shapes are packed and tables checked.
 
 fuzz_library.py [--cases N] [--seed S] [--only CASE] LIBRARY
 
@@ -9,6 +9,7 @@ Case K of seed S is always the same. Status 1 where a case differs.
 import ctypes
 import os
 import random
+import struct
 import sys
 import time
 
@@ -22,6 +23,7 @@ from arrays import arrays_of, bytes_of_points, bytes_of_rows, named_by, some_arr
 from fuzz import some_stream, some_table
 from fuzzing import MOST_FOUND, report, words_of
 from geometry import NODES, POINTS, mapping_of, with_precision
+from rounding import some_double, unit_of
 from trees import nested, some_tree
 
 GUARD = 0xA7
@@ -64,7 +66,7 @@ class Library:
 
     def __init__(self, path):
         self.library = ctypes.CDLL(path)
-        self.library.polytwkb_read.restype, self.library.polytwkb_write.restype = Counts, Report
+        self.library.polytwkb_read.restype, self.library.polytwkb_write.restype, self.library.polytwkb_round.restype = Counts, Report, Report
 
     @staticmethod
     def guarded(size):
@@ -86,6 +88,15 @@ class Library:
         report = self.library.polytwkb_write(rows, counts[0], points, counts[1], output, size(room), Limits(*limits), style)
         assert output.raw[report.sent :] == bytes([GUARD]) * (len(output) - report.sent), "what was not written has changed"
         return fields_of(report), output.raw[: report.sent]
+
+    def round(self, numbers, precision, room):
+        """The report, and the units that were written."""
+        units, size = self.guarded(8 * room), ctypes.c_size_t
+        given = struct.pack(f"<{len(numbers)}d", *numbers)
+        report = self.library.polytwkb_round(given, size(len(numbers)), ctypes.c_int8(precision), units, size(room))
+        used = 8 * report.sent
+        assert units.raw[used:] == bytes([GUARD]) * (len(units) - used), "what was not written has changed"
+        return fields_of(report), list(struct.unpack(f"<{report.sent}q", units.raw[:used]))
 
 
 def some_limits(chance):
@@ -194,6 +205,25 @@ class Comparing:
         assert found == output, f"the package writes {rows} and {points} otherwise"
         assert (refused and (refused.place, refused.text, refused.done)) == fault, f"the package refuses {rows} and {points} otherwise: {refused}"
 
+    def round(self, chance, limits):
+        """Doubles are rounded as fractions round them, up to the first that has no coordinate, into any room."""
+        precision = chance.choice((5, 7, chance.randint(-8, 7), chance.randint(-8, 7), chance.choice((-9, 8, -128, 127))))
+        numbers = [some_double(chance, max(-8, min(precision, 7))) for _ in range(chance.choice((0, 1, 1, 2, 5)))]
+        room = max(len(numbers) + chance.choice((0, 0, 0, 1, -1, 5)), 0)
+        units = []
+        for number in numbers:
+            unit = unit_of(number, precision)
+            if unit is None:
+                break
+            units.append(unit)
+        status = 2 if not -8 <= precision <= 7 else 5 if room < len(numbers) else 0 if len(units) == len(numbers) else 1
+        units = units if status < 2 else []
+        reason, place, needed = (26, len(units), len(units)) if status == 1 else (0, 0, len(numbers) if status != 2 else 0)
+        wanted = (status, reason, place, 0, int(status == 0), len(units), needed), units
+        found = self.library.round(numbers, precision, room)
+        assert found == wanted, f"round {numbers} at {precision} into {room}: {found}, not {wanted}"
+        self.met(f"round {('ok', 'refused', 'no precision', '', '', 'room too small')[status]}")
+
     def shapes(self, chance, limits):
         """Mappings of the geo interface are packed as the second implementation packs them."""
         precision = chance.randint(-8, 7)
@@ -223,7 +253,7 @@ class Comparing:
     def compare(self, seed, number):
         chance = random.Random(f"{seed}:{number}")
         limits = some_limits(chance)
-        chance.choice((self.read, self.read, self.write, self.write, self.shapes, self.check))(chance, limits)
+        chance.choice((self.read, self.read, self.write, self.write, self.round, self.shapes, self.check))(chance, limits)
 
 
 def main():

@@ -4,7 +4,7 @@ use crate::convert::worked::{WORKED, Worked};
 use std::alloc::Global;
 use twkb_buffer::{
     BufferPoint, BufferReport, Conversion, fill, fill_points, fill_polyline, measure, put_reason,
-    put_version,
+    put_version, round_numbers,
 };
 use twkb_convert::{Style, VERSION};
 use twkb_geom::Limits;
@@ -135,6 +135,54 @@ fn is_polyline(alloc: Global) -> bool {
 #[test]
 fn points_become_a_polyline_and_it_the_points(rt: HostRuntime) {
     assert!(rt; is_polyline(rt.alloc()));
+}
+
+// The bits of a double, a precision, and its coordinate, by Python's `struct` and `decimal`.
+const ROUNDED: [(u64, i8, i64); 12] = [
+    (0x3fc3333333333333, 1, 1),                    // 0.15, which is a little less than that
+    (0x3fd0000000000000, 1, 3),                    // 0.25
+    (0xbfd0000000000000, 1, -3),                   // -0.25
+    (0x4004000000000000, 0, 3),                    // 2.5
+    (0xbfe0000000000000, 0, -1),                   // -0.5
+    (0x8000000000000000, 7, 0),                    // -0
+    (0x0000000000000001, 7, 0),                    // 5e-324, the least
+    (0x401dca8eb463497b, 5, 744_781),              // 7.44781
+    (0x401dca8eb463497b, 7, 74_478_100),           // 7.44781
+    (0x41a1e1a300000000, -8, 2),                   // 150000000
+    (0x43cfffffffffffff, 0, (1 << 62) - 512),      // the greatest double below 2^62
+    (0xc3d0000000000000, 0, -4611686018427387904), // -2^62
+];
+
+// Whether all numbers are rounded, each into a room of its own.
+fn are_rounded() -> bool {
+    let mut are_right = true;
+    for (number, precision, due) in ROUNDED {
+        let mut unit = [7];
+        let is_done = round_numbers(&[number], precision, &mut unit) == report_of(1, 1);
+        are_right = are_right & is_done & (unit[0] == due);
+    }
+    are_right
+}
+
+// Whether numbers are rounded up to one of these bits, which has no coordinate.
+fn is_refused_number(number: u64) -> bool {
+    let mut units = [7, 7, 7];
+    let due = BufferReport {
+        status: 1,
+        reason: 26,
+        place: 1,
+        done: 0,
+        ..report_of(1, 1)
+    };
+    round_numbers(&[0x3ff8000000000000, number, 0], 0, &mut units) == due && units == [2, 7, 7]
+}
+
+#[test]
+fn doubles_become_the_nearest_coordinates(rt: HostRuntime) {
+    let infinity = is_refused_number(0xfff0000000000000);
+    let no_number = is_refused_number(0x7ff8000000000000);
+    let too_large = is_refused_number(0x43d0000000000000); // 2^62
+    assert!(rt; are_rounded() & infinity & no_number & too_large);
 }
 
 // Whether a worked conversion writes its output and reports whether the input is refused later,

@@ -4,3 +4,6 @@ pub mod LengthLemmas
 pub mod MeasureLemmas
 pub mod TextLemmas
 pub mod PolylineLemmas
+pub mod FractionLemmas
+pub mod RoundingLemmas
+pub mod DoubleLemmas

@@ -7,3 +7,7 @@ pub mod Calls
 pub mod Conversions
 pub mod Texts
 pub mod Polylines
+pub mod Fractions
+pub mod Binary64
+pub mod Scales
+pub mod Rounding

@@ -1,14 +1,19 @@
 //! Conversions from a buffer to a buffer.
 #![tactic(auto)]
 
+mod binary64;
 mod filler;
 mod filling;
+mod fractions;
+pub mod laws;
 mod measuring;
 mod point;
 mod polylines;
 mod reason_numbers;
 mod reason_texts;
 mod report;
+mod rounding;
+mod scale;
 
 pub use filling::fill;
 pub use measuring::measure;
@@ -17,4 +22,5 @@ pub use polylines::{as_coordinates, as_point, fill_points, fill_polyline};
 pub use reason_numbers::blob_number;
 pub use reason_texts::{put_reason, put_version};
 pub use report::BufferReport;
+pub use rounding::round_numbers;
 pub use twkb_convert::Conversion;

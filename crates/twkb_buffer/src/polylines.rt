@@ -62,7 +62,7 @@ fn coordinates(alloc: Global, points: &[Pt]) -> Result<Vec<BufferPoint>, AllocEr
 }
 
 // The report of a call that wrote nothing.
-fn nothing_put(status: u32, needed: u64) -> BufferReport
+pub(crate) fn nothing_put(status: u32, needed: u64) -> BufferReport
     ensures { result ≡ nothing_report status needed }
 {
     BufferReport {

@@ -11,6 +11,9 @@ pub(crate) const DONE: u32 = 0;
 // The input is refused, or input or output is too long.
 pub(crate) const REFUSED: u32 = 1;
 
+// An argument is out of range.
+pub(crate) const ARGUMENTS: u32 = 2;
+
 // The input could not be read.
 const DEVICE: u32 = 3;
 

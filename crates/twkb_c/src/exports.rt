@@ -1,10 +1,12 @@
 //! The functions for C, as declared in `include/polytwkb.h`.
-ghost use Rattle.std.specs.Prelude.{◌≡◌, ◌<◌};
+ghost use Rattle.std.specs.Prelude.{◌≡◌, ◌<◌, ◌≤◌, length};
+ghost use Rattle.twkb_tree.specs.Tree.{IsPrecision};
 ghost use Rattle.twkb_tree.specs.Limits.{IsAllowance, standard_limits};
 ghost use Rattle.twkb_grammar.specs.declared.style.Style.{Style};
 ghost use Rattle.twkb_convert.specs.Version.{version_text};
 ghost use Rattle.twkb_buffer.specs.Conversions.{MeasuresOutput, PacksSlice, ShowsSlice, UnpacksSlice};
-ghost use Rattle.twkb_buffer.specs.Polylines.{DecodesSlice, EncodesSlice};
+ghost use Rattle.twkb_buffer.specs.Polylines.{DecodesSlice, EncodesSlice, nothing_report};
+ghost use Rattle.twkb_buffer.specs.Rounding.{Rounds};
 ghost use Rattle.twkb_buffer.specs.Texts.{AreWordsOf, PutsText};
 ghost use Rattle.twkb_convert.specs.declared.conversion.Conversion.{Conversion};
 ghost use Rattle.twkb_c.specs.Arguments.{IsConversionNumber, IsStyleNumber, allowance_of, arguments_report};
@@ -13,7 +15,7 @@ use crate::arguments::{BufferLimits, conversion_of, refused_arguments, style_of}
 use std::alloc::Global;
 use twkb_buffer::{
     BufferPoint, BufferReport, Conversion, fill, fill_points, fill_polyline, measure, put_reason,
-    put_version,
+    put_version, round_numbers,
 };
 use twkb_tree::{NEST_STANDARD, NODES_CAP, POINTS_CAP};
 
@@ -141,6 +143,19 @@ pub extern "C" fn polytwkb_decode(
     ensures { DecodesSlice text.now points.old points.new result }
 {
     fill_points(alloc, text, points)
+}
+
+/// Rounds numbers of 64 bits to coordinates of a precision. Takes no memory.
+#[unsafe(no_mangle)]
+pub extern "C" fn polytwkb_round(numbers: &[u64], precision: i8, units: &mut [i64]) -> BufferReport
+    ensures rounds { IsPrecision precision → length numbers.now ≤ length units.old
+        → Rounds precision numbers.now units.old units.new result }
+    ensures small { IsPrecision precision → length units.old < length numbers.now
+        → (units.new ≡ units.old) × (result ≡ nothing_report 5 (length numbers.now)) }
+    ensures precision_out_of_range { (IsPrecision precision → ⊥)
+        → (units.new ≡ units.old) × (result ≡ arguments_report) }
+{
+    round_numbers(numbers, precision, units)
 }
 
 /// Writes the text of a reason, with a zero byte after it. Takes no memory.

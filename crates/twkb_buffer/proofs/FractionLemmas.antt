@@ -1,0 +1,228 @@
+-- Whole numbers nearest to fractions.
+use Rattle.std.proofs.Common.{◌≡◌, ◌∙◌, ℕ, ◌+◌, ◌-◌, ◌*◌, ◌/◌, ◌%◌, ◌^◌, ◌<◌, ◌≤◌}
+use Rattle.std.proofs.Common.{ap, refl, subst, sym, arith, inl, inr}
+use Rattle.std.proofs.Math.Nat.{mul-le-mul_left, pow-le-pow_right}
+use Rattle.std.proofs.lemmas.Bool.{cases_lt}
+use Rattle.std.proofs.lemmas.Nat.{div-add-mod', div-mul-add, mod_below, mul-le, one_shl, pow-add, pow_pos, shl_whole, shr-shr}
+use Rattle.std.specs.Prelude.{Option}
+use Rattle.twkb_points.specs.declared.point.TheConstants.{COORDINATE_BOUND}
+use Rattle.twkb_buffer.specs.Fractions.{FindsNearest, IsNearest}
+
+-- a whole number of parts, and less than one more
+within : (n d : ℕ) → 0 < d → (n / d * d ≤ n) × (n < n / d * d + d)
+within n d some = omega (arith, div-add-mod' n d, mod_below n d some)
+
+-- a fraction less than a half
+pub IsNearest-zero : (above below : ℕ) → 2 * above < below → IsNearest above below 0
+IsNearest-zero above below small = record {
+  at_most_half_over = omega arith;
+  less_than_half_under = omega arith;
+}
+
+-- a whole number
+pub IsNearest-whole : (whole : ℕ) → IsNearest whole 1 whole
+IsNearest-whole whole = record {
+  at_most_half_over = omega arith;
+  less_than_half_under = omega arith;
+}
+
+-- a quotient of halves
+pub IsNearest-halves : (above below : ℕ) → 0 < below → IsNearest above below ((2 * above + below) / (2 * below))
+IsNearest-halves above below some =
+    let whole = (2 * above + below) / (2 * below) in
+    let bounds = within (2 * above + below) (2 * below) (omega arith) in record {
+      at_most_half_over = omega (arith, bounds.0);
+      less_than_half_under = omega (arith, bounds.1);
+    }
+
+-- a fraction whose number above is cut to a multiple of a divisor of the number below
+pub IsNearest-cut : (above cut half : ℕ) → 0 < cut → 0 < half
+    → IsNearest above (2 * (half * cut)) ((above / cut + half) / (2 * half))
+IsNearest-cut above cut half some more =
+    let whole = (above / cut + half) / (2 * half) in
+    let parts = within above cut some in
+    let wholes = within (above / cut + half) (2 * half) (omega arith) in
+    let low : cut * (whole * (2 * half)) ≤ cut * (above / cut + half) = mul-le-mul_left cut wholes.0 in
+    let high : cut * (above / cut + half + 1) ≤ cut * (whole * (2 * half) + 2 * half)
+    = mul-le-mul_left cut (omega (arith, wholes.1)) in record {
+      at_most_half_over = omega (arith, low, parts.0);
+      less_than_half_under = omega (arith, high, parts.1);
+    }
+
+-- some whole units more
+pub IsNearest-more : (above below whole more : ℕ) → IsNearest above below whole
+    → IsNearest (more * below + above) below (more + whole)
+IsNearest-more above below whole more near = record {
+  at_most_half_over = omega (arith, near.at_most_half_over);
+  less_than_half_under = omega (arith, near.less_than_half_under);
+}
+
+-- a fraction that is at least a whole number is nearest to none below that
+pub nearest_from : (above below least whole : ℕ) → least * below ≤ above → IsNearest above below whole → least ≤ whole
+nearest_from above below least whole large near = elim (cases_lt whole least) [
+  | inl fewer ↦
+      let up : below * (whole + 1) ≤ below * least = mul-le-mul_left below (omega arith) in
+      absurd (omega (arith, up, near.less_than_half_under))
+  | inr most ↦ most
+]
+
+-- of two nearest numbers the one is not above the other
+not_above : (above below one other : ℕ) → IsNearest above below one → IsNearest above below other → one ≤ other
+not_above above below one other a b = elim (cases_lt other one) [
+  | inl fewer ↦
+      let up : below * (other + 1) ≤ below * one = mul-le-mul_left below (omega arith) in
+      absurd (omega (arith, up, a.at_most_half_over, b.less_than_half_under))
+  | inr most ↦ most
+]
+
+-- only one whole number is nearest
+pub IsNearest-one : (above below one other : ℕ) → IsNearest above below one → IsNearest above below other → one ≡ other
+IsNearest-one above below one other a b =
+    omega (arith, not_above above below one other a b, not_above above below other one b a)
+
+-- a product by parts of one factor, over the weight of the upper part
+product_of_parts : (number factor cut : ℕ) → 0 < cut
+    → number / cut * factor + number % cut * factor / cut ≡ number * factor / cut
+product_of_parts number factor cut some =
+    let low = number % cut * factor in
+    let parts : number * factor ≡ (number / cut * factor + low / cut) * cut + low % cut
+    = let whole : factor * number ≡ factor * (number / cut * cut + number % cut)
+    = ap (λ (n : ℕ). factor * n) (sym (div-add-mod' number cut)) in
+    omega (arith, whole, div-add-mod' low cut) in
+    sym (ap (λ (n : ℕ). n / cut) parts
+    ∙ div-mul-add (number / cut * factor + low / cut) cut (low % cut) (mod_below low cut some))
+
+-- a power of two by two smaller ones
+doubled : (k : ℕ) → 2 ^ (k + 1) ≡ 2 * 2 ^ k
+doubled k = omega (arith, pow-add 2 k 1)
+
+-- the product over a power of two, by its upper part
+pub small_product : (number factor places less k : ℕ) → places ≡ k + 28 → less ≡ k
+    → IsNearest (number * factor) (2 ^ places)
+    (((number / 2 ^ 27 * factor + number % 2 ^ 27 * factor / 2 ^ 27) / 2 ^ less + 1) / 2)
+small_product number factor places less k places_are less_is =
+    rw (places_are, less_is, product_of_parts number factor (2 ^ 27) (omega arith), shr-shr (number * factor) 27 k)
+    (subst (λ (below : ℕ). IsNearest (number * factor) below ((number * factor / 2 ^ (27 + k) + 1) / 2))
+    (omega (arith, pow-add 2 k 28, pow-add 2 27 k))
+    (IsNearest-cut (number * factor) (2 ^ (27 + k)) 1 (pow_pos (27 + k)) (omega arith)))
+
+-- the quotient by a power of two and a divisor
+pub small_quotient : (number divisor places less k : ℕ) → 0 < divisor → places ≡ k + 1 → less ≡ k
+    → IsNearest number (2 ^ places * divisor) ((number / 2 ^ less + divisor) / (2 * divisor))
+small_quotient number divisor places less k some places_are less_is =
+    rw (places_are, less_is)
+    (subst (λ (below : ℕ). IsNearest number below ((number / 2 ^ k + divisor) / (2 * divisor)))
+    (omega (arith, doubled k, ap (λ (n : ℕ). n * divisor) (doubled k)))
+    (IsNearest-cut number (2 ^ k) divisor (pow_pos k) some))
+
+-- a product by parts of one factor
+split_product : (number factor below : ℕ)
+    → number / below * factor * below + number % below * factor ≡ number * factor
+split_product number factor below =
+    let whole : factor * (number / below * below + number % below) ≡ factor * number
+    = ap (λ (n : ℕ). factor * n) (div-add-mod' number below) in
+    omega (arith, whole)
+
+-- a product over a number, by the whole quotient of one factor and by what is left of it
+pub IsNearest-product : (number factor below whole part : ℕ) → whole ≡ number / below * factor
+    → IsNearest (number % below * factor) below part → IsNearest (number * factor) below (whole + part)
+IsNearest-product number factor below whole part whole_is near =
+    rw whole_is
+    (subst (λ (above : ℕ). IsNearest above below (number / below * factor + part)) (split_product number factor below)
+    (IsNearest-more (number % below * factor) below part (number / below * factor) near))
+
+-- that quotient is beyond the coordinates
+pub far_product : (number factor below : ℕ) → (number / below * factor ≤ COORDINATE_BOUND → ⊥)
+    → (whole : ℕ) → IsNearest (number * factor) below whole → COORDINATE_BOUND < whole
+far_product number factor below beyond whole near =
+    let least = nearest_from (number * factor) below (number / below * factor) whole
+    (omega (arith, split_product number factor below)) near in
+    elim (cases_lt COORDINATE_BOUND whole) [
+      | inl far ↦ far
+      | inr within ↦ absurd (beyond (omega (arith, least)))
+    ]
+
+-- the remainder and the divisor are small enough for the sum of halves
+pub halves_fit : (number factor divisor : ℕ) → 0 < divisor → divisor * factor + divisor ≤ 2 ^ 63
+    → 2 * (number % divisor * factor) + divisor < 2 ^ 64
+halves_fit number factor divisor some small =
+    let up : factor * (number % divisor) ≤ factor * divisor
+    = mul-le-mul_left factor (omega (arith, mod_below number divisor some)) in
+    omega (arith, up)
+
+-- a power of two by a greater exponent
+power_more : (i j : ℕ) → i ≤ j → 2 ^ i ≤ 2 ^ j
+power_more i j more = pow-le-pow_right {n = 2} (omega arith) {i = i} {j = j} more
+
+-- the same fraction in other words
+FindsNearest-same : (above below other_above other_below : ℕ) (found : Option ℕ) → above ≡ other_above
+    → below ≡ other_below → FindsNearest above below found → FindsNearest other_above other_below found
+FindsNearest-same above below other_above other_below found a b finds =
+    subst (λ (n : ℕ). FindsNearest n other_below found) a (subst (λ (n : ℕ). FindsNearest above n found) b finds)
+
+-- a product over so large a power of two that it is less than a half
+pub tiny_product : (number factor exponent : ℕ) → number < 2 ^ 53 → factor ≤ 10 ^ 7 → exponent + 80 < 1075
+    → IsNearest (number * 2 ^ (exponent - 1075) * factor) (2 ^ (1075 - exponent) * 1) 0
+tiny_product number factor exponent number_fits factor_fits small =
+    let none : exponent - 1075 ≡ 0 = omega arith in
+    let product = mul-le number factor (2 ^ 53) (10 ^ 7) (omega arith) factor_fits in
+    let power : 2 ^ 81 ≤ 2 ^ (1075 - exponent) = power_more 81 (1075 - exponent) (omega arith) in
+    rw none (IsNearest-zero (number * 1 * factor) (2 ^ (1075 - exponent) * 1) (omega (arith, product, power)))
+
+-- a quotient by so large a power of two that it is less than a half
+pub tiny_quotient : (number divisor exponent : ℕ) → number < 2 ^ 53 → 0 < divisor → exponent + 64 < 1075
+    → IsNearest (number * 2 ^ (exponent - 1075) * 1) (2 ^ (1075 - exponent) * divisor) 0
+tiny_quotient number divisor exponent number_fits some small =
+    let none : exponent - 1075 ≡ 0 = omega arith in
+    let power : 2 ^ 65 ≤ 2 ^ (1075 - exponent) = power_more 65 (1075 - exponent) (omega arith) in
+    let below : 2 ^ 65 * 1 ≤ 2 ^ (1075 - exponent) * divisor
+    = mul-le (2 ^ 65) 1 (2 ^ (1075 - exponent)) divisor power some in
+    rw none (IsNearest-zero (number * 1 * 1) (2 ^ (1075 - exponent) * divisor) (omega (arith, below)))
+
+-- a number that is beyond the coordinates before it is multiplied by a factor
+pub beyond_product : (number factor exponent : ℕ) → 2 ^ 52 ≤ number → 0 < factor → 1085 < exponent → (whole : ℕ)
+    → IsNearest (number * 2 ^ (exponent - 1075) * factor) (2 ^ (1075 - exponent) * 1) whole → COORDINATE_BOUND < whole
+beyond_product number factor exponent leading some large whole near =
+    let none : 1075 - exponent ≡ 0 = omega arith in
+    let power : 2 ^ 11 ≤ 2 ^ (exponent - 1075) = power_more 11 (exponent - 1075) (omega arith) in
+    let product = mul-le (2 ^ 52) (2 ^ 11) number (2 ^ (exponent - 1075)) leading power in
+    let above = mul-le (2 ^ 63) 1 (number * 2 ^ (exponent - 1075)) factor product some in
+    let least = nearest_from (number * 2 ^ (exponent - 1075) * factor) 1 (2 ^ 63) whole (omega (arith, above))
+    (rw none at near) in
+    omega (arith, least)
+
+-- a number that is beyond the coordinates after it is divided
+pub beyond_quotient : (number divisor exponent : ℕ) → 2 ^ 52 ≤ number → divisor ≤ 10 ^ 8 → 1111 < exponent → (whole : ℕ)
+    → IsNearest (number * 2 ^ (exponent - 1075) * 1) (2 ^ (1075 - exponent) * divisor) whole → COORDINATE_BOUND < whole
+beyond_quotient number divisor exponent leading few large whole near =
+    let none : 1075 - exponent ≡ 0 = omega arith in
+    let power : 2 ^ 37 ≤ 2 ^ (exponent - 1075) = power_more 37 (exponent - 1075) (omega arith) in
+    let product = mul-le (2 ^ 52) (2 ^ 37) number (2 ^ (exponent - 1075)) leading power in
+    let least = nearest_from (number * 2 ^ (exponent - 1075) * 1) (1 * divisor) (2 ^ 62 + 1) whole
+    (omega (arith, product)) (rw none at near) in
+    omega (arith, least)
+
+-- a power of two up to 2^27
+pub power_fits : (places : ℕ) → places ≤ 27 → 1 * 2 ^ places % 2 ^ 64 ≤ 2 ^ 27
+power_fits places few =
+    let power : 2 ^ places ≤ 2 ^ 27 = power_more places 27 few in
+    rw (one_shl places 64 (omega arith)) power
+
+-- a divisor times a power of two up to 2^36
+pub scaled_fits : (places divisor : ℕ) → places ≤ 36 → divisor ≤ 10 ^ 8
+    → divisor * (1 * 2 ^ places % 2 ^ 64) + divisor ≤ 2 ^ 63
+scaled_fits places divisor few small =
+    let power : 2 ^ places ≤ 2 ^ 36 = power_more places 36 few in
+    let product = mul-le divisor (2 ^ places) (10 ^ 8) (2 ^ 36) small power in
+    rw (one_shl places 64 (omega arith)) (omega (arith, product))
+
+-- a whole number times a factor
+pub FindsNearest-whole : (number factor exponent : ℕ) (found : Option ℕ) → factor ≤ 10 ^ 7 → 1075 ≤ exponent
+    → exponent ≤ 1085 → FindsNearest (number * (factor * 2 ^ (exponent - 1075) % 2 ^ 64)) 1 found
+    → FindsNearest (number * 2 ^ (exponent - 1075) * factor) (2 ^ (1075 - exponent) * 1) found
+FindsNearest-whole number factor exponent found fits some few finds =
+    let none : 1075 - exponent ≡ 0 = omega arith in
+    let shifted = shl_whole factor 24 (exponent - 1075) 64 (omega arith) (omega arith) in
+    let product : number * (factor * 2 ^ (exponent - 1075) % 2 ^ 64) ≡ number * 2 ^ (exponent - 1075) * factor
+    = ap (λ (n : ℕ). number * n) shifted ∙ omega arith in
+    FindsNearest-same _ 1 _ (2 ^ (1075 - exponent) * 1) found product (rw none refl) finds

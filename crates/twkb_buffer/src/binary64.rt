@@ -1,0 +1,66 @@
+//! The parts of a number of 64 bits (IEEE 754-2019, 3.4, binary64).
+ghost use Rattle.std.specs.Prelude.{◌≡◌, ◌^◌, ◌<◌, ◌≤◌, SomeIff};
+ghost use Rattle.twkb_points.specs.Point.{IsCoordinate};
+ghost use Rattle.twkb_buffer.specs.Binary64.{exponent, exponent_field, significand, with_sign};
+
+use twkb_points::COORDINATE_BOUND;
+
+// The weight of the lowest bit of the exponent, and of a significand's leading bit.
+const LEADING_BIT: u64 = 1 << 52;
+
+// The numbers that eleven bits have.
+const EXPONENTS: u64 = 1 << 11;
+
+// The bits of a number from this one on have its sign set.
+const SIGN_BIT: u64 = 1 << 63;
+
+// The exponent of an infinity, and of what is no number.
+pub(crate) const NOT_FINITE: u64 = EXPONENTS - 1;
+
+// The eleven bits of the exponent.
+pub(crate) fn exponent_field(number: u64) -> u64
+    ensures { result ≡ exponent_field number }
+{
+    (number / LEADING_BIT) % EXPONENTS
+}
+
+// The whole number that is multiplied by a power of two.
+pub(crate) fn significand(number: u64) -> u64
+    ensures value { result ≡ significand number }
+    ensures fits { result < 2 ^ 53 }
+    ensures leading { 1 < exponent number → 2 ^ 52 ≤ result }
+{
+    let fraction = number % LEADING_BIT;
+    if exponent_field(number) == 0 {
+        fraction
+    } else {
+        LEADING_BIT + fraction
+    }
+}
+
+// The exponent of that power of two, and 1075 more.
+pub(crate) fn exponent(number: u64) -> u64
+    ensures value { result ≡ exponent number }
+    ensures fits { result < 2 ^ 11 }
+{
+    exponent_field(number).max(1)
+}
+
+// A size with the sign of a number, if it is in the range of a coordinate.
+pub(crate) fn with_sign(number: u64, size: u64) -> Option<i64>
+    ensures { SomeIff result (IsCoordinate (with_sign number size)) (with_sign number size) }
+{
+    if size > COORDINATE_BOUND {
+        return None;
+    }
+    let unit = if number >= SIGN_BIT {
+        -(size as i64)
+    } else {
+        size as i64
+    };
+    if unit < COORDINATE_BOUND as i64 {
+        Some(unit)
+    } else {
+        None
+    }
+}

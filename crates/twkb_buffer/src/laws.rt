@@ -1,0 +1,21 @@
+//! Laws of what the contracts cite, each stated as the contract of an empty function.
+ghost use Rattle.std.specs.Prelude.{◌≡◌, ◌≢◌, ℕ, ℤ, ◌-◌, ◌*◌, ◌^◌, Bool, nat_le};
+ghost use Rattle.std.specs.Float.{binary64, fin};
+ghost use Rattle.std.specs.Float.Ieee.{of_bits};
+ghost use lib.Ieee.Exact.{HasValue};
+ghost use Rattle.twkb_buffer.specs.Binary64.{IsFinite, exponent, significand};
+ghost use Rattle.twkb_buffer.specs.Fractions.{IsNearest};
+
+/// The parts of a finite number's bits are the sign and the size of the double with these bits, and
+/// no other bits are those of a finite double.
+pub fn a_double_has_its_parts()
+    ensures finite { (bits : ℕ) → IsFinite bits → HasValue (of_bits binary64 bits) (nat_le (2 ^ 63) bits)
+        (significand bits * 2 ^ (exponent bits - 1075)) (2 ^ (1075 - exponent bits)) }
+    ensures other { (bits : ℕ) (sign : Bool) (m : ℕ) (e : ℤ) → (IsFinite bits → ⊥)
+        → of_bits binary64 bits ≢ fin sign m e }
+{}
+
+/// Only one whole number is nearest to a fraction.
+pub fn one_nearest()
+    ensures { (above below m n : ℕ) → IsNearest above below m → IsNearest above below n → m ≡ n }
+{}
