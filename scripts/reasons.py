@@ -39,12 +39,9 @@ FORMATS = {
     "blob": (r"\| \w+ \| `[a-z ]+` \| .* \| .* \|", "| {code} | `{text}` | {formats} |", None),
 }
 BUFFER = "crates/twkb_buffer"
-ARRAYS = "crates/twkb_arrays"
-# the names that rules of rows and the code for arrays have for a reason, where these are others
+# the names that rules of rows and the command have for a reason or a status, where these are others
 OTHERS = {
-    "PointsNotAllowed": "PolylineNotAllowed", "CoordinateRange": "Range", "TooManyPoints": "TooMany",
-    "USAGE": "ARGUMENTS", "TOO_MANY_NODES": "TOO_MANY_ROWS", "POINTS_NOT_ALLOWED": "POLYLINE_NOT_ALLOWED",
-    "COORDINATE_RANGE": "POLYLINE_RANGE", "TOO_MANY_POINTS": "POLYLINE_TOO_MANY",
+    "PointsNotAllowed": "PolylineNotAllowed", "CoordinateRange": "Range", "TooManyPoints": "TooMany", "USAGE": "ARGUMENTS",
 }
 
 
@@ -156,14 +153,18 @@ def text_places(rows):
 
 
 def rule_places(rows):
-    """Where the reasons of the engine are those of the grammar, and the numbers of reasons those of rules of rows."""
+    """Where the reasons of the engine are those of the grammar, and the reasons of records those of rules of rows."""
     lines = each(of_kind(rows, "blob"), "reason_of reason.{code} = fault.{code}")
     yield Place("crates/twkb_engine/specs/Stops.antt", r"reason_of reason\.\w+ = fault\.\w+", lines)
     rules = " ".join(re.findall(r"^  ((?:[A-Z]\w* )+): Refusal$", text_of("crates/twkb_tree/specs/Refusal.antt"), re.M)).split()
     numbers = {row.code: row.number for row in of_kind(rows, "polyline") + of_kind(rows, "row")}
-    pairs = sorted((numbers.get(OTHERS.get(rule, rule), 0), rule) for rule in rules)
-    lines = [f"refusal_number Refusal.{rule} = {number}" for number, rule in pairs]
-    yield Place(f"{ARRAYS}/specs/Judging.antt", r"refusal_number Refusal\.\w+ = \d+", lines)
+    texts = [row.code for row in of_kind(rows, "polyline")]
+    codes = [(OTHERS.get(rule, rule), rule) for rule in rules]
+    lines = [
+        f"rule_reason Refusal.{rule} = " + (f"row.Polyline 0 text.{code}" if code in texts else f"row.{code}")
+        for code, rule in sorted(codes, key=lambda pair: numbers.get(pair[0], 0))
+    ]
+    yield Place("crates/twkb_table/specs/RowRules.antt", r"rule_reason Refusal\.\w+ = row\..*", lines)
 
 
 def unequal(called, numbers):
@@ -300,7 +301,7 @@ def constants(rows):
     """The numbers of statuses and reasons that the code names, and the statuses in the manual."""
     of_name = {row.name: row.number for row in own(rows)}
     arguments = "crates/twkb_c/src/arguments.rt"
-    for file in ("crates/twkb_command/src/exit_code.rt", f"{BUFFER}/src/reason_numbers.rt", arguments, f"{ARRAYS}/src/judging.rt"):
+    for file in ("crates/twkb_command/src/exit_code.rt", f"{BUFFER}/src/reason_numbers.rt", arguments):
         for name, number in re.findall(r"^(?:pub\(crate\) )?const (\w+): u(?:8|32) = (\d+);", text_of(file), re.M):
             if OTHERS.get(name, name) in of_name:
                 yield f"{file}, {name}", of_name[OTHERS.get(name, name)], int(number)

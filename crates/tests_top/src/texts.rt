@@ -3,7 +3,7 @@ use std::alloc::Global;
 use std::fmt::Display;
 use twkb_convert::{BlobReason, Cause, ConvertFault};
 use twkb_polyline::PolyReason;
-use twkb_table::{JudgeFault, RowReason, SourceFault, TableFault};
+use twkb_table::{RowReason, TableFault};
 
 // Whether a fault has this text.
 fn tells<D: Display>(alloc: Global, fault: &D, text: &str) -> bool {
@@ -70,16 +70,6 @@ const FAULTS: [(TableFault, &str); 6] = [
     ),
 ];
 
-const SOURCE_FAULTS: [(SourceFault, &str); 2] = [
-    (SourceFault::Source, "reading the table failed"),
-    (SourceFault::Spent, "the table was refused before"),
-];
-
-const JUDGE_FAULTS: [(JudgeFault, &str); 2] = [
-    (JudgeFault::Memory, "out of memory"),
-    (JudgeFault::Refused(RowReason::BadId), "bad id"),
-];
-
 // Whether causes have their texts, and a fault has that of its cause.
 fn conversions_tell(alloc: Global) -> bool {
     all_tell(alloc, &CAUSES) && tells(alloc, &STOP, "byte 12: size mismatch")
@@ -87,7 +77,7 @@ fn conversions_tell(alloc: Global) -> bool {
 
 // Whether faults of tables have their texts.
 fn tables_tell(alloc: Global) -> bool {
-    all_tell(alloc, &FAULTS) && all_tell(alloc, &SOURCE_FAULTS) && all_tell(alloc, &JUDGE_FAULTS)
+    all_tell(alloc, &FAULTS)
 }
 
 #[test]

@@ -29,6 +29,9 @@ use Rattle.twkb_tree.proofs.RowPoints.{length-row_points}
 use Rattle.twkb_tree.proofs.RowRanges.{are_in_range-true, points_in_range}
 use Rattle.twkb_tree.proofs.RowTests.{both_true, test_within}
 use Rattle.twkb_tree.proofs.RowsLocal.{open_rows, point_count-reverse}
+use Rattle.twkb_flat.specs.Stops.{IfRefused}
+use Rattle.twkb_flat.specs.declared.stop.Stop.{Stop}
+use Rattle.twkb_flat.specs.declared.stop.Stop.TheVariants as stop
 use Rattle.twkb_buffer.specs.declared.point.BufferPoint.{BufferPoint}
 use Rattle.twkb_arrays.specs.Judging.{AcceptedAfter, HasRightId, RefusedAfter, refusal_number, row_from_c}
 use Rattle.twkb_arrays.specs.RowTests.{checks_there, range_refusal}
@@ -131,6 +134,19 @@ pub refused_for : (l : Allowance) (rs : List Row) (row : BufferRow) (ahead : Lis
     → RefusedAfter l rs row ahead number
 refused_for l rs row ahead k why number kind right enough e is = inr
     (k, kind, inr (right, inr (enough, (why, e, is))))
+
+-- a stop is a refusal with this number
+pub is_refused : (l : Allowance) (rs : List Row) (row : BufferRow) (ahead : List BufferPoint) (number : ℕ)
+    (why : Stop ℕ) → why ≡ stop.Refused number → RefusedAfter l rs row ahead number
+    → IfRefused (RefusedAfter l rs row ahead) why
+is_refused l rs row ahead number why is refused =
+    subst (IfRefused (RefusedAfter l rs row ahead)) (sym is) refused
+
+-- what holds of each reason holds of that of a refusal
+pub all_refused : (P Q : ℕ → Type 0) (why : Stop ℕ) → ((number : ℕ) → P number → Q number) → IfRefused P why
+    → IfRefused Q why
+all_refused P Q stop.Memory f h = tt
+all_refused P Q (stop.Refused number) f h = f number h
 
 -- such a row is accepted, and the rows with it are those of one geometry
 pub row_pushed : (l : Allowance) (rs new : List Row) (row : BufferRow) (ahead : List BufferPoint) (k : Kind)

@@ -1,4 +1,4 @@
--- The number of the first test of a row that fails.
+-- The reason of the first test of a row that fails.
 use Rattle.std.proofs.Common.{◌≡◌, ◌∙◌, ◌<◌, ◌^◌, ℕ, Bool, true, false, List, [], ◌∷◌, ◌++◌, Option, Some}
 use Rattle.std.proofs.Common.{None, refl, sym, subst, bit_or, inl, inr, arith, lit<}
 use Rattle.std.specs.Prelude.{ℤ, is_some, is_none, ◌||◌, ◌↔◌, MatchOption, nat_lt}
@@ -14,8 +14,10 @@ use Rattle.twkb_tree.specs.Refusal.{Refusal, Check, check, first_failed, are_in_
 use Rattle.twkb_tree.specs.Refusal.{id_checks, point_checks, precision_checks}
 use Rattle.twkb_tree.specs.Rows.{Row}
 use Rattle.twkb_tree.proofs.RowRanges.{are_in_range-true, points_in_range}
+use Rattle.twkb_table.specs.RowRules.{first_reason, place_checks}
+use Rattle.twkb_table.specs.declared.reason.RowReason.{RowReason}
 use Rattle.twkb_buffer.specs.declared.point.BufferPoint.{BufferPoint}
-use Rattle.twkb_arrays.specs.RowTests.{IsFirstNumberButRange, IsNumberOf, checks_there, place_checks, range_refusal}
+use Rattle.twkb_arrays.specs.RowTests.{IsFirstButRange, IsReasonOf, checks_there, range_refusal}
 use Rattle.twkb_arrays.specs.Rows.{point_of, points_of}
 
 -- ---- some tests before others
@@ -46,31 +48,55 @@ rest_of (c ∷ checks) more e = rest_at c.holds c.otherwise checks more (rest_of
     rest_at true other checks more rest e = rest e
     rest_at false other checks more rest e = cc e
 
+-- if a reason is that of the first test that fails, a test fails
+pub reason_found : (checks : List Check) (reason : RowReason) → Some reason ≡ first_reason checks
+    → IsReasonOf (first_failed checks) reason
+reason_found [] reason e = cc e
+reason_found (c ∷ checks) reason e = found_at c.holds c.otherwise checks reason (reason_found checks reason) e
+  where
+    found_at : (b : Bool) (other : Refusal) (checks : List Check) (reason : RowReason)
+        → (Some reason ≡ first_reason checks → IsReasonOf (first_failed checks) reason)
+        → Some reason ≡ first_reason (check b other ∷ checks)
+        → IsReasonOf (first_failed (check b other ∷ checks)) reason
+    found_at true other checks reason rest e = rest e
+    found_at false other checks reason rest e = (other, refl, cc e)
+
+-- if there is none, no test fails
+pub reason_none : (checks : List Check) → None ≡ first_reason checks → first_failed checks ≡ None
+reason_none [] e = refl
+reason_none (c ∷ checks) e = none_at c.holds c.otherwise checks (reason_none checks) e
+  where
+    none_at : (b : Bool) (other : Refusal) (checks : List Check)
+        → (None ≡ first_reason checks → first_failed checks ≡ None)
+        → None ≡ first_reason (check b other ∷ checks) → first_failed (check b other ∷ checks) ≡ None
+    none_at true other checks rest e = rest e
+    none_at false other checks rest e = cc e
+
 -- the tests of a row at its place, one group after another: the place, the id, the precision, the points
-pub by_place : (l : Allowance) (s : RowPlace) (r : Row) (number : ℕ)
-    → IsNumberOf (first_failed (place_checks l s r)) number
-    → IsNumberOf (first_failed (checks_there l s r)) number
-by_place l s r number h =
+pub by_place : (l : Allowance) (s : RowPlace) (r : Row) (reason : RowReason)
+    → IsReasonOf (first_failed (place_checks l s r.kind)) reason
+    → IsReasonOf (first_failed (checks_there l s r)) reason
+by_place l s r reason h =
     let p = row_of s.parent in (
       h.0,
-      first_of (place_checks l s r)
+      first_of (place_checks l s r.kind)
           (id_checks p (child_of s.parent) r ++ (precision_checks p r ++ point_checks l p s.points r)) h.0 h.1,
       h.2,
     )
 
 -- no test of the place fails
-pub after_place : (l : Allowance) (s : RowPlace) (r : Row) → first_failed (place_checks l s r) ≡ None
+pub after_place : (l : Allowance) (s : RowPlace) (r : Row) → first_failed (place_checks l s r.kind) ≡ None
     → first_failed (checks_there l s r) ≡ first_failed (id_checks (row_of s.parent) (child_of s.parent) r
     ++ (precision_checks (row_of s.parent) r ++ point_checks l (row_of s.parent) s.points r))
 after_place l s r e =
     let p = row_of s.parent in
-    rest_of (place_checks l s r)
+    rest_of (place_checks l s r.kind)
     (id_checks p (child_of s.parent) r ++ (precision_checks p r ++ point_checks l p s.points r)) e
 
-pub by_id : (l : Allowance) (s : RowPlace) (r : Row) (number : ℕ) → first_failed (place_checks l s r) ≡ None
-    → IsNumberOf (first_failed (id_checks (row_of s.parent) (child_of s.parent) r)) number
-    → IsNumberOf (first_failed (checks_there l s r)) number
-by_id l s r number place h =
+pub by_id : (l : Allowance) (s : RowPlace) (r : Row) (reason : RowReason) → first_failed (place_checks l s r.kind) ≡ None
+    → IsReasonOf (first_failed (id_checks (row_of s.parent) (child_of s.parent) r)) reason
+    → IsReasonOf (first_failed (checks_there l s r)) reason
+by_id l s r reason place h =
     let p = row_of s.parent in (
       h.0,
       after_place l s r place ∙ first_of (id_checks p (child_of s.parent) r)
@@ -79,7 +105,7 @@ by_id l s r number place h =
     )
 
 -- no test of the place or of the id fails
-pub after_id : (l : Allowance) (s : RowPlace) (r : Row) → first_failed (place_checks l s r) ≡ None
+pub after_id : (l : Allowance) (s : RowPlace) (r : Row) → first_failed (place_checks l s r.kind) ≡ None
     → first_failed (id_checks (row_of s.parent) (child_of s.parent) r) ≡ None
     → first_failed (checks_there l s r) ≡ first_failed (precision_checks (row_of s.parent) r
     ++ point_checks l (row_of s.parent) s.points r)
@@ -88,33 +114,26 @@ after_id l s r place id =
     after_place l s r place ∙ rest_of (id_checks p (child_of s.parent) r)
     (precision_checks p r ++ point_checks l p s.points r) id
 
-pub by_precision : (l : Allowance) (s : RowPlace) (r : Row) (number : ℕ) → first_failed (place_checks l s r) ≡ None
+pub by_precision : (l : Allowance) (s : RowPlace) (r : Row) (reason : RowReason) → first_failed (place_checks l s r.kind) ≡ None
     → first_failed (id_checks (row_of s.parent) (child_of s.parent) r) ≡ None
-    → IsNumberOf (first_failed (precision_checks (row_of s.parent) r)) number
-    → IsNumberOf (first_failed (checks_there l s r)) number
-by_precision l s r number place id h =
+    → IsReasonOf (first_failed (precision_checks (row_of s.parent) r)) reason
+    → IsReasonOf (first_failed (checks_there l s r)) reason
+by_precision l s r reason place id h =
     let p = row_of s.parent in (
       h.0,
       after_id l s r place id ∙ first_of (precision_checks p r) (point_checks l p s.points r) h.0 h.1,
       h.2,
     )
 
-pub by_points : (l : Allowance) (s : RowPlace) (r : Row) (answer : Option ℕ) → first_failed (place_checks l s r) ≡ None
+pub by_points : (l : Allowance) (s : RowPlace) (r : Row) (answer : Option RowReason) → first_failed (place_checks l s r.kind) ≡ None
     → first_failed (id_checks (row_of s.parent) (child_of s.parent) r) ≡ None
     → first_failed (precision_checks (row_of s.parent) r) ≡ None
-    → IsFirstNumberButRange (point_checks l (row_of s.parent) s.points r) r.points answer
-    → IsFirstNumberButRange (checks_there l s r) r.points answer
+    → IsFirstButRange (point_checks l (row_of s.parent) s.points r) r.points answer
+    → IsFirstButRange (checks_there l s r) r.points answer
 by_points l s r answer place id precision h =
     let p = row_of s.parent in
-    subst (λ (o : Option Refusal). MatchOption answer (o ≡ range_refusal r.points) (IsNumberOf o))
+    subst (λ (o : Option Refusal). MatchOption answer (o ≡ range_refusal r.points) (IsReasonOf o))
     (sym (after_id l s r place id ∙ rest_of (precision_checks p r) (point_checks l p s.points r) precision)) h
-
--- ---- precisions
-
--- a precision that may not be there fails the test
-pub not_allowed : (whole : Bool) (q : Option ℤ) → whole ≡ false → is_some q ≡ true → (whole || is_none q) ≡ false
-not_allowed whole None w e = cc e
-not_allowed whole (Some n) w e = rw w refl
 
 -- ---- the range of coordinates
 

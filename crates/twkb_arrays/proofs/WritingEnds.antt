@@ -7,29 +7,28 @@ use Rattle.std.proofs.lemmas.List.{take_all, take_more}
 use Rattle.twkb_tree.specs.Tree.{Tree}
 use Rattle.twkb_tree.specs.Limits.{Allowance}
 use Rattle.twkb_tree.specs.Rows.{Row, rows_of, row_points}
+use Rattle.twkb_flat.specs.declared.stop.Stop.{Stop}
+use Rattle.twkb_flat.specs.declared.stop.Stop.TheVariants as stop
 use Rattle.twkb_grammar.specs.declared.style.Style.{Style}
 use Rattle.twkb_buffer.specs.Polylines.{coordinates_of}
 use Rattle.twkb_buffer.specs.declared.point.BufferPoint.{BufferPoint}
 use Rattle.twkb_arrays.specs.Rows.{rows_in_c}
 use Rattle.twkb_arrays.specs.Sending.{HasSent}
 use Rattle.twkb_arrays.specs.Writing.{EndsWriting, IsWriting, StopsAtRow, StopsWriting}
-use Rattle.twkb_arrays.specs.Writing.{fault_at}
-use Rattle.twkb_arrays.specs.declared.gathering.Stop.{Stop}
-use Rattle.twkb_arrays.specs.declared.gathering.Stop.TheVariants as stop
+use Rattle.twkb_arrays.specs.Writing.{stopped_at}
 use Rattle.twkb_arrays.specs.declared.row.BufferRow.{BufferRow}
 use Rattle.twkb_arrays.specs.declared.sending.Sent.{Sent}
 use Rattle.twkb_arrays.specs.declared.writing.Writer.{Writer}
-use Rattle.twkb_arrays.specs.declared.writing.WriteFault.{WriteFault}
-use Rattle.twkb_arrays.specs.declared.writing.WriteFault.TheVariants as fault
+use Rattle.twkb_arrays.specs.declared.writing.RefusedAt.{RefusedAt}
 use Rattle.twkb_arrays.proofs.ArrayLemmas.{parts_join, rest_of, some_more}
 
 -- a row that is not read ends the writing
 pub stops_writing : (l : Allowance) (style : Style) (start : List ℕ) (in_rows front_rows more : List BufferRow)
     (in_points front_points ahead : List BufferPoint) (place : ℕ) (row : BufferRow) (out : List ℕ)
-    (writer : Writer) (why : Stop)
+    (writer : Writer) (why : Stop ℕ)
     → StopsAtRow l style start front_rows front_points row ahead out writer why
     → in_rows ≡ front_rows ++ row ∷ more → in_points ≡ front_points ++ ahead → place ≡ length front_rows
-    → StopsWriting l style start in_rows in_points out writer (fault_at place why)
+    → StopsWriting l style start in_rows in_points out writer (stopped_at place why)
 stops_writing l style start in_rows front_rows more in_points front_points ahead place row out writer stop.Memory s
     rows_are points_are place_is = (
       s.given,
@@ -47,7 +46,7 @@ stops_writing l style start in_rows front_rows more in_points front_points ahead
       },
     )
 stops_writing l style start in_rows front_rows more in_points front_points ahead place row out writer
-    (stop.Row number) s rows_are points_are place_is = (
+    (stop.Refused number) s rows_are points_are place_is = (
       s.given,
       s.later,
       s.sent,
@@ -77,13 +76,13 @@ with_next in_rows i row none within is = take_more in_rows i none within
 
 -- the row at a place is not read
 pub row_stops : (l : Allowance) (style : Style) (start : List ℕ) (in_rows : List BufferRow)
-    (in_points : List BufferPoint) (i used : ℕ) (row none : BufferRow) (out : List ℕ) (writer : Writer) (why : Stop)
-    (answer : WriteFault)
+    (in_points : List BufferPoint) (i used : ℕ) (row none : BufferRow) (out : List ℕ) (writer : Writer) (why : Stop ℕ)
+    (answer : Stop RefusedAt)
     → StopsAtRow l style start (take i in_rows) (take used in_points) row (rest_of in_points used) out writer why
-    → i < length in_rows → row ≡ slice_index_or in_rows i none → answer ≡ fault_at i why
+    → i < length in_rows → row ≡ slice_index_or in_rows i none → answer ≡ stopped_at i why
     → StopsWriting l style start in_rows in_points out writer answer
 row_stops l style start in_rows in_points i used row none out writer why answer s within is answer_is =
-    subst (λ (f : WriteFault). StopsWriting l style start in_rows in_points out writer f) (sym answer_is)
+    subst (λ (f : Stop RefusedAt). StopsWriting l style start in_rows in_points out writer f) (sym answer_is)
     (stops_writing l style start in_rows (take i in_rows) (drop (i + 1) in_rows) in_points (take used in_points)
     (rest_of in_points used) i row out writer why s
     (sym (take-append-drop (i + 1) in_rows)
@@ -109,15 +108,16 @@ next_read l style start in_rows in_points i used count row none out writer w wit
 pub points_left_over : (l : Allowance) (style : Style) (start : List ℕ) (in_rows : List BufferRow)
     (in_points : List BufferPoint) (used : ℕ) (out : List ℕ) (writer : Writer)
     → IsWriting l style start in_rows (take used in_points) out writer → used < length in_points
-    → (writer.form ≡ [] → in_rows ≡ [])
+    → (writer.open_geometry ≡ [] → in_rows ≡ [])
     → (given later : List Tree) × HasSent style start given later out writer.sent
-    × EndsWriting {A = Unit {0}} l (given ++ later) in_rows in_points (Err (fault.At (length in_rows) 72))
+    × EndsWriting {A = Unit {0}} l (given ++ later) in_rows in_points
+    (Err (stop.Refused (record { place = length in_rows; number = 72 })))
 points_left_over l style start in_rows in_points used out writer w some last = (
   w.given,
   w.later,
   w.sent,
   inr (record {
-    begun = writer.form;
+    begun = writer.open_geometry;
     front_points = take used in_points;
     left = drop used in_points;
     points_are = sym (take-append-drop used in_points);
@@ -132,12 +132,12 @@ points_left_over l style start in_rows in_points used out writer w some last = (
 -- all rows and points are those of complete geometries
 pub all_written : (l : Allowance) (style : Style) (start : List ℕ) (in_rows : List BufferRow)
     (in_points : List BufferPoint) (used : ℕ) (out : List ℕ) (writer : Writer) (done : Unit {0})
-    → IsWriting l style start in_rows (take used in_points) out writer → length in_points ≤ used → writer.form ≡ []
+    → IsWriting l style start in_rows (take used in_points) out writer → length in_points ≤ used → writer.open_geometry ≡ []
     → (given later : List Tree) × HasSent style start given later out writer.sent
     × EndsWriting l (given ++ later) in_rows in_points (Ok done)
 all_written l style start in_rows in_points used out writer done w whole closed =
     let gs = w.given ++ w.later in
-    let all : rows_of gs ++ writer.form ≡ rows_of gs = ap (λ (rs : List Row). rows_of gs ++ rs) closed
+    let all : rows_of gs ++ writer.open_geometry ≡ rows_of gs = ap (λ (rs : List Row). rows_of gs ++ rs) closed
     ∙ append-nil (rows_of gs) in (
       w.given,
       w.later,
@@ -155,14 +155,14 @@ pub no_memory : (l : Allowance) (style : Style) (start : List ℕ) (in_rows : Li
     (in_points : List BufferPoint) (used : ℕ) (in_output out : List ℕ) (old new : Writer)
     → IsWriting l style start in_rows (take used in_points) in_output old → new.sent ≡ old.sent → out ≡ in_output
     → (given later : List Tree) × HasSent style start given later out new.sent
-    × EndsWriting {A = Unit {0}} l (given ++ later) in_rows in_points (Err fault.Memory)
+    × EndsWriting {A = Unit {0}} l (given ++ later) in_rows in_points (Err stop.Memory)
 no_memory l style start in_rows in_points used in_output out old new w same same_output = (
   w.given,
   w.later,
   subst (λ (xs : List ℕ). HasSent style start w.given w.later xs new.sent) (sym same_output)
       (subst (λ (s : Sent). HasSent style start w.given w.later in_output s) (sym same) w.sent),
   record {
-    begun = old.form;
+    begun = old.open_geometry;
     front_rows = in_rows;
     more = [];
     front_points = take used in_points;
@@ -173,9 +173,9 @@ no_memory l style start in_rows in_points used in_output out old new w same same
   },
 )
 
--- a fault of a step ends the whole writing
+-- a stop of a step ends the whole writing
 pub same_end : (l : Allowance) (gs : List Tree) (in_rows : List BufferRow) (in_points : List BufferPoint)
-    (why : WriteFault) → EndsWriting {A = ℕ} l gs in_rows in_points (Err why)
+    (why : Stop RefusedAt) → EndsWriting {A = ℕ} l gs in_rows in_points (Err why)
     → EndsWriting {A = Unit {0}} l gs in_rows in_points (Err why)
-same_end l gs in_rows in_points fault.Memory e = e
-same_end l gs in_rows in_points (fault.At place number) e = e
+same_end l gs in_rows in_points stop.Memory e = e
+same_end l gs in_rows in_points (stop.Refused at) e = e

@@ -9,6 +9,8 @@ use Rattle.twkb_tree.specs.Tree.{Tree}
 use Rattle.twkb_tree.specs.Limits.{Allowance, IsAllowance}
 use Rattle.twkb_tree.specs.Rows.{Row, rows, rows_of, row_points}
 use Rattle.twkb_tree.specs.RowLists.{AreValid}
+use Rattle.twkb_flat.specs.declared.stop.Stop.{Stop}
+use Rattle.twkb_flat.specs.declared.stop.Stop.TheVariants as stop
 use Rattle.twkb_grammar.specs.Blob.{Stream}
 use Rattle.twkb_grammar.specs.Written.{canonical_stream}
 use Rattle.twkb_grammar.specs.declared.style.Style.{Style}
@@ -24,8 +26,7 @@ use Rattle.twkb_arrays.specs.Rows.{HasRoom, LacksRoom, array_points, array_rows,
 use Rattle.twkb_arrays.specs.Writing.{AreArrays, EndsWriting, WritesArrays, write_outcome_of}
 use Rattle.twkb_arrays.specs.declared.reading.BufferCounts.{BufferCounts}
 use Rattle.twkb_arrays.specs.declared.row.BufferRow.{BufferRow}
-use Rattle.twkb_arrays.specs.declared.writing.WriteFault.{WriteFault}
-use Rattle.twkb_arrays.specs.declared.writing.WriteFault.TheVariants as fault
+use Rattle.twkb_arrays.specs.declared.writing.RefusedAt.{RefusedAt}
 use Rattle.twkb_arrays.proofs.ArrayLemmas.{length-coordinates_of, row_points-append}
 use Rattle.twkb_arrays.proofs.ArraysRefused.{none_left, none_refused, one_arrays}
 use Rattle.twkb_arrays.proofs.ReadingLaws.{all_read, status_zero}
@@ -33,18 +34,18 @@ use Rattle.twkb_arrays.proofs.RoomLemmas.{no_more}
 
 -- how the writing of the arrays of geometries may end
 by_answer : (l : Allowance) (gs hs : List Tree) (in_rows : List BufferRow) (in_points : List BufferPoint)
-    (full : Bool) (answer : Result (Unit {0}) WriteFault) (status : ℕ) → status ≡ (write_outcome_of full answer).0
+    (full : Bool) (answer : Result (Unit {0}) (Stop RefusedAt)) (status : ℕ) → status ≡ (write_outcome_of full answer).0
     → EndsWriting l hs in_rows in_points answer → IsAllowance l → AreArrays l gs in_rows in_points
     → (status ≡ 4) ⊎ ((hs ≡ gs) × (status ≢ 1))
 by_answer l gs hs in_rows in_points false (Ok done) status is ends cap a = inr
     (one_arrays l gs hs in_rows in_points cap a ends, λ e. omega (arith, is, e))
 by_answer l gs hs in_rows in_points true (Ok done) status is ends cap a = inr
     (one_arrays l gs hs in_rows in_points cap a ends, λ e. omega (arith, is, e))
-by_answer l gs hs in_rows in_points full (Err fault.Memory) status is ends cap a = inl is
-by_answer l gs hs in_rows in_points full (Err (fault.At place number)) status is (inl row) cap a =
-    absurd (none_refused l gs hs in_rows in_points place number cap a row)
-by_answer l gs hs in_rows in_points full (Err (fault.At place number)) status is (inr left) cap a =
-    absurd (none_left l gs hs in_rows in_points place number cap a left)
+by_answer l gs hs in_rows in_points full (Err stop.Memory) status is ends cap a = inl is
+by_answer l gs hs in_rows in_points full (Err (stop.Refused at)) status is (inl row) cap a =
+    absurd (none_refused l gs hs in_rows in_points at.place at.number cap a row)
+by_answer l gs hs in_rows in_points full (Err (stop.Refused at)) status is (inr left) cap a =
+    absurd (none_left l gs hs in_rows in_points at.place at.number cap a left)
 
 pub all_written_as : (l : Allowance) (style : Style) (in_rows : List BufferRow) (in_points : List BufferPoint)
     (old new : List ℕ) (report : BufferReport) (gs : List Tree)
@@ -57,21 +58,21 @@ all_written_as l style in_rows in_points old new report gs wrote cap a =
 
 -- a writing with status 0 had room for all, and came to the end of the arrays
 written_zero : (l : Allowance) (gs : List Tree) (in_rows : List BufferRow) (in_points : List BufferPoint)
-    (full : Bool) (answer : Result (Unit {0}) WriteFault) → (write_outcome_of full answer).0 ≡ 0
+    (full : Bool) (answer : Result (Unit {0}) (Stop RefusedAt)) → (write_outcome_of full answer).0 ≡ 0
     → EndsWriting l gs in_rows in_points answer → (full ≡ false) × AreArrays l gs in_rows in_points
 written_zero l gs in_rows in_points false (Ok done) e ends = (refl, ends)
 written_zero l gs in_rows in_points true (Ok done) e ends = absurd (omega (arith, e))
-written_zero l gs in_rows in_points full (Err fault.Memory) e ends = absurd (omega (arith, e))
-written_zero l gs in_rows in_points false (Err (fault.At place number)) e ends = absurd (omega (arith, e))
-written_zero l gs in_rows in_points true (Err (fault.At place number)) e ends = absurd (omega (arith, e))
+written_zero l gs in_rows in_points full (Err stop.Memory) e ends = absurd (omega (arith, e))
+written_zero l gs in_rows in_points false (Err (stop.Refused at)) e ends = absurd (omega (arith, e))
+written_zero l gs in_rows in_points true (Err (stop.Refused at)) e ends = absurd (omega (arith, e))
 
 -- no writing has the status of refused arguments
-not_two : (full : Bool) (answer : Result (Unit {0}) WriteFault) → (write_outcome_of full answer).0 ≡ 2 → ⊥
+not_two : (full : Bool) (answer : Result (Unit {0}) (Stop RefusedAt)) → (write_outcome_of full answer).0 ≡ 2 → ⊥
 not_two true (Ok done) e = omega (arith, e)
 not_two false (Ok done) e = omega (arith, e)
-not_two full (Err fault.Memory) e = omega (arith, e)
-not_two true (Err (fault.At place number)) e = omega (arith, e)
-not_two false (Err (fault.At place number)) e = omega (arith, e)
+not_two full (Err stop.Memory) e = omega (arith, e)
+not_two true (Err (stop.Refused at)) e = omega (arith, e)
+not_two false (Err (stop.Refused at)) e = omega (arith, e)
 
 pub never_arguments : (l : Allowance) (style : Style) (in_rows : List BufferRow) (in_points : List BufferPoint)
     (old new : List ℕ) (report : BufferReport) → WritesArrays l style in_rows in_points old new report

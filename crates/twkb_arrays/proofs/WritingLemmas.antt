@@ -10,17 +10,17 @@ use Rattle.twkb_tree.specs.Limits.{Allowance, IsValid}
 use Rattle.twkb_tree.specs.Rows.{Row, rows, rows_of, row_points}
 use Rattle.twkb_tree.specs.RowLists.{AreValidRowsOfOne}
 use Rattle.twkb_tree.proofs.Forest.{all_push}
+use Rattle.twkb_flat.specs.declared.stop.Stop.{Stop}
+use Rattle.twkb_flat.specs.declared.stop.Stop.TheVariants as stop
+use Rattle.twkb_flat.specs.Stops.{IfRefused}
 use Rattle.twkb_grammar.specs.Written.{canonical_blob}
 use Rattle.twkb_grammar.specs.declared.style.Style.{Style}
 use Rattle.twkb_buffer.specs.Polylines.{coordinates_of}
 use Rattle.twkb_buffer.specs.declared.point.BufferPoint.{BufferPoint}
-use Rattle.twkb_arrays.specs.Gathering.{IfRow}
 use Rattle.twkb_arrays.specs.Judging.{AcceptedAfter, RefusedAfter}
 use Rattle.twkb_arrays.specs.Rows.{row_in_c, rows_in_c}
 use Rattle.twkb_arrays.specs.Sending.{HasSent, IsSentWithin, SendsOne}
 use Rattle.twkb_arrays.specs.Writing.{AreRead, IsWriting, StopsAtRow, StopsRow}
-use Rattle.twkb_arrays.specs.declared.gathering.Stop.{Stop}
-use Rattle.twkb_arrays.specs.declared.gathering.Stop.TheVariants as stop
 use Rattle.twkb_arrays.specs.declared.row.BufferRow.{BufferRow}
 use Rattle.twkb_arrays.specs.declared.sending.Sent.{Sent}
 use Rattle.twkb_arrays.specs.declared.writing.Writer.{Writer}
@@ -36,7 +36,7 @@ pub not_empty : (form : List Row) (found : Bool) → found ≡ false → IsTrue 
 not_empty form found some same none = false≢true (sym some ∙ same.1 none)
 
 -- before the first row
-pub none_read : (l : Allowance) (style : Style) (start : List ℕ) (writer : Writer) → writer.form ≡ []
+pub none_read : (l : Allowance) (style : Style) (start : List ℕ) (writer : Writer) → writer.open_geometry ≡ []
     → HasSent style start [] [] start writer.sent → IsWriting l style start [] [] start writer
 none_read l style start writer none sent = record {
   given = [];
@@ -81,25 +81,25 @@ read_whole l gs g form in_rows in_points a valid same =
 -- the open geometry is complete, and its blob was written or counted
 pub ended_one : (l : Allowance) (style : Style) (start : List ℕ) (in_rows : List BufferRow)
     (in_points : List BufferPoint) (in_output out blob : List ℕ) (old new : Writer)
-    → (old.form ≡ [] → ⊥) → ((g : Tree) → IsTree g → rows 0 g ≡ old.form → blob ≡ canonical_blob style g)
+    → (old.open_geometry ≡ [] → ⊥) → ((g : Tree) → IsTree g → rows 0 g ≡ old.open_geometry → blob ≡ canonical_blob style g)
     → ((s : Style) (start : List ℕ) (given later : List Tree) (g : Tree)
     → HasSent s start given later in_output old.sent
     → blob ≡ canonical_blob s g → SendsOne s start given later g out new.sent)
-    → new.form ≡ [] → IsWriting l style start in_rows in_points in_output old
+    → new.open_geometry ≡ [] → IsWriting l style start in_rows in_points in_output old
     → IsWriting l style start in_rows in_points out new
 ended_one l style start in_rows in_points in_output out blob old new some made sends closed w =
     let given = w.given in
     let later = w.later in
-    let one = one_of l old.form some w.read.begun_valid in
+    let one = one_of l old.open_geometry some w.read.begun_valid in
     let g = one.0 in
-    let whole = read_whole l (given ++ later) g old.form in_rows in_points w.read one.1 one.2 in
-    let read : AreRead l ((given ++ later) ++ g ∷ []) new.form in_rows in_points =
+    let whole = read_whole l (given ++ later) g old.open_geometry in_rows in_points w.read one.1 one.2 in
+    let read : AreRead l ((given ++ later) ++ g ∷ []) new.open_geometry in_rows in_points =
     subst (λ (rs : List Row). AreRead l ((given ++ later) ++ g ∷ []) rs in_rows in_points) (sym closed) whole in
     elim (sends style start given later g w.sent (made g one.1.tree one.2)) [
       | inl sent ↦ record {
         given = given ++ g ∷ [];
         later = [];
-        read = subst (λ (gs : List Tree). AreRead l gs new.form in_rows in_points)
+        read = subst (λ (gs : List Tree). AreRead l gs new.open_geometry in_rows in_points)
             (ap (λ (gs : List Tree). (given ++ gs) ++ g ∷ []) sent.0
             ∙ ap (λ (gs : List Tree). gs ++ g ∷ []) (append-nil given)
             ∙ sym (append-nil (given ++ g ∷ []))) read;
@@ -108,7 +108,7 @@ ended_one l style start in_rows in_points in_output out blob old new some made s
       | inr sent ↦ record {
         given = given;
         later = later ++ g ∷ [];
-        read = subst (λ (gs : List Tree). AreRead l gs new.form in_rows in_points)
+        read = subst (λ (gs : List Tree). AreRead l gs new.open_geometry in_rows in_points)
             (append_assoc given later (g ∷ [])) read;
         sent = sent;
       }
@@ -148,13 +148,13 @@ read_more l gs form new_form in_rows in_points row ahead r count a is accepted v
 pub writes_more : (l : Allowance) (style : Style) (start : List ℕ) (in_rows : List BufferRow)
     (in_points : List BufferPoint) (out : List ℕ) (mid : Writer) (new_form : List Row)
     (row : BufferRow) (ahead : List BufferPoint) (r : Row) (count : ℕ)
-    → IsWriting l style start in_rows in_points out mid → new_form ≡ mid.form ++ r ∷ []
-    → AcceptedAfter l mid.form row ahead r → AreValidRowsOfOne l new_form → count ≡ row.points
-    → IsWriting l style start (in_rows ++ row ∷ []) (in_points ++ take count ahead) out (record mid { form = new_form })
+    → IsWriting l style start in_rows in_points out mid → new_form ≡ mid.open_geometry ++ r ∷ []
+    → AcceptedAfter l mid.open_geometry row ahead r → AreValidRowsOfOne l new_form → count ≡ row.points
+    → IsWriting l style start (in_rows ++ row ∷ []) (in_points ++ take count ahead) out (record mid { open_geometry = new_form })
 writes_more l style start in_rows in_points out mid new_form row ahead r count w is accepted valid count_is = record {
   given = w.given;
   later = w.later;
-  read = read_more l (w.given ++ w.later) mid.form new_form in_rows in_points row ahead r count w.read is accepted
+  read = read_more l (w.given ++ w.later) mid.open_geometry new_form in_rows in_points row ahead r count w.read is accepted
       valid count_is;
   sent = w.sent;
 }
@@ -162,12 +162,12 @@ writes_more l style start in_rows in_points out mid new_form row ahead r count w
 -- the next row is not read
 pub stops_at_row : (l : Allowance) (style : Style) (start : List ℕ) (in_rows : List BufferRow)
     (in_points : List BufferPoint) (out : List ℕ) (mid new : Writer) (row : BufferRow) (ahead : List BufferPoint)
-    (why : Stop) → IsWriting l style start in_rows in_points out mid → new.sent ≡ mid.sent
-    → StopsRow l in_rows mid.form row ahead why → StopsAtRow l style start in_rows in_points row ahead out new why
+    (why : Stop ℕ) → IsWriting l style start in_rows in_points out mid → new.sent ≡ mid.sent
+    → StopsRow l in_rows mid.open_geometry row ahead why → StopsAtRow l style start in_rows in_points row ahead out new why
 stops_at_row l style start in_rows in_points out mid new row ahead why w same stops = record {
   given = w.given;
   later = w.later;
-  begun = mid.form;
+  begun = mid.open_geometry;
   read = w.read;
   sent = subst (λ (s : Sent). HasSent style start w.given w.later out s) (sym same) w.sent;
   stops = stops;
@@ -175,16 +175,16 @@ stops_at_row l style start in_rows in_points out mid new row ahead why w same st
 
 -- what is known of a row that is read
 pub row_read : (l : Allowance) (style : Style) (in_output out : List ℕ) (old mid : Writer) (new_form : List Row)
-    (row : BufferRow) (ahead : List BufferPoint) (result : Result ℕ Stop)
+    (row : BufferRow) (ahead : List BufferPoint) (result : Result ℕ (Stop ℕ))
     → ((l : Allowance) (start : List ℕ) (in_rows : List BufferRow) (in_points : List BufferPoint)
     → IsWriting l style start in_rows in_points in_output old → IsWriting l style start in_rows in_points out mid)
     → IfOk result (λ count. (count ≤ length ahead) × (count ≡ row.points))
-    → IfOk result (λ count. (r : Row) × (new_form ≡ mid.form ++ r ∷ []) × AcceptedAfter l mid.form row ahead r
+    → IfOk result (λ count. (r : Row) × (new_form ≡ mid.open_geometry ++ r ∷ []) × AcceptedAfter l mid.open_geometry row ahead r
     × AreValidRowsOfOne l new_form)
     → IfOk result (λ count. (start : List ℕ) (in_rows : List BufferRow) (in_points : List BufferPoint)
     → IsWriting l style start in_rows in_points in_output old
     → IsWriting l style start (in_rows ++ row ∷ []) (in_points ++ take count ahead) out
-    (record mid { form = new_form }))
+    (record mid { open_geometry = new_form }))
 row_read l style in_output out old mid new_form row ahead (Ok count) begun counted pushed =
     λ start in_rows in_points w. writes_more l style start in_rows in_points out mid new_form row ahead pushed.0 count
     (begun l start in_rows in_points w) pushed.1 pushed.2 pushed.3 counted.1
@@ -192,7 +192,7 @@ row_read l style in_output out old mid new_form row ahead (Err why) begun counte
 
 -- after a row that is read a geometry is open
 pub row_some : (l : Allowance) (form new_form : List Row) (row : BufferRow) (ahead : List BufferPoint)
-    (result : Result ℕ Stop)
+    (result : Result ℕ (Stop ℕ))
     → IfOk result (λ count. (r : Row) × (new_form ≡ form ++ r ∷ []) × AcceptedAfter l form row ahead r
     × AreValidRowsOfOne l new_form)
     → IfOk result (λ count. new_form ≡ [] → ⊥)
@@ -205,21 +205,21 @@ row_some l form new_form row ahead (Err why) pushed = tt
 
 -- what is known of a row that is not read
 pub row_not_read : (l : Allowance) (style : Style) (in_output out : List ℕ) (old mid new : Writer)
-    (row : BufferRow) (ahead : List BufferPoint) (result : Result ℕ Stop)
+    (row : BufferRow) (ahead : List BufferPoint) (result : Result ℕ (Stop ℕ))
     → ((l : Allowance) (start : List ℕ) (in_rows : List BufferRow) (in_points : List BufferPoint)
     → IsWriting l style start in_rows in_points in_output old → IsWriting l style start in_rows in_points out mid)
-    → new.sent ≡ mid.sent → (row.depth ≡ 0 → mid.form ≡ [])
-    → (mid.form ≡ [] → (row.depth ≡ 0) ⊎ (old.form ≡ []))
-    → IfErr result (IfRow (RefusedAfter l mid.form row ahead))
+    → new.sent ≡ mid.sent → (row.depth ≡ 0 → mid.open_geometry ≡ [])
+    → (mid.open_geometry ≡ [] → (row.depth ≡ 0) ⊎ (old.open_geometry ≡ []))
+    → IfErr result (IfRefused (RefusedAfter l mid.open_geometry row ahead))
     → IfErr result (λ why. (start : List ℕ) (in_rows : List BufferRow) (in_points : List BufferPoint)
-    → IsWriting l style start in_rows in_points in_output old → (old.form ≡ [] → in_rows ≡ [])
+    → IsWriting l style start in_rows in_points in_output old → (old.open_geometry ≡ [] → in_rows ≡ [])
     → StopsAtRow l style start in_rows in_points row ahead out new why)
 row_not_read l style in_output out old mid new row ahead (Ok count) begun same root kept refused = tt
 row_not_read l style in_output out old mid new row ahead (Err stop.Memory) begun same root kept refused =
     λ start in_rows in_points w some. stops_at_row l style start in_rows in_points out mid new row ahead stop.Memory
     (begun l start in_rows in_points w) same tt
-row_not_read l style in_output out old mid new row ahead (Err (stop.Row number)) begun same root kept refused =
+row_not_read l style in_output out old mid new row ahead (Err (stop.Refused number)) begun same root kept refused =
     λ start in_rows in_points w some. stops_at_row l style start in_rows in_points out mid new row ahead
-    (stop.Row number)
+    (stop.Refused number)
     (begun l start in_rows in_points w) same
     (root, λ none. elim (kept none) [ inl zero ↦ inl zero | inr was ↦ inr (some was) ], refused)

@@ -1,18 +1,11 @@
 -- A row that is appended to a form, or is not.
-use Rattle.std.specs.Prelude.{◌≡◌, ℕ, ◌<◌, pos, List, [], ◌∷◌, length, take, ⊤}
+use Rattle.std.specs.Prelude.{◌≡◌, ℕ, ◌<◌, pos, List, [], ◌∷◌, length, take}
 use Rattle.twkb_points.specs.Point.{Point, IsInRange}
 use Rattle.twkb_tree.specs.Limits.{Allowance}
 use Rattle.twkb_tree.specs.Tree.{IsPrecision}
 use Rattle.twkb_buffer.specs.Polylines.{coordinates_at}
 use Rattle.twkb_buffer.specs.declared.point.BufferPoint.{BufferPoint}
-use Rattle.twkb_arrays.specs.declared.gathering.Stop.{Stop}
-use Rattle.twkb_arrays.specs.declared.gathering.Stop.TheVariants as stop
 use Rattle.twkb_arrays.specs.declared.row.BufferRow.{BufferRow}
-
--- a refusal is for a reason with this number; a lack of memory says nothing about the row
-abbrev pub IfRow : (ℕ → Type 0) → Stop → Type 0
-IfRow Holds stop.Memory = ⊤
-IfRow Holds (stop.Row number) = Holds number
 
 -- The row is that of a point which is a geometry itself: a root with one point, a precision and no id.
 pub record IsLone (row : BufferRow) : Type 0 where

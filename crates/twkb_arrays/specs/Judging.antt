@@ -6,6 +6,8 @@ use Rattle.twkb_tree.specs.Accepted.{Accepts}
 use Rattle.twkb_tree.specs.Limits.{Allowance}
 use Rattle.twkb_tree.specs.Refusal.{Refusal, refusal}
 use Rattle.twkb_tree.specs.Rows.{Row}
+use Rattle.twkb_table.specs.RowRules.{rule_reason}
+use Rattle.twkb_buffer.specs.Numbers.{row_number_of}
 use Rattle.twkb_buffer.specs.declared.point.BufferPoint.{BufferPoint}
 use Rattle.twkb_arrays.specs.Rows.{kind_number, points_of}
 use Rattle.twkb_arrays.specs.declared.row.BufferRow.{BufferRow}
@@ -43,19 +45,7 @@ HasRightId row = (row.has_id ≡ 1) ⊎ ((row.has_id ≡ 0) × (row.id ≡ pos 0
 
 -- the number of a reason to refuse a row of a geometry
 abbrev pub refusal_number : Refusal → ℕ
-refusal_number Refusal.BadPlace = 5
-refusal_number Refusal.TooDeep = 6
-refusal_number Refusal.TooManyNodes = 7
-refusal_number Refusal.BadId = 8
-refusal_number Refusal.IdNotAllowed = 9
-refusal_number Refusal.MixedIds = 10
-refusal_number Refusal.BadPrecision = 11
-refusal_number Refusal.PrecisionMissing = 12
-refusal_number Refusal.PrecisionNotAllowed = 13
-refusal_number Refusal.PointsNotAllowed = 14
-refusal_number Refusal.PointCount = 16
-refusal_number Refusal.CoordinateRange = 26
-refusal_number Refusal.TooManyPoints = 27
+refusal_number why = row_number_of (rule_reason why)
 
 -- After these rows of one geometry the row is refused for the reason with this number: its kind, its
 -- id, the number of its points, of which the array has only those ahead, or else as a row of a table.

@@ -1,9 +1,9 @@
 -- The points of a row that are appended to a form.
-use Rattle.std.specs.Prelude.{⊤}
-use Rattle.twkb_arrays.specs.declared.own_points.PointFault.{PointFault}
-use Rattle.twkb_arrays.specs.declared.own_points.PointFault.TheVariants.{Memory, Range}
+use Rattle.std.specs.Prelude.{◌≡◌, ℕ, List, ⊥}
+use Rattle.twkb_points.specs.Point.{Point, AreInRange}
+use Rattle.twkb_tree.specs.Refusal.{CoordinateRange}
+use Rattle.twkb_arrays.specs.Judging.{refusal_number}
 
--- a point out of range is a refusal for what holds; a lack of memory says nothing about the points
-abbrev pub IfRange : Type 0 → PointFault → Type 0
-IfRange Holds Memory = ⊤
-IfRange Holds Range = Holds
+-- a point is out of range, and the number is that of this reason
+abbrev pub AreOutOfRange : List Point → ℕ → Type 0
+AreOutOfRange ps number = (AreInRange ps → ⊥) × (number ≡ refusal_number CoordinateRange)

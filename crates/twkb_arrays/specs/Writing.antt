@@ -4,6 +4,8 @@ use Rattle.twkb_tree.specs.Tree.{Tree, saturated}
 use Rattle.twkb_tree.specs.Limits.{Allowance}
 use Rattle.twkb_tree.specs.Rows.{Row, rows_of, row_points}
 use Rattle.twkb_tree.specs.RowLists.{AreValid, AreValidRowsOfOne}
+use Rattle.twkb_flat.specs.declared.stop.Stop.{Stop}
+use Rattle.twkb_flat.specs.declared.stop.Stop.TheVariants as stop
 use Rattle.twkb_grammar.specs.Written.{canonical_stream}
 use Rattle.twkb_grammar.specs.declared.style.Style.{Style}
 use Rattle.twkb_buffer.specs.Polylines.{coordinates_of}
@@ -14,12 +16,9 @@ use Rattle.twkb_arrays.specs.Rooms.{StopsBefore, are_more}
 use Rattle.twkb_arrays.specs.Rows.{array_points, array_rows, rows_in_c}
 use Rattle.twkb_arrays.specs.Sending.{HasSent, IsStreamIn, LacksBytes}
 use Rattle.twkb_arrays.specs.Status.{unless_full}
-use Rattle.twkb_arrays.specs.declared.gathering.Stop.{Stop}
-use Rattle.twkb_arrays.specs.declared.gathering.Stop.TheVariants as stop
 use Rattle.twkb_arrays.specs.declared.row.BufferRow.{BufferRow}
 use Rattle.twkb_arrays.specs.declared.writing.Writer.{Writer}
-use Rattle.twkb_arrays.specs.declared.writing.WriteFault.{WriteFault}
-use Rattle.twkb_arrays.specs.declared.writing.WriteFault.TheVariants as fault
+use Rattle.twkb_arrays.specs.declared.writing.RefusedAt.{RefusedAt}
 
 -- The arrays are those of these geometries, which keep the limits.
 pub record AreArrays (l : Allowance) (gs : List Tree) (in_rows : List BufferRow)
@@ -85,11 +84,11 @@ pub record ArePointsLeft (l : Allowance) (gs : List Tree) (in_rows : List Buffer
 -- How the writing of arrays ended, after these complete geometries: the arrays are theirs; or a row
 -- after them is refused, or the points that are left over; or memory was refused.
 abbrev pub EndsWriting : {A : Type 0} → Allowance → List Tree → List BufferRow → List BufferPoint
-    → Result A WriteFault → Type 0
+    → Result A (Stop RefusedAt) → Type 0
 EndsWriting l gs in_rows in_points (Ok done) = AreArrays l gs in_rows in_points
-EndsWriting l gs in_rows in_points (Err (fault.At place number)) =
-    IsRefusedRow l gs in_rows in_points place number ⊎ ArePointsLeft l gs in_rows in_points place number
-EndsWriting l gs in_rows in_points (Err fault.Memory) = BeginArrays l gs in_rows in_points
+EndsWriting l gs in_rows in_points (Err (stop.Refused at)) =
+    IsRefusedRow l gs in_rows in_points at.place at.number ⊎ ArePointsLeft l gs in_rows in_points at.place at.number
+EndsWriting l gs in_rows in_points (Err stop.Memory) = BeginArrays l gs in_rows in_points
 
 -- ---- the state between two rows
 
@@ -99,21 +98,21 @@ pub record IsWriting (l : Allowance) (style : Style) (start : List ℕ) (in_rows
     (in_points : List BufferPoint) (in_output : List ℕ) (writer : Writer) : Type 0 where
   pub given : List Tree
   pub later : List Tree
-  pub read : AreRead l (given ++ later) writer.form in_rows in_points
+  pub read : AreRead l (given ++ later) writer.open_geometry in_rows in_points
   pub sent : HasSent style start given later in_output writer.sent
 
 -- why the next row, with the points ahead, is not read after these rows, the last of which are
 -- those of the open geometry
-abbrev pub StopsRow : Allowance → List BufferRow → List Row → BufferRow → List BufferPoint → Stop → Type 0
+abbrev pub StopsRow : Allowance → List BufferRow → List Row → BufferRow → List BufferPoint → Stop ℕ → Type 0
 StopsRow l front_rows begun row ahead stop.Memory = ⊤
-StopsRow l front_rows begun row ahead (stop.Row number) =
+StopsRow l front_rows begun row ahead (stop.Refused number) =
     (row.depth ≡ 0 → begun ≡ []) × (begun ≡ [] → (row.depth ≡ 0) ⊎ (front_rows ≡ []))
     × RefusedAfter l begun row ahead number
 
 -- The next row is not read after these arrays.
 pub record StopsAtRow (l : Allowance) (style : Style) (start : List ℕ) (in_rows : List BufferRow)
     (in_points : List BufferPoint) (row : BufferRow) (ahead : List BufferPoint) (in_output : List ℕ)
-    (writer : Writer) (why : Stop) : Type 0 where
+    (writer : Writer) (why : Stop ℕ) : Type 0 where
   pub given : List Tree
   pub later : List Tree
   pub begun : List Row
@@ -122,13 +121,13 @@ pub record StopsAtRow (l : Allowance) (style : Style) (start : List ℕ) (in_row
   pub stops : StopsRow l in_rows begun row ahead why
 
 -- why arrays are not written past the row at a place
-abbrev pub fault_at : ℕ → Stop → WriteFault
-fault_at place stop.Memory = fault.Memory
-fault_at place (stop.Row number) = fault.At place number
+abbrev pub stopped_at : ℕ → Stop ℕ → Stop RefusedAt
+stopped_at place stop.Memory = stop.Memory
+stopped_at place (stop.Refused number) = stop.Refused (record { place = place; number = number })
 
 -- The writing of arrays stopped after complete geometries of which the first were written.
 abbrev pub StopsWriting : Allowance → Style → List ℕ → List BufferRow → List BufferPoint → List ℕ → Writer
-    → WriteFault → Type 0
+    → Stop RefusedAt → Type 0
 StopsWriting l style start in_rows in_points in_output writer why =
     (given later : List Tree) × HasSent style start given later in_output writer.sent
     × EndsWriting {A = ℕ} l (given ++ later) in_rows in_points (Err why)
@@ -137,14 +136,14 @@ StopsWriting l style start in_rows in_points in_output writer why =
 
 -- the status, the reason and the place of a writing that ended like this, given whether there was
 -- too little room for a blob: 4 without memory, 5 without room, 1 for a refusal, and 0
-abbrev pub write_outcome_of : {A : Type 0} → Bool → Result A WriteFault → ℕ × ℕ × ℕ
+abbrev pub write_outcome_of : {A : Type 0} → Bool → Result A (Stop RefusedAt) → ℕ × ℕ × ℕ
 write_outcome_of full (Ok done) = unless_full full (0, 0, 0)
-write_outcome_of full (Err fault.Memory) = (4, 0, 0)
-write_outcome_of full (Err (fault.At place number)) = unless_full full (1, number, place)
+write_outcome_of full (Err stop.Memory) = (4, 0, 0)
+write_outcome_of full (Err (stop.Refused at)) = unless_full full (1, at.number, at.place)
 
 -- What the report of a call states: how it ended, the blobs in the output with their bytes, and
 -- the bytes of the blobs of all complete geometries.
-pub record ReportsAs {A : Type 0} (style : Style) (given later : List Tree) (answer : Result A WriteFault)
+pub record ReportsAs {A : Type 0} (style : Style) (given later : List Tree) (answer : Result A (Stop RefusedAt))
     (report : BufferReport) : Type 0 where
   pub status_is : report.status ≡ (write_outcome_of (are_more later) answer).0
   pub reason_is : report.reason ≡ (write_outcome_of (are_more later) answer).1
@@ -163,6 +162,6 @@ pub record WritesArrays (l : Allowance) (style : Style) (in_rows : List BufferRo
   pub later : List Tree
   pub written : IsStreamIn style old given new
   pub stops : StopsBefore (LacksBytes style old) given later
-  pub answer : Result (Unit {0}) WriteFault
+  pub answer : Result (Unit {0}) (Stop RefusedAt)
   pub ended : EndsWriting l (given ++ later) in_rows in_points answer
   pub reported : ReportsAs style given later answer report

@@ -3,16 +3,18 @@ ghost use Rattle.std.specs.Prelude.{◌≡◌, ◌≤◌, ◌++◌, ◌∷◌, [
 ghost use Rattle.std.specs.Prelude.{IfSome, true};
 ghost use Rattle.twkb_tree.specs.Rows.{Row as TableRow};
 ghost use Rattle.twkb_tree.specs.RowLists.{AreValidRowsOfOne};
-ghost use Rattle.twkb_arrays.specs.Gathering.{BeginsAlone, IfRow, IsLone};
+ghost use Rattle.twkb_flat.specs.Stops.{IfRefused};
+ghost use Rattle.twkb_flat.specs.declared.stop.Stop.TheVariants.{Refused};
+ghost use Rattle.twkb_buffer.specs.Numbers.{row_number_of};
+ghost use Rattle.twkb_arrays.specs.Gathering.{BeginsAlone, IsLone};
 ghost use Rattle.twkb_arrays.specs.Judging.{AcceptedAfter, RefusedAfter};
 
-use crate::judging::{
-    BAD_ID, BAD_KIND, BAD_PLACE, COORDINATE_RANGE, bare_row, has_right_id, kind_of, refused_number,
-};
-use crate::own_points::{OwnPoints, PointFault};
+use crate::judging::{bare_row, has_right_id, kind_of, refused_row};
+use crate::own_points::OwnPoints;
 use crate::row::BufferRow;
-use twkb_buffer::{BufferPoint, as_point};
-use twkb_flat::Flat;
+use twkb_buffer::{BufferPoint, as_point, row_number};
+use twkb_convert::RowReason;
+use twkb_flat::{Flat, Stop};
 use twkb_points::Pt;
 use twkb_tree::{GREATEST_PRECISION, LEAST_PRECISION, Limits};
 
@@ -22,12 +24,12 @@ const POINTS_MISSING: u32 = 71;
 // The number of the kind of a point.
 const POINT: u16 = 1;
 
-// Why a row is not appended.
-pub(crate) enum Stop {
-    // Memory was refused.
-    Memory,
-    // The row is refused for the reason with this number.
-    Row(u32),
+// A row, or the points of one, are refused for the reason of the same row of a table.
+#[inline(always)]
+pub(crate) fn refused(reason: RowReason) -> Stop<u32>
+    ensures { result ≡ Refused (row_number_of reason) }
+{
+    Stop::Refused(row_number(reason))
 }
 
 // Whether the row is that of a point which is a geometry itself: a root with one point, a
@@ -66,38 +68,37 @@ pub(crate) fn push_judged(
     form: &mut Flat,
     row: &BufferRow,
     ahead: &[BufferPoint],
-) -> Result<usize, Stop>
+) -> Result<usize, Stop<u32>>
     requires valid { AreValidRowsOfOne limits.now form.old }
     requires next { row.now.depth ≡ 0 → form.old ≡ [] }
     ensures count { IfOk result (λ count. (count ≤ length ahead.now) × (count ≡ row.now.points)) }
     ensures pushed { IfOk result (λ count. (r : TableRow) × (form.new ≡ form.old ++ r ∷ [])
         × AcceptedAfter limits.now form.old row.now ahead.now r × AreValidRowsOfOne limits.now form.new) }
-    ensures refused { IfErr result (IfRow (RefusedAfter limits.now form.old row.now ahead.now)) }
+    ensures refused { IfErr result (IfRefused (RefusedAfter limits.now form.old row.now ahead.now)) }
     ensures same { OnErr result (form.new ≡ form.old) }
 {
     // lets proofs know that the limits are allowed
     let _learnt = limits.nest();
     let Some(kind) = kind_of(row.kind) else {
-        return Err(Stop::Row(BAD_KIND));
+        return Err(refused(RowReason::BadKind));
     };
     if !has_right_id(row) {
-        return Err(Stop::Row(BAD_ID));
+        return Err(refused(RowReason::BadId));
     }
     if row.points > ahead.len() as u64 {
-        return Err(Stop::Row(POINTS_MISSING));
+        return Err(Stop::Refused(POINTS_MISSING));
     }
     let count = row.points as usize;
     let own = &ahead[..count];
     let bare = bare_row(row, kind);
     let Some(row_place) = form.place(row.depth) else {
-        return Err(Stop::Row(BAD_PLACE));
+        return Err(refused(RowReason::BadPlace));
     };
-    if let Some(number) = refused_number(limits, &row_place, &bare, own) {
-        return Err(Stop::Row(number));
+    if let Some(reason) = refused_row(limits, &row_place, &bare, own) {
+        return Err(refused(reason));
     }
     match form.push_from(bare, &OwnPoints { own }) {
         Ok(()) => Ok(count),
-        Err(PointFault::Memory) => Err(Stop::Memory),
-        Err(PointFault::Range) => Err(Stop::Row(COORDINATE_RANGE)),
+        Err(stop) => Err(stop),
     }
 }

@@ -7,49 +7,27 @@ ghost use Rattle.twkb_tree.specs.Open.{row_of, child_of};
 ghost use Rattle.twkb_tree.specs.Refusal.{are_in_range, has_none};
 ghost use Rattle.twkb_tree.specs.Refusal.{id_checks, point_checks, precision_checks};
 ghost use Rattle.twkb_flat.specs.Rows.{row_with};
+ghost use Rattle.twkb_table.specs.RowRules.{first_reason};
 ghost use Rattle.twkb_buffer.specs.declared.point.BufferPoint.{BufferPoint as InPoint};
 ghost use Rattle.twkb_arrays.specs.Rows.{kind_number, point_of, points_of};
 ghost use Rattle.twkb_arrays.specs.Judging.{HasRightId, row_from_c};
-ghost use Rattle.twkb_arrays.specs.RowTests.{IsFirstNumber, IsFirstNumberButRange};
-ghost use Rattle.twkb_arrays.specs.RowTests.{checks_there, place_checks};
+ghost use Rattle.twkb_arrays.specs.RowTests.{IsFirstButRange, checks_there};
 
 use crate::row::{BufferRow, NO_PRECISION};
 use twkb_buffer::BufferPoint;
+use twkb_convert::{PolyReason, RowReason};
 use twkb_flat::Row;
 use twkb_points::COORDINATE_BOUND;
-use twkb_tree::row_rules::{
-    count_fits, has_place, has_points, has_same_ids, id_allowed, is_geometry, nest_kept,
-};
-use twkb_tree::{GREATEST_PRECISION, Kind, LEAST_PRECISION, Limits, OpenRow, RowPlace};
+use twkb_table::{refused_id, refused_place, refused_precision};
+use twkb_tree::row_rules::{count_fits, has_points, is_geometry};
+use twkb_tree::{GREATEST_PRECISION, Kind, LEAST_PRECISION, Limits, RowPlace};
 
-// The numbers of the reasons to refuse a row, in the order of its tests.
-pub(crate) const BAD_KIND: u32 = 4;
+// The reason for which a row with a point out of range is refused. There is no text, and so no place
+// in one.
+pub(crate) const OUT_OF_RANGE: RowReason = RowReason::Polyline(0, PolyReason::Range);
 
-pub(crate) const BAD_ID: u32 = 8;
-
-pub(crate) const BAD_PLACE: u32 = 5;
-
-const TOO_DEEP: u32 = 6;
-
-const TOO_MANY_NODES: u32 = 7;
-
-const ID_NOT_ALLOWED: u32 = 9;
-
-const MIXED_IDS: u32 = 10;
-
-const BAD_PRECISION: u32 = 11;
-
-const PRECISION_MISSING: u32 = 12;
-
-const PRECISION_NOT_ALLOWED: u32 = 13;
-
-const POINTS_NOT_ALLOWED: u32 = 14;
-
-pub(crate) const COORDINATE_RANGE: u32 = 26;
-
-const TOO_MANY_POINTS: u32 = 27;
-
-const POINT_COUNT: u32 = 16;
+// The reason for which a row with more points than the limit leaves is refused.
+const TOO_MANY_POINTS: RowReason = RowReason::Polyline(0, PolyReason::TooMany);
 
 // The kind with this number.
 #[inline(always)]
@@ -102,23 +80,6 @@ pub(crate) fn bare_row(row: &BufferRow, kind: Kind) -> Row
     }
 }
 
-// The number of the reason why a row of this kind and depth may not come at this place.
-#[inline(always)]
-fn refused_place(limits: &Limits, row_place: &RowPlace, row: &Row) -> Option<u32>
-    ensures { IsFirstNumber (place_checks limits.now row_place.now (row_with row.now [])) result }
-{
-    if !has_place(row_place.parent, row.kind) {
-        return Some(BAD_PLACE);
-    }
-    if !nest_kept(limits, row_place.parent, row.depth) {
-        return Some(TOO_DEEP);
-    }
-    if limits.nodes() <= row_place.nodes {
-        return Some(TOO_MANY_NODES);
-    }
-    None
-}
-
 // Lets a proof know that an id is in range. Changes nothing.
 #[inline(always)]
 fn look_at_id(id: Option<i64>)
@@ -130,20 +91,14 @@ fn look_at_id(id: Option<i64>)
     }
 }
 
-// The number of the reason why the row's id is refused under this parent.
+// The reason why the row's id is refused at this place.
 #[inline(always)]
-fn refused_id(parent: Option<OpenRow>, row: &Row) -> Option<u32>
-    ensures { IsFirstNumber (id_checks (row_of parent) (child_of parent) (row_with row.now [])) result }
+fn refused_row_id(row_place: &RowPlace, row: &Row) -> Option<RowReason>
+    ensures { result ≡ first_reason (id_checks (row_of row_place.now.parent)
+        (child_of row_place.now.parent) (row_with row.now [])) }
 {
     look_at_id(row.id);
-    let has_id = row.id.is_some();
-    if !id_allowed(parent, row.kind, has_id) {
-        return Some(ID_NOT_ALLOWED);
-    }
-    if !has_same_ids(parent, has_id) {
-        return Some(MIXED_IDS);
-    }
-    None
+    refused_id(row_place, row.kind, row.id.is_some())
 }
 
 // Whether the precision is in range, if there is one.
@@ -157,26 +112,15 @@ fn is_right_precision(precision: Option<i8>) -> bool
     }
 }
 
-// The number of the reason why the row's precision is refused under this parent.
+// The reason why the row's precision is refused at this place.
 #[inline(always)]
-fn refused_precision(parent: Option<OpenRow>, row: &Row) -> Option<u32>
-    ensures { IsFirstNumber (precision_checks (row_of parent) (row_with row.now [])) result }
+fn refused_row_precision(row_place: &RowPlace, row: &Row) -> Option<RowReason>
+    ensures { result ≡ first_reason (precision_checks (row_of row_place.now.parent) (row_with row.now [])) }
 {
     if !is_right_precision(row.precision) {
-        return Some(BAD_PRECISION);
+        return Some(RowReason::BadPrecision);
     }
-    let has_precision = row.precision.is_some();
-    if is_geometry(parent) {
-        if has_precision {
-            None
-        } else {
-            Some(PRECISION_MISSING)
-        }
-    } else if has_precision {
-        Some(PRECISION_NOT_ALLOWED)
-    } else {
-        None
-    }
+    refused_precision(row_place, row.precision.is_some())
 }
 
 // A coordinate less the least one, if it is in range; else 2^63 or more.
@@ -225,20 +169,20 @@ fn has_room(limits: &Limits, row_place: &RowPlace, count: usize) -> bool
     row_place.points <= limits.points() && count <= (limits.points() - row_place.points) as usize
 }
 
-// The number of the reason why the row's points are refused at this place. The points themselves
-// are only looked at if their number is wrong.
+// The reason why the row's points are refused at this place. The points themselves are only looked
+// at if their number is wrong.
 #[inline(always)]
 fn refused_points(
     limits: &Limits,
     row_place: &RowPlace,
     row: &Row,
     own: &[BufferPoint],
-) -> Option<u32>
-    ensures { IsFirstNumberButRange (point_checks limits.now (row_of row_place.now.parent)
+) -> Option<RowReason>
+    ensures { IsFirstButRange (point_checks limits.now (row_of row_place.now.parent)
         row_place.now.points (row_with row.now (points_of own.now))) (points_of own.now) result }
 {
     if !may_have_points(row.kind, own) {
-        return Some(POINTS_NOT_ALLOWED);
+        return Some(RowReason::PolylineNotAllowed);
     }
     let room = has_room(limits, row_place, own.len());
     let fits = count_fits(row.kind, is_geometry(row_place.parent), own.len());
@@ -246,35 +190,35 @@ fn refused_points(
         return None;
     }
     if !are_in_range(own) {
-        return Some(COORDINATE_RANGE);
+        return Some(OUT_OF_RANGE);
     }
     if room {
-        Some(POINT_COUNT)
+        Some(RowReason::PointCount)
     } else {
         Some(TOO_MANY_POINTS)
     }
 }
 
-// The number of the reason why the row with these points may not come at this place. `None` if
-// there is none, unless a coordinate is out of range.
+// The reason why the row with these points may not come at this place. `None` if there is none,
+// unless a coordinate is out of range.
 #[inline(always)]
-pub(crate) fn refused_number(
+pub(crate) fn refused_row(
     limits: &Limits,
     row_place: &RowPlace,
     row: &Row,
     own: &[BufferPoint],
-) -> Option<u32>
-    ensures { IsFirstNumberButRange (checks_there limits.now row_place.now
+) -> Option<RowReason>
+    ensures { IsFirstButRange (checks_there limits.now row_place.now
         (row_with row.now (points_of own.now))) (points_of own.now) result }
 {
-    if let Some(number) = refused_place(limits, row_place, row) {
-        return Some(number);
+    if let Some(reason) = refused_place(limits, row_place, row.kind) {
+        return Some(reason);
     }
-    if let Some(number) = refused_id(row_place.parent, row) {
-        return Some(number);
+    if let Some(reason) = refused_row_id(row_place, row) {
+        return Some(reason);
     }
-    if let Some(number) = refused_precision(row_place.parent, row) {
-        return Some(number);
+    if let Some(reason) = refused_row_precision(row_place, row) {
+        return Some(reason);
     }
     refused_points(limits, row_place, row, own)
 }

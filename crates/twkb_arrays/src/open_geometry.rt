@@ -5,19 +5,19 @@ ghost use Rattle.twkb_tree.specs.Limits.{largest_limits};
 ghost use Rattle.twkb_tree.specs.Rows.{Row as TableRow, rows};
 ghost use Rattle.twkb_tree.specs.RowLists.{AreValidRowsOfOne};
 ghost use Rattle.twkb_tree.specs.Tree.{Tree, IsPrecision, IsTree};
+ghost use Rattle.twkb_flat.specs.Stops.{IfRefused};
 ghost use Rattle.twkb_grammar.specs.Written.{canonical_blob};
 ghost use Rattle.twkb_arrays.specs.Blobs.{blob_in};
-ghost use Rattle.twkb_arrays.specs.Gathering.{IfRow};
 ghost use Rattle.twkb_arrays.specs.Judging.{AcceptedAfter, RefusedAfter};
 ghost use Rattle.twkb_arrays.specs.OpenRows.{open_rows};
 
 use crate::blob_room::BlobRoom;
-use crate::gathering::{Stop, lone_point, push_judged};
+use crate::gathering::{lone_point, push_judged};
 use crate::row::BufferRow;
 use std::alloc::{AllocError, Global};
 use std::marker::Model;
 use twkb_buffer::BufferPoint;
-use twkb_flat::Flat;
+use twkb_flat::{Flat, Stop};
 use twkb_points::Pt;
 use twkb_tree::Limits;
 use twkb_writer::Style;
@@ -123,13 +123,13 @@ impl OpenGeometry {
         limits: &Limits,
         row: &BufferRow,
         ahead: &[BufferPoint],
-    ) -> Result<usize, Stop>
+    ) -> Result<usize, Stop<u32>>
         requires valid { AreValidRowsOfOne limits.now self.old }
         requires next { row.now.depth ≡ 0 → self.old ≡ [] }
         ensures count { IfOk result (λ count. (count ≤ length ahead.now) × (count ≡ row.now.points)) }
         ensures pushed { IfOk result (λ count. (r : TableRow) × (self.new ≡ self.old ++ r ∷ [])
             × AcceptedAfter limits.now self.old row.now ahead.now r × AreValidRowsOfOne limits.now self.new) }
-        ensures refused { IfErr result (IfRow (RefusedAfter limits.now self.old row.now ahead.now)) }
+        ensures refused { IfErr result (IfRefused (RefusedAfter limits.now self.old row.now ahead.now)) }
         ensures same { OnErr result (self.new ≡ self.old) }
     {
         if let Some(point) = lone_point(limits, row, ahead) {

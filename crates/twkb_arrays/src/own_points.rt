@@ -3,9 +3,10 @@ ghost use Rattle.std.specs.Prelude.{◌≡◌, true};
 ghost use Rattle.twkb_tree.specs.Refusal.{are_in_range};
 ghost use Rattle.twkb_arrays.specs.Rows.{points_of};
 
-use crate::judging::are_in_range;
+use crate::gathering::refused;
+use crate::judging::{OUT_OF_RANGE, are_in_range};
 use twkb_buffer::BufferPoint;
-use twkb_flat::PointSource;
+use twkb_flat::{PointSource, Stop};
 use twkb_points::{PointList, PointTail, Pt};
 
 // A row's own points.
@@ -19,14 +20,6 @@ pub(crate) struct OwnPoints<'a> {
 struct PointsInRange<'a> {
     own: &'a [BufferPoint],
     ghost in_range: { are_in_range (points_of own.now) ≡ true },
-}
-
-// Why a row's points are not appended.
-pub(crate) enum PointFault {
-    // Memory was refused.
-    Memory,
-    // A coordinate is out of range.
-    Range,
 }
 
 impl PointList for PointsInRange<'_> {
@@ -47,30 +40,31 @@ impl PointList for PointsInRange<'_> {
 impl PointSource for OwnPoints<'_> {
     ghost use Rattle.std.specs.Prelude.{◌≡◌};
     ghost use Rattle.twkb_points.specs.Point.{AreInRange};
+    ghost use Rattle.twkb_flat.specs.Stops.{IfRefused};
     ghost use Rattle.twkb_arrays.specs.Rows.{points_of};
-    ghost use Rattle.twkb_arrays.specs.OwnPoints.{IfRange};
+    ghost use Rattle.twkb_arrays.specs.OwnPoints.{AreOutOfRange};
 
-    type Fault = PointFault;
+    type Fault = Stop<u32>;
 
     ghost gives = { λ source ps. (ps ≡ points_of source.own.now) × AreInRange ps };
 
-    ghost refuses = { λ source. IfRange (¬ AreInRange (points_of source.own.now)) };
+    ghost refuses = { λ source. IfRefused (AreOutOfRange (points_of source.own.now)) };
 
     // The range is tested before all points are copied: in two short loops, each of which takes
     // several points at once.
     #[inline(always)]
-    fn append_to<L: PointTail>(&self, points: &mut L) -> Result<(), PointFault> {
+    fn append_to<L: PointTail>(&self, points: &mut L) -> Result<(), Stop<u32>> {
         if !are_in_range(self.own) {
-            return Err(PointFault::Range);
+            return Err(refused(OUT_OF_RANGE));
         }
         match points.put_each(&PointsInRange { own: self.own }) {
             Ok(()) => Ok(()),
-            Err(_) => Err(PointFault::Memory),
+            Err(_) => Err(Stop::Memory),
         }
     }
 
     #[inline(always)]
-    fn want_of_memory(&self) -> PointFault {
-        PointFault::Memory
+    fn want_of_memory(&self) -> Stop<u32> {
+        Stop::Memory
     }
 }

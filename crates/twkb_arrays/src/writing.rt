@@ -8,35 +8,34 @@ ghost use Rattle.twkb_buffer.specs.declared.point.BufferPoint.{BufferPoint as In
 ghost use Rattle.twkb_arrays.specs.declared.row.BufferRow.{BufferRow as InRow};
 ghost use Rattle.twkb_arrays.specs.Sending.{HasSent, IsSentWithin};
 ghost use Rattle.twkb_arrays.specs.Writing.{EndsWriting, IsWriting, ReportsAs, StopsAtRow, StopsWriting};
-ghost use Rattle.twkb_arrays.specs.Writing.{WritesArrays, fault_at, write_outcome_of};
+ghost use Rattle.twkb_arrays.specs.Writing.{WritesArrays, stopped_at, write_outcome_of};
 
 use crate::blob_room::BlobRoom;
-use crate::gathering::Stop;
 use crate::open_geometry::OpenGeometry;
 use crate::row::BufferRow;
 use crate::sending::{Sent, send_blob};
 use crate::status::unless_full;
 use std::alloc::{AllocError, Global};
 use twkb_buffer::{BufferPoint, BufferReport};
+use twkb_flat::Stop;
 use twkb_tree::Limits;
 use twkb_writer::Style;
 
 // The number of the reason for which points that no row names are refused.
 const POINTS_LEFT: u32 = 72;
 
-// Why rows and points were not all written.
-pub(crate) enum WriteFault {
-    // Memory was refused.
-    Memory,
-    // The row at this place is refused for the reason with this number, or the points after the
-    // last row are.
-    At { place: u64, number: u32 },
+// The row at this place is refused for the reason with this number, or the points after the last
+// row are.
+#[derive(Clone, Copy)]
+pub(crate) struct RefusedAt {
+    place: u64,
+    number: u32,
 }
 
 // The open geometry, whose rows are being read, and the blobs of the geometries before it.
 #[derive(Drop)]
 pub(crate) struct Writer {
-    form: OpenGeometry,
+    open_geometry: OpenGeometry,
     room: BlobRoom,
     sent: Sent,
 }
@@ -48,7 +47,7 @@ impl Writer {
             → IsWriting l style output [] [] output result }
     {
         Writer {
-            form: OpenGeometry::new(alloc),
+            open_geometry: OpenGeometry::new(alloc),
             room: BlobRoom::new(alloc),
             sent: Sent::nothing(),
         }
@@ -59,7 +58,7 @@ impl Writer {
     #[inline(always)]
     fn end_geometry(&mut self, style: Style, output: &mut [u8]) -> Result<(), AllocError>
         requires { IsSentWithin output.old self.old.sent }
-        ensures closed { OnOk result (self.new.form ≡ []) }
+        ensures closed { OnOk result (self.new.open_geometry ≡ []) }
         ensures ended { OnOk result ((l : Allowance) (start : List ℕ) (in_rows : List InRow)
             (in_points : List InPoint)
             → IsWriting l style start in_rows in_points output.old self.old
@@ -67,12 +66,12 @@ impl Writer {
         ensures same_output { OnErr result (output.new ≡ output.old) }
         ensures same { OnErr result (self.new ≡ record self.old { room = self.new.room }) }
     {
-        if self.form.is_empty() {
+        if self.open_geometry.is_empty() {
             return Ok(());
         }
-        self.form.make_blob(&mut self.room, style)?;
+        self.open_geometry.make_blob(&mut self.room, style)?;
         send_blob(self.room.blob(), output, &mut self.sent);
-        self.form.clear();
+        self.open_geometry.clear();
         Ok(())
     }
 
@@ -86,10 +85,10 @@ impl Writer {
         output: &mut [u8],
     ) -> Result<(), AllocError>
         requires { IsSentWithin output.old self.old.sent }
-        ensures closed { OnOk result (row.now.depth ≡ 0 → self.new.form ≡ []) }
-        ensures kept { OnOk result (self.new.form ≡ [] → (row.now.depth ≡ 0) ⊎ (self.old.form ≡ [])) }
-        ensures valid { OnOk result ((l : Allowance) → AreValidRowsOfOne l self.old.form
-            → AreValidRowsOfOne l self.new.form) }
+        ensures closed { OnOk result (row.now.depth ≡ 0 → self.new.open_geometry ≡ []) }
+        ensures kept { OnOk result (self.new.open_geometry ≡ [] → (row.now.depth ≡ 0) ⊎ (self.old.open_geometry ≡ [])) }
+        ensures valid { OnOk result ((l : Allowance) → AreValidRowsOfOne l self.old.open_geometry
+            → AreValidRowsOfOne l self.new.open_geometry) }
         ensures ended { OnOk result ((l : Allowance) (start : List ℕ) (in_rows : List InRow)
             (in_points : List InPoint)
             → IsWriting l style start in_rows in_points output.old self.old
@@ -112,11 +111,11 @@ impl Writer {
         row: &BufferRow,
         ahead: &[BufferPoint],
         output: &mut [u8],
-    ) -> Result<usize, Stop>
+    ) -> Result<usize, Stop<u32>>
         requires within { IsSentWithin output.old self.old.sent }
-        requires valid { AreValidRowsOfOne limits.now self.old.form }
+        requires valid { AreValidRowsOfOne limits.now self.old.open_geometry }
         ensures few { IfOk result (λ count. count ≤ length ahead.now) }
-        ensures some { IfOk result (λ count. self.new.form ≢ []) }
+        ensures some { IfOk result (λ count. self.new.open_geometry ≢ []) }
         ensures reads { IfOk result (λ count. (start : List ℕ) (in_rows : List InRow)
             (in_points : List InPoint)
             → IsWriting limits.now style start in_rows in_points output.old self.old
@@ -125,14 +124,14 @@ impl Writer {
         ensures stops { IfErr result (λ why. (start : List ℕ) (in_rows : List InRow)
             (in_points : List InPoint)
             → IsWriting limits.now style start in_rows in_points output.old self.old
-            → (self.old.form ≡ [] → in_rows ≡ [])
+            → (self.old.open_geometry ≡ [] → in_rows ≡ [])
             → StopsAtRow limits.now style start in_rows in_points row.now ahead.now output.new
             self.new why) }
     {
         let Ok(()) = self.end_before(style, row, output) else {
             return Err(Stop::Memory);
         };
-        self.form.push_row(limits, row, ahead)
+        self.open_geometry.push_row(limits, row, ahead)
     }
 
     // Reads the rows, each with its points; returns how many points they have.
@@ -143,12 +142,12 @@ impl Writer {
         rows: &[BufferRow],
         points: &[BufferPoint],
         output: &mut [u8],
-    ) -> Result<usize, WriteFault>
+    ) -> Result<usize, Stop<RefusedAt>>
         requires { IsWriting limits.now style output.old [] [] output.old self.old }
         ensures few { IfOk result (λ used. used ≤ length points.now) }
         ensures reads { IfOk result (λ used. IsWriting limits.now style output.old rows.now
             (take used points.now) output.new self.new) }
-        ensures last { IfOk result (λ used. self.new.form ≡ [] → rows.now ≡ []) }
+        ensures last { IfOk result (λ used. self.new.open_geometry ≡ [] → rows.now ≡ []) }
         ensures stops { IfErr result (λ why. StopsWriting limits.now style output.old rows.now
             points.now output.new self.new why) }
     {
@@ -170,7 +169,7 @@ impl Writer {
         rows: &[BufferRow],
         points: &[BufferPoint],
         output: &mut [u8],
-    ) -> Result<(), WriteFault>
+    ) -> Result<(), Stop<RefusedAt>>
         requires { IsWriting limits.now style output.old [] [] output.old self.old }
         ensures { (given later : List Tree)
             × HasSent style output.old given later output.new self.new.sent
@@ -178,47 +177,47 @@ impl Writer {
     {
         let used = match self.write_rows(limits, style, rows, points, output) {
             Ok(count) => count,
-            Err(fault) => return Err(fault),
+            Err(stop) => return Err(stop),
         };
         if used < points.len() {
-            return Err(WriteFault::At {
+            return Err(Stop::Refused(RefusedAt {
                 place: rows.len() as u64,
                 number: POINTS_LEFT,
-            });
+            }));
         }
         match self.end_geometry(style, output) {
             Ok(()) => Ok(()),
-            Err(_) => Err(WriteFault::Memory),
+            Err(_) => Err(Stop::Memory),
         }
     }
 }
 
 // Why arrays were not written past the row at a place.
-fn at_row(place: usize, stop: Stop) -> WriteFault
-    ensures { result ≡ fault_at place stop }
+fn at_row(place: usize, stop: Stop<u32>) -> Stop<RefusedAt>
+    ensures { result ≡ stopped_at place stop }
 {
     match stop {
-        Stop::Memory => WriteFault::Memory,
-        Stop::Row(number) => WriteFault::At {
+        Stop::Memory => Stop::Memory,
+        Stop::Refused(number) => Stop::Refused(RefusedAt {
             place: place as u64,
             number,
-        },
+        }),
     }
 }
 
 // The status, the reason and the place of a writing that ended like this.
-fn outcome(full: bool, answer: Result<(), WriteFault>) -> (u32, u32, u64)
+fn outcome(full: bool, answer: Result<(), Stop<RefusedAt>>) -> (u32, u32, u64)
     ensures { result ≡ write_outcome_of full answer }
 {
     match answer {
         Ok(()) => unless_full(full, (0, 0, 0)),
-        Err(WriteFault::Memory) => (4, 0, 0),
-        Err(WriteFault::At { place, number }) => unless_full(full, (1, number, place)),
+        Err(Stop::Memory) => (4, 0, 0),
+        Err(Stop::Refused(at)) => unless_full(full, (1, at.number, at.place)),
     }
 }
 
 // The report of a writing that ended like this.
-fn reported(sent: &Sent, answer: Result<(), WriteFault>) -> BufferReport
+fn reported(sent: &Sent, answer: Result<(), Stop<RefusedAt>>) -> BufferReport
     ensures { (style : InStyle) (start output : List ℕ) (given later : List Tree)
         → HasSent style start given later output sent.now
         → ReportsAs style given later answer result }

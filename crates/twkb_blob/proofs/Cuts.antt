@@ -13,8 +13,8 @@ use Rattle.twkb_io.specs.declared.input.InFault.TheVariants.{TooLong}
 use Rattle.twkb_engine.specs.State.{allowance_of}
 use Rattle.twkb_engine.specs.Standing.{StandsAt, IsEnd, IsFed, FedBy, HoldsSpans, TakesAll, count_of, notes_at}
 use Rattle.twkb_engine.specs.Standing.{offset_in}
-use Rattle.twkb_engine.specs.declared.stop.Stop.{Stop}
-use Rattle.twkb_engine.specs.declared.stop.Stop.TheVariants.{Memory, Refused}
+use Rattle.twkb_engine.specs.Stops.{Stop}
+use Rattle.twkb_flat.specs.declared.stop.Stop.TheVariants.{Memory, Refused}
 use Rattle.twkb_engine.specs.declared.engine.Engine.{Engine}
 use Rattle.twkb_blob.specs.Faults.{fault_of}
 use Rattle.twkb_blob.specs.Feeding.{Feeds}

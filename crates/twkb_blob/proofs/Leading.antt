@@ -20,11 +20,10 @@ use Rattle.twkb_io.specs.Taps.{count_failure, failures_of}
 use Rattle.twkb_io.specs.declared.input.Input.{Input}
 use Rattle.twkb_io.specs.Inputs.{given, input_failures, input_tap, is_spent, rest_of}
 use Rattle.twkb_engine.specs.State.{allowance_of}
-use Rattle.twkb_engine.specs.Stops.{reason_of}
+use Rattle.twkb_engine.specs.Stops.{Stop, reason_of}
 use Rattle.twkb_engine.specs.Standing.{StandsAt, IsFed, HoldsSpans, RefusedIn, notes_at, offset_in}
 use Rattle.twkb_engine.specs.declared.engine.Engine.{Engine}
-use Rattle.twkb_engine.specs.declared.stop.Stop.{Stop}
-use Rattle.twkb_engine.specs.declared.stop.Stop.TheVariants as stop
+use Rattle.twkb_flat.specs.declared.stop.Stop.TheVariants as stop
 use Rattle.twkb_engine.proofs.Feeds.{count_is}
 use Rattle.twkb_blob.specs.Feeding.{FedPiece, Feeds, Goes, IsCutAt, Reads, ReadsBlob, ReadsNoBlob, Turns}
 use Rattle.twkb_blob.specs.Readers.{AreCutOff, Left, failed_by_read}

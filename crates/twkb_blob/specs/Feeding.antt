@@ -17,7 +17,7 @@ use Rattle.twkb_engine.specs.State.{allowance_of}
 use Rattle.twkb_engine.specs.Stops.{reason_of}
 use Rattle.twkb_engine.specs.Standing.{StandsAt, FedBy, HoldsSpans, notes_at, count_of, offset_in}
 use Rattle.twkb_engine.specs.declared.engine.Engine.{Engine}
-use Rattle.twkb_engine.specs.declared.stop.Stop.TheVariants as stop
+use Rattle.twkb_flat.specs.declared.stop.Stop.TheVariants as stop
 use Rattle.twkb_blob.specs.Readers.{AreCutOff, Left, HasNone, Makes, PartAhead, failed_by_read}
 use Rattle.twkb_blob.specs.declared.fault.BlobFault.{BlobFault}
 use Rattle.twkb_blob.specs.declared.fault.BlobFault.TheVariants as fault

@@ -19,7 +19,7 @@ pub use filling::fill;
 pub use measuring::measure;
 pub use point::BufferPoint;
 pub use polylines::{as_coordinates, as_point, fill_points, fill_polyline};
-pub use reason_numbers::blob_number;
+pub use reason_numbers::{blob_number, row_number};
 pub use reason_texts::{put_reason, put_version};
 pub use report::BufferReport;
 pub use rounding::round_numbers;

@@ -38,9 +38,9 @@ pub(crate) fn point_text_number(reason: PolyReason) -> u32
     }
 }
 
-// The reasons for which a record is refused are numbered from 1 to 16, but for 15: a fault of the
-// record's polyline has that fault's own number, 21 to 27.
-fn row_number(reason: RowReason) -> u32
+/// The number of the reason for which a record is refused, 1 to 16 but for 15: a fault of the
+/// record's polyline has that fault's own number, 21 to 27. Takes no memory.
+pub fn row_number(reason: RowReason) -> u32
     ensures { result ≡ row_number_of reason }
 {
     match reason {

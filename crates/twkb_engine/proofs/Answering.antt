@@ -21,9 +21,8 @@ use Rattle.twkb_engine.specs.State.{IsNext, IsPlaced}
 use Rattle.twkb_engine.specs.Standing.{LeadsOn, TakesMany, StandsAt, IsReady, IsAnswer, FedBy, IsFed, HoldsSpans}
 use Rattle.twkb_engine.specs.Standing.{SaysNext, StopsIn, with_used, notes_at, held_in, offset_in}
 use Rattle.twkb_engine.specs.Taking.{Takes, Keeps, Stays}
-use Rattle.twkb_engine.specs.Stops.{reason_of}
-use Rattle.twkb_engine.specs.declared.stop.Stop.{Stop}
-use Rattle.twkb_engine.specs.declared.stop.Stop.TheVariants.{Memory, Refused}
+use Rattle.twkb_engine.specs.Stops.{Stop, reason_of}
+use Rattle.twkb_flat.specs.declared.stop.Stop.TheVariants.{Memory, Refused}
 use Rattle.twkb_engine.specs.declared.engine.Engine.{Engine}
 use Rattle.twkb_engine.proofs.Steps.{next_role, all_whole}
 use Rattle.twkb_engine.proofs.Feeds.{item_fed, count_is, alive_left, used_within}

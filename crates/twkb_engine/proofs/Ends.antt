@@ -19,8 +19,8 @@ use Rattle.twkb_engine.specs.Collections.{frames_of}
 use Rattle.twkb_engine.specs.State.{stage_at, ids_in}
 use Rattle.twkb_engine.specs.Fits.{IsInside}
 use Rattle.twkb_engine.specs.Taking.{Lands, own_row, past_end, past_value}
-use Rattle.twkb_engine.specs.declared.stop.Stop.{Stop}
-use Rattle.twkb_engine.specs.declared.stop.Stop.TheVariants.{Memory, Refused}
+use Rattle.twkb_engine.specs.Stops.{Stop}
+use Rattle.twkb_flat.specs.declared.stop.Stop.TheVariants.{Memory, Refused}
 use Rattle.twkb_engine.specs.Notes.{AreOpen, open_in, notes_past}
 use Rattle.twkb_engine.specs.declared.next_item.NextItem.{NextItem}
 use Rattle.twkb_engine.specs.declared.next_item.NextItem.TheVariants as next

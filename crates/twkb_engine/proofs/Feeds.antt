@@ -27,9 +27,8 @@ use Rattle.twkb_engine.specs.State.{IsNext, IsPlaced, sums_of, outline_in, allow
 use Rattle.twkb_engine.specs.Standing.{StandsAt, IsAlive, FedBy, IsFed, count_of, RefusedIn, with_used, notes_at}
 use Rattle.twkb_engine.specs.Standing.{held_in, offset_in}
 use Rattle.twkb_engine.specs.Taking.{Takes, BeginsAt}
-use Rattle.twkb_engine.specs.Stops.{reason_of}
-use Rattle.twkb_engine.specs.declared.stop.Stop.{Stop}
-use Rattle.twkb_engine.specs.declared.stop.Stop.TheVariants.{Memory, Refused}
+use Rattle.twkb_engine.specs.Stops.{Stop, reason_of}
+use Rattle.twkb_flat.specs.declared.stop.Stop.TheVariants.{Memory, Refused}
 use Rattle.twkb_engine.specs.declared.engine.Engine.{Engine}
 use Rattle.twkb_engine.proofs.Steps.{next_role, next_number, open_noted, noted_ends, outlined_blob, stands_begun}
 use Rattle.twkb_engine.proofs.Fields.{Fields, SameItem}

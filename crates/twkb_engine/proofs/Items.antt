@@ -21,8 +21,8 @@ use Rattle.twkb_engine.specs.State.{IsHere, IsPlaced, stage_at, outline_in, sums
 use Rattle.twkb_engine.specs.Standing.{IsAlive}
 use Rattle.twkb_engine.specs.Taking.{Takes, Lands, IsFree, SameBlob, BeginsAt, way_of, brings, sums_with}
 use Rattle.twkb_engine.specs.declared.next_item.NextItem.{NextItem}
-use Rattle.twkb_engine.specs.declared.stop.Stop.{Stop}
-use Rattle.twkb_engine.specs.declared.stop.Stop.TheVariants.{Memory, Refused}
+use Rattle.twkb_engine.specs.Stops.{Stop}
+use Rattle.twkb_flat.specs.declared.stop.Stop.TheVariants.{Memory, Refused}
 use Rattle.twkb_engine.specs.declared.engine.Engine.{Engine}
 use Rattle.twkb_engine.proofs.Admitted.{admitted, alive_placed}
 

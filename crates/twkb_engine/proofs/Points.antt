@@ -26,11 +26,10 @@ use Rattle.twkb_engine.specs.State.{IsHere, IsPlaced, sums_of, outline_in, stage
 use Rattle.twkb_engine.specs.Taking.{Lands, shut_at, last_lists, past_last, point_row}
 use Rattle.twkb_engine.specs.Notes.{NotesGo, notes_past, open_in}
 use Rattle.twkb_engine.specs.Standing.{StandsAt, IsAlive, FedBy, IsFed, with_used, notes_at, held_in}
-use Rattle.twkb_engine.specs.Stops.{reason_of}
+use Rattle.twkb_engine.specs.Stops.{Stop, reason_of}
 use Rattle.twkb_engine.specs.declared.engine.Engine.{Engine}
 use Rattle.twkb_engine.specs.declared.next_item.NextItem.TheVariants as next
-use Rattle.twkb_engine.specs.declared.stop.Stop.{Stop}
-use Rattle.twkb_engine.specs.declared.stop.Stop.TheVariants.{Memory, Refused}
+use Rattle.twkb_flat.specs.declared.stop.Stop.TheVariants.{Memory, Refused}
 use Rattle.twkb_engine.proofs.Ends.{many_open}
 use Rattle.twkb_engine.proofs.Feeds.{Reads, past_on, past_blob, past_judged, past_wrong}
 use Rattle.twkb_engine.proofs.Steps.{all_whole, open_noted}

@@ -44,7 +44,7 @@ use Rattle.twkb_engine.specs.Standing.{StandsAt, notes_at, held_in}
 use Rattle.twkb_engine.specs.declared.next_item.NextItem.{NextItem}
 use Rattle.twkb_engine.specs.declared.next_item.NextItem.TheVariants as next
 use Rattle.twkb_engine.specs.declared.engine.Engine.{Engine}
-use Rattle.twkb_engine.specs.declared.stop.Stop.{Stop}
+use Rattle.twkb_engine.specs.Stops.{Stop}
 use Rattle.twkb_engine.proofs.Fields.{Fields, SameItem}
 
 -- an item that begins and ends nothing notes nothing

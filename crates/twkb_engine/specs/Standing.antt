@@ -16,11 +16,10 @@ use Rattle.twkb_engine.specs.State.{IsPlaced, IsNext, allowance_of, sums_of, out
 use Rattle.twkb_engine.specs.Fits.{IsByte}
 use Rattle.twkb_body.specs.JudgedParts.{PartIn}
 use Rattle.twkb_engine.specs.Taking.{Stays}
-use Rattle.twkb_engine.specs.Stops.{reason_of}
+use Rattle.twkb_engine.specs.Stops.{Stop, reason_of}
 use Rattle.twkb_engine.specs.declared.next_item.NextItem.{NextItem}
 use Rattle.twkb_engine.specs.declared.engine.Engine.{Engine}
-use Rattle.twkb_engine.specs.declared.stop.Stop.{Stop}
-use Rattle.twkb_engine.specs.declared.stop.Stop.TheVariants.{Memory, Refused}
+use Rattle.twkb_flat.specs.declared.stop.Stop.TheVariants.{Memory, Refused}
 
 -- the bytes of the items that it took since the blob's start
 abbrev pub offset_in : Engine → ℕ

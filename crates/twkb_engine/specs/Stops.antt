@@ -1,8 +1,13 @@
 -- Why a reader stops.
 use Rattle.std.specs.Prelude.{Option, Some, None}
+use Rattle.twkb_flat.specs.declared.stop.Stop.{Stop as StopOf}
 use Rattle.twkb_grammar.specs.Fault as fault
 use Rattle.twkb_engine.specs.declared.blob_reason.BlobReason.{BlobReason}
 use Rattle.twkb_engine.specs.declared.blob_reason.BlobReason.TheVariants as reason
+
+-- why an item is not taken: want of memory, or a reason
+abbrev pub Stop : Type 0
+Stop = StopOf BlobReason
 
 -- the grammar's reason
 abbrev pub reason_of : BlobReason → fault.Reason

@@ -6,4 +6,5 @@ pub mod Links
 pub mod Members
 pub mod Components
 pub mod Rows
+pub mod Stops
 pub mod Taking

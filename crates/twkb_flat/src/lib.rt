@@ -15,6 +15,7 @@ mod point_source;
 mod reading;
 mod room;
 mod rows;
+mod stop;
 mod work;
 
 pub use filling::own_row;
@@ -22,4 +23,5 @@ pub use flat::Flat;
 pub use node::{Node, NodeId, PointId, Row};
 pub use point_source::PointSource;
 pub use rows::Rows;
+pub use stop::Stop;
 pub use work::Work;

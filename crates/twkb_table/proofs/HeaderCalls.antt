@@ -14,13 +14,14 @@ use Rattle.twkb_table.specs.Named.{Named}
 use Rattle.twkb_table.specs.RowFault.{AreComplete, all_but_last}
 use Rattle.twkb_table.specs.CsvRecords.{AreRecordsOf, BeginWith, standing}
 use Rattle.twkb_table.specs.Numbering.{MissesRecord, fault_of}
-use Rattle.twkb_table.specs.Standing.{IfRefused}
 use Rattle.twkb_table.specs.RowReading.{limits_of, waiting}
 use Rattle.twkb_table.specs.TableReading.{HaveGiven, StandsAfter, Extends, MeetsEnd, IsRefusedAt}
 use Rattle.twkb_table.specs.TableReading.{Explains, HasHeader, BeginsNext, ReadsRoot, HasRead}
 use Rattle.twkb_table.specs.TableReading.{is_ended, is_spent}
-use Rattle.twkb_table.specs.declared.judging.JudgeFault.{JudgeFault}
-use Rattle.twkb_table.specs.declared.judging.JudgeFault.TheVariants.{Memory, Refused}
+use Rattle.twkb_flat.specs.declared.stop.Stop.{Stop}
+use Rattle.twkb_flat.specs.declared.stop.Stop.TheVariants.{Memory, Refused}
+use Rattle.twkb_flat.specs.Stops.{IfRefused}
+use Rattle.twkb_table.specs.declared.reason.RowReason.{RowReason}
 use Rattle.twkb_table.specs.declared.reason.RowReason.TheVariants.{BadHeader}
 use Rattle.twkb_table.specs.declared.table_fault.TableFault.{TableFault}
 use Rattle.twkb_table.specs.declared.table_fault.TableFault.TheVariants as fault
@@ -45,7 +46,7 @@ no_record l told records given gs number f named complete count (inr (many, last
 
 -- a record gave no row
 pub explained : (l : Allowance) (told : Option (List ℕ)) (records : List Record) (given : List Tree)
-    (number : ℕ) (f : JudgeFault) → IfRefused (λ reason. IsRefusedAt l told records given number
+    (number : ℕ) (f : Stop RowReason) → IfRefused (λ reason. IsRefusedAt l told records given number
     reason) f → Explains l told records given (fault_of number f)
 explained l told records given number Memory h = tt
 explained l told records given number (Refused reason) h = h
@@ -57,7 +58,7 @@ pub missed_fresh : {R : Type 0} (remaining : R → Option (List ℕ)) (ended : B
 missed_fresh remaining ended reader number f (inl source) e = cc (source, e)
 missed_fresh remaining ended reader number f (inr many) e = (let is = many.0 in cc (is, e))
 
-pub fault_fresh : (number : ℕ) (f : JudgeFault) → fault_of number f ≡ fault.Spent → ⊥
+pub fault_fresh : (number : ℕ) (f : Stop RowReason) → fault_of number f ≡ fault.Spent → ⊥
 fault_fresh number Memory e = cc e
 fault_fresh number (Refused reason) e = cc e
 

@@ -24,7 +24,6 @@ pub mod RecordJudged
 pub mod RecordWritingLemmas
 pub mod RowReaderLemmas
 pub mod RowsJudged
-pub mod StandingLemmas
 pub mod HeaderCalls
 pub mod TableCalls
 pub mod TableReaderLemmas

@@ -1,5 +1,5 @@
 -- The lines of rows, appended one after the other.
-use Rattle.std.proofs.Common.{◌≡◌, ℕ, ◌+◌, ◌<◌, ◌≤◌, List, [], ◌∷◌, ◌++◌, length, length-append}
+use Rattle.std.proofs.Common.{◌≡◌, ℕ, ◌+◌, ◌^◌, ◌<◌, ◌≤◌, List, [], ◌∷◌, ◌++◌, length, length-append}
 use Rattle.std.proofs.Common.{take, drop, get_or, slice_get, Some, arith, refl, sym, ◌∙◌, ap, subst}
 use Rattle.std.proofs.Common.{append_assoc, append-nil}
 use Rattle.std.specs.Prelude.{map, Result, OnOk}
@@ -71,19 +71,31 @@ line_put result old depth kind id precision line head fields whole given new gat
     ap (λ t. old ++ t) all ∙ simp (append_assoc, append-nil, cons_append) in
     subst (λ u. OnOk result (new ≡ u)) text told
 
--- the lines of the rows before place i were appended to `old`, and at most these rows and their
--- points were read
+-- the counters after reads of this many nodes and points
+abbrev pub counted_on : Work → ℕ → ℕ → Work
+counted_on before nodes points = record before {
+  node_reads = saturated (before.node_reads + nodes);
+  point_reads = saturated (before.point_reads + points);
+}
+
+-- the lines of the rows before place i were appended to `old`, and these rows and their points were
+-- read once
 pub record RowsPut (rows : List Row) (i : ℕ) (old text : List ℕ) (before work : Work) : Type 0 where
   pub lines : text ≡ old ++ row_lines (take i rows)
-  pub nodes : work.node_reads ≤ before.node_reads + i
-  pub points : work.point_reads ≤ before.point_reads + length (row_points (take i rows))
+  pub counted : work ≡ counted_on before i (length (row_points (take i rows)))
 
-pub rows_put_none : (rows : List Row) (old : List ℕ) (before : Work) → RowsPut rows 0 old old before before
-rows_put_none rows old before = record {
+-- a counter that has not stopped stays, if nothing is read
+counts_none : (n : ℕ) → n < 2 ^ 64 → n ≡ saturated (n + 0)
+counts_none n fits = omega (arith, fits)
+
+pub rows_put_none : (rows : List Row) (old : List ℕ) (before : Work) → before.node_reads < 2 ^ 64
+    → before.point_reads < 2 ^ 64 → RowsPut rows 0 old old before before
+rows_put_none rows old before nodes points = record {
   lines = sym (append-nil old)
       ∙ ap (λ t. old ++ t) (sym no_lines);
-  nodes = omega arith;
-  points = omega arith;
+  counted = ap (λ (n : ℕ). record before { node_reads = n }) (counts_none before.node_reads nodes)
+      ∙ ap (λ (n : ℕ). record before { node_reads = saturated (before.node_reads + 0); point_reads = n })
+      (counts_none before.point_reads points);
 }
 
 take_next : (rows : List Row) (i : ℕ) (r : Row) → slice_get rows i ≡ Some r → take (i + 1) rows ≡ take i rows ++ r ∷ []
@@ -98,6 +110,21 @@ points_next rows i r here =
     (take i rows) (r ∷ []) in
     omega (arith, ap length both, length-append (row_points (take i rows)) (r.points ++ []), length-append r.points [])
 
+-- counts that follow each other add up
+counts_join : (before : Work) (nodes more points others : ℕ)
+    → counted_on (counted_on before nodes points) more others ≡ counted_on before (nodes + more) (points + others)
+counts_join before nodes more points others =
+    ap (λ (n : ℕ). record before {
+      node_reads = n;
+      point_reads = saturated (saturated (before.point_reads + points) + others);
+    })
+    (joined before.node_reads nodes more)
+    ∙ ap (λ (n : ℕ). record before { node_reads = saturated (before.node_reads + (nodes + more)); point_reads = n })
+    (joined before.point_reads points others)
+  where
+    joined : (n k m : ℕ) → saturated (saturated (n + k) + m) ≡ saturated (n + (k + m))
+    joined n k m = omega arith
+
 pub rows_put_more : (rows : List Row) (i : ℕ) (r : Row) (old text after : List ℕ)
     (before work next : Work) → RowsPut rows i old text before work → slice_get rows i ≡ Some r
     → next ≡ record work {
@@ -106,16 +133,15 @@ pub rows_put_more : (rows : List Row) (i : ℕ) (r : Row) (old text after : List
     }
     → after ≡ text ++ row_lines (r ∷ []) → RowsPut rows (i + 1) old after before next
 rows_put_more rows i r old text after before work next so_far here counted put =
-    let nodes : next.node_reads ≡ saturated (work.node_reads + 1) = ap (λ (w : Work). w.node_reads) counted in
-    let points : next.point_reads ≡ saturated (work.point_reads + length r.points) =
-    ap (λ (w : Work). w.point_reads) counted in
+    let more = points_next rows i r here in
     record {
       lines = put ∙ ap (λ t. t ++ row_lines (r ∷ [])) so_far.lines
           ∙ append_assoc old (row_lines (take i rows)) (row_lines (r ∷ []))
           ∙ ap (λ t. old ++ t) (sym (row_lines-append (take i rows) (r ∷ []))
           ∙ ap row_lines (sym (take_next rows i r here)));
-      nodes = omega (arith, so_far.nodes, nodes);
-      points = omega (arith, so_far.points, points, points_next rows i r here);
+      counted = counted ∙ ap (λ (w : Work). counted_on w 1 (length r.points)) so_far.counted
+          ∙ counts_join before i 1 (length (row_points (take i rows))) (length r.points)
+          ∙ ap (λ (n : ℕ). counted_on before (i + 1) n) (sym more);
     }
 
 -- the lines of all rows
@@ -123,6 +149,21 @@ pub all_lines : (rows : List Row) (i : ℕ) (old text : List ℕ) (before work :
     → RowsPut rows i old text before work → i ≡ length rows → text ≡ old ++ row_lines rows
 all_lines rows i old text before work so_far end = so_far.lines
     ∙ ap (λ (rs : List Row). old ++ row_lines rs) (take_all i rows (omega (arith, end)))
+
+-- all rows and points were read once
+pub all_counted : (rows : List Row) (i : ℕ) (old text : List ℕ) (before work : Work)
+    → RowsPut rows i old text before work → i ≡ length rows
+    → work ≡ counted_on before (length rows) (length (row_points rows))
+all_counted rows i old text before work so_far end =
+    so_far.counted ∙ ap (λ (n : ℕ). counted_on before n (length (row_points (take i rows)))) end
+    ∙ ap (λ (rs : List Row). counted_on before (length rows) (length (row_points rs)))
+    (take_all i rows (omega (arith, end)))
+
+-- at most as many rows were read as there are
+pub few_nodes : (rows : List Row) (i : ℕ) (old text : List ℕ) (before work : Work)
+    → RowsPut rows i old text before work → i ≤ length rows → work.node_reads ≤ before.node_reads + length rows
+few_nodes rows i old text before work so_far within =
+    omega (arith, within, ap (λ (w : Work). w.node_reads) so_far.counted)
 
 -- at most as many points were read as there are
 pub few_points : (rows : List Row) (i : ℕ) (old text : List ℕ) (before work : Work)
@@ -132,4 +173,9 @@ few_points rows i old text before work so_far =
     let both : row_points (take i rows) ++ row_points (drop i rows) ≡ row_points rows =
     sym (flat_map-append (λ (q : Row). q.points) (take i rows) (drop i rows))
     ∙ ap row_points (take-append-drop i rows) in
-    omega (arith, so_far.points, ap length both, length-append (row_points (take i rows)) (row_points (drop i rows)))
+    omega (
+      arith,
+      ap (λ (w : Work). w.point_reads) so_far.counted,
+      ap length both,
+      length-append (row_points (take i rows)) (row_points (drop i rows)),
+    )

@@ -1,6 +1,6 @@
 -- What a read of `csv` says about the place in a text.
 use Rattle.std.proofs.Common.{◌≡◌, ◌∙◌, ℕ, List, [], ◌∷◌, ◌++◌, Option, Some, None, Result, Ok, Err}
-use Rattle.std.proofs.Common.{Bool, true, false, sym, refl, inl}
+use Rattle.std.proofs.Common.{Bool, true, false, sym, refl, inl, ◌⊎◌}
 use Rattle.std.specs.Prelude.{option_map, is_err, IfErr, IfOk, IfSome}
 use Rattle.std.specs.Borrow.{MutBor}
 use Rattle.csv.specs.Reading.{Reached, ReadRecord, default_config, is_flexible, reader_state}
@@ -15,8 +15,8 @@ use Rattle.twkb_table.specs.CsvRecords.{Advances, AreRecordsOf, BeginWith, Finis
 use Rattle.twkb_table.specs.CsvRecords.{IsSetUp, standing, told_by}
 use Rattle.twkb_table.specs.SourceStanding.{Ends, Faults, GivesRecord}
 use Rattle.twkb_table.specs.declared.record_source.RecordSource.{RecordSource}
-use Rattle.twkb_table.specs.declared.record_source.SourceFault.{SourceFault}
-use Rattle.twkb_table.specs.declared.record_source.SourceFault.TheVariants as fault
+use Rattle.twkb_table.specs.declared.table_fault.TableFault.{TableFault}
+use Rattle.twkb_table.specs.declared.table_fault.TableFault.TheVariants as fault
 
 -- a new reader has given no record
 pub given_none : {R : Type 0} (remaining : R → Option (List ℕ)) (told : Option (List ℕ))
@@ -71,7 +71,7 @@ row_place_begins remaining (Some text) records true reader s = (s.0, s.1, s.2)
 
 -- what a read shows about the source
 pub source_gives : {R : Type 0} (remaining : R → Option (List ℕ)) (old new : RecordSource R)
-    (r : Result Bool SourceFault) → new.spent ≡ is_err r
+    (r : Result Bool TableFault) → new.spent ≡ is_err r
     → IfOk r (λ found. found ≡ true → Advances remaining old.ended old.reader (fields_of new.held)
     new.ended new.reader) → IfOk r (λ found. found ≡ true → GivesRecord remaining old new)
 source_gives remaining old new (Ok found) spent h = λ is told records s.
@@ -79,7 +79,7 @@ source_gives remaining old new (Ok found) spent h = λ is told records s.
 source_gives remaining old new (Err f) spent h = tt
 
 pub source_ends : {R : Type 0} (remaining : R → Option (List ℕ)) (old new : RecordSource R)
-    (r : Result Bool SourceFault) → new.spent ≡ is_err r
+    (r : Result Bool TableFault) → new.spent ≡ is_err r
     → IfOk r (λ found. found ≡ false → Finishes remaining old.ended old.reader new.ended new.reader)
     → IfOk r (λ found. found ≡ false → Ends remaining old new)
 source_ends remaining old new (Ok found) spent h = λ is told records s.
@@ -87,12 +87,18 @@ source_ends remaining old new (Ok found) spent h = λ is told records s.
 source_ends remaining old new (Err f) spent h = tt
 
 pub source_faults : {R : Type 0} (remaining : R → Option (List ℕ)) (old : RecordSource R)
-    (r : Result Bool SourceFault) → IfErr r (λ f. f ≡ fault.Source)
+    (r : Result Bool TableFault) → IfErr r (λ f. f ≡ fault.Source)
     → IfErr r (λ f. Faults remaining old f)
 source_faults remaining old (Ok found) h = tt
 source_faults remaining old (Err f) h = λ told records s.
     (h, row_place_begins remaining told records old.ended old.reader s.0)
 
-pub never_spent : (r : Result Bool SourceFault) → IfErr r (λ f. f ≡ fault.Source) → r ≡ Err fault.Spent → ⊥
+pub never_spent : (r : Result Bool TableFault) → IfErr r (λ f. f ≡ fault.Source) → r ≡ Err fault.Spent → ⊥
 never_spent (Ok found) h e = cc e
 never_spent (Err f) h e = cc (h, e)
+
+-- a read that fails is no call after an error
+pub source_only : (r : Result Bool TableFault) → IfErr r (λ f. f ≡ fault.Source)
+    → IfErr r (λ f. (f ≡ fault.Source) ⊎ (f ≡ fault.Spent))
+source_only (Ok found) h = tt
+source_only (Err f) h = inl h

@@ -14,11 +14,11 @@ use Rattle.twkb_tree.specs.Kind.{word_of}
 use Rattle.twkb_table.specs.Record.{Record}
 use Rattle.twkb_table.specs.Judged.{Verdict, Refused, JudgedByPlace, Judged}
 use Rattle.twkb_tree.specs.RowPlace.{row_place_at}
-use Rattle.twkb_table.specs.Standing.{place_seen, StandsAfter, IfRefused}
+use Rattle.twkb_table.specs.Standing.{place_seen, StandsAfter}
 use Rattle.twkb_tree.specs.declared.row_place.RowPlace.{RowPlace}
-use Rattle.twkb_table.specs.declared.judging.JudgeFault.{JudgeFault}
-use Rattle.twkb_table.specs.declared.judging.JudgeFault.TheVariants.{Memory}
-use Rattle.twkb_table.specs.declared.judging.JudgeFault.TheVariants as Fault
+use Rattle.twkb_flat.specs.declared.stop.Stop.{Stop}
+use Rattle.twkb_flat.specs.declared.stop.Stop.TheVariants as stop
+use Rattle.twkb_flat.specs.Stops.{IfRefused}
 use Rattle.twkb_table.specs.declared.reason.RowReason.{RowReason}
 use Rattle.twkb_table.specs.declared.reason.RowReason.TheVariants.{BadKind, BadPlace}
 use Rattle.twkb_table.proofs.AlikePlaces.{judged_there, steps_missing}
@@ -111,10 +111,10 @@ pub if_err : {T E : Type 0} (P Q : E → Type 0) (r : Result T E) → ((x : E) �
 if_err P Q (Ok x) f h = tt
 if_err P Q (Err e) f h = f e h
 
-pub if_refused : (P Q : RowReason → Type 0) (fault : JudgeFault)
-    → ((reason : RowReason) → P reason → Q reason) → IfRefused P fault → IfRefused Q fault
-if_refused P Q Memory f h = tt
-if_refused P Q (Fault.Refused reason) f h = f reason h
+pub if_refused : (P Q : RowReason → Type 0) (why : Stop RowReason)
+    → ((reason : RowReason) → P reason → Q reason) → IfRefused P why → IfRefused Q why
+if_refused P Q stop.Memory f h = tt
+if_refused P Q (stop.Refused reason) f h = f reason h
 
 -- a field is found if the record has one
 pub some_field : (fs : Record) (i : ℕ) (o : Option (Bor (List ℕ))) → i < length fs

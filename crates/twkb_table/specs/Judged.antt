@@ -78,22 +78,30 @@ JudgedByPoints l here k id precision text v =
     When v (points_fit k (is_geometry here.parent) ps ≡ false) PointCount
     (v ≡ Accepted (record { depth = here.depth; kind = k; id = id; precision = precision; points = ps }))))
 
--- the reasons BadPrecision, PrecisionMissing and PrecisionNotAllowed, followed by those of the
--- points
+-- the reasons PrecisionMissing and PrecisionNotAllowed, followed by those of the points
+abbrev pub JudgedHavingPrecision : Allowance → Place → Kind → Option ℤ → Option ℤ → List ℕ → Verdict → Type 0
+JudgedHavingPrecision l here k id precision text v =
+    When v ((is_geometry here.parent ≡ true) × (is_some precision ≡ false)) PrecisionMissing
+    (When v ((is_geometry here.parent ≡ false) × (is_some precision ≡ true)) PrecisionNotAllowed
+    (JudgedByPoints l here k id precision text v))
+
+-- the reason BadPrecision, followed by the others of the precision
 abbrev pub JudgedByPrecision : Allowance → Place → Kind → Option ℤ → List ℕ → List ℕ → Verdict → Type 0
 JudgedByPrecision l here k id precision_field text v =
     Unless v (IsOptionalPrecision precision_field) BadPrecision (λ precision.
-    When v ((is_geometry here.parent ≡ true) × (is_some precision ≡ false)) PrecisionMissing
-    (When v ((is_geometry here.parent ≡ false) × (is_some precision ≡ true)) PrecisionNotAllowed
-    (JudgedByPoints l here k id precision text v)))
+    JudgedHavingPrecision l here k id precision text v)
 
--- the reasons BadId, IdNotAllowed and MixedIds, followed by those of the precision
-abbrev pub JudgedById : Allowance → Place → Kind → List ℕ → List ℕ → List ℕ → Verdict → Type 0
-JudgedById l here k id_field precision_field text v =
-    Unless v (IsOptionalId id_field) BadId (λ id.
+-- the reasons IdNotAllowed and MixedIds, followed by those of the precision
+abbrev pub JudgedHavingId : Allowance → Place → Kind → Option ℤ → List ℕ → List ℕ → Verdict → Type 0
+JudgedHavingId l here k id precision_field text v =
     When v (id_allowed here.parent k id ≡ false) IdNotAllowed
     (When v (has_same_ids here.first id ≡ false) MixedIds
-    (JudgedByPrecision l here k id precision_field text v)))
+    (JudgedByPrecision l here k id precision_field text v))
+
+-- the reason BadId, followed by the others of the id
+abbrev pub JudgedById : Allowance → Place → Kind → List ℕ → List ℕ → List ℕ → Verdict → Type 0
+JudgedById l here k id_field precision_field text v =
+    Unless v (IsOptionalId id_field) BadId (λ id. JudgedHavingId l here k id precision_field text v)
 
 -- the reasons BadPlace, TooDeep and TooManyNodes, followed by those of the id
 abbrev pub JudgedByPlace : Allowance → Place → Kind → List ℕ → List ℕ → List ℕ → Verdict → Type 0

@@ -15,6 +15,7 @@ pub mod Record
 pub mod RecordWriting
 pub mod RowFault
 pub mod RowReading
+pub mod RowRules
 pub mod Samples
 pub mod SourceStanding
 pub mod Standing

@@ -5,8 +5,9 @@ use Rattle.csv.specs.declared.reader.Reader.{Reader}
 use Rattle.twkb_io.specs.declared.tap.Tap.{Tap}
 use Rattle.twkb_table.specs.Record.{Record}
 use Rattle.twkb_table.specs.CsvRecords.{BeginWith, standing}
-use Rattle.twkb_table.specs.declared.judging.JudgeFault.{JudgeFault}
-use Rattle.twkb_table.specs.declared.judging.JudgeFault.TheVariants.{Memory, Refused}
+use Rattle.twkb_flat.specs.declared.stop.Stop.{Stop}
+use Rattle.twkb_flat.specs.declared.stop.Stop.TheVariants.{Memory, Refused}
+use Rattle.twkb_table.specs.declared.reason.RowReason.{RowReason}
 use Rattle.twkb_table.specs.declared.table_fault.TableFault.{TableFault}
 use Rattle.twkb_table.specs.declared.table_fault.TableFault.TheVariants as fault
 
@@ -24,6 +25,6 @@ MissesRecord remaining ended reader number f =
 
 -- the fault of the record with this number: memory was refused, or the record was refused for a
 -- reason
-abbrev pub fault_of : ℕ → JudgeFault → TableFault
+abbrev pub fault_of : ℕ → Stop RowReason → TableFault
 fault_of number Memory = fault.Memory
 fault_of number (Refused reason) = fault.At number reason

@@ -4,9 +4,9 @@ use Rattle.csv.specs.Records as Csv
 use Rattle.csv.specs.Records.{fields_of}
 use Rattle.twkb_table.specs.Record.{Record}
 use Rattle.twkb_table.specs.CsvRecords.{AreRecordsOf, BeginWith, standing}
-use Rattle.twkb_table.specs.declared.record_source.SourceFault.{SourceFault}
-use Rattle.twkb_table.specs.declared.record_source.SourceFault.TheVariants as fault
 use Rattle.twkb_table.specs.declared.record_source.RecordSource.{RecordSource}
+use Rattle.twkb_table.specs.declared.table_fault.TableFault.{TableFault}
+use Rattle.twkb_table.specs.declared.table_fault.TableFault.TheVariants as fault
 
 -- the source gave these records, and no call was refused
 abbrev pub StandsAfter : {R : Type 0} → (R → Option (List ℕ)) → Option (List ℕ) → List Record → RecordSource R → Type 0
@@ -42,7 +42,7 @@ Ends remaining old new =
 
 -- if the source is at some place in a text, the fault is its reader's, and the text begins with the
 -- records given
-abbrev pub Faults : {R : Type 0} → (R → Option (List ℕ)) → RecordSource R → SourceFault → Type 0
+abbrev pub Faults : {R : Type 0} → (R → Option (List ℕ)) → RecordSource R → TableFault → Type 0
 Faults remaining old f =
     (told : Option (List ℕ)) (records : List Record) → StandsAfter remaining told records old
     → (f ≡ fault.Source) × IfSome told (λ text. BeginWith text records)

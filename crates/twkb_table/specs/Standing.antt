@@ -1,13 +1,10 @@
 -- The place of the next row, by the open rows.
-use Rattle.std.specs.Prelude.{◌≡◌, ℕ, true, List, length, ⊤}
+use Rattle.std.specs.Prelude.{◌≡◌, ℕ, true, List, length}
 use Rattle.twkb_tree.specs.declared.open_rows.OpenRow.{OpenRow}
 use Rattle.twkb_tree.specs.Rows.{Row}
 use Rattle.twkb_tree.specs.Accepted.{since_root, point_count}
 use Rattle.twkb_tree.specs.Open.{AreOpen, row_of, child_of}
 use Rattle.twkb_table.specs.Judged.{Place}
-use Rattle.twkb_table.specs.declared.judging.JudgeFault.{JudgeFault}
-use Rattle.twkb_table.specs.declared.judging.JudgeFault.TheVariants.{Memory, Refused}
-use Rattle.twkb_table.specs.declared.reason.RowReason.{RowReason}
 use Rattle.twkb_tree.specs.declared.row_place.RowPlace.{RowPlace}
 
 -- the place of a row, with a parent of the open row's kind and a first child with an id or without
@@ -26,8 +23,3 @@ pub record StandsAfter (before : List Row) (rows : List OpenRow) (nodes points :
   pub open_rows : AreOpen before rows
   pub node_count : nodes ≡ length (since_root before)
   pub points_held : points ≡ point_count (since_root before)
-
--- a refusal is for a reason that holds; a lack of memory says nothing about the record
-abbrev pub IfRefused : (RowReason → Type 0) → JudgeFault → Type 0
-IfRefused Holds Memory = ⊤
-IfRefused Holds (Refused reason) = Holds reason

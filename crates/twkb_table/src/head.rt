@@ -1,7 +1,6 @@
 //! A row that was read except for its points.
-use crate::judging::JudgeFault;
 use crate::reason::RowReason;
-use twkb_flat::{PointSource, Row};
+use twkb_flat::{PointSource, Row, Stop};
 use twkb_points::{PointTail, Pt};
 use twkb_polyline::{PolyFault, decode_into, decode_one};
 use twkb_tree::row_rules::{count_fits, has_points, is_geometry};
@@ -56,34 +55,34 @@ impl RowHead<'_> {
 
 impl PointSource for RowHead<'_> {
     ghost use Rattle.twkb_flat.specs.Rows.{row_with};
+    ghost use Rattle.twkb_flat.specs.Stops.{IfRefused};
     ghost use Rattle.twkb_table.specs.Judged.{Accepted, Refused};
-    ghost use Rattle.twkb_table.specs.Standing.{IfRefused};
     ghost use Rattle.twkb_table.specs.Head.{head_row, JudgedAs};
 
-    type Fault = JudgeFault;
+    type Fault = Stop<RowReason>;
 
     ghost gives = { λ head own. JudgedAs head (Accepted (row_with (head_row head) own)) };
 
     ghost refuses = { λ head. IfRefused (λ reason. JudgedAs head (Refused reason)) };
 
     #[inline(always)]
-    fn append_to<L: PointTail>(&self, points: &mut L) -> Result<(), JudgeFault> {
+    fn append_to<L: PointTail>(&self, points: &mut L) -> Result<(), Stop<RowReason>> {
         if let Some(point) = self.one_point() {
             return match points.put(point) {
                 Ok(()) => Ok(()),
-                Err(_) => Err(JudgeFault::Memory),
+                Err(_) => Err(Stop::Memory),
             };
         }
         if !self.text.is_empty() && !has_points(self.kind) {
-            return Err(JudgeFault::Refused(RowReason::PolylineNotAllowed));
+            return Err(Stop::Refused(RowReason::PolylineNotAllowed));
         }
         let left = self.limits.points().saturating_sub(self.row_place.points);
         let held = points.count();
         match decode_into(self.text, left, points) {
             Ok(()) => {}
-            Err(PolyFault::Memory) => return Err(JudgeFault::Memory),
+            Err(PolyFault::Memory) => return Err(Stop::Memory),
             Err(PolyFault::At { offset, reason }) => {
-                return Err(JudgeFault::Refused(RowReason::Polyline(offset, reason)));
+                return Err(Stop::Refused(RowReason::Polyline(offset, reason)));
             }
         }
         let whole = is_geometry(self.row_place.parent);
@@ -91,12 +90,12 @@ impl PointSource for RowHead<'_> {
             Ok(())
         } else {
             points.cut(held);
-            Err(JudgeFault::Refused(RowReason::PointCount))
+            Err(Stop::Refused(RowReason::PointCount))
         }
     }
 
     #[inline(always)]
-    fn want_of_memory(&self) -> JudgeFault {
-        JudgeFault::Memory
+    fn want_of_memory(&self) -> Stop<RowReason> {
+        Stop::Memory
     }
 }

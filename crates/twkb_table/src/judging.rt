@@ -3,33 +3,22 @@ ghost use Rattle.std.specs.Prelude.{List, IfOk, IfErr};
 ghost use Rattle.csv.specs.Records.{fields_of};
 ghost use Rattle.twkb_tree.specs.Rows.{Row as TableRow};
 ghost use Rattle.twkb_table.specs.Judged.{Verdict, Judged, Accepted, Refused, JudgedByPlace};
-ghost use Rattle.twkb_table.specs.Standing.{place_seen, StandsAfter, IfRefused};
+ghost use Rattle.twkb_table.specs.Standing.{place_seen, StandsAfter};
 ghost use Rattle.twkb_table.specs.Head.{JudgedAs};
 ghost use Rattle.twkb_table.specs.FiveFields.{record_seen};
 ghost use Rattle.twkb_flat.specs.Rows.{row_with};
+ghost use Rattle.twkb_flat.specs.Stops.{IfRefused};
 
 use crate::decimal::parse_depth;
 use crate::fields::{FIELD_COUNT, Fields, five_fields};
 use crate::head::RowHead;
 use crate::kind_word::parse_kind;
-use crate::places::{check_place, read_id, read_precision};
+use crate::places::{read_id, read_precision, refused_place};
 use crate::reason::RowReason;
 use csv::ByteRecord;
-use thiserror::Error;
-use twkb_flat::{PointSource, Row};
+use twkb_flat::{PointSource, Row, Stop};
 use twkb_points::Pt;
 use twkb_tree::{Kind, Limits, OpenRow, RowPlace};
-
-/// Why a record gave no row.
-#[derive(Clone, Copy, Debug, PartialEq, Eq, Error)]
-pub enum JudgeFault {
-    /// No memory for the points of the record.
-    #[error("out of memory")]
-    Memory,
-    /// The record is refused.
-    #[error("{0}")]
-    Refused(RowReason),
-}
 
 // Reads the row of these fields except for its points, given its kind and place, or finds the
 // reason to refuse it.
@@ -48,7 +37,7 @@ fn judge_at<'a>(
     ensures refused { IfErr result (λ reason. JudgedByPlace limits.now (place_seen row_place.now)
         kind id_field.now precision_field.now text.now (Refused reason)) }
 {
-    if let Err(reason) = check_place(limits, row_place, kind) {
+    if let Some(reason) = refused_place(limits, row_place, kind) {
         return Err(reason);
     }
     let id = match read_id(row_place, kind, id_field) {
@@ -143,7 +132,7 @@ pub fn judge(
     held: u32,
     here: &ByteRecord,
     points: &mut Vec<Pt>,
-) -> Result<Row, JudgeFault>
+) -> Result<Row, Stop<RowReason>>
     ensures read { IfOk result (λ row. (before : List TableRow)
         → StandsAfter before rows.now nodes held → Judged limits.now before (fields_of here.now)
         (Accepted (row_with row points.new.items))) }
@@ -153,7 +142,7 @@ pub fn judge(
 {
     let head = match judge_head(limits, rows, nodes, held, here) {
         Ok(head) => head,
-        Err(reason) => return Err(JudgeFault::Refused(reason)),
+        Err(reason) => return Err(Stop::Refused(reason)),
     };
     points.clear();
     if let Err(fault) = head.append_to(points) {

@@ -28,10 +28,11 @@ pub use decimal::{
 };
 pub use flat_text::put_flat_rows;
 pub use header::header_text;
-pub use judging::{JudgeFault, judge};
+pub use judging::judge;
 pub use kind_word::{parse_kind, push_kind};
+pub use places::{refused_id, refused_place, refused_precision};
 pub use printing::{put_rows, rows_text};
 pub use reason::RowReason;
-pub use record_source::{RecordSource, SourceFault};
+pub use record_source::RecordSource;
 pub use table_fault::TableFault;
 pub use table_reader::TableReader;

@@ -4,11 +4,12 @@ ghost use Rattle.csv.specs.Records.{fields_of};
 ghost use Rattle.twkb_table.specs.CsvRecords.{Advances, Finishes};
 ghost use Rattle.twkb_table.specs.Numbering.{MissesRecord, fault_of};
 
-use crate::judging::JudgeFault;
+use crate::reason::RowReason;
 use crate::record_source::read_next;
 use crate::table_fault::TableFault;
 use csv::{ByteRecord, Reader};
 use std::io::Read;
+use twkb_flat::Stop;
 use twkb_io::Tap;
 
 // The greatest number of a record in a table.
@@ -48,12 +49,12 @@ pub(crate) fn next_record<R: Read>(
 }
 
 // The fault of a record with this number that gave no row.
-pub(crate) fn fault_at(number: u32, fault: JudgeFault) -> TableFault
-    ensures value { result ≡ fault_of number fault }
+pub(crate) fn fault_at(number: u32, stop: Stop<RowReason>) -> TableFault
+    ensures value { result ≡ fault_of number stop }
 {
-    match fault {
-        JudgeFault::Memory => TableFault::Memory,
-        JudgeFault::Refused(reason) => TableFault::At {
+    match stop {
+        Stop::Memory => TableFault::Memory,
+        Stop::Refused(reason) => TableFault::At {
             number: u64::from(number),
             reason,
         },

@@ -1,6 +1,12 @@
 //! The kind, the id and the precision that a row's place allows.
-ghost use Rattle.std.specs.Prelude.{OnOk, IfOk, IfErr};
+ghost use Rattle.std.specs.Prelude.{◌≡◌, ℤ, Option, true, is_some, IfOk, IfErr, MatchOption};
+ghost use Rattle.twkb_tree.specs.Admits.{id_in_range, precision_in_range};
+ghost use Rattle.twkb_tree.specs.Open.{row_of, child_of};
+ghost use Rattle.twkb_tree.specs.Refusal.{id_checks, precision_checks};
+ghost use Rattle.twkb_tree.specs.Rows.{Row as TableRow};
 ghost use Rattle.twkb_table.specs.Places.{HasPlace, LacksPlace, HasId, LacksId, HasPrecision, LacksPrecision};
+ghost use Rattle.twkb_table.specs.Places.{AllowsId, RefusesId, AllowsPrecision, RefusesPrecision};
+ghost use Rattle.twkb_table.specs.RowRules.{first_reason, place_checks};
 ghost use Rattle.twkb_table.specs.Standing.{place_seen};
 
 use crate::decimal::{parse_optional_id, parse_optional_precision};
@@ -8,26 +14,66 @@ use crate::reason::RowReason;
 use twkb_tree::row_rules::{has_place, has_same_ids, id_allowed, is_geometry, nest_kept};
 use twkb_tree::{Kind, Limits, RowPlace};
 
-// Checks that a row of this kind may come at this place, or returns the reason why not.
+/// The reason why a row of this kind may not come at this place, if there is one. Takes no memory.
 #[inline(always)]
-pub(crate) fn check_place(
-    limits: &Limits,
-    row_place: &RowPlace,
-    kind: Kind,
-) -> Result<(), RowReason>
-    ensures passed { OnOk result (HasPlace limits.now (place_seen row_place.now) kind) }
-    ensures refused { IfErr result (λ reason. LacksPlace limits.now (place_seen row_place.now) kind reason) }
+pub fn refused_place(limits: &Limits, row_place: &RowPlace, kind: Kind) -> Option<RowReason>
+    ensures first { result ≡ first_reason (place_checks limits.now row_place.now kind) }
+    ensures judged { MatchOption result (HasPlace limits.now (place_seen row_place.now) kind)
+        (LacksPlace limits.now (place_seen row_place.now) kind) }
 {
     if !has_place(row_place.parent, kind) {
-        return Err(RowReason::BadPlace);
+        return Some(RowReason::BadPlace);
     }
     if !nest_kept(limits, row_place.parent, row_place.depth) {
-        return Err(RowReason::TooDeep);
+        return Some(RowReason::TooDeep);
     }
     if limits.nodes() <= row_place.nodes {
-        return Err(RowReason::TooManyNodes);
+        return Some(RowReason::TooManyNodes);
     }
-    Ok(())
+    None
+}
+
+/// The reason why a row of this kind at this place may not have an id, or none, if there is one.
+/// Takes no memory.
+#[inline(always)]
+pub fn refused_id(row_place: &RowPlace, kind: Kind, has_id: bool) -> Option<RowReason>
+    ensures first { (r : TableRow) → r.kind ≡ kind → is_some r.id ≡ has_id → id_in_range r.id ≡ true
+        → result ≡ first_reason (id_checks (row_of row_place.now.parent) (child_of row_place.now.parent) r) }
+    ensures judged { (id : Option ℤ) → is_some id ≡ has_id
+        → MatchOption result (AllowsId (place_seen row_place.now) kind id)
+        (RefusesId (place_seen row_place.now) kind id) }
+{
+    if !id_allowed(row_place.parent, kind, has_id) {
+        return Some(RowReason::IdNotAllowed);
+    }
+    if !has_same_ids(row_place.parent, has_id) {
+        return Some(RowReason::MixedIds);
+    }
+    None
+}
+
+/// The reason why a row at this place may not have a precision, or none, if there is one. Takes no
+/// memory.
+#[inline(always)]
+pub fn refused_precision(row_place: &RowPlace, has_precision: bool) -> Option<RowReason>
+    ensures first { (r : TableRow) → is_some r.precision ≡ has_precision
+        → precision_in_range r.precision ≡ true
+        → result ≡ first_reason (precision_checks (row_of row_place.now.parent) r) }
+    ensures judged { (precision : Option ℤ) → is_some precision ≡ has_precision
+        → MatchOption result (AllowsPrecision (place_seen row_place.now) precision)
+        (RefusesPrecision (place_seen row_place.now) precision) }
+{
+    if is_geometry(row_place.parent) {
+        if has_precision {
+            None
+        } else {
+            Some(RowReason::PrecisionMissing)
+        }
+    } else if has_precision {
+        Some(RowReason::PrecisionNotAllowed)
+    } else {
+        None
+    }
 }
 
 // Reads the id of a row of this kind at this place, or returns the reason to refuse it.
@@ -43,14 +89,10 @@ pub(crate) fn read_id(
     let Some(id) = parse_optional_id(field) else {
         return Err(RowReason::BadId);
     };
-    let has_id = id.is_some();
-    if !id_allowed(row_place.parent, kind, has_id) {
-        return Err(RowReason::IdNotAllowed);
+    match refused_id(row_place, kind, id.is_some()) {
+        None => Ok(id),
+        Some(reason) => Err(reason),
     }
-    if !has_same_ids(row_place.parent, has_id) {
-        return Err(RowReason::MixedIds);
-    }
-    Ok(id)
 }
 
 // Reads the precision of a row at this place, or returns the reason to refuse it.
@@ -62,16 +104,8 @@ pub(crate) fn read_precision(row_place: &RowPlace, field: &[u8]) -> Result<Optio
     let Some(precision) = parse_optional_precision(field) else {
         return Err(RowReason::BadPrecision);
     };
-    let has_precision = precision.is_some();
-    if is_geometry(row_place.parent) {
-        if has_precision {
-            Ok(precision)
-        } else {
-            Err(RowReason::PrecisionMissing)
-        }
-    } else if has_precision {
-        Err(RowReason::PrecisionNotAllowed)
-    } else {
-        Ok(precision)
+    match refused_precision(row_place, precision.is_some()) {
+        None => Ok(precision),
+        Some(reason) => Err(reason),
     }
 }

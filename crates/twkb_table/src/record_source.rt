@@ -4,22 +4,11 @@ ghost use Rattle.csv.specs.Records.{fields_of};
 ghost use Rattle.twkb_io.specs.Taps.{device_of};
 ghost use Rattle.twkb_table.specs.CsvRecords.{HasGiven, Advances, Finishes};
 
+use crate::table_fault::TableFault;
 use csv::{ByteRecord, Reader, ReaderBuilder};
 use std::alloc::Global;
 use std::io::Read;
-use thiserror::Error;
 use twkb_io::Tap;
-
-/// Why no record came.
-#[derive(Clone, Copy, PartialEq, Eq, Debug, Error)]
-pub enum SourceFault {
-    /// The reader failed, or memory was refused.
-    #[error("reading the table failed")]
-    Source,
-    /// An earlier call returned an error.
-    #[error("the table was refused before")]
-    Spent,
-}
 
 /// The records that `csv` reads from a tap, with any number of fields, unchanged (RFC 4180).
 #[derive(Drop)]
@@ -53,21 +42,22 @@ impl<'a, R: Read> RecordSource<'a, R> {
         &self.held
     }
 
-    /// Reads the next record, and returns whether there was one. After an `Err` each call returns
-    /// `Spent`; after the end each call returns that there is none. Takes memory for the reader
-    /// of `csv` and one record.
-    pub fn read(&mut self) -> Result<bool, SourceFault>
+    /// Reads the next record, and returns whether there was one. `Source` says that the reader
+    /// failed or memory was refused. After an `Err` each call returns `Spent`; after the end each
+    /// call returns that there is none. Takes memory for the reader of `csv` and one record.
+    pub fn read(&mut self) -> Result<bool, TableFault>
         ensures gives { IfOk result (λ found. found ≡ true → GivesRecord R.remaining self.old self.new) }
         ensures ends { IfOk result (λ found. found ≡ false → Ends R.remaining self.old self.new) }
         ensures source { IfErr result (λ fault. Faults R.remaining self.old fault) }
+        ensures only { IfErr result (λ fault. (fault ≡ TableFault.Source) ⊎ (fault ≡ TableFault.Spent)) }
         ensures over { is_ended self.old ≡ true → is_spent self.old ≡ false → result ≡ Ok false }
-        ensures spent { (result ≡ Err SourceFault.Spent) ↔ (is_spent self.old ≡ true) }
+        ensures spent { (result ≡ Err TableFault.Spent) ↔ (is_spent self.old ≡ true) }
         ensures unchanged { (is_ended self.old ≡ true) ⊎ (is_spent self.old ≡ true) → self.new ≡ self.old }
         ensures ended { result ≡ Ok false → is_ended self.new ≡ true }
         ensures stays { is_spent self.new ≡ is_err result }
     {
         if self.spent {
-            return Err(SourceFault::Spent);
+            return Err(TableFault::Spent);
         }
         let found = read_next(&mut self.reader, &mut self.held, &mut self.ended);
         self.spent = found.is_err();
@@ -82,12 +72,12 @@ pub(crate) fn read_next<R: Read>(
     reader: &mut Reader<&mut Tap<R>>,
     held: &mut ByteRecord,
     ended: &mut bool,
-) -> Result<bool, SourceFault>
+) -> Result<bool, TableFault>
     ensures gives { IfOk result (λ found. found ≡ true
         → Advances R.remaining ended.old reader.old (fields_of held.new) ended.new reader.new) }
     ensures ends { IfOk result (λ found. found ≡ false
         → Finishes R.remaining ended.old reader.old ended.new reader.new) }
-    ensures source { IfErr result (λ fault. fault ≡ SourceFault.Source) }
+    ensures source { IfErr result (λ fault. fault ≡ TableFault.Source) }
     ensures over { ended.old ≡ true → result ≡ Ok false }
     ensures unread { ended.old ≡ true → (reader.new ≡ reader.old) × (held.new ≡ held.old) × (ended.new ≡ ended.old) }
     ensures ended { result ≡ Ok false → ended.new ≡ true }
@@ -97,7 +87,7 @@ pub(crate) fn read_next<R: Read>(
         return Ok(false);
     }
     let Ok(found) = reader.read_byte_record(held) else {
-        return Err(SourceFault::Source);
+        return Err(TableFault::Source);
     };
     *ended = !found;
     Ok(found)

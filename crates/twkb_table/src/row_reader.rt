@@ -3,18 +3,18 @@ ghost use Rattle.std.specs.Prelude.{◌≡◌, ◌<◌, ◌↔◌, [], ◌∷◌
 ghost use Rattle.std.specs.Prelude.{IfSome, IsSome, IsTrue};
 ghost use Rattle.csv.specs.Records.{fields_of};
 ghost use Rattle.twkb_tree.specs.Limits.{IsAllowance};
+ghost use Rattle.twkb_flat.specs.Stops.{IfRefused};
 ghost use Rattle.twkb_table.specs.Judged.{Verdict, Judged, Refused};
-ghost use Rattle.twkb_table.specs.Standing.{IfRefused};
 ghost use Rattle.twkb_table.specs.Head.{JudgedAs};
 ghost use Rattle.twkb_table.specs.Waiting.{may_wait, point_row, IsPoint};
 
 use crate::head::RowHead;
-use crate::judging::{JudgeFault, judge, judge_head};
+use crate::judging::{judge, judge_head};
 use crate::open_rows::OpenRows;
 use crate::reason::RowReason;
 use csv::ByteRecord;
 use std::alloc::{AllocError, Global};
-use twkb_flat::{Flat, PointSource, Row};
+use twkb_flat::{Flat, PointSource, Row, Stop};
 use twkb_points::Pt;
 use twkb_tree::{Kind, Limits};
 
@@ -65,7 +65,7 @@ impl RowReader {
     // Reads a record while no row is open that may have children: before the first geometry, and
     // after a point. It is the root of the next geometry, and then waits.
     #[inline(always)]
-    pub(crate) fn read_root(&mut self, here: &ByteRecord) -> Result<(), JudgeFault>
+    pub(crate) fn read_root(&mut self, here: &ByteRecord) -> Result<(), Stop<RowReason>>
         ensures read { OnOk result (BeginsFirst self.old (fields_of here.now) self.new) }
         ensures refused { IfErr result
             (IfRefused (λ reason. Judged (limits_of self.old) [] (fields_of here.now)
@@ -145,7 +145,7 @@ impl RowReader {
         &mut self,
         here: &ByteRecord,
         flat: &mut Flat,
-    ) -> Result<bool, JudgeFault>
+    ) -> Result<bool, Stop<RowReason>>
         requires keeps { Keeps self.old flat.old }
         ensures more { IfOk result (λ more. more ≡ true
             → GoesOn self.old flat.old (fields_of here.now) self.new flat.new) }
@@ -162,7 +162,7 @@ impl RowReader {
         self.waiting = None;
         let head = match self.judge_next(here, flat) {
             Ok(head) => head,
-            Err(reason) => return Err(JudgeFault::Refused(reason)),
+            Err(reason) => return Err(Stop::Refused(reason)),
         };
         let row = head.row();
         if row.depth == 0 {
@@ -181,7 +181,7 @@ impl RowReader {
             return Err(fault);
         }
         let Ok(()) = self.open_rows.open_row(&row) else {
-            return Err(JudgeFault::Memory);
+            return Err(Stop::Memory);
         };
         Ok(true)
     }

@@ -1,15 +1,16 @@
-use Rattle.twkb_table.proofs.StandingLemmas.{precision_passed}
-use Rattle.twkb_table.specs.Standing.{place_seen}
+use Rattle.std.proofs.Common.{inr, sym}
 use Rattle.twkb_table.proofs.places.read_precision.Goals as goal
 
-pub returns-then-has_precision-clause-read : goal.returns-then-has_precision-clause-read
-returns-then-has_precision-clause-read c = λ l kind id text v j.
-    precision_passed l (place_seen c.args.row_place.now) kind id c.args.field.now text
-    c.in-Some.precision v c.in-Some.ensures.reads
-    (λ e. (let whole = e.0 in let some = e.1 in cc)) (λ e. (let whole = e.0 in let some = e.1 in cc)) j
+pub returns-in-None-clause-read : goal.returns-in-None-clause-read
+returns-in-None-clause-read c l kind id text v j = inr (
+  c.in-Some.precision,
+  c.in-Some.ensures.reads,
+  c.in-None.ensures.judged c.in-Some.precision (sym c.is_some.ensures) l kind id text v j,
+)
 
-pub returns-else-has_precision-2-clause-read : goal.returns-else-has_precision-2-clause-read
-returns-else-has_precision-2-clause-read c = λ l kind id text v j.
-    precision_passed l (place_seen c.args.row_place.now) kind id c.args.field.now text
-    c.in-Some.precision v c.in-Some.ensures.reads
-    (λ e. (let whole = e.0 in let some = e.1 in cc)) (λ e. (let whole = e.0 in let some = e.1 in cc)) j
+pub returns-in-Some-refused_precision-clause-refused : goal.returns-in-Some-refused_precision-clause-refused
+returns-in-Some-refused_precision-clause-refused c l kind id text = inr (
+  c.in-Some.precision,
+  c.in-Some.ensures.reads,
+  c.in-Some-refused_precision.ensures.judged c.in-Some.precision (sym c.is_some.ensures) l kind id text,
+)

@@ -6,8 +6,8 @@ use Rattle.twkb_arrays.proofs.writing.Writer.end_geometry.Goals as goal
 
 pub send_blob-requires-clause-some : goal.send_blob-requires-clause-some
 send_blob-requires-clause-some c =
-    let one = one_of largest_limits c.args.self.now.form
-    (not_empty c.args.self.now.form c.is_empty.result c.if-is_empty.false c.is_empty.ensures.value)
+    let one = one_of largest_limits c.args.self.now.open_geometry
+    (not_empty c.args.self.now.open_geometry c.is_empty.result c.if-is_empty.false c.is_empty.ensures.value)
     c.is_empty.ensures.sound in
     omega (
       arith,
@@ -19,6 +19,6 @@ pub returns-clause-ended : goal.returns-clause-ended
 returns-clause-ended c = λ l start in_rows in_points w.
     ended_one l c.args.style start in_rows in_points c.args.output.now c.send_blob.new.output c.blob.result.now
     c.args.self.now _
-    (not_empty c.args.self.now.form c.is_empty.result c.if-is_empty.false c.is_empty.ensures.value)
+    (not_empty c.args.self.now.open_geometry c.is_empty.result c.if-is_empty.false c.is_empty.ensures.value)
     (λ g tree same. c.blob.ensures ∙ c.in_ok-make_blob.ensures g tree same)
     c.send_blob.ensures c.clear.ensures w

@@ -7,7 +7,7 @@ push_row-requires-clause-valid c = c.in-Ok.ensures.valid c.args.limits.now c.req
 
 pub returns-clause-some : goal.returns-clause-some
 returns-clause-some c =
-    row_some c.args.limits.now c.end_before.new.self.form c.push_row.new.self c.args.row.now c.args.ahead.now
+    row_some c.args.limits.now c.end_before.new.self.open_geometry c.push_row.new.self c.args.row.now c.args.ahead.now
     c.push_row.result c.push_row.ensures.pushed
 
 pub returns-clause-reads : goal.returns-clause-reads

@@ -1,6 +1,6 @@
 use Rattle.std.proofs.Common.{◌∙◌, refl, sym}
 use Rattle.std.proofs.lemmas.Bool.{true≢false}
-use Rattle.twkb_table.proofs.RecordFacts.{never_spent, source_ends, source_faults, source_gives}
+use Rattle.twkb_table.proofs.RecordFacts.{never_spent, source_ends, source_faults, source_gives, source_only}
 use Rattle.twkb_table.proofs.record_source.RecordSource.read.Goals as goal
 
 pub returns-then-self-clause-source : goal.returns-then-self-clause-source
@@ -59,3 +59,6 @@ returns-clause-ended g c none = c.read_next-found.ensures.ended none
 
 pub returns-clause-stays : goal.returns-clause-stays
 returns-clause-stays g c = c.is_err-self.ensures.value
+
+pub returns-clause-only : goal.returns-clause-only
+returns-clause-only g c = source_only c.read_next-found.result c.read_next-found.ensures.source
