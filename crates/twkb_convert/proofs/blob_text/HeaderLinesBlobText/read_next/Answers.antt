@@ -1,6 +1,6 @@
 use Rattle.std.proofs.Common.{rules}
 use Rattle.twkb_blob.specs.StreamReaders.{reader_in, rows_in}
-use Rattle.twkb_convert.proofs.BlobTexts.{ended, lines_given, missed}
+use Rattle.twkb_convert.proofs.BlobTexts.{ended, lines_given}
 use Rattle.twkb_convert.proofs.blob_text.HeaderLinesBlobText.read_next.Goals as goal
 
 pub returns-in-Ok-false : goal.returns-in-Ok-false
@@ -9,14 +9,6 @@ returns-in-Ok-false g c =
     record {
       reads = ended (reader_in c.args.blobs.now) (reader_in c.next_spans.new.self) c.requires.between
           read.shared read.next;
-    }
-
-pub returns-in-Err : goal.returns-in-Err
-returns-in-Err g c =
-    let read = c.in-Err.ensures in
-    record {
-      reads = missed (reader_in c.args.blobs.now) (reader_in c.next_spans.new.self) c.in-Err.fault
-          c.requires.between read.shared read.next;
     }
 
 pub returns : goal.returns
