@@ -7,8 +7,8 @@
 #                             rows are printed, and by `unpack` and `show` whole; the memory of 10,000 sessions in the middle of a line
 #   compare.sh rows [MB [ROUNDS]]
 #                             the same streams, by a program that reads rows and does nothing else
-#   compare.sh through [MB [ROUNDS]]
-#                             the same, by one that reads them through a session, as `unpack` does
+#   compare.sh stream [MB [ROUNDS]]
+#                             the same, by one that reads the whole stream, as `unpack` does
 #   compare.sh writing        lines of 1000 points, held already, below 0, 8, 16 and 32 collections: measured and written
 #   compare.sh tables [MB [ROUNDS]]
 #                             single points, lines of 1000 points, multipolygons, collections 8 deep: by the reader of tables,
@@ -24,7 +24,7 @@ reading)
     libraries="twkb_blob twkb_convert twkb_geom twkb_io twkb_table" words="reader" loops="read_loop"
     bench/plain/build.sh bench/out/plain
     ;;
-rows | through)
+rows | stream)
     libraries="twkb_blob twkb_geom twkb_io" words="" loops="read_loop" measure=rows
     bench/plain/build.sh bench/out/plain
     ;;
@@ -34,7 +34,7 @@ writing)
     ;;
 tables) libraries="csv twkb_io twkb_geom twkb_table" words="records" loops="table_loop" ;;
 *)
-    echo "compare.sh reading|rows|through [MB [ROUNDS]], compare.sh writing, or compare.sh tables [MB [ROUNDS]]" >&2
+    echo "compare.sh reading|rows|stream [MB [ROUNDS]], compare.sh writing, or compare.sh tables [MB [ROUNDS]]" >&2
     exit 2
     ;;
 esac

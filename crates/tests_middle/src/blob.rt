@@ -5,5 +5,5 @@ mod failing;
 mod memory;
 mod mixed;
 mod spans;
-mod through;
+mod stream;
 mod ways;

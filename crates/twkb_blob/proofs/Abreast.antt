@@ -1,71 +1,66 @@
--- A session that keeps pace with an input.
-use Rattle.std.proofs.Common.{◌≡◌, List, [], ◌∷◌, ◌++◌, length, length-append, sym, ap, ◌∙◌, subst, append-nil, Bool}
-use Rattle.std.proofs.Common.{Result, Ok, true, arith}
+-- An engine that keeps pace with a reader.
+use Rattle.std.proofs.Common.{◌≡◌, List, [], sym, ◌∙◌, refl, subst, Bool, true, false, Result, Ok, arith}
+use Rattle.std.proofs.Math.Logic.{∥∥₁_elim}
+use Rattle.std.proofs.Props.{props}
+use Rattle.std.proofs.lemmas.List.{nil_from_length}
 use Rattle.std.specs.declared.io.traits.Read.{Ghosts}
 use Rattle.twkb_tree.specs.Limits.{Allowance}
 use Rattle.twkb_tree.specs.Rows.{Row}
-use Rattle.twkb_grammar.specs.Blob.{Stream}
 use Rattle.twkb_grammar.specs.Noting.{Notes, no_notes}
-use Rattle.twkb_grammar.proofs.One.{peel}
 use Rattle.twkb_io.specs.declared.input.Input.{Input}
 use Rattle.twkb_io.specs.Inputs.{given}
-use Rattle.twkb_engine.specs.Standing.{StandsAt}
+use Rattle.twkb_engine.specs.State.{allowance_of}
+use Rattle.twkb_engine.specs.Standing.{IsAlive, StandsAt, count_of, held_in}
+use Rattle.twkb_engine.specs.Taking.{BeginsAt}
 use Rattle.twkb_engine.specs.declared.engine.Engine.{Engine}
+use Rattle.twkb_engine.proofs.Feeds.{count_is}
+use Rattle.twkb_engine.proofs.RootPoints.{begins}
+use Rattle.twkb_engine.proofs.Steps.{stands_begun}
 use Rattle.twkb_blob.specs.Feeding.{Reads}
 use Rattle.twkb_blob.specs.Located.{ReadsInto}
-use Rattle.twkb_blob.specs.Sessions.{begun_rows, session_limits, session_rows}
-use Rattle.twkb_blob.specs.Through.{GoesOn, IsAbreast, IsThrough}
+use Rattle.twkb_blob.specs.Readers.{IsAtBlob, ended_at, ready_at, spent_at}
+use Rattle.twkb_blob.specs.declared.reader.State.{State}
+use Rattle.twkb_blob.specs.declared.reader.State.TheVariants as state
 use Rattle.twkb_blob.specs.declared.fault.BlobFault.{BlobFault}
-use Rattle.twkb_blob.specs.declared.session.Session.{Session}
 use Rattle.twkb_blob.proofs.Answering.{read_next}
-use Rattle.twkb_blob.proofs.Counts.{same_blobs}
 
-module _ {R : Type 0} {read : Ghosts R} {limits : Allowance} {a : Input R read} {s : Session}
-    (k : IsAbreast limits a s) where
-  -- no byte of the next blob was read
-  none_begun : [] ≡ k.stands.rest
-  none_begun =
-      let own : Stream limits k.stands.front k.gs = subst (λ l. Stream l k.stands.front k.gs)
-      k.same_limits k.stands.blobs in
-      let whole : k.bytes ++ [] ≡ k.stands.front ++ k.stands.rest = append-nil k.bytes ∙ k.stands.whole in
-      peel k.bytes k.stands.front [] k.stands.rest (same_blobs limits k.gs k.bytes k.stands.front []
-      k.stands.rest k.blobs own whole) whole
+-- a state in which a further blob is to be read
+pub ready : (s : State) → ready_at s ≡ Ok true → (spent_at s ≡ false) × (ended_at s ≡ false)
+ready state.Ready is = (refl, refl)
+ready state.Ended is = cc is
+ready state.Spent is = cc is
 
-  -- it begins where the input is
-  begins : s.engine.start ≡ given a
-  begins = omega (
-    arith,
-    k.stands.start,
-    k.as_many,
-    ap length k.stands.whole,
-    ap length none_begun,
-    length-append k.stands.front k.stands.rest,
-  )
+-- an engine that took no byte is where a blob begins
+begun : (d : Engine) → IsAlive [] d → count_of d ≡ 0 → StandsAt [] [] d
+begun d alive none =
+    let alone : held_in d ≡ [] = nil_from_length (held_in d) (omega (arith, none)) in
+    let start : BeginsAt d.start d = ∥∥₁_elim alive (Prim.hlevel props)
+    (λ s. begins s.0 [] d s.1 (omega (arith, none)) alone) in
+    stands_begun d.start d start alone
 
-  -- a blob that is read through it, after its last rows were cleared, is read from its first byte on
-  pub read_abreast : {S : Type 0} {holds : S → Notes → Type 0} {c : Input R read} (b : Session)
-      {e : Engine} {more qs : List Row} {w v : S} (answer : Result Bool BlobFault)
-      → b.engine ≡ s.engine → session_rows b ≡ begun_rows s → holds w no_notes → (answer ≡ Ok true → qs ≡ more)
-      → Reads holds b.engine (session_rows b) w a c answer e more v → ReadsInto holds limits a c answer qs v
-  read_abreast b answer same rows noted kept run =
-      let stood : StandsAt [] (begun_rows s) b.engine =
-      subst (λ d. StandsAt [] (begun_rows s) d) (sym same)
-      (subst (λ l. StandsAt l (begun_rows s) s.engine) (sym none_begun) k.stands.begun) in
-      read_next answer (ap (λ (d : Engine). d.limits) same ∙ k.same_limits)
-      (ap (λ (d : Engine). d.start) same ∙ begins) stood rows noted kept run
+-- one that is made for the next blob keeps pace
+pub new_abreast : {R : Type 0} {read : Ghosts R} {limits : Allowance} {a : Input R read} {d : Engine}
+    → StandsAt [] [] d → d.start ≡ given a → allowance_of d ≡ limits → IsAtBlob limits a d
+new_abreast {d = d} stands start same = record {
+  alive = ∣ ([], stands) ∣₁;
+  none = sym (count_is [] [] d stands);
+  start = start;
+  same_limits = same;
+}
 
-  -- and the session keeps pace
-  pub still_abreast : (c : Input R read) (t : Session) (answer : Result Bool BlobFault)
-      → answer ≡ Ok true → session_limits t ≡ session_limits s
-      → IsThrough (session_limits s) k.bytes k.gs a c answer t → IsAbreast limits c t
-  still_abreast c t answer is same h =
-      let there : GoesOn (session_limits s) k.bytes k.gs a c t =
-      subst (λ r. IsThrough (session_limits s) k.bytes k.gs a c r t) is h in
-      record {
-        bytes = k.bytes ++ there.more;
-        gs = k.gs ++ there.geometry ∷ [];
-        stands = there.stands;
-        blobs = subst (λ l. Stream l (k.bytes ++ there.more) (k.gs ++ there.geometry ∷ [])) k.same_limits there.blobs;
-        same_limits = same ∙ k.same_limits;
-        as_many = (let left = there.left.counted in omega (arith, left, k.as_many, length-append k.bytes there.more));
-      }
+module _ {R : Type 0} {read : Ghosts R} {limits : Allowance} {a c : Input R read} {d e : Engine}
+    (k : IsAtBlob limits a d) {S : Type 0} {holds : S → Notes → Type 0} {none more : List Row} {w v : S}
+    (cleared : none ≡ []) where
+  -- a blob that is read with it, into a form that was cleared, is read from its first byte on
+  pub read_abreast : {qs : List Row} (answer : Result Bool BlobFault) → holds w no_notes
+      → (answer ≡ Ok true → qs ≡ more) → Reads holds d none w a c answer e more v
+      → ReadsInto holds limits a c answer qs v
+  read_abreast answer noted kept run = read_next answer k.same_limits k.start (begun d k.alive k.none) cleared
+      noted kept run
+
+  -- and the engine keeps pace
+  pub still_abreast : Reads holds d none w a c (Ok true) e more v → IsAtBlob limits c e
+  still_abreast run =
+      let (g, made, told, rows, stands, start) = run.blob []
+      (subst (λ l. StandsAt [] l d) (sym cleared) (begun d k.alive k.none)) in
+      new_abreast stands (omega (arith, start, made.left.counted, k.start)) (run.limits ∙ k.same_limits)

@@ -2,8 +2,6 @@
 use Rattle.std.proofs.Common.{◌≡◌, ℕ, ◌<◌, inl, inr, List, [], length, length-append, sym, ap, ◌∙◌, refl, subst, Bool}
 use Rattle.std.proofs.Common.{Option, Some, None, Result, Ok, Err, true, false, arith}
 use Rattle.std.proofs.KnownBytes.{Consumes-whole}
-use Rattle.std.proofs.Math.Logic.{∥∥₁_elim}
-use Rattle.std.proofs.Props.{props}
 use Rattle.std.proofs.Math.Seq.{take-append_seam}
 use Rattle.std.proofs.lemmas.List.{nil_from_length}
 use Rattle.std.proofs.lemmas.Option.{IfSome_then}
@@ -22,7 +20,7 @@ use Rattle.twkb_io.specs.declared.input.Input.{Input}
 use Rattle.twkb_io.specs.declared.input.InFault.{InFault}
 use Rattle.twkb_io.specs.declared.input.InFault.TheVariants.{Read, TooLong, Spent}
 use Rattle.twkb_io.specs.Inputs.{given, rest_of}
-use Rattle.twkb_engine.specs.Standing.{IsAlive, StandsAt, count_of, held_in, notes_at}
+use Rattle.twkb_engine.specs.Standing.{StandsAt, count_of, held_in, notes_at}
 use Rattle.twkb_engine.specs.declared.engine.Engine.{Engine}
 use Rattle.twkb_engine.proofs.Feeds.{count_is}
 use Rattle.twkb_engine.proofs.RootPoints.{blob_judged, noted_none}
@@ -82,13 +80,6 @@ module _ {R : Type 0} {read : Ghosts R} (limits : Allowance) (a c : Input R read
       (let ahead = h.1 in omega (arith, ahead))
   answered holds told e rs qs v (Err fault.Spent) known kept h = absurd h
 
--- a blob that was read has rows
-pub some_read : {S : Type 0} {holds : S → Notes → Type 0} {R : Type 0} {read : Ghosts R} {a c : Input R read}
-    {d e : Engine} {rs more : List Row} {told v : S}
-    → Reads holds d rs told a c (Ok true) e more v → IsAlive rs d → 0 < length more
-some_read {more = more} run alive = ∥∥₁_elim alive (Prim.hlevel props) (λ s.
-    let at = run.blob s.0 s.1 in some_row more at.0 at.3)
-
 module _ {R : Type 0} {read : Ghosts R} {limits : Allowance} {a c : Input R read} where
   module _ {S : Type 0} {holds : S → Notes → Type 0} {rs : List Row} {v : S} where
     pub read_next : {d e : Engine} {none held qs : List Row} {told : S} (answer : Result Bool BlobFault)
@@ -113,7 +104,7 @@ module _ {R : Type 0} {read : Ghosts R} {limits : Allowance} {a c : Input R read
     flat_next (Err fault.Memory) h = tt
     flat_next (Err why) h = h.is
 
-    same_answer : {answer other : Result Bool BlobFault} → answer ≡ other
+    pub same_answer : {answer other : Result Bool BlobFault} → answer ≡ other
         → ReadsInto holds limits a c answer rs v → ReadsInto holds limits a c other rs v
     same_answer is h = subst (λ r. ReadsInto holds limits a c r rs v) is h
 

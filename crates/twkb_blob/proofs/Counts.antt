@@ -244,7 +244,7 @@ whole_or_cut limits bytes gs hs offset s f =
     (subst (λ l. Stream limits l gs) f.whole s)
 
 -- the same blobs in front of the same bytes
-pub same_blobs : (limits : Allowance) (gs : List Tree) (a b x y : List ℕ) → Stream limits a gs
+same_blobs : (limits : Allowance) (gs : List Tree) (a b x y : List ℕ) → Stream limits a gs
     → Stream limits b gs → a ++ x ≡ b ++ y → a ≡ b
 same_blobs limits [] a b x y s t e = s ∙ sym t
 same_blobs limits (g ∷ gs) a b x y s t e =

@@ -2,12 +2,9 @@
 use Rattle.std.proofs.Common.{◌≡◌, ℕ, ◌+◌, ◌-◌, inl, inr, List, [], ◌∷◌, ◌++◌, length, length-append, take, refl}
 use Rattle.std.proofs.Common.{sym, ap, ◌∙◌, subst, append_assoc, append-nil, Bool, true, false, Option, Some, None}
 use Rattle.std.proofs.Common.{IfSome, Result, Ok, Err, arith}
-use Rattle.std.proofs.KnownBytes.{Consumes-whole}
 use Rattle.std.proofs.Math.Seq.{take-length}
 use Rattle.std.proofs.lemmas.List.{append_cancel_left, length-take-le}
-use Rattle.std.proofs.lemmas.Option.{IfSome_then}
 use Rattle.std.specs.Prelude.{if◌then◌else◌}
-use Rattle.std.specs.declared.io.traits.Read.{Ghosts}
 use Rattle.twkb_io.specs.declared.TheConstants.{MAX_BYTES}
 use Rattle.twkb_tree.specs.Tree.{Tree}
 use Rattle.twkb_tree.specs.Rows.{Row, rows}
@@ -17,17 +14,14 @@ use Rattle.twkb_grammar.specs.Fault.{FirstFault, Reason, StreamFault}
 use Rattle.twkb_grammar.specs.Noting.{Notes}
 use Rattle.twkb_grammar.proofs.Streams.{behind_stream, stream-append}
 use Rattle.twkb_body.specs.JudgedParts.{PartIn}
-use Rattle.twkb_io.specs.declared.input.Input.{Input}
-use Rattle.twkb_io.specs.Inputs.{rest_of}
 use Rattle.twkb_engine.specs.Standing.{StandsAt, count_of}
 use Rattle.twkb_engine.proofs.Feeds.{count_is}
 use Rattle.twkb_engine.proofs.RootPoints.{blob_judged}
 use Rattle.twkb_engine.specs.declared.engine.Engine.{Engine}
-use Rattle.twkb_blob.specs.Feeding.{EndsAt, Feeds, Reads}
+use Rattle.twkb_blob.specs.Feeding.{EndsAt, Feeds}
 use Rattle.twkb_blob.specs.Readers.{AreCutOff}
 use Rattle.twkb_blob.specs.Sessions.{Stands, PartAt, FedSession, FedFlat, AreBegun, Finished, begun_rows}
 use Rattle.twkb_blob.specs.Sessions.{session_limits, session_rows}
-use Rattle.twkb_blob.specs.Through.{IsThrough}
 use Rattle.twkb_blob.specs.declared.session.Session.{Session}
 use Rattle.twkb_blob.specs.declared.fault.BlobFault.{BlobFault}
 use Rattle.twkb_blob.specs.declared.fault.BlobFault.TheVariants as fault
@@ -200,68 +194,6 @@ module _ {bytes : List ℕ} {gs : List Tree} {old : Session} (s : Stands bytes g
           }),
         )
     fed_err fault.Spent f = absurd f.fed
-
-  -- ---- a blob of an input was read
-
-  module _ {S : Type 0} {holds : S → Notes → Type 0} {R : Type 0} {read : Ghosts R}
-      {a c : Input R read} {w v : S} (new : Session) (opened : old.is_whole ≡ false) where
-    pub read_ok : {limits : Allowance} → own ≡ limits → session_limits new ≡ own
-        → new.is_whole ≡ true → new.spent ≡ false → Reads holds old.engine (session_rows old) w a c
-        (Ok true) new.engine (session_rows new) v
-        → IsThrough limits bytes gs a c (Ok true) new
-    read_ok here same closed live run =
-        let h = run.blob s.rest (begun_at opened) in
-        let m = h.1 in
-        let stream : Stream own (bytes ++ m.bytes) (gs ++ h.0 ∷ []) = blob_at (further m.bytes) m.blob in
-        let start : new.engine.start ≡ length (bytes ++ m.bytes) = omega (
-          arith,
-          h.5,
-          s.start,
-          length-append s.front (s.rest ++ m.bytes),
-          ap (λ (l : List ℕ). length l) (further m.bytes),
-        ) in
-        record {
-          geometry = h.0;
-          more = m.bytes;
-          left = m.left;
-          blobs = subst (λ l. Stream l (bytes ++ m.bytes) (gs ++ h.0 ∷ [])) here stream;
-          stands = between new (subst (λ l. Stream l (bytes ++ m.bytes) (gs ++ h.0 ∷ [])) (sym same)
-              stream) start live closed h.4;
-          made = h.3;
-          unspent = m.unspent;
-        }
-
-    none_read : (answer : Result Bool BlobFault) {e : Engine} {more : List Row}
-        → ¬ (answer ≡ Ok true) → Reads holds old.engine (session_rows old) w a c answer e more v
-        → IsThrough own bytes gs a c answer new
-    none_read (Ok true) none run = absurd (none refl)
-    none_read (Ok false) none run =
-        let h = run.blob s.rest (begun_at opened) in
-        record {
-          more = h.0;
-          left = h.1;
-          all = Consumes-whole (rest_of a) (rest_of c) h.0
-              (λ rest. rest ≡ h.0) h.1.consumed h.2 refl;
-          blobs = none_at (further h.0) h.3;
-        }
-    none_read (Err fault.Memory) none run = IfSome_then (rest_of a)
-        (run.blob s.rest (begun_at opened)) (λ rest part. part_at part)
-    none_read (Err (fault.At offset reason)) none run = IfSome_then (rest_of a)
-        (run.blob s.rest (begun_at opened)) (λ rest f. fault_at (further rest) f.2 f.1)
-    none_read (Err (fault.Device why)) none run = elim (run.blob s.rest (begun_at opened)) [
-      | inl h ↦ inl (record { more = h.0; left = h.1; begun = cut_at (further h.0) h.2; none = h.3 })
-      | inr h ↦ inr (
-        h.0,
-        (let ahead = h.1 in omega
-            (arith, ahead, s.start, ap length s.whole, length-append s.front s.rest)),
-      )
-    ]
-    none_read (Err fault.Spent) none run = absurd (run.blob s.rest (begun_at opened))
-
-    pub read_none : {limits : Allowance} (answer : Result Bool BlobFault) {e : Engine}
-        {more : List Row} → own ≡ limits → ¬ (answer ≡ Ok true)
-        → Reads holds old.engine (session_rows old) w a c answer e more v → IsThrough limits bytes gs a c answer new
-    read_none answer here none run = subst (λ l. IsThrough l bytes gs a c answer new) here (none_read answer none run)
 
   -- ---- a geometry's tree
 

@@ -3,5 +3,5 @@ pub mod Faults
 pub mod Sessions
 pub mod Readers
 pub mod Located
-pub mod Through
+pub mod StreamReaders
 pub mod Feeding

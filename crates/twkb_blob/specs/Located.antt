@@ -1,5 +1,5 @@
 -- What a reader of geometries with their spans answers.
-use Rattle.std.specs.Prelude.{◌≡◌, Bool, true, false, List, [], Option, Some, None, IfOk, IfSome, Result, Ok, Err}
+use Rattle.std.specs.Prelude.{◌≡◌, ◌⊎◌, Bool, true, false, List, [], Option, Some, None, IfOk, IfSome, Result, Ok, Err}
 use Rattle.std.specs.declared.io.traits.Read.{Ghosts}
 use Rattle.twkb_tree.specs.Tree.{Tree}
 use Rattle.twkb_tree.specs.Rows.{Row, rows}
@@ -10,7 +10,8 @@ use Rattle.twkb_grammar.specs.declared.span.Span.{Span}
 use Rattle.twkb_io.specs.declared.input.Input.{Input}
 use Rattle.twkb_io.specs.Inputs.{given}
 use Rattle.twkb_engine.specs.Standing.{HoldsSpans}
-use Rattle.twkb_blob.specs.Readers.{Makes, IsNext, PartAhead}
+use Rattle.twkb_blob.specs.Readers.{Makes, IfGoingOn, IsNext, PartAhead, ReadsNext, reader_input, reader_limits}
+use Rattle.twkb_blob.specs.declared.reader.Reader.{Reader}
 use Rattle.twkb_blob.specs.declared.fault.BlobFault.{BlobFault}
 use Rattle.twkb_blob.specs.declared.fault.BlobFault.TheVariants as fault
 use Rattle.twkb_blob.specs.declared.spans.Located.{Located}
@@ -55,3 +56,11 @@ pub record ReadsInto {S : Type 0} (holds : S → Notes → Type 0) {R : Type 0} 
     (limits : Allowance) (old new : Input R read) (answer : Result Bool BlobFault) (rs : List Row)
     (spans : S) : Type 0 where
   pub is : IsInto holds limits old new answer rs spans
+
+-- What a call says that reads the next geometry into rows, and the spans of its headers into a list.
+pub record ReadsSpans {R : Type 0} {read : Ghosts R} (old new : Reader R read)
+    (answer : Result Bool BlobFault) (rs : List Row) (spans : List Span) : Type 0 where
+  pub shared : ReadsNext false old new answer
+  pub next : IfGoingOn old (IsSpanned (reader_limits old) (reader_input old) (reader_input new) answer rs spans)
+  pub memory : answer ≡ Err fault.Memory → PartAhead (reader_limits old) [] (reader_input old)
+  pub cleared : (answer ≡ Ok true) ⊎ ((rs ≡ []) × (spans ≡ []))

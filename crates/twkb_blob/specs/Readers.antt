@@ -15,6 +15,9 @@ use Rattle.twkb_io.specs.declared.input.InFault.TheVariants as stopped
 use Rattle.twkb_io.specs.declared.input.InFault.{InFault}
 use Rattle.twkb_io.specs.Inputs.{given, input_failures, input_tap, rest_of, is_spent as input_spent}
 use Rattle.twkb_engine.specs.Stops.{reason_of}
+use Rattle.twkb_engine.specs.State.{allowance_of}
+use Rattle.twkb_engine.specs.Standing.{IsAlive, count_of}
+use Rattle.twkb_engine.specs.declared.engine.Engine.{Engine}
 use Rattle.twkb_body.specs.JudgedParts.{PartIn}
 use Rattle.twkb_blob.specs.declared.fault.BlobFault.{BlobFault}
 use Rattle.twkb_blob.specs.declared.fault.BlobFault.TheVariants as fault
@@ -49,6 +52,22 @@ is_spent r = spent_at r.state
 -- whether a call answered the end
 abbrev pub has_ended : {R : Type 0} {read : Ghosts R} → Reader R read → Bool
 has_ended r = ended_at r.state
+
+-- this, if the reader answered neither an error nor the end
+abbrev pub IfGoingOn : {R : Type 0} {read : Ghosts R} → Reader R read → Type 0 → Type 0
+IfGoingOn r fact = is_spent r ≡ false → has_ended r ≡ false → fact
+
+-- The engine took no byte of a blob that begins where the input is, and has these limits.
+pub record IsAtBlob {R : Type 0} {read : Ghosts R} (limits : Allowance) (input : Input R read)
+    (d : Engine) : Type 0 where
+  pub alive : IsAlive [] d
+  pub none : count_of d ≡ 0
+  pub start : d.start ≡ given input
+  pub same_limits : allowance_of d ≡ limits
+
+-- An engine keeps pace with a reader: unless that answered an error or the end, it is where the next blob begins.
+abbrev pub IsAbreast : {R : Type 0} {read : Ghosts R} → Reader R read → Engine → Type 0
+IsAbreast r d = IfGoingOn r (IsAtBlob (reader_limits r) (reader_input r) d)
 
 -- these bytes left the input, which counted them
 pub record Left {R : Type 0} {read : Ghosts R} (old new : Input R read) (bytes : List ℕ) : Type 0 where
@@ -165,3 +184,12 @@ pub record ReadsNext {A : Type 0} (none : A) {R : Type 0} {read : Ghosts R}
   pub end : answer ≡ Ok none → has_ended new ≡ true
   pub going_on : ¬ (answer ≡ Ok none) → has_ended new ≡ false
   pub for_good : has_ended old ≡ true → (answer ≡ Ok none) × (new ≡ old)
+
+-- What a call says that reads the next geometry into rows: what every call does, and of one that
+-- reads, its answer and the rows; only a geometry leaves rows.
+pub record ReadsRows {R : Type 0} {read : Ghosts R} (old new : Reader R read)
+    (answer : Result Bool BlobFault) (rs : List Row) : Type 0 where
+  pub shared : ReadsNext false old new answer
+  pub next : IfGoingOn old (IsNextFlat (reader_limits old) (reader_input old) (reader_input new) answer rs)
+  pub memory : answer ≡ Err fault.Memory → PartAhead (reader_limits old) [] (reader_input old)
+  pub cleared : (answer ≡ Ok true) ⊎ (rs ≡ [])

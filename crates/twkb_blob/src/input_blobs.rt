@@ -1,23 +1,19 @@
 //! A blob that is read from the held bytes of an input, or from a piece of a stream.
 ghost use Rattle.std.specs.Prelude.{◌≡◌, ◌+◌, ◌<◌, ◌≤◌, ◌∷◌, ℕ, List, [], false, true, Ok, Err, length};
-ghost use Rattle.std.specs.Prelude.{if◌then◌else◌, ◌⊎◌, IfOk, IfSome, IfNone, OnOk};
+ghost use Rattle.std.specs.Prelude.{if◌then◌else◌, IfOk, IfSome, IfNone, OnOk};
 ghost use Rattle.twkb_tree.specs.Rows.{Row};
 ghost use Rattle.twkb_io.specs.Taps.{count_failure};
 ghost use Rattle.twkb_io.specs.Inputs.{given, held_of, input_failures, input_tap, is_spent};
 ghost use Rattle.twkb_engine.specs.State.{allowance_of};
 ghost use Rattle.twkb_engine.specs.Standing.{StandsAt, IsAlive, count_of, place_in};
-ghost use Rattle.twkb_grammar.specs.Noting.{no_notes};
-ghost use Rattle.twkb_blob.specs.Located.{ReadsInto};
-ghost use Rattle.twkb_blob.specs.Readers.{IsNextFlat, Left, PartAhead, failed_by_read};
+ghost use Rattle.twkb_blob.specs.Readers.{Left, failed_by_read};
 ghost use Rattle.twkb_blob.specs.Feeding.{EndsAt, Feeds, Fills, Reads, Turns, with_one};
 
 use crate::fault::{BlobFault, fault_at};
-use std::alloc::Global;
 use std::io::Read;
 use twkb_engine::{BlobReason, Engine, SpanNotes};
 use twkb_flat::Flat;
 use twkb_io::{InFault, Input, MAX_BYTES};
-use twkb_tree::Limits;
 
 // How many bytes of the piece a stream may have after its first `taken`: as many as keep it within
 // 2^62 bytes. `None` if it is longer already.
@@ -191,43 +187,4 @@ pub(crate) fn read_blob<R: Read, S: SpanNotes>(
             Err(fault) => return Err(fault),
         }
     }
-}
-
-// Reads the next blob of an input with a new engine into a form without rows, and its spans. After a
-// false and after an `Err` the form has no rows.
-#[inline(always)]
-pub(crate) fn read_anew<R: Read, S: SpanNotes>(
-    alloc: Global,
-    limits: Limits,
-    input: &mut Input<'_, R>,
-    flat: &mut Flat,
-    spans: &mut S,
-) -> Result<bool, BlobFault>
-    requires empty { flat.old ≡ [] }
-    requires no_notes { S.holds spans.old no_notes }
-    ensures same_tap { (input_tap input.new).ghost_name ≡ (input_tap input.old).ghost_name }
-    ensures failures { input_failures input.new ≡ count_failure (failed_by_read result) (input_failures input.old) }
-    ensures read { ReadsInto S.holds limits input.old input.new result flat.new spans.new }
-    ensures next { IsNextFlat limits input.old input.new result flat.new }
-    ensures memory { result ≡ Err BlobFault.Memory → PartAhead limits [] input.old }
-    ensures cleared { (result ≡ Ok true) ⊎ (flat.new ≡ []) }
-    ensures some { result ≡ Ok true → 0 < length flat.new }
-    ensures unspent { result ≡ Err BlobFault.Spent → ⊥ }
-{
-    let mut engine = Engine::new(alloc, limits, input.offset());
-    let found = read_blob(input, &mut engine, flat, spans);
-    keep_rows(found, flat);
-    found
-}
-
-// Leaves rows in a form only if a geometry was read.
-#[inline(always)]
-fn keep_rows(found: Result<bool, BlobFault>, flat: &mut Flat)
-    ensures made { found ≡ Ok true → flat.new ≡ flat.old }
-    ensures cleared { (found ≡ Ok true) ⊎ (flat.new ≡ []) }
-{
-    if let Ok(true) = found {
-        return;
-    }
-    flat.clear();
 }

@@ -8,11 +8,13 @@ mod open_spans;
 mod reader;
 mod session;
 mod spans;
+mod stream_reader;
 
 pub use fault::BlobFault;
 pub use reader::Reader;
 pub use session::Session;
 pub use spans::{Located, Spans};
+pub use stream_reader::{StreamReader, StreamRoom};
 pub use twkb_engine::BlobReason;
 pub use twkb_grammar::{Span, Style};
 pub use twkb_writer::{

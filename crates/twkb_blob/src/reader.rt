@@ -1,18 +1,17 @@
 //! The blobs of an input, one after another.
-ghost use Rattle.std.specs.Prelude.{◌≡◌, ◌<◌, ◌↔◌, ◌⊎◌, ℕ, List, [], length, true, false, Ok, Err, None, IfOk, IfErr};
+ghost use Rattle.std.specs.Prelude.{◌≡◌, ◌<◌, ◌↔◌, ◌⊎◌, [], length, true, false, Ok, Err, None, IfOk, IfErr};
 ghost use Rattle.std.specs.Prelude.{OnOk, OnErr, is_err};
-ghost use Rattle.twkb_tree.specs.Tree.{Tree};
 ghost use Rattle.twkb_tree.specs.Rows.{rows};
 ghost use Rattle.twkb_tree.specs.Limits.{IsValid, largest_limits};
 ghost use Rattle.twkb_grammar.specs.Noting.{no_notes};
 
 use crate::fault::BlobFault;
-use crate::input_blobs::read_anew;
-use crate::session::Session;
-use crate::spans::{Located, Spans, keep_spans};
+use crate::input_blobs::read_blob;
+use crate::open_spans::OpenSpans;
+use crate::spans::{Located, Spans};
 use std::alloc::Global;
 use std::io::Read;
-use twkb_engine::{NoSpans, SpanNotes};
+use twkb_engine::{Engine, NoSpans, SpanNotes};
 use twkb_flat::Flat;
 use twkb_io::Input;
 use twkb_tree::{Geometry, Limits};
@@ -53,10 +52,8 @@ pub struct Reader<'a, R: Read> {
 
 impl<'a, R: Read> Reader<'a, R> {
     ghost use Rattle.twkb_blob.specs.Readers.{reader_input, reader_limits, is_spent, has_ended, ready_at, IsNext};
-    ghost use Rattle.twkb_blob.specs.Readers.{IsNextFlat, PartAhead, ReadsNext};
-    ghost use Rattle.twkb_blob.specs.Located.{IsLocated, IsSpanned, ReadsInto};
-    ghost use Rattle.twkb_blob.specs.Sessions.{Stands, is_spent as is_finished, session_limits, session_rows};
-    ghost use Rattle.twkb_blob.specs.Through.{IfGoingOn, IsAbreast, IsThrough};
+    ghost use Rattle.twkb_blob.specs.Readers.{IfGoingOn, IsAbreast, IsNextFlat, PartAhead, ReadsNext};
+    ghost use Rattle.twkb_blob.specs.Located.{IsLocated, ReadsInto};
 
     /// A reader of what the input still has. Takes no memory.
     pub fn new(input: Input<'a, R>, limits: Limits) -> Reader<'a, R>
@@ -107,102 +104,7 @@ impl<'a, R: Read> Reader<'a, R> {
         ensures some { result ≡ Ok true → 0 < length flat.new }
         ensures spent { (result ≡ Err BlobFault.Spent) ↔ (is_spent self.old ≡ true) }
     {
-        flat.clear();
-        self.read_into(alloc, flat, &mut NoSpans)
-    }
-
-    /// Reads the next geometry, as `next_flat` does, through a session, which is fed what the input
-    /// holds, keeps its room from blob to blob, and lends the rows (`Session::flat`); it answers
-    /// whether there was one. The limits are the session's, and an offset counts from its start: a
-    /// new session of the reader's limits, at a new input, has those of `next_flat`. At the input's
-    /// end the session is finished, and after a false and after an `Err` it has no rows and takes
-    /// no further byte. Takes memory as `Session::feed_flat` does.
-    pub fn next_through(&mut self, session: &mut Session) -> Result<bool, BlobFault>
-        ensures shared { ReadsNext false self.old self.new result }
-        ensures next { IsAbreast (reader_limits self.old) (reader_input self.old) session.old
-            → IfGoingOn self.old (IsNextFlat (reader_limits self.old) (reader_input self.old)
-            (reader_input self.new) result (session_rows session.new)) }
-        ensures memory { IsAbreast (reader_limits self.old) (reader_input self.old) session.old
-            → result ≡ Err BlobFault.Memory → PartAhead (reader_limits self.old) []
-            (reader_input self.old) }
-        ensures cleared { (result ≡ Ok true) ⊎ (session_rows session.new ≡ []) }
-        ensures some { IsAbreast (reader_limits self.old) (reader_input self.old) session.old
-            → result ≡ Ok true → 0 < length (session_rows session.new) }
-
-        ensures through { (bytes : List ℕ) (gs : List Tree) → Stands bytes gs session.old
-            → IfGoingOn self.old (IsThrough (session_limits session.old) bytes gs
-            (reader_input self.old) (reader_input self.new) result session.new) }
-        ensures abreast { IsAbreast (reader_limits self.old) (reader_input self.old) session.old
-            → result ≡ Ok true → IsAbreast (reader_limits self.old) (reader_input self.new)
-            session.new }
-        ensures session_limits { session_limits session.new ≡ session_limits session.old }
-        ensures finished { (result ≡ Ok true) ⊎ (is_finished session.new ≡ true) }
-        ensures spent_session { IfGoingOn self.old (is_finished session.old ≡ true → result ≡ Err BlobFault.Spent) }
-    {
-        self.read_through(session, &mut NoSpans)
-    }
-
-    /// Reads the next geometry, as `next_flat` does, into a flat form, and the spans of its
-    /// headers, as `next_located` gives them, into a list, in place of what these hold, and answers
-    /// whether there was one; after a false and after an `Err` both are empty. It takes memory as
-    /// `next_flat` does, and for spans past the room of the list.
-    pub fn next_spans(
-        &mut self,
-        alloc: Global,
-        flat: &mut Flat,
-        spans: &mut Spans,
-    ) -> Result<bool, BlobFault>
-        ensures shared { ReadsNext false self.old self.new result }
-        ensures next { is_spent self.old ≡ false → has_ended self.old ≡ false
-            → IsSpanned (reader_limits self.old) (reader_input self.old) (reader_input self.new)
-            result flat.new spans.new }
-        ensures memory { result ≡ Err BlobFault.Memory → PartAhead (reader_limits self.old) [] (reader_input self.old) }
-        ensures cleared { (result ≡ Ok true) ⊎ ((flat.new ≡ []) × (spans.new ≡ [])) }
-        ensures some { result ≡ Ok true → 0 < length flat.new }
-        ensures spent { (result ≡ Err BlobFault.Spent) ↔ (is_spent self.old ≡ true) }
-    {
-        flat.clear();
-        spans.notes.restart();
-        let found = self.read_into(alloc, flat, &mut spans.notes);
-        keep_spans(found, spans);
-        found
-    }
-
-    /// Reads the next geometry through a session, as `next_through` does, and puts the spans of its
-    /// headers, as `next_located` gives them, into a list, in place of what that holds; after a
-    /// false and after an `Err` both are empty. The spans are promised only if the session was
-    /// between two geometries, and not inside a blob. It takes memory as `next_through` does, and
-    /// for spans past the room of the list.
-    pub fn next_spans_through(
-        &mut self,
-        session: &mut Session,
-        spans: &mut Spans,
-    ) -> Result<bool, BlobFault>
-        ensures shared { ReadsNext false self.old self.new result }
-        ensures next { IsAbreast (reader_limits self.old) (reader_input self.old) session.old
-            → IfGoingOn self.old (IsSpanned (reader_limits self.old) (reader_input self.old)
-            (reader_input self.new) result (session_rows session.new) spans.new) }
-        ensures memory { IsAbreast (reader_limits self.old) (reader_input self.old) session.old
-            → result ≡ Err BlobFault.Memory → PartAhead (reader_limits self.old) []
-            (reader_input self.old) }
-        ensures cleared { (result ≡ Ok true) ⊎ ((session_rows session.new ≡ []) × (spans.new ≡ [])) }
-        ensures some { IsAbreast (reader_limits self.old) (reader_input self.old) session.old
-            → result ≡ Ok true → 0 < length (session_rows session.new) }
-
-        ensures through { (bytes : List ℕ) (gs : List Tree) → Stands bytes gs session.old
-            → IfGoingOn self.old (IsThrough (session_limits session.old) bytes gs
-            (reader_input self.old) (reader_input self.new) result session.new) }
-        ensures abreast { IsAbreast (reader_limits self.old) (reader_input self.old) session.old
-            → result ≡ Ok true → IsAbreast (reader_limits self.old) (reader_input self.new)
-            session.new }
-        ensures session_limits { session_limits session.new ≡ session_limits session.old }
-        ensures finished { (result ≡ Ok true) ⊎ (is_finished session.new ≡ true) }
-        ensures spent_session { IfGoingOn self.old (is_finished session.old ≡ true → result ≡ Err BlobFault.Spent) }
-    {
-        spans.notes.restart();
-        let found = self.read_through(session, &mut spans.notes);
-        keep_spans(found, spans);
-        found
+        self.read_anew(alloc, flat, &mut NoSpans)
     }
 
     /// The next geometry, as `next` gives it, with the spans of its headers, whose offsets count
@@ -216,11 +118,12 @@ impl<'a, R: Read> Reader<'a, R> {
         ensures spent { (result ≡ Err BlobFault.Spent) ↔ (is_spent self.old ≡ true) }
     {
         let mut flat = Flat::new(alloc);
-        let mut spans = Spans::new(alloc);
-        if !self.next_spans(alloc, &mut flat, &mut spans)? {
+        let mut notes = OpenSpans::new(alloc);
+        if !self.read_anew(alloc, &mut flat, &mut notes)? {
             return Ok(None);
         }
         let geometry = self.tree_of(alloc, &flat)?;
+        let spans = Spans { notes };
         Ok(Some(Located { geometry, spans }))
     }
 
@@ -236,74 +139,50 @@ impl<'a, R: Read> Reader<'a, R> {
         }
     }
 
-    // Reads the next blob into a form without rows, and its spans. After a false and after an `Err`
-    // the form has no rows.
+    // Reads the next blob with a new engine, as `read_with` does.
     #[inline(always)]
-    fn read_into<S: SpanNotes>(
+    fn read_anew<S: SpanNotes>(
         &mut self,
         alloc: Global,
         flat: &mut Flat,
         spans: &mut S,
     ) -> Result<bool, BlobFault>
-        requires empty { flat.old ≡ [] }
         requires no_notes { S.holds spans.old no_notes }
         ensures shared { ReadsNext false self.old self.new result }
         ensures read { IfGoingOn self.old (ReadsInto S.holds (reader_limits self.old)
             (reader_input self.old) (reader_input self.new) result flat.new spans.new) }
-        ensures next { IfGoingOn self.old (IsNextFlat (reader_limits self.old)
-            (reader_input self.old) (reader_input self.new) result flat.new) }
-        ensures memory { result ≡ Err BlobFault.Memory → PartAhead (reader_limits self.old) [] (reader_input self.old) }
         ensures cleared { (result ≡ Ok true) ⊎ (flat.new ≡ []) }
-        ensures some { result ≡ Ok true → 0 < length flat.new }
-        ensures spent { result ≡ Err BlobFault.Spent → is_spent self.old ≡ true }
     {
+        let mut engine = Engine::new(alloc, self.limits, self.input.offset());
+        self.read_with(&mut engine, flat, spans)
+    }
+
+    // Reads the next blob with an engine that keeps pace, into a form, in place of what that holds,
+    // and its spans. Only a geometry leaves rows.
+    #[inline(always)]
+    pub(crate) fn read_with<S: SpanNotes>(
+        &mut self,
+        engine: &mut Engine,
+        flat: &mut Flat,
+        spans: &mut S,
+    ) -> Result<bool, BlobFault>
+        requires abreast { IsAbreast self.old engine.old }
+        requires no_notes { S.holds spans.old no_notes }
+        ensures shared { ReadsNext false self.old self.new result }
+        ensures read { IfGoingOn self.old (ReadsInto S.holds (reader_limits self.old)
+            (reader_input self.old) (reader_input self.new) result flat.new spans.new) }
+        ensures cleared { (result ≡ Ok true) ⊎ (flat.new ≡ []) }
+        ensures abreast { IsAbreast self.new engine.new }
+    {
+        flat.clear();
         if !self.is_ready()? {
             return Ok(false);
         }
-        let found = read_anew(alloc, self.limits, &mut self.input, flat, spans);
-        self.state = State::after(found);
-        found
-    }
-
-    // Reads the next blob through a session, and its spans.
-    #[inline(always)]
-    fn read_through<S: SpanNotes>(
-        &mut self,
-        session: &mut Session,
-        spans: &mut S,
-    ) -> Result<bool, BlobFault>
-        requires no_notes { S.holds spans.old no_notes }
-        ensures shared { ReadsNext false self.old self.new result }
-        ensures read { IsAbreast (reader_limits self.old) (reader_input self.old) session.old
-            → IfGoingOn self.old (ReadsInto S.holds (reader_limits self.old) (reader_input self.old)
-            (reader_input self.new) result (session_rows session.new) spans.new) }
-        ensures next { IsAbreast (reader_limits self.old) (reader_input self.old) session.old
-            → IfGoingOn self.old (IsNextFlat (reader_limits self.old) (reader_input self.old)
-            (reader_input self.new) result (session_rows session.new)) }
-        ensures memory { IsAbreast (reader_limits self.old) (reader_input self.old) session.old
-            → result ≡ Err BlobFault.Memory → PartAhead (reader_limits self.old) []
-            (reader_input self.old) }
-        ensures cleared { (result ≡ Ok true) ⊎ (session_rows session.new ≡ []) }
-        ensures some { IsAbreast (reader_limits self.old) (reader_input self.old) session.old
-            → result ≡ Ok true → 0 < length (session_rows session.new) }
-        ensures through { (bytes : List ℕ) (gs : List Tree) → Stands bytes gs session.old
-            → IfGoingOn self.old (IsThrough (session_limits session.old) bytes gs
-            (reader_input self.old) (reader_input self.new) result session.new) }
-        ensures abreast { IsAbreast (reader_limits self.old) (reader_input self.old) session.old
-            → result ≡ Ok true → IsAbreast (reader_limits self.old) (reader_input self.new)
-            session.new }
-        ensures session_limits { session_limits session.new ≡ session_limits session.old }
-        ensures finished { (result ≡ Ok true) ⊎ (is_finished session.new ≡ true) }
-        ensures spent_session { IfGoingOn self.old (is_finished session.old ≡ true → result ≡ Err BlobFault.Spent) }
-    {
-        match self.is_ready() {
-            Ok(true) => {}
-            refused => {
-                session.give_up();
-                return refused;
-            }
+        let found = read_blob(&mut self.input, engine, flat, spans);
+        if let Ok(true) = found {
+            return found;
         }
-        let found = session.read_from(&mut self.input, spans);
+        flat.clear();
         self.state = State::after(found);
         found
     }

@@ -1,23 +1,19 @@
 //! A stream of blobs that comes in pieces.
-ghost use Rattle.std.specs.Prelude.{◌≡◌, ◌<◌, ◌≤◌, ◌↔◌, ◌+◌, ◌⊎◌, ◌∷◌, [], if◌then◌else◌, List, ℕ, true, false};
+ghost use Rattle.std.specs.Prelude.{◌≡◌, ◌<◌, ◌≤◌, ◌↔◌, ◌+◌, ◌∷◌, [], if◌then◌else◌, List, ℕ, true, false};
 ghost use Rattle.std.specs.Prelude.{Ok, Err, None, is_err, length, IfOk, IfErr, IfSome};
 ghost use Rattle.twkb_io.specs.declared.TheConstants.{MAX_BYTES};
 ghost use Rattle.twkb_tree.specs.Tree.{Tree};
 ghost use Rattle.twkb_tree.specs.Rows.{rows};
-ghost use Rattle.twkb_tree.specs.Limits.{Allowance, IsValid, largest_limits};
-ghost use Rattle.twkb_io.specs.Taps.{count_failure};
-ghost use Rattle.twkb_io.specs.Inputs.{input_failures, input_tap};
-ghost use Rattle.twkb_grammar.specs.Noting.{no_notes};
+ghost use Rattle.twkb_tree.specs.Limits.{IsValid, largest_limits};
 ghost use Rattle.twkb_engine.specs.Standing.{IsAlive, count_of};
-ghost use Rattle.twkb_blob.specs.Readers.{IsNextFlat, PartAhead, failed_by_read};
+ghost use Rattle.twkb_blob.specs.Readers.{failed_by_read};
 
 use crate::fault::BlobFault;
-use crate::input_blobs::{at_end, feed_one, feed_piece, read_blob};
+use crate::input_blobs::{at_end, feed_one, feed_piece};
 use std::alloc::{AllocError, Global};
-use std::io::Read;
-use twkb_engine::{Engine, NoSpans, SpanNotes};
+use twkb_engine::{Engine, NoSpans};
 use twkb_flat::{Flat, Rows};
-use twkb_io::{Input, MAX_BYTES};
+use twkb_io::MAX_BYTES;
 use twkb_tree::{Geometry, Limits};
 
 /// A stream of blobs that comes in pieces. It keeps its limits, the rows of the geometry that is read, as far as they
@@ -38,8 +34,6 @@ impl Session {
     ghost use Rattle.twkb_blob.specs.Sessions.{Stands, FedFlat, FedSession, Finished, HeldOf, FramesOf, begun_rows};
     ghost use Rattle.twkb_blob.specs.Sessions.{with_end, is_spent, session_limits, session_held, session_open};
     ghost use Rattle.twkb_blob.specs.Sessions.{session_rows};
-    ghost use Rattle.twkb_blob.specs.Located.{ReadsInto};
-    ghost use Rattle.twkb_blob.specs.Through.{IsAbreast, IsThrough};
 
     /// A session before the first byte. Takes no memory.
     pub fn new(alloc: Global, limits: Limits) -> Session
@@ -120,7 +114,7 @@ impl Session {
     }
 
     // Has each further feed return `Spent`, and clears the rows.
-    pub(crate) fn give_up(&mut self)
+    fn give_up(&mut self)
         ensures spent { self.new.spent ≡ true }
         ensures engine { self.new.engine ≡ self.old.engine }
         ensures rows { session_rows self.new ≡ [] }
@@ -222,51 +216,6 @@ impl Session {
                 Err(fault)
             }
         }
-    }
-
-    // Reads a blob from an input, and its spans; returns whether there was one. If there was none, the session has no
-    // rows, and takes no further byte.
-    #[inline(always)]
-    pub(crate) fn read_from<R: Read, S: SpanNotes>(
-        &mut self,
-        input: &mut Input<'_, R>,
-        spans: &mut S,
-    ) -> Result<bool, BlobFault>
-        requires no_notes { S.holds spans.old no_notes }
-        ensures same_tap { (input_tap input.new).ghost_name ≡ (input_tap input.old).ghost_name }
-        ensures limits { session_limits self.new ≡ session_limits self.old }
-        ensures failures { input_failures input.new ≡ count_failure (failed_by_read result) (input_failures input.old) }
-        ensures through { (bytes : List ℕ) (gs : List Tree) → Stands bytes gs self.old
-            → IsThrough (session_limits self.old) bytes gs input.old input.new result self.new }
-        ensures cleared { (result ≡ Ok true) ⊎ (session_rows self.new ≡ []) }
-        ensures finished { (result ≡ Ok true) ⊎ (is_spent self.new ≡ true) }
-        ensures spent { is_spent self.old ≡ true → result ≡ Err BlobFault.Spent }
-        ensures read { (limits : Allowance) → IsAbreast limits input.old self.old
-            → ReadsInto S.holds limits input.old input.new result (session_rows self.new)
-            spans.new }
-        ensures next { (limits : Allowance) → IsAbreast limits input.old self.old
-            → IsNextFlat limits input.old input.new result (session_rows self.new) }
-        ensures memory { (limits : Allowance) → IsAbreast limits input.old self.old
-            → result ≡ Err BlobFault.Memory → PartAhead limits [] input.old }
-        ensures some { result ≡ Ok true → 0 < length (session_rows self.new) }
-        ensures abreast { (limits : Allowance) → IsAbreast limits input.old self.old
-            → result ≡ Ok true → IsAbreast limits input.new self.new }
-    {
-        if self.spent {
-            self.give_up();
-            return Err(BlobFault::Spent);
-        }
-        self.begin();
-        // nothing is known of an engine that refused
-        self.spent = true;
-        let found = read_blob(input, &mut self.engine, &mut self.rows.flat, spans);
-        if let Ok(true) = found {
-            self.is_whole = true;
-            self.spent = false;
-            return Ok(true);
-        }
-        self.give_up();
-        found
     }
 
     // Clears the rows if they are still those of the last geometry.

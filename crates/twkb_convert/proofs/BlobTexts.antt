@@ -6,7 +6,6 @@ use Rattle.std.proofs.lemmas.List.{nil_from_length}
 use Rattle.std.specs.Prelude.{IfSome}
 use Rattle.std.specs.Io.KnownBytes.{Consumes, IsAtEnd, prepend_known}
 use Rattle.std.specs.declared.io.traits.Read.{Ghosts}
-use Rattle.twkb_tree.specs.Tree.{Tree}
 use Rattle.twkb_tree.specs.Rows.{Row}
 use Rattle.twkb_grammar.specs.Spans.{spans_of_blob}
 use Rattle.twkb_table.specs.Record.{record_of}
@@ -19,11 +18,9 @@ use Rattle.twkb_engine.specs.declared.blob_reason.BlobReason.{BlobReason}
 use Rattle.twkb_engine.specs.Stops.{reason_of}
 use Rattle.twkb_blob.specs.declared.fault.BlobFault.{BlobFault}
 use Rattle.twkb_blob.specs.declared.fault.BlobFault.TheVariants as blob
-use Rattle.twkb_blob.specs.Located.{HasSpans, IsSpanned}
-use Rattle.twkb_blob.specs.Readers.{IsNext, IsNextFlat, ReadsNext, RefusedKnown, failed_by_read, reader_input}
-use Rattle.twkb_blob.specs.Through.{IsAbreast}
+use Rattle.twkb_blob.specs.Located.{ReadsSpans}
+use Rattle.twkb_blob.specs.Readers.{IfGoingOn, IsNext, ReadsNext, ReadsRows, RefusedKnown, failed_by_read, reader_input}
 use Rattle.twkb_blob.specs.declared.reader.Reader.{Reader}
-use Rattle.twkb_blob.specs.declared.session.Session.{Session}
 use Rattle.twkb_grammar.specs.declared.span.Span.{Span}
 use Rattle.twkb_convert.specs.BlobReading.{EndsBlobs, Follows, GivesText, IsBetween, Misses, MissesText, RefusesBlob}
 use Rattle.twkb_convert.specs.BlobReading.{given, is_input_spent, is_read, limits_of, reader_failures, rest_of, told_of}
@@ -60,10 +57,6 @@ read_stops (blob.Device input.TooLong) = refl
 read_stops (blob.Device input.Spent) = refl
 read_stops blob.Spent = refl
 read_stops (blob.At offset reason) = refl
-
--- a reader's answer that is no fault
-abbrev is_found : Bool → Result Bool BlobFault
-is_found found = Ok found
 
 -- a device gives nothing if no byte was left and none was lost
 told_none : (known told : Option (List ℕ)) (held : List ℕ) → IsAtEnd known
@@ -102,11 +95,11 @@ module _ {R : Type 0} {read : Ghosts R} (from to : Reader R read) where
   misses (blob.At offset reason) h live = refused_left (limits_of from) (given from) (rest_of from) offset reason h
 
   -- no blob was read, so no text was made
-  pub missed : (why : BlobFault) → is_input_spent from ≡ false → ReadsNext false from to (Err why)
-      → IsNext (limits_of from) (reader_input from) (reader_input to) (Err why)
+  pub missed : (why : BlobFault) → IsBetween from → ReadsNext false from to (Err why)
+      → IfGoingOn from (IsNext (limits_of from) (reader_input from) (reader_input to) (Err why))
       → MissesText from to (cause_of_blob why)
-  missed why live shared h = record {
-    misses = misses why h live;
+  missed why ready shared next = record {
+    misses = misses why (next ready.fresh ready.going_on) ready.input;
     follows = follows (Err why) (is_read (cause_of_blob why)) (read_stops why) shared;
   }
 
@@ -115,76 +108,51 @@ module _ {R : Type 0} {read : Ghosts R} (from to : Reader R read) where
   missed_text found shared = record { misses = tt; follows = follows (Ok found) false refl shared }
 
   -- no blob is left
-  pub ended : (found : Bool) → ReadsNext false from to (Ok found)
-      → IsNext (limits_of from) (reader_input from) (reader_input to) (Ok None) → EndsBlobs from to
-  ended found shared next = record {
-    empty = next.0;
-    ended = told_none (rest_of from) (told_of to) (unused (reader_input to)) next.0 next.1.consumed;
-    follows = follows (Ok found) false refl shared;
-  }
+  pub ended : IsBetween from → ReadsNext false from to (Ok false)
+      → IfGoingOn from (IsNext (limits_of from) (reader_input from) (reader_input to) (Ok None))
+      → EndsBlobs from to
+  ended ready shared next =
+      let end = next ready.fresh ready.going_on in
+      record {
+        empty = end.0;
+        ended = told_none (rest_of from) (told_of to) (unused (reader_input to)) end.0 end.1.consumed;
+        follows = follows (Ok false) false refl shared;
+      }
 
   -- the reader is between two blobs after one was read
-  between : (s : Session) → ReadsNext false from to (Ok true) → is_input_spent to ≡ false
-      → (is_found true ≡ Ok true → IsAbreast (limits_of from) (reader_input to) s)
-      → IsBetween to s
-  between s shared live abreast = record {
-    fresh = shared.stays;
-    going_on = shared.going_on (λ e. cc e);
-    input = live;
-    abreast = subst (λ l. IsAbreast l (reader_input to) s) (sym shared.limits) (abreast refl);
-  }
+  between : ReadsNext false from to (Ok true) → is_input_spent to ≡ false → IsBetween to
+  between shared live = record { fresh = shared.stays; going_on = shared.going_on (λ e. cc e); input = live }
 
   -- the rows of a geometry, from its flat form
-  made_rows : (rs : List Row) (s : Session) (text : List ℕ) → ReadsNext false from to (Ok true)
-      → (is_found true ≡ Ok true → IsAbreast (limits_of from) (reader_input to) s)
-      → IsNextFlat (limits_of from) (reader_input from) (reader_input to) (Ok true) rs
-      → text ≡ csvtext (map record_of rs) → GivesText table_layout from to s text
-  made_rows rs s text shared abreast next own = record {
-    found = record { geometry = next.0; spans = spans_of_blob (given from) next.1.blob };
-    gives = record {
-      front = next.1.bytes;
-      tells = record { blob = next.1.blob; told = refl };
-      used = record { consumed = next.1.left.consumed; counted = next.1.left.counted };
-    };
-    own = own ∙ ap (λ (q : List Row). csvtext (map record_of q)) next.2 ∙ rows_text-one next.0;
-    follows = follows (Ok true) false refl shared;
-    between = between s shared next.1.unspent abreast;
-  }
+  pub rows_given : (rs : List Row) (text : List ℕ) → IsBetween from → ReadsRows from to (Ok true) rs
+      → text ≡ csvtext (map record_of rs) → GivesText table_layout from to text
+  rows_given rs text ready reads own =
+      let (g, made, rows) = reads.next ready.fresh ready.going_on in
+      record {
+        found = record { geometry = g; spans = spans_of_blob (given from) made.blob };
+        gives = record {
+          front = made.bytes;
+          tells = record { blob = made.blob; told = refl };
+          used = record { consumed = made.left.consumed; counted = made.left.counted };
+        };
+        own = own ∙ ap (λ (q : List Row). csvtext (map record_of q)) rows ∙ rows_text-one g;
+        follows = follows (Ok true) false refl reads.shared;
+        between = between reads.shared made.unspent;
+      }
 
   -- the lines of a blob, from its spans
-  told_lines : (g : Tree) (spans : List Span) (s : Session) (text : List ℕ) → ReadsNext false from to (Ok true)
-      → (is_found true ≡ Ok true → IsAbreast (limits_of from) (reader_input to) s)
-      → HasSpans (limits_of from) (reader_input from) (reader_input to) g spans
-      → text ≡ span_lines spans → GivesText lines_layout from to s text
-  told_lines g spans s text shared abreast has own = record {
-    found = record { geometry = g; spans = spans };
-    gives = record {
-      front = has.made.bytes;
-      tells = record { blob = has.made.blob; told = has.told };
-      used = record { consumed = has.made.left.consumed; counted = has.made.left.counted };
-    };
-    own = own;
-    follows = follows (Ok true) false refl shared;
-    between = between s shared has.made.unspent abreast;
-  }
-
-  -- what a reader answers if it found a blob, and the session after it
-  abbrev Found : (Result Bool BlobFault → Type 0) → Session → Bool → Type 0
-  Found Next s found = ReadsNext false from to (Ok found) × Next (Ok found)
-      × (is_found found ≡ Ok true → IsAbreast (limits_of from) (reader_input to) s)
-
-  pub rows_given : (found : Bool) (rs : List Row) (s : Session) (text : List ℕ) → found ≡ true
-      → Found (λ r. IsNextFlat (limits_of from) (reader_input from) (reader_input to) r rs) s found
-      → text ≡ csvtext (map record_of rs) → GivesText table_layout from to s text
-  rows_given found rs s text is next own =
-      let h = subst (Found (λ r. IsNextFlat (limits_of from) (reader_input from) (reader_input to) r rs) s) is next in
-      made_rows rs s text h.0 h.2 h.1 own
-
-  pub lines_given : (found : Bool) (rs : List Row) (spans : List Span) (s : Session) (text : List ℕ)
-      → found ≡ true
-      → Found (λ r. IsSpanned (limits_of from) (reader_input from) (reader_input to) r rs spans) s found
-      → text ≡ span_lines spans → GivesText lines_layout from to s text
-  lines_given found rs spans s text is next own =
-      let h = subst (Found (λ r. IsSpanned (limits_of from) (reader_input from) (reader_input to) r rs spans) s)
-      is next in
-      told_lines h.1.0 spans s text h.0 h.2 h.1.1 own
+  pub lines_given : (rs : List Row) (spans : List Span) (text : List ℕ) → IsBetween from
+      → ReadsSpans from to (Ok true) rs spans → text ≡ span_lines spans → GivesText lines_layout from to text
+  lines_given rs spans text ready reads own =
+      let (g, has, rows) = reads.next ready.fresh ready.going_on in
+      record {
+        found = record { geometry = g; spans = spans };
+        gives = record {
+          front = has.made.bytes;
+          tells = record { blob = has.made.blob; told = has.told };
+          used = record { consumed = has.made.left.consumed; counted = has.made.left.counted };
+        };
+        own = own;
+        follows = follows (Ok true) false refl reads.shared;
+        between = between reads.shared has.made.unspent;
+      }

@@ -19,5 +19,4 @@ pub mod RefusedLemmas
 pub mod ShownLemmas
 pub mod PartsLemmas
 pub mod FlushLemmas
-pub mod SessionLemmas
 pub mod ShortTexts

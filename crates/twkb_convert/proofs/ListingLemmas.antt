@@ -9,7 +9,6 @@ use Rattle.twkb_convert.proofs.Prelude.{listing_text, Layout, Cause}
 use Rattle.std.proofs.KnownBytes.{Consumes-nil, Consumes-trans}
 use Rattle.twkb_io.specs.declared.TheConstants.{MAX_BYTES}
 use Rattle.twkb_io.specs.Outputs.{is_device}
-use Rattle.twkb_blob.specs.declared.session.Session.{Session}
 use Rattle.twkb_grammar.proofs.Streams.{blob_long}
 use Rattle.twkb_convert.specs.BlobReading.{Follows, GivesBlob, GivesText, Misses, Used, given, is_read}
 use Rattle.twkb_convert.specs.BlobReading.{limits_of, rest_of, told_of}
@@ -79,10 +78,10 @@ given_more l old new before after b gives =
 -- ---- one blob
 
 module _ {R W : Type 0} {read : Ghosts R} (layout : Layout) (contents : W → Option (List ℕ))
-    (from to : Reader R read) (s : Session) (old new : Output W) (done : ℕ) (text : List ℕ)
-    (gives : GivesText layout from to s text) where
+    (from to : Reader R read) (old new : Output W) (done : ℕ) (text : List ℕ)
+    (gives : GivesText layout from to text) where
   pub sends_blob : is_spent old ≡ false → done ≤ given from → Took contents old text new
-      → SendsBlob layout contents from old done to s new (done + 1)
+      → SendsBlob layout contents from old done to new (done + 1)
   sends_blob fresh few took = record {
     found = gives.found;
     gives = gives.gives;
@@ -114,10 +113,10 @@ module _ {R W : Type 0} {read : Ghosts R} (layout : Layout) (contents : W → Op
 
 -- fewer bytes may still be given out after a blob was read
 pub fewer_left : {R W : Type 0} {read : Ghosts R} (layout : Layout) (contents : W → Option (List ℕ))
-    (from : Reader R read) (old : Output W) (done : ℕ) (to : Reader R read) (s : Session)
-    (new : Output W) (after : ℕ) → SendsBlob layout contents from old done to s new after
+    (from : Reader R read) (old : Output W) (done : ℕ) (to : Reader R read)
+    (new : Output W) (after : ℕ) → SendsBlob layout contents from old done to new after
     → MAX_BYTES - given to < MAX_BYTES - given from
-fewer_left layout contents from old done to s new after one =
+fewer_left layout contents from old done to new after one =
     omega (
       arith,
       given_more (limits_of from) (rest_of from) (rest_of to) (given from) (given to) one.found
@@ -130,10 +129,10 @@ fewer_left layout contents from old done to s new after one =
 module _ {R W : Type 0} {read : Ghosts R} (layout : Layout) (contents : W → Option (List ℕ))
     (from : Reader R read) (old : Output W) where
   -- the text before the first blob was sent
-  pub sent_first : (s : Session) (new : Output W) (done : ℕ) → IsGoing from s old done
+  pub sent_first : (new : Output W) (done : ℕ) → IsGoing from old done
       → given from ≡ 0 → Took contents old layout.first new
-      → SentSoFar layout contents from old from s new done
-  sent_first s new done going start took = record {
+      → SentSoFar layout contents from old from new done
+  sent_first new done going start took = record {
     found = [];
     bytes = [];
     blobs = refl;
@@ -145,11 +144,11 @@ module _ {R W : Type 0} {read : Ghosts R} (layout : Layout) (contents : W → Op
   }
 
   -- the text of one more blob was sent
-  pub sent_more : (mid to : Reader R read) (s t : Session) (out new : Output W) (done after : ℕ)
-      → SentSoFar layout contents from old mid s out done
-      → SendsBlob layout contents mid out done to t new after
-      → SentSoFar layout contents from old to t new after
-  sent_more mid to s t out new done after sent one = record {
+  pub sent_more : (mid to : Reader R read) (out new : Output W) (done after : ℕ)
+      → SentSoFar layout contents from old mid out done
+      → SendsBlob layout contents mid out done to new after
+      → SentSoFar layout contents from old to new after
+  sent_more mid to out new done after sent one = record {
     found = sent.found ++ one.found ∷ [];
     bytes = sent.bytes ++ one.gives.front;
     blobs = one_more (limits_of from) (limits_of mid) 0 (given mid) sent.bytes one.gives.front
@@ -170,13 +169,13 @@ module _ {R W : Type 0} {read : Ghosts R} (layout : Layout) (contents : W → Op
   }
 
   -- no text was sent after those of whole blobs
-  lists_whole : (A : Type 0) (answer : Result A Cause) (mid to : Reader R read) (s : Session)
+  lists_whole : (A : Type 0) (answer : Result A Cause) (mid to : Reader R read)
       (out new : Output W) (done after : ℕ) (failed : Bool)
-      (sent : SentSoFar layout contents from old mid s out done) → new ≡ out → after ≡ done
+      (sent : SentSoFar layout contents from old mid out done) → new ≡ out → after ≡ done
       → Follows mid to failed → UnlessRefused answer (is_spent new ≡ false)
       → Ends layout from to sent.bytes sent.found [] [] failed false answer
       → Lists layout contents from old to new after answer
-  lists_whole A answer mid to s out new done after failed sent same is follows unspent ends = record {
+  lists_whole A answer mid to out new done after failed sent same is follows unspent ends = record {
     text = listing_text layout sent.found;
     part = record {
       whole = sent.found;
@@ -207,11 +206,11 @@ module _ {R W : Type 0} {read : Ghosts R} (layout : Layout) (contents : W → Op
   }
 
   -- a prefix of the text of one more blob was sent
-  lists_cut : (A : Type 0) (mid to : Reader R read) (s : Session) (out new : Output W) (done after : ℕ)
-      (why : Cause) → sent_of old ≡ 0 → SentSoFar layout contents from old mid s out done
+  lists_cut : (A : Type 0) (mid to : Reader R read) (out new : Output W) (done after : ℕ)
+      (why : Cause) → sent_of old ≡ 0 → SentSoFar layout contents from old mid out done
       → after ≡ done → CutsBlob layout contents mid out to new why
       → Lists {A = A} layout contents from old to new after (Err why)
-  lists_cut A mid to s out new done after why none sent is one =
+  lists_cut A mid to out new done after why none sent is one =
       let cut = one.cut in
       let all = used_join (rest_of from) (rest_of mid) (rest_of to) 0 (given mid) (given to)
       sent.bytes one.gives.front sent.used one.gives.used in
@@ -265,11 +264,11 @@ module _ {R W : Type 0} {read : Ghosts R} (layout : Layout) (contents : W → Op
       })
 
   -- the text before the first blob was not sent whole
-  pub lists_none : (A : Type 0) (s : Session) (new : Output W) (done : ℕ) (text : List ℕ) (f : OutFault)
-      → text ≡ layout.first → IsGoing from s old done → given from ≡ 0 → sent_of old ≡ 0
+  pub lists_none : (A : Type 0) (new : Output W) (done : ℕ) (text : List ℕ) (f : OutFault)
+      → text ≡ layout.first → IsGoing from old done → given from ≡ 0 → sent_of old ≡ 0
       → Cut contents old text f new
       → Lists {A = A} layout contents from old from new done (Err (cause_of_output f))
-  lists_none A s new done text f own going start none cut =
+  lists_none A new done text f own going start none cut =
       let whole : listing_text layout [] ≡ text = append-nil layout.first ∙ sym own in
       record {
         text = cut.front;
@@ -301,12 +300,12 @@ module _ {R W : Type 0} {read : Ghosts R} (layout : Layout) (contents : W → Op
       }
 
   -- the end was found
-  pub lists_all : (A : Type 0) (answer : A) (mid to : Reader R read) (s t : Session)
-      (out new : Output W) (done after : ℕ) → SentSoFar layout contents from old mid s out done
-      → SendsNext layout contents mid out done to t new after (Ok false)
+  pub lists_all : (A : Type 0) (answer : A) (mid to : Reader R read)
+      (out new : Output W) (done after : ℕ) → SentSoFar layout contents from old mid out done
+      → SendsNext layout contents mid out done to new after (Ok false)
       → Lists layout contents from old to new after (Ok answer)
-  lists_all A answer mid to s t out new done after sent (ends, same, is) =
-      lists_whole A (Ok answer) mid to s out new done after false sent same is ends.follows
+  lists_all A answer mid to out new done after sent (ends, same, is) =
+      lists_whole A (Ok answer) mid to out new done after false sent same is ends.follows
       (ap is_spent same ∙ sent.going.unspent)
       (record {
         no_later = refl;
@@ -319,20 +318,20 @@ module _ {R W : Type 0} {read : Ghosts R} (layout : Layout) (contents : W → Op
       })
 
   -- the text of the next blob was not sent whole
-  pub lists_up_to : (A : Type 0) (mid to : Reader R read) (s t : Session) (out new : Output W)
+  pub lists_up_to : (A : Type 0) (mid to : Reader R read) (out new : Output W)
       (done after : ℕ) (why : Cause) → sent_of old ≡ 0
-      → SentSoFar layout contents from old mid s out done
-      → SendsNext layout contents mid out done to t new after (Err why)
+      → SentSoFar layout contents from old mid out done
+      → SendsNext layout contents mid out done to new after (Err why)
       → Lists {A = A} layout contents from old to new after (Err why)
-  lists_up_to A mid to s t out new done after why none sent (inl (missed, same), is) =
+  lists_up_to A mid to out new done after why none sent (inl (missed, same), is) =
       let misses : Misses (limits_of from) (rest_of mid) (given mid) (told_of to) why =
       subst (λ l. Misses l (rest_of mid) (given mid) (told_of to) why) sent.follows.limits missed.misses in
-      lists_whole A (Err why) mid to s out new done after (is_read why) sent same is missed.follows
+      lists_whole A (Err why) mid to out new done after (is_read why) sent same is missed.follows
       (λ no_write no_length. ap is_spent same ∙ sent.going.unspent)
       (record {
         explains = explained layout (limits_of from) (rest_of from) (rest_of mid) (told_of to)
             (given mid) sent.bytes sent.found why sent.blobs sent.used misses;
         tell = told_missed (limits_of from) (rest_of mid) (told_of to) (given mid) why misses;
       })
-  lists_up_to A mid to s t out new done after why none sent (inr one, is) =
-      lists_cut A mid to s out new done after why none sent is one
+  lists_up_to A mid to out new done after why none sent (inr one, is) =
+      lists_cut A mid to out new done after why none sent is one

@@ -13,9 +13,7 @@ use Rattle.twkb_grammar.specs.Fault.{FirstFault}
 use Rattle.twkb_engine.specs.declared.blob_reason.BlobReason.{BlobReason}
 use Rattle.twkb_engine.specs.Stops.{reason_of}
 use Rattle.twkb_blob.specs.Readers.{AreCutOff, has_ended, is_spent, reader_input, reader_limits, told_by}
-use Rattle.twkb_blob.specs.Through.{IsAbreast}
 use Rattle.twkb_blob.specs.declared.reader.Reader.{Reader}
-use Rattle.twkb_blob.specs.declared.session.Session.{Session}
 use Rattle.twkb_blob.specs.declared.spans.Located.{Located}
 use Rattle.twkb_convert.specs.LocatedBlobs.{TellsSpans}
 use Rattle.twkb_convert.specs.Listings.{Layout}
@@ -99,21 +97,20 @@ pub record Follows {R : Type 0} {read : Ghosts R} (old new : Reader R read) (has
   pub failures : reader_failures new ≡ count_failure has_failed (reader_failures old)
   pub within : given new ≤ MAX_BYTES
 
--- The reader is between two blobs, as is its session, and no call was refused or found the end.
-pub record IsBetween {R : Type 0} {read : Ghosts R} (reader : Reader R read) (s : Session) : Type 0 where
+-- No call of the reader or of its input was refused, and none of the reader found the end.
+pub record IsBetween {R : Type 0} {read : Ghosts R} (reader : Reader R read) : Type 0 where
   pub fresh : is_spent reader ≡ false
   pub going_on : has_ended reader ≡ false
   pub input : is_input_spent reader ≡ false
-  pub abreast : IsAbreast (limits_of reader) (reader_input reader) s
 
 -- One blob was read, this is its text, and the reader is between two blobs.
 pub record GivesText {R : Type 0} {read : Ghosts R} (layout : Layout) (from to : Reader R read)
-    (s : Session) (text : List ℕ) : Type 0 where
+    (text : List ℕ) : Type 0 where
   pub found : Located
   pub gives : GivesBlob (limits_of from) (rest_of from) (given from) found (rest_of to) (given to)
   pub own : text ≡ layout.text_of found
   pub follows : Follows from to false
-  pub between : IsBetween to s
+  pub between : IsBetween to
 
 -- No byte is left for another blob, nor in the device.
 pub record EndsBlobs {R : Type 0} {read : Ghosts R} (from to : Reader R read) : Type 0 where
@@ -128,7 +125,7 @@ pub record MissesText {R : Type 0} {read : Ghosts R} (from to : Reader R read) (
 
 -- the result of reading the next blob and making its text
 abbrev pub ReadsText : {R : Type 0} {read : Ghosts R} → Layout → Reader R read → Reader R read
-    → Session → List ℕ → Result Bool Cause → Type 0
-ReadsText layout from to s text (Ok true) = GivesText layout from to s text
-ReadsText layout from to s text (Ok false) = EndsBlobs from to
-ReadsText layout from to s text (Err why) = MissesText from to why
+    → List ℕ → Result Bool Cause → Type 0
+ReadsText layout from to text (Ok true) = GivesText layout from to text
+ReadsText layout from to text (Ok false) = EndsBlobs from to
+ReadsText layout from to text (Err why) = MissesText from to why

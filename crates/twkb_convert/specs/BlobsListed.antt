@@ -8,7 +8,6 @@ use Rattle.twkb_io.specs.Outputs.{Cut, Sent, Took, is_spent, output_failures}
 use Rattle.twkb_io.specs.declared.output.Output.{Output}
 use Rattle.twkb_io.specs.declared.output.OutFault.{OutFault}
 use Rattle.twkb_blob.specs.declared.reader.Reader.{Reader}
-use Rattle.twkb_blob.specs.declared.session.Session.{Session}
 use Rattle.twkb_blob.specs.declared.spans.Located.{Located}
 use Rattle.twkb_convert.specs.BlobReading.{EndsBlobs, Follows, GivesBlob, IsBetween, MissesText, Used, given, limits_of}
 use Rattle.twkb_convert.specs.BlobReading.{rest_of, told_of}
@@ -23,9 +22,9 @@ use Rattle.twkb_convert.specs.declared.report.Cause.{Cause}
 
 -- The reader is between two blobs, no put was refused, and the count is at most the number of bytes
 -- that the reader gave.
-pub record IsGoing {R W : Type 0} {read : Ghosts R} (reader : Reader R read) (s : Session)
-    (output : Output W) (done : ℕ) : Type 0 where
-  pub between : IsBetween reader s
+pub record IsGoing {R W : Type 0} {read : Ghosts R} (reader : Reader R read) (output : Output W)
+    (done : ℕ) : Type 0 where
+  pub between : IsBetween reader
   pub unspent : is_spent output ≡ false
   pub few : done ≤ given reader
 
@@ -34,12 +33,12 @@ pub record IsGoing {R W : Type 0} {read : Ghosts R} (reader : Reader R read) (s 
 -- One more blob was read, and its text was sent.
 pub record SendsBlob {R W : Type 0} {read : Ghosts R} (layout : Layout)
     (contents : W → Option (List ℕ)) (from : Reader R read) (old : Output W) (done : ℕ)
-    (to : Reader R read) (s : Session) (new : Output W) (after : ℕ) : Type 0 where
+    (to : Reader R read) (new : Output W) (after : ℕ) : Type 0 where
   pub found : Located
   pub gives : GivesBlob (limits_of from) (rest_of from) (given from) found (rest_of to) (given to)
   pub took : Took contents old (layout.text_of found) new
   pub follows : Follows from to false
-  pub going : IsGoing to s new after
+  pub going : IsGoing to new after
   pub count : after ≡ done + 1
 
 -- One more blob was read, and the put of its text was refused.
@@ -56,13 +55,12 @@ pub record CutsBlob {R W : Type 0} {read : Ghosts R} (layout : Layout)
 -- the result of sending the text of the next blob: nothing is sent or counted if there was none or
 -- if its text was not made
 abbrev pub SendsNext : {R W : Type 0} {read : Ghosts R} → Layout → (W → Option (List ℕ))
-    → Reader R read → Output W → ℕ → Reader R read → Session → Output W → ℕ → Result Bool Cause
-    → Type 0
-SendsNext layout contents from old done to s new after (Ok true) =
-    SendsBlob layout contents from old done to s new after
-SendsNext layout contents from old done to s new after (Ok false) =
+    → Reader R read → Output W → ℕ → Reader R read → Output W → ℕ → Result Bool Cause → Type 0
+SendsNext layout contents from old done to new after (Ok true) =
+    SendsBlob layout contents from old done to new after
+SendsNext layout contents from old done to new after (Ok false) =
     EndsBlobs from to × (new ≡ old) × (after ≡ done)
-SendsNext layout contents from old done to s new after (Err why) =
+SendsNext layout contents from old done to new after (Err why) =
     ((MissesText from to why × (new ≡ old)) ⊎ CutsBlob layout contents from old to new why) × (after ≡ done)
 
 -- ---- all blobs
@@ -71,7 +69,7 @@ SendsNext layout contents from old done to s new after (Err why) =
 -- read nothing, and nothing was refused.
 pub record SentSoFar {R W : Type 0} {read : Ghosts R} (layout : Layout)
     (contents : W → Option (List ℕ)) (from : Reader R read) (old : Output W) (to : Reader R read)
-    (s : Session) (new : Output W) (done : ℕ) : Type 0 where
+    (new : Output W) (done : ℕ) : Type 0 where
   pub found : List Located
   pub bytes : List ℕ
   pub blobs : LocatedStream (limits_of from) 0 bytes found
@@ -79,7 +77,7 @@ pub record SentSoFar {R W : Type 0} {read : Ghosts R} (layout : Layout)
   pub took : Took contents old (listing_text layout found) new
   pub count : done ≡ length found
   pub follows : Follows from to false
-  pub going : IsGoing to s new done
+  pub going : IsGoing to new done
 
 -- All bytes are the blobs whose text was sent, no device failed, and the reader is at its end.
 pub record ListsAll {R : Type 0} {read : Ghosts R} (from to : Reader R read) (bytes : List ℕ)

@@ -1,5 +1,6 @@
 //! The texts that are made of a stream's blobs: rows of a table, or lines of headers.
 ghost use Rattle.std.specs.Prelude.{◌≡◌, ℕ, List};
+ghost use Rattle.twkb_blob.specs.StreamReaders.{reader_in};
 ghost use Rattle.twkb_convert.specs.BlobReading.{IsBetween, ReadsText};
 ghost use Rattle.twkb_convert.specs.Listings.{Layout};
 
@@ -8,7 +9,7 @@ use crate::report::Cause;
 use crate::span_line::put_lines;
 use std::alloc::{AllocError, Global};
 use std::io::Read;
-use twkb_blob::{Reader, Session, Spans};
+use twkb_blob::{Spans, StreamReader};
 use twkb_flat::Work;
 use twkb_table::{header_text, put_flat_rows};
 
@@ -28,14 +29,10 @@ pub(crate) trait BlobText {
     fn bytes(&self) -> &[u8]
         ensures text { result.now ≡ made self.now };
 
-    // Reads the next blob through the session and makes its text; false if there is none.
-    fn read_next<R: Read>(
-        &mut self,
-        reader: &mut Reader<'_, R>,
-        session: &mut Session,
-    ) -> Result<bool, Cause>
-        requires between { IsBetween reader.old session.old }
-        ensures reads { ReadsText layout reader.old reader.new session.new (made self.new) result };
+    // Reads the next blob and makes its text; false if there is none.
+    fn read_next<R: Read>(&mut self, blobs: &mut StreamReader<'_, '_, R>) -> Result<bool, Cause>
+        requires between { IsBetween (reader_in blobs.old) }
+        ensures reads { ReadsText layout (reader_in blobs.old) (reader_in blobs.new) (made self.new) result };
 }
 
 // The bytes that a text has room for at first.
@@ -83,12 +80,8 @@ impl BlobText for TableRows {
         self.text.as_slice()
     }
 
-    fn read_next<R: Read>(
-        &mut self,
-        reader: &mut Reader<'_, R>,
-        session: &mut Session,
-    ) -> Result<bool, Cause> {
-        match reader.next_through(session) {
+    fn read_next<R: Read>(&mut self, blobs: &mut StreamReader<'_, '_, R>) -> Result<bool, Cause> {
+        match blobs.next() {
             Ok(true) => {}
             Ok(false) => return Ok(false),
             Err(fault) => return Err(cause_of_blob(fault)),
@@ -97,7 +90,7 @@ impl BlobText for TableRows {
         if make_room(&mut self.text).is_err() {
             return Err(Cause::Memory);
         }
-        if put_flat_rows(session.rows(), &mut Work::new(), &mut self.text).is_err() {
+        if put_flat_rows(blobs.rows(), &mut Work::new(), &mut self.text).is_err() {
             return Err(Cause::Memory);
         }
         Ok(true)
@@ -136,12 +129,8 @@ impl BlobText for HeaderLines {
         self.text.as_slice()
     }
 
-    fn read_next<R: Read>(
-        &mut self,
-        reader: &mut Reader<'_, R>,
-        session: &mut Session,
-    ) -> Result<bool, Cause> {
-        match reader.next_spans_through(session, &mut self.spans) {
+    fn read_next<R: Read>(&mut self, blobs: &mut StreamReader<'_, '_, R>) -> Result<bool, Cause> {
+        match blobs.next_spans(&mut self.spans) {
             Ok(true) => {}
             Ok(false) => return Ok(false),
             Err(fault) => return Err(cause_of_blob(fault)),

@@ -1,6 +1,7 @@
 //! The listing of a stream of blobs: the text of each blob, sent before a byte of the next one is read.
 ghost use Rattle.std.specs.Prelude.{◌≡◌, IfOk, IfErr};
 ghost use Rattle.twkb_io.specs.Outputs.{sent_of};
+ghost use Rattle.twkb_blob.specs.StreamReaders.{reader_in};
 ghost use Rattle.twkb_convert.specs.BlobReading.{given};
 ghost use Rattle.twkb_convert.specs.LocatedBlobs.{LocatedStream, geometries_of};
 ghost use Rattle.twkb_convert.specs.Listings.{listing_text};
@@ -14,7 +15,7 @@ use crate::flushing::flush_last;
 use crate::report::{Cause, ConvertFault, Report};
 use std::alloc::Global;
 use std::io::{Read, Write};
-use twkb_blob::{Reader, Session};
+use twkb_blob::{StreamReader, StreamRoom};
 use twkb_io::{Input, Output, Sink, Tap};
 use twkb_tree::Limits;
 
@@ -35,9 +36,9 @@ pub(crate) fn list_stream<R: Read, W: Write, T: BlobText>(
     ensures flushed { IsFlushed result writer.new }
 {
     let mut output = Output::new(writer);
-    let mut blobs = Reader::new(Input::new(reader), limits);
-    let mut session = Session::new(alloc, limits);
-    let (done, sending) = list_blobs(text, &mut blobs, &mut session, &mut output);
+    let mut room = StreamRoom::new(alloc);
+    let mut blobs = StreamReader::new(Input::new(reader), limits, &mut room);
+    let (done, sending) = list_blobs(text, &mut blobs, &mut output);
     let listed = flush_last(&mut output, sending);
     let sent = output.sent();
     match listed {
@@ -53,18 +54,17 @@ pub(crate) fn list_stream<R: Read, W: Write, T: BlobText>(
 // sent whole.
 fn list_blobs<R: Read, W: Write, T: BlobText>(
     text: &mut T,
-    reader: &mut Reader<'_, R>,
-    session: &mut Session,
+    blobs: &mut StreamReader<'_, '_, R>,
     output: &mut Output<'_, W>,
 ) -> (u64, Result<(), Cause>)
-    requires going { IsGoing reader.old session.old output.old 0 }
-    requires unread { given reader.old ≡ 0 }
+    requires going { IsGoing (reader_in blobs.old) output.old 0 }
+    requires unread { given (reader_in blobs.old) ≡ 0 }
     requires unsent { sent_of output.old ≡ 0 }
-    ensures lists { Lists T.layout W.contents reader.old output.old reader.new output.new result.0 result.1 }
+    ensures lists { Lists T.layout W.contents (reader_in blobs.old) output.old (reader_in blobs.new)
+        output.new result.0 result.1 }
 {
     let mut listing = Listing {
-        reader,
-        session,
+        blobs,
         text,
         output,
         done: 0,
@@ -73,12 +73,11 @@ fn list_blobs<R: Read, W: Write, T: BlobText>(
     (listing.done, listed)
 }
 
-// A stream that is listed: the reader of its blobs, the session through which they are read, the
-// text made last, the output, and the number of blobs whose text was sent whole.
+// A stream that is listed: the reader of its blobs, the text made last, the output, and the number
+// of blobs whose text was sent whole.
 #[derive(Drop)]
 struct Listing<'a, 'b, 'c, 'd, 'e, 'f, R: Read, W, T> {
-    reader: &'a mut Reader<'b, R>,
-    session: &'c mut Session,
+    blobs: &'a mut StreamReader<'b, 'c, R>,
     text: &'d mut T,
     output: &'e mut Output<'f, W>,
     done: u64,
@@ -100,12 +99,12 @@ impl<'a, 'b, 'c, 'd, 'e, 'f, R: Read, W: Write, T: BlobText> Listing<
 
     // Sends the text before the first blob, and then the text of each blob.
     fn send_all(&mut self) -> Result<(), Cause>
-        requires going { IsGoing self.old.reader.now self.old.session.now self.old.output.now self.old.done }
-        requires unread { given self.old.reader.now ≡ 0 }
+        requires going { IsGoing (reader_in self.old.blobs.now) self.old.output.now self.old.done }
+        requires unread { given (reader_in self.old.blobs.now) ≡ 0 }
         requires unsent { sent_of self.old.output.now ≡ 0 }
         ensures keeps { Keeps self.old self.new }
-        ensures lists { Lists T.layout W.contents self.old.reader.now self.old.output.now
-            self.new.reader.now self.new.output.now self.new.done result }
+        ensures lists { Lists T.layout W.contents (reader_in self.old.blobs.now) self.old.output.now
+            (reader_in self.new.blobs.now) self.new.output.now self.new.done result }
     {
         match self.output.put(T::first_line()) {
             Ok(()) => {}
@@ -122,12 +121,12 @@ impl<'a, 'b, 'c, 'd, 'e, 'f, R: Read, W: Write, T: BlobText> Listing<
 
     // Sends the text of the next blob in one put, and returns whether there was one.
     fn send_next(&mut self) -> Result<bool, Cause>
-        requires going { IsGoing self.old.reader.now self.old.session.now self.old.output.now self.old.done }
+        requires going { IsGoing (reader_in self.old.blobs.now) self.old.output.now self.old.done }
         ensures keeps { Keeps self.old self.new }
-        ensures sends { SendsNext T.layout W.contents self.old.reader.now self.old.output.now self.old.done
-            self.new.reader.now self.new.session.now self.new.output.now self.new.done result }
+        ensures sends { SendsNext T.layout W.contents (reader_in self.old.blobs.now) self.old.output.now
+            self.old.done (reader_in self.new.blobs.now) self.new.output.now self.new.done result }
     {
-        match self.text.read_next(self.reader, self.session) {
+        match self.text.read_next(self.blobs) {
             Ok(true) => {}
             Ok(false) => return Ok(false),
             Err(why) => return Err(why),

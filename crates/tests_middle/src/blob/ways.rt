@@ -1,7 +1,7 @@
 //! The ways to read a geometry and to feed a piece.
 use std::alloc::Global;
 use std::io::Read;
-use twkb_blob::{BlobFault, Located, Reader, Session, Spans};
+use twkb_blob::{BlobFault, Located, Reader, Session, Spans, StreamReader, StreamRoom};
 use twkb_geom::{Flat, Limits};
 use twkb_io::{Input, Tap};
 
@@ -60,22 +60,30 @@ fn read_rows<R: Read>(
 
 // Reads the next rows with their spans, and counts the spans; 0 if there are no rows.
 fn read_spanned_rows<R: Read>(
-    alloc: Global,
-    reader: &mut Reader<'_, R>,
-    flat: &mut Flat,
+    blobs: &mut StreamReader<'_, '_, R>,
+    spans: &mut Spans,
 ) -> Result<u64, BlobFault> {
-    let mut spans = Spans::new(alloc);
-    let answer = reader.next_spans(alloc, flat, &mut spans);
-    let count = spans.as_slice().len() as u64;
-    drop(spans);
-    match answer {
-        Ok(_) => Ok(if flat.is_empty() { 0 } else { count }),
+    match blobs.next_spans(spans) {
+        Ok(true) => Ok(spans.as_slice().len() as u64),
+        Ok(false) => Ok(0),
         Err(fault) => Err(fault),
     }
 }
 
-// Reads a geometry, and counts its rows, or its spans if it comes with them; 0 if there is none,
-// or the fault.
+// The answers to two calls of a reader of a whole stream.
+fn read_spans_twice<R: Read>(alloc: Global, tap: &mut Tap<R>) -> [Result<u64, BlobFault>; 2] {
+    let mut room = StreamRoom::new(alloc);
+    let mut blobs = StreamReader::new(Input::new(tap), Limits::standard(), &mut room);
+    let mut spans = Spans::new(alloc);
+    let first = read_spanned_rows(&mut blobs, &mut spans);
+    let second = read_spanned_rows(&mut blobs, &mut spans);
+    drop(spans);
+    drop(blobs);
+    [first, second]
+}
+
+// Reads a geometry, and counts its rows, or the spans of a tree that comes with them; 0 if there is
+// none, or the fault.
 fn read<R: Read>(
     alloc: Global,
     way: Way,
@@ -85,17 +93,20 @@ fn read<R: Read>(
     match way {
         Way::Tree => read_tree(alloc, reader),
         Way::Located => read_spans(alloc, reader),
-        Way::Rows => read_rows(alloc, reader, flat),
-        Way::Spans => read_spanned_rows(alloc, reader, flat),
+        Way::Rows | Way::Spans => read_rows(alloc, reader, flat),
     }
 }
 
-/// The answers to two calls of a reader over a device.
+/// The answers to two calls of a reader over a device; rows with their spans are read by a reader
+/// of a whole stream.
 pub fn read_twice<R: Read>(
     alloc: Global,
     way: Way,
     tap: &mut Tap<R>,
 ) -> [Result<u64, BlobFault>; 2] {
+    if let Way::Spans = way {
+        return read_spans_twice(alloc, tap);
+    }
     let mut reader = Reader::new(Input::new(tap), Limits::standard());
     let mut flat = Flat::new(alloc);
     let first = read(alloc, way, &mut reader, &mut flat);

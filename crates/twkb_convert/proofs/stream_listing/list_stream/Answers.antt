@@ -1,27 +1,21 @@
 use Rattle.std.proofs.Common.{◌≡◌, arith, false, rules}
 use Rattle.twkb_io.specs.Outputs.{output_tap}
 use Rattle.twkb_io.specs.Taps.{has_unflushed}
+use Rattle.twkb_blob.specs.StreamReaders.{reader_in}
 use Rattle.twkb_convert.proofs.ListingEnds.{flushed_last, listed, lists_last, stopped}
-use Rattle.twkb_convert.proofs.SessionLemmas.{ready_first}
 use Rattle.twkb_convert.proofs.stream_listing.list_stream.Goals as goal
 
 pub list_blobs-done-requires-clause-going : goal.list_blobs-done-requires-clause-going
 list_blobs-done-requires-clause-going g c = record {
-  between = record {
-    fresh = search rules;
-    going_on = search rules;
-    input = search rules;
-    abreast = ready_first c.new-blobs.result c.new-session.result c.args.limits
-        c.new-session.ensures.stands c.new-session.ensures.limits (search rules) (search rules);
-  };
+  between = record { fresh = search rules; going_on = search rules; input = search rules };
   unspent = search rules;
   few = omega arith;
 }
 
 pub returns-in-Ok-clause-ok : goal.returns-in-Ok-clause-ok
 returns-in-Ok-clause-ok g c =
-    listed g.T.BlobText.layout g.R.Read.remaining g.W.Write.contents _ _ _ _ _ c.new-blobs.result
-    c.list_blobs-done.new.reader c.new-output.result c.flush_last-listed.new.output _ _
+    listed g.T.BlobText.layout g.R.Read.remaining g.W.Write.contents _ _ _ _ _ (reader_in c.new-blobs.result)
+    (reader_in c.list_blobs-done.new.blobs) c.new-output.result c.flush_last-listed.new.output _ _
     (search rules) (search rules) (search rules) (search rules) (search rules) (search rules)
     (search rules) (search rules) (search rules) _
     (lists_last g.T.BlobText.layout g.W.Write.contents _ _ _ _ _ _ _ c.list_blobs-done.ensures.lists _
@@ -29,8 +23,8 @@ returns-in-Ok-clause-ok g c =
 
 pub returns-clause-err : goal.returns-clause-err
 returns-clause-err g c =
-    stopped g.T.BlobText.layout g.R.Read.remaining g.W.Write.contents _ _ _ _ _ c.new-blobs.result
-    c.list_blobs-done.new.reader c.new-output.result c.flush_last-listed.new.output _ _
+    stopped g.T.BlobText.layout g.R.Read.remaining g.W.Write.contents _ _ _ _ _ (reader_in c.new-blobs.result)
+    (reader_in c.list_blobs-done.new.blobs) c.new-output.result c.flush_last-listed.new.output _ _
     (search rules) (search rules) (search rules) (search rules) (search rules) (search rules)
     (search rules) (search rules) (search rules) c.in-Err.cause
     (lists_last g.T.BlobText.layout g.W.Write.contents _ _ _ _ _ _ _ c.list_blobs-done.ensures.lists _

@@ -1,35 +1,34 @@
-use Rattle.std.proofs.Common.{rules, sym, subst, ◌≡◌, Ok, true}
+use Rattle.std.proofs.Common.{rules, sym, subst, ◌≡◌, Ok, refl, true}
 use Rattle.twkb_tree.proofs.RootLaws.{one_geometry}
 use Rattle.twkb_blob.specs.Readers.{reader_input, reader_limits}
-use Rattle.twkb_blob.specs.Located.{HasSpans, IsSpanned}
-use Rattle.twkb_blob.proofs.Answering.{made_ahead}
-use Rattle.twkb_blob.proofs.Calls.{came}
+use Rattle.twkb_blob.specs.Located.{HasSpans}
+use Rattle.twkb_blob.proofs.Answering.{made_ahead, same_answer, spanned_next}
+use Rattle.twkb_blob.proofs.Calls.{came, some_came}
 use Rattle.twkb_blob.proofs.Trees.{tree_made}
 use Rattle.twkb_blob.proofs.reader.Reader.next_located.Goals as goal
 
+pub tree_of-requires : goal.tree_of-requires
+tree_of-requires g c = some_came c.read_anew.ensures.shared c.read_anew.ensures.read (search rules)
+
 pub returns-in_err-geometry-clause-memory : goal.returns-in_err-geometry-clause-memory
 returns-in_err-geometry-clause-memory g c = λ is.
-    let old = c.args.self.now in
-    let read = c.next_spans in
+    let read = c.read_anew in
     let found : read.result ≡ Ok true = search rules in
-    let next = came read.ensures.shared found read.ensures.next in
-    made_ahead (subst (λ r. IsSpanned (reader_limits old) (reader_input old)
-    (reader_input read.new.self) r read.new.flat read.new.spans) found next).1.made
+    made_ahead (same_answer found (came read.ensures.shared found read.ensures.read)).is.1
 
 pub returns-clause-next : goal.returns-clause-next
 returns-clause-next g c = λ live going.
     let old = c.args.self.now in
-    let read = c.next_spans in
+    let read = c.read_anew in
     let tree = c.in_ok-geometry in
     let found : read.result ≡ Ok true = search rules in
-    let (h, has, is) = subst (λ r. IsSpanned (reader_limits old) (reader_input old)
-    (reader_input read.new.self) r read.new.flat read.new.spans) found
-    (read.ensures.next live going) in
+    let (h, has, is) = spanned_next (Ok true) (same_answer found (read.ensures.read live going)) (λ e. refl) in
     let spans : HasSpans (reader_limits old) (reader_input old) (reader_input c.tree_of.new.self)
-    tree.geometry read.new.spans =
-    subst (λ i. HasSpans (reader_limits old) (reader_input old) i tree.geometry read.new.spans)
+    tree.geometry read.new.spans.spans =
+    subst (λ i. HasSpans (reader_limits old) (reader_input old) i tree.geometry read.new.spans.spans)
     (sym c.tree_of.ensures.kept.0)
-    (subst (λ t. HasSpans (reader_limits old) (reader_input old) (reader_input read.new.self) t read.new.spans)
+    (subst (λ t. HasSpans (reader_limits old) (reader_input old) (reader_input read.new.self) t
+    read.new.spans.spans)
     (tree_made one_geometry read.new.flat h tree.geometry has.made.blob.valid.tree is
     tree.ensures.rows tree.ensures.valid) has) in
     record { next = spans.made; spans = spans }

@@ -1,0 +1,121 @@
+//! The blobs of an input, one after another, through one engine and one form.
+ghost use Rattle.std.specs.Prelude.{◌≡◌, ◌≤◌, ◌^◌, [], false};
+ghost use Rattle.std.proofs.Props.{props};
+ghost use Rattle.twkb_engine.specs.State.{allowance_of};
+ghost use Rattle.twkb_engine.specs.Standing.{StandsAt};
+ghost use Rattle.twkb_blob.specs.Readers.{IsAbreast};
+
+use crate::fault::BlobFault;
+use crate::reader::Reader;
+use crate::spans::{Spans, keep_spans};
+use std::alloc::Global;
+use std::io::Read;
+use twkb_engine::{Engine, NoSpans};
+use twkb_flat::{Flat, Rows};
+use twkb_io::Input;
+use twkb_tree::Limits;
+
+/// The memory in which a `StreamReader` reads, which can serve one stream after another: it keeps the room that it has
+/// grown to.
+#[derive(Drop)]
+pub struct StreamRoom {
+    alloc: Global,
+    engine: Engine,
+    rows: Rows,
+}
+
+impl StreamRoom {
+    /// Room for nothing yet. Takes no memory.
+    pub fn new(alloc: Global) -> StreamRoom {
+        StreamRoom {
+            alloc,
+            engine: Engine::new(alloc, Limits::standard(), 0),
+            rows: Rows {
+                flat: Flat::new(alloc),
+            },
+        }
+    }
+
+    // Goes to a blob at this offset of a stream, and forgets the rows.
+    fn restart(&mut self, limits: Limits, start: u64)
+        requires room { start ≤ 2 ^ 63 }
+        ensures stands { StandsAt [] [] self.new.engine }
+        ensures limits { allowance_of self.new.engine ≡ limits }
+        ensures start { self.new.engine.start ≡ start }
+        ensures rows { self.new.rows.flat ≡ [] }
+    {
+        self.engine = Engine::new(self.alloc, limits, start);
+        self.rows.flat.clear();
+    }
+}
+
+/// The blobs of an input, one after another, read into borrowed room, which keeps the rows of the last one. It is the
+/// quickest way through a whole stream; a `Reader` gives a geometry, or rows in a form of the caller's.
+#[derive(Drop)]
+pub struct StreamReader<'a, 'b, R: Read> {
+    reader: Reader<'a, R>,
+    room: &'b mut StreamRoom,
+    ghost abreast: { IsAbreast reader room.now.engine } by { Prim.hlevel props },
+}
+
+impl<'a, 'b, R: Read> StreamReader<'a, 'b, R> {
+    ghost use Rattle.twkb_blob.specs.Readers.{ReadsRows, has_ended, is_spent, reader_input, reader_limits};
+    ghost use Rattle.twkb_blob.specs.Located.{ReadsSpans};
+    ghost use Rattle.twkb_blob.specs.StreamReaders.{reader_in, rows_in};
+
+    /// A reader of what the input still has, which forgets the rows in the room. Takes no memory.
+    pub fn new(
+        input: Input<'a, R>,
+        limits: Limits,
+        room: &'b mut StreamRoom,
+    ) -> StreamReader<'a, 'b, R>
+        ensures input { reader_input (reader_in result) ≡ input.entry }
+        ensures limits { reader_limits (reader_in result) ≡ limits }
+        ensures fresh { is_spent (reader_in result) ≡ false }
+        ensures not_ended { has_ended (reader_in result) ≡ false }
+        ensures rows { rows_in result ≡ [] }
+    {
+        room.restart(limits, input.offset());
+        StreamReader {
+            reader: Reader::new(input, limits),
+            room,
+        }
+    }
+
+    /// Reads the next geometry, whose blob leaves the input, and no further byte, and answers
+    /// whether there was one. Its rows are in `rows` until the next call; after a false and after
+    /// an `Err` there are none. After an `Err` each call answers `Spent`, and after the end each
+    /// call answers false; neither reads. It takes memory for rows and points past its room, and
+    /// for nested collections, and none for a further geometry once there is room for it.
+    pub fn next(&mut self) -> Result<bool, BlobFault>
+        ensures { ReadsRows (reader_in self.old) (reader_in self.new) result (rows_in self.new) }
+    {
+        let room = &mut *self.room;
+        self.reader
+            .read_with(&mut room.engine, &mut room.rows.flat, &mut NoSpans)
+    }
+
+    /// Reads the next geometry, as `next` does, and puts the spans of its headers, as
+    /// `Reader::next_located` gives them, into a list, in place of what that holds; after a false
+    /// and after an `Err` both are empty. It takes memory as `next` does, and for spans past the
+    /// room of the list.
+    pub fn next_spans(&mut self, spans: &mut Spans) -> Result<bool, BlobFault>
+        ensures { ReadsSpans (reader_in self.old) (reader_in self.new) result (rows_in self.new) spans.new }
+    {
+        spans.notes.restart();
+        let room = &mut *self.room;
+        let found = self
+            .reader
+            .read_with(&mut room.engine, &mut room.rows.flat, &mut spans.notes);
+        keep_spans(found, spans);
+        found
+    }
+
+    /// The rows of the geometry that the last call read, if it read one; their points are slices.
+    /// Takes no memory.
+    pub fn rows(&self) -> &Rows
+        ensures { result.now.flat ≡ rows_in self.now }
+    {
+        &self.room.rows
+    }
+}
