@@ -1,4 +1,5 @@
 -- Lemmas of the crate, by their topic.
+pub mod CopyLemmas
 pub mod FaultLemmas
 pub mod HeldLemmas
 pub mod OutputLemmas

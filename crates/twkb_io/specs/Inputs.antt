@@ -1,6 +1,6 @@
 -- The bytes that an input has left, and the effect of one step.
-use Rattle.std.specs.Prelude.{ℕ, ◌≡◌, ◌+◌, List, [], ◌∷◌, ◌++◌, ◌-◌, Option, Some, None, IfSome, Bool}
-use Rattle.std.specs.Prelude.{true, false, take, slice_range, Result, Ok, Err}
+use Rattle.std.specs.Prelude.{ℕ, ◌+◌, List, [], ◌∷◌, ◌-◌, Option, Some, None, Bool, true}
+use Rattle.std.specs.Prelude.{false, take, slice_range, Result, Ok, Err}
 use Rattle.std.specs.Io.KnownBytes.{Consumes, IsAtEnd, Keeps, prepend_known}
 use Rattle.std.specs.Borrow.{MutBor}
 use Rattle.std.specs.declared.io.traits.Read.{Ghosts}
@@ -66,7 +66,3 @@ is_read fault.Spent = false
 abbrev pub is_read_fault : {A : Type 0} → Result A InFault → Bool
 is_read_fault (Ok found) = false
 is_read_fault (Err e) = is_read e
-
--- the known bytes begin with these bytes
-abbrev pub BeginsWith : Option (List ℕ) → List ℕ → Type 0
-BeginsWith rest front = IfSome rest (λ bytes. (left : List ℕ) × (bytes ≡ front ++ left))

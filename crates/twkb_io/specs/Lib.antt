@@ -9,3 +9,4 @@ pub mod Bytes
 pub mod Outputs
 pub mod OutputLaws
 pub mod Fuses
+pub mod Copies
