@@ -1,7 +1,7 @@
 -- The reason of the first test of a row that fails.
 use Rattle.std.proofs.Common.{◌≡◌, ◌∙◌, ◌<◌, ◌^◌, ℕ, Bool, true, false, List, [], ◌∷◌, ◌++◌, Option, Some}
 use Rattle.std.proofs.Common.{None, refl, sym, subst, bit_or, inl, inr, arith, lit<}
-use Rattle.std.specs.Prelude.{ℤ, is_some, is_none, ◌||◌, ◌↔◌, MatchOption, nat_lt}
+use Rattle.std.specs.Prelude.{ℤ, ◌↔◌, MatchOption, nat_lt}
 use Rattle.std.proofs.lemmas.Bool.{cases_Bool}
 use Rattle.std.proofs.lemmas.Bool.Decides.{nat_tests}
 use Rattle.std.proofs.Math.Nat.{lt_of_le_of_lt}

@@ -14,7 +14,8 @@ use Rattle.twkb_tree.proofs.RootLimits.{continued}
 use Rattle.twkb_grammar.specs.Written.{canonical_blob}
 use Rattle.twkb_grammar.specs.declared.style.Style.{Style}
 use Rattle.twkb_writer.specs.PointBlob.{one_point}
-use Rattle.twkb_arrays.specs.OpenRows.{lone_row, open_rows}
+use Rattle.twkb_table.specs.Waiting.{point_row}
+use Rattle.twkb_arrays.specs.OpenRows.{open_rows}
 use Rattle.twkb_arrays.specs.declared.open_geometry.LonePoint.{LonePoint}
 use Rattle.twkb_arrays.proofs.LoneLemmas.{point_first}
 
@@ -24,7 +25,7 @@ CanBeAlone lone = IsPrecision lone.precision × IsInRange lone.point
 
 -- the geometry is this point
 pub is_alone : (given form : List Row) (o : Option LonePoint) (lone : LonePoint) → open_rows o form ≡ given
-    → o ≡ Some lone → given ≡ lone_row lone ∷ []
+    → o ≡ Some lone → given ≡ point_row lone.precision lone.point ∷ []
 is_alone given form o lone view is = sym view ∙ ap (λ (p : Option LonePoint). open_rows p form) is
 
 -- it can be alone
@@ -32,15 +33,15 @@ pub can_be_alone : (o : Option LonePoint) (lone : LonePoint) → IfSome o CanBeA
 can_be_alone o lone can is = subst (λ (p : Option LonePoint). IfSome p CanBeAlone) is can
 
 -- its row is that of a geometry
-pub alone_valid : (given : List Row) (lone : LonePoint) → CanBeAlone lone → given ≡ lone_row lone ∷ []
+pub alone_valid : (given : List Row) (lone : LonePoint) → CanBeAlone lone → given ≡ point_row lone.precision lone.point ∷ []
     → AreValidRowsOfOne largest_limits given
 alone_valid given lone can is = subst (AreValidRowsOfOne largest_limits) (sym is)
-    (continued largest_limits [] (lone_row lone) tt
+    (continued largest_limits [] (point_row lone.precision lone.point) tt
     (point_first largest_limits lone.precision lone.point (lit< tt) (lit< tt) can.0 can.1))
 
 -- its blob is that of the geometry with its row
 alone_made : (given : List Row) (lone : LonePoint) (style : Style) (blob : List ℕ) → CanBeAlone lone
-    → given ≡ lone_row lone ∷ []
+    → given ≡ point_row lone.precision lone.point ∷ []
     → (IsPrecision lone.precision → blob ≡ canonical_blob style (one_point lone.precision lone.point))
     → (g : Tree) → IsTree g → rows 0 g ≡ given → blob ≡ canonical_blob style g
 alone_made given lone style blob can is made g tree same =
@@ -57,7 +58,7 @@ precision_passed n h = to_z-of_z w8 n (precision_fits n h)
 
 -- if its blob was made, it is that of the geometry
 pub alone_if_made : {A E : Type 0} (result : Result A E) (given : List Row) (lone : LonePoint) (style : Style)
-    (blob : List ℕ) → CanBeAlone lone → given ≡ lone_row lone ∷ []
+    (blob : List ℕ) → CanBeAlone lone → given ≡ point_row lone.precision lone.point ∷ []
     → OnOk result (IsPrecision (to_z w8 (of_z w8 lone.precision))
     → blob ≡ canonical_blob style (one_point (to_z w8 (of_z w8 lone.precision)) lone.point))
     → OnOk result ((g : Tree) → IsTree g → rows 0 g ≡ given → blob ≡ canonical_blob style g)

@@ -1,5 +1,5 @@
 -- A row that is appended to a form, or is not.
-use Rattle.std.specs.Prelude.{◌≡◌, ℕ, ◌<◌, pos, List, [], ◌∷◌, length, take}
+use Rattle.std.specs.Prelude.{◌≡◌, ◌<◌, pos, List, [], ◌∷◌, length, take}
 use Rattle.twkb_points.specs.Point.{Point, IsInRange}
 use Rattle.twkb_tree.specs.Limits.{Allowance}
 use Rattle.twkb_tree.specs.Tree.{IsPrecision}

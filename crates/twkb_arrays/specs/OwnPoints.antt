@@ -1,5 +1,5 @@
 -- The points of a row that are appended to a form.
-use Rattle.std.specs.Prelude.{◌≡◌, ℕ, List, ⊥}
+use Rattle.std.specs.Prelude.{◌≡◌, ℕ, List}
 use Rattle.twkb_points.specs.Point.{Point, AreInRange}
 use Rattle.twkb_tree.specs.Refusal.{CoordinateRange}
 use Rattle.twkb_arrays.specs.Judging.{refusal_number}

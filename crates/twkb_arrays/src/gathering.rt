@@ -4,15 +4,13 @@ ghost use Rattle.std.specs.Prelude.{IfSome, true};
 ghost use Rattle.twkb_tree.specs.Rows.{Row as TableRow};
 ghost use Rattle.twkb_tree.specs.RowLists.{AreValidRowsOfOne};
 ghost use Rattle.twkb_flat.specs.Stops.{IfRefused};
-ghost use Rattle.twkb_flat.specs.declared.stop.Stop.TheVariants.{Refused};
-ghost use Rattle.twkb_buffer.specs.Numbers.{row_number_of};
 ghost use Rattle.twkb_arrays.specs.Gathering.{BeginsAlone, IsLone};
 ghost use Rattle.twkb_arrays.specs.Judging.{AcceptedAfter, RefusedAfter};
 
-use crate::judging::{bare_row, has_right_id, kind_of, refused_row};
+use crate::judging::{bare_row, has_right_id, kind_of, refused, refused_row};
 use crate::own_points::OwnPoints;
 use crate::row::BufferRow;
-use twkb_buffer::{BufferPoint, as_point, row_number};
+use twkb_buffer::{BufferPoint, as_point};
 use twkb_convert::RowReason;
 use twkb_flat::{Flat, Stop};
 use twkb_points::Pt;
@@ -23,14 +21,6 @@ const POINTS_MISSING: u32 = 71;
 
 // The number of the kind of a point.
 const POINT: u16 = 1;
-
-// A row, or the points of one, are refused for the reason of the same row of a table.
-#[inline(always)]
-pub(crate) fn refused(reason: RowReason) -> Stop<u32>
-    ensures { result ≡ Refused (row_number_of reason) }
-{
-    Stop::Refused(row_number(reason))
-}
 
 // Whether the row is that of a point which is a geometry itself: a root with one point, a
 // precision, and no id.

@@ -7,16 +7,18 @@ ghost use Rattle.twkb_tree.specs.Open.{row_of, child_of};
 ghost use Rattle.twkb_tree.specs.Refusal.{are_in_range, has_none};
 ghost use Rattle.twkb_tree.specs.Refusal.{id_checks, point_checks, precision_checks};
 ghost use Rattle.twkb_flat.specs.Rows.{row_with};
+ghost use Rattle.twkb_flat.specs.declared.stop.Stop.TheVariants.{Refused};
 ghost use Rattle.twkb_table.specs.RowRules.{first_reason};
+ghost use Rattle.twkb_buffer.specs.Numbers.{row_number_of};
 ghost use Rattle.twkb_buffer.specs.declared.point.BufferPoint.{BufferPoint as InPoint};
 ghost use Rattle.twkb_arrays.specs.Rows.{kind_number, point_of, points_of};
 ghost use Rattle.twkb_arrays.specs.Judging.{HasRightId, row_from_c};
 ghost use Rattle.twkb_arrays.specs.RowTests.{IsFirstButRange, checks_there};
 
 use crate::row::{BufferRow, NO_PRECISION};
-use twkb_buffer::BufferPoint;
+use twkb_buffer::{BufferPoint, row_number};
 use twkb_convert::{PolyReason, RowReason};
-use twkb_flat::Row;
+use twkb_flat::{Row, Stop};
 use twkb_points::COORDINATE_BOUND;
 use twkb_table::{refused_id, refused_place, refused_precision};
 use twkb_tree::row_rules::{count_fits, has_points, is_geometry};
@@ -28,6 +30,14 @@ pub(crate) const OUT_OF_RANGE: RowReason = RowReason::Polyline(0, PolyReason::Ra
 
 // The reason for which a row with more points than the limit leaves is refused.
 const TOO_MANY_POINTS: RowReason = RowReason::Polyline(0, PolyReason::TooMany);
+
+// A row, or the points of one, are refused for the reason of the same row of a table.
+#[inline(always)]
+pub(crate) fn refused(reason: RowReason) -> Stop<u32>
+    ensures { result ≡ Refused (row_number_of reason) }
+{
+    Stop::Refused(row_number(reason))
+}
 
 // The kind with this number.
 #[inline(always)]

@@ -3,8 +3,7 @@ ghost use Rattle.std.specs.Prelude.{◌≡◌, true};
 ghost use Rattle.twkb_tree.specs.Refusal.{are_in_range};
 ghost use Rattle.twkb_arrays.specs.Rows.{points_of};
 
-use crate::gathering::refused;
-use crate::judging::{OUT_OF_RANGE, are_in_range};
+use crate::judging::{OUT_OF_RANGE, are_in_range, refused};
 use twkb_buffer::BufferPoint;
 use twkb_flat::{PointSource, Stop};
 use twkb_points::{PointList, PointTail, Pt};

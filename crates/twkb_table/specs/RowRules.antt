@@ -1,5 +1,5 @@
 -- The reason of the first rule of rows that a row breaks.
-use Rattle.std.specs.Prelude.{ℕ, true, ◌&&◌, nat_lt, List, [], ◌∷◌, Option, Some, None, if◌then◌else◌}
+use Rattle.std.specs.Prelude.{true, ◌&&◌, nat_lt, List, [], ◌∷◌, Option, Some, None, if◌then◌else◌}
 use Rattle.twkb_polyline.specs.declared.fault.PolyReason.TheVariants as text
 use Rattle.twkb_tree.specs.declared.kind.Kind.{Kind}
 use Rattle.twkb_tree.specs.declared.row_place.RowPlace.{RowPlace}

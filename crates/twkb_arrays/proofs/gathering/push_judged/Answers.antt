@@ -1,4 +1,5 @@
-use Rattle.std.proofs.Common.{◌∙◌, List, take, ap, arith, refl, subst, sym}
+use Rattle.std.proofs.Common.{◌∙◌, List, take, ap, arith, inl, inr, refl, subst, sym}
+use Rattle.std.proofs.lemmas.Bool.{true≢false}
 use Rattle.twkb_points.specs.Point.{Point, AreInRange}
 use Rattle.twkb_tree.specs.Accepted.{Continues}
 use Rattle.twkb_tree.specs.Refusal.{BadPlace, CoordinateRange, first_failed}
@@ -14,13 +15,27 @@ use Rattle.twkb_arrays.proofs.GatheringLemmas.{all_refused, continues_there, is_
 use Rattle.twkb_arrays.proofs.GatheringLemmas.{refused_range, refused_there, row_pushed}
 use Rattle.twkb_arrays.proofs.gathering.push_judged.Goals as goal
 
+pub returns-in_default-clause-refused : goal.returns-in_default-clause-refused
+returns-in_default-clause-refused c =
+    is_refused c.args.limits.now c.args.form.now c.args.row.now c.args.ahead.now _ _ c.refused.ensures
+    (inl (c.in_default.ensures, refl))
+
+pub returns-then-not-has_right_id-clause-refused : goal.returns-then-not-has_right_id-clause-refused
+returns-then-not-has_right_id-clause-refused c =
+    is_refused c.args.limits.now c.args.form.now c.args.row.now c.args.ahead.now _ _ c.refused-then-not-has_right_id.ensures
+    (inr (
+      c.in-Some.kind,
+      c.in-Some.ensures,
+      inl (λ right. true≢false (sym (c.has_right_id.ensures.1 right) ∙ c.if-not-has_right_id.true), refl),
+    ))
+
 pub returns-in_default-place-clause-refused : goal.returns-in_default-place-clause-refused
 returns-in_default-place-clause-refused c =
     let l = c.args.limits.now in
     let rs = c.args.form.now in
     let row = c.args.row.now in
     let r = row_from_c c.in-Some.kind row (take row.points c.args.ahead.now) in
-    is_refused l rs row c.args.ahead.now _ _ c.refused.ensures
+    is_refused l rs row c.args.ahead.now _ _ c.refused-in_default-place.ensures
     (refused_for l rs row c.args.ahead.now c.in-Some.kind BadPlace _ c.in-Some.ensures
     (c.has_right_id.ensures.0 c.if-not-has_right_id.false) (omega (arith, c.if-row-ahead.false))
     (no_place l rs r c.requires.valid c.in_default-place.ensures) refl)
@@ -34,7 +49,7 @@ returns-in-Some-refused_row-clause-refused c =
     let s = c.in-Some-place.row_place in
     let r = row_from_c c.in-Some.kind row own in
     let found = c.in-Some-refused_row.ensures in
-    is_refused l rs row c.args.ahead.now _ _ c.refused.ensures
+    is_refused l rs row c.args.ahead.now _ _ c.refused-in-Some-refused_row.ensures
     (refused_for l rs row c.args.ahead.now c.in-Some.kind found.0 _ c.in-Some.ensures
     (c.has_right_id.ensures.0 c.if-not-has_right_id.false) (omega (arith, c.if-row-ahead.false))
     (sym (refused_there l rs s r c.requires.valid c.in-Some-place.ensures)
