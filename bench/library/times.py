@@ -5,8 +5,7 @@
 
 10,000 linestrings of 50 points, and a polyline of a million points, each at most 1,000 units from the one before. The best of 20 rounds, by
 turns, in processor seconds. Arrays of rows and points are read of a stream of 10 MB, 50,000 such linestrings, and written to it, also of
-single points; beside that the same points by way of a table and of polylines, by python3-polyline and by PostGIS, if these are there. Floats
-are rounded with numpy, if it is there.
+single points; beside that the same points by way of a table and of polylines, by python3-polyline and by PostGIS, if these are there.
 """
 import csv
 import ctypes
@@ -16,10 +15,6 @@ import subprocess
 import time
 from array import array
 
-try:
-    import numpy
-except ImportError:
-    numpy = None
 try:
     import polyline
 except ImportError:
@@ -156,7 +151,7 @@ def compare_floats(chance):
     """Rounding of floats."""
     flat = array("d", [chance.uniform(-180, 180) for _ in range(400_000)])
     pairs = list(zip(flat[::2], flat[1::2]))
-    told(f"encode {'with' if numpy else 'without'} numpy", {
+    told("encode with rounding", {
         "an array of floats": lambda: polytwkb.encode(flat, 5), "pairs of floats": lambda: polytwkb.encode(pairs, 5),
         "pairs of whole numbers": lambda: polytwkb.encode(((1, 2),) * len(pairs)),
     }, len(pairs))

@@ -70,7 +70,8 @@ double_value bits finite =
     (fields_value (leb (2 ^ 63) bits) (exponent_field bits) (bits % 2 ^ 52) finite)
 
 -- all others are not finite
-pub double_other : (bits : ℕ) (sign : Bool) (m : ℕ) (e : ℤ) → (IsFinite bits → ⊥) → of_bits binary64 bits ≡ fin sign m e → ⊥
+pub double_other : (bits : ℕ) (sign : Bool) (m : ℕ) (e : ℤ) → (IsFinite bits → ⊥)
+    → of_bits binary64 bits ≡ fin sign m e → ⊥
 unfolding of_bits
 double_other bits sign m e other is =
     let most : exponent_field bits < 2048 = mod_below (bits / 2 ^ 52) (2 ^ 11) (omega arith) in

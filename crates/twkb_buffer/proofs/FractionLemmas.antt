@@ -3,7 +3,8 @@ use Rattle.std.proofs.Common.{◌≡◌, ◌∙◌, ℕ, ◌+◌, ◌-◌, ◌*�
 use Rattle.std.proofs.Common.{ap, refl, subst, sym, arith, inl, inr}
 use Rattle.std.proofs.Math.Nat.{mul-le-mul_left, pow-le-pow_right}
 use Rattle.std.proofs.lemmas.Bool.{cases_lt}
-use Rattle.std.proofs.lemmas.Nat.{div-add-mod', div-mul-add, mod_below, mul-le, one_shl, pow-add, pow_pos, shl_whole, shr-shr}
+use Rattle.std.proofs.lemmas.Nat.{div-add-mod', div-mul-add, mod_below, mul-le, one_shl, pow-add, pow_pos}
+use Rattle.std.proofs.lemmas.Nat.{shl_whole, shr-shr}
 use Rattle.std.specs.Prelude.{Option}
 use Rattle.twkb_points.specs.declared.point.TheConstants.{COORDINATE_BOUND}
 use Rattle.twkb_buffer.specs.Fractions.{FindsNearest, IsNearest}
@@ -18,22 +19,6 @@ IsNearest-zero above below small = record {
   at_most_half_over = omega arith;
   less_than_half_under = omega arith;
 }
-
--- a whole number
-pub IsNearest-whole : (whole : ℕ) → IsNearest whole 1 whole
-IsNearest-whole whole = record {
-  at_most_half_over = omega arith;
-  less_than_half_under = omega arith;
-}
-
--- a quotient of halves
-pub IsNearest-halves : (above below : ℕ) → 0 < below → IsNearest above below ((2 * above + below) / (2 * below))
-IsNearest-halves above below some =
-    let whole = (2 * above + below) / (2 * below) in
-    let bounds = within (2 * above + below) (2 * below) (omega arith) in record {
-      at_most_half_over = omega (arith, bounds.0);
-      less_than_half_under = omega (arith, bounds.1);
-    }
 
 -- a fraction whose number above is cut to a multiple of a divisor of the number below
 pub IsNearest-cut : (above cut half : ℕ) → 0 < cut → 0 < half
@@ -141,14 +126,6 @@ far_product number factor below beyond whole near =
       | inl far ↦ far
       | inr within ↦ absurd (beyond (omega (arith, least)))
     ]
-
--- the remainder and the divisor are small enough for the sum of halves
-pub halves_fit : (number factor divisor : ℕ) → 0 < divisor → divisor * factor + divisor ≤ 2 ^ 63
-    → 2 * (number % divisor * factor) + divisor < 2 ^ 64
-halves_fit number factor divisor some small =
-    let up : factor * (number % divisor) ≤ factor * divisor
-    = mul-le-mul_left factor (omega (arith, mod_below number divisor some)) in
-    omega (arith, up)
 
 -- a power of two by a greater exponent
 power_more : (i j : ℕ) → i ≤ j → 2 ^ i ≤ 2 ^ j

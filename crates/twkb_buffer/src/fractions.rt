@@ -8,7 +8,8 @@ use twkb_points::COORDINATE_BOUND;
 // The exponent of a number whose significand counts whole ones.
 const WHOLE: u64 = 1075;
 
-// The low bits of a significand, which are multiplied apart from the others.
+// The low bits of a significand, which are multiplied apart from the others: a product with all of
+// them may have 77 bits.
 const LOW_BITS: u64 = 27;
 
 // A product over a power of two of more places than these is less than a half.
@@ -34,7 +35,8 @@ fn rounded_quotient(above: u64, below: u64) -> u64
     (2 * above + below) / (2 * below)
 }
 
-// The product, if it is not beyond the coordinates.
+// The product, if it is not beyond the coordinates. A division tests it: WebAssembly has no product
+// of more than 64 bits.
 fn product(one: u64, other: u64) -> Option<u64>
     requires { 0 < other }
     ensures { SomeIff result (one * other ≤ COORDINATE_BOUND) (one * other) }
