@@ -2,7 +2,7 @@
 //! receive.
 #![tactic(auto)]
 
-pub use twkb_flat::{Flat, Node, NodeId, PointId, PointSource, Row, Rows, Work};
+pub use twkb_flat::{Flat, Node, NodeId, PointId, PointSource, Row, Rows, Stop, Work};
 pub use twkb_tree::{
     Areas, GeomFault, Geometry, IdList, Ids, Kind, Limits, Lines, Members, Pts, Shape,
 };
