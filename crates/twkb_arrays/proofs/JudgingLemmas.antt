@@ -93,7 +93,8 @@ after_place l s r e =
     rest_of (place_checks l s r.kind)
     (id_checks p (child_of s.parent) r ++ (precision_checks p r ++ point_checks l p s.points r)) e
 
-pub by_id : (l : Allowance) (s : RowPlace) (r : Row) (reason : RowReason) → first_failed (place_checks l s r.kind) ≡ None
+pub by_id : (l : Allowance) (s : RowPlace) (r : Row) (reason : RowReason)
+    → first_failed (place_checks l s r.kind) ≡ None
     → IsReasonOf (first_failed (id_checks (row_of s.parent) (child_of s.parent) r)) reason
     → IsReasonOf (first_failed (checks_there l s r)) reason
 by_id l s r reason place h =
@@ -114,7 +115,8 @@ after_id l s r place id =
     after_place l s r place ∙ rest_of (id_checks p (child_of s.parent) r)
     (precision_checks p r ++ point_checks l p s.points r) id
 
-pub by_precision : (l : Allowance) (s : RowPlace) (r : Row) (reason : RowReason) → first_failed (place_checks l s r.kind) ≡ None
+pub by_precision : (l : Allowance) (s : RowPlace) (r : Row) (reason : RowReason)
+    → first_failed (place_checks l s r.kind) ≡ None
     → first_failed (id_checks (row_of s.parent) (child_of s.parent) r) ≡ None
     → IsReasonOf (first_failed (precision_checks (row_of s.parent) r)) reason
     → IsReasonOf (first_failed (checks_there l s r)) reason
@@ -125,7 +127,8 @@ by_precision l s r reason place id h =
       h.2,
     )
 
-pub by_points : (l : Allowance) (s : RowPlace) (r : Row) (answer : Option RowReason) → first_failed (place_checks l s r.kind) ≡ None
+pub by_points : (l : Allowance) (s : RowPlace) (r : Row) (answer : Option RowReason)
+    → first_failed (place_checks l s r.kind) ≡ None
     → first_failed (id_checks (row_of s.parent) (child_of s.parent) r) ≡ None
     → first_failed (precision_checks (row_of s.parent) r) ≡ None
     → IsFirstButRange (point_checks l (row_of s.parent) s.points r) r.points answer

@@ -33,7 +33,8 @@ pub can_be_alone : (o : Option LonePoint) (lone : LonePoint) → IfSome o CanBeA
 can_be_alone o lone can is = subst (λ (p : Option LonePoint). IfSome p CanBeAlone) is can
 
 -- its row is that of a geometry
-pub alone_valid : (given : List Row) (lone : LonePoint) → CanBeAlone lone → given ≡ point_row lone.precision lone.point ∷ []
+pub alone_valid : (given : List Row) (lone : LonePoint) → CanBeAlone lone
+    → given ≡ point_row lone.precision lone.point ∷ []
     → AreValidRowsOfOne largest_limits given
 alone_valid given lone can is = subst (AreValidRowsOfOne largest_limits) (sym is)
     (continued largest_limits [] (point_row lone.precision lone.point) tt

@@ -132,7 +132,8 @@ points_left_over l style start in_rows in_points used out writer w some last = (
 -- all rows and points are those of complete geometries
 pub all_written : (l : Allowance) (style : Style) (start : List ℕ) (in_rows : List BufferRow)
     (in_points : List BufferPoint) (used : ℕ) (out : List ℕ) (writer : Writer) (done : Unit {0})
-    → IsWriting l style start in_rows (take used in_points) out writer → length in_points ≤ used → writer.open_geometry ≡ []
+    → IsWriting l style start in_rows (take used in_points) out writer
+    → length in_points ≤ used → writer.open_geometry ≡ []
     → (given later : List Tree) × HasSent style start given later out writer.sent
     × EndsWriting l (given ++ later) in_rows in_points (Ok done)
 all_written l style start in_rows in_points used out writer done w whole closed =

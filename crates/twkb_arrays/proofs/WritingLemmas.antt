@@ -81,7 +81,8 @@ read_whole l gs g form in_rows in_points a valid same =
 -- the open geometry is complete, and its blob was written or counted
 pub ended_one : (l : Allowance) (style : Style) (start : List ℕ) (in_rows : List BufferRow)
     (in_points : List BufferPoint) (in_output out blob : List ℕ) (old new : Writer)
-    → (old.open_geometry ≡ [] → ⊥) → ((g : Tree) → IsTree g → rows 0 g ≡ old.open_geometry → blob ≡ canonical_blob style g)
+    → (old.open_geometry ≡ [] → ⊥)
+    → ((g : Tree) → IsTree g → rows 0 g ≡ old.open_geometry → blob ≡ canonical_blob style g)
     → ((s : Style) (start : List ℕ) (given later : List Tree) (g : Tree)
     → HasSent s start given later in_output old.sent
     → blob ≡ canonical_blob s g → SendsOne s start given later g out new.sent)
@@ -150,11 +151,13 @@ pub writes_more : (l : Allowance) (style : Style) (start : List ℕ) (in_rows : 
     (row : BufferRow) (ahead : List BufferPoint) (r : Row) (count : ℕ)
     → IsWriting l style start in_rows in_points out mid → new_form ≡ mid.open_geometry ++ r ∷ []
     → AcceptedAfter l mid.open_geometry row ahead r → AreValidRowsOfOne l new_form → count ≡ row.points
-    → IsWriting l style start (in_rows ++ row ∷ []) (in_points ++ take count ahead) out (record mid { open_geometry = new_form })
+    → IsWriting l style start (in_rows ++ row ∷ []) (in_points ++ take count ahead) out
+    (record mid { open_geometry = new_form })
 writes_more l style start in_rows in_points out mid new_form row ahead r count w is accepted valid count_is = record {
   given = w.given;
   later = w.later;
-  read = read_more l (w.given ++ w.later) mid.open_geometry new_form in_rows in_points row ahead r count w.read is accepted
+  read = read_more l (w.given ++ w.later) mid.open_geometry new_form in_rows in_points row ahead r count w.read
+      is accepted
       valid count_is;
   sent = w.sent;
 }
@@ -163,7 +166,8 @@ writes_more l style start in_rows in_points out mid new_form row ahead r count w
 pub stops_at_row : (l : Allowance) (style : Style) (start : List ℕ) (in_rows : List BufferRow)
     (in_points : List BufferPoint) (out : List ℕ) (mid new : Writer) (row : BufferRow) (ahead : List BufferPoint)
     (why : Stop ℕ) → IsWriting l style start in_rows in_points out mid → new.sent ≡ mid.sent
-    → StopsRow l in_rows mid.open_geometry row ahead why → StopsAtRow l style start in_rows in_points row ahead out new why
+    → StopsRow l in_rows mid.open_geometry row ahead why
+    → StopsAtRow l style start in_rows in_points row ahead out new why
 stops_at_row l style start in_rows in_points out mid new row ahead why w same stops = record {
   given = w.given;
   later = w.later;
@@ -179,7 +183,8 @@ pub row_read : (l : Allowance) (style : Style) (in_output out : List ℕ) (old m
     → ((l : Allowance) (start : List ℕ) (in_rows : List BufferRow) (in_points : List BufferPoint)
     → IsWriting l style start in_rows in_points in_output old → IsWriting l style start in_rows in_points out mid)
     → IfOk result (λ count. (count ≤ length ahead) × (count ≡ row.points))
-    → IfOk result (λ count. (r : Row) × (new_form ≡ mid.open_geometry ++ r ∷ []) × AcceptedAfter l mid.open_geometry row ahead r
+    → IfOk result (λ count. (r : Row) × (new_form ≡ mid.open_geometry ++ r ∷ [])
+    × AcceptedAfter l mid.open_geometry row ahead r
     × AreValidRowsOfOne l new_form)
     → IfOk result (λ count. (start : List ℕ) (in_rows : List BufferRow) (in_points : List BufferPoint)
     → IsWriting l style start in_rows in_points in_output old

@@ -22,7 +22,8 @@ returns-in_default-clause-refused c =
 
 pub returns-then-not-has_right_id-clause-refused : goal.returns-then-not-has_right_id-clause-refused
 returns-then-not-has_right_id-clause-refused c =
-    is_refused c.args.limits.now c.args.form.now c.args.row.now c.args.ahead.now _ _ c.refused-then-not-has_right_id.ensures
+    is_refused c.args.limits.now c.args.form.now c.args.row.now c.args.ahead.now _ _
+    c.refused-then-not-has_right_id.ensures
     (inr (
       c.in-Some.kind,
       c.in-Some.ensures,
