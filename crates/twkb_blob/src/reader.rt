@@ -56,6 +56,7 @@ impl<'a, R: Read> Reader<'a, R> {
     ghost use Rattle.twkb_blob.specs.Located.{IsLocated, ReadsInto};
 
     /// A reader of what the input still has. Takes no memory.
+    #[inline(always)]
     pub fn new(input: Input<'a, R>, limits: Limits) -> Reader<'a, R>
         ensures input { reader_input result ≡ input.entry }
         ensures limits { reader_limits result ≡ limits }

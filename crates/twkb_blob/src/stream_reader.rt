@@ -64,6 +64,7 @@ impl<'a, 'b, R: Read> StreamReader<'a, 'b, R> {
     ghost use Rattle.twkb_blob.specs.StreamReaders.{reader_in, rows_in};
 
     /// A reader of what the input still has, which forgets the rows in the room. Takes no memory.
+    #[inline(always)]
     pub fn new(
         input: Input<'a, R>,
         limits: Limits,

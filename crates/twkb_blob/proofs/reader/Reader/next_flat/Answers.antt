@@ -13,4 +13,4 @@ returns-clause-some g c = some_came c.read_anew.ensures.shared c.read_anew.ensur
 
 pub returns-clause-spent : goal.returns-clause-spent
 returns-clause-spent g c =
-    (was_spent c.read_anew.ensures.shared c.read_anew.ensures.read, c.read_anew.ensures.shared.spent)
+    let read = c.read_anew.ensures in (was_spent read.shared read.read, read.shared.spent)
