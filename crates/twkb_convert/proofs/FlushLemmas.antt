@@ -4,6 +4,8 @@ use Rattle.twkb_convert.proofs.Prelude.{inl, inr, ap, refl, sym, subst, append-n
 use Rattle.twkb_convert.proofs.Prelude.{is_spent, output_failures, output_tap, sent_join, Output, IsDeviceCause, Cause}
 use Rattle.twkb_io.specs.Taps.{has_unflushed}
 use Rattle.twkb_io.specs.declared.output.OutFault.TheVariants as out
+use Rattle.std.specs.Prelude.{OnOk, ◌≢◌}
+use Rattle.twkb_convert.specs.Devices.{AfterReads}
 use Rattle.twkb_convert.specs.Flushing.{Flushes, SentUpTo, UnlessRefused}
 use Rattle.twkb_convert.specs.declared.report.Cause.TheVariants as cause
 
@@ -78,3 +80,38 @@ module _ {A W : Type 0} (contents : W → Option (List ℕ)) (old mid new : Outp
   flushed_last last (inr (inr (fresh, refused, is))) =
       subst (λ r. UnlessRefused r (has_unflushed (output_tap new).now ≡ false)) (sym is)
       (λ no_write no_length. absurd (no_write refl))
+
+-- a fact about a run that went well still holds if the flush went well
+pub ok_before : {A W : Type 0} (contents : W → Option (List ℕ)) (mid new : Output W) (answer last : Result A Cause)
+    (done : A) (Fact : Type 0) → OnOk answer Fact → Flushes contents mid answer new last → Ok done ≡ last → Fact
+ok_before contents mid new (Ok given) last done Fact fact flushes went = fact
+ok_before contents mid new (Err why) last done Fact fact (inl (took, clean, is)) went = absurd (cc (went, is))
+ok_before contents mid new (Err why) last done Fact fact (inr (inl (spent, same, is))) went = absurd (cc (went, is))
+ok_before contents mid new (Err why) last done Fact fact (inr (inr (fresh, refused, is))) went = absurd (cc (went, is))
+
+-- ---- failed reads
+
+pub same_cause : {A : Type 0} (answer : Result A Cause) (a b : Cause) → Err a ≡ answer → answer ≡ Err b → a ≡ b
+same_cause answer a b first second = (let both = first ∙ second in cc both)
+
+-- an answer that went well, after it was asked whether a read failed
+pub went_well : {A : Type 0} (failed : Bool) (before : Result A Cause) (done : A) → AfterReads failed before (Ok done)
+    → (failed ≡ false) × (Ok done ≡ before)
+went_well failed before done (inl (write, is)) = absurd (cc (write, is))
+went_well failed before done (inr (inl (no_write, some, is))) = absurd (cc is)
+went_well failed before done (inr (inr (no_write, none, is))) = (none, is)
+
+pub flushed_well : {A : Type 0} (failed : Bool) (before : Result A Cause) (done : A) (Fact : Type 0)
+    → UnlessRefused before Fact → AfterReads failed before (Ok done) → Fact
+flushed_well failed before done Fact fact after =
+    subst (λ r. UnlessRefused r Fact) (sym (went_well failed before done after).1) fact
+
+pub flushed_with : {A : Type 0} (failed : Bool) (before : Result A Cause) (why : Cause) (Fact : Type 0)
+    → UnlessRefused before Fact → AfterReads failed before (Err why) → why ≢ cause.WriteDevice
+    → why ≢ cause.ReadDevice → why ≢ cause.TooLong → Fact
+flushed_with failed before why Fact fact (inl (write, is)) no_write no_read no_length =
+    absurd (no_write (same_cause before why cause.WriteDevice is write))
+flushed_with failed before why Fact fact (inr (inl (other, some, is))) no_write no_read no_length =
+    absurd (no_read (cc is))
+flushed_with failed before why Fact fact (inr (inr (other, none, is))) no_write no_read no_length =
+    subst (λ r. UnlessRefused r Fact) (sym is) fact no_write no_length

@@ -4,13 +4,14 @@ use Rattle.twkb_convert.proofs.Prelude.{Err, ap, arith, refl, append-nil, length
 use Rattle.twkb_convert.proofs.Prelude.{bytes_given, count_failure, device_of, failures_of, output_failures, output_tap, sent_of}
 use Rattle.twkb_convert.proofs.Prelude.{Sent, Tap, Output, Tree, Allowance, canonical_stream, Style, Changes, IsDeviceCause}
 use Rattle.twkb_convert.proofs.Prelude.{Tally, Cause, Work}
+use Rattle.std.specs.Prelude.{OnOk}
 use Rattle.twkb_convert.specs.Devices.{AfterReads}
 use Rattle.twkb_convert.specs.Draining.{Drains}
 use Rattle.twkb_convert.specs.Flushing.{Flushes, UnlessRefused}
 use Rattle.twkb_convert.specs.Packed.{ExplainsPackingCause, PackedWith, StoppedPacking}
 use Rattle.twkb_convert.specs.TablePacking.{Ends, Packs, PacksAll}
 use Rattle.twkb_convert.specs.declared.report.Cause.TheVariants as cause
-use Rattle.twkb_convert.proofs.FlushLemmas.{Stays, sent_last}
+use Rattle.twkb_convert.proofs.FlushLemmas.{Stays, same_cause, sent_last}
 use Rattle.twkb_convert.proofs.WorkLemmas.{read_thrice, read_twice}
 
 -- a failed write is the cause whether a read failed or not
@@ -86,7 +87,7 @@ module _ (style : Style) (l : Allowance) (told : Option (List ℕ)) (work : Work
       → Ends style l told given work whole later front failed answer → AfterReads read_failed answer (Err why)
       → ExplainsPackingCause style l told given why whole later front × IsDeviceCause read_failed failed why
   ends_with given read_failed failed answer why e (inl (write, is)) =
-      let w : why ≡ cause.WriteDevice = (let both : Err {A = A} why ≡ Err cause.WriteDevice = is ∙ write in cc both) in
+      let w : why ≡ cause.WriteDevice = same_cause answer why cause.WriteDevice is write in
       let told_of : IsDeviceCause false failed cause.WriteDevice =
       (subst (λ r. Ends style l told given work whole later front failed r) write e).tell in
       subst (λ c. ExplainsPackingCause style l told given c whole later front × IsDeviceCause read_failed failed c)
@@ -144,6 +145,12 @@ module _ {W : Type 0} (style : Style) (l : Allowance) (contents : W → Option (
         ends = ends_last style l told tally.work p.part.whole p.part.later p.part.front given p.write_failed
             failed answer last p.ends stays;
       }
+
+-- the reader is at its end if it was read to its end
+pub drained_end : {A : Type 0} (left : Option (List ℕ)) (given : ℕ) (answer : Result A Cause) → Drains left given answer
+    → OnOk answer (IsAtEnd left)
+drained_end left given (Ok done) drains = drains
+drained_end left given (Err why) drains = tt
 
 -- ---- the caller
 

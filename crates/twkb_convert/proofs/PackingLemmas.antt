@@ -185,7 +185,7 @@ module _ {R W : Type 0} (l : Allowance) (remaining : R → Option (List ℕ)) (c
     -- no more geometry was sent
     pub packs_all : (given : ℕ) (to : TableReader R)
         → MeetsEnd l remaining told s.records s.geometries to
-        → Packs p.style l contents told given first p.output.now p.tally (Ok tt)
+        → Packs p.style l contents told given first p.output.now p.tally (Ok (tt {0}))
     packs_all given to meets = record {
       bytes = canonical_stream p.style s.geometries;
       part = record {
@@ -219,9 +219,9 @@ module _ {R W : Type 0} (l : Allowance) (remaining : R → Option (List ℕ)) (c
     }
 
     -- the packing stopped before another geometry
-    pub stopped_before : {A : Type 0} (given : ℕ) (why : Cause)
+    pub stopped_before : (given : ℕ) (why : Cause)
         → ExplainsPackingCause p.style l told given why s.geometries [] [] → IsDeviceCause false false why
-        → Packs {A = A} p.style l contents told given first p.output.now p.tally (Err why)
+        → Packs {A = Unit {0}} p.style l contents told given first p.output.now p.tally (Err why)
     stopped_before given why explains tell = record {
       bytes = canonical_stream p.style s.geometries;
       part = record {
@@ -246,22 +246,22 @@ module _ {R W : Type 0} (l : Allowance) (remaining : R → Option (List ℕ)) (c
     }
 
     -- the table gave no more geometry
-    pub stopped_fault : {A : Type 0} (given : ℕ) (f : TableFault) → Table.Explains l told s.records s.geometries f
-        → Packs {A = A} p.style l contents told given first p.output.now p.tally (Err (cause_of_table f))
+    pub stopped_fault : (given : ℕ) (f : TableFault) → Table.Explains l told s.records s.geometries f
+        → Packs {A = Unit {0}} p.style l contents told given first p.output.now p.tally (Err (cause_of_table f))
     stopped_fault given f explains = stopped_before given (cause_of_table f)
         (fault_explained p.style l told given s.records s.geometries f explains) (told_fault f)
 
     -- no memory for the sizes of a blob
-    pub stopped_memory : {A : Type 0} (given : ℕ) (new : Output W) → new ≡ p.output.now
-        → Packs {A = A} p.style l contents told given first new p.tally (Err cause.Memory)
-    stopped_memory given new same = subst (λ o. Packs p.style l contents told given first o p.tally (Err cause.Memory))
+    pub stopped_memory : (given : ℕ) (new : Output W) → new ≡ p.output.now
+        → Packs {A = Unit {0}} p.style l contents told given first new p.tally (Err cause.Memory)
+    stopped_memory given new same = subst (λ o. Packs {A = Unit {0}} p.style l contents told given first o p.tally (Err cause.Memory))
         (sym same) (stopped_before given cause.Memory (refl, refl) (λ e. cc e, λ e. cc e))
 
     -- the output refused a part of a blob
-    pub stopped_inside : {A : Type 0} (given : ℕ) (new : Output W) (g : Tree) (f : OutFault)
+    pub stopped_inside : (given : ℕ) (new : Output W) (g : Tree) (f : OutFault)
         → MayBeWritten l told (s.geometries ++ g ∷ [])
         → Cut contents p.output.now (canonical_blob p.style g) f new
-        → Packs {A = A} p.style l contents told given first new p.tally (Err (cause_of_output f))
+        → Packs {A = Unit {0}} p.style l contents told given first new p.tally (Err (cause_of_output f))
     stopped_inside given new g f may cut =
         let all = refused_join contents first p.output.now new (canonical_stream p.style s.geometries)
         cut.front f s.took cut.refused in
@@ -283,7 +283,7 @@ module _ {R W : Type 0} (l : Allowance) (remaining : R → Option (List ℕ)) (c
             sends = all.sends;
             writes = all.failures;
             quiet = λ fresh. absurd (cc (fresh, all.spent));
-            unspent = put_refused _ f _;
+            unspent = put_refused (Unit {0}) f (is_spent new ≡ false);
           };
           ends = record {
             explains = cut_explained p.style l told given f s.geometries (g ∷ []) cut.front

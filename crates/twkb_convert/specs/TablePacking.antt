@@ -11,6 +11,7 @@ use Rattle.twkb_table.specs.Record.{Record}
 use Rattle.twkb_table.specs.Named.{Named}
 use Rattle.twkb_table.specs.CsvRecords.{AreRecordsOf}
 use Rattle.twkb_table.specs.TableReading.{StandsAfter}
+use Rattle.twkb_table.specs.declared.table_reader.TableReader.{TableReader}
 use Rattle.twkb_convert.specs.CountedWork.{IsWorkOf}
 use Rattle.twkb_convert.specs.Devices.{IsDeviceCause}
 use Rattle.twkb_convert.specs.Flushing.{SentUpTo}
@@ -62,6 +63,21 @@ pub record Packs {A W : Type 0} (style : Style) (l : Allowance) (contents : W �
   pub sent : SentUpTo contents old bytes new write_failed answer
   pub ends : Ends style l told given tally.work part.whole part.later part.front write_failed answer
 
+-- ---- a table of which nothing was read
+
+-- Nothing was read of a table yet.
+pub record IsUnread {R : Type 0} (remaining : R → Option (List ℕ)) (table : TableReader R) : Type 0 where
+  pub limits : Allowance
+  pub told : Option (List ℕ)
+  pub stands : StandsAfter limits remaining told [] [] table
+
+-- a table of which nothing was read yet was packed, or a prefix of its output was sent
+abbrev pub PacksUnread : {A R W : Type 0} → Style → (R → Option (List ℕ)) → (W → Option (List ℕ))
+    → TableReader R → Output W → Output W → Tally → Result A Cause → Type 0
+PacksUnread style remaining contents table old new tally answer =
+    (l : Allowance) (told : Option (List ℕ)) (given : ℕ) → StandsAfter l remaining told [] [] table
+    → Packs style l contents told given old new tally answer
+
 -- ---- a table that is packed
 
 -- The borrow of the output and the style are the same.
@@ -106,8 +122,8 @@ GoesOn remaining contents old new = Wherever remaining contents old
     (λ l told given first. SentSoFar l remaining contents told first new)
 
 -- the answer that ended the packing of a table says how far it came
-abbrev pub Stops : {A R W : Type 0} → (R → Option (List ℕ)) → (W → Option (List ℕ)) → Packing R W
-    → Packing R W → Result A Cause → Type 0
+abbrev pub Stops : {R W : Type 0} → (R → Option (List ℕ)) → (W → Option (List ℕ)) → Packing R W
+    → Packing R W → Result (Unit {0}) Cause → Type 0
 Stops remaining contents old new answer = Wherever remaining contents old
     (λ l told given first. Packs new.style l contents told given first new.output.now new.tally answer)
 
@@ -115,5 +131,5 @@ Stops remaining contents old new answer = Wherever remaining contents old
 abbrev pub SendsNext : {R W : Type 0} → (R → Option (List ℕ)) → (W → Option (List ℕ)) → Packing R W
     → Packing R W → Result Bool Cause → Type 0
 SendsNext remaining contents old new (Ok true) = GoesOn remaining contents old new
-SendsNext remaining contents old new (Ok false) = Stops remaining contents old new (Ok tt)
+SendsNext remaining contents old new (Ok false) = Stops remaining contents old new (Ok (tt {0}))
 SendsNext remaining contents old new (Err why) = Stops remaining contents old new (Err why)

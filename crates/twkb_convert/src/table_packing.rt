@@ -4,7 +4,8 @@ ghost use Rattle.std.specs.Io.KnownBytes.{IsAtEnd};
 ghost use Rattle.twkb_io.specs.Taps.{bytes_given, device_of};
 ghost use Rattle.twkb_io.specs.Outputs.{is_spent, sent_of};
 ghost use Rattle.twkb_table.specs.TableReading.{HasPoint};
-ghost use Rattle.twkb_convert.specs.TablePacking.{GoesOn, IsGoing, Keeps, Packs, SendsNext, Stops};
+ghost use Rattle.twkb_convert.specs.TablePacking.{SendsNext, Stops};
+ghost use Rattle.twkb_convert.specs.TablePacking.{GoesOn, IsGoing, IsUnread, Keeps, Packs, PacksUnread};
 
 use crate::blob_writing::{Room, write_blob};
 use crate::causes::{cause_of_output, cause_of_table};
@@ -52,28 +53,28 @@ pub(crate) fn pack_table<R: Read, W: Write>(
         output.old output.new result.0 result.1 }
     ensures end { OnOk result.1 (IsAtEnd (R.remaining (device_of tap.new))) }
 {
-    let (tally, sending) = send_blobs(alloc, tap, limits, style, output);
+    let table = TableReader::new(alloc, tap, limits);
+    let (tally, sending) = send_blobs(alloc, table, style, output);
     match sending {
         Ok(()) => (tally, drain(tap)),
         Err(cause) => (tally, Err(cause)),
     }
 }
 
-// Sends the blobs of a table in a style, up to its end or to a refusal.
+// Sends the blobs of a table of which nothing was read yet, in a style.
 fn send_blobs<R: Read, W: Write>(
     alloc: Global,
-    tap: &mut Tap<R>,
-    limits: Limits,
+    table: TableReader<'_, R>,
     style: Style,
     output: &mut Output<'_, W>,
 ) -> (Tally, Result<(), Cause>)
+    requires unread { IsUnread R.remaining table }
     requires fresh { is_spent output.old ≡ false }
     requires unsent { sent_of output.old ≡ 0 }
-    ensures packs { Packs style limits W.contents (R.remaining (device_of tap.old)) (bytes_given tap.new)
-        output.old output.new result.0 result.1 }
+    ensures packs { PacksUnread style R.remaining W.contents table output.old output.new result.0 result.1 }
 {
     let mut packing = Packing {
-        table: TableReader::new(alloc, tap, limits),
+        table,
         flat: Flat::new(alloc),
         room: Room::new(alloc),
         style,
