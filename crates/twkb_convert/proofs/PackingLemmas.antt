@@ -137,7 +137,7 @@ cut_explained style l told given out.Spent whole later front long unspent = absu
 module _ {R W : Type 0} (l : Allowance) (remaining : R → Option (List ℕ)) (contents : W → Option (List ℕ))
     (told : Option (List ℕ)) (first : Output W) where
   -- no geometry was sent yet
-  pub sent_none : (p : Packing R W) → StandsAfter l remaining told [] [] p.table → p.output.now ≡ first
+  pub sent_none : (p : Packing R W) → StandsAfter l remaining told [] [] p.table.now → p.output.now ≡ first
       → p.tally.geometries ≡ 0 → IsWorkOf [] p.tally.work → sent_of first ≡ 0 → is_spent first ≡ false
       → SentSoFar l remaining contents told first p
   sent_none p stands same none work unsent fresh = record {
@@ -154,7 +154,7 @@ module _ {R W : Type 0} (l : Allowance) (remaining : R → Option (List ℕ)) (c
   module _ (p : Packing R W) (s : SentSoFar l remaining contents told first p) where
     -- one more geometry was sent
     pub sent_more : (new : Packing R W) (rows : List Row)
-        (gives : GivesNext l remaining told s.records s.geometries rows new.table)
+        (gives : GivesNext l remaining told s.records s.geometries rows new.table.now)
         → WritesBlob p.style contents gives.geometry p.output.now p.tally.work new.output.now new.tally.work
         → new.style ≡ p.style → new.tally.geometries ≡ p.tally.geometries + 1
         → SentSoFar l remaining contents told first new
@@ -177,7 +177,7 @@ module _ {R W : Type 0} (l : Allowance) (remaining : R → Option (List ℕ)) (c
 
     pub ready : MayBeWritten l told (s.geometries ++ [])
     ready = subst (λ gs. MayBeWritten l told gs) (sym (append-nil s.geometries))
-        (ready_after l remaining told s.records s.geometries p.table s.stands)
+        (ready_after l remaining told s.records s.geometries p.table.now s.stands)
 
     fresh_yet : is_spent p.output.now ≡ false
     fresh_yet = s.took.spent ∙ s.fresh

@@ -92,7 +92,7 @@ pub record SentSoFar {R W : Type 0} (l : Allowance) (remaining : R → Option (L
     (p : Packing R W) : Type 0 where
   pub records : List Record
   pub geometries : List Tree
-  pub stands : StandsAfter l remaining told records geometries p.table
+  pub stands : StandsAfter l remaining told records geometries p.table.now
   pub took : Took contents first (canonical_stream p.style geometries) p.output.now
   pub count : p.tally.geometries ≡ length geometries
   pub work_of : IsWorkOf geometries p.tally.work

@@ -53,25 +53,41 @@ pub(crate) fn pack_table<R: Read, W: Write>(
         output.old output.new result.0 result.1 }
     ensures end { OnOk result.1 (IsAtEnd (R.remaining (device_of tap.new))) }
 {
-    let table = TableReader::new(alloc, tap, limits);
-    let (tally, sending) = send_blobs(alloc, table, style, output);
+    let (tally, sending) = send_table(alloc, tap, limits, style, output);
     match sending {
         Ok(()) => (tally, drain(tap)),
         Err(cause) => (tally, Err(cause)),
     }
 }
 
-// Sends the blobs of a table of which nothing was read yet, in a style.
-fn send_blobs<R: Read, W: Write>(
+// Sends the blobs of a table in a style.
+fn send_table<R: Read, W: Write>(
     alloc: Global,
-    table: TableReader<'_, R>,
+    tap: &mut Tap<R>,
+    limits: Limits,
     style: Style,
     output: &mut Output<'_, W>,
 ) -> (Tally, Result<(), Cause>)
-    requires unread { IsUnread R.remaining table }
     requires fresh { is_spent output.old ≡ false }
     requires unsent { sent_of output.old ≡ 0 }
-    ensures packs { PacksUnread style R.remaining W.contents table output.old output.new result.0 result.1 }
+    ensures packs { Packs style limits W.contents (R.remaining (device_of tap.old)) (bytes_given tap.new)
+        output.old output.new result.0 result.1 }
+{
+    let mut table = TableReader::new(alloc, tap, limits);
+    send_blobs(alloc, &mut table, style, output)
+}
+
+// Sends the blobs of a table of which nothing was read yet, in a style.
+fn send_blobs<R: Read, W: Write>(
+    alloc: Global,
+    table: &mut TableReader<'_, R>,
+    style: Style,
+    output: &mut Output<'_, W>,
+) -> (Tally, Result<(), Cause>)
+    requires unread { IsUnread R.remaining table.old }
+    requires fresh { is_spent output.old ≡ false }
+    requires unsent { sent_of output.old ≡ 0 }
+    ensures packs { PacksUnread style R.remaining W.contents table.old output.old output.new result.0 result.1 }
 {
     let mut packing = Packing {
         table,
@@ -91,16 +107,16 @@ fn send_blobs<R: Read, W: Write>(
 // A table that is packed in a style: the reader of its geometries, the form and the room that are
 // reused from one geometry to the next, the output, and the tally of what was sent.
 #[derive(Drop)]
-struct Packing<'a, 'b, 'c, R, W> {
-    table: TableReader<'a, R>,
+struct Packing<'a, 'b, 'c, 'd, R, W> {
+    table: &'a mut TableReader<'b, R>,
     flat: Flat,
     room: Room,
     style: Style,
-    output: &'b mut Output<'c, W>,
+    output: &'c mut Output<'d, W>,
     tally: Tally,
 }
 
-impl<'a, 'b, 'c, R: Read, W: Write> Packing<'a, 'b, 'c, R, W> {
+impl<'a, 'b, 'c, 'd, R: Read, W: Write> Packing<'a, 'b, 'c, 'd, R, W> {
     // Sends the blobs of the geometries that are left.
     fn send_all(&mut self) -> Result<(), Cause>
         requires going { IsGoing R.remaining W.contents self.old }
@@ -156,7 +172,7 @@ impl<'a, 'b, 'c, R: Read, W: Write> Packing<'a, 'b, 'c, R, W> {
     #[inline(never)]
     fn send_points(&mut self) -> Result<bool, Cause>
         requires going { IsGoing R.remaining W.contents self.old }
-        requires waits { HasPoint self.old.table }
+        requires waits { HasPoint self.old.table.now }
         ensures keeps { Keeps self.old self.new }
         ensures found { IfOk result (λ found. found ≡ true) }
         ensures sends { SendsNext R.remaining W.contents self.old self.new result }
@@ -179,7 +195,7 @@ impl<'a, 'b, 'c, R: Read, W: Write> Packing<'a, 'b, 'c, R, W> {
         ensures sent { result ≡ Ok true → GoesOn R.remaining W.contents self.old self.new }
         ensures counted { result ≡ Ok true → self.new.tally.geometries ≡ self.old.tally.geometries + 1 }
         ensures none { result ≡ Ok false → self.new ≡ self.old }
-        ensures some { HasPoint self.old.table → result ≢ Ok false }
+        ensures some { HasPoint self.old.table.now → result ≢ Ok false }
         ensures stopped { IfErr result (λ why. Stops R.remaining W.contents self.old self.new (Err why)) }
     {
         let (precision, point) = match self.table.next_point() {

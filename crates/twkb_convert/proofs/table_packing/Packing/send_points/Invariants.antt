@@ -12,7 +12,7 @@ invariant-loop-cause g l =
       going : IsGoing g.R.Read.remaining g.W.Write.contents l.self;
       goes : GoesOn g.R.Read.remaining g.W.Write.contents l.fn.self l.self;
       least : l.fn.self.tally.geometries ≤ l.self.tally.geometries;
-      some : HasPoint l.self.table ⊎ (l.fn.self.tally.geometries < l.self.tally.geometries);
+      some : HasPoint l.self.table.now ⊎ (l.fn.self.tally.geometries < l.self.tally.geometries);
     }
 
 -- the number of geometries that may still be counted
