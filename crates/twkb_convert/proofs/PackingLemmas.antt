@@ -6,7 +6,7 @@ use Rattle.twkb_convert.proofs.Prelude.{length-append, IfSome, append-nil, flat_
 use Rattle.twkb_convert.proofs.Prelude.{sent_of, refused_join, took_join, took_nothing, Output, OutFault, Tree}
 use Rattle.twkb_convert.proofs.Prelude.{simple, collection, Row, Allowance, canonical_blob, canonical_stream, Style}
 use Rattle.twkb_convert.proofs.Prelude.{Record, AreRecordsOf, BeginWith, standing, all_but_last, MayBeWritten, Cause}
-use Rattle.twkb_convert.proofs.Prelude.{IsDeviceCause}
+use Rattle.twkb_convert.proofs.Prelude.{IsDeviceCause, Result, Tally}
 use Rattle.twkb_io.specs.Outputs.{is_device}
 use Rattle.twkb_io.specs.declared.output.OutFault.TheVariants as out
 use Rattle.twkb_table.specs.RowReading.{waiting}
@@ -299,6 +299,15 @@ module _ {R W : Type 0} (l : Allowance) (remaining : R → Option (List ℕ)) (c
             tell = told_put f;
           };
         }
+
+-- the same, of an output and a style that were kept
+pub packs_kept : {W : Type 0} (style kept : Style) (l : Allowance) (contents : W → Option (List ℕ))
+    (told : Option (List ℕ)) (given : ℕ) (old new after : Output W) (tally : Tally)
+    (answer : Result (Unit {0}) Cause) → kept ≡ style → new ≡ after
+    → Packs kept l contents told given old new tally answer → Packs style l contents told given old after tally answer
+packs_kept style kept l contents told given old new after tally answer same closes packs =
+    subst (λ o. Packs style l contents told given old o tally answer) closes
+    (subst (λ s. Packs s l contents told given old new tally answer) same packs)
 
 -- ---- steps
 

@@ -74,13 +74,17 @@ fn send_table<R: Read, W: Write>(
         output.old output.new result.0 result.1 }
 {
     let mut table = TableReader::new(alloc, tap, limits);
-    send_blobs(alloc, &mut table, style, output)
+    let mut flat = Flat::new(alloc);
+    let mut room = Room::new(alloc);
+    send_blobs(&mut table, &mut flat, &mut room, style, output)
 }
 
-// Sends the blobs of a table of which nothing was read yet, in a style.
+// Sends the blobs of a table of which nothing was read yet. The form and the room are reused from
+// one geometry to the next.
 fn send_blobs<R: Read, W: Write>(
-    alloc: Global,
     table: &mut TableReader<'_, R>,
+    flat: &mut Flat,
+    room: &mut Room,
     style: Style,
     output: &mut Output<'_, W>,
 ) -> (Tally, Result<(), Cause>)
@@ -91,8 +95,8 @@ fn send_blobs<R: Read, W: Write>(
 {
     let mut packing = Packing {
         table,
-        flat: Flat::new(alloc),
-        room: Room::new(alloc),
+        flat,
+        room,
         style,
         output,
         tally: Tally {
@@ -107,16 +111,16 @@ fn send_blobs<R: Read, W: Write>(
 // A table that is packed in a style: the reader of its geometries, the form and the room that are
 // reused from one geometry to the next, the output, and the tally of what was sent.
 #[derive(Drop)]
-struct Packing<'a, 'b, 'c, 'd, R, W> {
+struct Packing<'a, 'b, 'c, 'd, 'e, 'f, R, W> {
     table: &'a mut TableReader<'b, R>,
-    flat: Flat,
-    room: Room,
+    flat: &'c mut Flat,
+    room: &'d mut Room,
     style: Style,
-    output: &'c mut Output<'d, W>,
+    output: &'e mut Output<'f, W>,
     tally: Tally,
 }
 
-impl<'a, 'b, 'c, 'd, R: Read, W: Write> Packing<'a, 'b, 'c, 'd, R, W> {
+impl<'a, 'b, 'c, 'd, 'e, 'f, R: Read, W: Write> Packing<'a, 'b, 'c, 'd, 'e, 'f, R, W> {
     // Sends the blobs of the geometries that are left.
     fn send_all(&mut self) -> Result<(), Cause>
         requires going { IsGoing R.remaining W.contents self.old }
@@ -144,19 +148,13 @@ impl<'a, 'b, 'c, 'd, R: Read, W: Write> Packing<'a, 'b, 'c, 'd, R, W> {
         if self.table.has_point() {
             return self.send_points();
         }
-        match self.table.next_flat(&mut self.flat) {
+        match self.table.next_flat(self.flat) {
             Ok(true) => {}
             Ok(false) => return Ok(false),
             Err(fault) => return Err(cause_of_table(fault)),
         }
         let mut work = self.tally.work;
-        match write_blob(
-            &self.flat,
-            self.style,
-            &mut self.room,
-            self.output,
-            &mut work,
-        ) {
+        match write_blob(self.flat, self.style, self.room, self.output, &mut work) {
             Ok(()) => {
                 self.tally = self.tally.more(work);
                 Ok(true)
