@@ -1,22 +1,51 @@
 -- The flush after the bytes that were sent, the last act of a conversion.
 use Rattle.twkb_convert.proofs.Prelude.{◌≡◌, ◌∙◌, ◌⊎◌, ℕ, Bool, true, false, List, [], Option, Result, Ok, Err}
 use Rattle.twkb_convert.proofs.Prelude.{inl, inr, ap, refl, sym, subst, append-nil, Refused, Sent, Took, count_failure}
-use Rattle.twkb_convert.proofs.Prelude.{is_spent, output_failures, output_tap, sent_join, Output, IsDeviceCause, Cause}
+use Rattle.twkb_convert.proofs.Prelude.{is_spent, output_failures, output_tap, sent_join, Output, IsDeviceCause, Cause, OutFault}
+use Rattle.twkb_io.specs.Outputs.{is_device}
 use Rattle.twkb_io.specs.Taps.{has_unflushed}
 use Rattle.twkb_io.specs.declared.output.OutFault.TheVariants as out
 use Rattle.std.specs.Prelude.{OnOk, ◌≢◌}
+use Rattle.twkb_convert.specs.Causes.{cause_of_output}
 use Rattle.twkb_convert.specs.Devices.{AfterReads}
 use Rattle.twkb_convert.specs.Flushing.{Flushes, SentUpTo, UnlessRefused}
 use Rattle.twkb_convert.specs.declared.report.Cause.TheVariants as cause
+use Rattle.twkb_convert.proofs.CauseLemmas.{put_refused}
 
 unless : {A : Type 0} (answer : Result A Cause) (P Q : Type 0) → (P → Q) → UnlessRefused answer P
     → UnlessRefused answer Q
 unless (Ok done) P Q more p = more p
 unless (Err why) P Q more p = λ no_write no_length. more (p no_write no_length)
 
+pub unless_any : {A : Type 0} (answer : Result A Cause) (P : Type 0) → P → UnlessRefused answer P
+unless_any (Ok done) P fact = fact
+unless_any (Err why) P fact = λ no_write no_length. fact
+
 pub wrote : (failed : Bool) → IsDeviceCause failed true cause.WriteDevice
 wrote false = refl
 wrote true = refl
+
+-- all bytes that were handed over were taken
+pub sent_took : {A W : Type 0} (contents : W → Option (List ℕ)) (old new : Output W) (bytes : List ℕ)
+    (answer : Result A Cause) → is_spent old ≡ false → Took contents old bytes new
+    → SentUpTo contents old bytes new false answer
+sent_took contents old new bytes answer fresh took = record {
+  sends = took.sends;
+  writes = took.failures;
+  quiet = λ open_yet. refl;
+  unspent = unless_any answer (is_spent new ≡ false) (took.spent ∙ fresh);
+}
+
+-- a part of the bytes that were handed over was taken
+pub sent_part : {A W : Type 0} (contents : W → Option (List ℕ)) (old new : Output W) (bytes : List ℕ) (f : OutFault)
+    → Refused contents old bytes f new
+    → SentUpTo {A = A} contents old bytes new (is_device f) (Err (cause_of_output f))
+sent_part {A} contents old new bytes f refused = record {
+  sends = refused.sends;
+  writes = refused.failures;
+  quiet = λ open_yet. absurd (cc (open_yet, refused.spent));
+  unspent = put_refused A f (is_spent new ≡ false);
+}
 
 -- the flush changed neither the answer nor whether a write failed, or it failed
 abbrev pub Stays : {A : Type 0} → Bool → Result A Cause → Bool → Result A Cause → Type 0

@@ -7,11 +7,11 @@ use Rattle.twkb_convert.proofs.Prelude.{Tally, Cause, Work}
 use Rattle.std.specs.Prelude.{OnOk}
 use Rattle.twkb_convert.specs.Devices.{AfterReads}
 use Rattle.twkb_convert.specs.Draining.{Drains}
-use Rattle.twkb_convert.specs.Flushing.{Flushes, UnlessRefused}
+use Rattle.twkb_convert.specs.Flushing.{Flushes}
 use Rattle.twkb_convert.specs.Packed.{ExplainsPackingCause, PackedWith, StoppedPacking}
 use Rattle.twkb_convert.specs.TablePacking.{Ends, Packs, PacksAll}
 use Rattle.twkb_convert.specs.declared.report.Cause.TheVariants as cause
-use Rattle.twkb_convert.proofs.FlushLemmas.{Stays, same_cause, sent_last}
+use Rattle.twkb_convert.proofs.FlushLemmas.{Stays, same_cause, sent_last, unless_any}
 use Rattle.twkb_convert.proofs.WorkLemmas.{read_thrice, read_twice}
 
 -- a failed write is the cause whether a read failed or not
@@ -102,10 +102,6 @@ module _ (style : Style) (l : Allowance) (told : Option (List ℕ)) (work : Work
       (last.explains, subst (λ b. IsDeviceCause b failed why) (sym none) last.tell)
 
 -- ---- the reader's end and the flush
-
-unless_any : {A : Type 0} (answer : Result A Cause) (P : Type 0) → P → UnlessRefused answer P
-unless_any (Ok done) P fact = fact
-unless_any (Err why) P fact = λ no_write no_length. fact
 
 module _ {W : Type 0} (style : Style) (l : Allowance) (contents : W → Option (List ℕ)) (told : Option (List ℕ))
     (given : ℕ) (old mid : Output W) (tally : Tally) where

@@ -6,7 +6,7 @@ use Rattle.twkb_convert.proofs.Prelude.{length-append, IfSome, append-nil, flat_
 use Rattle.twkb_convert.proofs.Prelude.{sent_of, refused_join, took_join, took_nothing, Output, OutFault, Tree}
 use Rattle.twkb_convert.proofs.Prelude.{simple, collection, Row, Allowance, canonical_blob, canonical_stream, Style}
 use Rattle.twkb_convert.proofs.Prelude.{Record, AreRecordsOf, BeginWith, standing, all_but_last, MayBeWritten, Cause}
-use Rattle.twkb_convert.proofs.Prelude.{IsDeviceCause, Result, Tally}
+use Rattle.twkb_convert.proofs.Prelude.{FrontOfBlobs, IsDeviceCause, Result, Tally}
 use Rattle.twkb_io.specs.Outputs.{is_device}
 use Rattle.twkb_io.specs.declared.output.OutFault.TheVariants as out
 use Rattle.twkb_table.specs.RowReading.{waiting}
@@ -23,16 +23,11 @@ use Rattle.twkb_convert.specs.Packed.{ExplainsPackingCause}
 use Rattle.twkb_convert.specs.TablePacking.{GoesOn, IsGoing, Packs, SentSoFar}
 use Rattle.twkb_convert.specs.declared.report.Cause.TheVariants as cause
 use Rattle.twkb_convert.specs.declared.table_packing.Packing.{Packing}
-use Rattle.twkb_convert.proofs.CauseLemmas.{put_refused, told_put}
+use Rattle.twkb_convert.proofs.CauseLemmas.{told_put}
+use Rattle.twkb_convert.proofs.FlushLemmas.{sent_part, sent_took}
 use Rattle.twkb_convert.proofs.WorkLemmas.{work_more}
 
 -- ---- geometries that may be written
-
--- all records of a text are a beginning of its records
-begins_all : (told : Option (List ℕ)) (records : List Record)
-    → IfSome told (λ text. AreRecordsOf text records) → IfSome told (λ text. BeginWith text records)
-begins_all None records all = tt
-begins_all (Some text) records all = (all.0, all.1, all.2)
 
 ready_gave : (l : Allowance) (told : Option (List ℕ)) (records : List Record) (given : List Tree)
     (waits : List Row) (ended : Bool) → IfSome told (λ text. BeginWith text records)
@@ -182,30 +177,28 @@ module _ {R W : Type 0} (l : Allowance) (remaining : R → Option (List ℕ)) (c
     fresh_yet : is_spent p.output.now ≡ false
     fresh_yet = s.took.spent ∙ s.fresh
 
+    abbrev whole_part : FrontOfBlobs p.style l told (canonical_stream p.style s.geometries)
+    whole_part = record {
+      whole = s.geometries;
+      later = [];
+      front = [];
+      rest = [];
+      ready = ready;
+      cut = refl;
+      bytes = sym (append-nil (canonical_stream p.style s.geometries));
+    }
+
     -- no more geometry was sent
     pub packs_all : (given : ℕ) (to : TableReader R)
         → MeetsEnd l remaining told s.records s.geometries to
         → Packs p.style l contents told given first p.output.now p.tally (Ok (tt {0}))
     packs_all given to meets = record {
       bytes = canonical_stream p.style s.geometries;
-      part = record {
-        whole = s.geometries;
-        later = [];
-        front = [];
-        rest = [];
-        ready = ready;
-        cut = refl;
-        bytes = sym (append-nil (canonical_stream p.style s.geometries));
-      };
+      part = whole_part;
       one = inl refl;
       count = s.count;
       write_failed = false;
-      sent = record {
-        sends = s.took.sends;
-        writes = s.took.failures;
-        quiet = λ fresh. refl;
-        unspent = fresh_yet;
-      };
+      sent = sent_took contents first p.output.now (canonical_stream p.style s.geometries) (Ok (tt {0})) s.fresh s.took;
       ends = record {
         no_later = refl;
         none_cut = refl;
@@ -224,24 +217,11 @@ module _ {R W : Type 0} (l : Allowance) (remaining : R → Option (List ℕ)) (c
         → Packs {A = Unit {0}} p.style l contents told given first p.output.now p.tally (Err why)
     stopped_before given why explains tell = record {
       bytes = canonical_stream p.style s.geometries;
-      part = record {
-        whole = s.geometries;
-        later = [];
-        front = [];
-        rest = [];
-        ready = ready;
-        cut = refl;
-        bytes = sym (append-nil (canonical_stream p.style s.geometries));
-      };
+      part = whole_part;
       one = inl refl;
       count = s.count;
       write_failed = false;
-      sent = record {
-        sends = s.took.sends;
-        writes = s.took.failures;
-        quiet = λ fresh. refl;
-        unspent = λ no_write no_length. fresh_yet;
-      };
+      sent = sent_took contents first p.output.now (canonical_stream p.style s.geometries) (Err why) s.fresh s.took;
       ends = record { explains = explains; tell = tell };
     }
 
@@ -279,12 +259,7 @@ module _ {R W : Type 0} (l : Allowance) (remaining : R → Option (List ℕ)) (c
           one = inr (g, refl, cut.left fresh_yet);
           count = s.count;
           write_failed = is_device f;
-          sent = record {
-            sends = all.sends;
-            writes = all.failures;
-            quiet = λ fresh. absurd (cc (fresh, all.spent));
-            unspent = put_refused (Unit {0}) f (is_spent new ≡ false);
-          };
+          sent = sent_part contents first new (canonical_stream p.style s.geometries ++ cut.front) f all;
           ends = record {
             explains = cut_explained p.style l told given f s.geometries (g ∷ []) cut.front
                 (λ far. (let most = cut.too_long far in let before = s.took.sends.sent in
