@@ -1,11 +1,11 @@
 -- The flush after the text of a stream, and what the caller of the conversion learns.
 use Rattle.twkb_convert.proofs.Prelude.{◌≡◌, ◌∙◌, ℕ, Bool, true, false, List, [], ◌++◌, Option, Some, None, Result}
-use Rattle.twkb_convert.proofs.Prelude.{Ok, Err, inl, inr, IfSome, length, ap, arith, refl, sym, subst, append-nil}
+use Rattle.twkb_convert.proofs.Prelude.{Ok, Err, inl, inr, IfSome, length, ap, arith, sym, subst, append-nil}
 use Rattle.twkb_convert.proofs.Prelude.{Appends}
-use Rattle.twkb_convert.proofs.Prelude.{IsAtEnd, Ghosts, BeginsWith, Refused, Sent, Took, count_failure, device_of}
-use Rattle.twkb_convert.proofs.Prelude.{failures_of, is_spent, output_failures, output_tap, sent_of, sent_join, Tap}
+use Rattle.twkb_convert.proofs.Prelude.{IsAtEnd, Ghosts, BeginsWith, Sent, count_failure, device_of}
+use Rattle.twkb_convert.proofs.Prelude.{failures_of, output_failures, output_tap, sent_of, Tap}
 use Rattle.twkb_convert.proofs.Prelude.{Output, Allowance, Reader, Located, LocatedStream}
-use Rattle.twkb_convert.proofs.Prelude.{geometries_of, listing_text, Layout, IsDeviceCause, Cause}
+use Rattle.twkb_convert.proofs.Prelude.{geometries_of, listing_text, Layout, Cause}
 use Rattle.twkb_convert.specs.BlobReading.{limits_of, reader_failures, reader_tap, rest_of, told_of}
 use Rattle.twkb_convert.specs.Flushing.{Flushes}
 use Rattle.twkb_convert.specs.Listed.{ExplainsListingCause, Listed, StoppedListing}

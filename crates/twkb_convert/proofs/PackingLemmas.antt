@@ -1,7 +1,7 @@
 -- What is known of a table that is packed, after each of its geometries and where it stops.
 use Rattle.twkb_io.specs.declared.TheConstants.{MAX_BYTES}
 use Rattle.twkb_convert.proofs.Prelude.{◌≡◌, ◌∙◌, ◌+◌, ◌<◌, ◌≤◌, ℕ, Bool, true, false, List, [], ◌∷◌, ◌++◌}
-use Rattle.twkb_convert.proofs.Prelude.{Option, Some, None, Ok, Err, length, ap, arith, refl, sym, subst, inl, inr}
+use Rattle.twkb_convert.proofs.Prelude.{Option, Ok, Err, length, ap, arith, refl, sym, subst, inl, inr}
 use Rattle.twkb_convert.proofs.Prelude.{length-append, IfSome, append-nil, flat_map-append, Took, Cut, is_spent}
 use Rattle.twkb_convert.proofs.Prelude.{sent_of, refused_join, took_join, took_nothing, Output, OutFault, Tree}
 use Rattle.twkb_convert.proofs.Prelude.{simple, collection, Row, Allowance, canonical_blob, canonical_stream, Style}

@@ -1,5 +1,5 @@
 -- A geometry that is a point, sent without a form.
-use Rattle.twkb_convert.proofs.Prelude.{◌≡◌, ◌∙◌, ℕ, List, [], ◌∷◌, ◌++◌, Option, Some, None, ap, arith, sym, subst}
+use Rattle.twkb_convert.proofs.Prelude.{◌≡◌, ◌∙◌, ℕ, List, [], ◌∷◌, Option, Some, None, ap, arith, sym, subst}
 use Rattle.twkb_convert.proofs.Prelude.{Output, OutFault, Took, Cut, Tree, simple, collection, Row, rows, Allowance}
 use Rattle.twkb_convert.proofs.Prelude.{Work, canonical_blob, Style, Record}
 use Rattle.std.specs.Prelude.{ℤ}
