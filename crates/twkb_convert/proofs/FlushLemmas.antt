@@ -1,7 +1,8 @@
 -- The flush after the bytes that were sent, the last act of a conversion.
 use Rattle.twkb_convert.proofs.Prelude.{◌≡◌, ◌∙◌, ◌⊎◌, ℕ, Bool, true, false, List, [], Option, Result, Ok, Err}
 use Rattle.twkb_convert.proofs.Prelude.{inl, inr, ap, refl, sym, subst, append-nil, Refused, Sent, Took, count_failure}
-use Rattle.twkb_convert.proofs.Prelude.{is_spent, output_failures, output_tap, sent_join, Output, IsDeviceCause, Cause, OutFault}
+use Rattle.twkb_convert.proofs.Prelude.{is_spent, output_failures, output_tap, sent_join}
+use Rattle.twkb_convert.proofs.Prelude.{Output, IsDeviceCause, Cause, OutFault}
 use Rattle.twkb_io.specs.Outputs.{is_device}
 use Rattle.twkb_io.specs.Taps.{has_unflushed}
 use Rattle.twkb_io.specs.declared.output.OutFault.TheVariants as out

@@ -1,8 +1,11 @@
 -- From an output to the result that a conversion's caller sees.
 use Rattle.twkb_convert.proofs.Prelude.{◌≡◌, ◌≢◌, ◌∙◌, ◌<◌, ◌^◌, ◌++◌, ℕ, List, Bool, true, false, Option, Result, Ok}
-use Rattle.twkb_convert.proofs.Prelude.{Err, ap, arith, refl, append-nil, length, subst, sym, inl, inr, Appends, IsAtEnd}
-use Rattle.twkb_convert.proofs.Prelude.{bytes_given, count_failure, device_of, failures_of, output_failures, output_tap, sent_of}
-use Rattle.twkb_convert.proofs.Prelude.{Sent, Tap, Output, Tree, Allowance, canonical_stream, Style, Changes, IsDeviceCause}
+use Rattle.twkb_convert.proofs.Prelude.{Err, ap, arith, refl, append-nil, length}
+use Rattle.twkb_convert.proofs.Prelude.{subst, sym, inl, inr, Appends, IsAtEnd}
+use Rattle.twkb_convert.proofs.Prelude.{bytes_given, count_failure, device_of}
+use Rattle.twkb_convert.proofs.Prelude.{failures_of, output_failures, output_tap, sent_of}
+use Rattle.twkb_convert.proofs.Prelude.{Sent, Tap, Output, Tree}
+use Rattle.twkb_convert.proofs.Prelude.{Allowance, canonical_stream, Style, Changes, IsDeviceCause}
 use Rattle.twkb_convert.proofs.Prelude.{Tally, Cause, Work}
 use Rattle.std.specs.Prelude.{OnOk}
 use Rattle.twkb_convert.specs.Devices.{AfterReads}

@@ -234,7 +234,8 @@ module _ {R W : Type 0} (l : Allowance) (remaining : R → Option (List ℕ)) (c
     -- no memory for the sizes of a blob
     pub stopped_memory : (given : ℕ) (new : Output W) → new ≡ p.output.now
         → Packs {A = Unit {0}} p.style l contents told given first new p.tally (Err cause.Memory)
-    stopped_memory given new same = subst (λ o. Packs {A = Unit {0}} p.style l contents told given first o p.tally (Err cause.Memory))
+    stopped_memory given new same =
+        subst (λ o. Packs {A = Unit {0}} p.style l contents told given first o p.tally (Err cause.Memory))
         (sym same) (stopped_before given cause.Memory (refl, refl) (λ e. cc e, λ e. cc e))
 
     -- the output refused a part of a blob

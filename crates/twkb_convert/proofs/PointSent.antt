@@ -4,7 +4,8 @@ use Rattle.twkb_convert.proofs.Prelude.{Output, OutFault, Took, Cut, Tree, simpl
 use Rattle.twkb_convert.proofs.Prelude.{Work, canonical_blob, Style, Record}
 use Rattle.std.specs.Prelude.{ℤ}
 use Rattle.twkb_points.specs.Point.{Point}
-use Rattle.twkb_tree.specs.Tree.{Simple, point, line, polygon, multi_point, multi_line, multi_polygon, IsTree, IsPrecision}
+use Rattle.twkb_tree.specs.Tree.{Simple, point, line, polygon}
+use Rattle.twkb_tree.specs.Tree.{multi_point, multi_line, multi_polygon, IsTree, IsPrecision}
 use Rattle.twkb_tree.specs.Rows.{own_row}
 use Rattle.twkb_writer.specs.Measuring.{Measures}
 use Rattle.twkb_writer.specs.PointBlob.{one_point}
@@ -66,7 +67,8 @@ module _ {R W : Type 0} (style : Style) (l : Allowance) (remaining : R → Optio
   precise = (subst IsTree is_point gives.valid.tree).0
 
   -- the point was sent
-  pub writes_point : (before after : Work) → (IsPrecision p → Took contents old (canonical_blob style (one_point p q)) new)
+  pub writes_point : (before after : Work)
+      → (IsPrecision p → Took contents old (canonical_blob style (one_point p q)) new)
       → Measures before 1 1 1 after → WritesBlob style contents gives.geometry old before new after
   writes_point before after took measures = record {
     took = subst (λ (g : Tree). Took contents old (canonical_blob style g) new) (sym is_point) (took precise);

@@ -1,4 +1,4 @@
-//! A table that is packed: the blob of each geometry, sent once the row after it was accepted or the table's end was reached.
+//! A table that is packed: each blob is sent once the row after its geometry was accepted, or the table ended.
 ghost use Rattle.std.specs.Prelude.{◌≡◌, ◌≢◌, ◌+◌, ◌-◌, ◌^◌, ◌<◌, true, false, Ok, Err, IfOk, IfErr, OnOk};
 ghost use Rattle.std.specs.Io.KnownBytes.{IsAtEnd};
 ghost use Rattle.twkb_io.specs.Taps.{bytes_given, device_of};

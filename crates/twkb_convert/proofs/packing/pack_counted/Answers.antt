@@ -13,7 +13,8 @@ returns-in-Ok-clause-ok g c =
     c.has_changed-has_read_failed.result c.failures-reads_failed.result c.failures.result c.sent-sent.result
     (search rules) (search rules) (search rules) (search rules) (search rules) (search rules) (search rules)
     _ _ (search rules) (search rules) well.0
-    (ok_before g.W.Write.contents _ _ _ _ _ _ c.pack_table-sending.ensures.end c.flush_last-packed.ensures.flushes well.1)
+    (ok_before g.W.Write.contents _ _ _ _ _ _ c.pack_table-sending.ensures.end
+    c.flush_last-packed.ensures.flushes well.1)
     (rw (sym well.1) at (packs_last c.args.style c.args.limits g.W.Write.contents _ _ _ _ _ _ _ _
     c.pack_table-sending.ensures.packs c.flush_last-packed.ensures.flushes))
 

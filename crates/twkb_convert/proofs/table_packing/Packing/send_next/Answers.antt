@@ -34,7 +34,8 @@ returns-in-Err-Memory-clause-sends g c = λ l told given first s.
 pub returns-in-Err-Sink-clause-sends : goal.returns-in-Err-Sink-clause-sends
 returns-in-Err-Sink-clause-sends g c = λ l told given first s.
     let gives = c.in-Ok-true.ensures.gives (search rules) l told s.records s.geometries s.stands in
-    rw (c.cause_of_output.ensures, c.in-Err-Sink.field-0-is) (stopped_inside l g.R.Read.remaining g.W.Write.contents told first c.args.self.now s
+    rw (c.cause_of_output.ensures, c.in-Err-Sink.field-0-is)
+    (stopped_inside l g.R.Read.remaining g.W.Write.contents told first c.args.self.now s
     given _ gives.geometry c.in-Err-Sink.fault (ready_after l g.R.Read.remaining told gives.seen
     (s.geometries ++ gives.geometry ∷ []) c.next_flat.new.self gives.stands)
     (rw c.in-Err-Sink.field-0-is at (c.in-Err-Sink.ensures.err gives.geometry gives.valid.tree gives.rows)))
