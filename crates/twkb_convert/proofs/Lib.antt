@@ -1,5 +1,6 @@
 pub mod Prelude
 pub mod WorkLemmas
+pub mod SendingLemmas
 pub mod PointSent
 pub mod RoundTrips
 pub mod RowTexts
@@ -7,10 +8,9 @@ pub mod LocatedLemmas
 pub mod ListingTexts
 pub mod BlobTexts
 pub mod CauseLemmas
-pub mod FlushLemmas
-pub mod PackingLemmas
 pub mod ListingLemmas
 pub mod ListingEnds
+pub mod FlushedAfter
 pub mod TableListed
 pub mod PackedLemmas
 pub mod OutputLemmas
@@ -18,4 +18,5 @@ pub mod FrontLemmas
 pub mod RefusedLemmas
 pub mod ShownLemmas
 pub mod PartsLemmas
+pub mod FlushLemmas
 pub mod ShortTexts

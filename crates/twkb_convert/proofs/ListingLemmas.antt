@@ -15,8 +15,7 @@ use Rattle.twkb_convert.specs.BlobReading.{limits_of, rest_of, told_of}
 use Rattle.twkb_convert.specs.Causes.{cause_of_output}
 use Rattle.twkb_convert.specs.Flushing.{UnlessRefused}
 use Rattle.twkb_convert.specs.BlobsListed.{CutsBlob, Ends, IsGoing, Lists, SendsBlob, SendsNext, SentSoFar}
-use Rattle.twkb_convert.proofs.CauseLemmas.{explained, put_explained, told_missed, told_put}
-use Rattle.twkb_convert.proofs.FlushLemmas.{sent_part}
+use Rattle.twkb_convert.proofs.CauseLemmas.{explained, put_explained, put_refused, told_missed, told_put}
 use Rattle.twkb_convert.proofs.LocatedLemmas.{located-append, located-one}
 use Rattle.twkb_convert.proofs.ListingTexts.{blobs_text-append, blobs_text-one}
 
@@ -190,6 +189,7 @@ module _ {R W : Type 0} {read : Ghosts R} (layout : Layout) (contents : W → Op
       one = inl refl;
       holds = inr ([], sym (append-nil (listing_text layout sent.found)));
     };
+    sends = subst (λ o. Sent contents old (listing_text layout sent.found) o) (sym same) sent.took.sends;
     count = is ∙ sent.count;
     read_failed = failed;
     write_failed = false;
@@ -199,12 +199,9 @@ module _ {R W : Type 0} {read : Ghosts R} (layout : Layout) (contents : W → Op
       failures = rw sent.follows.failures at follows.failures;
       within = follows.within;
     };
-    sent = record {
-      sends = subst (λ o. Sent contents old (listing_text layout sent.found) o) (sym same) sent.took.sends;
-      writes = ap output_failures same ∙ sent.took.failures;
-      quiet = λ fresh. refl;
-      unspent = unspent;
-    };
+    writes = ap output_failures same ∙ sent.took.failures;
+    quiet = λ fresh. refl;
+    unspent = unspent;
     ends = ends;
   }
 
@@ -236,6 +233,7 @@ module _ {R W : Type 0} {read : Ghosts R} (layout : Layout) (contents : W → Op
           one = inr (one.found, refl, cut.left sent.going.unspent);
           holds = inr (cut.front, refl);
         };
+        sends = refused.sends;
         count = is ∙ sent.count;
         read_failed = false;
         write_failed = is_device one.fault;
@@ -245,7 +243,9 @@ module _ {R W : Type 0} {read : Ghosts R} (layout : Layout) (contents : W → Op
           failures = one.follows.failures ∙ sent.follows.failures;
           within = one.follows.within;
         };
-        sent = sent_part contents old new _ one.fault refused;
+        writes = refused.failures;
+        quiet = λ fresh. absurd (cc (fresh, refused.spent));
+        unspent = put_refused A one.fault (is_spent new ≡ false);
         ends = record {
           explains = put_explained layout (limits_of from) (rest_of from) (told_of to)
               (sent.bytes ++ one.gives.front) one.fault sent.found (one.found ∷ []) cut.rest
@@ -283,11 +283,14 @@ module _ {R W : Type 0} {read : Ghosts R} (layout : Layout) (contents : W → Op
           one = inl refl;
           holds = inl refl;
         };
+        sends = cut.refused.sends;
         count = omega (arith, going.few, start);
         read_failed = false;
         write_failed = is_device f;
         follows = record { same_tap = refl; limits = refl; failures = refl; within = from.input.within };
-        sent = sent_part contents old new cut.front f cut.refused;
+        writes = cut.refused.failures;
+        quiet = λ fresh. absurd (cc (fresh, cut.refused.spent));
+        unspent = put_refused A f (is_spent new ≡ false);
         ends = record {
           explains = put_explained layout (limits_of from) (rest_of from) (told_of from) [] f [] []
               cut.rest (λ e. (let far = cut.too_long e in omega (arith, far, none, ap length whole)))

@@ -3,7 +3,8 @@ use Rattle.std.specs.Prelude.{◌≡◌, ℕ, ◌+◌, ◌≤◌, ◌⊎◌, Lis
 use Rattle.std.specs.Prelude.{Result, Ok, Err}
 use Rattle.std.specs.Io.KnownBytes.{IsAtEnd}
 use Rattle.std.specs.declared.io.traits.Read.{Ghosts}
-use Rattle.twkb_io.specs.Outputs.{Cut, Took, is_spent}
+use Rattle.twkb_io.specs.Taps.{count_failure}
+use Rattle.twkb_io.specs.Outputs.{Cut, Sent, Took, is_spent, output_failures}
 use Rattle.twkb_io.specs.declared.output.Output.{Output}
 use Rattle.twkb_io.specs.declared.output.OutFault.{OutFault}
 use Rattle.twkb_blob.specs.declared.reader.Reader.{Reader}
@@ -12,7 +13,7 @@ use Rattle.twkb_convert.specs.BlobReading.{EndsBlobs, Follows, GivesBlob, IsBetw
 use Rattle.twkb_convert.specs.BlobReading.{rest_of, told_of}
 use Rattle.twkb_convert.specs.Causes.{cause_of_output}
 use Rattle.twkb_convert.specs.Devices.{IsDeviceCause}
-use Rattle.twkb_convert.specs.Flushing.{SentUpTo}
+use Rattle.twkb_convert.specs.Flushing.{UnlessRefused}
 use Rattle.twkb_convert.specs.Fronts.{FrontOfText}
 use Rattle.twkb_convert.specs.Listed.{ExplainsListingCause}
 use Rattle.twkb_convert.specs.Listings.{Layout, listing_text}
@@ -105,15 +106,19 @@ Ends layout from to bytes whole later left read_failed write_failed (Err why) =
     ListsUpTo layout from to bytes whole later left read_failed write_failed why
 
 -- A prefix of the text of a stream was sent, from a reader that had read nothing, and this is the
--- number of blobs whose text is whole in it.
+-- number of blobs whose text is whole in it. The output is spent if a write failed, and only if a
+-- call was refused.
 pub record Lists {A R W : Type 0} {read : Ghosts R} (layout : Layout)
     (contents : W → Option (List ℕ)) (from : Reader R read) (old : Output W) (to : Reader R read)
     (new : Output W) (done : ℕ) (answer : Result A Cause) : Type 0 where
   pub text : List ℕ
   pub part : FrontOfText (LocatedStream (limits_of from) 0) (listing_text layout) (rest_of from) text
+  pub sends : Sent contents old text new
   pub count : done ≡ length part.whole
   pub read_failed : Bool
   pub write_failed : Bool
   pub follows : Follows from to read_failed
-  pub sent : SentUpTo contents old text new write_failed answer
+  pub writes : output_failures new ≡ count_failure write_failed (output_failures old)
+  pub quiet : is_spent new ≡ false → write_failed ≡ false
+  pub unspent : UnlessRefused answer (is_spent new ≡ false)
   pub ends : Ends layout from to part.bytes part.whole part.later part.left read_failed write_failed answer

@@ -4,8 +4,6 @@ use Rattle.twkb_blob.specs.declared.fault.BlobFault.TheVariants as blob
 use Rattle.twkb_io.specs.declared.input.InFault.TheVariants as input
 use Rattle.twkb_io.specs.declared.output.OutFault.{OutFault}
 use Rattle.twkb_io.specs.declared.output.OutFault.TheVariants as out
-use Rattle.twkb_table.specs.declared.table_fault.TableFault.{TableFault}
-use Rattle.twkb_table.specs.declared.table_fault.TableFault.TheVariants as table
 use Rattle.twkb_convert.specs.declared.report.Cause.{Cause}
 use Rattle.twkb_convert.specs.declared.report.Cause.TheVariants as cause
 
@@ -17,15 +15,6 @@ cause_of_blob (blob.Device input.TooLong) = cause.TooLong
 cause_of_blob (blob.Device input.Spent) = cause.TooLong
 cause_of_blob blob.Spent = cause.TooLong
 cause_of_blob (blob.At offset reason) = cause.Blob offset reason
-
--- the cause of a stop at a reader of tables, which is called no more after a refusal; a failed read
--- is told as want of memory
-abbrev pub cause_of_table : TableFault → Cause
-cause_of_table (table.At number reason) = cause.Row number reason
-cause_of_table table.TooManyRecords = cause.TooManyRecords
-cause_of_table table.Source = cause.Memory
-cause_of_table table.Memory = cause.Memory
-cause_of_table table.Spent = cause.Memory
 
 -- the cause of a stop at an output, which is called no more after a refusal
 abbrev pub cause_of_output : OutFault → Cause

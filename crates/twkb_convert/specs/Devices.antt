@@ -1,5 +1,5 @@
 -- Which devices failed in a run, as their taps count it, and what the cause says about that.
-use Rattle.std.specs.Prelude.{ℕ, ◌≡◌, ◌≢◌, ◌⊎◌, Bool, true, false, Result, Err}
+use Rattle.std.specs.Prelude.{ℕ, ◌≡◌, ◌≢◌, Bool, true, false}
 use Rattle.twkb_io.specs.Taps.{count_failure, failures_of}
 use Rattle.twkb_io.specs.declared.tap.Tap.{Tap}
 use Rattle.twkb_convert.specs.declared.report.Cause.{Cause}
@@ -10,14 +10,6 @@ abbrev pub IsDeviceCause : Bool → Bool → Cause → Type 0
 IsDeviceCause read true why = why ≡ cause.WriteDevice
 IsDeviceCause true false why = why ≡ cause.ReadDevice
 IsDeviceCause false false why = (why ≢ cause.ReadDevice) × (why ≢ cause.WriteDevice)
-
--- an answer, if it is known whether a read failed: a failed write or flush stays the cause, and a
--- failed read comes before any other
-abbrev pub AfterReads : {A : Type 0} → Bool → Result A Cause → Result A Cause → Type 0
-AfterReads failed before answer =
-    ((before ≡ Err cause.WriteDevice) × (answer ≡ before))
-    ⊎ ((before ≢ Err cause.WriteDevice) × (failed ≡ true) × (answer ≡ Err cause.ReadDevice))
-    ⊎ ((before ≢ Err cause.WriteDevice) × (failed ≡ false) × (answer ≡ before))
 
 -- one more failure was counted, if there was one
 abbrev pub CountsOne : Bool → ℕ → ℕ → Type 0

@@ -1,13 +1,11 @@
--- What reading to the end tells.
-use Rattle.std.specs.Prelude.{ℕ, ◌≤◌, ◌-◌, ◌^◌, List, Option, Result, Ok, Err, ⊤}
-use Rattle.std.specs.Io.KnownBytes.{IsAtEnd}
-use Rattle.twkb_convert.specs.declared.report.Cause.{Cause}
-use Rattle.twkb_convert.specs.declared.report.Cause.TheVariants as cause
+-- How reading to the end counts failures.
+use Rattle.std.specs.Prelude.{ℕ, ◌≡◌, Result, Ok, Err, true}
+use Rattle.twkb_io.specs.Taps.{count_failure}
+use Rattle.twkb_convert.specs.declared.draining.DrainFault.{DrainFault}
+use Rattle.twkb_convert.specs.declared.draining.DrainFault.TheVariants as fault
 
--- The end was reached, or a read failed, which is no cause of its own until the tap's count is
--- asked, or 2^64 - 1 reads gave bytes.
-abbrev pub Drains : {T : Type 0} → Option (List ℕ) → ℕ → Result T Cause → Type 0
-Drains left given (Ok done) = IsAtEnd left
-Drains left given (Err cause.Memory) = ⊤
-Drains left given (Err cause.TooLong) = 2 ^ 64 - 1 ≤ given
-Drains left given (Err _) = ⊥
+-- the end was reached without a failure, or the last read failed, or 2^64 - 1 reads gave bytes
+abbrev pub Drains : {T : Type 0} → ℕ → Result T DrainFault → ℕ → Type 0
+Drains old (Ok done) new = new ≡ old
+Drains old (Err fault.Read) new = new ≡ count_failure true old
+Drains old (Err fault.TooLong) new = new ≡ old

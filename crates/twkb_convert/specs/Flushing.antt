@@ -1,8 +1,8 @@
 -- What is flushed when a conversion ends.
-use Rattle.std.specs.Prelude.{◌≡◌, ◌≢◌, ◌⊎◌, ℕ, List, [], Option, Result, Ok, Err, Bool, false, true}
+use Rattle.std.specs.Prelude.{◌≡◌, ◌≢◌, ◌⊎◌, ℕ, List, [], Option, Result, Ok, Err, false, true}
 use Rattle.twkb_io.specs.declared.tap.Tap.{Tap}
-use Rattle.twkb_io.specs.Taps.{count_failure, has_unflushed}
-use Rattle.twkb_io.specs.Outputs.{Refused, Sent, Took, is_spent, output_failures, output_tap}
+use Rattle.twkb_io.specs.Taps.{has_unflushed}
+use Rattle.twkb_io.specs.Outputs.{Refused, Took, is_spent, output_tap}
 use Rattle.twkb_io.specs.declared.output.Output.{Output}
 use Rattle.twkb_io.specs.declared.output.OutFault.TheVariants as out
 use Rattle.twkb_convert.specs.declared.report.Cause.{Cause}
@@ -35,12 +35,3 @@ Flushes contents old sending new answer =
     (Took contents old [] new × (has_unflushed (output_tap new).now ≡ false) × (answer ≡ sending))
     ⊎ ((is_spent old ≡ true) × (new ≡ old) × (answer ≡ sending))
     ⊎ ((is_spent old ≡ false) × Refused contents old [] out.Write new × (answer ≡ Err cause.WriteDevice))
-
--- These bytes were sent up to this answer, and the tap counted whether a write or a flush failed.
--- The output is spent if one failed, and only if a call was refused.
-pub record SentUpTo {A W : Type 0} (contents : W → Option (List ℕ)) (old : Output W)
-    (bytes : List ℕ) (new : Output W) (write_failed : Bool) (answer : Result A Cause) : Type 0 where
-  pub sends : Sent contents old bytes new
-  pub writes : output_failures new ≡ count_failure write_failed (output_failures old)
-  pub quiet : is_spent new ≡ false → write_failed ≡ false
-  pub unspent : UnlessRefused answer (is_spent new ≡ false)

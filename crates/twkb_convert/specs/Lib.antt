@@ -4,6 +4,7 @@ pub mod Outputs
 pub mod Fronts
 pub mod CountedWork
 pub mod BlobWriting
+pub mod Sending
 pub mod SpanLines
 pub mod LocatedBlobs
 pub mod Listings
@@ -17,7 +18,6 @@ pub mod StreamListing
 pub mod Unpacked
 pub mod Shown
 pub mod Packed
-pub mod TablePacking
 pub mod Parts
 pub mod Texts
 pub mod Conversions

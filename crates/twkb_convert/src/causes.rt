@@ -1,11 +1,10 @@
 //! The causes that faults of readers and outputs are for a caller.
 ghost use Rattle.std.specs.Prelude.{◌≡◌};
-ghost use Rattle.twkb_convert.specs.Causes.{cause_of_blob, cause_of_output, cause_of_table};
+ghost use Rattle.twkb_convert.specs.Causes.{cause_of_blob, cause_of_output};
 
 use crate::report::Cause;
 use twkb_blob::BlobFault;
 use twkb_io::{InFault, OutFault};
-use twkb_table::TableFault;
 
 // The cause of a stop at a reader of blobs. No call is made after a refused one.
 pub(crate) fn cause_of_blob(fault: BlobFault) -> Cause
@@ -16,18 +15,6 @@ pub(crate) fn cause_of_blob(fault: BlobFault) -> Cause
         BlobFault::Device(InFault::Read) => Cause::ReadDevice,
         BlobFault::Memory => Cause::Memory,
         BlobFault::Device(InFault::TooLong | InFault::Spent) | BlobFault::Spent => Cause::TooLong,
-    }
-}
-
-// The cause of a stop at a reader of tables. A failed read is told as want of memory: `csv` does not
-// tell the two apart, but the tap counts the reads that failed.
-pub(crate) fn cause_of_table(fault: TableFault) -> Cause
-    ensures { result ≡ cause_of_table fault }
-{
-    match fault {
-        TableFault::At { number, reason } => Cause::Row { number, reason },
-        TableFault::TooManyRecords => Cause::TooManyRecords,
-        TableFault::Source | TableFault::Memory | TableFault::Spent => Cause::Memory,
     }
 }
 

@@ -1,17 +1,20 @@
 //! Packing a table into a stream.
-ghost use Rattle.std.specs.Prelude.{IfOk, IfErr};
+ghost use Rattle.std.specs.Prelude.{◌≡◌, ◌<◌, ◌^◌, ◌⊎◌, IfOk, IfErr, true};
 ghost use Rattle.twkb_grammar.specs.declared.style.Style.TheVariants.{Full};
-ghost use Rattle.twkb_convert.specs.Devices.{AfterReads, Changes};
+ghost use Rattle.twkb_convert.specs.Devices.{Changes, IsDeviceCause};
 ghost use Rattle.twkb_convert.specs.Flushing.{IsFlushedButForDevices};
-ghost use Rattle.twkb_convert.specs.Packed.{Packed, PackedWith, StoppedPacking};
+ghost use Rattle.twkb_convert.specs.Packed.{ExplainsAs, Packed, PackedWith, StoppedPacking};
+ghost use Rattle.twkb_convert.specs.Sending.{is_output, is_write};
 
-use crate::flushing::flush_last;
+use crate::obstacle::TableObstacle;
 use crate::report::{Cause, ConvertFault, Report};
-use crate::table_packing::pack_table;
+use crate::sending::Tally;
+use crate::table_sending::send_table_and_flush;
 use std::alloc::Global;
 use std::io::{Read, Write};
 use twkb_flat::Work;
-use twkb_io::{Output, Tap};
+use twkb_io::{OutFault, Output, Tap};
+use twkb_table::TableFault;
 use twkb_tree::Limits;
 use twkb_writer::Style;
 
@@ -77,23 +80,24 @@ pub fn pack_counted<R: Read, W: Write>(
 {
     let reads_failed = reader.failures();
     let mut output = Output::new(writer);
-    let (tally, sending) = pack_table(alloc, reader, limits, style, &mut output);
-    let packed = flush_last(&mut output, sending);
+    let sending = send_table_and_flush(alloc, reader, limits, style, &mut output);
     let sent = output.sent();
     let has_read_failed = has_changed(reads_failed, reader.failures());
-    match after_reads(packed, has_read_failed) {
-        Ok(()) => Ok((
-            Report {
-                geometries: tally.geometries,
-                bytes: sent,
-            },
-            tally.work,
-        )),
-        Err(cause) => Err(ConvertFault {
+    match sending {
+        Err(stop) => {
+            let cause = packing_cause(stop.why, has_read_failed);
+            Err(ConvertFault {
+                done: stop.done,
+                sent,
+                cause,
+            })
+        }
+        Ok(tally) if has_read_failed => Err(ConvertFault {
             done: tally.geometries,
             sent,
-            cause,
+            cause: Cause::ReadDevice,
         }),
+        Ok(tally) => Ok(packed(tally, sent)),
     }
 }
 
@@ -107,14 +111,36 @@ fn has_changed(before: u64, after: u64) -> bool
     true
 }
 
-// The answer of packing, if it is known whether a read failed: a failed write comes before a failed
-// read, and that before any other cause.
-fn after_reads(packed: Result<(), Cause>, has_read_failed: bool) -> Result<(), Cause>
-    ensures { AfterReads has_read_failed packed result }
+// The answer if the whole table was sent.
+fn packed(tally: Tally, sent: u64) -> (Report, Work)
+    ensures report { result.0 ≡ record { geometries = tally.geometries; bytes = sent } }
+    ensures work { result.1 ≡ tally.work }
+    ensures fits { (result.1.point_reads < 2 ^ 64) × (result.1.node_reads < 2 ^ 64) }
 {
-    match packed {
-        Err(Cause::WriteDevice) => packed,
-        _ if has_read_failed => Err(Cause::ReadDevice),
-        _ => packed,
+    let report = Report {
+        geometries: tally.geometries,
+        bytes: sent,
+    };
+    (report, tally.work)
+}
+
+// The cause of a stop: a failed write if there was one, else a failed read, else the reason that
+// the obstacle gives.
+#[tactic(auto, using(crate::proofs::PackedLemmas::read_explained))]
+fn packing_cause(why: TableObstacle, has_read_failed: bool) -> Cause
+    ensures devices { IsDeviceCause has_read_failed (is_write why) result }
+    ensures explains { ExplainsAs why result }
+    ensures output { is_output why ≡ true → (result ≡ Cause.WriteDevice)
+        ⊎ (result ≡ Cause.ReadDevice) ⊎ (result ≡ Cause.TooLong) }
+{
+    match why {
+        TableObstacle::Output(OutFault::Write | OutFault::Stuck) => Cause::WriteDevice,
+        _ if has_read_failed => Cause::ReadDevice,
+        TableObstacle::Table(TableFault::At { number, reason }) => Cause::Row { number, reason },
+        TableObstacle::Table(TableFault::TooManyRecords) => Cause::TooManyRecords,
+        TableObstacle::Table(TableFault::Source | TableFault::Memory | TableFault::Spent) =>
+            Cause::Memory,
+        TableObstacle::Undrained | TableObstacle::Output(OutFault::TooLong | OutFault::Spent) =>
+            Cause::TooLong,
     }
 }
