@@ -143,8 +143,8 @@ impl Session {
         }
     }
 
-    // Takes bytes as `feed_flat` does, and returns how many. A frame of its own, which returns one number: whether a
-    // geometry ended is read off the session.
+    // Takes bytes as `feed_flat` does, and returns how many. It is not inlined, and returns one
+    // number, which stays in a register: whether a geometry ended is read off the session.
     #[inline(never)]
     fn feed_apart(&mut self, piece: &[u8]) -> Result<usize, BlobFault>
         ensures fed { (bytes : List ℕ) (gs : List Tree) → Stands bytes gs self.old
@@ -167,7 +167,9 @@ impl Session {
         self.feed_many(piece)
     }
 
-    // Takes bytes of a piece of any length, and returns how many.
+    // Takes the bytes of a piece of any length up to the end of a geometry, or all of them if none
+    // ends there, and returns how many; `is_whole` then says whether a geometry ends with them.
+    // After a fault the session is spent.
     #[inline(always)]
     fn feed_many(&mut self, piece: &[u8]) -> Result<usize, BlobFault>
         requires live { self.old.spent ≡ false }
@@ -192,7 +194,9 @@ impl Session {
         }
     }
 
-    // Takes a piece of one byte, which needs neither a cut nor a loop, and returns 1.
+    // Takes one byte of a stream that has room for it, and returns 1; `is_whole` then says whether a
+    // geometry ends with the byte. After a fault the session is spent. Unlike `feed_many` it needs
+    // no loop, and does not shorten the piece to what the stream has room for.
     #[inline(always)]
     fn feed_byte(&mut self, byte: u8) -> Result<usize, BlobFault>
         requires live { self.old.spent ≡ false }

@@ -96,10 +96,10 @@ impl<'a, 'b, R: Read> StreamReader<'a, 'b, R> {
             .read_with(&mut room.engine, &mut room.rows.flat, &mut NoSpans)
     }
 
-    /// Reads the next geometry, as `next` does, and puts the spans of its headers, as
-    /// `Reader::next_located` gives them, into a list, in place of what that holds; after a false
-    /// and after an `Err` both are empty. It takes memory as `next` does, and for spans past the
-    /// room of the list.
+    /// Reads the next geometry as `next` does, and replaces what the list holds by the spans of its
+    /// headers, which are those that `Reader::next_located` gives. After a false and after an `Err`
+    /// the list is empty, and so are the rows. It takes memory as `next` does, and for spans past
+    /// the room of the list.
     pub fn next_spans(&mut self, spans: &mut Spans) -> Result<bool, BlobFault>
         ensures { ReadsSpans (reader_in self.old) (reader_in self.new) result (rows_in self.new) spans.new }
     {

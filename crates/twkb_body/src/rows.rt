@@ -15,7 +15,7 @@ use twkb_points::Pt;
 use twkb_tree::Kind;
 
 /// Appends a row without points, which continues the rows. Takes memory; an `Err` changes nothing.
-// A frame of its own for the push of a row, which is large.
+// Not inlined, since the push of a row is large.
 #[inline(never)]
 pub fn push_row(flat: &mut Flat, row: Row) -> Result<(), AllocError>
     requires { Continues largest_limits flat.old (row_with row []) }

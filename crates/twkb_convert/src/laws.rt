@@ -35,7 +35,7 @@ pub fn pack_of_unpack()
         → packed ≡ canonical_stream style gs }
 {}
 
-/// Any records have exactly one packed output in each style.
+/// Any records have exactly one packed output in each style, under given limits.
 pub fn one_packed_output()
     ensures some { (style : Style) (l : Allowance) (records : List Record) → IsAllowance l
         → (bytes : List ℕ) × PackTo style l records bytes }
@@ -70,7 +70,7 @@ pub fn pack_front()
         → FrontOfBlobs style l (Some text) written → PackTextTo style l text bytes → BeginsWith (Some bytes) written }
 {}
 
-/// Any bytes have exactly one unpacked output.
+/// Any bytes have exactly one unpacked output under given limits.
 pub fn one_unpacked_output()
     ensures some { (l : Allowance) (bytes : List ℕ) → IsAllowance l → AreBytes bytes
         → (text : List ℕ) × UnpackTo l bytes text }
@@ -94,7 +94,7 @@ pub fn one_located_stream()
         → LocatedStream l offset bytes bs → LocatedStream l offset bytes cs → bs ≡ cs }
 {}
 
-/// Any bytes have exactly one output of `show`.
+/// Any bytes have exactly one output of `show` under given limits.
 pub fn one_shown_output()
     ensures some { (l : Allowance) (bytes : List ℕ) → IsAllowance l → AreBytes bytes
         → (text : List ℕ) × ShowTo l bytes text }

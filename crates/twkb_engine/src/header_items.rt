@@ -173,7 +173,9 @@ impl Engine {
         self.after_extended(flat, spans, Metadata::from_byte(self.head.metadata))
     }
 
-    // Takes a size.
+    // Takes a size, which counts the bytes after it, and goes on to the box, if there is one, or
+    // past the header; returns whether the blob ends with it, as it may if the geometry is empty.
+    // Whether the size is exact is judged when the geometry ends.
     #[inline(always)]
     pub(crate) fn size<S: SpanNotes>(
         &mut self,

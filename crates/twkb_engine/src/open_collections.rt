@@ -14,7 +14,8 @@ use std::marker::Model;
 use std::mem::swap;
 use twkb_body::{Head, MemberIds};
 
-// Up to this many open collections take no memory of their own.
+// The least room in itself that a `SmallVec` has. It is never used: the first growth adds `MORE` places, so
+// they are on the heap.
 const INLINE: usize = 1;
 
 // A growth adds this many places at least: room for four at first, and no more growths than of a `Vec`.
@@ -145,8 +146,10 @@ impl OpenCollections {
         self.count = 0;
     }
 
-    // Ends a member of the innermost collection: the next member begins, or the collection ends
-    // with it, and the room of its ids is given back.
+    // Ends a member of the innermost collection. If members are left, the next one begins, with the
+    // next id. Otherwise the collection ends too: its head is returned, and its ids are swapped with
+    // `ids`, so that their room is used again. If no collection is open, the blob ends, and nothing
+    // changes.
     #[inline(always)]
     pub(crate) fn end_member(&mut self, ids: &mut MemberIds) -> MemberEnd
         ensures blob { IfBlob result (self.old ≡ []) }

@@ -73,9 +73,10 @@ impl Engine {
         self.take_root_point(flat, spans, piece)
     }
 
-    // Takes a blob that is a single point, if all of it is complete, it has no optional part but a
-    // size of one byte, and that is exact; returns how many bytes it has, or 0, and then it changes
-    // nothing. The row and a span take memory. A frame of its own, for its callers' registers.
+    // Takes a blob that is a single point, if it is complete at the start of the piece, its only
+    // optional part, if it has one, is a size of one byte that is exact, and the limits allow a
+    // point. It returns how many bytes the blob has. Otherwise it returns 0, and changes nothing.
+    // The row and the span take memory. It is not inlined, so that its callers have more registers.
     #[inline(never)]
     fn take_root_point<S: SpanNotes>(
         &mut self,
