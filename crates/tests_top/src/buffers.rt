@@ -139,17 +139,17 @@ fn points_become_a_polyline_and_it_the_points(rt: HostRuntime) {
 
 // The bits of a double, a precision, and its coordinate, by Python's `struct` and `decimal`.
 const ROUNDED: [(u64, i8, i64); 12] = [
-    (0x3fc3333333333333, 1, 1),                    // 0.15, which is a little less than that
-    (0x3fd0000000000000, 1, 3),                    // 0.25
-    (0xbfd0000000000000, 1, -3),                   // -0.25
-    (0x4004000000000000, 0, 3),                    // 2.5
-    (0xbfe0000000000000, 0, -1),                   // -0.5
-    (0x8000000000000000, 7, 0),                    // -0
-    (0x0000000000000001, 7, 0),                    // 5e-324, the least
-    (0x401dca8eb463497b, 5, 744_781),              // 7.44781
-    (0x401dca8eb463497b, 7, 74_478_100),           // 7.44781
-    (0x41a1e1a300000000, -8, 2),                   // 150000000
-    (0x43cfffffffffffff, 0, (1 << 62) - 512),      // the greatest double below 2^62
+    (0x3fc3333333333333, 1, 1), // 0.15, which is a little less than that
+    (0x3fd0000000000000, 1, 3), // 0.25
+    (0xbfd0000000000000, 1, -3), // -0.25
+    (0x4004000000000000, 0, 3), // 2.5
+    (0xbfe0000000000000, 0, -1), // -0.5
+    (0x8000000000000000, 7, 0), // -0
+    (0x0000000000000001, 7, 0), // 5e-324, the least
+    (0x401dca8eb463497b, 5, 744_781), // 7.44781
+    (0x401dca8eb463497b, 7, 74_478_100), // 7.44781
+    (0x41a1e1a300000000, -8, 2), // 150000000
+    (0x43cfffffffffffff, 0, (1 << 62) - 512), // the greatest double below 2^62
     (0xc3d0000000000000, 0, -4611686018427387904), // -2^62
 ];
 
