@@ -1,5 +1,5 @@
 //! Canonical decimals: digits without a leading zero, after a minus sign if the number is negative.
-ghost use Rattle.std.specs.Prelude.{◌≡◌, ◌++◌, ◌≤◌, ◌<◌, ◌^◌, IfSome, OnOk, OnErr, decimal, get_or, length, take};
+ghost use Rattle.std.specs.Prelude.{◌≡◌, ◌++◌, ◌≤◌, ◌<◌, ◌^◌, IfSome, OnOk, OnErr, decimal, get_or, length, take, pos, true, int_lt};
 ghost use lib.Lanes.{Each1};
 ghost use Rattle.std.specs.Fmt.{signed_decimal};
 ghost use Rattle.twkb_table.specs.Fields.{Reads, IsDepthField, IsIdField, IsPrecisionField};
@@ -65,6 +65,7 @@ pub fn parse_id(field: &[u8]) -> Option<i64>
 #[inline(always)]
 fn digits_of(field: &[u8]) -> Option<i64>
     ensures some { IfSome result (λ id. IsIdField field.now id) }
+    ensures positive { IfSome result (λ id. int_lt (pos 0) id ≡ true) }
 {
     if field.is_empty() {
         return None;
@@ -82,6 +83,22 @@ fn digits_of(field: &[u8]) -> Option<i64>
         number = number * 10 + u64::from(digit - b'0');
     }
     Some(number.cast_signed())
+}
+
+// Fast path: reads a minus sign and digits whose first is not 0. `None` proves nothing about the
+// field.
+#[inline(always)]
+fn negative_of(field: &[u8]) -> Option<i64>
+    ensures some { IfSome result (λ id. IsIdField field.now id) }
+{
+    if field.is_empty() {
+        return None;
+    }
+    if field[0] != b'-' {
+        return None;
+    }
+    let size = digits_of(&field[1..])?;
+    Some(-size)
 }
 
 // The number of the first digits, eight if there are as many and else one, and how many they are;
@@ -118,12 +135,15 @@ fn number_of_eight(digits: u8x8) -> u64
     ((u64::from(a) * 100 + u64::from(b)) * 100 + u64::from(c)) * 100 + u64::from(d)
 }
 
-// Reads an id from its canonical decimal of any length. Most fields have only a few digits.
+// Reads an id from its canonical decimal of any length.
 #[inline(never)]
 fn read_number(field: &[u8]) -> Option<i64>
     ensures reads { Reads (IsIdField field.now) result }
 {
     if let Some(id) = digits_of(field) {
+        return Some(id);
+    }
+    if let Some(id) = negative_of(field) {
         return Some(id);
     }
     read_decimal(field)
