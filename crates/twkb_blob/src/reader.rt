@@ -95,7 +95,7 @@ impl<'a, R: Read> Reader<'a, R> {
     /// Reads the next geometry as `next` does, replaces the rows of a flat form by its rows, and
     /// returns whether there was one; after a false and after an `Err` the form has no rows. Calls
     /// of it and of the others may be mixed. It takes memory for rows and points past the room of
-    /// the form, and in each call for ids and open collections.
+    /// the form, and anew in each call for ids and open collections.
     pub fn next_flat(&mut self, alloc: Global, flat: &mut Flat) -> Result<bool, BlobFault>
         ensures shared { ReadsNext false self.old self.new result }
         ensures next { is_spent self.old ≡ false → has_ended self.old ≡ false

@@ -224,7 +224,7 @@ impl Session {
         }
     }
 
-    // Clears the rows if they are still those of the last geometry.
+    // Clears the rows if they are still those of the last geometry; `is_whole` is false afterwards.
     #[inline(always)]
     fn begin(&mut self)
         ensures stands { (bytes : List ℕ) (gs : List Tree) → Stands bytes gs self.old → Stands bytes gs self.new }

@@ -27,8 +27,8 @@ pub struct Head {
 }
 
 impl Head {
-    /// Makes what a reader keeps before its first header: a point at depth 0, with precision 0 and
-    /// without size and id. Takes no memory.
+    /// Makes the head that a reader keeps before it reads a header: that of a point at depth 0,
+    /// with precision 0 and without size and id. Takes no memory.
     pub fn none() -> Head {
         Head {
             size: None,

@@ -54,7 +54,7 @@ impl MemberIds {
 
     /// Appends the ids that are complete at the start of the bytes, at most `most`, and returns how
     /// many bytes they have. It stops before a number that is cut or too long. Takes memory; after
-    /// an `Err` the ids before the one that got none stay appended.
+    /// an `Err` the ids before the one without memory stay appended.
     #[inline(always)]
     pub fn take(&mut self, bytes: &[u8], most: u64) -> Result<usize, AllocError>
         ensures within { IfOk result (λ used. used ≤ length bytes.now) }

@@ -49,8 +49,8 @@ pub(crate) fn short_number(bytes: &[u8]) -> Option<(u64, usize)>
 }
 
 // Reads a number of any length at the start of the bytes, unit by unit, and returns it and how many
-// bytes it has. `None` if its varint is not complete, or is longer than ten bytes or above 2^64 -
-// 1. It is called when `short_number` does not suffice, which is rare.
+// bytes it has. `None` if its varint is not complete, or is longer than ten bytes or above
+// 2^64 - 1. It is called when `short_number` does not suffice, which is rare.
 #[cold]
 #[inline(never)]
 pub(crate) fn long_number(bytes: &[u8]) -> Option<(u64, usize)>

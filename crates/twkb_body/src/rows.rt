@@ -35,9 +35,9 @@ pub fn push_point(flat: &mut Flat, row: Row, point: Pt) -> Result<(), AllocError
     flat.push(row, &[point])
 }
 
-/// Adds a point that was read to the rows, which must admit it: as the row of a point, as the row
-/// of a member of a multipoint, or else after the points of the last row. Takes memory; an `Err`
-/// changes nothing.
+/// Adds a point that was read to the rows, which must admit it: a point and a member of a
+/// multipoint, with this id, are rows of their own, and any other goes to the last row. Takes
+/// memory; an `Err` changes nothing.
 #[inline(always)]
 pub fn put_point(
     flat: &mut Flat,

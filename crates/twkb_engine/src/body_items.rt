@@ -122,9 +122,10 @@ impl Engine {
         Ok(ends)
     }
 
-    // Takes the count of a line's or ring's points, adds it to the sum, and pushes the row. Goes to
-    // the first point, or past an empty list. Returns whether the blob ends with it. Refused if the
-    // points are too many, or a size that ends with it is not exact. A row takes memory.
+    // Takes the count of a line's or ring's points, adds it to the sum of points, and pushes the
+    // list's row. Goes to the first point, or past an empty list. Returns whether the blob ends
+    // with it. Refused if the points are too many, or a size that ends with it is not exact. A row
+    // takes memory.
     #[inline(always)]
     pub(crate) fn point_count<S: SpanNotes>(
         &mut self,
@@ -235,7 +236,8 @@ impl Engine {
         Ok(false)
     }
 
-    // Whether the body ends with the open list or point, as no ring and no member is left after it.
+    // Whether no ring and no member is left after the open list or point, so that the body ends
+    // with it.
     #[inline(always)]
     fn ends_with_list(&self) -> bool
         ensures ends { result ≡ true → past_last self.now ≡ past_end self.now }

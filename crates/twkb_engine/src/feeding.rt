@@ -95,9 +95,10 @@ impl Engine {
         with_bytes(1, self.take_byte(flat, spans, rest[0]))
     }
 
-    // Takes points, at an x. If the open list has points after the next one, it takes many of them,
-    // but not the last; else many members of a multipoint, but not the last; if it takes no member,
-    // one point. Returns how many bytes were taken, or 0, and whether the blob ends with them.
+    // Takes points when an x comes next. If the open list has points after the next one, it takes
+    // many of them, but not the last; else many members of a multipoint, but not the last; if it
+    // takes no member, one point. Returns how many bytes were taken, or 0, and whether the blob
+    // ends with them.
     #[inline(always)]
     fn take_points<S: SpanNotes>(
         &mut self,

@@ -59,8 +59,8 @@ impl Engine {
     }
 
     // Keeps the metadata byte, in the header and in the notes of spans, and the geometry's depth
-    // and id, which the open collections give. The geometry has no size yet, and `head.from` is
-    // here.
+    // and id, which the open collections give. Sets `head.size` to `None`, and `head.from` to the
+    // bytes so far.
     #[inline(always)]
     pub(crate) fn set_metadata<S: SpanNotes>(&mut self, spans: &mut S, metadata: Metadata)
         ensures head { head_of self.new.head ≡ record {
@@ -120,7 +120,7 @@ impl Engine {
         Ok(false)
     }
 
-    // Takes a metadata byte, counts the point that it announces, and goes to the first part that it
+    // Takes a metadata byte, counts a point if it announces one, and goes to the first part that it
     // asks for, or past the header as `begin_body` does; returns whether the blob ends with it.
     // Refused if it announces a point too many.
     #[inline(always)]

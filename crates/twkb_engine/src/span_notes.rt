@@ -10,8 +10,8 @@ pub trait SpanNotes {
     // These notes are held; what notes nothing holds any.
     ghost holds: { Self → Notes → Type 0 };
 
-    /// Notes that a geometry begins with this type byte at this offset, after this number of points
-    /// of its blob. Takes memory; after an `Err` the notes may be incomplete.
+    /// Notes that a geometry begins with this type byte at this offset of the stream, after this
+    /// number of points of its blob. Takes memory; after an `Err` the notes may be incomplete.
     fn begin(&mut self, offset: u64, points: u64, byte: TypeByte) -> Result<(), AllocError>
         ensures { OnOk result ((w : Notes) → length w.begun < 2 ^ 32 → holds self.old w
             → holds self.new (note_header offset points byte w)) };
@@ -20,8 +20,8 @@ pub trait SpanNotes {
     fn set_metadata(&mut self, byte: u8)
         ensures { (w : Notes) → holds self.old w → holds self.new (note_metadata byte w) };
 
-    /// Notes that the innermost open geometry ends at this offset, after this number of points of
-    /// its blob. Takes no memory.
+    /// Notes that the innermost open geometry ends at this offset of the stream, after this number
+    /// of points of its blob. Takes no memory.
     fn end(&mut self, offset: u64, points: u64)
         ensures { (w : Notes) → holds self.old w → holds self.new (note_end offset points w) };
 
