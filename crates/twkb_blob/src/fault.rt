@@ -12,10 +12,10 @@ pub enum BlobFault {
     /// A growth was refused.
     #[error("out of memory")]
     Memory,
-    /// The input gave no byte.
+    /// The input gave no byte, or the stream has more than 2^62 bytes.
     #[error("{0}")]
     Device(InFault),
-    /// An earlier call answered an error.
+    /// An earlier call returned an error, or the session was finished.
     #[error("reader was refused before")]
     Spent,
     /// The item at this offset, in bytes from the stream's start, is refused.

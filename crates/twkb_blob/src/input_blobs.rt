@@ -15,8 +15,8 @@ use twkb_engine::{BlobReason, Engine, SpanNotes};
 use twkb_flat::Flat;
 use twkb_io::{InFault, Input, MAX_BYTES};
 
-// How many bytes of the piece a stream may have after its first `taken`: as many as keep it within
-// 2^62 bytes. `None` if it is longer already.
+// How many bytes of the piece fit into a stream after its first `taken`: all, or those up to 2^62
+// bytes in the stream. `None` if it has more already.
 #[inline(always)]
 fn room_in(taken: u64, piece: &[u8]) -> Option<usize>
     ensures fits { IfSome result (λ count. (taken + count ≤ MAX_BYTES) × (count ≤ length piece.now)) }
@@ -28,8 +28,9 @@ fn room_in(taken: u64, piece: &[u8]) -> Option<usize>
 }
 
 // Feeds a piece to an engine, up to the end of a blob, or all of it if none ends; returns how many
-// bytes were taken, and whether a blob ends with them. `TooLong` if the stream would pass 2^62 bytes
-// before that.
+// bytes were taken, and whether a blob ends with them. A refusal states its offset in the stream.
+// If the piece goes past 2^62 bytes of the stream, and no blob ends and nothing is refused up to
+// there, the bytes up to there are fed, and it is `TooLong`.
 #[inline(always)]
 pub(crate) fn feed_piece<S: SpanNotes>(
     engine: &mut Engine,
@@ -66,7 +67,8 @@ pub(crate) fn feed_piece<S: SpanNotes>(
     }
 }
 
-// Feeds an engine a byte of a stream that has room for it; returns whether a blob ends with it.
+// Feeds an engine a byte of a stream that has room for it; returns whether a blob ends with it. A
+// refusal states its offset in the stream.
 #[inline(always)]
 pub(crate) fn feed_one<S: SpanNotes>(
     engine: &mut Engine,
@@ -89,8 +91,8 @@ pub(crate) fn feed_one<S: SpanNotes>(
     }
 }
 
-// Judges the end of a stream: `Ok` if no blob is begun, else `Truncated` where the next item is
-// missing.
+// Judges the end of a stream: `Ok` if no blob is begun, else `Truncated` at the offset of the item
+// that is missing.
 pub(crate) fn at_end(engine: &Engine) -> Result<(), BlobFault>
     ensures end { (bs : List ℕ) (rs : List Row) → StandsAt bs rs engine.now
         → EndsAt (allowance_of engine.now) engine.now.start bs result }
@@ -106,8 +108,8 @@ pub(crate) fn at_end(engine: &Engine) -> Result<(), BlobFault>
     })
 }
 
-// Reads if the input holds no bytes; true if it then holds some. At the input's end it answers false
-// between two blobs, and `Truncated` inside one.
+// Reads if the input holds no bytes, and returns true if it then holds some. At the input's end it
+// returns false if no blob is begun, else `Truncated`. An input that fails is a `Device` fault.
 #[inline(always)]
 fn fill_held<R: Read>(input: &mut Input<'_, R>, engine: &Engine) -> Result<bool, BlobFault>
     ensures same_tap { (input_tap input.new).ghost_name ≡ (input_tap input.old).ghost_name }
@@ -132,7 +134,8 @@ fn fill_held<R: Read>(input: &mut Input<'_, R>, engine: &Engine) -> Result<bool,
     }
 }
 
-// Feeds an engine the held bytes of an input, up to the end of a blob; returns whether one ended.
+// Feeds an engine the held bytes of an input, up to the end of a blob, and counts them as given
+// out; returns whether a blob ended. After an `Err` the input still holds them.
 #[inline(always)]
 fn feed_held<R: Read, S: SpanNotes>(
     input: &mut Input<'_, R>,
@@ -159,8 +162,9 @@ fn feed_held<R: Read, S: SpanNotes>(
     }
 }
 
-// Reads the next blob of an input, its rows into `flat` and its spans into `spans`; false if the
-// input ends before another blob begins.
+// Reads the next blob of an input, its rows into `flat` and its spans into `spans`, and returns
+// true; no byte after the blob leaves the input. It returns false if the input ends before another
+// blob begins. After an `Err` rows and spans of a part of the blob may be left.
 #[inline(always)]
 pub(crate) fn read_blob<R: Read, S: SpanNotes>(
     input: &mut Input<'_, R>,

@@ -1,5 +1,5 @@
 //! What holds of all blobs: the laws of the grammar that users of blobs ask for first, and what the
-//! bytes tell of a session.
+//! bytes determine of a session.
 ghost use Rattle.std.specs.Prelude.{◌≡◌, ℕ, List};
 ghost use Rattle.twkb_tree.specs.Tree.{Tree};
 ghost use Rattle.twkb_tree.specs.Limits.{Allowance};
@@ -7,7 +7,8 @@ ghost use Rattle.twkb_blob.specs.Sessions.{HeldOf, FramesOf};
 
 pub use twkb_grammar::laws::{one_blob, written_is_blob};
 
-/// The bytes tell how many of them a session holds, and how many geometries are begun.
+/// The bytes of a stream determine how many of them a session holds, and how many geometries are
+/// begun and not finished.
 pub fn one_count()
     ensures held { (limits : Allowance) (bytes : List ℕ) (gs hs : List Tree) (m n : ℕ)
         → HeldOf limits bytes gs m → HeldOf limits bytes hs n → m ≡ n }

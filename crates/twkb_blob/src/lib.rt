@@ -1,4 +1,5 @@
-//! TWKB blobs: readers that take bytes from a device, or in pieces; canonical blobs of geometries and of flat forms.
+//! TWKB blobs: readers that take bytes from a device, or in pieces; canonical blobs of geometries
+//! and of flat forms.
 #![tactic(auto)]
 
 mod fault;

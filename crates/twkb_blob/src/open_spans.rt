@@ -8,7 +8,8 @@ use std::marker::Model;
 use twkb_engine::SpanNotes;
 use twkb_grammar::{Span, TypeByte};
 
-// The spans so far, and the places of those whose geometries are begun and not ended, the innermost last.
+// The spans so far, and the places of those whose geometries are begun and not ended, the innermost
+// last.
 #[derive(Debug, Drop)]
 pub(crate) struct OpenSpans {
     spans: Vec<Span>,
@@ -33,8 +34,8 @@ fn set_metadata(spans: &mut Vec<Span>, index: usize, metadata: u8)
     }
 }
 
-// Sets length and points of the span at this place, if there is one, whose geometry ends at this offset, with this many
-// points so far.
+// Sets length and points of the span at this place, if there is one. Its geometry ends at this
+// offset, after this many points of the blob; so far the span has the number of points before it.
 fn set_end(spans: &mut Vec<Span>, index: usize, offset: u64, points: u64)
     ensures { spans.new.items ≡ changed_at index (measured offset points) spans.old.items }
 {
@@ -46,7 +47,7 @@ fn set_end(spans: &mut Vec<Span>, index: usize, offset: u64, points: u64)
 }
 
 impl OpenSpans {
-    /// Before the first byte. Takes no memory.
+    /// Makes a list without spans. Takes no memory.
     pub fn new(alloc: Global) -> OpenSpans
         ensures { result ≡ no_notes }
     {
@@ -56,7 +57,7 @@ impl OpenSpans {
         }
     }
 
-    /// These spans, of geometries that have ended. Takes no memory.
+    /// Makes a list of these spans, of geometries that have ended. Takes no memory.
     pub fn from_spans(spans: Vec<Span>) -> OpenSpans
         ensures { result.spans ≡ spans.items }
     {
@@ -64,7 +65,8 @@ impl OpenSpans {
         OpenSpans { spans, begun }
     }
 
-    /// Forgets the spans, and keeps their room for others. Takes no memory.
+    /// Forgets the spans and which of them are open, and keeps their memory for others. Takes no
+    /// memory.
     pub fn restart(&mut self)
         ensures { self.new ≡ no_notes }
     {
@@ -72,14 +74,14 @@ impl OpenSpans {
         self.begun.clear();
     }
 
-    /// The spans. Takes no memory.
+    /// The spans so far. Takes no memory.
     pub fn spans(&self) -> &[Span]
         ensures { result.now ≡ self.now.spans }
     {
         self.spans.as_slice()
     }
 
-    /// The spans. Takes no memory.
+    /// Returns the vector of the spans. Takes no memory.
     pub fn into_spans(self) -> Vec<Span>
         ensures { result.items ≡ self.spans }
     {
@@ -92,6 +94,8 @@ impl SpanNotes for OpenSpans {
 
     ghost holds = { λ o w. o ≡ w };
 
+    // Adds an open span, which has the number of points before it until it ends. After an `Err` a
+    // span may be left that is not open.
     #[inline(always)]
     fn begin(&mut self, offset: u64, points: u64, byte: TypeByte) -> Result<(), AllocError> {
         let level = self.begun.len().min(u32::MAX as usize) as u32;
@@ -109,6 +113,7 @@ impl SpanNotes for OpenSpans {
         Ok(())
     }
 
+    // Changes nothing if no span is open.
     #[inline(always)]
     fn set_metadata(&mut self, byte: u8) {
         if let Some(place) = self.begun.last() {
@@ -117,6 +122,7 @@ impl SpanNotes for OpenSpans {
         }
     }
 
+    // Closes the innermost open span; changes nothing if none is open.
     #[inline(always)]
     fn end(&mut self, offset: u64, points: u64) {
         if let Some(place) = self.begun.pop() {
@@ -124,6 +130,7 @@ impl SpanNotes for OpenSpans {
         }
     }
 
+    // Adds a span that is not open.
     #[inline(always)]
     fn put(&mut self, span: Span) -> Result<(), AllocError> {
         self.spans.push(span)?;

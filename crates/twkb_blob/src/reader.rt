@@ -27,7 +27,8 @@ pub(crate) enum State {
 impl State {
     ghost use Rattle.twkb_blob.specs.Readers.{ended_at, spent_at};
 
-    // The state after this answer of a call that read.
+    // The state after a call that read and returned this: `Ready` after a blob, `Ended` at the end,
+    // `Spent` after an `Err`.
     #[inline(always)]
     fn after(found: Result<bool, BlobFault>) -> State
         ensures spent { spent_at result ≡ is_err found }
@@ -55,7 +56,8 @@ impl<'a, R: Read> Reader<'a, R> {
     ghost use Rattle.twkb_blob.specs.Readers.{IfGoingOn, IsAbreast, IsNextFlat, PartAhead, ReadsNext};
     ghost use Rattle.twkb_blob.specs.Located.{IsLocated, ReadsInto};
 
-    /// A reader of what the input still has. Takes no memory.
+    /// Makes a reader of what the input still has, which reads nothing yet. The limits are those of
+    /// each geometry. Takes no memory.
     #[inline(always)]
     pub fn new(input: Input<'a, R>, limits: Limits) -> Reader<'a, R>
         ensures input { reader_input result ≡ input.entry }
@@ -70,10 +72,10 @@ impl<'a, R: Read> Reader<'a, R> {
         }
     }
 
-    /// The next geometry, whose blob leaves the input, and no further byte; `None` at the input's
-    /// end. After an `Err` each call answers `Spent`, and after the end each call answers `None`;
-    /// neither reads. It takes memory for what it keeps and for the geometry, and none for a count
-    /// that it reads.
+    /// Reads the next geometry, or returns `None` at the input's end. The blob of the geometry
+    /// leaves the input, and no further byte does. After an `Err` each call returns `Spent`, and
+    /// after the end each call returns `None`; neither reads. It takes memory for what it keeps and
+    /// for the geometry, and none for a count that it reads.
     pub fn next(&mut self, alloc: Global) -> Result<Option<Geometry>, BlobFault>
         ensures shared { ReadsNext None self.old self.new result }
         ensures next { is_spent self.old ≡ false → has_ended self.old ≡ false
@@ -90,11 +92,10 @@ impl<'a, R: Read> Reader<'a, R> {
         Ok(Some(geometry))
     }
 
-    /// Reads the next geometry, as `next` does, into a flat form, in place of what that holds, and
-    /// answers whether there was one; after a false and after an `Err` the form has no rows. Calls
+    /// Reads the next geometry as `next` does, replaces the rows of a flat form by its rows, and
+    /// returns whether there was one; after a false and after an `Err` the form has no rows. Calls
     /// of it and of the others may be mixed. It takes memory for rows and points past the room of
-    /// the form, and for nested collections, and none for a further geometry once there is room for
-    /// it.
+    /// the form, and anew in each call for ids and open collections.
     pub fn next_flat(&mut self, alloc: Global, flat: &mut Flat) -> Result<bool, BlobFault>
         ensures shared { ReadsNext false self.old self.new result }
         ensures next { is_spent self.old ≡ false → has_ended self.old ≡ false
@@ -108,8 +109,9 @@ impl<'a, R: Read> Reader<'a, R> {
         self.read_anew(alloc, flat, &mut NoSpans)
     }
 
-    /// The next geometry, as `next` gives it, with the spans of its headers, whose offsets count
-    /// from where the input began. It takes memory for a span a header besides.
+    /// Reads the next geometry as `next` does, and returns it with the spans of its headers, whose
+    /// offsets count from where the input began. It takes memory as `next` does, and for one span
+    /// for each header.
     pub fn next_located(&mut self, alloc: Global) -> Result<Option<Located>, BlobFault>
         ensures shared { ReadsNext None self.old self.new result }
         ensures next { is_spent self.old ≡ false → has_ended self.old ≡ false
@@ -128,7 +130,7 @@ impl<'a, R: Read> Reader<'a, R> {
         Ok(Some(Located { geometry, spans }))
     }
 
-    // Whether a further blob is to be read: `None` comes for good after the end, and `Spent` after a refusal.
+    // Whether a further blob is to be read: false after the end, and `Spent` after an `Err`.
     #[inline(always)]
     fn is_ready(&self) -> Result<bool, BlobFault>
         ensures { result ≡ ready_at self.now.state }
@@ -140,7 +142,7 @@ impl<'a, R: Read> Reader<'a, R> {
         }
     }
 
-    // Reads the next blob with a new engine, as `read_with` does.
+    // Reads the next blob as `read_with` does, with a new engine, which begins where the input is.
     #[inline(always)]
     fn read_anew<S: SpanNotes>(
         &mut self,
@@ -158,8 +160,9 @@ impl<'a, R: Read> Reader<'a, R> {
         self.read_with(&mut engine, flat, spans)
     }
 
-    // Reads the next blob with an engine that keeps pace, into a form, in place of what that holds,
-    // and its spans. Only a geometry leaves rows.
+    // Reads the next blob with an engine that keeps pace: replaces the rows of a form by its rows,
+    // notes its spans, and returns whether there was one. After a false and after an `Err` the form
+    // has no rows, and the reader has ended or is spent.
     #[inline(always)]
     pub(crate) fn read_with<S: SpanNotes>(
         &mut self,
@@ -188,7 +191,8 @@ impl<'a, R: Read> Reader<'a, R> {
         found
     }
 
-    // The tree of the rows of a blob that was read. Without memory for it the reader is spent.
+    // Builds the geometry of the rows of a blob that was read. Takes memory; if that is refused,
+    // the reader is spent.
     fn tree_of(&mut self, alloc: Global, flat: &Flat) -> Result<Geometry, BlobFault>
         requires { 0 < length flat.now }
         ensures rows { IfOk result (λ g. rows 0 g ≡ flat.now) }

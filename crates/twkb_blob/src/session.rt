@@ -16,8 +16,8 @@ use twkb_flat::{Flat, Rows};
 use twkb_io::MAX_BYTES;
 use twkb_tree::{Geometry, Limits};
 
-/// A stream of blobs that comes in pieces. It keeps its limits, the rows of the geometry that is read, as far as they
-/// came, and at most nine bytes of a number, and no other byte of the stream.
+/// A stream of blobs that comes in pieces. It keeps its limits, the rows of the geometry that is
+/// read, as far as they came, and at most nine bytes of a number, and no other byte of the stream.
 #[derive(Drop)]
 pub struct Session {
     alloc: Global,
@@ -35,7 +35,8 @@ impl Session {
     ghost use Rattle.twkb_blob.specs.Sessions.{with_end, is_spent, session_limits, session_held, session_open};
     ghost use Rattle.twkb_blob.specs.Sessions.{session_rows};
 
-    /// A session before the first byte. Takes no memory.
+    /// Makes a session that has taken no byte. The limits are those of each geometry. Takes no
+    /// memory.
     pub fn new(alloc: Global, limits: Limits) -> Session
         ensures stands { Stands [] [] result }
         ensures limits { session_limits result ≡ limits }
@@ -75,8 +76,9 @@ impl Session {
         self.give_tree(used)
     }
 
-    // The result of a feed with which a geometry ended. A separate function: the places of what it
-    // moves, in `feed` itself, would be cleared for each byte.
+    // Builds the geometry that ended with a feed of `used` bytes, and returns both. Without memory
+    // for it the session is spent. A separate function: the places of what it moves, in `feed`
+    // itself, would be cleared for each byte.
     #[inline(always)]
     fn give_tree(&mut self, used: usize) -> Result<(usize, Option<Geometry>), BlobFault>
         requires live { self.old.spent ≡ false }
@@ -98,7 +100,7 @@ impl Session {
         Ok((used, found))
     }
 
-    // The tree of the rows, if there are any.
+    // Builds the geometry of the rows; `None` if there are no rows. Takes memory.
     fn tree(&self) -> Result<Option<Geometry>, AllocError>
         ensures rows { IfOk result (λ found. IfSome found (λ g. rows 0 g ≡ session_rows self.now)) }
         ensures valid { IfOk result (λ found. IfSome found (λ g. IsValid largest_limits g)) }
@@ -113,7 +115,7 @@ impl Session {
         }
     }
 
-    // Has each further feed return `Spent`, and clears the rows.
+    // Clears the rows, and makes the session spent: each further feed and `finish` return `Spent`.
     fn give_up(&mut self)
         ensures spent { self.new.spent ≡ true }
         ensures engine { self.new.engine ≡ self.old.engine }
@@ -123,8 +125,8 @@ impl Session {
         self.spent = true;
     }
 
-    /// Takes bytes as `feed` does, and returns how many, and whether a geometry ends with them,
-    /// whose rows `flat` then gives until the next call. Calls of it and of `feed` may be mixed. It
+    /// Takes bytes as `feed` does, and returns how many, and whether a geometry ends with them;
+    /// `flat` then gives its rows until the next feed. Calls of it and of `feed` may be mixed. It
     /// takes memory for what it keeps, and none once that has room.
     #[inline(always)]
     pub fn feed_flat(&mut self, piece: &[u8]) -> Result<(usize, bool), BlobFault>
@@ -194,9 +196,9 @@ impl Session {
         }
     }
 
-    // Takes one byte of a stream that has room for it, and returns 1; `is_whole` then says whether a
-    // geometry ends with the byte. After a fault the session is spent. Unlike `feed_many` it needs
-    // no loop, and does not shorten the piece to what the stream has room for.
+    // Takes one byte of a stream that has room for it, and returns 1; `is_whole` then says whether
+    // a geometry ends with the byte. After a fault the session is spent. Unlike `feed_many` it
+    // needs no loop, and does not shorten the piece to what the stream has room for.
     #[inline(always)]
     fn feed_byte(&mut self, byte: u8) -> Result<usize, BlobFault>
         requires live { self.old.spent ≡ false }
@@ -222,7 +224,7 @@ impl Session {
         }
     }
 
-    // Clears the rows if they are still those of the last geometry.
+    // Clears the rows if they are still those of the last geometry; `is_whole` is false afterwards.
     #[inline(always)]
     fn begin(&mut self)
         ensures stands { (bytes : List ℕ) (gs : List Tree) → Stands bytes gs self.old → Stands bytes gs self.new }

@@ -8,8 +8,8 @@ use std::marker::Model;
 use twkb_grammar::Span;
 use twkb_tree::Geometry;
 
-/// The spans of a blob, in the order of its headers, and room for those of a further one. A contract sees the list of
-/// them.
+/// The spans of a blob, in the order of its headers, and room for those of a further one. A
+/// contract sees the list of them.
 #[derive(Debug, Drop)]
 pub struct Spans {
     pub(crate) notes: OpenSpans,
@@ -25,7 +25,7 @@ impl Model for Spans {
 }
 
 impl Spans {
-    /// No spans. Takes no memory.
+    /// Makes a list without spans. Takes no memory.
     pub fn new(alloc: Global) -> Spans
         ensures { result ≡ [] }
     {
@@ -41,7 +41,7 @@ impl Spans {
         self.notes.restart();
     }
 
-    /// The list of these spans. Takes no memory.
+    /// Makes the list of these spans, in the memory of the vector. Takes no memory.
     pub fn from_vec(items: Vec<Span>) -> Spans
         ensures { result ≡ items.items }
     {
@@ -50,7 +50,7 @@ impl Spans {
         }
     }
 
-    /// The spans. Takes no memory.
+    /// Returns the vector of the spans. Takes no memory.
     pub fn into_vec(self) -> Vec<Span>
         ensures { result.items ≡ self }
     {
@@ -74,7 +74,7 @@ pub struct Located {
     pub spans: Spans,
 }
 
-// Leaves spans in a list only if a geometry was read.
+// Keeps the spans of a geometry that was read, and clears them after a false or an `Err`.
 pub(crate) fn keep_spans(found: Result<bool, BlobFault>, spans: &mut Spans)
     ensures made { found ≡ Ok true → spans.new ≡ spans.old }
     ensures cleared { (found ≡ Ok true) ⊎ (spans.new ≡ []) }

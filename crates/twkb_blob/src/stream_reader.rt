@@ -15,8 +15,8 @@ use twkb_flat::{Flat, Rows};
 use twkb_io::Input;
 use twkb_tree::Limits;
 
-/// The memory in which a `StreamReader` reads, which can serve one stream after another: it keeps the room that it has
-/// grown to.
+/// The memory in which a `StreamReader` reads, which can serve one stream after another. From a
+/// stream to the next it keeps the memory of rows and points.
 #[derive(Drop)]
 pub struct StreamRoom {
     alloc: Global,
@@ -25,7 +25,7 @@ pub struct StreamRoom {
 }
 
 impl StreamRoom {
-    /// Room for nothing yet. Takes no memory.
+    /// Makes room that has not grown yet. Takes no memory.
     pub fn new(alloc: Global) -> StreamRoom {
         StreamRoom {
             alloc,
@@ -36,7 +36,8 @@ impl StreamRoom {
         }
     }
 
-    // Goes to a blob at this offset of a stream, and forgets the rows.
+    // Replaces the engine by a new one, for a blob at this offset of a stream and with these
+    // limits, and forgets the rows, whose memory stays.
     fn restart(&mut self, limits: Limits, start: u64)
         requires room { start ≤ 2 ^ 63 }
         ensures stands { StandsAt [] [] self.new.engine }
@@ -49,8 +50,9 @@ impl StreamRoom {
     }
 }
 
-/// The blobs of an input, one after another, read into borrowed room, which keeps the rows of the last one. It is the
-/// quickest way through a whole stream; a `Reader` gives a geometry, or rows in a form of the caller's.
+/// The blobs of an input, one after another, read into borrowed room, which keeps the rows of the
+/// last one. It is the quickest way through a whole stream; a `Reader` gives a geometry, or rows in
+/// a form of the caller's.
 #[derive(Drop)]
 pub struct StreamReader<'a, 'b, R: Read> {
     reader: Reader<'a, R>,
@@ -63,7 +65,8 @@ impl<'a, 'b, R: Read> StreamReader<'a, 'b, R> {
     ghost use Rattle.twkb_blob.specs.Located.{ReadsSpans};
     ghost use Rattle.twkb_blob.specs.StreamReaders.{reader_in, rows_in};
 
-    /// A reader of what the input still has, which forgets the rows in the room. Takes no memory.
+    /// Makes a reader of what the input still has, which reads nothing yet, and forgets the rows in
+    /// the room. The limits are those of each geometry. Takes no memory.
     #[inline(always)]
     pub fn new(
         input: Input<'a, R>,
@@ -83,11 +86,11 @@ impl<'a, 'b, R: Read> StreamReader<'a, 'b, R> {
         }
     }
 
-    /// Reads the next geometry, whose blob leaves the input, and no further byte, and answers
-    /// whether there was one. Its rows are in `rows` until the next call; after a false and after
-    /// an `Err` there are none. After an `Err` each call answers `Spent`, and after the end each
-    /// call answers false; neither reads. It takes memory for rows and points past its room, and
-    /// for nested collections, and none for a further geometry once there is room for it.
+    /// Reads the next geometry, and returns whether there was one. Its blob leaves the input, and
+    /// no further byte does. Its rows are in `rows` until the next call; after a false and after an
+    /// `Err` there are none. After an `Err` each call returns `Spent`, and after the end each call
+    /// returns false; neither reads. It takes memory for rows, points, ids and open collections
+    /// past its room, and none for a further geometry once there is room for it.
     pub fn next(&mut self) -> Result<bool, BlobFault>
         ensures { ReadsRows (reader_in self.old) (reader_in self.new) result (rows_in self.new) }
     {
@@ -112,8 +115,8 @@ impl<'a, 'b, R: Read> StreamReader<'a, 'b, R> {
         found
     }
 
-    /// The rows of the geometry that the last call read, if it read one; their points are slices.
-    /// Takes no memory.
+    /// The rows of the geometry that the last call read, or none if it read none; their points are
+    /// slices. Takes no memory.
     pub fn rows(&self) -> &Rows
         ensures { result.now.flat ≡ rows_in self.now }
     {

@@ -4,13 +4,13 @@ ghost use Rattle.twkb_tree.specs.Tree.{IsPrecision};
 
 use twkb_tree::Kind;
 
-/// A header: what its type byte and metadata byte say, its size if it has one, and after how many
-/// bytes that counts; and the place of its geometry, how deep and with which id.
+/// A header: what its type byte and metadata byte say, its size if it has one, and how many bytes
+/// of the blob come before those that the size counts; and the depth and the id of its geometry.
 #[derive(Clone, Copy, Debug)]
 pub struct Head {
-    /// The bytes that the geometry declares to have after its size.
+    /// The number of bytes that the geometry declares to have after its size.
     pub size: Option<u64>,
-    /// The bytes of the blob up to those that a size counts.
+    /// The number of bytes of the blob before those that a size counts.
     pub from: u64,
     /// Its id, as a member.
     pub id: Option<i64>,
@@ -27,7 +27,8 @@ pub struct Head {
 }
 
 impl Head {
-    /// Before the first header. Takes no memory.
+    /// Makes the head that a reader keeps before it reads a header: that of a point at depth 0,
+    /// with precision 0 and without size and id. Takes no memory.
     pub fn none() -> Head {
         Head {
             size: None,

@@ -8,8 +8,9 @@ use twkb_grammar::{Metadata, TypeByte};
 // Bytes of a header without optional parts: a type byte and a metadata byte.
 pub(crate) const BARE: usize = 2;
 
-/// A header of a geometry with a body: its type byte, its metadata byte, its optional parts, after
-/// how many bytes of the geometry its size counts, and how many bytes it has.
+/// A header of a geometry with a body: its type byte, its metadata byte, its optional parts, how
+/// many of its bytes come before those that a size counts (`from`), and how many bytes it has
+/// (`used`).
 #[derive(Clone, Copy, Debug)]
 pub struct FrontHeader {
     pub type_byte: TypeByte,
@@ -19,9 +20,9 @@ pub struct FrontHeader {
     pub used: usize,
 }
 
-/// The header at the start of the bytes, from its type byte to its box; `None` if it is not
-/// complete, if its type byte names no type, and if it has the extended dimensions byte or no body.
-/// Takes no memory.
+/// The header at the start of the bytes, from its type byte to its box. `None` if it is not
+/// complete, if its type byte names no type, if it has the extended dimensions byte or no body, or
+/// if one of its numbers is longer than ten bytes or above 2^64 - 1. Takes no memory.
 #[inline(always)]
 pub fn front_header(bytes: &[u8]) -> Option<FrontHeader>
     ensures { IfSome result (λ header. HeaderInFront bytes.now header) }

@@ -25,17 +25,18 @@ pub fn role()
     ensures { (e : Sums) (st : Stack) → role_at e st ≡ outline_role e (outline_of st) }
 {}
 
-/// The outline after an item is determined by the outline before it, the number of bytes so far
-/// and the item's number.
+/// The outline before an item, the number of bytes up to the item's end and its number determine
+/// the outline after it (`item`). The outline before the ends of geometries and the number of bytes
+/// determine the one after them (`ends`).
 pub fn steps()
     ensures item { (p : Point) (bytes n : ℕ) (st : Stack)
         → outline_of (advanced p bytes n st.0 st.1) ≡ outline_advanced bytes n (outline_of st) }
     ensures ends { (bytes : ℕ) (st : Stack) → outline_in (ends bytes st.0 st.1) ≡ outline_ends bytes (outline_of st) }
 {}
 
-/// The rows after an item are those before it with the change that the outline determines. The
-/// ends of geometries change no row, and at the end of the blob the rows are those of the
-/// geometry.
+/// The rows after an item are those before it with a change, which the outline before it, its
+/// number and the position that it leads to determine. The ends of geometries change no row, and at
+/// the end of the blob the rows are those of the geometry.
 pub fn grows()
     ensures item { (p : Point) (bytes n : ℕ) (st : Stack)
         → rows_so_far (advanced p bytes n st.0 st.1) ≡ applied (change_of p n (outline_of st))
@@ -52,10 +53,11 @@ pub fn valid()
     ensures takes { (p : Point) (n : ℕ) (st : Stack) → Takes (change_of p n (outline_of st)) (rows_so_far st) }
 {}
 
-/// What holds of a reader that keeps an outline and rows: at the start, after an item, after the
-/// ends of geometries, at a blob's end, and if bytes are missing or a number is too long. The
-/// bytes read begin a blob. A row that an item begins continues the rows before it, and a point
-/// that is added to an existing row goes into that of a line or ring.
+/// What holds of a reader that keeps an outline and rows: at the start, after an item, if an item
+/// is refused, after the ends of geometries, at a blob's end, and if bytes are missing or a number
+/// is too long. The bytes read begin a blob, the rows are those of a valid geometry, and no more
+/// collections are open than the limits allow. A row that an item begins continues the rows before
+/// it, and a point that is added to an existing row goes into that of a line or ring.
 pub fn reading()
     ensures starts { (limits : Allowance) → IsAllowance limits → Outlined limits [] nothing ([], OnHeader) [] }
     ensures item { (limits : Allowance) (bytes : List ℕ) (e : Sums) (o : Outline) (rs : List Row)
@@ -110,8 +112,9 @@ pub fn admitting()
         → AtPoint (Outlined limits) (λ bytes e o change rs. Admits change rs) }
 {}
 
-/// The two numbers of a point may be taken at once wherever a point is expected: inside a list,
-/// at the end of lists, and at the end of a geometry.
+/// The two numbers of a point may be taken at once wherever a point is expected: inside a list, at
+/// the end of lists, and at the end of a geometry. The outline, the rows and the notes of spans are
+/// then as after one number and then the other.
 pub fn points()
     ensures taken { (limits : Allowance) → AtPoint (Outlined limits)
         (λ bytes e o change rs. Outlined limits bytes e o (applied change rs)) }
@@ -121,8 +124,8 @@ pub fn points()
         (λ bytes e o change rs. NotedOutline limits bytes e o (applied change rs) told) }
 {}
 
-/// The notes that a reader makes of spans, and the number of open geometries, are determined by
-/// the outline.
+/// The outline determines the notes that a reader makes of spans, whether the optional part that
+/// comes next is neither a header nor an end, and the number of open geometries.
 pub fn noting()
     ensures note { (st : Stack) (offset points byte : ℕ) (w : Notes)
         → note_byte st.1 offset points byte w ≡ note_stage (stage_of st.1) offset points byte w }

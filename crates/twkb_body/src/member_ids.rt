@@ -8,7 +8,8 @@ use crate::numbers::front_number;
 use std::alloc::{AllocError, Global};
 use twkb_num::unzigzag;
 
-/// The ids of the members, if they have any: while they are read, all so far; then those from the open member on.
+/// The ids of the members, if they have any: while they are read, all so far; then those from the
+/// open member on.
 #[derive(Debug, Drop)]
 pub struct MemberIds {
     // While members are read the last first, so that the first can leave.
@@ -19,7 +20,7 @@ pub struct MemberIds {
 impl MemberIds {
     ghost use Rattle.twkb_body.specs.Ids.{ids_of, ids_read};
 
-    /// No ids. Takes no memory.
+    /// Makes the ids of members that have none. Takes no memory.
     pub fn new(alloc: Global) -> MemberIds
         ensures none { ids_of result ≡ None }
     {
@@ -29,7 +30,8 @@ impl MemberIds {
         }
     }
 
-    /// Forgets all ids, and keeps their room; members have ids from now on, or none. Takes no memory.
+    /// Forgets all ids, and keeps their memory for others. Members have ids from now on if
+    /// `has_ids` is true. Takes no memory.
     #[inline(always)]
     pub fn restart(&mut self, has_ids: bool)
         ensures read { ids_read self.new ≡ [] }
@@ -40,7 +42,8 @@ impl MemberIds {
         self.has_ids = has_ids;
     }
 
-    /// Appends the id of a further member. Takes memory.
+    /// Appends the id of a further member, while ids are read. Takes memory; an `Err` changes
+    /// nothing.
     pub fn push(&mut self, id: i64) -> Result<(), AllocError>
         ensures pushed { OnOk result (ids_read self.new ≡ ids_read self.old ++ id ∷ []) }
         ensures has { self.new.has_ids ≡ self.old.has_ids }
@@ -49,8 +52,9 @@ impl MemberIds {
         Ok(())
     }
 
-    /// Appends ids as far as they are complete, at most `most`, and returns the number of their
-    /// bytes. They take memory.
+    /// Appends the ids that are complete at the start of the bytes, at most `most`, and returns how
+    /// many bytes they have. It stops before a number that is cut or too long. Takes memory; after
+    /// an `Err` the ids before the one without memory stay appended.
     #[inline(always)]
     pub fn take(&mut self, bytes: &[u8], most: u64) -> Result<usize, AllocError>
         ensures within { IfOk result (λ used. used ≤ length bytes.now) }
@@ -71,7 +75,8 @@ impl MemberIds {
         Ok(used)
     }
 
-    /// The number of ids. Takes no memory.
+    /// The number of ids that it keeps: those read so far, or those from the open member on. Takes
+    /// no memory.
     #[inline(always)]
     pub fn count(&self) -> u64
         ensures { result ≡ length (ids_read self.now) }
@@ -87,7 +92,8 @@ impl MemberIds {
         self.has_ids
     }
 
-    /// All ids were read: the first member begins. Takes no memory.
+    /// Ends the reading of ids: members have those that were read, and the first member is the open
+    /// one. Takes no memory.
     pub fn begin(&mut self)
         ensures { ids_of self.new ≡ Some (ids_read self.old) }
     {
@@ -95,7 +101,7 @@ impl MemberIds {
         self.ids.reverse();
     }
 
-    // Whether the open member has an id, if members have ids.
+    // Whether members have no ids, or the open member has one.
     #[inline(always)]
     pub(crate) fn has_first(&self) -> bool
         ensures { result ≡ true → is_some (first_id (ids_of self.now)) ≡ self.now.has_ids }
@@ -103,7 +109,7 @@ impl MemberIds {
         !self.has_ids || !self.ids.is_empty()
     }
 
-    /// The id of the open member. Takes no memory.
+    /// The id of the open member; `None` if members have no ids, or none is left. Takes no memory.
     #[inline(always)]
     pub fn first(&self) -> Option<i64>
         ensures { result ≡ first_id (ids_of self.now) }
@@ -118,7 +124,8 @@ impl MemberIds {
         Some(self.ids[left - 1])
     }
 
-    /// The next member begins. Takes no memory.
+    /// Drops the id of the open member, if it has one, so that the next member is the open one.
+    /// Takes no memory.
     #[inline(always)]
     pub fn advance(&mut self)
         ensures ids { ids_of self.new ≡ other_ids (ids_of self.old) }

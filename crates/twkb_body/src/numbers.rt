@@ -13,8 +13,9 @@ const FOURTH: u64 = 1 << 21;
 
 const FIFTH: u64 = 1 << 28;
 
-// Reads a number of five bytes or fewer: the path of nearly all numbers, since coordinates of six
-// decimals have at most five.
+// Reads a number of five bytes or fewer at the start of the bytes, and returns it and how many
+// bytes it has; `None` if it is not complete or has more. Nearly all numbers take this path, since
+// coordinates of six decimals have at most five bytes.
 #[inline(always)]
 pub(crate) fn short_number(bytes: &[u8]) -> Option<(u64, usize)>
     ensures front { IfSome result (λ front. NumberInFront bytes.now front.0 front.1) }
@@ -48,8 +49,8 @@ pub(crate) fn short_number(bytes: &[u8]) -> Option<(u64, usize)>
 }
 
 // Reads a number of any length at the start of the bytes, unit by unit, and returns it and how many
-// bytes it has. `None` if its varint is not complete, or is longer than ten bytes or above 2^64 - 1.
-// It is called when `short_number` does not suffice, which is rare.
+// bytes it has. `None` if its varint is not complete, or is longer than ten bytes or above
+// 2^64 - 1. It is called when `short_number` does not suffice, which is rare.
 #[cold]
 #[inline(never)]
 pub(crate) fn long_number(bytes: &[u8]) -> Option<(u64, usize)>

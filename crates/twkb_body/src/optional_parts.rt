@@ -8,8 +8,8 @@ use twkb_grammar::Metadata;
 // Sides of a box (TWKB, bounding box).
 const SIDES: usize = 4;
 
-/// The optional parts of a header: the size that it declares, if any, after how many of their bytes
-/// that counts, and how many bytes they have.
+/// The optional parts of a header: the size that it declares, if any, how many of their bytes come
+/// before those that a size counts (`from`), and how many bytes they have (`used`).
 #[derive(Clone, Copy, Debug)]
 pub struct OptionalParts {
     pub size: Option<u64>,
@@ -17,7 +17,8 @@ pub struct OptionalParts {
     pub used: usize,
 }
 
-// The size, if this metadata byte asks for one, and how many bytes it has.
+// The size at the start of the bytes, and how many bytes it has; no size and 0 if this metadata
+// byte asks for none. `None` if the size is not complete or too long.
 #[inline(always)]
 fn front_size(metadata: Metadata, bytes: &[u8]) -> Option<(Option<u64>, usize)>
     ensures { IfSome result (λ front. SizeInFront metadata bytes.now front.0 front.1) }
@@ -29,7 +30,8 @@ fn front_size(metadata: Metadata, bytes: &[u8]) -> Option<(Option<u64>, usize)>
     Some((Some(size), width))
 }
 
-// How many bytes the box has, if this metadata byte asks for one.
+// How many bytes the box at the start of the bytes has; 0 if this metadata byte asks for none.
+// `None` if one of its four numbers is not complete or too long.
 #[inline(always)]
 fn front_box(metadata: Metadata, bytes: &[u8]) -> Option<usize>
     ensures { IfSome result (λ used. BoxInFront metadata bytes.now used) }
@@ -47,7 +49,9 @@ fn front_box(metadata: Metadata, bytes: &[u8]) -> Option<usize>
     Some(used)
 }
 
-/// The optional parts that this metadata byte asks for, all of them; `None` too if one is the extended dimensions byte.
+/// The optional parts at the start of the bytes, all that this metadata byte asks for. `None` if
+/// one is the extended dimensions byte, is not complete, or has a number that is longer than ten
+/// bytes or above 2^64 - 1. Takes no memory.
 #[inline(always)]
 pub fn front_parts(metadata: Metadata, bytes: &[u8]) -> Option<OptionalParts>
     ensures { IfSome result (λ parts. PartsInFront metadata bytes.now parts.size parts.from parts.used) }

@@ -35,8 +35,9 @@ pub fn push_point(flat: &mut Flat, row: Row, point: Pt) -> Result<(), AllocError
     flat.push(row, &[point])
 }
 
-/// Puts a point that was read: as a row of its own, or after the points of the last row. The rows
-/// take it. Takes memory; an `Err` changes nothing.
+/// Adds a point that was read to the rows, which must admit it: a point and a member of a
+/// multipoint, with this id, are rows of their own, and any other goes to the last row. Takes
+/// memory; an `Err` changes nothing.
 #[inline(always)]
 pub fn put_point(
     flat: &mut Flat,
@@ -72,7 +73,7 @@ pub fn own_row(head: &Head) -> Row
     }
 }
 
-// A row of a geometry's part.
+// The row, without points, of a component, which has no precision of its own.
 fn part_row(depth: u32, kind: Kind, id: Option<i64>) -> Row
     ensures { row_with result [] ≡ plain_row depth kind id [] }
 {
@@ -84,7 +85,9 @@ fn part_row(depth: u32, kind: Kind, id: Option<i64>) -> Row
     }
 }
 
-/// The row of a list of points that begins, in the open member with this id. Takes no memory.
+/// The row, without points, of a list of points that begins: that of a ring in a polygon or a
+/// multipolygon, that of the open member, which has this id, in a multilinestring, and else that of
+/// the geometry itself. Takes no memory.
 #[inline]
 pub fn line_row(head: &Head, member: Option<i64>) -> Row
     requires { IsBodied head.now.kind }
@@ -99,7 +102,8 @@ pub fn line_row(head: &Head, member: Option<i64>) -> Row
     }
 }
 
-/// The row of a list of rings that begins, in the open member with this id. Takes no memory.
+/// The row, without points, of a list of rings that begins: that of the open member, which has this
+/// id, in a multipolygon, and else that of the geometry itself. Takes no memory.
 #[inline]
 pub fn ring_list_row(head: &Head, member: Option<i64>) -> Row
     requires { IsBodied head.now.kind }

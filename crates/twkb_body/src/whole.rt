@@ -11,7 +11,8 @@ use twkb_points::Pt;
 /// Bytes of a header with a size of one byte, and no other optional part.
 pub const SIZED: usize = 3;
 
-/// A point that is complete with its header: its position, how many bytes both have, and the size that is declared.
+/// A point that is complete with its header: its position, how many bytes both have, and the size
+/// that is declared, if any.
 #[derive(Clone, Copy, Debug)]
 pub struct Whole {
     pub to: Pt,
@@ -20,8 +21,9 @@ pub struct Whole {
     ghost long: { 3 ≤ used },
 }
 
-// The size that a point's own header declares, if any, and how many bytes the header has; `None` if
-// it is no point's, or asks for more.
+// The size that the header at the start of the bytes declares, if any, and how many bytes the
+// header has. `None` if it is not complete, is not that of a point with a body, or has more than a
+// size of one byte.
 #[inline(always)]
 fn point_header(bytes: &[u8]) -> Option<(Option<u64>, usize)>
     ensures { IfSome result (λ front. PointHeader bytes.now front.0 front.1) }
@@ -44,8 +46,9 @@ fn point_header(bytes: &[u8]) -> Option<(Option<u64>, usize)>
     Some((Some(u64::from(size)), SIZED))
 }
 
-/// The point that is complete at the start of the bytes after a header that asks for nothing, or
-/// for a size of one byte.
+/// The point at the start of the bytes with its header, which has at most a size of one byte.
+/// `None` if the header is any other, or the point is not complete, too long or out of range.
+/// Whether the size is exact is not judged. Takes no memory.
 #[inline(always)]
 pub fn whole_point(bytes: &[u8]) -> Option<Whole>
     ensures { IfSome result (λ front. WholePoint bytes.now front.to front.used front.size) }

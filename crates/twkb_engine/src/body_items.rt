@@ -28,7 +28,8 @@ impl Engine {
     ghost use Rattle.twkb_engine.specs.Notes.{NotesGo, notes_with, notes_past, open_in};
     ghost use Rattle.twkb_engine.specs.Standing.{ComesNext};
 
-    // Takes an x. Refused if it leads out of range.
+    // Takes an x, which moves the position, and returns false: the y comes next. Refused if it
+    // leads out of range.
     #[inline(always)]
     #[tactic(auto, using(twkb_body::proofs::Ranges::ranges))]
     pub(crate) fn x(&mut self, number: u64, width: u64) -> Result<bool, Stop>
@@ -48,7 +49,7 @@ impl Engine {
         Ok(false)
     }
 
-    // The position after a y of this number, if that is in range.
+    // The position after a y of this number; `None` if that is out of range.
     #[inline(always)]
     #[tactic(auto, using(twkb_body::proofs::Ranges::ranges))]
     fn moved_y(&self, number: u64) -> Option<Pt>
@@ -63,7 +64,9 @@ impl Engine {
         Some(position)
     }
 
-    // Takes a y. Refused if it leads out of range. The point takes memory.
+    // Takes a y, and adds the point that it completes to the rows: at once if its list goes on, and
+    // else as `last_point` does. Returns whether the blob ends with it. Refused if it leads out of
+    // range, or a size that ends with it is not exact. The point takes memory.
     #[inline(always)]
     pub(crate) fn y<S: SpanNotes>(
         &mut self,
@@ -93,8 +96,9 @@ impl Engine {
         self.last_point(flat, spans, position)
     }
 
-    // Puts the last point of a list, or a point that is in none, and goes past the lists that end
-    // with it. It takes memory once the sizes are judged.
+    // Adds the last point of a list, or a point that is in none, to the rows, and goes past the
+    // lists and geometries that end with it. Returns whether the blob ends. The point takes memory,
+    // and is added once the sizes are judged.
     #[inline(never)]
     pub(crate) fn last_point<S: SpanNotes>(
         &mut self,
@@ -118,7 +122,10 @@ impl Engine {
         Ok(ends)
     }
 
-    // Takes the count of a line's or ring's points. Refused if these are too many. A row takes memory.
+    // Takes the count of a line's or ring's points, adds it to the sum of points, and pushes the
+    // list's row. Goes to the first point, or past an empty list. Returns whether the blob ends
+    // with it. Refused if the points are too many, or a size that ends with it is not exact. A row
+    // takes memory.
     #[inline(always)]
     pub(crate) fn point_count<S: SpanNotes>(
         &mut self,
@@ -150,7 +157,10 @@ impl Engine {
         Ok(false)
     }
 
-    // Takes the count of a polygon's rings. Refused if these are too many. A row takes memory.
+    // Takes the count of a polygon's rings, adds it to the sum of rows, and pushes the polygon's
+    // row. Goes to the first ring, or past an empty list. Returns whether the blob ends with it.
+    // Refused if the rings are too many, or a size that ends with it is not exact. A row takes
+    // memory.
     #[inline(always)]
     pub(crate) fn ring_count<S: SpanNotes>(
         &mut self,
@@ -182,7 +192,8 @@ impl Engine {
         Ok(false)
     }
 
-    // Puts the row of an empty list, and goes past the lists that end with it, or past the geometry.
+    // Pushes the row of an empty list, and goes past the list and the geometries that end with it.
+    // Returns whether the blob ends. The row takes memory, and is pushed once the sizes are judged.
     fn put_empty<S: SpanNotes>(
         &mut self,
         flat: &mut Flat,
@@ -204,8 +215,9 @@ impl Engine {
         Ok(ends)
     }
 
-    // Goes past the end of a list of points, or of a point that is in none: to the next ring or
-    // member, or past the end of the geometry.
+    // Goes past the end of a list, or of a point that is in none: to the next ring or member, or
+    // past the end of the geometry as `end_geometry` does. Returns whether the blob ends there.
+    // Takes no memory.
     #[inline(always)]
     fn end_value<S: SpanNotes>(&mut self, spans: &mut S) -> Result<bool, Stop>
         requires last { self.old.points_left ≡ 0 }
@@ -224,7 +236,8 @@ impl Engine {
         Ok(false)
     }
 
-    // Whether the body ends with the list of points that is open.
+    // Whether no ring and no member is left after the open list or point, so that the body ends
+    // with it.
     #[inline(always)]
     fn ends_with_list(&self) -> bool
         ensures ends { result ≡ true → past_last self.now ≡ past_end self.now }
@@ -234,7 +247,8 @@ impl Engine {
         self.rings_left == 0 && self.members_left == 0
     }
 
-    // Goes past the end of a list of points, with which the body does not end: to the next ring, or to the next member.
+    // Goes past the end of a list or point with which the body does not end: to the next ring, or
+    // else to the next member and its id.
     #[inline(always)]
     fn end_list(&mut self)
         requires last { self.old.points_left ≡ 0 }

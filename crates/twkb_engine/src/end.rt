@@ -32,8 +32,10 @@ impl Engine {
     ghost use Rattle.twkb_engine.specs.Taking.{Lands, Keeps, past_end, own_row};
     ghost use Rattle.twkb_engine.specs.Notes.{NotesGo, notes_past};
 
-    // Ends the geometry that is read, and each collection of which it is the last member, while
-    // their sizes are exact; returns whether the blob ends with it. Takes no memory.
+    // Ends the geometry that is read, and each collection whose last member ends with it, the
+    // innermost first, and notes the ends of their spans. Returns true if the blob ends, and then
+    // goes to the next one's start; false if a member comes next. Refused at the first size that is
+    // not exact. Takes no memory.
     pub(crate) fn end_geometry<S: SpanNotes>(&mut self, spans: &mut S) -> Result<bool, Stop>
         requires shut { are_shut self.old.points_left self.old.rings_left self.old.members_left ≡ true }
         requires inside { IsInside self.old.next }
@@ -65,8 +67,9 @@ impl Engine {
         }
     }
 
-    // Ends a geometry that has no body, or no members. Its row, which takes memory, is pushed once
-    // the sizes are judged.
+    // Ends a geometry that has no body, or no members, as `end_geometry` does, and pushes its row.
+    // Returns whether the blob ends with it. The row, which takes memory, is pushed once the sizes
+    // are judged.
     #[tactic(auto, using(crate::proofs::Ends::headings))]
     pub(crate) fn end_empty<S: SpanNotes>(
         &mut self,

@@ -18,8 +18,8 @@ use twkb_points::Pt;
 use twkb_tree::Limits;
 
 /// A blob that is read byte by byte into a flat form, which is borrowed by each call: the item that
-/// comes next, the geometries it is in, the sums of the items so far, and the bytes of a number that
-/// is not complete.
+/// comes next, the geometries it is in, the sums of the items so far, and the bytes of a number
+/// that is not complete.
 #[derive(Drop)]
 pub struct Engine {
     pub(crate) limits: Limits,
@@ -57,7 +57,8 @@ impl Engine {
     ghost use Rattle.twkb_engine.specs.Notes.{NotesGo, notes_with, open_in};
     ghost use Rattle.twkb_engine.specs.Standing.{StandsAt, IsAlive, IsEnd, count_of, held_in, offset_in, place_in};
 
-    /// Makes an engine that has read nothing, for a blob at this offset of a stream. Takes no memory.
+    /// Makes an engine that has read nothing, for a blob at this offset of a stream. The limits are
+    /// those of each geometry. Takes no memory.
     pub fn new(alloc: Global, limits: Limits, start: u64) -> Engine
         requires room { start ≤ 2 ^ 63 }
         ensures stands { StandsAt [] [] result }
@@ -83,7 +84,8 @@ impl Engine {
         }
     }
 
-    // Goes to the start of the next blob.
+    // Goes to the start of the next blob, which is where the one that was read ends. Forgets sums,
+    // position and open collections, and keeps their memory.
     pub(crate) fn restart(&mut self)
         requires shut { are_shut self.old.points_left self.old.rings_left self.old.members_left ≡ true }
         ensures begins { BeginsAt (self.old.start + self.old.bytes) self.new }
@@ -100,7 +102,8 @@ impl Engine {
     }
 
     // Takes the next item, which is this number, of `width` bytes; returns whether the blob ends
-    // with it. A row, a point, an id, an open collection and a span take memory.
+    // with it. An `Err` is the first reason against the item or a size that ends with it, or want
+    // of memory. A row, a point, an id, an open collection and a span take memory.
     #[inline(never)]
     pub(crate) fn take<S: SpanNotes>(
         &mut self,
@@ -164,7 +167,8 @@ impl Engine {
         self.start
     }
 
-    /// The number of bytes of the blob that is read before the next item. Takes no memory.
+    /// The number of bytes of the blob before the next item; after a refusal, before what is
+    /// refused. Takes no memory.
     #[inline(always)]
     pub fn bytes(&self) -> u64
         ensures { result ≡ offset_in self.now }
@@ -172,7 +176,8 @@ impl Engine {
         self.bytes
     }
 
-    /// Where the next item begins, in bytes from the stream's start; after a refusal, the refused one. Takes no memory.
+    /// Where the next item begins, in bytes from the stream's start; after a refusal, the place of
+    /// what is refused. Takes no memory.
     #[inline(always)]
     pub fn offset(&self) -> u64
         ensures { result ≡ place_in self.now }

@@ -14,7 +14,7 @@ use twkb_flat::Flat;
 use twkb_num::Step;
 use twkb_tree::Kind;
 
-// Adds the number of bytes used to an item's answer; an `Err` stays as it is.
+// Pairs an item's answer with the number of bytes used; an `Err` stays as it is.
 #[inline(always)]
 fn with_bytes(used: usize, answer: Result<bool, Stop>) -> Result<(usize, bool), Stop>
     ensures is { result ≡ with_used used answer }
@@ -32,7 +32,8 @@ impl Engine {
     ghost use Rattle.twkb_engine.specs.Standing.{TakesMany, held_in, count_of};
     ghost use Rattle.twkb_engine.specs.declared.next_item.NextItem.TheVariants.{X, Id};
 
-    /// Takes a byte, and returns whether the blob ends with it. It takes memory as `feed` does.
+    /// Takes one byte, and returns whether the blob ends with it. A byte that does not end its
+    /// number is held. Rows, an `Err` and memory are as with `feed`.
     #[inline(always)]
     pub fn take_byte<S: SpanNotes>(
         &mut self,
@@ -58,7 +59,8 @@ impl Engine {
         }
     }
 
-    // The number of the next item and how many bytes it has, if it is complete.
+    // The number of the next item and how many bytes it has, if it is complete at the start of the
+    // bytes; `None` if it is cut or too long.
     #[inline(always)]
     fn front_item(&self, rest: &[u8]) -> Option<(u64, usize)>
         requires some { 0 < length rest.now }
@@ -71,8 +73,8 @@ impl Engine {
         front_number(rest)
     }
 
-    // Takes the next item, or a byte of it if it is not complete; returns how many bytes were
-    // taken, and whether the blob ends with them.
+    // Takes the next item if it is complete at the start of the bytes and no byte of it is held,
+    // else one byte of it. Returns how many bytes were taken, and whether the blob ends with them.
     #[inline(always)]
     fn take_item<S: SpanNotes>(
         &mut self,
@@ -93,8 +95,10 @@ impl Engine {
         with_bytes(1, self.take_byte(flat, spans, rest[0]))
     }
 
-    // Takes points of a list, or members of a multipoint, many at once, but not the last; else one
-    // point; returns how many bytes were taken, or 0, and whether the blob ends with them.
+    // Takes points when an x comes next. If the open list has points after the next one, it takes
+    // many of them, but not the last; else many members of a multipoint, but not the last; if it
+    // takes no member, one point. Returns how many bytes were taken, or 0, and whether the blob
+    // ends with them.
     #[inline(always)]
     fn take_points<S: SpanNotes>(
         &mut self,
@@ -117,8 +121,9 @@ impl Engine {
         self.take_point(flat, spans, rest)
     }
 
-    // Takes a point that is the last of its list, or in none, if it is complete; returns how many
-    // bytes were taken, or 0, and whether the blob ends with them.
+    // Takes a point that is the last of its list, or in none, if it is complete and in range, and
+    // goes past what ends with it. Returns how many bytes were taken, or 0, and whether the blob
+    // ends with them. The point takes memory.
     #[inline(always)]
     fn take_point<S: SpanNotes>(
         &mut self,
@@ -141,8 +146,8 @@ impl Engine {
     }
 
     // Takes points of the open list, but not its last, and returns how many bytes they had; 0 if
-    // the form has no room for all that are left. Takes memory. Not inlined, so that its callers
-    // keep their registers.
+    // the next is not complete or out of range, or the form may not take all that are left. Takes
+    // memory. Not inlined, so that its callers keep their registers.
     #[inline(never)]
     fn take_list(&mut self, flat: &mut Flat, rest: &[u8]) -> Result<usize, AllocError>
         requires ahead { IsAhead X self.old (length rest.now) }
@@ -159,9 +164,10 @@ impl Engine {
         Ok(taken.used)
     }
 
-    // Takes members of a multipoint after its first, but not its last, and returns how many bytes
-    // they had; 0 if the geometry is no multipoint, or the form has no room for all that are left.
-    // Takes memory. Not inlined, so that its callers keep their registers.
+    // Takes members of a multipoint after its first, but not its last, each with its id, and
+    // returns how many bytes they had; 0 if the geometry is no multipoint, the next member is not
+    // complete or out of range, or the form may not take all that are left. Takes memory. Not
+    // inlined, so that its callers keep their registers.
     #[inline(never)]
     fn take_members(&mut self, flat: &mut Flat, rest: &[u8]) -> Result<usize, AllocError>
         requires { IsAhead X self.old (length rest.now) }
@@ -183,7 +189,7 @@ impl Engine {
         Ok(taken.used)
     }
 
-    // Takes members as `take_members` does, if any are left.
+    // Takes members as `take_members` does, if any are left after the open one; else it returns 0.
     #[inline(always)]
     fn take_others(&mut self, flat: &mut Flat, rest: &[u8]) -> Result<usize, AllocError>
         requires { IsAhead X self.old (length rest.now) }
@@ -197,7 +203,8 @@ impl Engine {
         self.take_members(flat, rest)
     }
 
-    // Takes ids, but not the last, and returns how many bytes they had. Takes memory.
+    // Takes ids, but not the last, and returns how many bytes they had; 0 if the next is the last
+    // or is not complete. Takes memory.
     #[inline(never)]
     fn take_ids(&mut self, rest: &[u8]) -> Result<usize, AllocError>
         requires { IsAhead Id self.old (length rest.now) }
@@ -212,8 +219,9 @@ impl Engine {
         Ok(used)
     }
 
-    // Takes items that are complete at the start of the bytes, many at once, if it holds no byte of
-    // a number; returns how many bytes were taken, or 0, and whether the blob ends with them.
+    // Takes a header, ids or points that are complete at the start of the bytes, if these come next
+    // and no byte of a number is held. Returns how many bytes were taken, or 0, and whether the
+    // blob ends with them.
     #[inline(always)]
     fn take_many<S: SpanNotes>(
         &mut self,
@@ -235,7 +243,8 @@ impl Engine {
         }
     }
 
-    // Takes the next bytes of a piece, one at least; returns how many, and whether the blob ends with them.
+    // Takes the next bytes of a piece, one at least: many items at once, or else one item or one
+    // byte. Returns how many, and whether the blob ends with them.
     #[inline(always)]
     fn take_some<S: SpanNotes>(
         &mut self,
@@ -255,7 +264,7 @@ impl Engine {
         self.take_item(flat, spans, rest)
     }
 
-    // Takes bytes as `feed` does, item by item.
+    // Takes bytes as `feed` does, without its shortcut for a blob of a single point.
     #[inline(never)]
     fn feed_items<S: SpanNotes>(
         &mut self,
@@ -280,8 +289,9 @@ impl Engine {
 
     /// Takes bytes up to the end of a blob, else all of them; returns how many, and whether a blob
     /// ends with them. `flat` has no rows when a blob begins, and then the rows read of it so far;
-    /// those of a blob that ended stay in it, so clear it before the next call. Takes memory for
-    /// rows, points, ids, open collections and spans.
+    /// those of a blob that ended stay in it, so clear it before the next call. An `Err` is the
+    /// reason against what is at `offset`, or want of memory; after it the engine cannot be fed
+    /// further. Takes memory for rows, points, ids, open collections and spans.
     #[inline(always)]
     pub fn feed<S: SpanNotes>(
         &mut self,

@@ -34,7 +34,8 @@ impl Engine {
     ghost use Rattle.twkb_engine.specs.Notes.{NotesGo, notes_with, notes_past};
     ghost use Rattle.twkb_engine.specs.Standing.{IsAlive, ComesNext};
 
-    // The geometry that this type byte begins, and its span. A span takes memory.
+    // Begins a geometry: keeps the kind and the precision that its type byte states, puts the
+    // position at the origin, and notes that a span begins. The span takes memory.
     #[inline(always)]
     pub(crate) fn begin_geometry<S: SpanNotes>(
         &mut self,
@@ -57,7 +58,9 @@ impl Engine {
         spans.begin(self.offset(), self.points, byte)
     }
 
-    // Keeps what the metadata byte says of the geometry: it has no size yet, and its bytes count from here.
+    // Keeps the metadata byte, in the header and in the notes of spans, and the geometry's depth
+    // and id, which the open collections give. Sets `head.size` to `None`, and `head.from` to the
+    // bytes so far.
     #[inline(always)]
     pub(crate) fn set_metadata<S: SpanNotes>(&mut self, spans: &mut S, metadata: Metadata)
         ensures head { head_of self.new.head ≡ record {
@@ -81,7 +84,8 @@ impl Engine {
         self.head.id = self.collections.id();
     }
 
-    // Whether this metadata byte announces a point: that of a point with a body.
+    // Whether a header with this kind and metadata byte announces a point: that of a point with a
+    // body.
     #[inline(always)]
     pub(crate) fn announces_point(&self, kind: Kind, metadata: Metadata) -> bool
         ensures { result ≡ announces (kind_number (kind_of kind)) metadata }
@@ -89,7 +93,8 @@ impl Engine {
         kind == Kind::Point && !metadata.is_empty()
     }
 
-    // Takes a type byte. Refused if it names no type.
+    // Takes a type byte, begins its geometry, and returns false: the metadata byte comes next.
+    // Refused if it names no type. The span takes memory.
     #[inline(always)]
     pub(crate) fn type_byte<S: SpanNotes>(
         &mut self,
@@ -115,7 +120,9 @@ impl Engine {
         Ok(false)
     }
 
-    // Takes a metadata byte. Refused if it announces a point too many.
+    // Takes a metadata byte, counts a point if it announces one, and goes to the first part that it
+    // asks for, or past the header as `begin_body` does; returns whether the blob ends with it.
+    // Refused if it announces a point too many.
     #[inline(always)]
     pub(crate) fn metadata_byte<S: SpanNotes>(
         &mut self,
@@ -148,7 +155,8 @@ impl Engine {
         self.after_extended(flat, spans, metadata)
     }
 
-    // Takes an extended dimensions byte. Refused if it announces Z or M.
+    // Takes an extended dimensions byte, moves `head.from` past it, and goes on as `after_extended`
+    // does; returns whether the blob ends with it. Refused if it announces Z or M.
     #[inline(always)]
     pub(crate) fn extended_byte<S: SpanNotes>(
         &mut self,
@@ -198,7 +206,8 @@ impl Engine {
         self.after_size(flat, spans, Metadata::from_byte(self.head.metadata))
     }
 
-    // Takes a number of a box, with `left` more after it.
+    // Takes a number of a box, whose value is not used, with `left` more after it. After the last
+    // one it goes past the header as `begin_body` does. Returns whether the blob ends with it.
     #[inline(always)]
     pub(crate) fn box_number<S: SpanNotes>(
         &mut self,
@@ -225,7 +234,8 @@ impl Engine {
         self.begin_body(flat, spans)
     }
 
-    // Goes past the place of the extended dimensions byte: to the size, if there is one.
+    // Goes past the place of the extended dimensions byte: to the size, if there is one, or else as
+    // `after_size` does. Returns whether the blob ends there.
     #[inline(always)]
     fn after_extended<S: SpanNotes>(
         &mut self,
@@ -251,7 +261,8 @@ impl Engine {
         self.after_size(flat, spans, metadata)
     }
 
-    // Goes past the place of the size: to the box, if there is one.
+    // Goes past the place of the size: to the box, if there is one, or else past the header as
+    // `begin_body` does. Returns whether the blob ends there.
     #[inline(always)]
     fn after_size<S: SpanNotes>(
         &mut self,
@@ -277,7 +288,8 @@ impl Engine {
         self.begin_body(flat, spans)
     }
 
-    // Goes past the header: to the body, or to the count of members; a geometry without a body ends.
+    // Goes past the header: to the body, or to the count of members. A geometry without a body
+    // ends, as by `end_empty`. Returns whether the blob ends there.
     #[inline(always)]
     fn begin_body<S: SpanNotes>(&mut self, flat: &mut Flat, spans: &mut S) -> Result<bool, Stop>
         requires header { IsHeaderItem self.old.next }
@@ -296,7 +308,7 @@ impl Engine {
         Ok(false)
     }
 
-    // The body begins, or the count of members comes next.
+    // Makes the first item of the body, or the count of members, the item that comes next.
     #[inline(always)]
     #[tactic(auto, using(crate::proofs::Parts::headers))]
     pub(crate) fn go_to_body(&mut self)

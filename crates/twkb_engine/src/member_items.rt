@@ -26,7 +26,7 @@ use twkb_grammar::Metadata;
 use twkb_num::unzigzag;
 use twkb_tree::Kind;
 
-// Appends the id that this number says. It takes memory.
+// Appends the id whose zigzag form is this number. It takes memory.
 #[inline(always)]
 fn push_id(ids: &mut MemberIds, number: u64) -> Result<(), AllocError>
     ensures pushed { OnOk result
@@ -45,7 +45,8 @@ impl Engine {
     ghost use Rattle.twkb_engine.specs.Notes.{NotesGo, notes_with, open_in};
     ghost use Rattle.twkb_engine.specs.Standing.{ComesNext};
 
-    // Why this number of further rows and points is not allowed, if it is not.
+    // Why the limits do not allow this number of further rows, or else of further points; `None` if
+    // they allow both.
     #[inline(always)]
     pub(crate) fn too_many(&self, nodes: u64, points: u64) -> Option<BlobReason>
         ensures { objection_of result ≡ unless (nat_lt self.now.limits.nodes
@@ -61,7 +62,8 @@ impl Engine {
         None
     }
 
-    // The number of points that this number of members announces.
+    // The number of points that this number of members announces: one each in a multipoint, else
+    // none.
     #[inline(always)]
     fn member_points(&self, count: u64) -> u64
         ensures { result ≡ points_by (count_role self.now) count }
@@ -72,7 +74,9 @@ impl Engine {
         0
     }
 
-    // Why this number of members, with this number of points, is not allowed, if it is not.
+    // Why the limits do not allow this number of members, with this number of points: a collection
+    // would nest too deep, or else there are too many rows, or else too many points. `None` if they
+    // allow them.
     #[inline(always)]
     fn too_many_members(&self, count: u64, points: u64) -> Option<BlobReason>
         requires next { self.now.next ≡ next.MemberCount }
@@ -86,7 +90,10 @@ impl Engine {
         self.too_many(count, points)
     }
 
-    // Takes the count of members. Refused if these are too deep, or too many rows or points.
+    // Takes the count of members, and adds their rows and points to the sums. Goes to the first id
+    // or member; without members the geometry ends, as by `end_empty`. Returns whether the blob
+    // ends with it. Refused if the members are too deep, or too many rows or points. A row and an
+    // open collection take memory.
     #[inline(always)]
     pub(crate) fn member_count<S: SpanNotes>(
         &mut self,
@@ -116,8 +123,9 @@ impl Engine {
         Ok(false)
     }
 
-    // Goes to the members of a geometry that has `count` of them: to the first id if they have ids,
-    // else to the first member. A row and an open collection take memory.
+    // Forgets the ids read before, and goes to the members of a geometry that has `count` of them:
+    // to the first id if they have ids, else to the first member as `begin_members` does. A row and
+    // an open collection take memory.
     #[inline(always)]
     fn begin_counted(&mut self, flat: &mut Flat, count: u64) -> Result<(), AllocError>
         requires next { self.old.next ≡ next.MemberCount }
@@ -143,7 +151,8 @@ impl Engine {
         Ok(())
     }
 
-    // Takes an id. It takes memory.
+    // Takes an id, and after the last one goes to the first member, as `begin_members` does.
+    // Returns false. An id, a row and an open collection take memory.
     #[inline(always)]
     pub(crate) fn id(&mut self, flat: &mut Flat, number: u64, width: u64) -> Result<bool, Stop>
         requires { ComesNext next.Id flat.old self.old number width }
@@ -163,7 +172,8 @@ impl Engine {
         Ok(false)
     }
 
-    // A geometry with members has its row, and the first of them begins. A row and an open collection take memory.
+    // Pushes the row of a geometry with members, opens the geometry, with the ids, if it is a
+    // collection, and goes to the first member. A row and an open collection take memory.
     fn begin_members(&mut self, flat: &mut Flat) -> Result<(), AllocError>
         requires next { self.old.next ≡ next.Id }
         requires row { Admits (own_row self.old) flat.old }

@@ -43,7 +43,8 @@ impl NextItem {
         )
     }
 
-    // The item after the header of a geometry of this kind: that of its body, or the count of its members.
+    // The item after the header of a geometry of this kind that has a body: the first item of the
+    // body, or the count of its members.
     #[inline(always)]
     pub(crate) fn after_header(kind: Kind) -> NextItem
         ensures { result ≡ header_item kind }
@@ -56,8 +57,8 @@ impl NextItem {
         }
     }
 
-    // The first item of a body of this kind, or of a member of a multi-geometry of this kind; of a
-    // collection's member, its type byte.
+    // The first item of a body of this kind; for a multi-geometry or a collection, the first item
+    // of a member.
     #[inline(always)]
     pub(crate) fn first_of(kind: Kind) -> NextItem
         ensures { result ≡ first_item kind }

@@ -14,11 +14,12 @@ use std::marker::Model;
 use std::mem::swap;
 use twkb_body::{Head, MemberIds};
 
-// The least room in itself that a `SmallVec` has. It is never used: the first growth adds `MORE` places, so
-// they are on the heap.
+// The least room in itself that a `SmallVec` has. It is never used: the first growth adds `MORE`
+// places, so they are on the heap.
 const INLINE: usize = 1;
 
-// A growth adds this many places at least: room for four at first, and no more growths than of a `Vec`.
+// A growth adds this many places at least: room for four at first, and no more growths than of a
+// `Vec`.
 const MORE: usize = 3;
 
 // A collection that is begun and not finished: its header, the ids from the open member on, and the
@@ -31,6 +32,7 @@ pub(crate) struct OpenCollection {
 }
 
 impl MadeWith<Global> for OpenCollection {
+    // Makes a blank place, which `push` fills. Takes no memory.
     fn made_with(alloc: Global) -> OpenCollection {
         OpenCollection {
             head: Head::none(),
@@ -66,8 +68,9 @@ impl Model for OpenCollections {
     ghost invariant = { λ c. c.count ≤ length c.places.items };
 }
 
-// Adds a place. Out of line: it runs once for each depth. It makes the blank itself, so that no
-// caller keeps a collection in memory for it.
+// Adds a blank place after the others. Takes memory; an `Err` changes nothing. Out of line: it runs
+// once for each depth. It makes the blank itself, so that no caller keeps a collection in memory
+// for it.
 #[cold]
 #[inline(never)]
 fn make_place(places: &mut SmallVec<OpenCollection, INLINE>) -> Result<(), AllocError>
@@ -83,7 +86,7 @@ fn make_place(places: &mut SmallVec<OpenCollection, INLINE>) -> Result<(), Alloc
 }
 
 impl OpenCollections {
-    // No open collection. Takes no memory.
+    // Makes a list without open collections. Takes no memory.
     pub(crate) fn new(alloc: Global) -> OpenCollections
         ensures { result ≡ [] }
     {
@@ -101,7 +104,8 @@ impl OpenCollections {
         self.count
     }
 
-    // The id of the open member of the innermost collection, if it has one.
+    // The id of the open member of the innermost collection; `None` if it has none, or if no
+    // collection is open.
     #[inline(always)]
     pub(crate) fn id(&self) -> Option<i64>
         ensures { result ≡ id_in (frames_of self.now) }
@@ -112,8 +116,9 @@ impl OpenCollections {
         self.places.as_slice()[self.count - 1].ids.first()
     }
 
-    // Opens a collection in those that are open, with the ids of its members, for which it gives
-    // other room. Takes memory if more are open than ever before; an `Err` changes nothing.
+    // Opens a collection inside those that are open, with this header, the ids of its members, and
+    // the number of members after the first. `ids` then has the ids that were in the place before,
+    // for their memory. Takes memory if more are open than ever before; an `Err` changes nothing.
     #[inline(always)]
     pub(crate) fn push(
         &mut self,
@@ -138,7 +143,7 @@ impl OpenCollections {
         Ok(())
     }
 
-    // Leaves no collection open.
+    // Leaves no collection open, and keeps all places for others.
     #[inline(always)]
     pub(crate) fn clear(&mut self)
         ensures { self.new ≡ [] }
@@ -147,9 +152,9 @@ impl OpenCollections {
     }
 
     // Ends a member of the innermost collection. If members are left, the next one begins, with the
-    // next id. Otherwise the collection ends too: its head is returned, and its ids are swapped with
-    // `ids`, so that their room is used again. If no collection is open, the blob ends, and nothing
-    // changes.
+    // next id. Otherwise the collection ends too: its head is returned, and its ids are swapped
+    // with `ids`, so that their room is used again. If no collection is open, the blob ends, and
+    // nothing changes.
     #[inline(always)]
     pub(crate) fn end_member(&mut self, ids: &mut MemberIds) -> MemberEnd
         ensures blob { IfBlob result (self.old ≡ []) }

@@ -10,23 +10,23 @@ pub trait SpanNotes {
     // These notes are held; what notes nothing holds any.
     ghost holds: { Self → Notes → Type 0 };
 
-    /// Notes that a geometry begins with this type byte at this offset, after this number of points.
-    /// Takes memory.
+    /// Notes that a geometry begins with this type byte at this offset of the stream, after this
+    /// number of points of its blob. Takes memory; after an `Err` the notes may be incomplete.
     fn begin(&mut self, offset: u64, points: u64, byte: TypeByte) -> Result<(), AllocError>
         ensures { OnOk result ((w : Notes) → length w.begun < 2 ^ 32 → holds self.old w
             → holds self.new (note_header offset points byte w)) };
 
-    /// Notes the metadata byte of the innermost geometry. Takes no memory.
+    /// Notes the metadata byte of the innermost open geometry. Takes no memory.
     fn set_metadata(&mut self, byte: u8)
         ensures { (w : Notes) → holds self.old w → holds self.new (note_metadata byte w) };
 
-    /// Notes that the innermost geometry ends at this offset, with this number of points up to there.
-    /// Takes no memory.
+    /// Notes that the innermost open geometry ends at this offset of the stream, after this number
+    /// of points of its blob. Takes no memory.
     fn end(&mut self, offset: u64, points: u64)
         ensures { (w : Notes) → holds self.old w → holds self.new (note_end offset points w) };
 
-    /// Notes the span of a complete blob of one geometry. The caller has noted nothing of it before.
-    /// Takes memory.
+    /// Notes the span of a complete blob of one geometry, of which the caller has noted nothing
+    /// before. Takes memory.
     fn put(&mut self, span: Span) -> Result<(), AllocError>
         ensures { OnOk result (holds self.old no_notes → holds self.new (record { spans = span ∷ []; begun = [] })) };
 }

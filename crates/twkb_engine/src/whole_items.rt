@@ -1,4 +1,4 @@
-//! Items that stand whole at the start of some bytes: a header, and a blob of a single point.
+//! Items that are complete at the start of bytes: a header, and a blob of a single point.
 ghost use Rattle.std.specs.Prelude.{◌≡◌, ◌+◌, ◌-◌, ◌<◌, ◌≤◌, ◌^◌, [], true, List, Ok, length, take};
 ghost use Rattle.std.specs.Prelude.{IfOk, IfSome, OnErr};
 ghost use Rattle.twkb_tree.specs.Rows.{Row};
@@ -15,7 +15,8 @@ use twkb_flat::Flat;
 use twkb_grammar::{Span, TypeByte};
 use twkb_tree::Kind;
 
-// A point at the start of the bytes with its header, if it has the size that this declares, if any.
+// The point at the start of the bytes with its header, as `whole_point` reads it; `None` too if the
+// header declares a size that is not exact.
 #[inline(always)]
 fn exact_point(bytes: &[u8]) -> Option<Whole>
     ensures point { IfSome result (λ front. WholePoint bytes.now front.to front.used front.size) }
@@ -31,7 +32,8 @@ fn exact_point(bytes: &[u8]) -> Option<Whole>
     Some(point)
 }
 
-// The span of a blob that is a single point, of these bytes, which begins at this offset.
+// The span of a blob of a single point, which has these bytes and begins at this offset of a
+// stream.
 #[inline(always)]
 fn point_span(offset: u64, blob: &[u8]) -> Span
     requires long { 2 ≤ length blob.now }
@@ -52,7 +54,8 @@ impl Engine {
     ghost use Rattle.twkb_engine.specs.Taking.{Stays};
     ghost use Rattle.twkb_engine.specs.Standing.{FedBy, IsAhead, LeadsOn, StopsIn, held_in, count_of};
 
-    // Takes a blob as `take_root_point` does, if no byte was taken since the start or the last blob.
+    // Takes a blob as `take_root_point` does, if no byte was taken since the start or the last
+    // blob; else it returns 0 and changes nothing.
     #[inline(always)]
     pub(crate) fn take_root<S: SpanNotes>(
         &mut self,
@@ -106,9 +109,9 @@ impl Engine {
         Ok(point.used)
     }
 
-    // Takes a header that is complete, with a body after it; returns how many bytes it has, or 0,
-    // and then it changes nothing: a point that it announces may be one too many. A span takes
-    // memory.
+    // Takes a header that is complete at the start of the bytes and has a body after it; returns
+    // how many bytes it has. Returns 0 and changes nothing if `front_header` gives none, or if the
+    // header announces a point too many. A span takes memory.
     #[inline(always)]
     pub(crate) fn take_header<S: SpanNotes>(
         &mut self,
