@@ -3,6 +3,7 @@
 use twkb_arrays::BufferRow;
 use twkb_buffer::BufferPoint;
 
+mod lines;
 mod reading;
 mod writing;
 

@@ -1,12 +1,14 @@
 -- The reason of the first test of a row that fails.
 use Rattle.std.proofs.Common.{◌≡◌, ◌∙◌, ◌<◌, ◌^◌, ℕ, Bool, true, false, List, [], ◌∷◌, ◌++◌, Option, Some}
-use Rattle.std.proofs.Common.{None, refl, sym, subst, bit_or, inl, inr, arith, lit<}
-use Rattle.std.specs.Prelude.{ℤ, ◌↔◌, MatchOption, nat_lt}
+use Rattle.std.proofs.Common.{None, refl, sym, subst, bit_or, inl, inr, arith, length, lit<, slice_index_or}
+use Rattle.std.specs.Prelude.{◌↔◌, MatchOption, nat_lt}
+use Rattle.std.specs.Simd.Lanes.{zip2}
 use Rattle.std.proofs.lemmas.Bool.{cases_Bool}
 use Rattle.std.proofs.lemmas.Bool.Decides.{nat_tests}
 use Rattle.std.proofs.Math.Nat.{lt_of_le_of_lt}
 use Rattle.std.proofs.lemmas.Nat.{le_or_l, le_or_r, or_lt}
-use Rattle.twkb_points.specs.Point.{IsCoordinate, IsInRange, AreInRange}
+use Rattle.std.proofs.lemmas.Simd.{length-zip2}
+use Rattle.twkb_points.specs.Point.{IsInRange, AreInRange}
 use Rattle.twkb_tree.specs.declared.row_place.RowPlace.{RowPlace}
 use Rattle.twkb_tree.specs.Limits.{Allowance}
 use Rattle.twkb_tree.specs.Open.{row_of, child_of}
@@ -17,6 +19,7 @@ use Rattle.twkb_tree.proofs.RowRanges.{are_in_range-true, points_in_range}
 use Rattle.twkb_table.specs.RowRules.{first_reason, place_checks}
 use Rattle.twkb_table.specs.declared.reason.RowReason.{RowReason}
 use Rattle.twkb_buffer.specs.declared.point.BufferPoint.{BufferPoint}
+use Rattle.twkb_arrays.specs.Judging.{AreBelow}
 use Rattle.twkb_arrays.specs.RowTests.{IsFirstButRange, IsReasonOf, checks_there, range_refusal}
 use Rattle.twkb_arrays.specs.Rows.{point_of, points_of}
 
@@ -140,47 +143,75 @@ by_points l s r answer place id precision h =
 
 -- ---- the range of coordinates
 
--- Numbers of the points looked at so far are joined by `or`. The points are in range if and only if
--- what is joined is below 2^63 and the points left are in range.
-pub record Decides (own left : List BufferPoint) (joined : ℕ) : Type 0 where
-  pub if_below : joined < 2 ^ 63 → AreInRange (points_of left) → AreInRange (points_of own)
-  pub is_below : AreInRange (points_of own) → (joined < 2 ^ 63) × AreInRange (points_of left)
+-- two lists of as many numbers, joined by `or`, are below 2^63 if and only if both are
+both_below : (xs ys : List ℕ) → length xs ≡ length ys → AreBelow (zip2 bit_or xs ys) ↔ (AreBelow xs × AreBelow ys)
+both_below [] [] same = (λ below. (tt, tt), λ both. tt)
+both_below [] (y ∷ ys) same = absurd (omega (arith, same))
+both_below (x ∷ xs) [] same = absurd (omega (arith, same))
+both_below (x ∷ xs) (y ∷ ys) same =
+    let more = both_below xs ys (omega (arith, same)) in (
+      λ below.
+          let rest = more.0 below.1 in (
+            (lt_of_le_of_lt (le_or_l x y) below.0, rest.0),
+            (lt_of_le_of_lt (le_or_r x y) below.0, rest.1),
+          ),
+      λ both. (or_lt 63 x y both.0.0 both.1.0, more.1 (both.0.1, both.1.1)),
+    )
+
+-- Numbers of the points looked at so far are joined by `or`, those of x and those of y. The points are
+-- in range if and only if what is joined is below 2^63 and the points left are in range.
+pub record Decides (own left : List BufferPoint) (joined : List ℕ) : Type 0 where
+  pub two : length joined ≡ 2
+  pub if_below : AreBelow joined → AreInRange (points_of left) → AreInRange (points_of own)
+  pub is_below : AreInRange (points_of own) → AreBelow joined × AreInRange (points_of left)
 
 -- before a point is looked at, the points decide
-pub decides_at_first : (own : List BufferPoint) → Decides own own 0
-decides_at_first own = record { if_below = λ below in_range. in_range; is_below = λ in_range. (lit< tt, in_range) }
-
--- what is joined of two numbers is below 2^63 if and only if both are
-pub both_below : (x y : ℕ) (c d : ℤ) → (x < 2 ^ 63) ↔ IsCoordinate c → (y < 2 ^ 63) ↔ IsCoordinate d
-    → (bit_or x y < 2 ^ 63) ↔ (IsCoordinate c × IsCoordinate d)
-both_below x y c d x_is y_is = (
-  λ below. (x_is.0 (lt_of_le_of_lt (le_or_l x y) below), y_is.0 (lt_of_le_of_lt (le_or_r x y) below)),
-  λ both. or_lt 63 x y (x_is.1 both.0) (y_is.1 both.1),
-)
-
--- the number of one more point is joined
-pub decides_more : (own left after : List BufferPoint) (c : BufferPoint) (joined number : ℕ)
-    → Decides own left joined → left ≡ c ∷ after → (number < 2 ^ 63) ↔ IsInRange (point_of c)
-    → Decides own after (bit_or joined number)
-decides_more own left after c joined number so_far next number_is = record {
-  if_below = λ below in_range. so_far.if_below (lt_of_le_of_lt (le_or_l joined number) below)
-      (subst (λ (cs : List BufferPoint). AreInRange (points_of cs)) (sym next)
-      (number_is.0 (lt_of_le_of_lt (le_or_r joined number) below), in_range));
-  is_below = λ in_range.
-      let so_far_in = so_far.is_below in_range in
-      let left_in = subst (λ (cs : List BufferPoint). AreInRange (points_of cs)) next so_far_in.1 in
-      (or_lt 63 joined number so_far_in.0 (number_is.1 left_in.0), left_in.1);
+pub decides_at_first : (own : List BufferPoint) → Decides own own (0 ∷ 0 ∷ [])
+decides_at_first own = record {
+  two = refl;
+  if_below = λ below in_range. in_range;
+  is_below = λ in_range. ((lit< tt, (lit< tt, tt)), in_range);
 }
 
--- once all points are looked at, what is joined decides
-pub decided : (own left : List BufferPoint) (joined : ℕ) → Decides own left joined → left ≡ []
-    → nat_lt joined (2 ^ 63) ≡ are_in_range (points_of own)
-decided own left joined all none = elim (cases_Bool (nat_lt joined (2 ^ 63))) [
-  | inl below ↦ below ∙ sym (are_in_range-true (points_of own) (all.if_below (grind (arith, nat_tests))
+-- the numbers of one more point are joined
+pub decides_more : (own left after : List BufferPoint) (c : BufferPoint) (joined numbers : List ℕ)
+    → Decides own left joined → left ≡ c ∷ after → length numbers ≡ 2 → AreBelow numbers ↔ IsInRange (point_of c)
+    → Decides own after (zip2 bit_or joined numbers)
+decides_more own left after c joined numbers so_far next two numbers_are =
+    let same = so_far.two ∙ sym two in
+    let both = both_below joined numbers same in record {
+      two = length-zip2 bit_or joined numbers same ∙ so_far.two;
+      if_below = λ below in_range. so_far.if_below (both.0 below).0
+          (subst (λ (cs : List BufferPoint). AreInRange (points_of cs)) (sym next)
+          (numbers_are.0 (both.0 below).1, in_range));
+      is_below = λ in_range.
+          let so_far_in = so_far.is_below in_range in
+          let left_in = subst (λ (cs : List BufferPoint). AreInRange (points_of cs)) next so_far_in.1 in
+          (both.1 (so_far_in.0, numbers_are.1 left_in.0), left_in.1);
+    }
+
+decided_by : (own left : List BufferPoint) (x y : ℕ) → Decides own left (x ∷ y ∷ []) → left ≡ []
+    → nat_lt (bit_or x y) (2 ^ 63) ≡ are_in_range (points_of own)
+decided_by own left x y all none = elim (cases_Bool (nat_lt (bit_or x y) (2 ^ 63))) [
+  | inl below ↦
+      let less : bit_or x y < 2 ^ 63 = grind (arith, nat_tests) in
+      below ∙ sym (are_in_range-true (points_of own) (all.if_below
+      (lt_of_le_of_lt (le_or_l x y) less, (lt_of_le_of_lt (le_or_r x y) less, tt))
       (subst (λ (cs : List BufferPoint). AreInRange (points_of cs)) (sym none) tt)))
   | inr above ↦ elim (cases_Bool (are_in_range (points_of own))) [
-    | inl in_range ↦ let below = (all.is_below (points_in_range (points_of own) in_range)).0 in
+    | inl in_range ↦
+        let below = (all.is_below (points_in_range (points_of own) in_range)).0 in
+        let less = or_lt 63 x y below.0 below.1.0 in
         absurd (grind (arith, nat_tests))
     | inr out ↦ above ∙ sym out
   ]
 ]
+
+-- once all points are looked at, what is joined decides
+pub decided : (own left : List BufferPoint) (joined : List ℕ) → Decides own left joined → left ≡ []
+    → nat_lt (bit_or (slice_index_or joined 0 0) (slice_index_or joined 1 0)) (2 ^ 63)
+    ≡ are_in_range (points_of own)
+decided own left [] all none = absurd (omega (arith, all.two))
+decided own left (x ∷ []) all none = absurd (omega (arith, all.two))
+decided own left (x ∷ y ∷ []) all none = decided_by own left x y all none
+decided own left (x ∷ y ∷ z ∷ more) all none = absurd (omega (arith, all.two))

@@ -3,12 +3,12 @@ pub mod ArrayRows
 pub mod ArraysRefused
 pub mod GatheringLemmas
 pub mod JudgingLemmas
-pub mod LoneLemmas
 pub mod OpenLemmas
 pub mod OwnPointsLemmas
 pub mod ReadingLaws
 pub mod ReadingLemmas
 pub mod RoomLemmas
+pub mod RootLemmas
 pub mod RowLemmas
 pub mod SendingLemmas
 pub mod TakingLemmas

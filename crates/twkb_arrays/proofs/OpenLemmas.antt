@@ -17,7 +17,7 @@ use Rattle.twkb_writer.specs.PointBlob.{one_point}
 use Rattle.twkb_table.specs.Waiting.{point_row}
 use Rattle.twkb_arrays.specs.OpenRows.{open_rows}
 use Rattle.twkb_arrays.specs.declared.open_geometry.LonePoint.{LonePoint}
-use Rattle.twkb_arrays.proofs.LoneLemmas.{point_first}
+use Rattle.twkb_arrays.proofs.RootLemmas.{point_first}
 
 -- a point that can be a geometry itself
 abbrev pub CanBeAlone : LonePoint → Type 0

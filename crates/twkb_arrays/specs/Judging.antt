@@ -1,6 +1,6 @@
 -- The row of a geometry that a row of an array stands for, and the reason to refuse it (profile).
 use Rattle.std.specs.Prelude.{◌≡◌, ℕ, ◌<◌, ◌≤◌, ◌==◌, ◌⊎◌, ℤ, pos, negsuc, List, length, take, reverse}
-use Rattle.std.specs.Prelude.{Option, Some, None, Bool, false, if◌then◌else◌}
+use Rattle.std.specs.Prelude.{Option, Some, None, Bool, false, if◌then◌else◌, ⊤, [], ◌∷◌, ◌^◌}
 use Rattle.twkb_tree.specs.declared.kind.Kind.{Kind}
 use Rattle.twkb_tree.specs.Accepted.{Accepts}
 use Rattle.twkb_tree.specs.Limits.{Allowance}
@@ -66,3 +66,8 @@ abbrev pub AcceptedAfter : Allowance → List Row → BufferRow → List BufferP
 AcceptedAfter l rs row ahead r =
     (k : Kind) × (kind_number k ≡ row.kind) × HasRightId row × (row.points ≤ length ahead)
     × (r ≡ row_from_c k row (take row.points ahead)) × Accepts l (reverse rs) r
+
+-- each of the numbers is below 2^63
+abbrev pub AreBelow : List ℕ → Type 0
+AreBelow [] = ⊤
+AreBelow (n ∷ ns) = (n < 2 ^ 63) × AreBelow ns

@@ -1,5 +1,6 @@
 //! The row of a geometry that a row of an array stands for, and the reason to refuse it.
-ghost use Rattle.std.specs.Prelude.{◌≡◌, ◌↔◌, ◌+◌, ◌<◌, ◌^◌, ◌||◌, [], List, IsTrue, MatchOption, true, nat_le};
+ghost use Rattle.std.specs.Prelude.{◌≡◌, ◌↔◌, ◌+◌, ◌<◌, ◌^◌, ◌||◌, [], List, IsTrue, MatchOption};
+ghost use Rattle.std.specs.Prelude.{length, true, nat_le};
 ghost use Rattle.twkb_points.specs.Point.{IsCoordinate, IsInRange};
 ghost use Rattle.twkb_tree.specs.declared.kind.Kind.{Kind};
 ghost use Rattle.twkb_tree.specs.Admits.{has_points, id_in_range, precision_in_range};
@@ -12,10 +13,11 @@ ghost use Rattle.twkb_table.specs.RowRules.{first_reason};
 ghost use Rattle.twkb_buffer.specs.Numbers.{row_number_of};
 ghost use Rattle.twkb_buffer.specs.declared.point.BufferPoint.{BufferPoint as InPoint};
 ghost use Rattle.twkb_arrays.specs.Rows.{kind_number, point_of, points_of};
-ghost use Rattle.twkb_arrays.specs.Judging.{HasRightId, row_from_c};
+ghost use Rattle.twkb_arrays.specs.Judging.{AreBelow, HasRightId, row_from_c};
 ghost use Rattle.twkb_arrays.specs.RowTests.{IsFirstButRange, checks_there};
 
 use crate::row::{BufferRow, NO_PRECISION};
+use std::simd::u64x2;
 use twkb_buffer::{BufferPoint, row_number};
 use twkb_convert::{PolyReason, RowReason};
 use twkb_flat::{Row, Stop};
@@ -141,26 +143,27 @@ fn above_least(coordinate: i64) -> u64
     coordinate.cast_unsigned().wrapping_add(COORDINATE_BOUND)
 }
 
-// The coordinates of a point less the least one, joined by `or`, if both are in range; else 2^63 or
-// more.
+// The coordinates of a point less the least one, each if it is in range; else 2^63 or more.
 #[inline(always)]
-fn both_above_least(point: &BufferPoint) -> u64
-    ensures { (result < 2 ^ 63) ↔ IsInRange (point_of point.now) }
+fn both_above_least(point: &BufferPoint) -> u64x2
+    ensures two { length result ≡ 2 }
+    ensures value { AreBelow result ↔ IsInRange (point_of point.now) }
 {
-    above_least(point.x) | above_least(point.y)
+    u64x2::from_array([above_least(point.x), above_least(point.y)])
 }
 
-// Whether the coordinates of each point are in range. Each point is looked at, so that several
-// are at once.
+// Whether the coordinates of each point are in range. Both coordinates are looked at together, and
+// each point is, so that several are at once.
 #[inline(always)]
 pub(crate) fn are_in_range(own: &[BufferPoint]) -> bool
     ensures { result ≡ are_in_range (points_of own.now) }
 {
-    let mut joined: u64 = 0;
+    let mut joined = u64x2::splat(0);
     for point in own {
         joined |= both_above_least(point);
     }
-    joined < 1 << 63
+    let [x, y] = joined.to_array();
+    x | y < 1 << 63
 }
 
 // Whether a row of this kind may have these points of its own.

@@ -12,7 +12,7 @@ ghost use Rattle.twkb_arrays.specs.Judging.{AcceptedAfter, RefusedAfter};
 ghost use Rattle.twkb_arrays.specs.OpenRows.{open_rows};
 
 use crate::blob_room::BlobRoom;
-use crate::gathering::{lone_point, push_judged};
+use crate::gathering::{begins_line, lone_point, push_judged, push_line};
 use crate::row::BufferRow;
 use std::alloc::{AllocError, Global};
 use std::marker::Model;
@@ -142,6 +142,9 @@ impl OpenGeometry {
         let Ok(()) = settle(&mut self.form, &mut self.lone) else {
             return Err(Stop::Memory);
         };
+        if begins_line(limits, row, ahead) {
+            return push_line(limits, &mut self.form, row, ahead);
+        }
         push_judged(limits, &mut self.form, row, ahead)
     }
 }

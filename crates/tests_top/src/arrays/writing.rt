@@ -8,19 +8,19 @@ use twkb_geom::Limits;
 
 // A writing: rows, points, room, style, and what is expected.
 #[derive(Clone, Copy)]
-struct Writing {
-    name: &'static str,
-    rows: &'static [Given],
-    row_count: usize,
-    points: &'static [BufferPoint],
-    point_count: usize,
-    room: usize,
+pub(crate) struct Writing {
+    pub(crate) name: &'static str,
+    pub(crate) rows: &'static [Given],
+    pub(crate) row_count: usize,
+    pub(crate) points: &'static [BufferPoint],
+    pub(crate) point_count: usize,
+    pub(crate) room: usize,
     // status, reason and place
-    ends: (u32, u32, u64),
+    pub(crate) ends: (u32, u32, u64),
     // blobs and bytes in the output, and bytes of all
-    given: (u64, u64, u64),
+    pub(crate) given: (u64, u64, u64),
     // what the output begins with, or more
-    blobs: &'static [u8],
+    pub(crate) blobs: &'static [u8],
 }
 
 // The most rows of a test.
@@ -34,9 +34,9 @@ const TWO: (u64, u64, u64) = (2, 18, 18);
 const FIRST: (u64, u64, u64) = (1, 11, 11);
 
 // The linestring of (1, 1) twice, and that of (1, 1) once.
-const LINE_OF_ONE_PLACE: &[u8] = b"\x02\x00\x02\x02\x02\x00\x00";
+pub(crate) const LINE_OF_ONE_PLACE: &[u8] = b"\x02\x00\x02\x02\x02\x00\x00";
 
-const LINE_OF_A_POINT: &[u8] = b"\x02\x00\x01\x02\x02";
+pub(crate) const LINE_OF_A_POINT: &[u8] = b"\x02\x00\x01\x02\x02";
 
 // The linestring from (1, 1) to (5, 5) with its size and its box.
 const FULL_LINE: &[u8] = b"\x02\x03\x09\x02\x08\x02\x08\x02\x02\x02\x08\x08";
@@ -225,7 +225,7 @@ fn has_sent(output: &[u8], blobs: &[u8], sent: usize) -> bool {
 }
 
 // Whether a writing gives its report and its blobs, and leaves the bytes after them as they were.
-fn is_written(alloc: Global, writing: &Writing) -> bool {
+pub(crate) fn is_written(alloc: Global, writing: &Writing) -> bool {
     let mut output = [UNWRITTEN; MOST_BYTES];
     let report = write(alloc, writing, Style::Plain, &mut output);
     report == report_of(writing) && has_sent(&output, writing.blobs, writing.given.1 as usize)
@@ -263,13 +263,14 @@ fn a_full_stream_has_sizes_and_boxes(rt: HostRuntime) {
 }
 
 // Whether a writing ends as it should, or lacks memory after whole blobs.
-fn is_written_or_lacks(alloc: Global, writing: &Writing) -> bool {
+pub(crate) fn is_written_or_lacks(alloc: Global, writing: &Writing) -> bool {
     let mut output = [UNWRITTEN; MOST_BYTES];
     let report = write(alloc, writing, Style::Plain, &mut output);
     if report == report_of(writing) {
         return true;
     }
     let is_whole = (report.sent == 0)
+        | (report.sent == 2)
         | (report.sent == 5)
         | (report.sent == 7)
         | (report.sent == 11);

@@ -12,10 +12,12 @@ loop-point-preserved c =
     let own = c.args.own.now in
     let i = c.loop-point.point-index in
     decides_more own (drop i own) (drop (i + 1) own) (get_or own i none) _ _ c.loop-point.invariant
-    (drop_more own i none c.loop-point-test.true) c.both_above_least-joined.ensures
+    (drop_more own i none c.loop-point-test.true) c.both_above_least-joined.ensures.two
+    c.both_above_least-joined.ensures.value
 
 pub returns : goal.returns
 returns c =
     let own = c.args.own.now in
     let i = c.loop-point.point-index in
-    decided own (drop i own) _ c.loop-point.invariant (drop_all i own (omega (arith, c.loop-point-test.false)))
+    decided own (drop i own) c.loop-point.joined c.loop-point.invariant
+    (drop_all i own (omega (arith, c.loop-point-test.false)))
