@@ -8,11 +8,11 @@ ghost use Rattle.twkb_body.specs.Ids.{ids_of};
 ghost use Rattle.twkb_body.specs.Running.{TakesRow, GoesOn, TakesFew, TakesMembers};
 
 use crate::member_ids::MemberIds;
-use crate::points::{front_eight, front_point, front_two};
+use crate::points::front_point;
 use std::alloc::AllocError;
 use twkb_flat::Flat;
-use twkb_num::{BLOCK, varint_ends};
-use twkb_points::Pt;
+use twkb_num::{BLOCK, Leb128, varint_ends};
+use twkb_points::{Pt, eight_points, two_points};
 
 /// Points that were taken.
 #[derive(Clone, Copy, Debug, PartialEq, Eq)]
@@ -99,7 +99,7 @@ fn take_few(
     ensures { TakesFew flat.old from bytes.now most result flat.new }
 {
     if *pair_bytes <= NEAR && most > 1 {
-        if let Some((first, position, used)) = front_two(from, bytes) {
+        if let Some((first, position, used)) = two_points::<Leb128>(from, bytes, 0) {
             flat.add_two(first, position)?;
             *pair_bytes = used;
             return Ok(Some((Taken { used, position }, most - 2)));
@@ -135,7 +135,7 @@ fn take_eights(
         if ends.count_ones() < NUMBERS {
             ends = varint_ends(rest);
         }
-        let Some(eight) = front_eight(position, rest, ends) else {
+        let Some(eight) = eight_points::<Leb128>(position, rest, ends) else {
             break;
         };
         flat.add_points(&eight.points)?;

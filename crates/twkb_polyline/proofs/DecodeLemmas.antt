@@ -6,7 +6,7 @@ use Rattle.std.proofs.lemmas.List.{drop_all}
 use Rattle.twkb_points.specs.Point.{Point, IsInRange, AreInRange, origin}
 use Rattle.twkb_polyline.specs.Polyline.{number_text, polyline, polyline_from, last_after, AppendsDecoded}
 use Rattle.twkb_polyline.specs.Fault.{IsPointFault, IsRefused}
-use Rattle.twkb_polyline.specs.Reading.{IsPointAt, IsPairAt, IsRefusedFrom}
+use Rattle.twkb_polyline.specs.Reading.{IsPointAt, IsRefusedFrom}
 use Rattle.twkb_polyline.specs.declared.fault.PolyReason.TheVariants.{TooMany}
 use Rattle.twkb_polyline.specs.declared.fault.PolyFault.{PolyFault}
 use Rattle.twkb_polyline.specs.declared.fault.PolyFault.TheVariants.{Memory, At}
@@ -135,27 +135,6 @@ module _ (text : List ℕ) (max at : ℕ) (cursor : Point) (old held : List Poin
     place = omega (arith, f.1, front_length);
     fault = inr (room, rw has.cursor_is at f.2);
   }
-
--- two more points are read
-pub has_read_pair : (text : List ℕ) (max at : ℕ) (cursor : Point) (old held : List Point)
-    (has : HasRead text max at cursor old held) (q r : Point) (end : ℕ) (after : List Point)
-    → IsPairAt text at cursor q r end
-    → IsInRange q × IsInRange r → length has.ps + 2 ≤ max → after ≡ held ++ q ∷ r ∷ []
-    → HasRead text max end r old after
-has_read_pair text max at cursor old held has q r end after pair inside room e =
-    let grown = held ++ q ∷ [] in
-    let one = has_read_more text max at cursor old held has q pair.middle grown pair.first inside.0
-    (omega arith) refl in
-    let some : length one.ps < max =
-    omega (
-      arith,
-      read_count text max at cursor old held has,
-      read_count text max pair.middle q old
-          grown one,
-      length-append held (q ∷ []),
-    ) in
-    has_read_more text max pair.middle q old grown one r end after pair.second inside.1 some
-    (e ∙ sym (append_assoc held (q ∷ []) (r ∷ [])))
 
 -- memory is refused for one more point
 pub no_memory : (text : List ℕ) (max at : ℕ) (cursor : Point) (old held : List Point)

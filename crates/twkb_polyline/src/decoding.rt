@@ -7,11 +7,11 @@ ghost use Rattle.twkb_polyline.specs.Fault.{IsNumberFault, IsPointFault, IsTextF
 ghost use Rattle.twkb_polyline.specs.Reading.{HasPutOn, IsNumberAt, IsPointAt, IsRefusedFrom, IsShortOfMemory};
 
 use crate::fault::{PolyFault, PolyReason};
-use crate::pairs::{eight_points, two_points};
+use crate::pairs::two_more;
 use crate::whole::{only_point, whole_point};
 use std::alloc::{AllocError, Global};
 use twkb_num::{BLOCK, Five, Partial, Step, character_ends, unzigzag};
-use twkb_points::{Cursor, PointTail, Pt};
+use twkb_points::{Cursor, PointTail, Pt, eight_points};
 
 /// Decodes a polyline of at most `max` points (Encoded Polyline Algorithm Format). Refuses any
 /// other text at its first fault. Takes memory for the points alone.
@@ -96,7 +96,7 @@ fn read_points<L: PointTail>(text: &[u8], max: u32, points: &mut L) -> Result<()
             at = end;
             continue;
         }
-        if let Some(pair) = two_points(text, at, max as usize - read, &mut cursor) {
+        if let Some(pair) = two_more(text, at, max as usize - read, &mut cursor) {
             points.put_all(&[pair.first, pair.second])?;
             at = pair.end;
             continue;
@@ -170,7 +170,7 @@ fn read_eights<L: PointTail>(
         if ends.count_ones() < NUMBERS {
             ends = character_ends(rest);
         }
-        let Some(eight) = eight_points(cursor.place(), rest, ends) else {
+        let Some(eight) = eight_points::<Five>(cursor.place(), rest, ends) else {
             break;
         };
         points.put_all(&eight.points)?;

@@ -1,7 +1,8 @@
 use Rattle.std.proofs.Common.{◌∙◌, ◌-◌, ◌<◌, ◌^◌, arith, rules, length, drop}
 use Rattle.std.proofs.lemmas.Result.{err_from_is_err_and}
 use Rattle.twkb_num.proofs.BlockLemmas.{ends_after, no_ends}
-use Rattle.twkb_polyline.proofs.PointLists.{put_fewer, put_more, put_none, rest_end, short_on}
+use Rattle.twkb_polyline.proofs.PointLists.{points_end, put_fewer, put_more, put_none, short_on}
+use Rattle.twkb_polyline.proofs.StepTexts.{rest_read}
 use Rattle.twkb_polyline.proofs.decoding.read_eights.Goals as goal
 
 pub loop-left-init : goal.loop-left-init
@@ -12,6 +13,10 @@ loop-left-init g c = record {
   within = c.requires;
   ends = no_ends 63 32 (drop c.args.start c.args.text.now) (omega arith);
 }
+
+-- the eight points in the text
+eight_at : (g : _) (c : goal.In_Some g) → ?
+eight_at g c = ?
 
 pub returns-in_err-put_all-clause-refused : goal.returns-in_err-put_all-clause-refused
 returns-in_err-put_all-clause-refused g c =
