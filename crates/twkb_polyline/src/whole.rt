@@ -4,14 +4,11 @@ ghost use Rattle.twkb_num.specs.Alphabet.{five_group};
 ghost use Rattle.twkb_points.specs.Point.{IsInRange, origin};
 ghost use Rattle.twkb_polyline.specs.Reading.{IsNumberAt, IsPointAt, IsBegun};
 
-use twkb_num::{first_two, two_in_text, unzigzag};
+use twkb_num::{CHARACTER_BITS, Five, Groups, first_two, two_in_text, unzigzag};
 use twkb_points::{Cursor, Pt};
 
-// The number of bits in a group.
-const BITS: u32 = 5;
-
 // The shift of a thirteenth group, the last that a number may have.
-const LAST_SHIFT: u32 = 12 * BITS;
+const LAST_SHIFT: u32 = 12 * CHARACTER_BITS;
 
 // Reads the point whose latitude begins at `start`, moves the cursor to it, and returns it and
 // where it ends. `None` proves nothing about the text, and the cursor stays.
@@ -62,8 +59,8 @@ pub(crate) fn only_point(text: &[u8]) -> Option<Pt>
 fn open_group(unit: u8) -> Option<u64>
     ensures { IfSome result (λ group. five_group unit ≡ Some (group, true)) }
 {
-    match unit {
-        b'_'..=b'~' => Some(u64::from(unit - b'_')),
+    match Five::from_unit(unit) {
+        Some((group, true)) => Some(u64::from(group)),
         _ => None,
     }
 }
@@ -73,8 +70,8 @@ fn open_group(unit: u8) -> Option<u64>
 fn last_group(unit: u8) -> Option<u64>
     ensures { IfSome result (λ group. five_group unit ≡ Some (group, false)) }
 {
-    match unit {
-        b'?'..=b'^' => Some(u64::from(unit - b'?')),
+    match Five::from_unit(unit) {
+        Some((group, false)) => Some(u64::from(group)),
         _ => None,
     }
 }
@@ -106,9 +103,9 @@ fn later_number(text: &[u8], start: usize, first: u64) -> Option<(i64, usize)>
         if last == 0 {
             return None;
         }
-        return Some((unzigzag(first + (last << BITS)), start + 2));
+        return Some((unzigzag(first + (last << CHARACTER_BITS)), start + 2));
     };
-    long_number(text, start, first + (second << BITS))
+    long_number(text, start, first + (second << CHARACTER_BITS))
 }
 
 // Goes on reading a number whose first two characters have this value and say that more follow.
@@ -118,7 +115,7 @@ fn long_number(text: &[u8], start: usize, begun: u64) -> Option<(i64, usize)>
     ensures { IfSome result (λ r. IsNumberAt text.now start r.0 r.1) }
 {
     let mut value = begun;
-    let mut shift = 2 * BITS;
+    let mut shift = 2 * CHARACTER_BITS;
     for at in start + 2..text.len() {
         let unit = text[at];
         let Some(group) = open_group(unit) else {
@@ -132,7 +129,7 @@ fn long_number(text: &[u8], start: usize, begun: u64) -> Option<(i64, usize)>
             return None;
         }
         value += group << shift;
-        shift += BITS;
+        shift += CHARACTER_BITS;
     }
     None
 }
