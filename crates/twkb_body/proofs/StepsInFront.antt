@@ -1,7 +1,7 @@
 -- Points that are read at once are points at the start of bytes.
 use Rattle.std.proofs.Common.{◌≡◌, ℕ, ◌<◌, ◌^◌, List, [], ◌∷◌, length, take, drop, pos, negsuc, true, sym, ap, ◌∙◌, subst}
-use Rattle.std.proofs.Common.{length-append, arith}
-use Rattle.std.specs.Prelude.{ℤ, ◌+ℤ◌}
+use Rattle.std.proofs.Common.{length-append, arith, refl, Some, None}
+use Rattle.std.specs.Prelude.{ℤ, ◌+ℤ◌, Option, IsSome, IfSome, ◌↔◌}
 use Rattle.std.proofs.lemmas.Int.{ints}
 use Rattle.std.proofs.lemmas.List.{length-take-le}
 use Rattle.twkb_num.specs.Varint.{varint_of}
@@ -33,6 +33,12 @@ step_to from to dx dy leads kept =
       y_kept = subst (λ d. in_range (from.y +ℤ d) ≡ true) y_is (passes _ there.1);
       leads = leads ∙ (λ i. point_at (from.x +ℤ x_is i) (from.y +ℤ y_is i));
     }
+
+-- the same, of a point that may be out of range
+pub step_if : (from : Point) (dx dy : ℤ) (to : Option Point) → IsSome to ↔ IsInRange (moved_by from dx dy)
+    → IfSome to (λ p. p ≡ moved_by from dx dy) → IfSome to (λ p. StepsTo from (zigzag_of dx) (zigzag_of dy) p)
+step_if from dx dy None range value = tt
+step_if from dx dy (Some p) range value = step_to from p dx dy value (subst IsInRange (sym value) (range.0 refl))
 
 -- a step to a point is the point's two numbers
 point_in_front : (from to : Point) (bytes : List ℕ) (count : ℕ)

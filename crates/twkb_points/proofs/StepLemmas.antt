@@ -1,54 +1,17 @@
 -- Steps at the start of bytes, two after two.
-use Rattle.std.proofs.Common.{◌≡◌, ℕ, ℤ, pos, negsuc, ◌+◌, ◌-◌, ◌<◌, ◌≤◌, ◌^◌, List, [], ◌∷◌, ◌++◌, length, take, drop}
+use Rattle.std.proofs.Common.{◌≡◌, ℕ, ℤ, ◌+◌, ◌-◌, List, [], ◌∷◌, ◌++◌, length, take, drop}
 use Rattle.std.proofs.Common.{refl, sym, ap, ◌∙◌, subst, append_assoc, length-append, arith}
 use Rattle.std.proofs.Math.Seq.{take-append_seam, drop-append_seam}
 use Rattle.std.proofs.lemmas.Int.{ints}
 use Rattle.std.proofs.lemmas.List.{drop-drop, take_rest, length-take-le, take-append-drop}
-use Rattle.twkb_num.specs.Alphabet.{leb_unit, five_unit}
-use Rattle.twkb_num.specs.Four.{FourInFront}
-use Rattle.twkb_num.specs.Spelling.{shortest}
-use Rattle.twkb_num.specs.Varint.{varint_of}
-use Rattle.twkb_num.specs.Zigzag.{zigzag_of}
-use Rattle.twkb_num.proofs.ZigzagLemmas.{short_form}
 use Rattle.twkb_points.specs.Near.{IsShortStep, IsNear}
 use Rattle.twkb_points.specs.Point.{Point, IsCoordinate, IsInRange, moved_by}
 use Rattle.twkb_points.proofs.NearLemmas.{near_further, near_in_range, step_near}
-use Rattle.twkb_points.specs.Steps.{TwoInFront, IsStepTo, AreStepsTo, last_of, varint_step, character_step}
+use Rattle.twkb_points.specs.Steps.{TwoInFront, IsStepTo, AreStepsTo, last_of}
 
 -- a short step is in the range of a coordinate
 pub short_is_near : (d : ℤ) → IsShortStep d → IsCoordinate d
 short_is_near d short = (omega (arith, ints, short.0), omega (arith, ints, short.1))
-
--- ---- from numbers to steps
-
--- four varints are two steps
-pub varints_step : (bytes : List ℕ) (dx dy ex ey : ℤ) (count : ℕ)
-    → FourInFront leb_unit 128 bytes (zigzag_of dx) (zigzag_of dy) (zigzag_of ex) (zigzag_of ey) count
-    → TwoInFront varint_step bytes dx dy ex ey count
-varints_step bytes dx dy ex ey count four = record {
-  within = four.within;
-  spelled = four.spelled ∙ sym (append_assoc (varint_of (zigzag_of dx)) (varint_of (zigzag_of dy)) (varint_step ex ey));
-  dx_short = short_form dx four.first_small;
-  dy_short = short_form dy four.second_small;
-  ex_short = short_form ex four.third_small;
-  ey_short = short_form ey four.fourth_small;
-}
-
--- four numbers in characters are two steps, y before x
-pub characters_step : (text : List ℕ) (dx dy ex ey : ℤ) (count : ℕ)
-    → FourInFront five_unit 32 text (zigzag_of dy) (zigzag_of dx) (zigzag_of ey) (zigzag_of ex) count
-    → TwoInFront character_step text dx dy ex ey count
-characters_step text dx dy ex ey count four = record {
-  within = four.within;
-  spelled = four.spelled ∙ sym (append_assoc (shortest five_unit 32 (zigzag_of dy))
-      (shortest five_unit 32 (zigzag_of dx)) (character_step ex ey));
-  dx_short = short_form dx four.second_small;
-  dy_short = short_form dy four.first_small;
-  ex_short = short_form ex four.fourth_small;
-  ey_short = short_form ey four.third_small;
-}
-
--- ---- from steps to points
 
 module _ (bytes_of : ℤ → ℤ → List ℕ) where
   -- two steps lead to two points

@@ -1,8 +1,9 @@
-use Rattle.std.proofs.Common.{refl}
-use Rattle.std.proofs.lemmas.Option.{IfSome_then}
 use Rattle.std.proofs.lemmas.Int.{to_z-of_z}
-use Rattle.twkb_body.proofs.StepsInFront.{step_to}
+use Rattle.twkb_body.proofs.StepsInFront.{step_if}
 use Rattle.twkb_body.proofs.points.near_steps.Goals as goal
 
 pub returns : goal.returns
-returns c = ?
+returns c =
+    let range = simp (to_z-of_z, c.ranges.dx, c.ranges.dy) at c.moved_near.ensures.range in
+    let value = simp (to_z-of_z, c.ranges.dx, c.ranges.dy) at c.moved_near.ensures.value in
+    step_if c.args.from c.args.dx c.args.dy c.moved_near.result range value
