@@ -16,12 +16,7 @@ pub(crate) struct Pair {
 // Fast path: reads the two points whose four numbers begin at `start`, if there is room for both.
 // `None` proves nothing about the text.
 #[inline(always)]
-pub(crate) fn two_more(
-    text: &[u8],
-    start: usize,
-    room: usize,
-    cursor: &mut Cursor,
-) -> Option<Pair>
+pub(crate) fn two_more(text: &[u8], start: usize, room: usize, cursor: &mut Cursor) -> Option<Pair>
     requires { start ≤ length text.now }
     ensures read { IfSome result (λ pair. ArePointsAt text.now start cursor.old
         (pair.first ∷ pair.second ∷ []) pair.second pair.end) }
