@@ -1,14 +1,13 @@
 -- Points in a text, one after the other.
 use Rattle.std.proofs.Common.{◌≡◌, ℕ, ◌+◌, ◌-◌, ◌<◌, ◌≤◌, List, [], ◌∷◌, ◌++◌, length, take, drop}
 use Rattle.std.proofs.Common.{refl, sym, ap, ◌∙◌, subst, append_assoc, append-nil, length-append}
-use Rattle.std.proofs.Common.{length-drop, arith}
-use Rattle.std.specs.Prelude.{◌-ℤ◌}
-use Rattle.std.proofs.lemmas.List.{drop-drop, take_rest}
-use Rattle.twkb_points.specs.Point.{Point, IsInRange}
+use Rattle.std.proofs.Common.{arith}
+use Rattle.twkb_points.specs.Point.{Point}
+use Rattle.twkb_points.specs.Steps.{AreStepsTo, character_step, last_of}
 use Rattle.twkb_polyline.specs.declared.fault.PolyFault.TheVariants.{Memory}
-use Rattle.twkb_polyline.specs.Polyline.{number_text}
 use Rattle.twkb_polyline.specs.Fault.{IsRefused}
-use Rattle.twkb_polyline.specs.Reading.{ArePointsAt, HasPutOn, IsPointAt, IsShortOfMemory}
+use Rattle.twkb_polyline.specs.Reading.{ArePointsAt, HasPutOn, IsShortOfMemory}
+use Rattle.twkb_polyline.proofs.StepTexts.{rest_read}
 use Rattle.twkb_polyline.proofs.DecodeLemmas.{HasRead, has_read_more, no_memory, read_count}
 
 -- ---- points in a text
@@ -60,28 +59,37 @@ put_fewer text start few room at p q old held has fits =
       appended = has.appended;
     }
 
--- more points of the text were appended
-pub put_more : (text : List ℕ) (start few room at end : ℕ) (p q r : Point)
-    (qs old held after : List Point) → HasPutOn text start few p old held q at
-    → ArePointsAt text at q qs r end → few + length qs ≤ room → after ≡ held ++ qs
-    → HasPutOn text start room p old after r end
-put_more text start few room at end p q r qs old held after has points fits appended =
+-- steps in the rest of the text are more points that were appended
+pub put_more : (text : List ℕ) (start few room at used : ℕ) (p q r : Point)
+    (qs old held after : List Point) → HasPutOn text start few p old held q at → at ≤ length text
+    → AreStepsTo character_step q (take (length text - at) (drop at text)) qs used → last_of q qs ≡ r
+    → few + length qs ≤ room → after ≡ held ++ qs → HasPutOn text start room p old after r (at + used)
+put_more text start few room at used p q r qs old held after has within steps last fits appended =
     let count = has.few in
     record {
       ps = has.ps ++ qs;
-      points = points_on has.ps qs text start at end p q r has.points points;
+      points = points_on has.ps qs text start at (at + used) p q r has.points
+          (rest_read qs text at used q r within steps last);
       few = omega (arith, length-append has.ps qs);
       appended = appended ∙ ap (λ ps. ps ++ qs) has.appended ∙ append_assoc old has.ps qs;
     }
 
+-- steps in the rest of the text end inside it
+pub rest_end : (text : List ℕ) (at used : ℕ) (q r : Point) (qs : List Point) → at ≤ length text
+    → AreStepsTo character_step q (take (length text - at) (drop at text)) qs used → last_of q qs ≡ r
+    → at + used ≤ length text
+rest_end text at used q r qs within steps last =
+    points_end qs text at (at + used) q r within (rest_read qs text at used q r within steps last)
+
 -- memory is refused for one of the points after others
-pub short_on : (text : List ℕ) (start few room at end : ℕ) (p q r : Point)
-    (qs old held : List Point) → HasPutOn text start few p old held q at
-    → ArePointsAt text at q qs r end → 0 < length qs → few + length qs ≤ room
-    → IsShortOfMemory text start room p
-short_on text start few room at end p q r [] old held has points some fits = absurd (omega arith)
-short_on text start few room at end p q r (o ∷ qs) old held has (middle, first, inside, rest) some fits =
+pub short_on : (text : List ℕ) (start few room at used : ℕ) (p q : Point) (qs old held : List Point)
+    → HasPutOn text start few p old held q at → at ≤ length text
+    → AreStepsTo character_step q (take (length text - at) (drop at text)) qs used → 0 < length qs
+    → few + length qs ≤ room → IsShortOfMemory text start room p
+short_on text start few room at used p q [] old held has within steps some fits = absurd (omega arith)
+short_on text start few room at used p q (o ∷ qs) old held has within steps some fits =
     let count = has.few in
+    let points = rest_read (o ∷ qs) text at used q (last_of o qs) within steps refl in
     record {
       ps = has.ps;
       last = q;
@@ -89,9 +97,9 @@ short_on text start few room at end p q r (o ∷ qs) old held has (middle, first
       points = has.points;
       few = omega arith;
       next = o;
-      end = middle;
-      point = first;
-      in_range = inside;
+      end = points.0;
+      point = points.1;
+      in_range = points.2;
     }
 
 -- the reader has read these points too
