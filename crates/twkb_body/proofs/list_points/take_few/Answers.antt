@@ -1,7 +1,7 @@
-use Rattle.std.proofs.Common.{[], ◌∷◌, arith, refl}
+use Rattle.std.proofs.Common.{[], ◌∷◌, arith}
 use Rattle.twkb_body.specs.Running.{TakesFew}
 use Rattle.twkb_body.proofs.PointRuns.{err_only}
-use Rattle.twkb_body.proofs.PointLists.{list_one, list_one_stop, list_points, list_points_stop}
+use Rattle.twkb_body.proofs.PointLists.{list_one, list_one_stop, list_points_stop, list_two}
 use Rattle.twkb_body.proofs.StepsInFront.{points_in_front}
 use Rattle.twkb_body.proofs.list_points.take_few.Goals as goal
 
@@ -11,7 +11,8 @@ returns-in_err-add_two c =
     c.add_two.new.self) _ c.from_residual.ensures.0 (λ e.
     list_points_stop (c.in-Some.first ∷ c.in-Some.position ∷ []) c.args.flat.now c.args.most c.in-Some.used
     c.args.from c.args.bytes.now (omega arith) (omega (arith, c.if-most-gt1.true))
-    (points_in_front _ c.args.from c.args.bytes.now c.in-Some.used c.in-Some.ensures))
+    (points_in_front (c.in-Some.first ∷ c.in-Some.position ∷ []) c.args.from c.args.bytes.now c.in-Some.used
+    c.in-Some.ensures))
 
 pub returns-in_err-add_point : goal.returns-in_err-add_point
 returns-in_err-add_point c =
@@ -23,10 +24,7 @@ returns-in_err-add_point c =
 pub returns-in-Some : goal.returns-in-Some
 returns-in-Some c =
     let some = c.if-most-gt1.true in (
-      list_points (c.in-Some.first ∷ c.in-Some.position ∷ []) c.in-Some.position 2 c.args.flat.now _ c.args.most
-          c.in-Some.used c.args.from c.args.bytes.now refl refl c.requires.line c.requires.room some
-          (points_in_front _ c.args.from c.args.bytes.now c.in-Some.used c.in-Some.ensures)
-          c.in_ok-add_two.ensures.added,
+      list_two c.requires.line c.requires.room some c.in-Some.ensures c.in_ok-add_two.ensures.added,
       omega arith,
     )
 
