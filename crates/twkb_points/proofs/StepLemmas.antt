@@ -6,7 +6,7 @@ use Rattle.std.proofs.lemmas.Int.{ints}
 use Rattle.std.proofs.lemmas.List.{drop-drop, take_rest, length-take-le, take-append-drop}
 use Rattle.twkb_points.specs.Near.{IsShortStep, IsNear}
 use Rattle.twkb_points.specs.Point.{Point, IsCoordinate, IsInRange, moved_by}
-use Rattle.twkb_points.proofs.NearLemmas.{near_further, near_in_range, step_near}
+use Rattle.twkb_points.proofs.NearLemmas.{near_further, near_in_range, step_in_range, step_near}
 use Rattle.twkb_points.specs.Steps.{TwoInFront, IsStepTo, AreStepsTo, last_of}
 
 -- a short step is in the range of a coordinate
@@ -66,6 +66,14 @@ module _ (bytes_of : ℤ → ℤ → List ℕ) where
       let next = step_near 7 p q ex ey one two.ex_short two.ey_short to_q in
       two_led from p q bytes dx dy ex ey count two to_p (near_in_range 7 p (omega arith) one) to_q
       (near_in_range 8 q (omega arith) next)
+
+  -- the second step leads to a point in range
+  pub second_kept : (from p : Point) (bytes : List ℕ) (dx dy ex ey : ℤ) (count : ℕ)
+      → TwoInFront bytes_of bytes dx dy ex ey count → IsNear 6 from → p ≡ moved_by from dx dy
+      → IsInRange (moved_by p ex ey)
+  second_kept from p bytes dx dy ex ey count two near to_p =
+      step_in_range 7 p ex ey (omega arith) (step_near 6 from p dx dy near two.dx_short two.dy_short to_p)
+      two.ex_short two.ey_short
 
   -- two short steps from a near point lead to a point near by two steps more
   pub two_further : (n : ℕ) (from p q : Point) (bytes : List ℕ) (dx dy ex ey : ℤ) (count : ℕ)

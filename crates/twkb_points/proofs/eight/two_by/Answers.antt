@@ -1,8 +1,7 @@
-use Rattle.std.proofs.Common.{◌≡◌, rules, arith, FitsSigned, w64}
+use Rattle.std.proofs.Common.{rules, arith, FitsSigned, w64}
 use Rattle.std.proofs.lemmas.Int.{to_z-of_z}
-use Rattle.twkb_points.specs.Point.{moved_by}
-use Rattle.twkb_points.proofs.NearLemmas.{step_in_range, step_near}
-use Rattle.twkb_points.proofs.StepLemmas.{two_further, two_near}
+use Rattle.twkb_points.proofs.NearLemmas.{step_in_range}
+use Rattle.twkb_points.proofs.StepLemmas.{second_kept, two_further, two_near}
 use Rattle.twkb_points.proofs.eight.two_by.Goals as goal
 
 pub step-one-requires-clause-x_in_range : goal.step-one-requires-clause-x_in_range
@@ -24,30 +23,22 @@ step-one-requires-clause-y_in_range g c =
 pub step-two-requires-clause-x_in_range : goal.step-two-requires-clause-x_in_range
 step-two-requires-clause-x_in_range g c =
     let four = c.in_ok-four.four in
-    let short = c.in_ok-four.ensures.two in
     let a_fits : FitsSigned w64 four.first = search rules in
     let b_fits : FitsSigned w64 four.second = search rules in
     let fits : FitsSigned w64 four.third = search rules in
-    let first : c.step-one.result ≡ moved_by c.args.from four.first four.second = simp to_z-of_z at
-    c.step-one.ensures in
-    let near = step_near 6 c.args.from c.step-one.result four.first four.second c.requires.near
-    short.dx_short short.dy_short first in
-    simp to_z-of_z (step_in_range 7 c.step-one.result four.third four.fourth (omega arith) near
-    short.ex_short short.ey_short).0
+    simp to_z-of_z (second_kept g.C.StepCode.bytes_of c.args.from c.step-one.result c.args.bytes.now four.first
+    four.second four.third four.fourth four.used c.in_ok-four.ensures.two c.requires.near
+    (simp to_z-of_z at c.step-one.ensures)).0
 
 pub step-two-requires-clause-y_in_range : goal.step-two-requires-clause-y_in_range
 step-two-requires-clause-y_in_range g c =
     let four = c.in_ok-four.four in
-    let short = c.in_ok-four.ensures.two in
     let a_fits : FitsSigned w64 four.first = search rules in
     let b_fits : FitsSigned w64 four.second = search rules in
     let fits : FitsSigned w64 four.fourth = search rules in
-    let first : c.step-one.result ≡ moved_by c.args.from four.first four.second = simp to_z-of_z at
-    c.step-one.ensures in
-    let near = step_near 6 c.args.from c.step-one.result four.first four.second c.requires.near
-    short.dx_short short.dy_short first in
-    simp to_z-of_z (step_in_range 7 c.step-one.result four.third four.fourth (omega arith) near
-    short.ex_short short.ey_short).1
+    simp to_z-of_z (second_kept g.C.StepCode.bytes_of c.args.from c.step-one.result c.args.bytes.now four.first
+    four.second four.third four.fourth four.used c.in_ok-four.ensures.two c.requires.near
+    (simp to_z-of_z at c.step-one.ensures)).1
 
 pub returns-clause-two : goal.returns-clause-two
 returns-clause-two g c =
