@@ -127,3 +127,10 @@ pub list_points_stop : (ps : List Point) (rs : List Row) (most count : ℕ) (fro
 list_points_stop [] rs most count from bytes some few cut = absurd (omega (arith, some))
 list_points_stop (p ∷ ps) rs most count from bytes some few (w, v, is, cut, rest) =
     list_one_stop rs most w from p bytes (omega (arith, few)) cut
+
+-- two points, by their steps, for which there is no memory
+pub list_two_stop : {rs : List Row} {most count : ℕ} {from p q : Point} {bytes : List ℕ} → 1 < most
+    → AreStepsTo varint_step from bytes (p ∷ q ∷ []) count → ListStops rs from most bytes
+list_two_stop {rs = rs} {most = most} {count = count} {from = from} {p = p} {q = q} {bytes = bytes} some steps =
+    list_points_stop (p ∷ q ∷ []) rs most count from bytes (omega arith) (omega (arith, some))
+    (points_in_front (p ∷ q ∷ []) from bytes count steps)

@@ -18,14 +18,14 @@ pub const CHARACTER_GOES_ON: u8 = 1 << CHARACTER_BITS;
 /// Algorithm Format).
 pub const FIRST_CHARACTER: u8 = b'?';
 
-// The first character that says that more follow.
-pub(crate) const FIRST_OPEN: u8 = FIRST_CHARACTER + CHARACTER_GOES_ON;
+/// The first character that says that more follow.
+pub const FIRST_OPEN: u8 = FIRST_CHARACTER + CHARACTER_GOES_ON;
 
-// The last character that ends a number.
-pub(crate) const LAST_END: u8 = FIRST_OPEN - 1;
+/// The last character that ends a number.
+pub const LAST_END: u8 = FIRST_OPEN - 1;
 
-// The last character of the alphabet.
-pub(crate) const LAST_CHARACTER: u8 = LAST_END + CHARACTER_GOES_ON;
+/// The last character of the alphabet.
+pub const LAST_CHARACTER: u8 = LAST_END + CHARACTER_GOES_ON;
 
 // How the units of an alphabet are numbered.
 #[derive(Clone, Copy)]

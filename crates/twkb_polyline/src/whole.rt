@@ -4,7 +4,8 @@ ghost use Rattle.twkb_num.specs.Alphabet.{five_group};
 ghost use Rattle.twkb_points.specs.Point.{IsInRange, origin};
 ghost use Rattle.twkb_polyline.specs.Reading.{IsNumberAt, IsPointAt, IsBegun};
 
-use twkb_num::{CHARACTER_BITS, Five, Groups, first_two, two_in_text, unzigzag};
+use twkb_num::{CHARACTER_BITS, FIRST_CHARACTER, FIRST_OPEN, LAST_CHARACTER, LAST_END};
+use twkb_num::{first_two, two_in_text, unzigzag};
 use twkb_points::{Cursor, Pt};
 
 // The shift of a thirteenth group, the last that a number may have.
@@ -54,13 +55,14 @@ pub(crate) fn only_point(text: &[u8]) -> Option<Pt>
     Some(point)
 }
 
-// The group of a character that says that more follow; `None` for any other.
+// The group of a character that says that more follow; `None` for any other. By its range, as
+// `Five::from_unit` in its place took 42 instructions more for each ring of 24 points.
 #[inline(always)]
 fn open_group(unit: u8) -> Option<u64>
     ensures { IfSome result (λ group. five_group unit ≡ Some (group, true)) }
 {
-    match Five::from_unit(unit) {
-        Some((group, true)) => Some(u64::from(group)),
+    match unit {
+        FIRST_OPEN..=LAST_CHARACTER => Some(u64::from(unit - FIRST_OPEN)),
         _ => None,
     }
 }
@@ -70,8 +72,8 @@ fn open_group(unit: u8) -> Option<u64>
 fn last_group(unit: u8) -> Option<u64>
     ensures { IfSome result (λ group. five_group unit ≡ Some (group, false)) }
 {
-    match Five::from_unit(unit) {
-        Some((group, false)) => Some(u64::from(group)),
+    match unit {
+        FIRST_CHARACTER..=LAST_END => Some(u64::from(unit - FIRST_CHARACTER)),
         _ => None,
     }
 }
