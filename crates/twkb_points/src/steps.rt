@@ -3,7 +3,9 @@ ghost use Rattle.std.specs.Prelude.{◌≡◌, ℕ, ℤ, ◌≤◌, ◌/◌, ◌
 ghost use Rattle.twkb_num.specs.Block.{AreEnds};
 ghost use Rattle.twkb_points.specs.Steps.{TwoInFront, varint_step, character_step, exchanged};
 
-use twkb_num::{Five, Four, Leb128, four_characters, four_characters_by, four_varints, four_varints_by};
+use twkb_num::{
+    Five, Four, Leb128, four_characters, four_characters_by, four_varints, four_varints_by,
+};
 
 /// A code of points: how numbers are spelled, and which axis comes first. Two steps are read as four
 /// numbers, x before y in both.

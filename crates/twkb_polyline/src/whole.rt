@@ -4,8 +4,10 @@ ghost use Rattle.twkb_num.specs.Alphabet.{five_group};
 ghost use Rattle.twkb_points.specs.Point.{IsInRange, origin};
 ghost use Rattle.twkb_polyline.specs.Reading.{IsNumberAt, IsPointAt, IsBegun};
 
-use twkb_num::{CHARACTER_BITS, FIRST_CHARACTER, FIRST_OPEN, LAST_CHARACTER, LAST_END};
-use twkb_num::{first_two, two_in_text, unzigzag};
+use twkb_num::{
+    CHARACTER_BITS, FIRST_CHARACTER, FIRST_OPEN, LAST_CHARACTER, LAST_END, first_two, two_in_text,
+    unzigzag,
+};
 use twkb_points::{Cursor, Pt};
 
 // The shift of a thirteenth group, the last that a number may have.
