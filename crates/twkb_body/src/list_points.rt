@@ -12,7 +12,9 @@ use crate::points::front_point;
 use std::alloc::AllocError;
 use twkb_flat::Flat;
 use twkb_num::{BLOCK, Leb128, varint_ends};
-use twkb_points::{Pt, eight_points, two_points};
+use twkb_points::{
+    APART, FAR_APART, NUMBERS_AT_ONCE, POINTS_AT_ONCE, Pt, eight_points, two_points,
+};
 
 /// Points that were taken.
 #[derive(Clone, Copy, Debug, PartialEq, Eq)]
@@ -27,16 +29,7 @@ pub struct Taken {
 const NEAR: usize = 16;
 
 // How many points are taken at once from a block.
-const POINTS: u64 = 8;
-
-// How many numbers these points have.
-const NUMBERS: u32 = 16;
-
-// How many bytes after a search that found points in blocks the next search begins.
-const APART: usize = 32;
-
-// How many bytes after a search in vain the next begins: far points are in no block.
-const FAR_APART: usize = 256;
+const POINTS: u64 = POINTS_AT_ONCE as u64;
 
 /// Appends to the last row the points that are complete at the start of the bytes, at most `most`,
 /// each by its steps from the one before, the first from `from`; returns what was taken, and how
@@ -132,7 +125,7 @@ fn take_eights(
     let mut ends: u64 = 0;
     while left >= POINTS {
         let rest = &bytes[used..];
-        if ends.count_ones() < NUMBERS {
+        if ends.count_ones() < NUMBERS_AT_ONCE {
             ends = varint_ends(rest);
         }
         let Some(eight) = eight_points::<Leb128>(position, rest, ends) else {

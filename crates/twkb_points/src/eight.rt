@@ -8,6 +8,18 @@ use crate::point::Pt;
 use crate::steps::StepCode;
 use twkb_num::BLOCK;
 
+/// The number of points that are read at once from a block.
+pub const POINTS_AT_ONCE: usize = 8;
+
+/// The number of their numbers.
+pub const NUMBERS_AT_ONCE: u32 = 16;
+
+/// The number of bytes from a search that found points in blocks to the next search.
+pub const APART: usize = 32;
+
+/// The number of bytes from a search in vain to the next: far points are in no block.
+pub const FAR_APART: usize = 256;
+
 /// Eight points whose numbers are complete at the start of bytes.
 #[derive(Clone, Copy, Debug, PartialEq, Eq)]
 pub struct Eight {
