@@ -1,6 +1,6 @@
 -- Points that are read at once are points at the start of bytes.
-use Rattle.std.proofs.Common.{◌≡◌, ℕ, ◌<◌, ◌^◌, List, [], ◌∷◌, length, take, drop, pos, negsuc, true, sym, ap, ◌∙◌, subst}
-use Rattle.std.proofs.Common.{length-append, arith, refl, Some, None}
+use Rattle.std.proofs.Common.{◌≡◌, ℕ, ◌<◌, ◌^◌, List, [], ◌∷◌, length, drop, pos, negsuc, true, Some, None}
+use Rattle.std.proofs.Common.{refl, sym, ap, ◌∙◌, subst, length-append, arith}
 use Rattle.std.specs.Prelude.{ℤ, ◌+ℤ◌, Option, IsSome, IfSome, ◌↔◌}
 use Rattle.std.proofs.lemmas.Int.{ints}
 use Rattle.std.proofs.lemmas.List.{length-take-le}
@@ -9,7 +9,7 @@ use Rattle.twkb_num.specs.Zigzag.{zigzag_of}
 use Rattle.twkb_num.proofs.VarintLemmas.{IsVarint-varint_of, some_byte}
 use Rattle.twkb_num.proofs.ZigzagLemmas.{unzigzag_of-zigzag_of}
 use Rattle.twkb_points.specs.Near.{IsShortStep}
-use Rattle.twkb_points.specs.Point.{Point, IsInRange, IsCoordinate, moved_by, point_at}
+use Rattle.twkb_points.specs.Point.{Point, IsInRange, moved_by, point_at}
 use Rattle.twkb_points.specs.Steps.{AreStepsTo, IsStepTo, varint_step}
 use Rattle.twkb_grammar.specs.PlainReader.{in_range}
 use Rattle.twkb_body.specs.Front.{PointInFront, PointsInFront, StepsTo}
