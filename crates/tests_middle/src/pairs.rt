@@ -3,10 +3,9 @@
 use crate::fixtures::form;
 use crate::num::STEPS;
 use std::alloc::Global;
-use twkb_body::{front_eight, front_two};
 use twkb_geom::{Flat, PointId, Work};
-use twkb_num::varint_ends;
-use twkb_points::{Eight, Pt};
+use twkb_num::{Leb128, varint_ends};
+use twkb_points::{Eight, Pt, eight_points, two_points};
 
 // Whether a point is at this place.
 fn is_here(point: Pt, place: (i64, i64)) -> bool {
@@ -16,7 +15,7 @@ fn is_here(point: Pt, place: (i64, i64)) -> bool {
 // Whether the first two differences of Google's worked example lead from here to these places, in
 // their 14 bytes.
 fn leads(from: Pt, first: (i64, i64), second: (i64, i64)) -> bool {
-    match front_two(from, STEPS) {
+    match two_points::<Leb128>(from, STEPS, 0) {
         Some((there, next, used)) => {
             is_here(there, first) & is_here(next, second) & (used == 14)
         }
@@ -31,7 +30,7 @@ fn are_two() -> bool {
         (Some(origin), Some(aside)) => {
             leads(origin, (-12020000, 3850000), (-12095000, 4070000))
                 & leads(aside, (-12020005, 3850008), (-12095005, 4070008))
-                & front_two(origin, b"\x02\x04").is_none()
+                & two_points::<Leb128>(origin, b"\x02\x04", 0).is_none()
         }
         _ => false,
     }
@@ -58,7 +57,7 @@ fn are_ones(eight: Eight) -> bool {
 
 // Whether eight points are found from here, by the ends of the bytes, and are those from (0, 0).
 fn finds_ones(from: Pt) -> bool {
-    match front_eight(from, &ONES, varint_ends(&ONES)) {
+    match eight_points::<Leb128>(from, &ONES, varint_ends(&ONES)) {
         Some(eight) => are_ones(eight),
         None => false,
     }
@@ -66,7 +65,7 @@ fn finds_ones(from: Pt) -> bool {
 
 // Whether no eight points are found from here.
 fn finds_none(from: Pt) -> bool {
-    match front_eight(from, &ONES, varint_ends(&ONES)) {
+    match eight_points::<Leb128>(from, &ONES, varint_ends(&ONES)) {
         Some(_) => false,
         None => true,
     }

@@ -15,11 +15,10 @@ pub mod Pieces
 pub mod Judging
 pub mod HeaderParts
 pub mod Admitting
-pub mod EightInFront
 pub mod Ranges
 pub mod Steps
 pub mod InFront
-pub mod TwoInFront
+pub mod StepsInFront
 pub mod WholePoints
 pub mod PartsInFront
 pub mod PointRuns

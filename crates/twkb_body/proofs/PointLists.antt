@@ -4,14 +4,16 @@ use Rattle.std.proofs.Common.{◌≡◌, ℕ, suc, ◌+◌, ◌-◌, ◌<◌, �
 use Rattle.std.proofs.Common.{subst, arith}
 use Rattle.std.proofs.lemmas.List.{take_rest}
 use Rattle.twkb_points.specs.Point.{Point}
+use Rattle.twkb_points.specs.Steps.{AreStepsTo, last_of, varint_step}
 use Rattle.twkb_tree.specs.declared.limits.TheConstants.{POINTS_CAP}
 use Rattle.twkb_tree.specs.Rows.{Row, row_points}
 use Rattle.twkb_tree.specs.RowGrowth.{EndsInLine, point_added, points_added}
-use Rattle.twkb_body.specs.Front.{PointInFront, PointsInFront, TwoInFront, last_of}
+use Rattle.twkb_body.specs.Front.{PointInFront, PointsInFront}
 use Rattle.twkb_body.specs.Running.{ListGoesOn, ListStops, in_list}
 use Rattle.twkb_body.specs.declared.list_points.Taken.{Taken}
 use Rattle.twkb_body.proofs.LinePoints.{ends_again, one_point_more}
 use Rattle.twkb_body.proofs.Pieces.{one_within}
+use Rattle.twkb_body.proofs.StepsInFront.{points_in_front}
 use Rattle.twkb_body.proofs.PointRuns.{list_runs, stage_none, stage_more, stage_judged, stage_stops}
 
 -- no points
@@ -109,17 +111,14 @@ list_points ps to n rs more most count from bytes many last line room few cut ad
     rw (← many, ← last)
     (points_lead ps rs more most count from bytes line room (omega arith) cut added)
 
--- two points
+-- two points, by their steps
 pub list_two : {rs more : List Row} {most count : ℕ} {from p q : Point} {bytes : List ℕ}
     → EndsInLine rs → length (row_points rs) + most ≤ POINTS_CAP → 1 < most
-    → TwoInFront from bytes p q count → more ≡ point_added q (point_added p rs)
+    → AreStepsTo varint_step from bytes (p ∷ q ∷ []) count → more ≡ point_added q (point_added p rs)
     → ListGoesOn rs from bytes most (record { used = count; position = q }) (most - 2) more
-list_two {from = from} {p = p} {q = q} {bytes = bytes} line room some two added =
-    let n = two.second_count in
-    let next : PointsInFront p (drop two.first_count bytes) (q ∷ []) n =
-    (n, 0, omega arith, two.goes_on, refl) in
+list_two {from = from} {p = p} {q = q} {bytes = bytes} line room some steps added =
     points_lead (p ∷ q ∷ []) _ _ _ _ from bytes line room (omega arith)
-    (two.first_count, n, two.all, two.leads, next) added
+    (points_in_front (p ∷ q ∷ []) from bytes _ steps) added
 
 -- so many points for which there is no memory
 pub list_points_stop : (ps : List Point) (rs : List Row) (most count : ℕ) (from : Point)
@@ -128,3 +127,10 @@ pub list_points_stop : (ps : List Point) (rs : List Row) (most count : ℕ) (fro
 list_points_stop [] rs most count from bytes some few cut = absurd (omega (arith, some))
 list_points_stop (p ∷ ps) rs most count from bytes some few (w, v, is, cut, rest) =
     list_one_stop rs most w from p bytes (omega (arith, few)) cut
+
+-- two points, by their steps, for which there is no memory
+pub list_two_stop : {rs : List Row} {most count : ℕ} {from p q : Point} {bytes : List ℕ} → 1 < most
+    → AreStepsTo varint_step from bytes (p ∷ q ∷ []) count → ListStops rs from most bytes
+list_two_stop {rs = rs} {most = most} {count = count} {from = from} {p = p} {q = q} {bytes = bytes} some steps =
+    list_points_stop (p ∷ q ∷ []) rs most count from bytes (omega arith) (omega (arith, some))
+    (points_in_front (p ∷ q ∷ []) from bytes count steps)

@@ -18,24 +18,11 @@ pub record PointInFront (from : Point) (bytes : List ℕ) (to : Point) (count : 
   pub within : count ≤ length bytes
   pub pair : Pair from (take count bytes) to
 
--- the first `count` bytes are two points, the second by its steps from the first
-pub record TwoInFront (from : Point) (bytes : List ℕ) (first second : Point) (count : ℕ) : Type 0 where
-  pub first_count : ℕ
-  pub second_count : ℕ
-  pub all : count ≡ first_count + second_count
-  pub leads : PointInFront from bytes first first_count
-  pub goes_on : PointInFront first (drop first_count bytes) second second_count
-
 -- the first `count` bytes are these points, each by its steps from the one before it
 abbrev pub PointsInFront : Point → List ℕ → List Point → ℕ → Type 0
 PointsInFront from bytes [] count = count ≡ 0
 PointsInFront from bytes (p ∷ ps) count = (first : ℕ) × (rest : ℕ) × (count ≡ first + rest)
     × PointInFront from bytes p first × PointsInFront p (drop first bytes) ps rest
-
--- the last of these points, or if there are none the point before them
-abbrev pub last_of : Point → List Point → Point
-last_of from [] = from
-last_of from (p ∷ ps) = last_of p ps
 
 -- two numbers spell the steps from one point to another, both in range
 pub record StepsTo (from : Point) (x y : ℕ) (to : Point) : Type 0 where

@@ -8,11 +8,13 @@ ghost use Rattle.twkb_body.specs.Ids.{ids_of};
 ghost use Rattle.twkb_body.specs.Running.{TakesRow, GoesOn, TakesFew, TakesMembers};
 
 use crate::member_ids::MemberIds;
-use crate::points::{front_eight, front_point, front_two};
+use crate::points::front_point;
 use std::alloc::AllocError;
 use twkb_flat::Flat;
-use twkb_num::{BLOCK, varint_ends};
-use twkb_points::Pt;
+use twkb_num::{BLOCK, Leb128, varint_ends};
+use twkb_points::{
+    APART, FAR_APART, NUMBERS_AT_ONCE, POINTS_AT_ONCE, Pt, eight_points, two_points,
+};
 
 /// Points that were taken.
 #[derive(Clone, Copy, Debug, PartialEq, Eq)]
@@ -27,16 +29,7 @@ pub struct Taken {
 const NEAR: usize = 16;
 
 // How many points are taken at once from a block.
-const POINTS: u64 = 8;
-
-// How many numbers these points have.
-const NUMBERS: u32 = 16;
-
-// How many bytes after a search that found points in blocks the next search begins.
-const APART: usize = 32;
-
-// How many bytes after a search in vain the next begins: far points are in no block.
-const FAR_APART: usize = 256;
+const POINTS: u64 = POINTS_AT_ONCE as u64;
 
 /// Appends to the last row the points that are complete at the start of the bytes, at most `most`,
 /// each by its steps from the one before, the first from `from`; returns what was taken, and how
@@ -99,7 +92,7 @@ fn take_few(
     ensures { TakesFew flat.old from bytes.now most result flat.new }
 {
     if *pair_bytes <= NEAR && most > 1 {
-        if let Some((first, position, used)) = front_two(from, bytes) {
+        if let Some((first, position, used)) = two_points::<Leb128>(from, bytes, 0) {
             flat.add_two(first, position)?;
             *pair_bytes = used;
             return Ok(Some((Taken { used, position }, most - 2)));
@@ -132,10 +125,10 @@ fn take_eights(
     let mut ends: u64 = 0;
     while left >= POINTS {
         let rest = &bytes[used..];
-        if ends.count_ones() < NUMBERS {
+        if ends.count_ones() < NUMBERS_AT_ONCE {
             ends = varint_ends(rest);
         }
-        let Some(eight) = front_eight(position, rest, ends) else {
+        let Some(eight) = eight_points::<Leb128>(position, rest, ends) else {
             break;
         };
         flat.add_points(&eight.points)?;

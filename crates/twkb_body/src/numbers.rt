@@ -2,16 +2,7 @@
 ghost use Rattle.std.specs.Prelude.{◌<◌, ◌^◌, IfSome};
 ghost use Rattle.twkb_body.specs.Front.{NumberInFront};
 
-use twkb_num::{GOES_ON, Leb128, Partial, Step};
-
-// The weights of the second to fifth bytes of a varint.
-const SECOND: u64 = 1 << 7;
-
-const THIRD: u64 = 1 << 14;
-
-const FOURTH: u64 = 1 << 21;
-
-const FIFTH: u64 = 1 << 28;
+use twkb_num::{FIVE_BYTES, FOUR_BYTES, GOES_ON, Leb128, Partial, Step, THREE_BYTES, TWO_BYTES};
 
 // Reads a number of five bytes or fewer at the start of the bytes, and returns it and how many
 // bytes it has; `None` if it is not complete or has more. Nearly all numbers take this path, since
@@ -28,22 +19,22 @@ pub(crate) fn short_number(bytes: &[u8]) -> Option<(u64, usize)>
     let low = u64::from(first - GOES_ON);
     let second = *bytes.get(1)?;
     if second < GOES_ON {
-        return Some((low + u64::from(second) * SECOND, 2));
+        return Some((low + u64::from(second) * TWO_BYTES, 2));
     }
-    let low = low + u64::from(second - GOES_ON) * SECOND;
+    let low = low + u64::from(second - GOES_ON) * TWO_BYTES;
     let third = *bytes.get(2)?;
     if third < GOES_ON {
-        return Some((low + u64::from(third) * THIRD, 3));
+        return Some((low + u64::from(third) * THREE_BYTES, 3));
     }
-    let low = low + u64::from(third - GOES_ON) * THIRD;
+    let low = low + u64::from(third - GOES_ON) * THREE_BYTES;
     let fourth = *bytes.get(3)?;
     if fourth < GOES_ON {
-        return Some((low + u64::from(fourth) * FOURTH, 4));
+        return Some((low + u64::from(fourth) * FOUR_BYTES, 4));
     }
-    let low = low + u64::from(fourth - GOES_ON) * FOURTH;
+    let low = low + u64::from(fourth - GOES_ON) * FOUR_BYTES;
     let fifth = *bytes.get(4)?;
     if fifth < GOES_ON {
-        return Some((low + u64::from(fifth) * FIFTH, 5));
+        return Some((low + u64::from(fifth) * FIVE_BYTES, 5));
     }
     None
 }

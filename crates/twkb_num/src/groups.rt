@@ -3,6 +3,10 @@ ghost use Rattle.std.specs.Prelude.{◌≡◌, ℕ, ◌<◌, ◌^◌, Bool, Opti
 ghost use Rattle.twkb_num.specs.Alphabet.{AlphabetLaws, leb_unit, leb_group, five_unit, five_group};
 ghost use Rattle.twkb_num.specs.AlphabetLemmas.{leb_laws, five_laws};
 
+use crate::alphabet::{
+    CHARACTER_BITS, FIRST_CHARACTER, FIRST_OPEN, GOES_ON, LAST_CHARACTER, LAST_END, VARINT_BITS,
+};
+
 /// An alphabet that spells numbers of 64 bits by groups of bits, low group first. Each unit is a
 /// byte that stands for a group and says whether more follow.
 pub trait Groups {
@@ -35,15 +39,12 @@ pub trait Groups {
     ghost laws: { AlphabetLaws BITS MAX_LEN unit_of group_of };
 }
 
-/// The bit that is set in each byte of a varint but its last (TWKB specification; LEB128).
-pub const GOES_ON: u8 = 0x80;
-
 /// The bytes of varints: seven bits each, 128 added if more follow (TWKB specification; LEB128).
 #[derive(Clone, Copy, Debug, PartialEq, Eq)]
 pub struct Leb128;
 
 impl Groups for Leb128 {
-    const BITS: u32 = 7;
+    const BITS: u32 = VARINT_BITS;
 
     ghost BITS = { 7 };
 
@@ -76,7 +77,7 @@ impl Groups for Leb128 {
 pub struct Five;
 
 impl Groups for Five {
-    const BITS: u32 = 5;
+    const BITS: u32 = CHARACTER_BITS;
 
     ghost BITS = { 5 };
 
@@ -89,13 +90,17 @@ impl Groups for Five {
     ghost group_of = { five_group };
 
     fn to_unit(group: u8, more: bool) -> u8 {
-        if more { group + b'_' } else { group + b'?' }
+        if more {
+            group + FIRST_OPEN
+        } else {
+            group + FIRST_CHARACTER
+        }
     }
 
     fn from_unit(unit: u8) -> Option<(u8, bool)> {
         match unit {
-            b'?'..=b'^' => Some((unit - b'?', false)),
-            b'_'..=b'~' => Some((unit - b'_', true)),
+            FIRST_CHARACTER..=LAST_END => Some((unit - FIRST_CHARACTER, false)),
+            FIRST_OPEN..=LAST_CHARACTER => Some((unit - FIRST_OPEN, true)),
             _ => None,
         }
     }

@@ -2,23 +2,22 @@
 ghost use Rattle.std.specs.Prelude.{◌≡◌, ◌≤◌, length};
 ghost use Rattle.twkb_num.specs.Varint.{varint_of};
 
-// The number of bits that a byte of a varint holds.
-const BITS: u32 = 7;
+use crate::alphabet::VARINT_BITS;
 
 // The place of the highest bit in a number of 64 bits.
 const TOP: u32 = 63;
 
-// The least number of two bytes (TWKB specification; LEB128).
-pub(crate) const TWO_BYTES: u64 = 1 << 7;
+/// The least number of two bytes (TWKB specification; LEB128).
+pub const TWO_BYTES: u64 = 1 << VARINT_BITS;
 
-// The least number of three bytes.
-pub(crate) const THREE_BYTES: u64 = 1 << 14;
+/// The least number of three bytes.
+pub const THREE_BYTES: u64 = 1 << (2 * VARINT_BITS);
 
-// The least number of four bytes.
-pub(crate) const FOUR_BYTES: u64 = 1 << 21;
+/// The least number of four bytes.
+pub const FOUR_BYTES: u64 = 1 << (3 * VARINT_BITS);
 
-// The least number of five bytes.
-pub(crate) const FIVE_BYTES: u64 = 1 << 28;
+/// The least number of five bytes.
+pub const FIVE_BYTES: u64 = 1 << (4 * VARINT_BITS);
 
 /// The number of bytes in the shortest varint of a number, 1 to 10 (TWKB specification; LEB128).
 /// Takes no memory.
@@ -30,5 +29,5 @@ pub fn varint_len(number: u64) -> u32
 {
     // setting the last bit makes sure that there is a highest one, and changes no length
     let odd = number / 2 * 2 + 1;
-    (TOP - odd.leading_zeros()) / BITS + 1
+    (TOP - odd.leading_zeros()) / VARINT_BITS + 1
 }

@@ -2,7 +2,7 @@
 ghost use Rattle.std.specs.Prelude.{◌≡◌, ◌≤◌, ◌<◌, ◌+◌, ◌%◌, ◌++◌, ◌^◌, length, if◌then◌else◌, nat_lt};
 ghost use Rattle.twkb_num.specs.Varint.{varint_of};
 
-use crate::groups::GOES_ON;
+use crate::alphabet::GOES_ON;
 use crate::piece::Piece;
 use crate::varint::{FIVE_BYTES, THREE_BYTES, TWO_BYTES};
 use std::simd::u64x2;

@@ -7,7 +7,7 @@ ghost use Rattle.twkb_num.specs.Spelling.{shortest};
 ghost use Rattle.twkb_num.specs.WholeText.{both_ends, eight_groups, AreMarked, AreTwoRuns};
 ghost use Rattle.twkb_num.specs.Zigzag.{zigzag_of};
 
-use crate::alphabet::POLYLINES;
+use crate::alphabet::{FIRST_OPEN, POLYLINES};
 use crate::four::joined;
 use crate::signed::unzigzag;
 use crate::word::eight_bytes;
@@ -65,7 +65,7 @@ fn second_end(text: &[u8]) -> Option<usize>
         return None;
     }
     let ends = u8x16::from_slice(text)
-        .simd_lt(u8x16::splat(POLYLINES.base + POLYLINES.radix))
+        .simd_lt(u8x16::splat(FIRST_OPEN))
         .to_bitmask();
     let later = ends & ends.wrapping_sub(1);
     if later == 0 {
@@ -96,7 +96,7 @@ fn ends_of(units: u8x16) -> Option<u64>
     ensures { IfSome result (AreMarked units) }
 {
     let outside = (units - u8x16::splat(1))
-        .simd_gt(u8x16::splat(62))
+        .simd_gt(u8x16::splat(POLYLINES.most - 1))
         .to_bitmask();
     if outside != 0 {
         return None;

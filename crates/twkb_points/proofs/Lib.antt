@@ -2,6 +2,7 @@
 pub mod DifferenceLemmas
 pub mod PointLemmas
 pub mod NearLemmas
+pub mod StepLemmas
 pub mod ExtentLemmas
 pub mod BoxLemmas
 pub mod TailLemmas

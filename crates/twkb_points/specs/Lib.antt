@@ -3,4 +3,5 @@ pub mod Differences
 pub mod Extent
 pub mod Near
 pub mod Point
+pub mod Steps
 pub mod Boxes

@@ -75,8 +75,7 @@ impl Cursor {
         Some(to)
     }
 
-    /// Like `add`, for `dx` and `dy` in the range of a coordinate: no sum passes 64 bits, so one
-    /// test of the point is enough.
+    /// Like `add`, for `dx` and `dy` in the range of a coordinate, by one test of the point.
     #[inline(always)]
     pub fn add_near(&mut self, dx: i64, dy: i64) -> Option<Pt>
         requires near_x { IsCoordinate dx }
@@ -86,7 +85,7 @@ impl Cursor {
         ensures moved { IfSome result (λ p. self.new ≡ p) }
         ensures unmoved { IfNone result (self.new ≡ self.old) }
     {
-        let to = Pt::try_new(self.at.x() + dx, self.at.y() + dy)?;
+        let to = self.at.moved_near(dx, dy)?;
         self.at = to;
         Some(to)
     }

@@ -1,6 +1,24 @@
-//! Eight points that are read at once.
+//! Points whose numbers are complete at the start of bytes, two and eight at a time.
+ghost use Rattle.std.specs.Prelude.{◌≡◌, ℕ, ◌+◌, ◌≤◌, ◌/◌, ◌^◌, [], ◌∷◌, IfSome, length, drop};
+ghost use Rattle.twkb_num.specs.Block.{AreEnds};
+ghost use Rattle.twkb_points.specs.Near.{IsNear};
+ghost use Rattle.twkb_points.specs.Steps.{AreStepsTo, last_of};
 
 use crate::point::Pt;
+use crate::steps::StepCode;
+use twkb_num::BLOCK;
+
+/// The number of points that are read at once from a block.
+pub const POINTS_AT_ONCE: usize = 8;
+
+/// The number of their numbers.
+pub const NUMBERS_AT_ONCE: u32 = 16;
+
+/// The number of bytes from a search that found points in blocks to the next search.
+pub const APART: usize = 32;
+
+/// The number of bytes from a search in vain to the next: far points are in no block.
+pub const FAR_APART: usize = 256;
 
 /// Eight points whose numbers are complete at the start of bytes.
 #[derive(Clone, Copy, Debug, PartialEq, Eq)]
@@ -12,4 +30,73 @@ pub struct Eight {
     pub used: usize,
     /// The ends of the numbers after these bytes.
     pub ends: u64,
+}
+
+/// Fast path: reads the two points that begin at `start`, and the number of their bytes. `None` unless
+/// each number is a shortest spelling of at most four units, both points are in range, and there are
+/// sixteen bytes or more; it proves nothing about the bytes. Takes no memory.
+#[inline(always)]
+pub fn two_points<C: StepCode>(from: Pt, bytes: &[u8], start: usize) -> Option<(Pt, Pt, usize)>
+    requires { start ≤ length bytes.now }
+    ensures { IfSome result (λ two. AreStepsTo C.bytes_of from (drop start bytes.now) (two.0 ∷ two.1 ∷ []) two.2) }
+{
+    let four = C::two_steps(bytes, start)?;
+    let first = from.moved_near(four.first, four.second)?;
+    let second = first.moved_near(four.third, four.fourth)?;
+    Some((first, second, four.used))
+}
+
+// Two points by the ends of their numbers, from a point so near the origin that the range needs no
+// test. The ends, shifted right by the number of bytes used, are the ends of the bytes that remain.
+#[inline(always)]
+fn two_by<C: StepCode>(from: Pt, bytes: &[u8], ends: u64) -> Option<(Pt, Pt, usize)>
+    requires near { IsNear 6 from }
+    requires long { 16 ≤ length bytes.now }
+    requires ends { AreEnds C.base C.radix bytes.now ends }
+    ensures two { IfSome result (λ two. AreStepsTo C.bytes_of from bytes.now (two.0 ∷ two.1 ∷ []) two.2) }
+    ensures onward { IfSome result (λ two. (n : ℕ) → IsNear n from → IsNear (n + 2) two.1) }
+    ensures few { IfSome result (λ two. two.2 ≤ 16) }
+    ensures rest { IfSome result (λ two. AreEnds C.base C.radix (drop two.2 bytes.now) (ends / 2 ^ two.2)) }
+{
+    let four = C::two_steps_by(bytes, ends)?;
+    let one = from.step(four.first, four.second);
+    let two = one.step(four.third, four.fourth);
+    Some((one, two, four.used))
+}
+
+/// Fast path: reads the eight points of the first sixteen numbers, by the ends of numbers in these
+/// bytes (`StepCode::two_steps_by`); only from an inner point, so that none of the eight can be out of
+/// range. `None` proves nothing about the bytes. Takes no memory.
+#[inline(always)]
+pub fn eight_points<C: StepCode>(from: Pt, bytes: &[u8], ends: u64) -> Option<Eight>
+    requires { AreEnds C.base C.radix bytes.now ends }
+    ensures points { IfSome result (λ eight. AreStepsTo C.bytes_of from bytes.now eight.points eight.used) }
+    ensures count { IfSome result (λ eight. length eight.points ≡ 8) }
+    ensures last { IfSome result (λ eight. last_of from eight.points ≡ eight.last) }
+    ensures rest { IfSome result (λ eight. AreEnds C.base C.radix (drop eight.used bytes.now) eight.ends) }
+{
+    if bytes.len() < BLOCK {
+        return None;
+    }
+    if !from.is_inner() {
+        return None;
+    }
+    let (a, b, two) = two_by::<C>(from, bytes, ends)?;
+    let (c, d, more) = two_by::<C>(b, &bytes[two..], ends >> (two as u32))?;
+    // tested again, so that the first four points are worked out before the others are looked for,
+    // and fewer values wait in memory
+    if !d.is_inner() {
+        return None;
+    }
+    let four = two + more;
+    let (e, f, more) = two_by::<C>(d, &bytes[four..], ends >> (four as u32))?;
+    let six = four + more;
+    let others = ends >> (six as u32);
+    let (g, h, more) = two_by::<C>(f, &bytes[six..], others)?;
+    Some(Eight {
+        points: [a, b, c, d, e, f, g, h],
+        last: h,
+        used: six + more,
+        ends: others >> (more as u32),
+    })
 }

@@ -104,6 +104,18 @@ impl Pt {
         Some(Pt { x, y })
     }
 
+    /// The point at `dx` and `dy` from this one, each in the range of a coordinate: no sum passes 64
+    /// bits, so one test of the point is enough. `None` if that is out of range. Takes no memory.
+    #[inline(always)]
+    pub fn moved_near(self, dx: i64, dy: i64) -> Option<Pt>
+        requires near_x { IsCoordinate dx }
+        requires near_y { IsCoordinate dy }
+        ensures range { IsSome result ↔ IsInRange (moved_by self dx dy) }
+        ensures value { IfSome result (λ p. p ≡ moved_by self dx dy) }
+    {
+        Pt::try_new(self.x() + dx, self.y() + dy)
+    }
+
     /// The point that lies `dx` from this one along x, or `None` if that is out of range. Takes no
     /// memory.
     pub fn moved_x(self, dx: i64) -> Option<Pt>

@@ -4,9 +4,10 @@ use Rattle.std.proofs.Common.{inr, refl, sym, ◌∙◌, ap, arith, append_assoc
 use Rattle.std.proofs.Common.{length-append, length-drop}
 use Rattle.std.proofs.lemmas.List.{drop_all}
 use Rattle.twkb_points.specs.Point.{Point, IsInRange, AreInRange, origin}
-use Rattle.twkb_polyline.specs.Polyline.{number_text, polyline, polyline_from, last_after, AppendsDecoded}
+use Rattle.twkb_points.specs.Steps.{last_of}
+use Rattle.twkb_polyline.specs.Polyline.{number_text, polyline, polyline_from, AppendsDecoded}
 use Rattle.twkb_polyline.specs.Fault.{IsPointFault, IsRefused}
-use Rattle.twkb_polyline.specs.Reading.{IsPointAt, IsPairAt, IsRefusedFrom}
+use Rattle.twkb_polyline.specs.Reading.{IsPointAt, IsRefusedFrom}
 use Rattle.twkb_polyline.specs.declared.fault.PolyReason.TheVariants.{TooMany}
 use Rattle.twkb_polyline.specs.declared.fault.PolyFault.{PolyFault}
 use Rattle.twkb_polyline.specs.declared.fault.PolyFault.TheVariants.{Memory, At}
@@ -17,18 +18,18 @@ use Rattle.twkb_polyline.proofs.PointLemmas.{text_left}
 -- the text of some points and one more
 pub polyline_from-push : (p : Point) (ps : List Point) (q : Point)
     → polyline_from p (ps ++ q ∷ []) ≡ polyline_from p ps
-    ++ (number_text (q.y -ℤ (last_after p ps).y) ++ (number_text
-    (q.x -ℤ (last_after p ps).x) ++ []))
+    ++ (number_text (q.y -ℤ (last_of p ps).y) ++ (number_text
+    (q.x -ℤ (last_of p ps).x) ++ []))
 polyline_from-push p [] q = refl
 polyline_from-push p (r ∷ ps) q =
-    let tail = number_text (q.y -ℤ (last_after r ps).y) ++ (number_text (q.x -ℤ (last_after r ps).x) ++ []) in
+    let tail = number_text (q.y -ℤ (last_of r ps).y) ++ (number_text (q.x -ℤ (last_of r ps).x) ++ []) in
     ap (λ t. number_text (r.y -ℤ p.y) ++ (number_text (r.x -ℤ p.x) ++ t)) (polyline_from-push r ps q)
     ∙ ap (λ t. number_text (r.y -ℤ p.y) ++ t) (sym (append_assoc (number_text (r.x -ℤ p.x)) (polyline_from r ps) tail))
     ∙ sym (append_assoc (number_text (r.y -ℤ p.y)) (number_text (r.x -ℤ p.x) ++ polyline_from r ps) tail)
 
-pub last_after-push : (p : Point) (ps : List Point) (q : Point) → last_after p (ps ++ q ∷ []) ≡ q
-last_after-push p [] q = refl
-last_after-push p (r ∷ ps) q = last_after-push r ps q
+pub last_of-push : (p : Point) (ps : List Point) (q : Point) → last_of p (ps ++ q ∷ []) ≡ q
+last_of-push p [] q = refl
+last_of-push p (r ∷ ps) q = last_of-push r ps q
 
 pub AreInRange-push : (ps : List Point) (q : Point) → AreInRange ps → IsInRange q → AreInRange (ps ++ q ∷ [])
 AreInRange-push [] q are is = (is, tt)
@@ -44,7 +45,7 @@ pub record HasRead (text : List ℕ) (max at : ℕ) (cursor : Point) (old held :
   pub told : polyline ps ++ drop at text ≡ text
   pub in_range : AreInRange ps
   pub few : length ps ≤ max
-  pub cursor_is : cursor ≡ last_after origin ps
+  pub cursor_is : cursor ≡ last_of origin ps
   pub within : at ≤ length text
 
 -- before the first point nothing is read
@@ -75,8 +76,8 @@ module _ (text : List ℕ) (max at : ℕ) (cursor : Point) (old held : List Poin
       → IsInRange q → length has.ps < max → after ≡ held ++ q ∷ []
       → HasRead text max end q old after
   has_read_more q end after point inside room e =
-      let dy = number_text (q.y -ℤ (last_after origin has.ps).y) in
-      let dx = number_text (q.x -ℤ (last_after origin has.ps).x) in
+      let dy = number_text (q.y -ℤ (last_of origin has.ps).y) in
+      let dx = number_text (q.x -ℤ (last_of origin has.ps).x) in
       let rest = drop end text in
       let split : drop at text ≡ dy ++ (dx ++ rest) = rw has.cursor_is at point.split in
       record {
@@ -91,7 +92,7 @@ module _ (text : List ℕ) (max at : ℕ) (cursor : Point) (old held : List Poin
             ∙ has.told;
         in_range = AreInRange-push has.ps q has.in_range inside;
         few = omega (arith, length-append has.ps (q ∷ []));
-        cursor_is = sym (last_after-push origin has.ps q);
+        cursor_is = sym (last_of-push origin has.ps q);
         within = point.within;
       }
 
@@ -135,27 +136,6 @@ module _ (text : List ℕ) (max at : ℕ) (cursor : Point) (old held : List Poin
     place = omega (arith, f.1, front_length);
     fault = inr (room, rw has.cursor_is at f.2);
   }
-
--- two more points are read
-pub has_read_pair : (text : List ℕ) (max at : ℕ) (cursor : Point) (old held : List Point)
-    (has : HasRead text max at cursor old held) (q r : Point) (end : ℕ) (after : List Point)
-    → IsPairAt text at cursor q r end
-    → IsInRange q × IsInRange r → length has.ps + 2 ≤ max → after ≡ held ++ q ∷ r ∷ []
-    → HasRead text max end r old after
-has_read_pair text max at cursor old held has q r end after pair inside room e =
-    let grown = held ++ q ∷ [] in
-    let one = has_read_more text max at cursor old held has q pair.middle grown pair.first inside.0
-    (omega arith) refl in
-    let some : length one.ps < max =
-    omega (
-      arith,
-      read_count text max at cursor old held has,
-      read_count text max pair.middle q old
-          grown one,
-      length-append held (q ∷ []),
-    ) in
-    has_read_more text max pair.middle q old grown one r end after pair.second inside.1 some
-    (e ∙ sym (append_assoc held (q ∷ []) (r ∷ [])))
 
 -- memory is refused for one more point
 pub no_memory : (text : List ℕ) (max at : ℕ) (cursor : Point) (old held : List Point)

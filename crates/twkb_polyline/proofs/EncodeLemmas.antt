@@ -5,7 +5,8 @@ use Rattle.std.proofs.Common.{append-nil, drop-cons, drop-drop, add-one}
 use Rattle.std.proofs.lemmas.List.{take-append-drop}
 use Rattle.std.specs.Simd.{first_chunks}
 use Rattle.twkb_points.specs.Point.{Point}
-use Rattle.twkb_polyline.specs.Polyline.{number_text, polyline_from, last_after}
+use Rattle.twkb_points.specs.Steps.{last_of}
+use Rattle.twkb_polyline.specs.Polyline.{number_text, polyline_from}
 use Rattle.twkb_polyline.specs.Spelling.{points_of}
 
 -- Of the points after `start`, those in `left` are still to be written: the text of the others
@@ -14,24 +15,24 @@ pub record HasPut (start : Point) (points left : List Point) (cursor : Point) (o
   pub put : List ℕ
   pub held : text ≡ old ++ put
   pub told : put ++ polyline_from cursor left ≡ polyline_from start points
-  pub ends : last_after cursor left ≡ last_after start points
+  pub ends : last_of cursor left ≡ last_of start points
 
 -- the text of two lists of points, one after the other
 polyline_from-append : (p : Point) (ps qs : List Point)
-    → polyline_from p (ps ++ qs) ≡ polyline_from p ps ++ polyline_from (last_after p ps) qs
+    → polyline_from p (ps ++ qs) ≡ polyline_from p ps ++ polyline_from (last_of p ps) qs
 polyline_from-append p [] qs = refl
 polyline_from-append p (r ∷ ps) qs =
     let dy = number_text (r.y -ℤ p.y) in
     let dx = number_text (r.x -ℤ p.x) in
-    let tail = polyline_from (last_after r ps) qs in
+    let tail = polyline_from (last_of r ps) qs in
     ap (λ t. dy ++ (dx ++ t)) (polyline_from-append r ps qs)
     ∙ ap (λ t. dy ++ t) (sym (append_assoc dx (polyline_from r ps) tail))
     ∙ sym (append_assoc dy (dx ++ polyline_from r ps) tail)
 
 -- the last point of two lists, one after the other
-last_after-append : (p : Point) (ps qs : List Point) → last_after p (ps ++ qs) ≡ last_after (last_after p ps) qs
-last_after-append p [] qs = refl
-last_after-append p (r ∷ ps) qs = last_after-append r ps qs
+last_of-append : (p : Point) (ps qs : List Point) → last_of p (ps ++ qs) ≡ last_of (last_of p ps) qs
+last_of-append p [] qs = refl
+last_of-append p (r ∷ ps) qs = last_of-append r ps qs
 
 -- before the first point nothing is written
 pub has_put_none : (start : Point) (points : List Point) (old : List ℕ) → HasPut start points points start old old
@@ -40,7 +41,7 @@ has_put_none start points old = record { put = []; held = sym (append-nil old); 
 -- some more points are written
 pub has_put_more : (start : Point) (points part left : List Point) (p q : Point)
     (old text after : List ℕ) → HasPut start points (part ++ left) p old text
-    → q ≡ last_after p part → after ≡ text ++ polyline_from p part → HasPut start points left q old after
+    → q ≡ last_of p part → after ≡ text ++ polyline_from p part → HasPut start points left q old after
 has_put_more start points part left p q old text after has moved e = record {
   put = has.put ++ polyline_from p part;
   held = e ∙ ap (λ t. t ++ polyline_from p part) has.held ∙ append_assoc old has.put (polyline_from p part);
@@ -49,13 +50,13 @@ has_put_more start points part left p q old text after has moved e = record {
       ∙ ap (λ r. has.put ++ (polyline_from p part ++ polyline_from r left)) moved
       ∙ ap (λ t. has.put ++ t) (sym (polyline_from-append p part left))
       ∙ has.told;
-  ends = ap (λ r. last_after r left) moved ∙ sym (last_after-append p part left) ∙ has.ends;
+  ends = ap (λ r. last_of r left) moved ∙ sym (last_of-append p part left) ∙ has.ends;
 }
 
 -- the first points of all are written
 pub has_put_first : (start : Point) (points part left : List Point) (q : Point) (old after : List ℕ)
     → points ≡ part ++ left
-    → q ≡ last_after start part → after ≡ old ++ polyline_from start part → HasPut start points left q old after
+    → q ≡ last_of start part → after ≡ old ++ polyline_from start part → HasPut start points left q old after
 has_put_first start points part left q old after split moved e =
     has_put_more start points part left start q old old after
     (subst (λ ps. HasPut start points ps start old old) split (has_put_none start points old))
@@ -63,8 +64,8 @@ has_put_first start points part left q old after split moved e =
 
 -- after all points the cursor is at the last one
 pub has_put_last : (start : Point) (points left : List Point) (p : Point) (old text : List ℕ)
-    → HasPut start points left p old text → left ≡ [] → p ≡ last_after start points
-has_put_last start points left p old text has done = sym (ap (last_after p) done) ∙ has.ends
+    → HasPut start points left p old text → left ≡ [] → p ≡ last_of start points
+has_put_last start points left p old text has done = sym (ap (last_of p) done) ∙ has.ends
 
 -- a text appended to what was written
 pub put_behind : (old put more text middle : List ℕ) → text ≡ old ++ put → middle ≡ text ++ more

@@ -5,10 +5,10 @@ pub mod FarLemmas
 pub mod GroupLemmas
 pub mod LaneLemmas
 pub mod NumberLemmas
-pub mod PairLemmas
 pub mod PointLemmas
 pub mod PointLists
 pub mod ScanLemmas
+pub mod StepTexts
 pub mod StopLemmas
 pub mod OneFault
 pub mod TextOrFault

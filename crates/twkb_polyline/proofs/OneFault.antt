@@ -12,7 +12,8 @@ use Rattle.twkb_num.specs.Zigzag.{zigzag_of}
 use Rattle.twkb_num.proofs.LawLemmas.{zigzag_one, same_digits, digits_below, number_of-digits}
 use Rattle.twkb_num.proofs.SpellingLemmas.{length-units_of, digits_some}
 use Rattle.twkb_points.specs.Point.{Point, IsCoordinate, IsInRange, AreInRange, origin}
-use Rattle.twkb_polyline.specs.Polyline.{number_text, polyline, polyline_from, last_after, DecodesTo, AppendsDecoded}
+use Rattle.twkb_points.specs.Steps.{last_of}
+use Rattle.twkb_polyline.specs.Polyline.{number_text, polyline, polyline_from, DecodesTo, AppendsDecoded}
 use Rattle.twkb_polyline.specs.Fault.{IsNumberFault, StartsWithNumber, IsCoordinateFault}
 use Rattle.twkb_polyline.specs.Fault.{IsLongitudeFault, IsPointFault, IsNextFault, IsTextFault}
 use Rattle.twkb_polyline.specs.Fault.{IsRefused}
@@ -202,7 +203,7 @@ faults_one : (ps qs : List Point) (p : Point) (c m n max : ℕ) (rest left : Lis
     (r s : PolyReason) → IsInRange p → AreInRange ps → AreInRange qs → c + length ps ≡ m
     → c + length qs ≡ n
     → polyline_from p ps ++ rest ≡ polyline_from p qs ++ left
-    → IsNextFault (last_after p ps) m max rest k r → IsNextFault (last_after p qs) n max left l s
+    → IsNextFault (last_of p ps) m max rest k r → IsNextFault (last_of p qs) n max left l s
     → (length (polyline_from p ps) + k ≡ length (polyline_from p qs) + l) × (r ≡ s)
 faults_one [] [] p c m n max rest left k l r s inp a b em en e f g =
     let count : m ≡ n = omega arith in
@@ -210,17 +211,17 @@ faults_one [] [] p c m n max rest left k l r s inp a b em en e f g =
     let same = next_one p n max left k l r s (rw count at here) g in
     (omega (arith, same.0), same.1)
 faults_one [] (q ∷ qs) p c m n max rest left k l r s inp a b em en e f g =
-    let few = next_within (last_after p (q ∷ qs)) n max left l s g in
+    let few = next_within (last_of p (q ∷ qs)) n max left l s g in
     absurd (next_none p q m max rest (polyline_from q qs ++ left) k r inp b.0 (omega arith) f (e ∙ regroup p q qs left))
 faults_one (q ∷ qs) [] p c m n max rest left k l r s inp a b em en e f g =
-    let few = next_within (last_after p (q ∷ qs)) m max rest k r f in
+    let few = next_within (last_of p (q ∷ qs)) m max rest k r f in
     absurd (next_none p q n max left (polyline_from q qs ++ rest) l s inp a.0 (omega arith) g
     (sym e ∙ regroup p q qs rest))
 faults_one (q ∷ qs) (t ∷ ts) p c m n max rest left k l r s inp a b em en e f g =
     let first = first_one p q t qs ts rest left e in
     let tail : polyline_from t qs ++ rest ≡ polyline_from t ts ++ left =
     ap (λ z. polyline_from z qs ++ rest) (sym first.0) ∙ first.1 in
-    let moved = subst (λ (z : Point). IsNextFault (last_after z qs) m max rest k r) first.0 f in
+    let moved = subst (λ (z : Point). IsNextFault (last_of z qs) m max rest k r) first.0 f in
     let same = faults_one qs ts t (suc c) m n max rest left k l r s b.0 a.1 b.1 (omega arith)
     (omega arith) tail moved g in
     let heads = ap (head_length p) first.0 in
@@ -232,7 +233,7 @@ faults_none : (ps qs : List Point) (p : Point) (c m max : ℕ) (rest : List ℕ)
     (r : PolyReason) → IsInRange p → AreInRange ps → AreInRange qs → c + length ps ≡ m
     → c + length qs ≤ max
     → (rest ≡ [] → ⊥) → polyline_from p ps ++ rest ≡ polyline_from p qs
-    → IsNextFault (last_after p ps) m max rest k r → ⊥
+    → IsNextFault (last_of p ps) m max rest k r → ⊥
 faults_none [] [] p c m max rest k r inp a b em few some e f = some e
 faults_none [] (q ∷ qs) p c m max rest k r inp a b em few some e f = next_none p q m max rest
     (polyline_from q qs) k r inp b.0 (omega arith) f e
@@ -243,7 +244,7 @@ faults_none (q ∷ qs) (t ∷ ts) p c m max rest k r inp a b em few some e f =
     let tail : polyline_from t qs ++ rest ≡ polyline_from t ts =
     ap (λ z. polyline_from z qs ++ rest) (sym first.0) ∙ first.1
     ∙ append-nil (polyline_from t ts) in
-    let moved = subst (λ (z : Point). IsNextFault (last_after z qs) m max rest k r) first.0 f in
+    let moved = subst (λ (z : Point). IsNextFault (last_of z qs) m max rest k r) first.0 f in
     faults_none qs ts t (suc c) m max rest k r b.0 a.1 b.1 (omega arith) (omega arith) some tail moved
 
 -- ---- the laws

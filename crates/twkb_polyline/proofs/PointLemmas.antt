@@ -1,8 +1,9 @@
 -- A point in a text: its two numbers, or its fault.
-use Rattle.std.proofs.Common.{◌≡◌, ℕ, ℤ, ◌+◌, ◌<◌, ◌+ℤ◌, ◌-ℤ◌, List, [], ◌++◌, length, drop, inl}
+use Rattle.std.proofs.Common.{◌≡◌, ℕ, ℤ, pos, negsuc, ◌+◌, ◌<◌, ◌^◌, ◌+ℤ◌, ◌-ℤ◌, List, [], ◌++◌, length, drop, inl}
 use Rattle.std.proofs.Common.{inr, refl, ◌∙◌, ap, arith, length-drop}
 use Rattle.std.proofs.lemmas.Int.{ints}
 use Rattle.std.proofs.lemmas.List.{drop_all}
+use Rattle.twkb_num.specs.Zigzag.{zigzag_of}
 use Rattle.twkb_points.specs.Point.{Point, IsCoordinate}
 use Rattle.twkb_polyline.specs.Polyline.{number_text}
 use Rattle.twkb_polyline.specs.Fault.{IsNumberFault, IsLongitudeFault, IsPointFault}
@@ -10,6 +11,11 @@ use Rattle.twkb_polyline.specs.Reading.{IsNumberAt, IsPointAt, IsRefusedFrom}
 use Rattle.twkb_polyline.specs.declared.fault.PolyReason.TheVariants.{Half, Range}
 use Rattle.twkb_polyline.specs.declared.fault.PolyFault.{PolyFault}
 use Rattle.twkb_polyline.specs.declared.fault.PolyFault.TheVariants.{Memory, At}
+
+-- a number whose form is below 2 ^ 40 is in the range of a coordinate
+pub near : (n : ℤ) → zigzag_of n < 2 ^ 40 → IsCoordinate n
+near (pos n) small = omega (arith, ints)
+near (negsuc n) small = omega (arith, ints)
 
 -- a step is the difference of its ends
 pub back : (a b d : ℤ) → a ≡ b +ℤ d → a -ℤ b ≡ d

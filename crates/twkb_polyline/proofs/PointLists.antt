@@ -1,38 +1,16 @@
 -- Points in a text, one after the other.
 use Rattle.std.proofs.Common.{◌≡◌, ℕ, ◌+◌, ◌-◌, ◌<◌, ◌≤◌, List, [], ◌∷◌, ◌++◌, length, take, drop}
 use Rattle.std.proofs.Common.{refl, sym, ap, ◌∙◌, subst, append_assoc, append-nil, length-append}
-use Rattle.std.proofs.Common.{length-drop, arith}
-use Rattle.std.specs.Prelude.{◌-ℤ◌}
-use Rattle.std.proofs.lemmas.List.{drop-drop, take_rest}
-use Rattle.twkb_points.specs.Point.{Point, IsInRange}
+use Rattle.std.proofs.Common.{arith}
+use Rattle.twkb_points.specs.Point.{Point}
+use Rattle.twkb_points.specs.Steps.{AreStepsTo, character_step, last_of}
 use Rattle.twkb_polyline.specs.declared.fault.PolyFault.TheVariants.{Memory}
-use Rattle.twkb_polyline.specs.Polyline.{number_text}
 use Rattle.twkb_polyline.specs.Fault.{IsRefused}
-use Rattle.twkb_polyline.specs.Reading.{ArePointsAt, HasPutOn, IsPairAt, IsPointAt, IsShortOfMemory}
+use Rattle.twkb_polyline.specs.Reading.{ArePointsAt, HasPutOn, IsShortOfMemory}
+use Rattle.twkb_polyline.proofs.StepTexts.{rest_read}
 use Rattle.twkb_polyline.proofs.DecodeLemmas.{HasRead, has_read_more, no_memory, read_count}
 
--- ---- points in a text and in the rest of it
-
--- a point in the rest of a text is a point in the text
-point_shifted : (text : List ℕ) (s i j : ℕ) (p q : Point) → s ≤ length text
-    → IsPointAt (drop s text) i p q j → IsPointAt text (s + i) p q (s + j)
-point_shifted text s i j p q before point = record {
-  split = sym (drop-drop i s text) ∙ point.split
-      ∙ ap (λ t. number_text (q.y -ℤ p.y) ++ (number_text (q.x -ℤ p.x) ++ t)) (drop-drop j s text);
-  further = omega (arith, point.further);
-  within = omega (arith, point.within, length-drop s text);
-}
-
--- points in the rest of a text are points in the text
-pub points_shifted : (ps : List Point) (text : List ℕ) (s i j : ℕ) (p q : Point) → s ≤ length text
-    → ArePointsAt (drop s text) i p ps q j → ArePointsAt text (s + i) p ps q (s + j)
-points_shifted [] text s i j p q before (same, end) = (same, ap (λ n. s + n) end)
-points_shifted (r ∷ rs) text s i j p q before (middle, first, inside, rest) = (
-  s + middle,
-  point_shifted text s i middle p r before first,
-  inside,
-  points_shifted rs text s middle j r q before rest,
-)
+-- ---- points in a text
 
 -- some points and others after them are points one after the other
 pub points_on : (ps qs : List Point) (text : List ℕ) (i j k : ℕ) (p q r : Point)
@@ -43,38 +21,6 @@ points_on [] qs text i j k p q r (same, end) others =
     (subst (λ n. ArePointsAt text n q qs r k) end others)
 points_on (o ∷ ps) qs text i j k p q r (middle, first, inside, rest) others =
     (middle, first, inside, points_on ps qs text middle j k o q r rest others)
-
--- two points as a list of points
-two_listed : (text : List ℕ) (i k : ℕ) (p q r : Point) → IsPairAt text i p q r k → IsInRange q
-    × IsInRange r → ArePointsAt text i p (q ∷ r ∷ []) r k
-two_listed text i k p q r pair inside = (pair.middle, pair.first, inside.0, (k, pair.second, inside.1, (refl, refl)))
-
--- two points in a slice of the text, as a list of points
-two_in_slice : (text : List ℕ) (s k : ℕ) (p q r : Point) → s ≤ length text
-    → IsPairAt (take (length text - s) (drop s text)) 0 p q r k → IsInRange q × IsInRange r
-    → ArePointsAt text s p (q ∷ r ∷ []) r (s + k)
-two_in_slice text s k p q r before pair inside =
-    let none : s + 0 ≡ s = omega arith in
-    let rest = subst (λ t. IsPairAt t 0 p q r k) (take_rest text s) pair in
-    subst (λ n. ArePointsAt text n p (q ∷ r ∷ []) r (s + k)) none
-    (points_shifted (q ∷ r ∷ []) text s 0 k p r before
-    (two_listed (drop s text) 0 k p q r rest inside))
-
--- four times two points are eight
-pub eight_read : (text : List ℕ) (i j k l : ℕ) (p a b c d e f g h : Point) → i + j + k ≤ length text
-    → IsPairAt text 0 p a b i → IsInRange a × IsInRange b
-    → IsPairAt (take (length text - i) (drop i text)) 0 b c d j → IsInRange c × IsInRange d
-    → IsPairAt (take (length text - (i + j)) (drop (i + j) text)) 0 d e f k → IsInRange e × IsInRange f
-    → IsPairAt (take (length text - (i + j + k)) (drop (i + j + k) text)) 0 f g h l → IsInRange g × IsInRange h
-    → ArePointsAt text 0 p (a ∷ b ∷ c ∷ d ∷ e ∷ f ∷ g ∷ h ∷ []) h (i + j + k + l)
-eight_read text i j k l p a b c d e f g h before ab ab_in cd cd_in ef ef_in gh gh_in =
-    let first = two_listed text 0 i p a b ab ab_in in
-    let second = two_in_slice text i j b c d (omega arith) cd cd_in in
-    let third = two_in_slice text (i + j) k d e f (omega arith) ef ef_in in
-    let fourth = two_in_slice text (i + j + k) l f g h before gh gh_in in
-    points_on (a ∷ b ∷ []) (c ∷ d ∷ e ∷ f ∷ g ∷ h ∷ []) text 0 i (i + j + k + l) p b h first
-    (points_on (c ∷ d ∷ []) (e ∷ f ∷ g ∷ h ∷ []) text i (i + j) (i + j + k + l) b d h second
-    (points_on (e ∷ f ∷ []) (g ∷ h ∷ []) text (i + j) (i + j + k) (i + j + k + l) d f h third fourth))
 
 -- points end inside the text
 pub points_end : (ps : List Point) (text : List ℕ) (i j : ℕ) (p q : Point) → i ≤ length text
@@ -113,41 +59,37 @@ put_fewer text start few room at p q old held has fits =
       appended = has.appended;
     }
 
--- more points of the rest of the text were appended
+-- steps in the rest of the text are more points that were appended
 pub put_more : (text : List ℕ) (start few room at used : ℕ) (p q r : Point)
     (qs old held after : List Point) → HasPutOn text start few p old held q at → at ≤ length text
-    → ArePointsAt (take (length text - at) (drop at text)) 0 q qs r used → few + length qs ≤ room
-    → after ≡ held ++ qs → HasPutOn text start room p old after r (at + used)
-put_more text start few room at used p q r qs old held after has within points fits appended =
-    let none : at + 0 ≡ at = omega arith in
-    let here = subst (λ n. ArePointsAt text n q qs r (at + used)) none
-    (points_shifted qs text at 0 used q r within (subst (λ t. ArePointsAt t 0 q qs r used)
-    (take_rest text at) points)) in
+    → AreStepsTo character_step q (take (length text - at) (drop at text)) qs used → last_of q qs ≡ r
+    → few + length qs ≤ room → after ≡ held ++ qs → HasPutOn text start room p old after r (at + used)
+put_more text start few room at used p q r qs old held after has within steps last fits appended =
     let count = has.few in
     record {
       ps = has.ps ++ qs;
-      points = points_on has.ps qs text start at (at + used) p q r has.points here;
+      points = points_on has.ps qs text start at (at + used) p q r has.points
+          (rest_read qs text at used q r within steps last);
       few = omega (arith, length-append has.ps qs);
       appended = appended ∙ ap (λ ps. ps ++ qs) has.appended ∙ append_assoc old has.ps qs;
     }
 
--- points of the rest end inside the text
+-- steps in the rest of the text end inside it
 pub rest_end : (text : List ℕ) (at used : ℕ) (q r : Point) (qs : List Point) → at ≤ length text
-    → ArePointsAt (take (length text - at) (drop at text)) 0 q qs r used → at + used ≤ length text
-rest_end text at used q r qs within points =
-    let whole = subst (λ t. ArePointsAt t 0 q qs r used) (take_rest text at) points in
-    omega (arith, points_end qs (drop at text) 0 used q r (omega arith) whole, length-drop at text)
+    → AreStepsTo character_step q (take (length text - at) (drop at text)) qs used → last_of q qs ≡ r
+    → at + used ≤ length text
+rest_end text at used q r qs within steps last =
+    points_end qs text at (at + used) q r within (rest_read qs text at used q r within steps last)
 
 -- memory is refused for one of the points after others
-pub short_on : (text : List ℕ) (start few room at used : ℕ) (p q r : Point)
-    (qs old held : List Point) → HasPutOn text start few p old held q at → at ≤ length text
-    → ArePointsAt (take (length text - at) (drop at text)) 0 q qs r used → 0 < length qs
+pub short_on : (text : List ℕ) (start few room at used : ℕ) (p q : Point) (qs old held : List Point)
+    → HasPutOn text start few p old held q at → at ≤ length text
+    → AreStepsTo character_step q (take (length text - at) (drop at text)) qs used → 0 < length qs
     → few + length qs ≤ room → IsShortOfMemory text start room p
-short_on text start few room at used p q r [] old held has within points some fits = absurd (omega arith)
-short_on text start few room at used p q r (o ∷ qs) old held has within points some fits =
-    let none : at + 0 ≡ at = omega arith in
-    let whole = subst (λ t. ArePointsAt t 0 q (o ∷ qs) r used) (take_rest text at) points in
+short_on text start few room at used p q [] old held has within steps some fits = absurd (omega arith)
+short_on text start few room at used p q (o ∷ qs) old held has within steps some fits =
     let count = has.few in
+    let points = rest_read (o ∷ qs) text at used q (last_of o qs) within steps refl in
     record {
       ps = has.ps;
       last = q;
@@ -155,10 +97,9 @@ short_on text start few room at used p q r (o ∷ qs) old held has within points
       points = has.points;
       few = omega arith;
       next = o;
-      end = at + whole.0;
-      point = subst (λ n. IsPointAt text n q o (at + whole.0)) none
-          (point_shifted text at 0 whole.0 q o within whole.1);
-      in_range = whole.2;
+      end = points.0;
+      point = points.1;
+      in_range = points.2;
     }
 
 -- the reader has read these points too

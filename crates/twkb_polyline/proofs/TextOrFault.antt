@@ -6,7 +6,8 @@ use Rattle.std.proofs.lemmas.Bool.{cases_lt}
 use Rattle.std.proofs.lemmas.Int.{ints}
 use Rattle.twkb_points.specs.declared.point.TheConstants.{COORDINATE_BOUND}
 use Rattle.twkb_points.specs.Point.{Point, IsCoordinate, IsInRange, AreInRange, origin, point_at}
-use Rattle.twkb_polyline.specs.Polyline.{number_text, polyline, polyline_from, last_after, DecodesTo}
+use Rattle.twkb_points.specs.Steps.{last_of}
+use Rattle.twkb_polyline.specs.Polyline.{number_text, polyline, polyline_from, DecodesTo}
 use Rattle.twkb_polyline.specs.Fault.{StartsWithNumber, IsPointFault, IsNextFault, IsTextFault}
 use Rattle.twkb_polyline.specs.declared.fault.PolyReason.{PolyReason}
 use Rattle.twkb_polyline.specs.declared.fault.PolyReason.TheVariants.{Half, Range, TooMany}
@@ -122,7 +123,7 @@ data PointsOrFault (p : Point) (count max : ℕ) (text : List ℕ) : Type 0 wher
       → count + length ps ≤ max → PointsOrFault p count max text
   no_points : (ps : List Point) (rest : List ℕ) (m k : ℕ) (reason : PolyReason)
       → text ≡ polyline_from p ps ++ rest → AreInRange ps → (rest ≡ [] → ⊥) → count + length ps ≡ m
-      → IsNextFault (last_after p ps) m max rest k reason
+      → IsNextFault (last_of p ps) m max rest k reason
       → PointsOrFault p count max text
 
 -- one more point at the start of the text

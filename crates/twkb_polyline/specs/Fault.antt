@@ -3,7 +3,8 @@ use Rattle.std.specs.Prelude.{◌≡◌, ◌≢◌, ℕ, ℤ, ◌+◌, ◌-◌, 
 use Rattle.std.specs.List.{AllByRecursion}
 use Rattle.twkb_num.specs.Zigzag.{zigzag_of}
 use Rattle.twkb_points.specs.Point.{Point, IsCoordinate, AreInRange, origin}
-use Rattle.twkb_polyline.specs.Polyline.{number_text, polyline, last_after}
+use Rattle.twkb_points.specs.Steps.{last_of}
+use Rattle.twkb_polyline.specs.Polyline.{number_text, polyline}
 use Rattle.twkb_polyline.specs.declared.fault.PolyReason.{PolyReason}
 use Rattle.twkb_polyline.specs.declared.fault.PolyReason.TheVariants.{BadChar, Cut, TooLong, Padded}
 use Rattle.twkb_polyline.specs.declared.fault.PolyReason.TheVariants.{Half, Range, TooMany}
@@ -116,7 +117,7 @@ pub record IsTextFault (text : List ℕ) (max offset : ℕ) (reason : PolyReason
   pub left : rest ≢ []
   pub within : ℕ
   pub place : offset ≡ length (polyline ps) + within
-  pub fault : IsNextFault (last_after origin ps) (length ps) max rest within reason
+  pub fault : IsNextFault (last_of origin ps) (length ps) max rest within reason
 
 -- The start of the text is the polyline of one point or more, all in range and at most `max`.
 pub record HasPoints (text : List ℕ) (max : ℕ) : Type 0 where

@@ -23,11 +23,6 @@ polyline_from p qs = text_of (differences_from p qs)
 abbrev pub polyline : List Point → List ℕ
 polyline ps = polyline_from origin ps
 
--- the last of the points; p if there are none
-abbrev pub last_after : Point → List Point → Point
-last_after p [] = p
-last_after p (q ∷ qs) = last_after q qs
-
 -- The text is the polyline of these points, all in range and at most `max`.
 pub record DecodesTo (text : List ℕ) (max : ℕ) (ps : List Point) : Type 0 where
   pub spelled : text ≡ polyline ps

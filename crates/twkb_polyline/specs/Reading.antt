@@ -35,12 +35,6 @@ pub record IsPointAt (text : List ℕ) (start : ℕ) (p q : Point) (end : ℕ) :
   pub further : start < end
   pub within : end ≤ length text
 
--- Two points are at `start`, q after p and r after q, and the text goes on at `end`.
-pub record IsPairAt (text : List ℕ) (start : ℕ) (p q r : Point) (end : ℕ) : Type 0 where
-  pub middle : ℕ
-  pub first : IsPointAt text start p q middle
-  pub second : IsPointAt text middle q r end
-
 -- These points are at `start`, each in range and the first after p; the last of them (or p) is q,
 -- and the text goes on at `end`.
 abbrev pub ArePointsAt : List ℕ → ℕ → Point → List Point → Point → ℕ → Type 0

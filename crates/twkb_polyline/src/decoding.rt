@@ -7,11 +7,13 @@ ghost use Rattle.twkb_polyline.specs.Fault.{IsNumberFault, IsPointFault, IsTextF
 ghost use Rattle.twkb_polyline.specs.Reading.{HasPutOn, IsNumberAt, IsPointAt, IsRefusedFrom, IsShortOfMemory};
 
 use crate::fault::{PolyFault, PolyReason};
-use crate::pairs::{eight_points, two_points};
+use crate::pairs::two_more;
 use crate::whole::{only_point, whole_point};
 use std::alloc::{AllocError, Global};
 use twkb_num::{BLOCK, Five, Partial, Step, character_ends, unzigzag};
-use twkb_points::{Cursor, PointTail, Pt};
+use twkb_points::{
+    APART, Cursor, FAR_APART, NUMBERS_AT_ONCE, POINTS_AT_ONCE, PointTail, Pt, eight_points,
+};
 
 /// Decodes a polyline of at most `max` points (Encoded Polyline Algorithm Format). Refuses any
 /// other text at its first fault. Takes memory for the points alone.
@@ -96,7 +98,7 @@ fn read_points<L: PointTail>(text: &[u8], max: u32, points: &mut L) -> Result<()
             at = end;
             continue;
         }
-        if let Some(pair) = two_points(text, at, max as usize - read, &mut cursor) {
+        if let Some(pair) = two_more(text, at, max as usize - read, &mut cursor) {
             points.put_all(&[pair.first, pair.second])?;
             at = pair.end;
             continue;
@@ -122,19 +124,8 @@ fn one_more(read: usize, max: u32, at: usize) -> Result<(), PolyFault>
     Ok(())
 }
 
-// The number of points taken at once, and of their numbers.
-const POINTS: usize = 8;
-
-const NUMBERS: u32 = 16;
-
 // Where blocks are first searched for: after the first point, whose numbers are mostly large.
 const FIRST_LOOK: usize = 1;
-
-// The number of characters after a search that found blocks.
-const APART: usize = 32;
-
-// The number of characters after a search in vain: lines of far points are seldom searched.
-const FAR_APART: usize = 256;
 
 // The number of characters from a search for blocks to the next search.
 #[inline(always)]
@@ -165,17 +156,17 @@ fn read_eights<L: PointTail>(
     let mut at = start;
     let mut left = room;
     let mut ends: u64 = 0;
-    while left >= POINTS {
+    while left >= POINTS_AT_ONCE {
         let rest = &text[at..];
-        if ends.count_ones() < NUMBERS {
+        if ends.count_ones() < NUMBERS_AT_ONCE {
             ends = character_ends(rest);
         }
-        let Some(eight) = eight_points(cursor.place(), rest, ends) else {
+        let Some(eight) = eight_points::<Five>(cursor.place(), rest, ends) else {
             break;
         };
         points.put_all(&eight.points)?;
         cursor.go(eight.last);
-        left -= POINTS;
+        left -= POINTS_AT_ONCE;
         at += eight.used;
         ends = eight.ends;
     }

@@ -1,6 +1,7 @@
 //! Encoding: from points to text.
 ghost use Rattle.std.specs.Prelude.{◌≡◌, ◌≤◌, ◌+◌, [], ◌∷◌, ℕ, List, ◌++◌, length, IfOk, OnOk, OnErr};
-ghost use Rattle.twkb_polyline.specs.Polyline.{polyline, polyline_from, last_after};
+ghost use Rattle.twkb_points.specs.Steps.{last_of};
+ghost use Rattle.twkb_polyline.specs.Polyline.{polyline, polyline_from};
 ghost use Rattle.twkb_polyline.specs.Spelling.{points_of};
 
 use crate::piece::flush;
@@ -66,7 +67,7 @@ fn put_points(points: &[Pt], text: &mut Vec<u8>) -> Result<(), AllocError>
 #[inline(never)]
 fn put_pairs(pairs: &[[Pt; 2]], cursor: &mut Cursor, text: &mut Vec<u8>) -> Result<(), AllocError>
     ensures appended { OnOk result (text.new.items ≡ text.old.items ++ polyline_from cursor.old (points_of pairs.now)) }
-    ensures moved { OnOk result (cursor.new ≡ last_after cursor.old (points_of pairs.now)) }
+    ensures moved { OnOk result (cursor.new ≡ last_of cursor.old (points_of pairs.now)) }
     ensures grown { (more : List ℕ) × (text.new.items ≡ text.old.items ++ more) }
 {
     let mut moved = *cursor;
@@ -89,7 +90,7 @@ fn push_pair(
 ) -> Result<(), AllocError>
     ensures appended { OnOk result (text.new.items ++ piece.new ≡ text.old.items ++ piece.old
         ++ polyline_from cursor.old pair.now) }
-    ensures moved { cursor.new ≡ last_after cursor.old pair.now }
+    ensures moved { cursor.new ≡ last_of cursor.old pair.now }
     ensures grown { (more : List ℕ) × (text.new.items ≡ text.old.items ++ more) }
 {
     let [first, second] = *pair;

@@ -8,7 +8,7 @@ ghost use Rattle.twkb_polyline.specs.Spelling.{spread, HasGroups};
 use crate::piece::make_room;
 use std::alloc::AllocError;
 use std::simd::{u32x4, u64x2};
-use twkb_num::{Five, Groups, NumBuf, Piece};
+use twkb_num::{CHARACTER_BITS, CHARACTER_GOES_ON, FIRST_CHARACTER, Five, Groups, NumBuf, Piece};
 
 // The room for four numbers in two words, since each word is stored whole.
 const STEP: usize = 16;
@@ -16,14 +16,23 @@ const STEP: usize = 16;
 // The room for four numbers of any size: 13 characters each, and the last words stored whole.
 const FAR_STEP: usize = 64;
 
-// Numbers below this have one group of five bits.
-const TWO_GROUPS: u64 = 1 << 5;
+// Numbers below this have one group.
+const TWO_GROUPS: u64 = 1 << CHARACTER_BITS;
 
 // Numbers below this have at most four groups, which a lane of 32 bits holds.
-const FOUR_GROUPS: u64 = 1 << 20;
+const FOUR_GROUPS: u64 = 1 << (4 * CHARACTER_BITS);
 
 // Numbers below this have at most eight groups, which a word of 64 bits holds.
-const EIGHT_GROUPS: u64 = 1 << 40;
+const EIGHT_GROUPS: u64 = 1 << (8 * CHARACTER_BITS);
+
+// Times a number below 0x100: that number in each of eight bytes.
+const EACH_BYTE: u64 = 0x0101_0101_0101_0101;
+
+// What says in each of eight characters that more follow.
+const OPEN_MARKS: u64 = CHARACTER_GOES_ON as u64 * EACH_BYTE;
+
+// What is added to each of eight groups.
+const BASES: u64 = FIRST_CHARACTER as u64 * EACH_BYTE;
 
 // Appends the characters of four numbers to the piece, or a prefix of them to the text if memory
 // is refused. Nearly all numbers of a track are below 2^20.
@@ -141,11 +150,11 @@ fn spread_four(first: u32, second: u32, third: u32, fourth: u32) -> u32x4
     ensures { result ≡ spread 4 first ∷ spread 4 second ∷ spread 4 third ∷ spread 4 fourth ∷ [] }
 {
     let numbers = u32x4::from_array([first, second, third, fourth]);
-    let group = u32x4::splat(31);
+    let group = u32x4::splat(TWO_GROUPS as u32 - 1);
     (numbers & group)
-        + ((numbers >> 5 & group) << 8)
-        + ((numbers >> 10 & group) << 16)
-        + ((numbers >> 15) << 24)
+        + ((numbers >> CHARACTER_BITS & group) << 8)
+        + ((numbers >> (2 * CHARACTER_BITS) & group) << 16)
+        + ((numbers >> (3 * CHARACTER_BITS)) << 24)
 }
 
 // Appends the characters of a number whose groups are in a word, one group in each byte.
@@ -158,8 +167,8 @@ fn push_spread(number: u64, groups: u64, piece: &mut Piece<128>)
     ensures most { length piece.new ≤ length piece.old + 8 }
 {
     let count = group_count(number);
-    let marks = 0x2020_2020_2020_2020 % (1 << (8 * count - 8));
-    piece.push_low(groups + marks + 0x3f3f_3f3f_3f3f_3f3f, count);
+    let marks = OPEN_MARKS % (1 << (8 * count - 8));
+    piece.push_low(groups + marks + BASES, count);
 }
 
 // The number of groups of a number: 1 for 0.
@@ -169,5 +178,5 @@ fn group_count(number: u64) -> u32
     ensures groups { HasGroups number result }
     ensures few { result ≤ 8 }
 {
-    (68 - (number | 1).leading_zeros()) / 5
+    (63 + CHARACTER_BITS - (number | 1).leading_zeros()) / CHARACTER_BITS
 }

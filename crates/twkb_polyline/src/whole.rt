@@ -4,14 +4,14 @@ ghost use Rattle.twkb_num.specs.Alphabet.{five_group};
 ghost use Rattle.twkb_points.specs.Point.{IsInRange, origin};
 ghost use Rattle.twkb_polyline.specs.Reading.{IsNumberAt, IsPointAt, IsBegun};
 
-use twkb_num::{first_two, two_in_text, unzigzag};
+use twkb_num::{
+    CHARACTER_BITS, FIRST_CHARACTER, FIRST_OPEN, LAST_CHARACTER, LAST_END, first_two, two_in_text,
+    unzigzag,
+};
 use twkb_points::{Cursor, Pt};
 
-// The number of bits in a group.
-const BITS: u32 = 5;
-
 // The shift of a thirteenth group, the last that a number may have.
-const LAST_SHIFT: u32 = 12 * BITS;
+const LAST_SHIFT: u32 = 12 * CHARACTER_BITS;
 
 // Reads the point whose latitude begins at `start`, moves the cursor to it, and returns it and
 // where it ends. `None` proves nothing about the text, and the cursor stays.
@@ -57,13 +57,14 @@ pub(crate) fn only_point(text: &[u8]) -> Option<Pt>
     Some(point)
 }
 
-// The group of a character that says that more follow; `None` for any other.
+// The group of a character that says that more follow; `None` for any other. By its range, as
+// `Five::from_unit` in its place took 42 instructions more for each ring of 24 points.
 #[inline(always)]
 fn open_group(unit: u8) -> Option<u64>
     ensures { IfSome result (λ group. five_group unit ≡ Some (group, true)) }
 {
     match unit {
-        b'_'..=b'~' => Some(u64::from(unit - b'_')),
+        FIRST_OPEN..=LAST_CHARACTER => Some(u64::from(unit - FIRST_OPEN)),
         _ => None,
     }
 }
@@ -74,7 +75,7 @@ fn last_group(unit: u8) -> Option<u64>
     ensures { IfSome result (λ group. five_group unit ≡ Some (group, false)) }
 {
     match unit {
-        b'?'..=b'^' => Some(u64::from(unit - b'?')),
+        FIRST_CHARACTER..=LAST_END => Some(u64::from(unit - FIRST_CHARACTER)),
         _ => None,
     }
 }
@@ -106,9 +107,9 @@ fn later_number(text: &[u8], start: usize, first: u64) -> Option<(i64, usize)>
         if last == 0 {
             return None;
         }
-        return Some((unzigzag(first + (last << BITS)), start + 2));
+        return Some((unzigzag(first + (last << CHARACTER_BITS)), start + 2));
     };
-    long_number(text, start, first + (second << BITS))
+    long_number(text, start, first + (second << CHARACTER_BITS))
 }
 
 // Goes on reading a number whose first two characters have this value and say that more follow.
@@ -118,7 +119,7 @@ fn long_number(text: &[u8], start: usize, begun: u64) -> Option<(i64, usize)>
     ensures { IfSome result (λ r. IsNumberAt text.now start r.0 r.1) }
 {
     let mut value = begun;
-    let mut shift = 2 * BITS;
+    let mut shift = 2 * CHARACTER_BITS;
     for at in start + 2..text.len() {
         let unit = text[at];
         let Some(group) = open_group(unit) else {
@@ -132,7 +133,7 @@ fn long_number(text: &[u8], start: usize, begun: u64) -> Option<(i64, usize)>
             return None;
         }
         value += group << shift;
-        shift += BITS;
+        shift += CHARACTER_BITS;
     }
     None
 }

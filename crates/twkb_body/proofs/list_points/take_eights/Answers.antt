@@ -3,6 +3,7 @@ use Rattle.twkb_num.proofs.BlockLemmas.{ends_after, no_ends}
 use Rattle.twkb_body.specs.Running.{ListGoesOn, GoesOn}
 use Rattle.twkb_body.proofs.PointRuns.{err_only}
 use Rattle.twkb_body.proofs.PointLists.{list_none, list_on, list_stops_on, list_points, list_points_stop}
+use Rattle.twkb_body.proofs.StepsInFront.{points_in_front}
 use Rattle.twkb_body.proofs.list_points.take_eights.Goals as goal
 
 pub loop-left-init : goal.loop-left-init
@@ -20,7 +21,7 @@ returns-in_err-add_points c =
     list_stops_on c.loop-left.invariant.so_far
     (list_points_stop c.in-Some.eight.points c.loop-left.flat c.loop-left.left c.in-Some.eight.used
     c.loop-left.position _ (omega (arith, count)) (omega (arith, count, c.loop-left-test.true))
-    c.in-Some.ensures.points))
+    (points_in_front c.in-Some.eight.points c.loop-left.position _ c.in-Some.eight.used c.in-Some.ensures.points)))
 
 -- eight more points were taken
 eight_more : (c : goal.In_ok-add_points) → ListGoesOn c.args.flat.now c.args.from c.args.bytes.now
@@ -35,7 +36,8 @@ eight_more c =
     eight.used c.loop-left.position _ c.in-Some.ensures.count c.in-Some.ensures.last
     c.loop-left.invariant.so_far.line
     c.loop-left.invariant.so_far.room (omega (arith, c.loop-left-test.true))
-    c.in-Some.ensures.points c.in_ok-add_points.ensures.added)
+    (points_in_front eight.points c.loop-left.position _ eight.used c.in-Some.ensures.points)
+    c.in_ok-add_points.ensures.added)
 
 pub overflow_add-used : goal.overflow_add-used
 overflow_add-used c =

@@ -1,15 +1,14 @@
 use Rattle.std.proofs.Common.{arith}
 use Rattle.twkb_body.specs.Running.{TakesFew}
 use Rattle.twkb_body.proofs.PointRuns.{err_only}
-use Rattle.twkb_body.proofs.PointLists.{list_one, list_two, list_one_stop}
+use Rattle.twkb_body.proofs.PointLists.{list_one, list_one_stop, list_two, list_two_stop}
 use Rattle.twkb_body.proofs.list_points.take_few.Goals as goal
 
 pub returns-in_err-add_two : goal.returns-in_err-add_two
 returns-in_err-add_two c =
     err_only (λ r. TakesFew c.args.flat.now c.args.from c.args.bytes.now c.args.most r
     c.add_two.new.self) _ c.from_residual.ensures.0 (λ e.
-    list_one_stop c.args.flat.now c.args.most _ c.args.from _ c.args.bytes.now c.requires.some
-    c.in-Some.ensures.leads)
+    list_two_stop c.if-most-gt1.true c.in-Some.ensures)
 
 pub returns-in_err-add_point : goal.returns-in_err-add_point
 returns-in_err-add_point c =

@@ -18,12 +18,12 @@ returns-in_err-put_all-clause-refused g c =
     let eight = c.in-Some.eight in
     let count = c.in-Some.ensures.count in
     let fits = c.loop-left.invariant.fits in
-    let points = rw c.place.ensures at c.in-Some.ensures.points in
+    let steps = rw c.place.ensures at c.in-Some.ensures.points in
     let p = err_from_is_err_and c.from_residual.result c.from_residual.ensures.1 in
     rw p.1 (short_on c.args.text.now c.args.start (c.args.room - c.loop-left.left) c.args.room
-    c.loop-left.at eight.used c.args.cursor.now c.loop-left.cursor eight.last eight.points
+    c.loop-left.at eight.used c.args.cursor.now c.loop-left.cursor eight.points
     (g.L.PointTail.held c.args.points.now) (g.L.PointTail.held c.loop-left.points)
-    c.loop-left.invariant.put c.loop-left.invariant.within points (omega (arith, count))
+    c.loop-left.invariant.put c.loop-left.invariant.within steps (omega (arith, count))
     (omega (arith, count, fits, c.loop-left-test.true)))
 
 pub returns-in_err-put_all-clause-grown : goal.returns-in_err-put_all-clause-grown
@@ -35,8 +35,8 @@ returns-in_err-put_all-clause-grown g c = (
 pub overflow_add-at : goal.overflow_add-at
 overflow_add-at g c =
     let eight = c.in-Some.eight in
-    let end = rest_end c.args.text.now c.loop-left.at eight.used c.place.result eight.last
-    eight.points c.loop-left.invariant.within c.in-Some.ensures.points in
+    let end = rest_end c.args.text.now c.loop-left.at eight.used c.place.result eight.last eight.points
+    c.loop-left.invariant.within c.in-Some.ensures.points c.in-Some.ensures.last in
     let few : length c.args.text.now < 2 ^ 64 = search rules in
     record { fits = omega arith }
 
@@ -45,18 +45,19 @@ loop-left-preserved g c =
     let eight = c.in-Some.eight in
     let count = c.in-Some.ensures.count in
     let fits = c.loop-left.invariant.fits in
-    let points = rw c.place.ensures at c.in-Some.ensures.points in
+    let steps = rw c.place.ensures at c.in-Some.ensures.points in
+    let last = rw c.place.ensures at c.in-Some.ensures.last in
     let put = put_more c.args.text.now c.args.start (c.args.room - c.loop-left.left)
     (c.args.room - (c.loop-left.left - 8)) c.loop-left.at eight.used c.args.cursor.now
     c.loop-left.cursor eight.last eight.points
     (g.L.PointTail.held c.args.points.now) (g.L.PointTail.held c.loop-left.points) _
-    c.loop-left.invariant.put c.loop-left.invariant.within points
+    c.loop-left.invariant.put c.loop-left.invariant.within steps last
     (omega (arith, count, fits, c.loop-left-test.true)) c.in_ok-put_all.ensures.appended in
     rw c.go.ensures (record {
       put = put;
       fits = omega (arith, fits);
-      within = rest_end c.args.text.now c.loop-left.at eight.used c.loop-left.cursor eight.last
-          eight.points c.loop-left.invariant.within points;
+      within = rest_end c.args.text.now c.loop-left.at eight.used c.loop-left.cursor eight.last eight.points
+          c.loop-left.invariant.within steps last;
       ends = ends_after 63 32 c.args.text.now eight.ends c.loop-left.at eight.used c.in-Some.ensures.rest;
     })
 

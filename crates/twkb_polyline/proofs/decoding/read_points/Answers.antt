@@ -1,7 +1,7 @@
-use Rattle.std.proofs.Common.{◌≡◌, ◌∙◌, ◌+◌, ◌-◌, ◌<◌, ◌≤◌, ◌^◌, rules, length, refl, arith}
+use Rattle.std.proofs.Common.{◌≡◌, ◌∙◌, ◌+◌, ◌-◌, ◌<◌, ◌≤◌, ◌^◌, rules, length, refl, arith, [], ◌∷◌}
 use Rattle.std.proofs.lemmas.Result.{err_from_is_err_and}
 use Rattle.twkb_polyline.proofs.DecodeLemmas.{read_count, has_read_all, has_read_none}
-use Rattle.twkb_polyline.proofs.DecodeLemmas.{has_read_more, has_read_pair, one_too_many}
+use Rattle.twkb_polyline.proofs.DecodeLemmas.{has_read_more, one_too_many}
 use Rattle.twkb_polyline.proofs.DecodeLemmas.{text_refused, no_memory}
 use Rattle.twkb_polyline.proofs.PointLists.{has_read_points, no_memory_on, points_end, points_from}
 use Rattle.twkb_polyline.proofs.decoding.read_points.Goals as goal
@@ -48,9 +48,9 @@ loop-at-preserved-in-Some g c =
           c.loop-at.at c.loop-at.cursor old held read,
     ) in
     rw (c.in_ok-put_all.ensures.appended, c.in-Some.ensures.moved) (record {
-      read = has_read_pair c.args.text.now c.args.max c.loop-at.at c.loop-at.cursor old held read
-          c.in-Some.pair.first c.in-Some.pair.second c.in-Some.pair.end _ c.in-Some.ensures.read
-          c.in-Some.ensures.in_range room refl;
+      read = has_read_points (c.in-Some.pair.first ∷ c.in-Some.pair.second ∷ []) c.args.text.now c.args.max
+          c.loop-at.at c.in-Some.pair.end c.loop-at.cursor c.in-Some.pair.second old held _ read
+          c.in-Some.ensures.read room refl;
       held = c.loop-at.invariant.held;
     })
 
@@ -105,7 +105,7 @@ returns-in_err-put_all-clause-refuses g c =
     let old = g.L.PointTail.held c.args.points.now in
     let held = g.L.PointTail.held c.loop-at.points in
     let read = c.loop-at.invariant.read in
-    let pair = c.in-Some.ensures.read in
+    let first = c.in-Some.ensures.read in
     let room : length read.ps < c.args.max =
     omega (
       arith,
@@ -115,7 +115,7 @@ returns-in_err-put_all-clause-refuses g c =
           c.loop-at.at c.loop-at.cursor old held read,
     ) in
     rw (p.1, p.2) (no_memory c.args.text.now c.args.max c.loop-at.at c.loop-at.cursor old held read
-    c.in-Some.pair.first pair.middle pair.first c.in-Some.ensures.in_range.0 room)
+    c.in-Some.pair.first first.0 first.1 first.2 room)
 
 pub returns-in_err-point-clause-refuses : goal.returns-in_err-point-clause-refuses
 returns-in_err-point-clause-refuses g c =
