@@ -60,14 +60,13 @@ def has_rule(rows, parent, depth, kind, identifier, precision):
 def points_fault(rows, parent, kind, points):
     """The first rule of points that a row breaks."""
     root = len(rows) if parent is None else max(place for place, row in enumerate(rows) if row.depth == 0)
-    is_part = parent is not None and rows[parent].kind == "multipoint"
     rules = [
         ("polyline not allowed", points and kind not in POINTED),
         ("coordinate out of range", not all(LEAST <= number <= MOST for point in points for number in point)),
         ("too many points", sum(len(row.points) for row in rows[root:]) + len(points) > table.POINTS),
-        ("wrong number of points", kind == "point" and (len(points) != 1 if is_part else len(points) > 1)),
     ]
-    return next((reason for reason, is_broken in rules if is_broken), None)
+    fault = next((reason for reason, is_broken in rules if is_broken), None)
+    return fault or table.count_fault(rows, parent, kind, points)
 
 
 def judged(rows, row, ahead, nest):

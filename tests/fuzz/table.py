@@ -87,6 +87,14 @@ def precision_fault(rows, parent, precision):
     return None
 
 
+def count_fault(rows, parent, kind, points):
+    """The first rule of the number of points that a row breaks, given its parent's place."""
+    is_part = parent is not None and rows[parent].kind == "multipoint"
+    if kind == "point" and (len(points) != 1 if is_part else len(points) > 1):
+        return "wrong number of points"
+    return None
+
+
 def judged(rows, record, nest):
     """The row of a record behind these rows, or the first reason against it."""
     if len(record) != 5:
@@ -120,10 +128,7 @@ def judged(rows, record, nest):
     points, fault = decode(polyline, POINTS - sum(len(row.points) for row in rows[root:]))
     if fault:
         return "polyline at %d: %s" % fault
-    is_of_multipoint = parent is not None and rows[parent].kind == "multipoint"
-    if kind == "point" and (len(points) != 1 if is_of_multipoint else len(points) > 1):
-        return "wrong number of points"
-    return Row(depth, kind, identifier, precision, points)
+    return count_fault(rows, parent, kind, points) or Row(depth, kind, identifier, precision, points)
 
 
 def split_at(rows, depth):

@@ -1,8 +1,7 @@
-//! What no clause says about taps, endings and copies: that calls succeed, and how often a device
-//! is called. Inputs, outputs and sinks are tested by the program `vectors`.
-use std::alloc::Global;
+//! What no clause says about taps, endings and bytes: that calls succeed, and how often a device is
+//! called. Inputs, outputs and other sinks are tested by the program `vectors`.
 use std::io::{Read, Write};
-use twkb_io::{Bytes, Ending, Fuse, FuseEnd, Input, Sink, Tap, copy};
+use twkb_io::{Bytes, Ending, Sink, Tap};
 
 // Whether a read gives `count` bytes.
 fn reads<R: Read>(reader: &mut R, count: usize) -> bool {
@@ -45,27 +44,6 @@ fn each_write_and_flush_of_a_tap_reaches_its_device_once(rt: HostRuntime) {
     let is_counted = writer.calls() == 2;
     let device = writer.into_inner();
     assert!(rt; are_written & is_counted & (device.calls() == 2) & !device.has_unflushed());
-}
-
-// Whether all bytes of a device are copied.
-fn is_copied<R: Read>(tap: &mut Tap<R>, bytes: &mut Bytes) -> bool {
-    copy(&mut Input::new(tap), bytes).is_ok()
-}
-
-// Whether a device that gives a thousand bytes a call, and is cut after `left` bytes, is copied
-// up to there, and to its end if it does not fail there.
-fn copies(alloc: Global, left: u64, end: FuseEnd) -> bool {
-    let given = [7; 10000];
-    let mut tap = Tap::new(Fuse::new(given.as_slice(), left, 1000, end, false));
-    let mut bytes = Bytes::new(alloc);
-    let is_whole = is_copied(&mut tap, &mut bytes) == (end == FuseEnd::Zero);
-    let copied = bytes.into_vec();
-    is_whole & (copied.len() as u64 == left) & given.starts_with(&copied)
-}
-
-#[test]
-fn a_copy_moves_what_a_device_gives(rt: HostRuntime) {
-    assert!(rt; copies(rt.alloc(), 9999, FuseEnd::Zero) & copies(rt.alloc(), 5, FuseEnd::Fail));
 }
 
 // Whether a sink takes these bytes and holds them alone.

@@ -1,7 +1,7 @@
 -- The reason of the first test of a row that fails.
 use Rattle.std.proofs.Common.{◌≡◌, ◌∙◌, ◌<◌, ◌^◌, ℕ, Bool, true, false, List, [], ◌∷◌, ◌++◌, Option, Some}
 use Rattle.std.proofs.Common.{None, refl, sym, subst, bit_or, inl, inr, arith, length, lit<, slice_index_or}
-use Rattle.std.specs.Prelude.{◌↔◌, MatchOption, nat_lt}
+use Rattle.std.specs.Prelude.{ℤ, ◌↔◌, ◌||◌, MatchOption, nat_lt, if◌then◌else◌}
 use Rattle.std.specs.Simd.Lanes.{zip2}
 use Rattle.std.proofs.lemmas.Bool.{cases_Bool}
 use Rattle.std.proofs.lemmas.Bool.Decides.{nat_tests}
@@ -10,17 +10,19 @@ use Rattle.std.proofs.lemmas.Nat.{le_or_l, le_or_r, or_lt}
 use Rattle.std.proofs.lemmas.Simd.{length-zip2}
 use Rattle.twkb_points.specs.Point.{IsInRange, AreInRange}
 use Rattle.twkb_tree.specs.declared.row_place.RowPlace.{RowPlace}
+use Rattle.twkb_tree.specs.Admits.{has_points}
 use Rattle.twkb_tree.specs.Limits.{Allowance}
 use Rattle.twkb_tree.specs.Open.{row_of, child_of}
-use Rattle.twkb_tree.specs.Refusal.{Refusal, Check, check, first_failed, are_in_range}
+use Rattle.twkb_tree.specs.Refusal.{Refusal, PointsNotAllowed, CoordinateRange}
+use Rattle.twkb_tree.specs.Refusal.{Check, check, first_failed, are_in_range, has_none}
 use Rattle.twkb_tree.specs.Refusal.{id_checks, point_checks, precision_checks}
 use Rattle.twkb_tree.specs.Rows.{Row}
 use Rattle.twkb_tree.proofs.RowRanges.{are_in_range-true, points_in_range}
-use Rattle.twkb_table.specs.RowRules.{first_reason, place_checks}
+use Rattle.twkb_table.specs.RowRules.{first_reason, kind_checks}
 use Rattle.twkb_table.specs.declared.reason.RowReason.{RowReason}
 use Rattle.twkb_buffer.specs.declared.point.BufferPoint.{BufferPoint}
 use Rattle.twkb_arrays.specs.Judging.{AreBelow}
-use Rattle.twkb_arrays.specs.RowTests.{IsFirstButRange, IsReasonOf, checks_there, range_refusal}
+use Rattle.twkb_arrays.specs.RowTests.{IsFirstButRange, IsReasonOf, checks_there, number_checks, range_refusal}
 use Rattle.twkb_arrays.specs.Rows.{point_of, points_of}
 
 -- ---- some tests before others
@@ -75,29 +77,61 @@ reason_none (c ∷ checks) e = none_at c.holds c.otherwise checks (reason_none c
     none_at true other checks rest e = rest e
     none_at false other checks rest e = cc e
 
--- the tests of a row at its place, one group after another: the place, the id, the precision, the points
+-- ---- the tests of a row's points
+
+-- if their number is right, only their range may refuse them
+pub by_range : (l : Allowance) (s : RowPlace) (r : Row) → (has_points r.kind || has_none r.points) ≡ true
+    → None ≡ first_reason (number_checks l s r)
+    → first_failed (point_checks l (row_of s.parent) s.points r) ≡ range_refusal r.points
+by_range l s r is_allowed fits =
+    range_at (has_points r.kind || has_none r.points) (are_in_range r.points) (number_checks l s r)
+    is_allowed (reason_none (number_checks l s r) fits)
+  where
+    range_at : (allowed in_range : Bool) (checks : List Check) → allowed ≡ true → first_failed checks ≡ None
+        → first_failed (check allowed PointsNotAllowed ∷ check in_range CoordinateRange ∷ checks)
+        ≡ (if in_range then None else Some CoordinateRange)
+    range_at allowed true checks is_allowed none = rw is_allowed none
+    range_at allowed false checks is_allowed none = rw is_allowed refl
+
+-- if they are in range, their number may refuse them
+pub by_number : (l : Allowance) (s : RowPlace) (r : Row) (reason : RowReason)
+    → (has_points r.kind || has_none r.points) ≡ true → are_in_range r.points ≡ true
+    → Some reason ≡ first_reason (number_checks l s r)
+    → IsReasonOf (first_failed (point_checks l (row_of s.parent) s.points r)) reason
+by_number l s r reason is_allowed is_in is =
+    number_at (has_points r.kind || has_none r.points) (are_in_range r.points) (number_checks l s r)
+    is_allowed is_in (reason_found (number_checks l s r) reason is)
+  where
+    number_at : (allowed in_range : Bool) (checks : List Check) → allowed ≡ true → in_range ≡ true
+        → IsReasonOf (first_failed checks) reason → IsReasonOf
+        (first_failed (check allowed PointsNotAllowed ∷ check in_range CoordinateRange ∷ checks)) reason
+    number_at allowed in_range checks is_allowed is_in found = rw (is_allowed, is_in) found
+
+-- ---- the tests of a row at its place
+
+-- one group after another: the place, the id, the precision, the points
 pub by_place : (l : Allowance) (s : RowPlace) (r : Row) (reason : RowReason)
-    → IsReasonOf (first_failed (place_checks l s r.kind)) reason
+    → IsReasonOf (first_failed (kind_checks l s r.kind)) reason
     → IsReasonOf (first_failed (checks_there l s r)) reason
 by_place l s r reason h =
     let p = row_of s.parent in (
       h.0,
-      first_of (place_checks l s r.kind)
+      first_of (kind_checks l s r.kind)
           (id_checks p (child_of s.parent) r ++ (precision_checks p r ++ point_checks l p s.points r)) h.0 h.1,
       h.2,
     )
 
 -- no test of the place fails
-pub after_place : (l : Allowance) (s : RowPlace) (r : Row) → first_failed (place_checks l s r.kind) ≡ None
+pub after_place : (l : Allowance) (s : RowPlace) (r : Row) → first_failed (kind_checks l s r.kind) ≡ None
     → first_failed (checks_there l s r) ≡ first_failed (id_checks (row_of s.parent) (child_of s.parent) r
     ++ (precision_checks (row_of s.parent) r ++ point_checks l (row_of s.parent) s.points r))
 after_place l s r e =
     let p = row_of s.parent in
-    rest_of (place_checks l s r.kind)
+    rest_of (kind_checks l s r.kind)
     (id_checks p (child_of s.parent) r ++ (precision_checks p r ++ point_checks l p s.points r)) e
 
 pub by_id : (l : Allowance) (s : RowPlace) (r : Row) (reason : RowReason)
-    → first_failed (place_checks l s r.kind) ≡ None
+    → first_failed (kind_checks l s r.kind) ≡ None
     → IsReasonOf (first_failed (id_checks (row_of s.parent) (child_of s.parent) r)) reason
     → IsReasonOf (first_failed (checks_there l s r)) reason
 by_id l s r reason place h =
@@ -109,7 +143,7 @@ by_id l s r reason place h =
     )
 
 -- no test of the place or of the id fails
-pub after_id : (l : Allowance) (s : RowPlace) (r : Row) → first_failed (place_checks l s r.kind) ≡ None
+pub after_id : (l : Allowance) (s : RowPlace) (r : Row) → first_failed (kind_checks l s r.kind) ≡ None
     → first_failed (id_checks (row_of s.parent) (child_of s.parent) r) ≡ None
     → first_failed (checks_there l s r) ≡ first_failed (precision_checks (row_of s.parent) r
     ++ point_checks l (row_of s.parent) s.points r)
@@ -119,7 +153,7 @@ after_id l s r place id =
     (precision_checks p r ++ point_checks l p s.points r) id
 
 pub by_precision : (l : Allowance) (s : RowPlace) (r : Row) (reason : RowReason)
-    → first_failed (place_checks l s r.kind) ≡ None
+    → first_failed (kind_checks l s r.kind) ≡ None
     → first_failed (id_checks (row_of s.parent) (child_of s.parent) r) ≡ None
     → IsReasonOf (first_failed (precision_checks (row_of s.parent) r)) reason
     → IsReasonOf (first_failed (checks_there l s r)) reason
@@ -131,7 +165,7 @@ by_precision l s r reason place id h =
     )
 
 pub by_points : (l : Allowance) (s : RowPlace) (r : Row) (answer : Option RowReason)
-    → first_failed (place_checks l s r.kind) ≡ None
+    → first_failed (kind_checks l s r.kind) ≡ None
     → first_failed (id_checks (row_of s.parent) (child_of s.parent) r) ≡ None
     → first_failed (precision_checks (row_of s.parent) r) ≡ None
     → IsFirstButRange (point_checks l (row_of s.parent) s.points r) r.points answer

@@ -7,6 +7,7 @@ ghost use Rattle.twkb_tree.specs.Admits.{has_points, id_in_range, precision_in_r
 ghost use Rattle.twkb_tree.specs.Open.{row_of, child_of};
 ghost use Rattle.twkb_tree.specs.Refusal.{are_in_range, has_none};
 ghost use Rattle.twkb_tree.specs.Refusal.{id_checks, point_checks, precision_checks};
+ghost use Rattle.twkb_tree.specs.Rows.{Row as TableRow};
 ghost use Rattle.twkb_flat.specs.Rows.{row_with};
 ghost use Rattle.twkb_flat.specs.declared.stop.Stop.TheVariants.{Refused};
 ghost use Rattle.twkb_table.specs.RowRules.{first_reason};
@@ -14,7 +15,7 @@ ghost use Rattle.twkb_buffer.specs.Numbers.{row_number_of};
 ghost use Rattle.twkb_buffer.specs.declared.point.BufferPoint.{BufferPoint as InPoint};
 ghost use Rattle.twkb_arrays.specs.Rows.{kind_number, point_of, points_of};
 ghost use Rattle.twkb_arrays.specs.Judging.{AreBelow, HasRightId, row_from_c};
-ghost use Rattle.twkb_arrays.specs.RowTests.{IsFirstButRange, checks_there};
+ghost use Rattle.twkb_arrays.specs.RowTests.{IsFirstButRange, checks_there, number_checks};
 
 use crate::row::{BufferRow, NO_PRECISION};
 use std::simd::u64x2;
@@ -22,8 +23,8 @@ use twkb_buffer::{BufferPoint, row_number};
 use twkb_convert::{PolyReason, RowReason};
 use twkb_flat::{Row, Stop};
 use twkb_points::COORDINATE_BOUND;
-use twkb_table::{refused_id, refused_place, refused_precision};
-use twkb_tree::row_rules::{count_fits, has_points, is_geometry};
+use twkb_table::{refused_count, refused_id, refused_place, refused_precision};
+use twkb_tree::row_rules::has_points;
 use twkb_tree::{GREATEST_PRECISION, Kind, LEAST_PRECISION, Limits, RowPlace};
 
 // The reason for which a row with a point out of range is refused. There is no text, and so no place
@@ -182,6 +183,23 @@ fn has_room(limits: &Limits, row_place: &RowPlace, count: usize) -> bool
     row_place.points <= limits.points() && count <= (limits.points() - row_place.points) as usize
 }
 
+// The reason why a row of this kind may not have `count` points at this place.
+#[inline(always)]
+fn refused_number(
+    limits: &Limits,
+    row_place: &RowPlace,
+    kind: Kind,
+    count: usize,
+) -> Option<RowReason>
+    ensures { (r : TableRow) → r.kind ≡ kind → length r.points ≡ count
+        → result ≡ first_reason (number_checks limits.now row_place.now r) }
+{
+    if !has_room(limits, row_place, count) {
+        return Some(TOO_MANY_POINTS);
+    }
+    refused_count(row_place, kind, count)
+}
+
 // The reason why the row's points are refused at this place. The points themselves are only looked
 // at if their number is wrong.
 #[inline(always)]
@@ -197,19 +215,13 @@ fn refused_points(
     if !may_have_points(row.kind, own) {
         return Some(RowReason::PolylineNotAllowed);
     }
-    let room = has_room(limits, row_place, own.len());
-    let fits = count_fits(row.kind, is_geometry(row_place.parent), own.len());
-    if room && fits {
+    let Some(reason) = refused_number(limits, row_place, row.kind, own.len()) else {
         return None;
-    }
+    };
     if !are_in_range(own) {
         return Some(OUT_OF_RANGE);
     }
-    if room {
-        Some(RowReason::PointCount)
-    } else {
-        Some(TOO_MANY_POINTS)
-    }
+    Some(reason)
 }
 
 // The reason why the row with these points may not come at this place. `None` if there is none,

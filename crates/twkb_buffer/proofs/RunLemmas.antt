@@ -3,7 +3,7 @@ use Rattle.std.specs.Prelude.{IfSome}
 use Rattle.std.specs.Io.KnownBytes.{Appends}
 use Rattle.std.proofs.Common.{◌≡◌, ℕ, List, ◌++◌, Option, Some, Result, Ok, Err, refl, subst}
 use Rattle.twkb_io.specs.Taps.{bytes_given, device_of}
-use Rattle.twkb_io.specs.Copies.{BeginsWith}
+use Rattle.twkb_io.specs.Inputs.{BeginsWith}
 use Rattle.twkb_io.specs.declared.tap.Tap.{Tap}
 use Rattle.twkb_tree.specs.Tree.{Tree}
 use Rattle.twkb_tree.specs.Limits.{Allowance}

@@ -7,7 +7,7 @@ pub use Rattle.std.proofs.lemmas.List.{append-nil, map-append, length-map, appen
 pub use Rattle.std.proofs.lemmas.Grind.{flat_map-append}
 pub use Rattle.std.specs.Io.KnownBytes.{Appends, IsAtEnd, Consumes}
 pub use Rattle.std.specs.declared.io.traits.Read.{Ghosts}
-pub use Rattle.twkb_io.specs.Copies.{BeginsWith}
+pub use Rattle.twkb_io.specs.Inputs.{BeginsWith}
 pub use Rattle.twkb_io.specs.Taps.{count_failure, device_of, failures_of, bytes_given}
 pub use Rattle.twkb_io.specs.Outputs.{output_tap, sent_of, Refused, Took, is_spent, Cut, Sent, output_failures}
 pub use Rattle.twkb_io.specs.OutputLaws.{refused_join, took_join, took_nothing, sent_join}

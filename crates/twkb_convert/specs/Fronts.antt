@@ -1,7 +1,7 @@
 -- A prefix of a conversion's output: all output for the first geometries, and a prefix of that
 -- for the next one.
 use Rattle.std.specs.Prelude.{◌≡◌, ℕ, ◌⊎◌, List, [], ◌++◌, Option}
-use Rattle.twkb_io.specs.Copies.{BeginsWith}
+use Rattle.twkb_io.specs.Inputs.{BeginsWith}
 use Rattle.twkb_tree.specs.Tree.{Tree}
 use Rattle.twkb_tree.specs.Limits.{Allowance}
 use Rattle.twkb_grammar.specs.Written.{canonical_stream}

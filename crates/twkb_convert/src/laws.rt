@@ -1,6 +1,6 @@
 //! Laws of the conversions, each stated as the contract of an empty function.
 ghost use Rattle.std.specs.Prelude.{◌≡◌, ◌++◌, ◌∷◌, [], ℕ, List, length, Some};
-ghost use Rattle.twkb_io.specs.Copies.{BeginsWith};
+ghost use Rattle.twkb_io.specs.Inputs.{BeginsWith};
 ghost use Rattle.twkb_tree.specs.Tree.{Tree};
 ghost use Rattle.twkb_tree.specs.Limits.{Allowance, IsAllowance};
 ghost use Rattle.twkb_grammar.specs.Bits.{AreBytes};

@@ -1,5 +1,4 @@
 -- Lemmas of the crate, by their topic.
-pub mod CopyLemmas
 pub mod FaultLemmas
 pub mod HeldLemmas
 pub mod OutputLemmas

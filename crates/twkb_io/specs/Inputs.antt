@@ -1,6 +1,6 @@
 -- The bytes that an input has left, and the effect of one step.
-use Rattle.std.specs.Prelude.{ℕ, ◌+◌, List, [], ◌∷◌, ◌-◌, Option, Some, None, Bool, true}
-use Rattle.std.specs.Prelude.{false, take, slice_range, Result, Ok, Err}
+use Rattle.std.specs.Prelude.{◌≡◌, ℕ, ◌+◌, List, [], ◌∷◌, ◌++◌, ◌-◌, Option, Some, None, IfSome}
+use Rattle.std.specs.Prelude.{Bool, true, false, take, slice_range, Result, Ok, Err}
 use Rattle.std.specs.Io.KnownBytes.{Consumes, IsAtEnd, Keeps, prepend_known}
 use Rattle.std.specs.Borrow.{MutBor}
 use Rattle.std.specs.declared.io.traits.Read.{Ghosts}
@@ -42,6 +42,10 @@ held_of input = take (MAX_BYTES - given input) (unused input)
 -- the unused part of the array, and then what the reader still gives
 abbrev pub rest_of : {R : Type 0} {read : Ghosts R} → Input R read → Option (List ℕ)
 rest_of {R} {read} input = prepend_known (unused input) (read.remaining (device_of input.tap.now))
+
+-- the known bytes begin with these bytes
+abbrev pub BeginsWith : Option (List ℕ) → List ℕ → Type 0
+BeginsWith rest front = IfSome rest (λ bytes. (left : List ℕ) × (bytes ≡ front ++ left))
 
 -- One call gives the first byte of the rest, gives none only if the rest is empty, and loses no
 -- byte.

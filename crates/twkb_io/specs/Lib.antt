@@ -9,4 +9,3 @@ pub mod Bytes
 pub mod Outputs
 pub mod OutputLaws
 pub mod Fuses
-pub mod Copies

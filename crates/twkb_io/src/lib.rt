@@ -2,7 +2,6 @@
 #![tactic(auto)]
 
 mod bytes;
-mod copying;
 mod count;
 mod ending;
 mod fuse;
@@ -12,7 +11,6 @@ mod sink;
 mod tap;
 
 pub use bytes::Bytes;
-pub use copying::{CopyFault, copy};
 pub use count::{Count, CountFull};
 pub use ending::Ending;
 pub use fuse::{Fuse, FuseEnd};

@@ -1,7 +1,7 @@
 -- A record whose verdict is a row is the record of that row, and the row may come next.
 use Rattle.std.proofs.Common.{◌≡◌, ℕ, zero, suc, ◌+◌, ◌<◌, ◌≤◌, ◌==◌, true, false, List, [], ◌∷◌}
 use Rattle.std.proofs.Common.{length, Option, Some, None, refl, sym, ap, subst, arith, inl, inr}
-use Rattle.std.specs.Prelude.{ℤ, ◌&&◌, decimal, is_some, IfSome}
+use Rattle.std.specs.Prelude.{ℤ, ◌&&◌, decimal, IfSome}
 use Rattle.std.proofs.lemmas.Bool.{cases_Bool, true≢false}
 use Rattle.twkb_points.specs.Point.{Point}
 use Rattle.twkb_polyline.specs.Polyline.{polyline, DecodesTo}
@@ -10,9 +10,10 @@ use Rattle.twkb_tree.specs.Tree.{IsPrecision}
 use Rattle.twkb_tree.specs.Rows.{Row}
 use Rattle.twkb_tree.specs.Limits.{Allowance}
 use Rattle.twkb_tree.specs.Admits.{parent, first_child, steps_to, has_place, id_allowed}
-use Rattle.twkb_tree.specs.Admits.{has_same_ids, is_geometry, points_fit, precision_in_range}
-use Rattle.twkb_tree.specs.Admits.{precision_fits, fits}
+use Rattle.twkb_tree.specs.Admits.{has_same_ids, has_needed_precision, precision_allowed}
+use Rattle.twkb_tree.specs.Admits.{is_geometry, points_fit, precision_in_range, precision_fits, fits}
 use Rattle.twkb_tree.specs.Accepted.{nest_kept, geometry_rows, point_count, since_root, Accepts, AreAccepted}
+use Rattle.twkb_tree.proofs.RefusalLaws.{precision_joined}
 use Rattle.twkb_tree.proofs.RowFacts.{fits_by}
 use Rattle.twkb_tree.proofs.RowRanges.{id_in_range-true, is_precision-true}
 use Rattle.twkb_table.specs.Fields.{optional, IsDepthField, IsOptionalId, IsOptionalPrecision}
@@ -28,14 +29,6 @@ use Rattle.twkb_table.specs.declared.reason.RowReason.TheVariants.{PrecisionNotA
 use Rattle.twkb_table.specs.declared.reason.RowReason.TheVariants.{PolylineNotAllowed, Polyline}
 use Rattle.twkb_table.specs.declared.reason.RowReason.TheVariants.{PointCount}
 use Rattle.twkb_table.proofs.Verdicts.{not_false, both_true, both, accepted_apart, same_accepted, passed, found}
-
--- a row that is a geometry itself has its precision, and any other row has none
-precision_ok : (p : Option Row) (q : Option ℤ) → ((is_geometry p ≡ true) × (is_some q ≡ false) → ⊥)
-    → ((is_geometry p ≡ false) × (is_some q ≡ true) → ⊥) → precision_fits p q ≡ true
-precision_ok p None missing extra = elim (cases_Bool (is_geometry p))
-    [ inl w ↦ absurd (missing (w, refl)) | inr w ↦ rw w refl ]
-precision_ok p (Some n) missing extra = elim (cases_Bool (is_geometry p))
-    [ inl w ↦ rw w refl | inr w ↦ absurd (extra (w, refl)) ]
 
 pub precision_in_range-true : (q : Option ℤ) → IfSome q IsPrecision → precision_in_range q ≡ true
 precision_in_range-true None h = refl
@@ -136,19 +129,21 @@ judged_row l before (a ∷ b ∷ c ∷ e ∷ f ∷ []) r room h =
     let allowed = passed r IdNotAllowed ids.2 in
     let same = passed r MixedIds allowed.1 in
     let precisions = found (IsOptionalPrecision e)
-    (λ q. When (Accepted r) ((is_geometry p ≡ true) × (is_some q ≡ false)) PrecisionMissing
-    (When (Accepted r) ((is_geometry p ≡ false) × (is_some q ≡ true)) PrecisionNotAllowed
+    (λ q. When (Accepted r) (has_needed_precision p q ≡ false) PrecisionMissing
+    (When (Accepted r) (precision_allowed p q ≡ false) PrecisionNotAllowed
     (JudgedByPoints l (place_of d before) k id q f (Accepted r)))) r BadPrecision same.1 in
     let q = precisions.0 in
-    let missing = passed r PrecisionMissing precisions.2 in
-    let extra = passed r PrecisionNotAllowed missing.1 in
+    let needed = passed r PrecisionMissing precisions.2 in
+    let extra = passed r PrecisionNotAllowed needed.1 in
+    let precise = precision_joined p q (not_false (has_needed_precision p q) needed.0)
+    (not_false (precision_allowed p q) extra.0) in
     let stood = both_true (steps_to d before) (has_place p k)
     (not_false (steps_to d before && has_place p k) place.0) in
     passed_row l before a b c e f r d k id q (judged_points l before d k id q f r extra.1) at.1 of.1 ids.1 precisions.1
     stood.0 stood.1 (not_false (nest_kept l p d) nest.0) (omega (arith, nodes.0))
     (not_false (id_allowed p k id) allowed.0) (not_false
     (has_same_ids (first_child d before) id) same.0)
-    (precision_ok p q missing.0 extra.0) (room d)
+    precise (room d)
 
 -- ---- what the rows so far allow
 

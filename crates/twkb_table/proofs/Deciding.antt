@@ -1,7 +1,7 @@
 -- Each record has a verdict, so that records name geometries or have a fault.
 use Rattle.std.proofs.Common.{◌≡◌, ℕ, ◌≤◌, ◌⊎◌, Bool, true, false, List, [], ◌∷◌, Option, refl, arith, inl, inr}
-use Rattle.std.specs.Prelude.{ℤ, is_some, ◌&&◌, nat_le}
-use Rattle.std.proofs.lemmas.Bool.{true≢false, false≢true}
+use Rattle.std.specs.Prelude.{ℤ, ◌&&◌, nat_le}
+use Rattle.std.proofs.lemmas.Bool.{true≢false}
 use Rattle.std.proofs.lemmas.Bool.Decides.{nat_tests}
 use Rattle.twkb_points.specs.Point.{Point}
 use Rattle.twkb_polyline.specs.Polyline.{DecodesTo}
@@ -11,14 +11,15 @@ use Rattle.twkb_tree.specs.declared.kind.Kind.{Kind}
 use Rattle.twkb_tree.specs.Tree.{Tree}
 use Rattle.twkb_tree.specs.Rows.{Row}
 use Rattle.twkb_tree.specs.Limits.{Allowance, IsAllowance}
-use Rattle.twkb_tree.specs.Admits.{has_place, id_allowed, has_same_ids, is_geometry, points_fit, has_points}
+use Rattle.twkb_tree.specs.Admits.{has_place, id_allowed, has_same_ids, has_needed_precision}
+use Rattle.twkb_tree.specs.Admits.{precision_allowed, is_geometry, points_fit, has_points}
 use Rattle.twkb_tree.specs.Accepted.{nest_kept}
 use Rattle.twkb_table.specs.Fields.{IsDepthField, IsOptionalId, IsOptionalPrecision}
 use Rattle.twkb_tree.specs.Kind.{word_of}
 use Rattle.twkb_table.specs.Record.{Record}
 use Rattle.twkb_table.specs.Named.{Named}
 use Rattle.twkb_table.specs.Judged.{Verdict, Accepted, Refused, When, Unless, UnlessFaulty, Place}
-use Rattle.twkb_table.specs.Judged.{place_of, points_left, JudgedByPoints, JudgedByPrecision}
+use Rattle.twkb_table.specs.Judged.{place_of, points_left, JudgedByCount, JudgedByPoints, JudgedByPrecision}
 use Rattle.twkb_table.specs.Judged.{JudgedById, JudgedByPlace, Judged}
 use Rattle.twkb_table.specs.Reading.{Reading, Whole, Stopped, read_table, IsReading}
 use Rattle.twkb_table.specs.RowFault.{RowFault}
@@ -38,10 +39,6 @@ use Rattle.twkb_table.proofs.ReadingLaws.{reads_table}
 -- P holds or does not hold
 abbrev Decided : Type 0 → Type 0
 Decided P = P ⊎ (P → ⊥)
-
-is_true : (b : Bool) → Decided (b ≡ true)
-is_true true = inl refl
-is_true false = inr (λ e. false≢true e)
 
 is_false : (b : Bool) → Decided (b ≡ false)
 is_false true = inr (λ e. true≢false e)
@@ -84,40 +81,33 @@ told_text : (text : List ℕ) (most : ℕ) (Others : List Point → Verdict → 
 told_text text most Others (inl d) others = ((others d.0).0, inr (d.0, d.1, (others d.0).1))
 told_text text most Others (inr f) others = (Refused (Polyline f.0 f.1), inl (f.0, f.1, f.2, refl))
 
+by_count : (here : Place) (k : Kind) (id q : Option ℤ) (ps : List Point)
+    → Told (JudgedByCount here k id q ps)
+by_count here k id q ps =
+    let row : Row = record { depth = here.depth; kind = k; id = id; precision = q; points = ps } in
+    told_when _ (λ v. v ≡ Accepted row) PointCount
+    (is_false (points_fit k (is_geometry here.parent) ps)) (Accepted row, refl)
+
 by_points : (l : Allowance) (here : Place) (k : Kind) (id q : Option ℤ) (text : List ℕ)
     → Told (JudgedByPoints l here k id q text)
 by_points l here k id q text =
-    let Last : List Point → Verdict → Type 0 = λ ps v.
-    (v ≡ Accepted (record {
-      depth = here.depth;
-      kind = k;
-      id = id;
-      precision = q;
-      points = ps;
-    })) in
-    let Counted : List Point → Verdict → Type 0 = λ ps v.
-    When v (points_fit k (is_geometry here.parent) ps ≡ false) PointCount (Last ps v) in
+    let Counted : List Point → Verdict → Type 0 = JudgedByCount here k id q in
     told_when _ (λ v. UnlessFaulty text (points_left l here) v (λ ps. Counted ps v))
     PolylineNotAllowed (both_decided (some_text text) (is_false (has_points k)))
-    (told_text text (points_left l here) Counted (text_or_fault text (points_left l here))
-    (λ ps. told_when _ (Last ps) PointCount (is_false (points_fit k (is_geometry here.parent) ps)) (
-      Accepted (record { depth = here.depth; kind = k; id = id; precision = q; points = ps }),
-      refl,
-    )))
+    (told_text text (points_left l here) Counted (text_or_fault text (points_left l here)) (by_count here k id q))
 
 by_precision : (l : Allowance) (here : Place) (k : Kind) (id : Option ℤ) (field text : List ℕ)
     → Told (JudgedByPrecision l here k id field text)
 by_precision l here k id field text =
-    let w = is_geometry here.parent in
+    let p = here.parent in
     told_unless (IsOptionalPrecision field)
-    (λ q v. When v ((w ≡ true) × (is_some q ≡ false)) PrecisionMissing
-    (When v ((w ≡ false) × (is_some q ≡ true)) PrecisionNotAllowed
+    (λ q v. When v (has_needed_precision p q ≡ false) PrecisionMissing
+    (When v (precision_allowed p q ≡ false) PrecisionNotAllowed
     (JudgedByPoints l here k id q text v))) BadPrecision (decided_optional_precision field)
-    (λ q. told_when _ (λ v. When v ((w ≡ false) × (is_some q ≡ true)) PrecisionNotAllowed
-    (JudgedByPoints l here k id q text v)) PrecisionMissing
-    (both_decided (is_true w) (is_false (is_some q)))
+    (λ q. told_when _ (λ v. When v (precision_allowed p q ≡ false) PrecisionNotAllowed
+    (JudgedByPoints l here k id q text v)) PrecisionMissing (is_false (has_needed_precision p q))
     (told_when _ (JudgedByPoints l here k id q text) PrecisionNotAllowed
-    (both_decided (is_false w) (is_true (is_some q))) (by_points l here k id q text)))
+    (is_false (precision_allowed p q)) (by_points l here k id q text)))
 
 by_id : (l : Allowance) (here : Place) (k : Kind) (id_field field text : List ℕ)
     → Told (JudgedById l here k id_field field text)

@@ -1,9 +1,8 @@
 -- The row of a record whose points are read after its other fields.
-use Rattle.std.proofs.Common.{◌≡◌, ◌≢◌, ℕ, ◌-◌, ◌<◌, ◌≤◌, ◌==◌, List, [], ◌∷◌, ◌++◌, length, take}
+use Rattle.std.proofs.Common.{◌≡◌, ◌≢◌, ℕ, ◌-◌, ◌<◌, ◌≤◌, ◌==◌, List, [], ◌∷◌, ◌++◌, length}
 use Rattle.std.proofs.Common.{Bool, true, false, Option, Some, None, inl, inr, refl, sym, ◌∙◌, ap}
 use Rattle.std.proofs.Common.{subst, arith, length-append}
 use Rattle.std.specs.Prelude.{IfSome, reverse}
-use Rattle.std.proofs.lemmas.List.{take_at}
 use Rattle.std.proofs.lemmas.Bool.{eqb-true, true≢false}
 use Rattle.twkb_points.specs.Point.{Point}
 use Rattle.twkb_polyline.specs.Polyline.{AppendsDecoded, DecodesTo}
@@ -12,7 +11,7 @@ use Rattle.twkb_polyline.specs.declared.fault.PolyFault.{PolyFault}
 use Rattle.twkb_polyline.specs.declared.fault.PolyFault.TheVariants.{At}
 use Rattle.twkb_polyline.specs.declared.fault.PolyReason.{PolyReason}
 use Rattle.twkb_tree.specs.declared.kind.Kind.TheVariants as kind
-use Rattle.twkb_tree.specs.Admits.{has_points, is_geometry, points_fit}
+use Rattle.twkb_tree.specs.Admits.{has_points}
 use Rattle.twkb_tree.specs.Limits.{Allowance}
 use Rattle.twkb_tree.specs.Rows.{Row}
 use Rattle.twkb_tree.specs.RowLists.{AreValidRowsOfOne}
@@ -21,8 +20,10 @@ use Rattle.twkb_flat.specs.Rows.{row_with}
 use Rattle.twkb_flat.specs.declared.node.Row.{Row as Bare}
 use Rattle.twkb_table.specs.Record.{Record}
 use Rattle.twkb_table.specs.Judged.{Verdict, Accepted, Refused}
-use Rattle.twkb_table.specs.declared.reason.RowReason.TheVariants.{PolylineNotAllowed, Polyline, PointCount}
+use Rattle.twkb_table.specs.declared.reason.RowReason.{RowReason}
+use Rattle.twkb_table.specs.declared.reason.RowReason.TheVariants.{PolylineNotAllowed, Polyline}
 use Rattle.twkb_table.specs.Head.{head_row, JudgedAs}
+use Rattle.twkb_table.specs.Places.{AllowsCount, RefusesCount}
 use Rattle.twkb_table.specs.Standing.{place_seen}
 use Rattle.twkb_table.specs.RowReading.{JudgedAfter}
 use Rattle.twkb_table.specs.declared.head.RowHead.{RowHead}
@@ -53,13 +54,16 @@ comes_next l rows fields head row own of_one read row_is given =
     (read (Accepted (row_with (head_row head) own)) given) in
     record { judged = judged; accepts = accepts_next l rows fields row of_one (judged []) }
 
--- a text of one point is that of a row of kind point, if there is room for it
+-- the place of the row allows this many points
+abbrev pub AllowsMany : RowHead → ℕ → Type 0
+AllowsMany head count =
+    (ps : List Point) → length ps ≡ count → AllowsCount (place_seen head.row_place) head.kind ps
+
+-- a text of one point is that of a row of kind point, if its place allows it and there is room
 one_accepted : (head : RowHead) (p : Point) → head.kind ≡ kind.Point
-    → head.row_place.points < head.limits.points → DecodesTo head.text.now 1 (p ∷ [])
-    → JudgedAs head (Accepted (row_with (head_row head) (p ∷ [])))
-one_accepted head p is room read =
-    let fits : points_fit head.kind (is_geometry (place_seen head.row_place).parent) (p ∷ []) ≡ true =
-    ap (λ k. points_fit k (is_geometry (place_seen head.row_place).parent) (p ∷ [])) is in
+    → head.row_place.points < head.limits.points → AllowsMany head 1
+    → DecodesTo head.text.now 1 (p ∷ []) → JudgedAs head (Accepted (row_with (head_row head) (p ∷ [])))
+one_accepted head p is room allows read =
     inr (
       λ bare. true≢false (sym (ap has_points is) ∙ bare.1),
       inr (
@@ -69,15 +73,16 @@ one_accepted head p is room read =
           in_range = read.in_range;
           few = omega (arith, room);
         },
-        inr (λ e. true≢false (sym fits ∙ e), refl),
+        allows (p ∷ []) refl head.id head.precision,
       ),
     )
 
 pub one_judged : (head : RowHead) (r : Option Point) → head.kind ≡ kind.Point
-    → head.row_place.points < head.limits.points → IfSome r (λ p. DecodesTo head.text.now 1 (p ∷ []))
+    → head.row_place.points < head.limits.points → AllowsMany head 1
+    → IfSome r (λ p. DecodesTo head.text.now 1 (p ∷ []))
     → IfSome r (λ p. JudgedAs head (Accepted (row_with (head_row head) (p ∷ []))))
-one_judged head None is room read = tt
-one_judged head (Some p) is room read = one_accepted head p is room read
+one_judged head None is room allows read = tt
+one_judged head (Some p) is room allows read = one_accepted head p is room allows read
 
 -- ---- the points of a row
 
@@ -132,22 +137,11 @@ pub has_grown : (text : List ℕ) (left held count : ℕ) (old new : List Point)
 has_grown text left held count old new a before after = omega
     (arith, before, after, ap length a.appended, length-append old a.ps)
 
-pub cut_back : (text : List ℕ) (left held : ℕ) (old new back : List Point)
-    → AppendsDecoded text left old new → held ≡ length old → back ≡ take held new → back ≡ old
-cut_back text left held old new back a before cut = cut ∙ ap (take held) a.appended ∙ take_at old a.ps held (sym before)
-
--- whether the row may have as many points as the list grew by
-abbrev pub TellsFit : RowHead → Bool → ℕ → Bool → Type 0
-TellsFit head whole count fits = (whole ≡ is_geometry (place_seen head.row_place).parent)
-    × ((ps : List Point) → length ps ≡ count → points_fit head.kind whole ps ≡ fits)
-
-fit_is : (head : RowHead) (left held count : ℕ) (whole fits : Bool) (old new : List Point)
-    (a : AppendsDecoded head.text.now left old new) → held ≡ length old → count ≡ length new
-    → TellsFit head whole (count - held) fits
-    → points_fit head.kind (is_geometry (place_seen head.row_place).parent) a.ps ≡ fits
-fit_is head left held count whole fits old new a before after (is, tells) =
-    subst (λ w. points_fit head.kind w a.ps ≡ fits) is
-    (tells a.ps (omega (arith, before, after, ap length a.appended, length-append old a.ps)))
+-- as many points were decoded as the list grew by
+grown_by : (text : List ℕ) (left held count : ℕ) (old new : List Point) (a : AppendsDecoded text left old new)
+    → held ≡ length old → count ≡ length new → length a.ps ≡ count - held
+grown_by text left held count old new a before after = omega
+    (arith, before, after, ap length a.appended, length-append old a.ps)
 
 decoded_left : (head : RowHead) (points left : ℕ) (ps : List Point) → AreLeft head points left
     → DecodesTo head.text.now left ps → DecodesTo head.text.now
@@ -155,13 +149,12 @@ decoded_left : (head : RowHead) (points left : ℕ) (ps : List Point) → AreLef
 decoded_left head points left ps are_left = subst (λ m. DecodesTo head.text.now m ps)
     (left_is head points left are_left)
 
-pub points_accepted : (head : RowHead) (points left held count : ℕ) (whole fits : Bool)
-    (old new : List Point) → (HasNeedlessText head → ⊥) → AreLeft head points left
-    → AppendsDecoded head.text.now left old new → held ≡ length old → count ≡ length new
-    → TellsFit head whole (count - held) fits → fits ≡ true
+pub points_accepted : (head : RowHead) (points left held count : ℕ) (old new : List Point)
+    → (HasNeedlessText head → ⊥) → AreLeft head points left → AppendsDecoded head.text.now left old new
+    → held ≡ length old → count ≡ length new → AllowsMany head (count - held)
     → (own : List Point) × (new ≡ old ++ own) × JudgedAs head (Accepted (row_with (head_row head) own))
-points_accepted head points left held count whole fits old new needed are_left a before after tells fitting =
-    let fit = fit_is head left held count whole fits old new a before after tells in (
+points_accepted head points left held count old new needed are_left a before after allows =
+    let many = grown_by head.text.now left held count old new a before after in (
       a.ps,
       a.appended,
       inr (
@@ -169,16 +162,27 @@ points_accepted head points left held count whole fits old new needed are_left a
         inr (
           a.ps,
           decoded_left head points left a.ps are_left a.decoded,
-          inr (λ e. true≢false (sym fitting ∙ sym fit ∙ e), refl),
+          allows a.ps many head.id head.precision,
         ),
       ),
     )
 
-pub points_refused : (head : RowHead) (points left held count : ℕ) (whole fits : Bool)
-    (old new : List Point) → (HasNeedlessText head → ⊥) → AreLeft head points left
-    → AppendsDecoded head.text.now left old new → held ≡ length old → count ≡ length new
-    → TellsFit head whole (count - held) fits → fits ≡ false
-    → JudgedAs head (Refused PointCount)
-points_refused head points left held count whole fits old new needed are_left a before after tells misfit =
-    let fit = fit_is head left held count whole fits old new a before after tells in
-    inr (needed, inr (a.ps, decoded_left head points left a.ps are_left a.decoded, inl (fit ∙ misfit, refl)))
+-- the place of the row refuses this many points for this reason
+abbrev pub RefusesMany : RowHead → ℕ → RowReason → Type 0
+RefusesMany head count reason =
+    (ps : List Point) → length ps ≡ count → RefusesCount (place_seen head.row_place) head.kind ps reason
+
+pub points_refused : (head : RowHead) (points left held count : ℕ) (old new : List Point) (reason : RowReason)
+    → (HasNeedlessText head → ⊥) → AreLeft head points left → AppendsDecoded head.text.now left old new
+    → held ≡ length old → count ≡ length new → RefusesMany head (count - held) reason
+    → JudgedAs head (Refused reason)
+points_refused head points left held count old new reason needed are_left a before after refuses =
+    let many = grown_by head.text.now left held count old new a before after in
+    inr (
+      needed,
+      inr (
+        a.ps,
+        decoded_left head points left a.ps are_left a.decoded,
+        refuses a.ps many head.id head.precision,
+      ),
+    )

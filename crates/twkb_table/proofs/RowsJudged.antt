@@ -1,25 +1,25 @@
 -- The verdict on the record of a row that may come next is that row, and nothing else.
 use Rattle.std.proofs.Common.{◌≡◌, ◌≤◌, true, false, List, [], length, Option, Some, None, refl}
 use Rattle.std.proofs.Common.{sym, ap, subst, arith, inl, inr}
-use Rattle.std.specs.Prelude.{ℤ, ◌&&◌, decimal, is_some, IfSome}
-use Rattle.std.proofs.lemmas.Bool.{true≢false, false≢true}
+use Rattle.std.specs.Prelude.{ℤ, ◌&&◌, decimal, IfSome}
 use Rattle.twkb_points.specs.Point.{Point}
 use Rattle.twkb_polyline.specs.Polyline.{polyline, DecodesTo}
 use Rattle.twkb_tree.specs.Tree.{IsPrecision}
 use Rattle.twkb_tree.specs.Rows.{Row}
 use Rattle.twkb_tree.specs.Limits.{Allowance}
 use Rattle.twkb_tree.specs.Admits.{parent, first_child, steps_to, has_place, id_allowed}
-use Rattle.twkb_tree.specs.Admits.{has_same_ids, is_geometry, has_points, points_fit}
-use Rattle.twkb_tree.specs.Admits.{precision_in_range, precision_fits, fits}
+use Rattle.twkb_tree.specs.Admits.{has_same_ids, has_needed_precision, precision_allowed}
+use Rattle.twkb_tree.specs.Admits.{is_geometry, has_points, points_fit, precision_in_range, fits}
 use Rattle.twkb_tree.specs.Accepted.{nest_kept, geometry_rows, Accepts}
 use Rattle.twkb_tree.proofs.RowFacts.{Facts, facts, no_points_of}
+use Rattle.twkb_tree.proofs.RefusalLaws.{precision_tested}
 use Rattle.twkb_tree.proofs.RowRanges.{optional_id_is, precision_is}
 use Rattle.twkb_table.specs.Fields.{optional, IsDepthField, IsOptionalId, IsOptionalPrecision}
 use Rattle.twkb_tree.specs.Kind.{word_of}
 use Rattle.twkb_table.specs.Record.{record_of}
 use Rattle.twkb_table.specs.Judged.{Verdict, Accepted, When, Unless, UnlessFaulty, place_of}
-use Rattle.twkb_table.specs.Judged.{points_left, JudgedByPoints, JudgedByPrecision, JudgedByPlace}
-use Rattle.twkb_table.specs.Judged.{Judged}
+use Rattle.twkb_table.specs.Judged.{points_left, JudgedByCount, JudgedByPoints, JudgedByPrecision}
+use Rattle.twkb_table.specs.Judged.{JudgedByPlace, Judged}
 use Rattle.twkb_table.specs.declared.reason.RowReason.TheVariants.{BadDepth, BadKind, BadPlace}
 use Rattle.twkb_table.specs.declared.reason.RowReason.TheVariants.{TooDeep, TooManyNodes, BadId}
 use Rattle.twkb_table.specs.declared.reason.RowReason.TheVariants.{IdNotAllowed, MixedIds}
@@ -29,16 +29,6 @@ use Rattle.twkb_table.specs.declared.reason.RowReason.TheVariants.{PolylineNotAl
 use Rattle.twkb_polyline.proofs.OneFault.{one_polyline, text_fault_none}
 use Rattle.twkb_table.proofs.FieldLemmas.{one_depth, one_word, one_optional, precision-ids}
 use Rattle.twkb_table.proofs.Verdicts.{both_true, both, stays_true, skip, pick}
-
-whole_known : (p : Option Row) (q : Option ℤ) → precision_fits p q ≡ true → (is_geometry p ≡ true)
-    × (is_some q ≡ false) → ⊥
-whole_known p None h e = true≢false (sym (rw e.0 at h))
-whole_known p (Some n) h e = true≢false e.1
-
-part_known : (p : Option Row) (q : Option ℤ) → precision_fits p q ≡ true
-    → (is_geometry p ≡ false) × (is_some q ≡ true) → ⊥
-part_known p None h e = false≢true e.1
-part_known p (Some n) h e = true≢false (sym (rw e.0 at h))
 
 pub optional_precision_is : (q : Option ℤ) → precision_in_range q ≡ true → IfSome q IsPrecision
 optional_precision_is None h = tt
@@ -60,9 +50,8 @@ judged_polyline : (l : Allowance) (before : List Row) (r : Row) (v : Verdict)
 judged_polyline l before r v h own j =
     let k = r.kind in
     let w = is_geometry (parent r.depth before) in
-    let Last : List Point → Type 0 = λ (ps : List Point). When v (points_fit k w ps ≡ false)
-    PointCount (v ≡ Accepted
-    (record { depth = r.depth; kind = k; id = r.id; precision = r.precision; points = ps })) in
+    let Last : List Point → Type 0 = λ (ps : List Point).
+    JudgedByCount (place_of r.depth before) k r.id r.precision ps v in
     let of : UnlessFaulty (polyline r.points) (points_left l (place_of r.depth before)) v Last =
     skip v PolylineNotAllowed j (λ e. e.0 (ap polyline (no_points_of k k w r.points refl e.1 h.points))) in
     let last : Last r.points = elim of [
@@ -101,13 +90,14 @@ judged_only l before r v a le j =
     let allowed = skip v IdNotAllowed ids (stays_true (id_allowed p k r.id) h.id) in
     let same = skip v MixedIds allowed (stays_true (has_same_ids f r.id) h.same) in
     let precisions = pick (IsOptionalPrecision (optional r.precision))
-    (λ q. When v ((is_geometry p ≡ true) × (is_some q ≡ false)) PrecisionMissing
-    (When v ((is_geometry p ≡ false) × (is_some q ≡ true)) PrecisionNotAllowed
+    (λ q. When v (has_needed_precision p q ≡ false) PrecisionMissing
+    (When v (precision_allowed p q ≡ false) PrecisionNotAllowed
     (JudgedByPoints l (place_of d before) k r.id q (polyline r.points) v))) v BadPrecision
     r.precision same (refl, precise)
     (λ q e. sym (one_optional r.precision q (precision-ids r.precision precise) (precision-ids q e.1) e.0)) in
-    let missing = skip v PrecisionMissing precisions (whole_known p r.precision h.precision) in
-    let extra = skip v PrecisionNotAllowed missing (part_known p r.precision h.precision) in
+    let tested = precision_tested p r.precision h.precision in
+    let needed = skip v PrecisionMissing precisions (stays_true (has_needed_precision p r.precision) tested.0) in
+    let extra = skip v PrecisionNotAllowed needed (stays_true (precision_allowed p r.precision) tested.1) in
     judged_polyline l before r v h (decoded l before r a) extra
 
 pub row_judged : (l : Allowance) (before : List Row) (r : Row) → Accepts l before r → r.depth ≤ 999
@@ -129,13 +119,13 @@ row_judged l before r a le =
     let precise = optional_precision_is r.precision h.range in
     let counted = inr (stays_true (points_fit k (is_geometry p) r.points) h.points, refl) in
     let points = inr (no_text, inr (r.points, decoded l before r a, counted)) in
+    let tested = precision_tested p r.precision h.precision in
     let precisions = inr (
       r.precision,
       (refl, precise),
       inr (
-        whole_known p r.precision h.precision,
-        inr
-            (part_known p r.precision h.precision, points),
+        stays_true (has_needed_precision p r.precision) tested.0,
+        inr (stays_true (precision_allowed p r.precision) tested.1, points),
       ),
     ) in
     let ids = inr (

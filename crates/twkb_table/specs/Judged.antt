@@ -1,7 +1,7 @@
 -- The verdict on a record after the rows so far: a row, or refused for the first reason that
 -- holds (profile).
 use Rattle.std.specs.Prelude.{◌≡◌, ◌≢◌, ℕ, ◌-◌, ◌≤◌, ◌⊎◌, ◌&&◌, ℤ, List, [], ◌∷◌, length, Option}
-use Rattle.std.specs.Prelude.{Bool, true, false, is_some}
+use Rattle.std.specs.Prelude.{Bool, false}
 use Rattle.twkb_points.specs.Point.{Point}
 use Rattle.twkb_polyline.specs.Polyline.{DecodesTo}
 use Rattle.twkb_polyline.specs.Fault.{IsTextFault}
@@ -10,7 +10,8 @@ use Rattle.twkb_tree.specs.declared.kind.Kind.{Kind}
 use Rattle.twkb_tree.specs.Rows.{Row}
 use Rattle.twkb_tree.specs.Limits.{Allowance}
 use Rattle.twkb_tree.specs.Admits.{parent, first_child, steps_to, has_place, id_allowed}
-use Rattle.twkb_tree.specs.Admits.{has_same_ids, is_geometry, points_fit, has_points}
+use Rattle.twkb_tree.specs.Admits.{has_same_ids, has_needed_precision, precision_allowed}
+use Rattle.twkb_tree.specs.Admits.{is_geometry, points_fit, has_points}
 use Rattle.twkb_tree.specs.Accepted.{nest_kept, geometry_rows, point_count}
 use Rattle.twkb_table.specs.Fields.{IsDepthField, IsOptionalId, IsOptionalPrecision}
 use Rattle.twkb_tree.specs.Kind.{word_of}
@@ -70,19 +71,23 @@ place_of d before = record {
 abbrev pub points_left : Allowance → Place → ℕ
 points_left l here = l.points - here.points
 
--- the reasons PolylineNotAllowed, Polyline and PointCount, in this order
+-- the reason PointCount, given the points that the text decodes to
+abbrev pub JudgedByCount : Place → Kind → Option ℤ → Option ℤ → List Point → Verdict → Type 0
+JudgedByCount here k id precision ps v =
+    When v (points_fit k (is_geometry here.parent) ps ≡ false) PointCount
+    (v ≡ Accepted (record { depth = here.depth; kind = k; id = id; precision = precision; points = ps }))
+
+-- the reasons PolylineNotAllowed and Polyline, followed by that of the number of points
 abbrev pub JudgedByPoints : Allowance → Place → Kind → Option ℤ → Option ℤ → List ℕ → Verdict → Type 0
 JudgedByPoints l here k id precision text v =
     When v ((text ≢ []) × (has_points k ≡ false)) PolylineNotAllowed
-    (UnlessFaulty text (points_left l here) v (λ ps.
-    When v (points_fit k (is_geometry here.parent) ps ≡ false) PointCount
-    (v ≡ Accepted (record { depth = here.depth; kind = k; id = id; precision = precision; points = ps }))))
+    (UnlessFaulty text (points_left l here) v (λ ps. JudgedByCount here k id precision ps v))
 
 -- the reasons PrecisionMissing and PrecisionNotAllowed, followed by those of the points
 abbrev pub JudgedHavingPrecision : Allowance → Place → Kind → Option ℤ → Option ℤ → List ℕ → Verdict → Type 0
 JudgedHavingPrecision l here k id precision text v =
-    When v ((is_geometry here.parent ≡ true) × (is_some precision ≡ false)) PrecisionMissing
-    (When v ((is_geometry here.parent ≡ false) × (is_some precision ≡ true)) PrecisionNotAllowed
+    When v (has_needed_precision here.parent precision ≡ false) PrecisionMissing
+    (When v (precision_allowed here.parent precision ≡ false) PrecisionNotAllowed
     (JudgedByPoints l here k id precision text v))
 
 -- the reason BadPrecision, followed by the others of the precision

@@ -1,9 +1,11 @@
--- The verdict that the parts of a row's place, its id and its precision give its record.
+-- The verdict that a row's place, its id, its precision and the number of its points give its record.
 use Rattle.std.specs.Prelude.{ℕ, ℤ, List, Option}
 use Rattle.twkb_tree.specs.declared.kind.Kind.{Kind}
 use Rattle.twkb_tree.specs.Limits.{Allowance}
-use Rattle.twkb_table.specs.Judged.{Verdict, Refused, Place, JudgedByPlace, JudgedById}
-use Rattle.twkb_table.specs.Judged.{JudgedByPrecision, JudgedByPoints, JudgedHavingId, JudgedHavingPrecision}
+use Rattle.twkb_points.specs.Point.{Point}
+use Rattle.twkb_table.specs.Judged.{Verdict, Accepted, Refused, Place, JudgedByPlace, JudgedById}
+use Rattle.twkb_table.specs.Judged.{JudgedByPrecision, JudgedByPoints, JudgedByCount, JudgedHavingId}
+use Rattle.twkb_table.specs.Judged.{JudgedHavingPrecision}
 use Rattle.twkb_table.specs.declared.reason.RowReason.{RowReason}
 
 -- a row of this kind may come at this place: the verdict on its id is the verdict on its place
@@ -69,3 +71,19 @@ abbrev pub LacksPrecision : Place → List ℕ → RowReason → Type 0
 LacksPrecision here field reason =
     (l : Allowance) (k : Kind) (id : Option ℤ) (text : List ℕ)
     → JudgedByPrecision l here k id field text (Refused reason)
+
+-- a row of this kind may have these points at this place: the record is accepted
+abbrev pub AllowsCount : Place → Kind → List Point → Type 0
+AllowsCount here k ps =
+    (id precision : Option ℤ)
+    → JudgedByCount here k id precision ps (Accepted (record {
+      depth = here.depth;
+      kind = k;
+      id = id;
+      precision = precision;
+      points = ps;
+    }))
+
+-- a row of this kind may not have as many points as these at this place, for this reason
+abbrev pub RefusesCount : Place → Kind → List Point → RowReason → Type 0
+RefusesCount here k ps reason = (id precision : Option ℤ) → JudgedByCount here k id precision ps (Refused reason)

@@ -1,13 +1,11 @@
 -- The reason of the first rule of rows that a row breaks.
-use Rattle.std.specs.Prelude.{true, ◌&&◌, nat_lt, List, [], ◌∷◌, Option, Some, None, if◌then◌else◌}
+use Rattle.std.specs.Prelude.{true, List, [], ◌∷◌, Option, Some, None, if◌then◌else◌}
 use Rattle.twkb_polyline.specs.declared.fault.PolyReason.TheVariants as text
 use Rattle.twkb_tree.specs.declared.kind.Kind.{Kind}
 use Rattle.twkb_tree.specs.declared.row_place.RowPlace.{RowPlace}
-use Rattle.twkb_tree.specs.Accepted.{nest_kept}
-use Rattle.twkb_tree.specs.Admits.{has_place}
 use Rattle.twkb_tree.specs.Limits.{Allowance}
 use Rattle.twkb_tree.specs.Open.{row_of}
-use Rattle.twkb_tree.specs.Refusal.{Refusal, Check, check}
+use Rattle.twkb_tree.specs.Refusal.{Refusal, Check, place_checks}
 use Rattle.twkb_table.specs.declared.reason.RowReason.{RowReason}
 use Rattle.twkb_table.specs.declared.reason.RowReason.TheVariants as row
 
@@ -33,9 +31,5 @@ first_reason [] = None
 first_reason (c ∷ cs) = if c.holds then first_reason cs else Some (rule_reason c.otherwise)
 
 -- the tests of a row's kind at its place, which is at most one below the row before
-abbrev pub place_checks : Allowance → RowPlace → Kind → List Check
-place_checks l here k =
-    check (true && has_place (row_of here.parent) k) Refusal.BadPlace
-    ∷ check (nest_kept l (row_of here.parent) here.depth) Refusal.TooDeep
-    ∷ check (nat_lt here.nodes l.nodes) Refusal.TooManyNodes
-    ∷ []
+abbrev pub kind_checks : Allowance → RowPlace → Kind → List Check
+kind_checks l here k = place_checks l true (row_of here.parent) here.nodes here.depth k

@@ -1,9 +1,10 @@
 //! A row that was read except for its points.
+use crate::places::refused_count;
 use crate::reason::RowReason;
 use twkb_flat::{PointSource, Row, Stop};
 use twkb_points::{PointTail, Pt};
 use twkb_polyline::{PolyFault, decode_into, decode_one};
-use twkb_tree::row_rules::{count_fits, has_points, is_geometry};
+use twkb_tree::row_rules::has_points;
 use twkb_tree::{Kind, Limits, RowPlace};
 
 // A row that was read except for its points: its place, its fields, and the text of its points.
@@ -36,8 +37,8 @@ impl RowHead<'_> {
         }
     }
 
-    // Fast path: reads the point of a row of kind point that has one, if the limit leaves room
-    // for it. `None` proves nothing.
+    // Fast path: reads the point of a row of kind point that has one, if its place allows one and
+    // the limit leaves room for it. `None` proves nothing.
     #[inline(always)]
     #[tactic(auto, using(crate::proofs::HeadLemmas::one_judged))]
     fn one_point(&self) -> Option<Pt>
@@ -49,7 +50,10 @@ impl RowHead<'_> {
         if self.limits.points() <= self.row_place.points {
             return None;
         }
-        decode_one(self.text)
+        match refused_count(&self.row_place, self.kind, 1) {
+            None => decode_one(self.text),
+            Some(_) => None,
+        }
     }
 }
 
@@ -85,13 +89,11 @@ impl PointSource for RowHead<'_> {
                 return Err(Stop::Refused(RowReason::Polyline(offset, reason)));
             }
         }
-        let whole = is_geometry(self.row_place.parent);
-        if count_fits(self.kind, whole, points.count() - held) {
-            Ok(())
-        } else {
+        if let Some(reason) = refused_count(&self.row_place, self.kind, points.count() - held) {
             points.cut(held);
-            Err(Stop::Refused(RowReason::PointCount))
+            return Err(Stop::Refused(reason));
         }
+        Ok(())
     }
 
     #[inline(always)]

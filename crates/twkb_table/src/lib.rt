@@ -30,7 +30,7 @@ pub use flat_text::put_flat_rows;
 pub use header::header_text;
 pub use judging::judge;
 pub use kind_word::{parse_kind, push_kind};
-pub use places::{refused_id, refused_place, refused_precision};
+pub use places::{refused_count, refused_id, refused_place, refused_precision};
 pub use printing::{put_rows, rows_text};
 pub use reason::RowReason;
 pub use record_source::RecordSource;

@@ -1,23 +1,28 @@
-//! The kind, the id and the precision that a row's place allows.
-ghost use Rattle.std.specs.Prelude.{◌≡◌, ℤ, Option, true, is_some, IfOk, IfErr, MatchOption};
+//! The kind, the id, the precision and the number of points that a row's place allows.
+ghost use Rattle.std.specs.Prelude.{◌≡◌, ℤ, List, length, Option, true, is_some, IfOk, IfErr, MatchOption};
+ghost use Rattle.twkb_points.specs.Point.{Point};
 ghost use Rattle.twkb_tree.specs.Admits.{id_in_range, precision_in_range};
 ghost use Rattle.twkb_tree.specs.Open.{row_of, child_of};
-ghost use Rattle.twkb_tree.specs.Refusal.{id_checks, precision_checks};
+ghost use Rattle.twkb_tree.specs.Refusal.{id_checks, precision_checks, count_checks};
 ghost use Rattle.twkb_tree.specs.Rows.{Row as TableRow};
 ghost use Rattle.twkb_table.specs.Places.{HasPlace, LacksPlace, HasId, LacksId, HasPrecision, LacksPrecision};
 ghost use Rattle.twkb_table.specs.Places.{AllowsId, RefusesId, AllowsPrecision, RefusesPrecision};
-ghost use Rattle.twkb_table.specs.RowRules.{first_reason, place_checks};
+ghost use Rattle.twkb_table.specs.Places.{AllowsCount, RefusesCount};
+ghost use Rattle.twkb_table.specs.RowRules.{first_reason, kind_checks};
 ghost use Rattle.twkb_table.specs.Standing.{place_seen};
 
 use crate::decimal::{parse_optional_id, parse_optional_precision};
 use crate::reason::RowReason;
-use twkb_tree::row_rules::{has_place, has_same_ids, id_allowed, is_geometry, nest_kept};
+use twkb_tree::row_rules::{
+    count_fits, has_needed_precision, has_place, has_same_ids, id_allowed, is_geometry, nest_kept,
+    precision_allowed,
+};
 use twkb_tree::{Kind, Limits, RowPlace};
 
 /// The reason why a row of this kind may not come at this place, if there is one. Takes no memory.
 #[inline(always)]
 pub fn refused_place(limits: &Limits, row_place: &RowPlace, kind: Kind) -> Option<RowReason>
-    ensures first { result ≡ first_reason (place_checks limits.now row_place.now kind) }
+    ensures first { result ≡ first_reason (kind_checks limits.now row_place.now kind) }
     ensures judged { MatchOption result (HasPlace limits.now (place_seen row_place.now) kind)
         (LacksPlace limits.now (place_seen row_place.now) kind) }
 {
@@ -63,17 +68,29 @@ pub fn refused_precision(row_place: &RowPlace, has_precision: bool) -> Option<Ro
         → MatchOption result (AllowsPrecision (place_seen row_place.now) precision)
         (RefusesPrecision (place_seen row_place.now) precision) }
 {
-    if is_geometry(row_place.parent) {
-        if has_precision {
-            None
-        } else {
-            Some(RowReason::PrecisionMissing)
-        }
-    } else if has_precision {
-        Some(RowReason::PrecisionNotAllowed)
-    } else {
-        None
+    if !has_needed_precision(row_place.parent, has_precision) {
+        return Some(RowReason::PrecisionMissing);
     }
+    if !precision_allowed(row_place.parent, has_precision) {
+        return Some(RowReason::PrecisionNotAllowed);
+    }
+    None
+}
+
+/// The reason why a row of this kind at this place may not have `count` points, if there is one.
+/// Takes no memory.
+#[inline(always)]
+pub fn refused_count(row_place: &RowPlace, kind: Kind, count: usize) -> Option<RowReason>
+    ensures first { (r : TableRow) → r.kind ≡ kind → length r.points ≡ count
+        → result ≡ first_reason (count_checks (row_of row_place.now.parent) r) }
+    ensures judged { (points : List Point) → length points ≡ count
+        → MatchOption result (AllowsCount (place_seen row_place.now) kind points)
+        (RefusesCount (place_seen row_place.now) kind points) }
+{
+    if !count_fits(kind, is_geometry(row_place.parent), count) {
+        return Some(RowReason::PointCount);
+    }
+    None
 }
 
 // Reads the id of a row of this kind at this place, or returns the reason to refuse it.

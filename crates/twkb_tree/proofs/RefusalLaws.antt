@@ -1,7 +1,7 @@
 -- A row is refused exactly if it is not accepted.
 use Rattle.std.proofs.Common.{◌≡◌, ℕ, ◌+◌, ◌<◌, ◌≤◌, Bool, true, false, List, [], ◌∷◌, length}
 use Rattle.std.proofs.Common.{Option, Some, None, refl, ap, arith, inl, inr}
-use Rattle.std.specs.Prelude.{ℤ, not, ◌&&◌, ◌||◌, is_some, is_none, nat_lt, nat_le, reverse}
+use Rattle.std.specs.Prelude.{ℤ, not, ◌&&◌, ◌||◌, is_some, is_none, nat_lt, nat_le, reverse, if◌then◌else◌}
 use Rattle.std.specs.List.{AllByRecursion}
 use Rattle.std.proofs.lemmas.Bool.{cases_Bool}
 use Rattle.std.proofs.lemmas.Bool.Decides.{nat_tests}
@@ -9,9 +9,9 @@ use Rattle.twkb_points.specs.Point.{Point, AreInRange}
 use Rattle.twkb_tree.specs.declared.kind.Kind.{Kind}
 use Rattle.twkb_tree.specs.Limits.{Allowance}
 use Rattle.twkb_tree.specs.Rows.{Row}
-use Rattle.twkb_tree.specs.Admits.{steps_to, parent, first_child, has_place, is_geometry, has_points}
+use Rattle.twkb_tree.specs.Admits.{steps_to, parent, first_child, has_place, is_collection, is_geometry, has_points}
 use Rattle.twkb_tree.specs.Admits.{id_in_range, id_allowed, has_same_ids, precision_in_range}
-use Rattle.twkb_tree.specs.Admits.{precision_fits, points_fit, fits}
+use Rattle.twkb_tree.specs.Admits.{has_needed_precision, precision_allowed, precision_fits, points_fit, fits}
 use Rattle.twkb_tree.specs.Accepted.{nest_kept, geometry_rows, point_count, Accepts, IsOneRoot, Continues}
 use Rattle.twkb_tree.specs.Refusal.{Refusal, Check, checks_under, first_failed, are_in_range}
 use Rattle.twkb_tree.specs.Refusal.{has_none, refusal_after, refusal, accepts, is_one_root}
@@ -46,16 +46,26 @@ none_fails (c ∷ cs) h = rw (h.0) (none_fails cs h.1)
 -- ---- the tests and what a row must be
 
 -- a precision that passes both tests fits
-precision_joined : (w : Bool) (p : Option Row) (q : Option ℤ) → is_geometry p ≡ w
-    → (not w || is_some q) ≡ true → (w || is_none q) ≡ true → precision_fits p q ≡ true
-precision_joined true p q e a b = rw e a
-precision_joined false p q e a b = rw e b
+pub precision_joined : (p : Option Row) (q : Option ℤ) → has_needed_precision p q ≡ true
+    → precision_allowed p q ≡ true → precision_fits p q ≡ true
+precision_joined None q a b = a
+precision_joined (Some p) q a b = joined_at (is_collection p.kind) q a b
+  where
+    joined_at : (w : Bool) (q : Option ℤ) → (not w || is_some q) ≡ true → (w || is_none q) ≡ true
+        → (if w then is_some q else is_none q) ≡ true
+    joined_at true q a b = a
+    joined_at false q a b = b
 
 -- a precision that fits passes both tests
-missing_test : (w : Bool) (p : Option Row) (q : Option ℤ) → is_geometry p ≡ w
-    → precision_fits p q ≡ true → ((not w || is_some q) ≡ true) × ((w || is_none q) ≡ true)
-missing_test true p q e h = (rw e at h, refl)
-missing_test false p q e h = (refl, rw e at h)
+pub precision_tested : (p : Option Row) (q : Option ℤ) → precision_fits p q ≡ true
+    → (has_needed_precision p q ≡ true) × (precision_allowed p q ≡ true)
+precision_tested None q h = (h, refl)
+precision_tested (Some p) q h = tested_at (is_collection p.kind) q h
+  where
+    tested_at : (w : Bool) (q : Option ℤ) → (if w then is_some q else is_none q) ≡ true
+        → ((not w || is_some q) ≡ true) × ((w || is_none q) ≡ true)
+    tested_at true q h = (h, refl)
+    tested_at false q h = (refl, h)
 
 -- points that fit pass the test of kinds without points
 points_test : (k : Kind) (w : Bool) (ps : List Point) → points_fit k w ps ≡ true → (has_points k || has_none ps) ≡ true
@@ -79,8 +89,8 @@ pub record Passes (l : Allowance) (steps : Bool) (p f : Option Row) (nodes point
   pub id : id_allowed p r.kind r.id ≡ true
   pub same : has_same_ids f r.id ≡ true
   pub range : precision_in_range r.precision ≡ true
-  pub missing : (not (is_geometry p) || is_some r.precision) ≡ true
-  pub extra : (is_geometry p || is_none r.precision) ≡ true
+  pub needed : has_needed_precision p r.precision ≡ true
+  pub precision : precision_allowed p r.precision ≡ true
   pub allowed : (has_points r.kind || has_none r.points) ≡ true
   pub in_range : are_in_range r.points ≡ true
   pub points_left : nat_le (points + length r.points) l.points ≡ true
@@ -102,8 +112,8 @@ passes l steps p f nodes points r e =
       id = from_4.0;
       same = from_4.1.0;
       range = from_4.1.1.0;
-      missing = from_4.1.1.1.0;
-      extra = from_8.0;
+      needed = from_4.1.1.1.0;
+      precision = from_8.0;
       allowed = from_8.1.0;
       in_range = from_8.1.1.0;
       points_left = from_8.1.1.1.0;
@@ -130,8 +140,8 @@ passed l steps p f nodes points r h =
                 (
                   h.range,
                   (
-                    h.missing,
-                    (h.extra, (h.allowed, (h.in_range, (h.points_left, (h.number, tt))))),
+                    h.needed,
+                    (h.precision, (h.allowed, (h.in_range, (h.points_left, (h.number, tt))))),
                   ),
                 ),
               ),
@@ -152,7 +162,7 @@ joined l steps p f nodes points r h =
       id = h.id;
       same = h.same;
       range = h.range;
-      precision = precision_joined (is_geometry p) p r.precision refl h.missing h.extra;
+      precision = precision_joined p r.precision h.needed h.precision;
       points = h.number;
     }))
 
@@ -163,7 +173,7 @@ pub apart : (l : Allowance) (steps : Bool) (p f : Option Row) (nodes points : �
 apart l steps p f nodes points r e nest few in_range room =
     let two = both_true steps (fits p f r) e in
     let h = facts p f r two.1 in
-    let precision = missing_test (is_geometry p) p r.precision refl h.precision in
+    let precision = precision_tested p r.precision h.precision in
     record {
       place = both steps (has_place p r.kind) two.0 h.place;
       nest = nest;
@@ -172,8 +182,8 @@ apart l steps p f nodes points r e nest few in_range room =
       id = h.id;
       same = h.same;
       range = h.range;
-      missing = precision.0;
-      extra = precision.1;
+      needed = precision.0;
+      precision = precision.1;
       allowed = points_test r.kind (is_geometry p) r.points h.points;
       in_range = are_in_range-true r.points in_range;
       points_left = test_within (points + length r.points) l.points room;

@@ -122,6 +122,16 @@ precision_in_range (Some n) = is_precision n
 abbrev pub precision_fits : Option Row → Option ℤ → Bool
 precision_fits p precision = if is_geometry p then is_some precision else is_none precision
 
+-- a row that is a geometry itself has a precision
+abbrev pub has_needed_precision : Option Row → Option ℤ → Bool
+has_needed_precision None precision = is_some precision
+has_needed_precision (Some p) precision = not (is_collection p.kind) || is_some precision
+
+-- a row that is not a geometry itself has no precision
+abbrev pub precision_allowed : Option Row → Option ℤ → Bool
+precision_allowed None precision = true
+precision_allowed (Some p) precision = is_collection p.kind || is_none precision
+
 -- a row has a number of points that its kind allows; a point that is part of a geometry has one
 abbrev pub points_fit : Kind → Bool → List Point → Bool
 points_fit k whole [] = whole || not (is_point k)

@@ -1,15 +1,16 @@
 -- The reason to refuse a row: the first test that it fails, in the order of the table's reasons
 -- (profile).
-use Rattle.std.specs.Prelude.{ℕ, ◌+◌, Bool, true, false, ◌&&◌, ◌||◌, not, is_some, is_none}
+use Rattle.std.specs.Prelude.{ℕ, ◌+◌, Bool, true, false, ◌&&◌, ◌||◌, is_none}
 use Rattle.std.specs.Prelude.{nat_lt, nat_le, ℤ, pos, negsuc, List, [], ◌∷◌, ◌++◌, length, Option}
 use Rattle.std.specs.Prelude.{Some, None, reverse, ◌==◌, if◌then◌else◌}
 use Rattle.twkb_points.specs.declared.point.TheConstants.{COORDINATE_BOUND}
 use Rattle.twkb_points.specs.Point.{Point}
+use Rattle.twkb_tree.specs.declared.kind.Kind.{Kind}
 use Rattle.twkb_tree.specs.Limits.{Allowance}
 use Rattle.twkb_tree.specs.Rows.{Row}
 use Rattle.twkb_tree.specs.Admits.{parent, first_child, steps_to, has_place, id_in_range}
 use Rattle.twkb_tree.specs.Admits.{id_allowed, has_same_ids, precision_in_range, is_geometry}
-use Rattle.twkb_tree.specs.Admits.{has_points, points_fit}
+use Rattle.twkb_tree.specs.Admits.{has_needed_precision, precision_allowed, has_points, points_fit}
 use Rattle.twkb_tree.specs.Accepted.{nest_kept, geometry_rows, point_count}
 
 -- the reasons for which a row may not come next
@@ -43,6 +44,15 @@ pub record Check : Type 0 where
 abbrev pub check : Bool → Refusal → Check
 check holds otherwise = record { holds = holds; otherwise = otherwise }
 
+-- the tests of a kind at this depth under this parent, given whether that is not too deep, and the
+-- rows of its geometry so far
+abbrev pub place_checks : Allowance → Bool → Option Row → ℕ → ℕ → Kind → List Check
+place_checks l steps p nodes depth k =
+    check (steps && has_place p k) BadPlace
+    ∷ check (nest_kept l p depth) TooDeep
+    ∷ check (nat_lt nodes l.nodes) TooManyNodes
+    ∷ []
+
 -- the tests of a row's id under this parent, given the parent's first child
 abbrev pub id_checks : Option Row → Option Row → Row → List Check
 id_checks p f r = check (id_in_range r.id) BadId ∷ check (id_allowed p r.kind r.id) IdNotAllowed
@@ -52,9 +62,13 @@ id_checks p f r = check (id_in_range r.id) BadId ∷ check (id_allowed p r.kind 
 abbrev pub precision_checks : Option Row → Row → List Check
 precision_checks p r =
     check (precision_in_range r.precision) BadPrecision
-    ∷ check (not (is_geometry p) || is_some r.precision) PrecisionMissing
-    ∷ check (is_geometry p || is_none r.precision) PrecisionNotAllowed
+    ∷ check (has_needed_precision p r.precision) PrecisionMissing
+    ∷ check (precision_allowed p r.precision) PrecisionNotAllowed
     ∷ []
+
+-- the tests of the number of a row's points under this parent
+abbrev pub count_checks : Option Row → Row → List Check
+count_checks p r = check (points_fit r.kind (is_geometry p) r.points) PointCount ∷ []
 
 -- the tests of a row's points under this parent, in a geometry that has `points` points so far
 abbrev pub point_checks : Allowance → Option Row → ℕ → Row → List Check
@@ -62,17 +76,14 @@ point_checks l p points r =
     check (has_points r.kind || has_none r.points) PointsNotAllowed
     ∷ check (are_in_range r.points) CoordinateRange
     ∷ check (nat_le (points + length r.points) l.points) TooManyPoints
-    ∷ check (points_fit r.kind (is_geometry p) r.points) PointCount
-    ∷ []
+    ∷ count_checks p r
 
 -- all tests of a row in order, from its parent and first child, whether it is not too deep, and
 -- the rows and points of its geometry so far
 abbrev pub checks_under : Allowance → Bool → Option Row → Option Row → ℕ → ℕ → Row → List Check
 checks_under l steps p f nodes points r =
-    check (steps && has_place p r.kind) BadPlace
-    ∷ check (nest_kept l p r.depth) TooDeep
-    ∷ check (nat_lt nodes l.nodes) TooManyNodes
-    ∷ id_checks p f r ++ (precision_checks p r ++ point_checks l p points r)
+    place_checks l steps p nodes r.depth r.kind
+    ++ (id_checks p f r ++ (precision_checks p r ++ point_checks l p points r))
 
 -- the tests of a row at this depth after the rows so far, last one first
 abbrev pub checks_at : Allowance → ℕ → List Row → Row → List Check

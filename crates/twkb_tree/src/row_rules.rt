@@ -2,7 +2,7 @@
 ghost use Rattle.std.specs.Prelude.{◌≡◌, ℤ, List, length, Option, is_some};
 ghost use Rattle.twkb_points.specs.Point.{Point};
 ghost use Rattle.twkb_tree.specs.Admits.{may_have, has_place, is_geometry, id_allowed, has_same_ids};
-ghost use Rattle.twkb_tree.specs.Admits.{points_fit, has_points};
+ghost use Rattle.twkb_tree.specs.Admits.{has_needed_precision, precision_allowed, points_fit, has_points};
 ghost use Rattle.twkb_tree.specs.Accepted.{nest_kept};
 ghost use Rattle.twkb_tree.specs.Open.{row_of, child_of};
 
@@ -76,6 +76,22 @@ pub fn has_same_ids(parent: Option<OpenRow>, has_id: bool) -> bool
             Some(first) => first == has_id,
         },
     }
+}
+
+/// Whether a row under this parent has a precision, if it needs one. Takes no memory.
+pub fn has_needed_precision(parent: Option<OpenRow>, has_precision: bool) -> bool
+    ensures value { (precision : Option ℤ) → is_some precision ≡ has_precision
+        → has_needed_precision (row_of parent) precision ≡ result }
+{
+    !is_geometry(parent) || has_precision
+}
+
+/// Whether a row under this parent may have a precision, if it has one. Takes no memory.
+pub fn precision_allowed(parent: Option<OpenRow>, has_precision: bool) -> bool
+    ensures value { (precision : Option ℤ) → is_some precision ≡ has_precision
+        → precision_allowed (row_of parent) precision ≡ result }
+{
+    is_geometry(parent) || !has_precision
 }
 
 /// Whether rows of this kind hold points themselves. Takes no memory.

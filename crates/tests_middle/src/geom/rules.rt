@@ -2,7 +2,8 @@
 //! rows of the program `vectors`.
 use crate::fixtures::{POINT_AND_LINE, form};
 use twkb_tree::row_rules::{
-    count_fits, has_place, has_points, has_same_ids, id_allowed, is_geometry, may_have, nest_kept,
+    count_fits, has_needed_precision, has_place, has_points, has_same_ids, id_allowed, is_geometry,
+    may_have, nest_kept, precision_allowed,
 };
 use twkb_tree::{Kind, Limits, OpenRow, RowPlace};
 
@@ -32,6 +33,13 @@ fn ids_of_rows(rt: HostRuntime) {
     let first = OpenRow::default().with_child(true);
     let is_kept = first.with_child(false) == first;
     assert!(rt; are_allowed & are_same & is_kept & (first.child_ids == Some(true)));
+}
+
+#[test]
+fn precisions_of_rows(rt: HostRuntime) {
+    let multipoint = under(Kind::MultiPoint, None);
+    let are_needed = !has_needed_precision(None, false) & has_needed_precision(multipoint, false);
+    assert!(rt; are_needed & precision_allowed(None, true) & !precision_allowed(multipoint, true));
 }
 
 #[test]

@@ -1,14 +1,23 @@
-use Rattle.std.proofs.Common.{inr}
+use Rattle.std.proofs.Common.{rules, ◌≡◌, [], None, Option}
+use Rattle.std.specs.Prelude.{ℤ}
+use Rattle.twkb_tree.specs.declared.kind.Kind.{Kind}
+use Rattle.twkb_tree.specs.Open.{row_of}
+use Rattle.twkb_tree.specs.Refusal.{precision_checks}
+use Rattle.twkb_tree.specs.Rows.{Row}
+use Rattle.twkb_table.specs.Judged.{JudgedByPoints}
+use Rattle.twkb_table.specs.RowRules.{first_reason}
+use Rattle.twkb_table.specs.Standing.{place_seen}
+use Rattle.twkb_table.proofs.Verdicts.{later_checks, none_failed}
 use Rattle.twkb_table.proofs.places.refused_precision.Goals as goal
 
-pub returns-then-has_precision-clause-judged : goal.returns-then-has_precision-clause-judged
-returns-then-has_precision-clause-judged c q has l kind id text v j = inr (
-  λ e. (let whole = e.0 in let none = e.1 in cc),
-  inr (λ e. (let whole = e.0 in let some = e.1 in cc), j),
-)
+-- a row with this precision
+abbrev of_precision : Option ℤ → Row
+of_precision precision = record { depth = 0; kind = Kind.Point; id = None; precision = precision; points = [] }
 
-pub returns-else-has_precision-2-clause-judged : goal.returns-else-has_precision-2-clause-judged
-returns-else-has_precision-2-clause-judged c q has l kind id text v j = inr (
-  λ e. (let whole = e.0 in let none = e.1 in cc),
-  inr (λ e. (let whole = e.0 in let some = e.1 in cc), j),
-)
+-- the tests go by their list, whatever they are
+pub returns-clause-judged : goal.returns-clause-judged
+returns-clause-judged c precision has =
+    let p = row_of c.args.row_place.now.parent in
+    let none : None ≡ first_reason (later_checks (precision_checks p (of_precision precision))) = search rules in
+    λ l k id text v judged. none_failed v (later_checks (precision_checks p (of_precision precision)))
+    (JudgedByPoints l (place_seen c.args.row_place.now) k id precision text v) none judged

@@ -1,5 +1,5 @@
 use Rattle.std.proofs.Common.{rules, [], ◌∷◌}
-use Rattle.twkb_table.proofs.HeadLemmas.{HasNeedlessText, cut_back, has_grown, kind_has, no_text}
+use Rattle.twkb_table.proofs.HeadLemmas.{HasNeedlessText, has_grown, kind_has, no_text}
 use Rattle.twkb_table.proofs.HeadLemmas.{not_allowed, points_accepted, points_refused, text_refused}
 use Rattle.twkb_table.proofs.head.RowHeadPointSource.append_to.Goals as goal
 use Rattle.twkb_table.proofs.head.RowHeadPointSource.append_to.Goals.{else-not-is_empty-via-else-not-is_empty}
@@ -53,38 +53,30 @@ returns-in-Err-At g c = record {
   same = c.in-Err-At.ensures.same;
 }
 
-pub returns-then-count_fits : goal.returns-then-count_fits
-returns-then-count_fits g c = record {
-  given = (let head = c.args.self.now in
-      let needed : HasNeedlessText head → ⊥ = elim c.else-not-is_empty.branch [
-        | goal.else-not-is_empty-via-then-not-is_empty+else-not-has_points w ↦ kind_has head
-            w.has_points.result w.has_points.ensures.value w.if-not-has_points.false
-        | else-not-is_empty-via-else-not-is_empty w ↦ no_text head c.is_empty.result
-            c.is_empty.ensures w.if-not-is_empty.false
-      ] in
-      points_accepted head c.points.result c.saturating_sub-left.result c.count-held.result
-      c.count.result c.is_geometry-whole.result c.count_fits.result _ _ needed
-      (c.points.ensures, c.saturating_sub-left.ensures) c.in-Ok-decode_into.ensures.decodes
-      c.count-held.ensures c.count.ensures
-      (c.is_geometry-whole.ensures.value, c.count_fits.ensures.value) c.if-count_fits.true);
-  refused = search rules;
-  same = search rules;
-}
+pub returns-in-Some-refused_count-clause-refused : goal.returns-in-Some-refused_count-clause-refused
+returns-in-Some-refused_count-clause-refused g c =
+    let head = c.args.self.now in
+    let needed : HasNeedlessText head → ⊥ = elim c.else-not-is_empty.branch [
+      | goal.else-not-is_empty-via-then-not-is_empty+else-not-has_points w ↦ kind_has head
+          w.has_points.result w.has_points.ensures.value w.if-not-has_points.false
+      | else-not-is_empty-via-else-not-is_empty w ↦ no_text head c.is_empty.result
+          c.is_empty.ensures w.if-not-is_empty.false
+    ] in
+    points_refused head c.points.result c.saturating_sub-left.result c.count-held.result
+    c.count.result _ _ c.in-Some-refused_count.reason needed
+    (c.points.ensures, c.saturating_sub-left.ensures) c.in-Ok-decode_into.ensures.decodes
+    c.count-held.ensures c.count.ensures c.in-Some-refused_count.ensures.judged
 
-pub returns-else-count_fits : goal.returns-else-count_fits
-returns-else-count_fits g c = record {
-  given = search rules;
-  refused = (let head = c.args.self.now in
-      let needed : HasNeedlessText head → ⊥ = elim c.else-not-is_empty.branch [
-        | goal.else-not-is_empty-via-then-not-is_empty+else-not-has_points w ↦ kind_has head
-            w.has_points.result w.has_points.ensures.value w.if-not-has_points.false
-        | else-not-is_empty-via-else-not-is_empty w ↦ no_text head c.is_empty.result
-            c.is_empty.ensures w.if-not-is_empty.false
-      ] in
-      points_refused head c.points.result c.saturating_sub-left.result c.count-held.result
-      c.count.result c.is_geometry-whole.result c.count_fits.result _ _ needed
-      (c.points.ensures, c.saturating_sub-left.ensures) c.in-Ok-decode_into.ensures.decodes
-      c.count-held.ensures c.count.ensures
-      (c.is_geometry-whole.ensures.value, c.count_fits.ensures.value) c.if-count_fits.false);
-  same = cut_back _ _ _ _ _ _ c.in-Ok-decode_into.ensures.decodes c.count-held.ensures c.cut.ensures;
-}
+pub returns-clause-given : goal.returns-clause-given
+returns-clause-given g c =
+    let head = c.args.self.now in
+    let needed : HasNeedlessText head → ⊥ = elim c.else-not-is_empty.branch [
+      | goal.else-not-is_empty-via-then-not-is_empty+else-not-has_points w ↦ kind_has head
+          w.has_points.result w.has_points.ensures.value w.if-not-has_points.false
+      | else-not-is_empty-via-else-not-is_empty w ↦ no_text head c.is_empty.result
+          c.is_empty.ensures w.if-not-is_empty.false
+    ] in
+    points_accepted head c.points.result c.saturating_sub-left.result c.count-held.result
+    c.count.result _ _ needed (c.points.ensures, c.saturating_sub-left.ensures)
+    c.in-Ok-decode_into.ensures.decodes c.count-held.ensures c.count.ensures
+    c.in_default-refused_count.ensures.judged
