@@ -1,7 +1,7 @@
 -- The reason of the first test of a row that fails.
 use Rattle.std.proofs.Common.{◌≡◌, ◌∙◌, ◌<◌, ◌^◌, ℕ, Bool, true, false, List, [], ◌∷◌, ◌++◌, Option, Some}
 use Rattle.std.proofs.Common.{None, refl, sym, subst, bit_or, inl, inr, arith, length, lit<, slice_index_or}
-use Rattle.std.specs.Prelude.{ℤ, ◌↔◌, ◌||◌, MatchOption, nat_lt, if◌then◌else◌}
+use Rattle.std.specs.Prelude.{◌↔◌, ◌||◌, MatchOption, nat_lt, if◌then◌else◌}
 use Rattle.std.specs.Simd.Lanes.{zip2}
 use Rattle.std.proofs.lemmas.Bool.{cases_Bool}
 use Rattle.std.proofs.lemmas.Bool.Decides.{nat_tests}
