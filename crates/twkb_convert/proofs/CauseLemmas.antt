@@ -5,10 +5,10 @@ use Rattle.twkb_convert.proofs.Prelude.{Allowance, StreamFault, reason_of, Locat
 use Rattle.twkb_convert.proofs.Prelude.{listing_text, Layout, IsDeviceCause, Cause}
 use Rattle.std.proofs.KnownBytes.{Consumes-trans}
 use Rattle.twkb_io.specs.declared.TheConstants.{MAX_BYTES}
-use Rattle.twkb_io.specs.Outputs.{is_device}
 use Rattle.twkb_io.specs.declared.output.OutFault.TheVariants as out
 use Rattle.twkb_convert.specs.BlobReading.{Misses, RefusesBlob, Used, is_read}
 use Rattle.twkb_convert.specs.Causes.{cause_of_output}
+use Rattle.twkb_convert.specs.Devices.{is_write}
 use Rattle.twkb_convert.specs.Flushing.{UnlessRefused}
 use Rattle.twkb_convert.specs.Listed.{ExplainsListingCause}
 use Rattle.twkb_convert.specs.declared.report.Cause.TheVariants as cause
@@ -60,14 +60,15 @@ explained layout l old mid told middle bytes bs (cause.Blob offset reason) blobs
 
 -- no device but the reader's is a cause if no text was made
 pub told_missed : (l : Allowance) (old told : Option (List ℕ)) (before : ℕ) (why : Cause)
-    → Misses l old before told why → IsDeviceCause (is_read why) false why
-told_missed l old told before cause.Memory misses = (λ e. cc e, λ e. cc e)
-told_missed l old told before cause.ReadDevice misses = refl
+    → Misses l old before told why → (is_write {A = Unit {0}} (Err why) ≡ false)
+    × IsDeviceCause (is_read why) (is_write {A = Unit {0}} (Err why)) why
+told_missed l old told before cause.Memory misses = (refl, (λ e. cc e, λ e. cc e))
+told_missed l old told before cause.ReadDevice misses = (refl, refl)
 told_missed l old told before cause.WriteDevice misses = absurd misses
 told_missed l old told before cause.TooManyRecords misses = absurd misses
 told_missed l old told before (cause.Row number reason) misses = absurd misses
-told_missed l old told before cause.TooLong misses = (λ e. cc e, λ e. cc e)
-told_missed l old told before (cause.Blob offset reason) misses = (λ e. cc e, λ e. cc e)
+told_missed l old told before cause.TooLong misses = (refl, (λ e. cc e, λ e. cc e))
+told_missed l old told before (cause.Blob offset reason) misses = (refl, (λ e. cc e, λ e. cc e))
 
 -- what the cause of a refused put says
 pub put_explained : (layout : Layout) (l : Allowance) (old told : Option (List ℕ)) (bytes : List ℕ)
@@ -79,7 +80,8 @@ put_explained layout l old told bytes out.Stuck whole later left long unspent = 
 put_explained layout l old told bytes out.TooLong whole later left long unspent = inr (long refl)
 put_explained layout l old told bytes out.Spent whole later left long unspent = absurd (unspent refl)
 
-pub told_put : (f : OutFault) → IsDeviceCause false (is_device f) (cause_of_output f)
+pub told_put : (f : OutFault)
+    → IsDeviceCause false (is_write {A = Unit {0}} (Err (cause_of_output f))) (cause_of_output f)
 told_put out.Write = refl
 told_put out.Stuck = refl
 told_put out.TooLong = (λ e. cc e, λ e. cc e)

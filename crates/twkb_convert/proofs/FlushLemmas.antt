@@ -1,42 +1,132 @@
--- What is flushed when a conversion stops.
-use Rattle.std.proofs.Common.{◌≡◌, ◌⊎◌, refl, inl, inr, true}
-use Rattle.std.specs.Prelude.{◌≢◌}
-use Rattle.twkb_convert.specs.Sending as Sending
-use Rattle.twkb_convert.specs.Sending.{is_output}
-use Rattle.twkb_convert.specs.declared.obstacle.TableObstacle.{TableObstacle}
-use Rattle.twkb_convert.specs.declared.obstacle.TableObstacle.TheVariants as table
-use Rattle.twkb_convert.specs.declared.report.Cause.{Cause}
+-- What an output is left like by an answer, before and after the flush.
+use Rattle.twkb_convert.proofs.Prelude.{◌≡◌, ◌≢◌, ◌∙◌, ◌⊎◌, ℕ, Bool, true, false, List, [], Option, Result, Ok, Err}
+use Rattle.twkb_convert.proofs.Prelude.{ap, refl, sym, subst, inl, inr, append-nil, count_failure, Refused, Sent}
+use Rattle.twkb_convert.proofs.Prelude.{Took, is_spent, output_tap, sent_join, Output, OutFault, Cause}
+use Rattle.std.specs.Prelude.{OnOk}
+use Rattle.twkb_io.specs.Outputs.{is_device}
+use Rattle.twkb_io.specs.Taps.{has_unflushed}
+use Rattle.twkb_io.specs.declared.output.OutFault.TheVariants as out
+use Rattle.twkb_convert.specs.Causes.{after_reads, cause_of_output}
+use Rattle.twkb_convert.specs.Devices.{is_write}
+use Rattle.twkb_convert.specs.Flushing.{Flushes, Leaves, UnlessRefused}
 use Rattle.twkb_convert.specs.declared.report.Cause.TheVariants as cause
+use Rattle.twkb_convert.proofs.CauseLemmas.{put_refused}
 
--- a fact that holds also holds unless a put was refused
-pub unless_refused : (why : TableObstacle) (Fact : Type 0) → Fact → Sending.UnlessOutput why Fact
-unless_refused (table.Table f) Fact fact = fact
-unless_refused table.Undrained Fact fact = fact
-unless_refused (table.Output f) Fact fact = tt
+-- ---- before the flush
 
--- any fact may be claimed if the output refused a call
-pub refused_any : (why : TableObstacle) (Fact : Type 0) → is_output why ≡ true → Sending.UnlessOutput why Fact
-refused_any (table.Table f) Fact e = cc e
-refused_any table.Undrained Fact e = cc e
-refused_any (table.Output f) Fact e = tt
+always : {A : Type 0} (answer : Result A Cause) (P : Type 0) → P → UnlessRefused answer P
+always (Ok done) P p = p
+always (Err why) P p = λ no_write no_length. p
 
--- the fact holds if the output refused no call
-held : (why : TableObstacle) (Fact : Type 0) → (is_output why ≡ true → ⊥) → Sending.UnlessOutput why Fact → Fact
-held (table.Table f) Fact none fact = fact
-held table.Undrained Fact none fact = fact
-held (table.Output f) Fact none fact = absurd (none refl)
+write_refused : (A : Type 0) (f : OutFault) → is_write {A = A} (Err (cause_of_output f)) ≡ is_device f
+write_refused A out.Write = refl
+write_refused A out.Stuck = refl
+write_refused A out.TooLong = refl
+write_refused A out.Spent = refl
 
--- the causes of a refused put are these
-no_refusal : (told : Cause) → (told ≡ cause.WriteDevice) ⊎ (told ≡ cause.ReadDevice)
-    ⊎ (told ≡ cause.TooLong) → told ≢ cause.WriteDevice → told ≢ cause.ReadDevice
-    → told ≢ cause.TooLong → ⊥
-no_refusal told (inl e) no_write no_read no_length = no_write e
-no_refusal told (inr (inl e)) no_write no_read no_length = no_read e
-no_refusal told (inr (inr e)) no_write no_read no_length = no_length e
+-- no call was refused
+pub leaves_took : {A W : Type 0} (contents : W → Option (List ℕ)) (old new : Output W) (bytes : List ℕ)
+    (answer : Result A Cause) → is_spent old ≡ false → is_write answer ≡ false → Took contents old bytes new
+    → Leaves contents old bytes new answer
+leaves_took contents old new bytes answer fresh quiet took = record {
+  sends = took.sends;
+  failures = rw quiet took.failures;
+  quiet = λ still. took.failures;
+  unspent = always answer (is_spent new ≡ false) (took.spent ∙ fresh);
+}
 
-pub packing_flushed : (why : TableObstacle) (told : Cause) (Fact : Type 0)
-    → (is_output why ≡ true → (told ≡ cause.WriteDevice) ⊎ (told ≡ cause.ReadDevice)
-    ⊎ (told ≡ cause.TooLong)) → Sending.UnlessOutput why Fact
-    → told ≢ cause.WriteDevice → told ≢ cause.ReadDevice → told ≢ cause.TooLong → Fact
-packing_flushed why told Fact caused fact no_write no_read no_length =
-    held why Fact (λ refused. no_refusal told (caused refused) no_write no_read no_length) fact
+-- a put was refused
+pub leaves_refused : {A W : Type 0} (contents : W → Option (List ℕ)) (old new : Output W) (bytes : List ℕ)
+    (f : OutFault) → Refused contents old bytes f new
+    → Leaves {A = A} contents old bytes new (Err (cause_of_output f))
+leaves_refused {A} contents old new bytes f refused = record {
+  sends = refused.sends;
+  failures = rw (write_refused A f) refused.failures;
+  quiet = λ fresh. absurd (cc (fresh, refused.spent));
+  unspent = put_refused A f (is_spent new ≡ false);
+}
+
+-- ---- after the flush
+
+unless : {A : Type 0} (answer : Result A Cause) (P Q : Type 0) → (P → Q) → UnlessRefused answer P
+    → UnlessRefused answer Q
+unless (Ok done) P Q more p = more p
+unless (Err why) P Q more p = λ no_write no_length. more (p no_write no_length)
+
+module _ {A W : Type 0} (contents : W → Option (List ℕ)) (old mid new : Output W) (bytes : List ℕ)
+    (answer last : Result A Cause) where
+  -- nothing is added to what was sent
+  sent_with : Sent contents old bytes mid → Sent contents mid [] new → Sent contents old bytes new
+  sent_with first second = subst (λ b. Sent contents old b new) (append-nil bytes)
+      (sent_join contents old mid new bytes [] first second)
+
+  -- the answer stays, unless the flush failed
+  pub leaves_last : Leaves contents old bytes mid answer → Flushes contents mid answer new last
+      → Leaves contents old bytes new last × ((last ≡ answer) ⊎ (last ≡ Err cause.WriteDevice))
+  leaves_last s (inl (took, flushed, is)) = (
+    subst (λ r. Leaves contents old bytes new r) (sym is) (record {
+      sends = sent_with s.sends took.sends;
+      failures = took.failures ∙ s.failures;
+      quiet = λ fresh. took.failures ∙ s.quiet (sym took.spent ∙ fresh);
+      unspent = unless answer (is_spent mid ≡ false) (is_spent new ≡ false) (λ e. took.spent ∙ e) s.unspent;
+    }),
+    inl is,
+  )
+  leaves_last s (inr (inl (spent, same, is))) = (
+    subst (λ r. Leaves contents old bytes new r) (sym is)
+        (subst (λ o. Leaves contents old bytes o answer) (sym same) s),
+    inl is,
+  )
+  leaves_last s (inr (inr (fresh, refused, is))) = (
+    subst (λ r. Leaves contents old bytes new r) (sym is) (record {
+      sends = sent_with s.sends refused.sends;
+      failures = refused.failures ∙ ap (count_failure true) (s.quiet fresh);
+      quiet = λ still. absurd (cc (still, refused.spent));
+      unspent = λ no_write no_length. absurd (no_write refl);
+    }),
+    inr is,
+  )
+
+-- all is flushed, unless the output refused a call
+pub flushed_last : {A W : Type 0} (contents : W → Option (List ℕ)) (mid new : Output W)
+    (answer last : Result A Cause) → UnlessRefused answer (is_spent mid ≡ false)
+    → Flushes contents mid answer new last
+    → UnlessRefused last (has_unflushed (output_tap new).now ≡ false)
+flushed_last contents mid new answer last unspent (inl (took, flushed, is)) =
+    subst (λ r. UnlessRefused r (has_unflushed (output_tap new).now ≡ false)) (sym is)
+    (always answer (has_unflushed (output_tap new).now ≡ false) flushed)
+flushed_last contents mid new answer last unspent (inr (inl (spent, same, is))) =
+    subst (λ r. UnlessRefused r (has_unflushed (output_tap new).now ≡ false)) (sym is)
+    (unless answer (is_spent mid ≡ false) (has_unflushed (output_tap new).now ≡ false)
+    (λ e. absurd (cc (e, spent))) unspent)
+flushed_last contents mid new answer last unspent (inr (inr (fresh, refused, is))) =
+    subst (λ r. UnlessRefused r (has_unflushed (output_tap new).now ≡ false)) (sym is)
+    (λ no_write no_length. absurd (no_write refl))
+
+-- what holds if all was sent also holds if all was sent and flushed
+pub kept_last : {A W : Type 0} (contents : W → Option (List ℕ)) (mid new : Output W)
+    (answer last : Result A Cause) (done : A) (P : Type 0) → Flushes contents mid answer new last
+    → OnOk answer P → last ≡ Ok done → P
+kept_last contents mid new answer last done P (inl (took, flushed, is)) p ok = subst (λ r. OnOk r P) (sym is ∙ ok) p
+kept_last contents mid new answer last done P (inr (inl (spent, same, is))) p ok =
+    subst (λ r. OnOk r P) (sym is ∙ ok) p
+kept_last contents mid new answer last done P (inr (inr (fresh, refused, is))) p ok = absurd (cc (sym ok ∙ is))
+
+-- all was sent and flushed if that is the answer after the reads
+pub ok_before : {A : Type 0} (failed : Bool) (answer : Result A Cause) (done : A)
+    → Ok done ≡ after_reads failed answer → answer ≡ Ok done
+ok_before true (Ok first) done is = cc is
+ok_before false (Ok first) done is = sym is
+ok_before failed (Err why) done is = cc is
+
+-- a fact that holds unless the output refused a call, once it is known whether a read failed
+pub flushed_after : {A : Type 0} (failed : Bool) (answer : Result A Cause) (why : Cause) (P : Type 0)
+    → Err why ≡ after_reads failed answer → UnlessRefused answer P → why ≢ cause.WriteDevice
+    → why ≢ cause.ReadDevice → why ≢ cause.TooLong → P
+flushed_after failed (Ok done) why P is p no_write no_read no_length = p
+flushed_after true (Err first) why P is p no_write no_read no_length = p
+    (λ e. no_write (cc (is ∙ ap (λ k. after_reads true (Err k)) e)))
+    (λ e. no_read (cc (is ∙ ap (λ k. after_reads true (Err k)) e)))
+flushed_after false (Err first) why P is p no_write no_read no_length = p
+    (λ e. no_write (cc (is ∙ ap (λ k. after_reads false (Err k)) e)))
+    (λ e. no_length (cc (is ∙ ap (λ k. after_reads false (Err k)) e)))

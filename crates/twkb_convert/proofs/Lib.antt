@@ -1,5 +1,7 @@
 pub mod Prelude
 pub mod WorkLemmas
+pub mod CauseLemmas
+pub mod FlushLemmas
 pub mod SendingLemmas
 pub mod PointSent
 pub mod RoundTrips
@@ -7,10 +9,8 @@ pub mod RowTexts
 pub mod LocatedLemmas
 pub mod ListingTexts
 pub mod BlobTexts
-pub mod CauseLemmas
 pub mod ListingLemmas
 pub mod ListingEnds
-pub mod FlushedAfter
 pub mod TableListed
 pub mod PackedLemmas
 pub mod OutputLemmas
@@ -18,5 +18,4 @@ pub mod FrontLemmas
 pub mod RefusedLemmas
 pub mod ShownLemmas
 pub mod PartsLemmas
-pub mod FlushLemmas
 pub mod ShortTexts

@@ -1,99 +1,48 @@
 -- The flush after the text of a stream, and what the caller of the conversion learns.
-use Rattle.twkb_convert.proofs.Prelude.{◌≡◌, ◌∙◌, ℕ, Bool, true, false, List, [], ◌++◌, Option, Some, None, Result}
-use Rattle.twkb_convert.proofs.Prelude.{Ok, Err, inl, inr, IfSome, length, ap, arith, refl, sym, subst, append-nil}
-use Rattle.twkb_convert.proofs.Prelude.{Appends}
-use Rattle.twkb_convert.proofs.Prelude.{IsAtEnd, Ghosts, BeginsWith, Refused, Sent, Took, count_failure, device_of}
-use Rattle.twkb_convert.proofs.Prelude.{failures_of, is_spent, output_failures, output_tap, sent_of, sent_join, Tap}
-use Rattle.twkb_convert.proofs.Prelude.{Output, Allowance, Reader, Located, LocatedStream}
-use Rattle.twkb_convert.proofs.Prelude.{geometries_of, listing_text, Layout, IsDeviceCause, Cause}
-use Rattle.twkb_io.specs.Taps.{has_unflushed}
-use Rattle.twkb_io.specs.declared.output.OutFault.TheVariants as out
+use Rattle.twkb_convert.proofs.Prelude.{◌≡◌, ◌⊎◌, ◌∙◌, ℕ, Bool, true, false, List, [], ◌++◌, Option, Some, None}
+use Rattle.twkb_convert.proofs.Prelude.{Result, Ok, Err, inl, inr, IfSome, length, ap, arith, refl, sym, subst}
+use Rattle.twkb_convert.proofs.Prelude.{append-nil, Appends, IsAtEnd, Ghosts, BeginsWith, Sent, count_failure, device_of}
+use Rattle.twkb_convert.proofs.Prelude.{failures_of, output_failures, output_tap, sent_of, Tap, Output, Allowance}
+use Rattle.twkb_convert.proofs.Prelude.{Reader, Located, LocatedStream, geometries_of, listing_text, Layout}
+use Rattle.twkb_convert.proofs.Prelude.{IsDeviceCause, Cause}
 use Rattle.twkb_convert.specs.BlobReading.{limits_of, reader_failures, reader_tap, rest_of, told_of}
-use Rattle.twkb_convert.specs.Flushing.{Flushes, UnlessRefused}
+use Rattle.twkb_convert.specs.Devices.{is_write}
+use Rattle.twkb_convert.specs.Flushing.{Flushes}
 use Rattle.twkb_convert.specs.Listed.{ExplainsListingCause, Listed, StoppedListing}
-use Rattle.twkb_convert.specs.BlobsListed.{Lists}
+use Rattle.twkb_convert.specs.BlobsListed.{Ends, Lists}
 use Rattle.twkb_convert.specs.declared.report.Cause.TheVariants as cause
+use Rattle.twkb_convert.proofs.FlushLemmas.{leaves_last}
 
 -- ---- the flush
-
-unless : {A : Type 0} (answer : Result A Cause) (P Q : Type 0) → (P → Q) → UnlessRefused answer P
-    → UnlessRefused answer Q
-unless (Ok done) P Q more p = more p
-unless (Err why) P Q more p = λ no_write no_length. more (p no_write no_length)
 
 wrote : (failed : Bool) → IsDeviceCause failed true cause.WriteDevice
 wrote false = refl
 wrote true = refl
 
-module _ {A R W : Type 0} {read : Ghosts R} (layout : Layout) (contents : W → Option (List ℕ))
+-- what was sent, after the flush
+pub lists_last : {R W : Type 0} {read : Ghosts R} (layout : Layout) (contents : W → Option (List ℕ))
     (from : Reader R read) (old : Output W) (to : Reader R read) (mid new : Output W) (done : ℕ)
-    (answer : Result A Cause) (lists : Lists layout contents from old to mid done answer) where
-  -- nothing is added to what was sent
-  sent_with : Sent contents mid [] new → Sent contents old lists.text new
-  sent_with more = subst (λ b. Sent contents old b new) (append-nil lists.text)
-      (sent_join contents old mid new lists.text [] lists.sends more)
-
-  lists_flushed : Took contents mid [] new → Lists layout contents from old to new done answer
-  lists_flushed flushed = record {
-    text = lists.text;
-    part = lists.part;
-    sends = sent_with flushed.sends;
-    count = lists.count;
-    read_failed = lists.read_failed;
-    write_failed = lists.write_failed;
-    follows = lists.follows;
-    writes = flushed.failures ∙ lists.writes;
-    quiet = λ fresh. lists.quiet (sym flushed.spent ∙ fresh);
-    unspent = unless answer (is_spent mid ≡ false) (is_spent new ≡ false) (λ e. flushed.spent ∙ e) lists.unspent;
-    ends = lists.ends;
-  }
-
-  -- the flush failed
-  lists_unflushed : is_spent mid ≡ false → Refused contents mid [] out.Write new
-      → Lists {A = A} layout contents from old to new done (Err cause.WriteDevice)
-  lists_unflushed fresh failed =
-      let quiet : output_failures mid ≡ output_failures old = lists.writes
-      ∙ ap (λ b. count_failure b (output_failures old)) (lists.quiet fresh) in
-      record {
-        text = lists.text;
-        part = lists.part;
-        sends = sent_with failed.sends;
-        count = lists.count;
-        read_failed = lists.read_failed;
-        write_failed = true;
-        follows = lists.follows;
-        writes = failed.failures ∙ ap (count_failure true) quiet;
-        quiet = λ open_yet. absurd (cc (open_yet, failed.spent));
-        unspent = λ no_write no_length. absurd (no_write refl);
-        ends = record { explains = tt; tell = wrote lists.read_failed };
-      }
-
-  -- what was sent, after the flush
-  pub lists_last : (last : Result A Cause) → Flushes contents mid answer new last
-      → Lists layout contents from old to new done last
-  lists_last last (inl (took, flushed, is)) =
-      subst (λ r. Lists layout contents from old to new done r) (sym is) (lists_flushed took)
-  lists_last last (inr (inl (spent, same, is))) =
-      subst (λ r. Lists layout contents from old to new done r) (sym is)
-      (subst (λ o. Lists layout contents from old to o done answer) (sym same) lists)
-  lists_last last (inr (inr (fresh, refused, is))) =
-      subst (λ r. Lists layout contents from old to new done r) (sym is) (lists_unflushed fresh refused)
-
--- all is flushed, unless the output refused a call
-pub flushed_last : {A W : Type 0} (contents : W → Option (List ℕ)) (mid new : Output W)
-    (answer last : Result A Cause) → UnlessRefused answer (is_spent mid ≡ false)
-    → Flushes contents mid answer new last
-    → UnlessRefused last (has_unflushed (output_tap new).now ≡ false)
-flushed_last contents mid new answer last unspent (inl (took, flushed, is)) =
-    subst (λ r. UnlessRefused r (has_unflushed (output_tap new).now ≡ false)) (sym is)
-    (unless answer (is_spent mid ≡ false) (has_unflushed (output_tap new).now ≡ false) (λ e. flushed) unspent)
-flushed_last contents mid new answer last unspent (inr (inl (spent, same, is))) =
-    subst (λ r. UnlessRefused r (has_unflushed (output_tap new).now ≡ false)) (sym is)
-    (unless answer (is_spent mid ≡ false) (has_unflushed (output_tap new).now ≡ false)
-    (λ e. absurd (cc (e, spent))) unspent)
-flushed_last contents mid new answer last unspent (inr (inr (fresh, refused, is))) =
-    subst (λ r. UnlessRefused r (has_unflushed (output_tap new).now ≡ false)) (sym is)
-    (λ no_write no_length. absurd (no_write refl))
+    (answer last : Result (Unit {0}) Cause) → Lists layout contents from old to mid done answer
+    → Flushes contents mid answer new last → Lists layout contents from old to new done last
+lists_last layout contents from old to mid new done answer last lists flushes =
+    let after = leaves_last contents old mid new lists.text answer last lists.leaves flushes in
+    record {
+      text = lists.text;
+      part = lists.part;
+      leaves = after.0;
+      count = lists.count;
+      read_failed = lists.read_failed;
+      follows = lists.follows;
+      ends = ends after.1;
+    }
+  where
+    ends : (last ≡ answer) ⊎ (last ≡ Err cause.WriteDevice)
+        → Ends layout from to lists.part.bytes lists.part.whole lists.part.later lists.part.left
+        lists.read_failed last
+    ends (inl same) = subst (Ends layout from to lists.part.bytes lists.part.whole lists.part.later lists.part.left
+        lists.read_failed) (sym same) lists.ends
+    ends (inr write) = subst (Ends layout from to lists.part.bytes lists.part.whole lists.part.later lists.part.left
+        lists.read_failed) (sym write) (record { explains = tt; tell = wrote lists.read_failed })
 
 -- ---- the taps
 
@@ -134,10 +83,10 @@ module _ {R W : Type 0} {read : Ghosts R} (layout : Layout) (remaining : R → O
   writes_as failed writes = ap failures_of (sym closes) ∙ writes
       ∙ ap (λ t. count_failure failed (failures_of t)) borrowed
 
-  pub listed : {A : Type 0} (answer : A) → Lists layout contents from old to new done (Ok answer)
+  pub listed : Lists layout contents from old to new done (Ok tt)
       → Listed (LocatedStream l 0) (listing_text layout) remaining contents reader writer
       (record { geometries = done; bytes = sent }) after written
-  listed answer lists =
+  listed lists =
       let p = lists.part in
       let e = lists.ends in
       let text = whole_text layout p.whole p.later lists.text p.left p.cut e.no_later e.none_left in
@@ -149,18 +98,17 @@ module _ {R W : Type 0} {read : Ghosts R} (layout : Layout) (remaining : R → O
         stream = subst (λ k. IfSome k (λ bytes. LocatedStream l 0 bytes p.whole)) told
             (known_stream l (rest_of from) p.bytes p.whole e.all blobs);
         appends = subst (λ t. Appends (contents (device_of writer)) (contents (device_of written)) t) text
-            (appended lists.text lists.sends);
+            (appended lists.text lists.leaves.sends);
         geometries = lists.count;
-        bytes = omega (arith, count, lists.sends.sent, none, ap length text);
+        bytes = omega (arith, count, lists.leaves.sends.sent, none, ap length text);
         end = subst (λ k. IfSome k (λ bytes. IsAtEnd (remaining (device_of after)))) told
             (subst (λ t. IfSome (rest_of from) (λ bytes. IsAtEnd t)) later_told e.ended);
         reads = reads_as false (subst (λ f. reader_failures to ≡ count_failure f (reader_failures from))
             e.no_read lists.follows.failures);
-        writes = writes_as false (subst (λ f. output_failures new ≡ count_failure f (output_failures old))
-            e.no_write lists.writes);
+        writes = writes_as false lists.leaves.failures;
       }
 
-  pub stopped : {A : Type 0} (why : Cause) → Lists {A = A} layout contents from old to new done (Err why)
+  pub stopped : (why : Cause) → Lists layout contents from old to new done (Err why)
       → StoppedListing (LocatedStream l 0) geometries_of (listing_text layout) l remaining contents
       reader writer (record { done = done; sent = sent; cause = why }) after written
   stopped why lists =
@@ -178,9 +126,9 @@ module _ {R W : Type 0} {read : Ghosts R} (layout : Layout) (remaining : R → O
           one = p.one;
           holds = p.holds;
         };
-        appends = appended lists.text lists.sends;
+        appends = appended lists.text lists.leaves.sends;
         done = lists.count;
-        sent = omega (arith, count, lists.sends.sent, none);
+        sent = omega (arith, count, lists.leaves.sends.sent, none);
         explains = subst (λ a. ExplainsListingCause geometries_of (listing_text layout) a
             (remaining (device_of reader)) (remaining (device_of after)) p.bytes why p.whole p.later p.left) limits
             (subst (λ k. ExplainsListingCause geometries_of (listing_text layout) (limits_of from) k
@@ -189,9 +137,9 @@ module _ {R W : Type 0} {read : Ghosts R} (layout : Layout) (remaining : R → O
             (rest_of from) t p.bytes why p.whole p.later p.left) later_told lists.ends.explains));
         devices = record {
           read_failed = lists.read_failed;
-          write_failed = lists.write_failed;
+          write_failed = is_write {A = Unit {0}} (Err why);
           reads = reads_as lists.read_failed lists.follows.failures;
-          writes = writes_as lists.write_failed lists.writes;
+          writes = writes_as (is_write {A = Unit {0}} (Err why)) lists.leaves.failures;
           tell = lists.ends.tell;
         };
       }

@@ -2,20 +2,21 @@
 use Rattle.twkb_convert.proofs.Prelude.{◌≡◌, ◌∙◌, ◌+◌, ◌-◌, ◌<◌, ◌≤◌, ℕ, Bool, false, List, [], ◌∷◌, ◌++◌, Option, Some}
 use Rattle.twkb_convert.proofs.Prelude.{None, Result, Ok, Err, IfSome, length, ap, arith, refl, sym, subst, inl, inr}
 use Rattle.twkb_convert.proofs.Prelude.{append_assoc, length-append, append-nil, Consumes, IsAtEnd, Ghosts, BeginsWith}
-use Rattle.twkb_convert.proofs.Prelude.{Cut, Sent, Took, is_spent, output_failures, sent_of, refused_join, took_join}
+use Rattle.twkb_convert.proofs.Prelude.{Cut, Took, is_spent, sent_of, refused_join, took_join}
 use Rattle.twkb_convert.proofs.Prelude.{Output, OutFault, Allowance, Reader}
 use Rattle.twkb_convert.proofs.Prelude.{Located, LocatedStream, TellsSpans, blobs_text}
 use Rattle.twkb_convert.proofs.Prelude.{listing_text, Layout, Cause}
 use Rattle.std.proofs.KnownBytes.{Consumes-nil, Consumes-trans}
 use Rattle.twkb_io.specs.declared.TheConstants.{MAX_BYTES}
-use Rattle.twkb_io.specs.Outputs.{is_device}
 use Rattle.twkb_grammar.proofs.Streams.{blob_long}
 use Rattle.twkb_convert.specs.BlobReading.{Follows, GivesBlob, GivesText, Misses, Used, given, is_read}
 use Rattle.twkb_convert.specs.BlobReading.{limits_of, rest_of, told_of}
 use Rattle.twkb_convert.specs.Causes.{cause_of_output}
-use Rattle.twkb_convert.specs.Flushing.{UnlessRefused}
+use Rattle.twkb_convert.specs.Devices.{is_write}
+use Rattle.twkb_convert.specs.Flushing.{Leaves}
 use Rattle.twkb_convert.specs.BlobsListed.{CutsBlob, Ends, IsGoing, Lists, SendsBlob, SendsNext, SentSoFar}
-use Rattle.twkb_convert.proofs.CauseLemmas.{explained, put_explained, put_refused, told_missed, told_put}
+use Rattle.twkb_convert.proofs.CauseLemmas.{explained, put_explained, told_missed, told_put}
+use Rattle.twkb_convert.proofs.FlushLemmas.{leaves_refused, leaves_took}
 use Rattle.twkb_convert.proofs.LocatedLemmas.{located-append, located-one}
 use Rattle.twkb_convert.proofs.ListingTexts.{blobs_text-append, blobs_text-one}
 
@@ -169,13 +170,13 @@ module _ {R W : Type 0} {read : Ghosts R} (layout : Layout) (contents : W → Op
   }
 
   -- no text was sent after those of whole blobs
-  lists_whole : (A : Type 0) (answer : Result A Cause) (mid to : Reader R read)
+  lists_whole : (answer : Result (Unit {0}) Cause) (mid to : Reader R read)
       (out new : Output W) (done after : ℕ) (failed : Bool)
       (sent : SentSoFar layout contents from old mid out done) → new ≡ out → after ≡ done
-      → Follows mid to failed → UnlessRefused answer (is_spent new ≡ false)
-      → Ends layout from to sent.bytes sent.found [] [] failed false answer
+      → Follows mid to failed → is_write answer ≡ false
+      → Ends layout from to sent.bytes sent.found [] [] failed answer
       → Lists layout contents from old to new after answer
-  lists_whole A answer mid to out new done after failed sent same is follows unspent ends = record {
+  lists_whole answer mid to out new done after failed sent same is follows quiet ends = record {
     text = listing_text layout sent.found;
     part = record {
       whole = sent.found;
@@ -189,35 +190,32 @@ module _ {R W : Type 0} {read : Ghosts R} (layout : Layout) (contents : W → Op
       one = inl refl;
       holds = inr ([], sym (append-nil (listing_text layout sent.found)));
     };
-    sends = subst (λ o. Sent contents old (listing_text layout sent.found) o) (sym same) sent.took.sends;
+    leaves = subst (λ o. Leaves contents old (listing_text layout sent.found) o answer) (sym same)
+        (leaves_took contents old out _ answer (sym sent.took.spent ∙ sent.going.unspent) quiet sent.took);
     count = is ∙ sent.count;
     read_failed = failed;
-    write_failed = false;
     follows = record {
       same_tap = follows.same_tap ∙ sent.follows.same_tap;
       limits = follows.limits ∙ sent.follows.limits;
       failures = rw sent.follows.failures at follows.failures;
       within = follows.within;
     };
-    writes = ap output_failures same ∙ sent.took.failures;
-    quiet = λ fresh. refl;
-    unspent = unspent;
     ends = ends;
   }
 
   -- a prefix of the text of one more blob was sent
-  lists_cut : (A : Type 0) (mid to : Reader R read) (out new : Output W) (done after : ℕ)
+  lists_cut : (mid to : Reader R read) (out new : Output W) (done after : ℕ)
       (why : Cause) → sent_of old ≡ 0 → SentSoFar layout contents from old mid out done
       → after ≡ done → CutsBlob layout contents mid out to new why
-      → Lists {A = A} layout contents from old to new after (Err why)
-  lists_cut A mid to out new done after why none sent is one =
+      → Lists layout contents from old to new after (Err why)
+  lists_cut mid to out new done after why none sent is one =
       let cut = one.cut in
       let all = used_join (rest_of from) (rest_of mid) (rest_of to) 0 (given mid) (given to)
       sent.bytes one.gives.front sent.used one.gives.used in
       let refused = refused_join contents old out new (listing_text layout sent.found) cut.front
       one.fault sent.took cut.refused in
       let joined = text_more layout sent.found one.found in
-      subst (λ w. Lists {A = A} layout contents from old to new after (Err w)) (sym one.caused) (record {
+      subst (λ w. Lists layout contents from old to new after (Err w)) (sym one.caused) (record {
         text = listing_text layout sent.found ++ cut.front;
         part = record {
           whole = sent.found;
@@ -233,19 +231,15 @@ module _ {R W : Type 0} {read : Ghosts R} (layout : Layout) (contents : W → Op
           one = inr (one.found, refl, cut.left sent.going.unspent);
           holds = inr (cut.front, refl);
         };
-        sends = refused.sends;
+        leaves = leaves_refused contents old new _ one.fault refused;
         count = is ∙ sent.count;
         read_failed = false;
-        write_failed = is_device one.fault;
         follows = record {
           same_tap = one.follows.same_tap ∙ sent.follows.same_tap;
           limits = one.follows.limits ∙ sent.follows.limits;
           failures = one.follows.failures ∙ sent.follows.failures;
           within = one.follows.within;
         };
-        writes = refused.failures;
-        quiet = λ fresh. absurd (cc (fresh, refused.spent));
-        unspent = put_refused A one.fault (is_spent new ≡ false);
         ends = record {
           explains = put_explained layout (limits_of from) (rest_of from) (told_of to)
               (sent.bytes ++ one.gives.front) one.fault sent.found (one.found ∷ []) cut.rest
@@ -264,11 +258,11 @@ module _ {R W : Type 0} {read : Ghosts R} (layout : Layout) (contents : W → Op
       })
 
   -- the text before the first blob was not sent whole
-  pub lists_none : (A : Type 0) (new : Output W) (done : ℕ) (text : List ℕ) (f : OutFault)
+  pub lists_none : (new : Output W) (done : ℕ) (text : List ℕ) (f : OutFault)
       → text ≡ layout.first → IsGoing from old done → given from ≡ 0 → sent_of old ≡ 0
       → Cut contents old text f new
-      → Lists {A = A} layout contents from old from new done (Err (cause_of_output f))
-  lists_none A new done text f own going start none cut =
+      → Lists layout contents from old from new done (Err (cause_of_output f))
+  lists_none new done text f own going start none cut =
       let whole : listing_text layout [] ≡ text = append-nil layout.first ∙ sym own in
       record {
         text = cut.front;
@@ -283,14 +277,10 @@ module _ {R W : Type 0} {read : Ghosts R} (layout : Layout) (contents : W → Op
           one = inl refl;
           holds = inl refl;
         };
-        sends = cut.refused.sends;
+        leaves = leaves_refused contents old new _ f cut.refused;
         count = omega (arith, going.few, start);
         read_failed = false;
-        write_failed = is_device f;
         follows = record { same_tap = refl; limits = refl; failures = refl; within = from.input.within };
-        writes = cut.refused.failures;
-        quiet = λ fresh. absurd (cc (fresh, cut.refused.spent));
-        unspent = put_refused A f (is_spent new ≡ false);
         ends = record {
           explains = put_explained layout (limits_of from) (rest_of from) (told_of from) [] f [] []
               cut.rest (λ e. (let far = cut.too_long e in omega (arith, far, none, ap length whole)))
@@ -300,13 +290,12 @@ module _ {R W : Type 0} {read : Ghosts R} (layout : Layout) (contents : W → Op
       }
 
   -- the end was found
-  pub lists_all : (A : Type 0) (answer : A) (mid to : Reader R read)
-      (out new : Output W) (done after : ℕ) → SentSoFar layout contents from old mid out done
+  pub lists_all : (mid to : Reader R read) (out new : Output W) (done after : ℕ)
+      → SentSoFar layout contents from old mid out done
       → SendsNext layout contents mid out done to new after (Ok false)
-      → Lists layout contents from old to new after (Ok answer)
-  lists_all A answer mid to out new done after sent (ends, same, is) =
-      lists_whole A (Ok answer) mid to out new done after false sent same is ends.follows
-      (ap is_spent same ∙ sent.going.unspent)
+      → Lists layout contents from old to new after (Ok tt)
+  lists_all mid to out new done after sent (ends, same, is) =
+      lists_whole (Ok tt) mid to out new done after false sent same is ends.follows refl
       (record {
         no_later = refl;
         none_left = refl;
@@ -314,24 +303,23 @@ module _ {R W : Type 0} {read : Ghosts R} (layout : Layout) (contents : W → Op
         ended = still_known (rest_of from) (rest_of mid) sent.bytes (IsAtEnd (told_of to))
             sent.used.consumed ends.ended;
         no_read = refl;
-        no_write = refl;
       })
 
   -- the text of the next blob was not sent whole
-  pub lists_up_to : (A : Type 0) (mid to : Reader R read) (out new : Output W)
+  pub lists_up_to : (mid to : Reader R read) (out new : Output W)
       (done after : ℕ) (why : Cause) → sent_of old ≡ 0
       → SentSoFar layout contents from old mid out done
       → SendsNext layout contents mid out done to new after (Err why)
-      → Lists {A = A} layout contents from old to new after (Err why)
-  lists_up_to A mid to out new done after why none sent (inl (missed, same), is) =
+      → Lists layout contents from old to new after (Err why)
+  lists_up_to mid to out new done after why none sent (inl (missed, same), is) =
       let misses : Misses (limits_of from) (rest_of mid) (given mid) (told_of to) why =
       subst (λ l. Misses l (rest_of mid) (given mid) (told_of to) why) sent.follows.limits missed.misses in
-      lists_whole A (Err why) mid to out new done after (is_read why) sent same is missed.follows
-      (λ no_write no_length. ap is_spent same ∙ sent.going.unspent)
+      let told = told_missed (limits_of from) (rest_of mid) (told_of to) (given mid) why misses in
+      lists_whole (Err why) mid to out new done after (is_read why) sent same is missed.follows told.0
       (record {
         explains = explained layout (limits_of from) (rest_of from) (rest_of mid) (told_of to)
             (given mid) sent.bytes sent.found why sent.blobs sent.used misses;
-        tell = told_missed (limits_of from) (rest_of mid) (told_of to) (given mid) why misses;
+        tell = told.1;
       })
-  lists_up_to A mid to out new done after why none sent (inr one, is) =
-      lists_cut A mid to out new done after why none sent is one
+  lists_up_to mid to out new done after why none sent (inr one, is) =
+      lists_cut mid to out new done after why none sent is one

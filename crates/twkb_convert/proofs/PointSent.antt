@@ -1,5 +1,5 @@
 -- A geometry that is a point, sent without a form.
-use Rattle.twkb_convert.proofs.Prelude.{◌≡◌, ◌∙◌, ℕ, List, [], ◌∷◌, ◌++◌, Option, Some, None, ap, arith, sym, subst}
+use Rattle.twkb_convert.proofs.Prelude.{◌≡◌, ◌∙◌, ℕ, List, [], ◌∷◌, Option, Some, None, ap, arith, sym, subst}
 use Rattle.twkb_convert.proofs.Prelude.{Output, OutFault, Took, Cut, Tree, simple, collection, Row, rows, Allowance}
 use Rattle.twkb_convert.proofs.Prelude.{Work, canonical_blob, Style, Record}
 use Rattle.std.specs.Prelude.{ℤ}
@@ -11,9 +11,8 @@ use Rattle.twkb_writer.specs.PointBlob.{one_point}
 use Rattle.twkb_table.specs.TableReading.{GivesNext}
 use Rattle.twkb_table.specs.Waiting.{point_row}
 use Rattle.twkb_table.specs.declared.table_reader.TableReader.{TableReader}
+use Rattle.twkb_convert.specs.BlobWriting.{WritesBlob}
 use Rattle.twkb_convert.specs.CountedWork.{AddsWork}
-use Rattle.twkb_convert.specs.Sending.{CutsOne, SendsOne, SentSoFar}
-use Rattle.twkb_convert.proofs.SendingLemmas.{ready_after}
 
 -- ---- the geometry
 
@@ -67,34 +66,17 @@ module _ {R W : Type 0} (style : Style) (l : Allowance) (remaining : R → Optio
   precise = (subst IsTree is_point gives.valid.tree).0
 
   -- the point was sent
-  pub sends_point : (before after : Work) → (IsPrecision p → Took contents old (canonical_blob style (one_point p q)) new)
-      → Measures before 1 1 1 after → SendsOne style l remaining contents told given to old before new after
-  sends_point before after took measures = record {
-    seen = gives.seen;
-    geometry = gives.geometry;
-    stands = gives.stands;
-    writes = record {
-      took = subst (λ (g : Tree). Took contents old (canonical_blob style g) new) (sym is_point) (took precise);
-      work = subst (λ (g : Tree). AddsWork g before after) (sym is_point) (point_work p q before after measures);
-    };
+  pub writes_point : (before after : Work)
+      → (IsPrecision p → Took contents old (canonical_blob style (one_point p q)) new)
+      → Measures before 1 1 1 after → WritesBlob style contents gives.geometry old before new after
+  writes_point before after took measures = record {
+    took = subst (λ (g : Tree). Took contents old (canonical_blob style g) new) (sym is_point) (took precise);
+    work = subst (λ (g : Tree). AddsWork g before after) (sym is_point) (point_work p q before after measures);
   }
 
   -- the output refused a prefix of the point's blob
   pub cuts_point : (fault : OutFault)
       → (IsPrecision p → Cut contents old (canonical_blob style (one_point p q)) fault new)
-      → CutsOne style l contents told given old fault new
-  cuts_point fault cut = record {
-    geometry = gives.geometry;
-    ready = ready_after l remaining told gives.seen (given ++ gives.geometry ∷ []) to gives.stands;
-    cut = subst (λ (g : Tree). Cut contents old (canonical_blob style g) fault new) (sym is_point) (cut precise);
-  }
-
--- nothing more was sent
-pub sent_still : {R W : Type 0} (style : Style) (l : Allowance) (remaining : R → Option (List ℕ))
-    (contents : W → Option (List ℕ)) (told : Option (List ℕ)) (from to : TableReader R) (first old new : Output W)
-    (done : ℕ) (before after : Work) → SentSoFar style l remaining contents told from first old done before
-    → (to ≡ from) × (new ≡ old) × (after ≡ before) → SentSoFar style l remaining contents told to first new done after
-sent_still style l remaining contents told from to first old new done before after s (table, output, work) =
-    subst (λ (t : TableReader _). SentSoFar style l remaining contents told t first new done after) (sym table)
-    (subst (λ (o : Output _). SentSoFar style l remaining contents told from first o done after) (sym output)
-    (subst (λ (w : Work). SentSoFar style l remaining contents told from first old done w) (sym work) s))
+      → Cut contents old (canonical_blob style gives.geometry) fault new
+  cuts_point fault cut = subst (λ (g : Tree). Cut contents old (canonical_blob style g) fault new) (sym is_point)
+      (cut precise)

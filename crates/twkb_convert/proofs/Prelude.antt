@@ -39,8 +39,6 @@ pub use Rattle.twkb_convert.specs.LocatedBlobs.{LocatedStream, geometries_of, Te
 pub use Rattle.twkb_convert.specs.LocatedBlobs.{lines_text}
 pub use Rattle.twkb_convert.specs.Listings.{Layout, listing_text, blobs_text}
 pub use Rattle.twkb_convert.specs.Devices.{IsDeviceCause, Changes}
-pub use Rattle.twkb_convert.specs.declared.obstacle.TableObstacle.{TableObstacle}
-pub use Rattle.twkb_convert.specs.declared.obstacle.Unfinished.{Unfinished}
 pub use Rattle.twkb_convert.specs.declared.report.Cause.{Cause}
 pub use Rattle.twkb_grammar.specs.Bits.{AreBytes}
 pub use Rattle.twkb_grammar.specs.declared.span.Span.{Span}
@@ -50,4 +48,3 @@ pub use Rattle.twkb_convert.specs.declared.report.Report.{Report}
 pub use Rattle.twkb_convert.specs.declared.report.ConvertFault.{ConvertFault}
 pub use Rattle.twkb_grammar.specs.Spans.{moved_span, spans_of_blob}
 pub use Rattle.twkb_convert.specs.Parts.{AreMovedLines, PackApart, RowsName, all_moved}
-pub use Rattle.twkb_convert.specs.declared.sending.Tally.{Tally}

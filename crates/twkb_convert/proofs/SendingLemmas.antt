@@ -1,35 +1,33 @@
--- The places where the sending of a table stops.
+-- The sending of a table, up to each place where it ends.
 use Rattle.twkb_io.specs.declared.TheConstants.{MAX_BYTES}
-use Rattle.twkb_convert.proofs.Prelude.{◌≡◌, ◌∙◌, ◌+◌, ◌<◌, ◌≤◌, ◌-◌, ◌^◌, ℕ, Bool, true, false, List, [], ◌∷◌, ◌++◌}
-use Rattle.twkb_convert.proofs.Prelude.{Option, Some, None, Err, length, ap, arith, refl, sym, subst, inl, inr}
-use Rattle.twkb_convert.proofs.Prelude.{length-append, IfSome, append-nil, flat_map-append, Refused, Took, is_spent}
-use Rattle.twkb_convert.proofs.Prelude.{sent_of, refused_join, took_join, Output, OutFault, Tree, simple, collection}
-use Rattle.twkb_convert.proofs.Prelude.{Row, Allowance, Work, canonical_blob, canonical_stream, Style, Record}
-use Rattle.twkb_convert.proofs.Prelude.{AreRecordsOf, BeginWith, standing, all_but_last, FrontOfBlobs, MayBeWritten}
-use Rattle.twkb_convert.proofs.Prelude.{TableObstacle}
+use Rattle.twkb_convert.proofs.Prelude.{◌≡◌, ◌≢◌, ◌∙◌, ◌⊎◌, ◌+◌, ◌<◌, ◌≤◌, ℕ, Bool, true, false, List, [], ◌∷◌}
+use Rattle.twkb_convert.proofs.Prelude.{◌++◌, Option, Result, Ok, Err, length, ap, arith, refl, sym, subst, inl, inr}
+use Rattle.twkb_convert.proofs.Prelude.{length-append, IfSome, append-nil, flat_map-append, Cut, is_spent, sent_of}
+use Rattle.twkb_convert.proofs.Prelude.{refused_join, took_join, took_nothing, Output, OutFault, Tree, simple}
+use Rattle.twkb_convert.proofs.Prelude.{collection, Row, Allowance, Work, canonical_blob, canonical_stream, Style}
+use Rattle.twkb_convert.proofs.Prelude.{Record, AreRecordsOf, BeginWith, standing, all_but_last, MayBeWritten, Cause}
+use Rattle.twkb_convert.proofs.Prelude.{IsAtEnd, Named}
+use Rattle.std.specs.Prelude.{OnOk}
 use Rattle.twkb_io.specs.declared.output.OutFault.TheVariants as out
-use Rattle.twkb_io.specs.OutputLaws.{took_nothing}
 use Rattle.twkb_table.specs.RowReading.{waiting}
 use Rattle.twkb_table.specs.TableReading as Table
-use Rattle.twkb_table.specs.TableReading.{HaveGiven, StandsAfter, is_ended}
+use Rattle.twkb_table.specs.TableReading.{GivesNext, HaveGiven, MeetsEnd, StandsAfter, is_ended}
 use Rattle.twkb_table.specs.declared.table_fault.TableFault.{TableFault}
 use Rattle.twkb_table.specs.declared.table_fault.TableFault.TheVariants as fault
 use Rattle.twkb_table.specs.declared.table_reader.TableReader.{TableReader}
 use Rattle.twkb_table.proofs.TableReaderLemmas.{all_but_last-last, names_so_far, text_begins}
-use Rattle.twkb_convert.specs.CountedWork.{IsWorkOf}
-use Rattle.twkb_convert.specs.Sending.{CutsOne, EndsTable, ExplainsWhy, SendsNext, SendsOne, SentTable, SentSoFar}
-use Rattle.twkb_convert.specs.Sending.{Stopped, UnlessOutput, is_write}
-use Rattle.twkb_convert.specs.declared.obstacle.TableObstacle.TheVariants as obstacle
-use Rattle.twkb_convert.specs.declared.sending.Tally.{Tally}
+use Rattle.twkb_convert.specs.BlobWriting.{WritesBlob}
+use Rattle.twkb_convert.specs.Causes.{cause_of_output, cause_of_table}
+use Rattle.twkb_convert.specs.CountedWork.{no_work}
+use Rattle.twkb_convert.specs.Devices.{is_write}
+use Rattle.twkb_convert.specs.Draining.{Drains}
+use Rattle.twkb_convert.specs.Flushing.{Flushes}
+use Rattle.twkb_convert.specs.Sending.{Ends, SendsTable, SentSoFar}
+use Rattle.twkb_convert.specs.declared.report.Cause.TheVariants as cause
+use Rattle.twkb_convert.proofs.FlushLemmas.{leaves_last, leaves_refused, leaves_took}
 use Rattle.twkb_convert.proofs.WorkLemmas.{work_more}
 
 -- ---- geometries that may be written
-
--- all records of a text are a beginning of its records
-begins_all : (told : Option (List ℕ)) (records : List Record)
-    → IfSome told (λ text. AreRecordsOf text records) → IfSome told (λ text. BeginWith text records)
-begins_all None records all = tt
-begins_all (Some text) records all = (all.0, all.1, all.2)
 
 ready_gave : (l : Allowance) (told : Option (List ℕ)) (records : List Record) (given : List Tree)
     (waits : List Row) (ended : Bool) → IfSome told (λ text. BeginWith text records)
@@ -69,175 +67,6 @@ stream_one : (style : Style) (gs : List Tree) (g : Tree)
 stream_one style gs g = flat_map-append (canonical_blob style) gs (g ∷ [])
     ∙ ap (λ l. canonical_stream style gs ++ l) (append-nil (canonical_blob style g))
 
-module _ {R W : Type 0} (style : Style) (l : Allowance) (remaining : R → Option (List ℕ))
-    (contents : W → Option (List ℕ)) (told : Option (List ℕ)) where
-  -- no geometry was sent yet
-  pub sent_none : (from : TableReader R) (old : Output W) (work : Work)
-      → StandsAfter l remaining told [] [] from → IsWorkOf [] work
-      → SentSoFar style l remaining contents told from old old 0 work
-  sent_none from old work stands none = record {
-    records = [];
-    geometries = [];
-    stands = stands;
-    took = took_nothing contents old;
-    count = refl;
-    work_of = none;
-  }
-
-  -- one more geometry was sent
-  pub sent_more : (from to : TableReader R) (old mid new : Output W) (done : ℕ)
-      (before after : Work) (s : SentSoFar style l remaining contents told from old mid done before)
-      → SendsOne style l remaining contents told s.geometries to mid before new after
-      → SentSoFar style l remaining contents told to old new (done + 1) after
-  sent_more from to old mid new done before after s one = record {
-    records = one.seen;
-    geometries = s.geometries ++ one.geometry ∷ [];
-    stands = one.stands;
-    took = rw (stream_one style s.geometries one.geometry) (took_join contents old mid new _ _ s.took one.writes.took);
-    count = (let c = s.count in omega (arith, c, length-append s.geometries (one.geometry ∷ [])));
-    work_of = work_more s.geometries one.geometry before after s.work_of one.writes.work;
-  }
-
-  -- no more geometry was sent
-  pub sent_table : (from to : TableReader R) (old mid new : Output W) (done : ℕ)
-      (before after : Work) (s : SentSoFar style l remaining contents told from old mid done before)
-      → EndsTable l remaining told s.records s.geometries to mid before new after
-      → SentTable style l contents told old new (record { geometries = done; work = after })
-  sent_table from to old mid new done before after s ends = record {
-    table = record {
-      records = ends.meets.seen;
-      geometries = s.geometries;
-      all = ends.meets.all;
-      few = ends.meets.stands.few;
-      named = ends.meets.named;
-    };
-    took = subst (λ o. Took contents old (canonical_stream style s.geometries) o) (sym ends.same) s.took;
-    count = s.count;
-    work_of = subst (λ w. IsWorkOf s.geometries w) (sym ends.same_work) s.work_of;
-  }
-
--- the blobs of geometries that may be written, with none cut after them
-abbrev pub front_with : (style : Style) (l : Allowance) (told : Option (List ℕ)) (gs : List Tree)
-    (bytes : List ℕ) → MayBeWritten l told (gs ++ []) → bytes ≡ canonical_stream style gs ++ []
-    → FrontOfBlobs style l told bytes
-front_with style l told gs bytes ready are = record {
-  whole = gs;
-  later = [];
-  front = [];
-  rest = [];
-  ready = ready;
-  cut = refl;
-  bytes = are;
-}
-
-abbrev pub whole_front : (style : Style) (l : Allowance) (told : Option (List ℕ)) (gs : List Tree)
-    → MayBeWritten l told (gs ++ []) → FrontOfBlobs style l told (canonical_stream style gs)
-whole_front style l told gs ready = front_with style l told gs (canonical_stream style gs) ready
-    (sym (append-nil (canonical_stream style gs)))
-
--- ---- stops
-
-explains_fault : (style : Style) (l : Allowance) (told : Option (List ℕ)) (passed : ℕ)
-    (records : List Record) (given : List Tree) (f : TableFault) (sent : ℕ)
-    → Table.Explains l told records given f
-    → ExplainsWhy style l told passed (obstacle.Table f) sent given [] []
-explains_fault style l told passed records given (fault.At number reason) sent e =
-    (refl, refl, record { seen = e.seen; begins = e.begins; none = e.none; fault = e.complete })
-explains_fault style l told passed records given fault.TooManyRecords sent e = (
-  refl,
-  refl,
-  record {
-    before = e.before;
-    here = e.here;
-    begins = e.begins;
-    many = e.many;
-    geometries = e.geometries;
-    named = e.named;
-    complete = e.complete;
-  },
-)
-explains_fault style l told passed records given fault.Source sent e = (refl, refl)
-explains_fault style l told passed records given fault.Memory sent e = (refl, refl)
-explains_fault style l told passed records given fault.Spent sent e = e
-
-module _ {R W : Type 0} (style : Style) (l : Allowance) (remaining : R → Option (List ℕ))
-    (contents : W → Option (List ℕ)) (told : Option (List ℕ)) (passed : ℕ) where
-  -- the output took all bytes handed over
-  stopped_between : (from : TableReader R) (old mid new : Output W) (done : ℕ) (work : Work)
-      (stop : TableObstacle) (s : SentSoFar style l remaining contents told from old mid done work)
-      → new ≡ mid → is_write stop ≡ false → ((P : Type 0) → P → UnlessOutput stop P)
-      → ExplainsWhy style l told passed stop (sent_of old) s.geometries [] []
-      → Stopped style l contents told passed old new (record { done = done; why = stop })
-  stopped_between from old mid new done work stop s same quiet kept explains =
-      let took = subst (λ o. Took contents old (canonical_stream style s.geometries) o) (sym same) s.took in
-      let ready : MayBeWritten l told (s.geometries ++ []) = subst (λ gs. MayBeWritten l told gs)
-      (sym (append-nil s.geometries)) (ready_after l remaining told s.records s.geometries from
-      s.stands) in
-      record {
-        bytes = canonical_stream style s.geometries;
-        part = whole_front style l told s.geometries ready;
-        one = inl refl;
-        sends = took.sends;
-        count = s.count;
-        explains = explains;
-        failures = rw quiet took.failures;
-        unspent = kept _ took.spent;
-      }
-
-  -- the output refused a prefix of a blob
-  stopped_inside : (from : TableReader R) (old mid new : Output W) (done : ℕ) (work : Work)
-      (f : OutFault) (s : SentSoFar style l remaining contents told from old mid done work)
-      → is_spent mid ≡ false → CutsOne style l contents told s.geometries mid f new
-      → Stopped style l contents told passed old new
-      (record { done = done; why = obstacle.Output f })
-  stopped_inside from old mid new done work f s fresh one =
-      let all = refused_join contents old mid new (canonical_stream style s.geometries)
-      one.cut.front f s.took one.cut.refused in
-      record {
-        bytes = canonical_stream style s.geometries ++ one.cut.front;
-        part = record {
-          whole = s.geometries;
-          later = one.geometry ∷ [];
-          front = one.cut.front;
-          rest = one.cut.rest;
-          ready = one.ready;
-          cut = append-nil (canonical_blob style one.geometry) ∙ one.cut.whole;
-          bytes = refl;
-        };
-        one = inr (one.geometry, refl, one.cut.left fresh);
-        sends = all.sends;
-        count = s.count;
-        explains = (
-          λ far. (let most = one.cut.too_long far in let before = s.took.sends.sent in
-              omega (
-                arith,
-                most,
-                before,
-                ap length (stream_one style s.geometries one.geometry),
-                length-append (canonical_stream style s.geometries)
-                    (canonical_blob style one.geometry),
-              )),
-          one.cut.unspent fresh,
-        );
-        failures = all.failures;
-        unspent = tt;
-      }
-
-  pub stopped_next : (from to : TableReader R) (old mid new : Output W) (done : ℕ)
-      (before after : Work) (stop : TableObstacle) (s : SentSoFar style l remaining contents told
-      from old mid done before)
-      → is_spent mid ≡ false → SendsNext style l remaining contents told s.records s.geometries to
-      mid before new after (Err stop) → Stopped style l contents told passed old new
-      (record { done = done; why = stop })
-  stopped_next from to old mid new done before after (obstacle.Table f) s fresh (same, explains) =
-      stopped_between from old mid new done before (obstacle.Table f) s same refl (λ P p. p)
-      (explains_fault style l told passed s.records s.geometries f (sent_of old) explains)
-  stopped_next from to old mid new done before after obstacle.Undrained s fresh sends = absurd sends
-  stopped_next from to old mid new done before after (obstacle.Output f) s fresh one =
-      stopped_inside from old mid new done before f s fresh one
-
--- ---- tables without an end
-
 blob_long : (style : Style) (g : Tree) → 0 < length (canonical_blob style g)
 blob_long style (simple p s) = omega arith
 blob_long style (collection p ids gs) = omega arith
@@ -253,98 +82,230 @@ stream_long style (g ∷ gs) = omega (
   stream_long style gs,
 )
 
--- more geometries than can be counted have more bytes than can be sent
-pub stopped_uncounted : {R W : Type 0} (style : Style) (l : Allowance)
-    (remaining : R → Option (List ℕ)) (contents : W → Option (List ℕ)) (told : Option (List ℕ))
-    (passed : ℕ) (table : TableReader R) (old new : Output W)
-    (done last : ℕ) (work : Work) → SentSoFar style l remaining contents told table old new done
-    work → done ≡ last → MAX_BYTES < last
-    → Stopped style l contents told passed old new (record { done = last; why = obstacle.Output out.TooLong })
-stopped_uncounted style l remaining contents told passed table old new done last work s at_last many = record {
-  bytes = canonical_stream style s.geometries;
-  part = whole_front style l told s.geometries (subst (λ gs. MayBeWritten l told gs)
-      (sym (append-nil s.geometries)) (ready_after l remaining told s.records s.geometries table
-      s.stands));
-  one = inl refl;
-  sends = s.took.sends;
-  count = sym at_last ∙ s.count;
-  explains = (
-    λ far. (let c = s.count in
-        omega (
+module _ {R W : Type 0} (style : Style) (l : Allowance) (remaining : R → Option (List ℕ))
+    (contents : W → Option (List ℕ)) (told : Option (List ℕ)) where
+  -- no geometry was sent yet
+  pub sent_none : (from : TableReader R) (old : Output W) → is_spent old ≡ false → sent_of old ≡ 0
+      → StandsAfter l remaining told [] [] from → SentSoFar style l remaining contents told from old old 0 no_work
+  sent_none from old fresh unsent stands = record {
+    records = [];
+    geometries = [];
+    stands = stands;
+    took = took_nothing contents old;
+    count = refl;
+    work_of = record {
+      all_points = refl;
+      all_nodes = refl;
+      all_entries = refl;
+      point_reads = omega arith;
+      node_reads = omega arith;
+    };
+    fresh = fresh;
+    unsent = unsent;
+  }
+
+  module _ (from : TableReader R) (old mid : Output W) (done : ℕ) (before : Work)
+      (s : SentSoFar style l remaining contents told from old mid done before) where
+    -- one more geometry was sent
+    pub sent_more : (to : TableReader R) (new : Output W) (after : Work) (rows : List Row)
+        (gives : GivesNext l remaining told s.records s.geometries rows to)
+        → WritesBlob style contents gives.geometry mid before new after
+        → SentSoFar style l remaining contents told to old new (done + 1) after
+    sent_more to new after rows gives writes = record {
+      records = gives.seen;
+      geometries = s.geometries ++ gives.geometry ∷ [];
+      stands = gives.stands;
+      took = rw (stream_one style s.geometries gives.geometry) (took_join contents old mid new _ _ s.took writes.took);
+      count = (let c = s.count in omega (arith, c, length-append s.geometries (gives.geometry ∷ [])));
+      work_of = work_more s.geometries gives.geometry before after s.work_of writes.work;
+      fresh = s.fresh;
+      unsent = s.unsent;
+    }
+
+    -- no more was sent, for this answer
+    sent_whole : (given : ℕ) (work : Work) (answer : Result (Unit {0}) Cause) → is_write answer ≡ false
+        → Ends style l told given work s.geometries [] [] answer
+        → SendsTable style l contents told given old mid done work answer
+    sent_whole given work answer quiet ends = record {
+      bytes = canonical_stream style s.geometries;
+      part = record {
+        whole = s.geometries;
+        later = [];
+        front = [];
+        rest = [];
+        ready = subst (λ gs. MayBeWritten l told gs) (sym (append-nil s.geometries))
+            (ready_after l remaining told s.records s.geometries from s.stands);
+        cut = refl;
+        bytes = sym (append-nil (canonical_stream style s.geometries));
+      };
+      one = inl refl;
+      leaves = leaves_took contents old mid _ answer s.fresh quiet s.took;
+      count = s.count;
+      ends = ends;
+    }
+
+    -- the table was read to its end
+    pub ends_table : (to : TableReader R) (given : ℕ) → MeetsEnd l remaining told s.records s.geometries to
+        → SendsTable style l contents told given old mid done before (Ok tt)
+    ends_table to given meets = sent_whole given before (Ok tt) refl (record {
+      table = record {
+        records = meets.seen;
+        geometries = s.geometries;
+        all = meets.all;
+        few = meets.stands.few;
+        named = meets.named;
+      };
+      same = refl;
+      work_of = s.work_of;
+      no_later = refl;
+      no_front = refl;
+    })
+
+    -- the table gave no geometry
+    pub ends_fault : (given : ℕ) (work : Work) (f : TableFault) → Table.Explains l told s.records s.geometries f
+        → SendsTable style l contents told given old mid done work (Err (cause_of_table f))
+    ends_fault given work (fault.At number reason) e = sent_whole given work (Err (cause.Row number reason)) refl
+        (refl, refl, record { seen = e.seen; begins = e.begins; none = e.none; fault = e.complete })
+    ends_fault given work fault.TooManyRecords e = sent_whole given work (Err cause.TooManyRecords) refl (
+      refl,
+      refl,
+      record {
+        before = e.before;
+        here = e.here;
+        begins = e.begins;
+        many = e.many;
+        geometries = e.geometries;
+        named = e.named;
+        complete = e.complete;
+      },
+    )
+    ends_fault given work fault.Source e = sent_whole given work (Err cause.ReadDevice) refl (refl, refl)
+    ends_fault given work fault.Memory e = sent_whole given work (Err cause.Memory) refl (refl, refl)
+    ends_fault given work fault.Spent e = absurd e
+
+    -- more geometries than can be counted have more bytes than can be sent
+    pub ends_uncounted : (given last : ℕ) → done ≡ last → MAX_BYTES < last
+        → SendsTable style l contents told given old mid last before (Err cause.TooLong)
+    ends_uncounted given last at_last many = subst
+        (λ n. SendsTable style l contents told given old mid n before (Err cause.TooLong)) at_last
+        (sent_whole given before (Err cause.TooLong) refl (inl (let c = s.count in omega (
           arith,
           many,
           at_last,
           c,
           stream_long style s.geometries,
           ap (λ gs. length (canonical_stream style gs)) (append-nil s.geometries),
-        )),
-    λ spent. cc spent,
-  );
-  failures = s.took.failures;
-  unspent = tt;
-}
+        ))))
 
--- ---- the reader's end and the flush
+    cut_ends : (given : ℕ) (work : Work) (f : OutFault) (later : List Tree) (front : List ℕ)
+        → (f ≡ out.TooLong → MAX_BYTES < length (canonical_stream style (s.geometries ++ later))) → f ≢ out.Spent
+        → Ends style l told given work s.geometries later front (Err (cause_of_output f))
+    cut_ends given work out.Write later front long unspent = tt
+    cut_ends given work out.Stuck later front long unspent = tt
+    cut_ends given work out.TooLong later front long unspent = inl (long refl)
+    cut_ends given work out.Spent later front long unspent = absurd (unspent refl)
 
-module _ {W : Type 0} (style : Style) (l : Allowance) (contents : W → Option (List ℕ)) (told : Option (List ℕ)) where
-  -- all geometries of a table may be written
-  pub all_ready : (old new : Output W) (tally : Tally)
-      (all : SentTable style l contents told old new tally)
-      → MayBeWritten l told (all.table.geometries ++ [])
-  all_ready old new tally all = record {
-    records = all.table.records;
-    geometries = all.table.geometries;
-    begins = begins_all told all.table.records all.table.all;
-    named = names_so_far l all.table.records all.table.geometries all.table.named;
-    ready = inr (all.table.all, append-nil all.table.geometries);
+    -- the output refused a prefix of the next blob
+    pub ends_cut : (to : TableReader R) (new : Output W) (given : ℕ) (work : Work) (f : OutFault) (rows : List Row)
+        (gives : GivesNext l remaining told s.records s.geometries rows to)
+        → Cut contents mid (canonical_blob style gives.geometry) f new
+        → SendsTable style l contents told given old new done work (Err (cause_of_output f))
+    ends_cut to new given work f rows gives cut =
+        let fresh : is_spent mid ≡ false = s.took.spent ∙ s.fresh in
+        record {
+          bytes = canonical_stream style s.geometries ++ cut.front;
+          part = record {
+            whole = s.geometries;
+            later = gives.geometry ∷ [];
+            front = cut.front;
+            rest = cut.rest;
+            ready = ready_after l remaining told gives.seen (s.geometries ++ gives.geometry ∷ []) to gives.stands;
+            cut = append-nil (canonical_blob style gives.geometry) ∙ cut.whole;
+            bytes = refl;
+          };
+          one = inr (gives.geometry, refl, cut.left fresh);
+          leaves = leaves_refused contents old new _ f
+              (refused_join contents old mid new _ cut.front f s.took cut.refused);
+          count = s.count;
+          ends = cut_ends given work f (gives.geometry ∷ []) cut.front
+              (λ far. (let most = cut.too_long far in let sent = s.took.sends.sent in
+              omega (
+                arith,
+                most,
+                sent,
+                s.unsent,
+                ap length (stream_one style s.geometries gives.geometry),
+                length-append (canonical_stream style s.geometries) (canonical_blob style gives.geometry),
+              )))
+              (cut.unspent fresh);
+        }
+
+-- ---- the reader's end, and the flush
+
+pub drained : {A : Type 0} (left : Option (List ℕ)) (given before after : ℕ) (answer : Result A Cause)
+    → Drains left given before after answer → OnOk answer (IsAtEnd left)
+drained left given before after (Ok done) drains = drains.0
+drained left given before after (Err why) drains = tt
+
+module _ {W : Type 0} (style : Style) (l : Allowance) (contents : W → Option (List ℕ)) (told : Option (List ℕ))
+    (given : ℕ) (old mid : Output W) (done : ℕ) (work : Work) where
+  -- the whole table was sent, and the reader was not read to its end
+  undrained : (why : Cause) → is_write {A = Unit {0}} (Err why) ≡ false
+      → (s : SendsTable style l contents told given old mid done work (Ok tt))
+      → Ends style l told given work s.part.whole s.part.later s.part.front (Err why)
+      → SendsTable style l contents told given old mid done work (Err why)
+  undrained why quiet s ends = record {
+    bytes = s.bytes;
+    part = s.part;
+    one = s.one;
+    leaves = record {
+      sends = s.leaves.sends;
+      failures = rw quiet s.leaves.failures;
+      quiet = s.leaves.quiet;
+      unspent = λ no_write no_length. s.leaves.unspent;
+    };
+    count = s.count;
+    ends = ends;
   }
 
-  -- the whole table was sent, and the reader gave bytes until their count was full
-  pub stopped_undrained : (passed : ℕ) (old new : Output W) (tally : Tally) → 2 ^ 64 - 1 ≤ passed
-      → SentTable style l contents told old new tally
-      → Stopped style l contents told passed old new (record { done = tally.geometries; why = obstacle.Undrained })
-  stopped_undrained passed old new tally full all = record {
-    bytes = canonical_stream style all.table.geometries;
-    part = whole_front style l told all.table.geometries (all_ready old new tally all);
-    one = inl refl;
-    sends = all.took.sends;
-    count = all.count;
-    explains = (refl, refl, (all.table.records, all.table.all, all.table.named), full);
-    failures = all.took.failures;
-    unspent = all.took.spent;
-  }
+  -- the answer of reading to the end
+  pub sends_drained : (left : Option (List ℕ)) (before after : ℕ) (answer : Result (Unit {0}) Cause)
+      → Drains left given before after answer
+      → SendsTable style l contents told given old mid done work (Ok tt)
+      → SendsTable style l contents told given old mid done work answer
+  sends_drained left before after (Ok end) drains s = s
+  sends_drained left before after (Err why) (inl (is, failed)) s =
+      subst (λ c. SendsTable style l contents told given old mid done work (Err c)) (sym is)
+      (undrained cause.ReadDevice refl s (s.ends.no_later, s.ends.no_front))
+  sends_drained left before after (Err why) (inr (is, many)) s =
+      subst (λ c. SendsTable style l contents told given old mid done work (Err c)) (sym is)
+      (undrained cause.TooLong refl s (inr (
+        s.ends.no_later,
+        s.ends.no_front,
+        (
+          s.ends.table.records,
+          s.ends.table.all,
+          subst (λ gs. Named l s.ends.table.records gs) s.ends.same s.ends.table.named,
+        ),
+        many,
+      )))
 
-  -- the whole table was sent, and the read after it failed
-  pub stopped_unread : (passed : ℕ) (old new : Output W) (tally : Tally) → SentTable style l contents told old new tally
-      → Stopped style l contents told passed old new
-      (record { done = tally.geometries; why = obstacle.Table fault.Source })
-  stopped_unread passed old new tally all = record {
-    bytes = canonical_stream style all.table.geometries;
-    part = whole_front style l told all.table.geometries (all_ready old new tally all);
-    one = inl refl;
-    sends = all.took.sends;
-    count = all.count;
-    explains = (refl, refl);
-    failures = all.took.failures;
-    unspent = all.took.spent;
-  }
-
-  -- the flush failed after the whole table
-  pub flush_failed : (passed : ℕ) (old mid new : Output W) (tally : Tally) (f : OutFault)
-      → SentTable style l contents told old mid tally → Refused contents mid [] f new
-      → (f ≡ out.TooLong → ⊥) → (f ≡ out.Spent → ⊥)
-      → Stopped style l contents told passed old new (record { done = tally.geometries; why = obstacle.Output f })
-  flush_failed passed old mid new tally f all failed short unspent =
-      let refused = refused_join contents old mid new (canonical_stream style all.table.geometries)
-      [] f all.took failed in
+  -- what was sent, after the flush
+  pub sends_last : (new : Output W) (answer last : Result (Unit {0}) Cause) → Flushes contents mid answer new last
+      → SendsTable style l contents told given old mid done work answer
+      → SendsTable style l contents told given old new done work last
+  sends_last new answer last flushes s =
+      let after = leaves_last contents old mid new s.bytes answer last s.leaves flushes in
       record {
-        bytes = canonical_stream style all.table.geometries ++ [];
-        part = front_with style l told all.table.geometries
-            (canonical_stream style all.table.geometries ++ []) (all_ready old mid tally all) refl;
-        one = inl refl;
-        sends = refused.sends;
-        count = all.count;
-        explains = (λ far. absurd (short far), unspent);
-        failures = refused.failures;
-        unspent = tt;
+        bytes = s.bytes;
+        part = s.part;
+        one = s.one;
+        leaves = after.0;
+        count = s.count;
+        ends = ends after.1;
       }
+    where
+      ends : (last ≡ answer) ⊎ (last ≡ Err cause.WriteDevice)
+          → Ends style l told given work s.part.whole s.part.later s.part.front last
+      ends (inl same) = subst (Ends style l told given work s.part.whole s.part.later s.part.front) (sym same) s.ends
+      ends (inr write) = subst (Ends style l told given work s.part.whole s.part.later s.part.front) (sym write) tt

@@ -3,8 +3,7 @@ use Rattle.std.specs.Prelude.{◌≡◌, ℕ, ◌+◌, ◌≤◌, ◌⊎◌, Lis
 use Rattle.std.specs.Prelude.{Result, Ok, Err}
 use Rattle.std.specs.Io.KnownBytes.{IsAtEnd}
 use Rattle.std.specs.declared.io.traits.Read.{Ghosts}
-use Rattle.twkb_io.specs.Taps.{count_failure}
-use Rattle.twkb_io.specs.Outputs.{Cut, Sent, Took, is_spent, output_failures}
+use Rattle.twkb_io.specs.Outputs.{Cut, Took, is_spent}
 use Rattle.twkb_io.specs.declared.output.Output.{Output}
 use Rattle.twkb_io.specs.declared.output.OutFault.{OutFault}
 use Rattle.twkb_blob.specs.declared.reader.Reader.{Reader}
@@ -12,8 +11,8 @@ use Rattle.twkb_blob.specs.declared.spans.Located.{Located}
 use Rattle.twkb_convert.specs.BlobReading.{EndsBlobs, Follows, GivesBlob, IsBetween, MissesText, Used, given, limits_of}
 use Rattle.twkb_convert.specs.BlobReading.{rest_of, told_of}
 use Rattle.twkb_convert.specs.Causes.{cause_of_output}
-use Rattle.twkb_convert.specs.Devices.{IsDeviceCause}
-use Rattle.twkb_convert.specs.Flushing.{UnlessRefused}
+use Rattle.twkb_convert.specs.Devices.{IsDeviceCause, is_write}
+use Rattle.twkb_convert.specs.Flushing.{Leaves}
 use Rattle.twkb_convert.specs.Fronts.{FrontOfText}
 use Rattle.twkb_convert.specs.Listed.{ExplainsListingCause}
 use Rattle.twkb_convert.specs.Listings.{Layout, listing_text}
@@ -79,46 +78,39 @@ pub record SentSoFar {R W : Type 0} {read : Ghosts R} (layout : Layout)
   pub follows : Follows from to false
   pub going : IsGoing to new done
 
--- All bytes are the blobs whose text was sent, no device failed, and the reader is at its end.
+-- All bytes are the blobs whose text was sent, no read failed, and the reader is at its end.
 pub record ListsAll {R : Type 0} {read : Ghosts R} (from to : Reader R read) (bytes : List ℕ)
-    (later : List Located) (left : List ℕ) (read_failed write_failed : Bool) : Type 0 where
+    (later : List Located) (left : List ℕ) (read_failed : Bool) : Type 0 where
   pub no_later : later ≡ []
   pub none_left : left ≡ []
   pub all : IfSome (rest_of from) (λ whole. whole ≡ bytes)
   pub ended : IfSome (rest_of from) (λ whole. IsAtEnd (told_of to))
   pub no_read : read_failed ≡ false
-  pub no_write : write_failed ≡ false
 
 -- What a cause says about the text sent and the bytes left, and about the devices.
 pub record ListsUpTo {R : Type 0} {read : Ghosts R} (layout : Layout) (from to : Reader R read)
-    (bytes : List ℕ) (whole later : List Located) (left : List ℕ) (read_failed write_failed : Bool)
+    (bytes : List ℕ) (whole later : List Located) (left : List ℕ) (read_failed : Bool)
     (why : Cause) : Type 0 where
   pub explains : ExplainsListingCause geometries_of (listing_text layout) (limits_of from)
       (rest_of from) (told_of to) bytes why whole later left
-  pub tell : IsDeviceCause read_failed write_failed why
+  pub tell : IsDeviceCause read_failed (is_write {A = Unit {0}} (Err why)) why
 
 -- what an answer says
-abbrev pub Ends : {A R : Type 0} {read : Ghosts R} → Layout → Reader R read → Reader R read → List ℕ
-    → List Located → List Located → List ℕ → Bool → Bool → Result A Cause → Type 0
-Ends layout from to bytes whole later left read_failed write_failed (Ok done) =
-    ListsAll from to bytes later left read_failed write_failed
-Ends layout from to bytes whole later left read_failed write_failed (Err why) =
-    ListsUpTo layout from to bytes whole later left read_failed write_failed why
+abbrev pub Ends : {R : Type 0} {read : Ghosts R} → Layout → Reader R read → Reader R read → List ℕ
+    → List Located → List Located → List ℕ → Bool → Result (Unit {0}) Cause → Type 0
+Ends layout from to bytes whole later left read_failed (Ok done) = ListsAll from to bytes later left read_failed
+Ends layout from to bytes whole later left read_failed (Err why) =
+    ListsUpTo layout from to bytes whole later left read_failed why
 
 -- A prefix of the text of a stream was sent, from a reader that had read nothing, and this is the
--- number of blobs whose text is whole in it. The output is spent if a write failed, and only if a
--- call was refused.
-pub record Lists {A R W : Type 0} {read : Ghosts R} (layout : Layout)
+-- number of blobs whose text is whole in it.
+pub record Lists {R W : Type 0} {read : Ghosts R} (layout : Layout)
     (contents : W → Option (List ℕ)) (from : Reader R read) (old : Output W) (to : Reader R read)
-    (new : Output W) (done : ℕ) (answer : Result A Cause) : Type 0 where
+    (new : Output W) (done : ℕ) (answer : Result (Unit {0}) Cause) : Type 0 where
   pub text : List ℕ
   pub part : FrontOfText (LocatedStream (limits_of from) 0) (listing_text layout) (rest_of from) text
-  pub sends : Sent contents old text new
+  pub leaves : Leaves contents old text new answer
   pub count : done ≡ length part.whole
   pub read_failed : Bool
-  pub write_failed : Bool
   pub follows : Follows from to read_failed
-  pub writes : output_failures new ≡ count_failure write_failed (output_failures old)
-  pub quiet : is_spent new ≡ false → write_failed ≡ false
-  pub unspent : UnlessRefused answer (is_spent new ≡ false)
-  pub ends : Ends layout from to part.bytes part.whole part.later part.left read_failed write_failed answer
+  pub ends : Ends layout from to part.bytes part.whole part.later part.left read_failed answer

@@ -1,9 +1,12 @@
 -- The causes that faults of readers and outputs are for a caller.
+use Rattle.std.specs.Prelude.{Bool, true, false, Result, Ok, Err}
 use Rattle.twkb_blob.specs.declared.fault.BlobFault.{BlobFault}
 use Rattle.twkb_blob.specs.declared.fault.BlobFault.TheVariants as blob
 use Rattle.twkb_io.specs.declared.input.InFault.TheVariants as input
 use Rattle.twkb_io.specs.declared.output.OutFault.{OutFault}
 use Rattle.twkb_io.specs.declared.output.OutFault.TheVariants as out
+use Rattle.twkb_table.specs.declared.table_fault.TableFault.{TableFault}
+use Rattle.twkb_table.specs.declared.table_fault.TableFault.TheVariants as table
 use Rattle.twkb_convert.specs.declared.report.Cause.{Cause}
 use Rattle.twkb_convert.specs.declared.report.Cause.TheVariants as cause
 
@@ -16,9 +19,31 @@ cause_of_blob (blob.Device input.Spent) = cause.TooLong
 cause_of_blob blob.Spent = cause.TooLong
 cause_of_blob (blob.At offset reason) = cause.Blob offset reason
 
+-- the cause of a stop at a reader of tables, which is called no more after a refusal
+abbrev pub cause_of_table : TableFault → Cause
+cause_of_table (table.At number reason) = cause.Row number reason
+cause_of_table table.TooManyRecords = cause.TooManyRecords
+cause_of_table table.Source = cause.ReadDevice
+cause_of_table table.Memory = cause.Memory
+cause_of_table table.Spent = cause.Memory
+
 -- the cause of a stop at an output, which is called no more after a refusal
 abbrev pub cause_of_output : OutFault → Cause
 cause_of_output out.Write = cause.WriteDevice
 cause_of_output out.Stuck = cause.WriteDevice
 cause_of_output out.TooLong = cause.TooLong
 cause_of_output out.Spent = cause.TooLong
+
+-- a cause, once it is known whether a read failed: that is the cause, unless a write failed, and it
+-- is not the cause if none failed
+abbrev pub cause_after : Bool → Cause → Cause
+cause_after failed cause.WriteDevice = cause.WriteDevice
+cause_after true why = cause.ReadDevice
+cause_after false cause.ReadDevice = cause.Memory
+cause_after false why = why
+
+-- an answer, once it is known whether a read failed
+abbrev pub after_reads : {A : Type 0} → Bool → Result A Cause → Result A Cause
+after_reads true (Ok done) = Err cause.ReadDevice
+after_reads false (Ok done) = Ok done
+after_reads failed (Err why) = Err (cause_after failed why)

@@ -8,6 +8,10 @@ use Rattle.twkb_grammar.specs.Spans.{geometries}
 abbrev pub points : Tree → ℕ
 points g = length (flat g)
 
+-- the work of no geometry
+abbrev pub no_work : Work
+no_work = record { points = 0; nodes = 0; entries = 0; point_reads = 0; node_reads = 0 }
+
 -- the sum of a count over geometries
 abbrev pub total : (Tree → ℕ) → List Tree → ℕ
 total count [] = 0

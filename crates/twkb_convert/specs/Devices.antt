@@ -1,5 +1,5 @@
 -- Which devices failed in a run, as their taps count it, and what the cause says about that.
-use Rattle.std.specs.Prelude.{ℕ, ◌≡◌, ◌≢◌, Bool, true, false}
+use Rattle.std.specs.Prelude.{ℕ, ◌≡◌, ◌≢◌, Bool, true, false, Result, Err}
 use Rattle.twkb_io.specs.Taps.{count_failure, failures_of}
 use Rattle.twkb_io.specs.declared.tap.Tap.{Tap}
 use Rattle.twkb_convert.specs.declared.report.Cause.{Cause}
@@ -10,6 +10,11 @@ abbrev pub IsDeviceCause : Bool → Bool → Cause → Type 0
 IsDeviceCause read true why = why ≡ cause.WriteDevice
 IsDeviceCause true false why = why ≡ cause.ReadDevice
 IsDeviceCause false false why = (why ≢ cause.ReadDevice) × (why ≢ cause.WriteDevice)
+
+-- whether the answer is that a write or a flush failed
+abbrev pub is_write : {A : Type 0} → Result A Cause → Bool
+is_write (Err cause.WriteDevice) = true
+is_write _ = false
 
 -- one more failure was counted, if there was one
 abbrev pub CountsOne : Bool → ℕ → ℕ → Type 0

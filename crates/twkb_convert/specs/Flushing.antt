@@ -1,10 +1,11 @@
 -- What is flushed when a conversion ends.
 use Rattle.std.specs.Prelude.{◌≡◌, ◌≢◌, ◌⊎◌, ℕ, List, [], Option, Result, Ok, Err, false, true}
 use Rattle.twkb_io.specs.declared.tap.Tap.{Tap}
-use Rattle.twkb_io.specs.Taps.{has_unflushed}
-use Rattle.twkb_io.specs.Outputs.{Refused, Took, is_spent, output_tap}
+use Rattle.twkb_io.specs.Taps.{count_failure, has_unflushed}
+use Rattle.twkb_io.specs.Outputs.{Refused, Sent, Took, is_spent, output_failures, output_tap}
 use Rattle.twkb_io.specs.declared.output.Output.{Output}
 use Rattle.twkb_io.specs.declared.output.OutFault.TheVariants as out
+use Rattle.twkb_convert.specs.Devices.{is_write}
 use Rattle.twkb_convert.specs.declared.report.Cause.{Cause}
 use Rattle.twkb_convert.specs.declared.report.Cause.TheVariants as cause
 use Rattle.twkb_convert.specs.declared.report.ConvertFault.{ConvertFault}
@@ -26,6 +27,15 @@ IsFlushedButForDevices (Err fault) writer = fault.cause ≢ cause.WriteDevice
 abbrev pub UnlessRefused : {T : Type 0} → Result T Cause → Type 0 → Type 0
 UnlessRefused (Ok done) fact = fact
 UnlessRefused (Err why) fact = why ≢ cause.WriteDevice → why ≢ cause.TooLong → fact
+
+-- These bytes were sent, and the output is left like this by an answer: a write failed exactly if
+-- that is the cause, and the output is spent if one failed, and only if a call was refused.
+pub record Leaves {A W : Type 0} (contents : W → Option (List ℕ)) (old : Output W) (bytes : List ℕ)
+    (new : Output W) (answer : Result A Cause) : Type 0 where
+  pub sends : Sent contents old bytes new
+  pub failures : output_failures new ≡ count_failure (is_write answer) (output_failures old)
+  pub quiet : is_spent new ≡ false → output_failures new ≡ output_failures old
+  pub unspent : UnlessRefused answer (is_spent new ≡ false)
 
 -- a flush after all was sent or after a stop: it passed, or was refused since a call before was, and
 -- the answer stays; or it failed

@@ -4,7 +4,6 @@ pub mod Outputs
 pub mod Fronts
 pub mod CountedWork
 pub mod BlobWriting
-pub mod Sending
 pub mod SpanLines
 pub mod LocatedBlobs
 pub mod Listings
@@ -18,6 +17,7 @@ pub mod StreamListing
 pub mod Unpacked
 pub mod Shown
 pub mod Packed
+pub mod Sending
 pub mod Parts
 pub mod Texts
 pub mod Conversions

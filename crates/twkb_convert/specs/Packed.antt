@@ -14,8 +14,6 @@ use Rattle.twkb_convert.specs.Devices.{Changes, DevicesTell}
 use Rattle.twkb_convert.specs.Outputs.{AtMostOneCut}
 use Rattle.twkb_convert.specs.Fronts.{FrontOfBlobs}
 use Rattle.twkb_convert.specs.RefusedRows.{HasTooMany, IsRefusedAt, NamesAll, WholeTable}
-use Rattle.twkb_convert.specs.Sending.{ExplainsWhy}
-use Rattle.twkb_convert.specs.declared.obstacle.TableObstacle.{TableObstacle}
 use Rattle.twkb_convert.specs.declared.report.Cause.{Cause}
 use Rattle.twkb_convert.specs.declared.report.Cause.TheVariants as cause
 use Rattle.twkb_convert.specs.declared.report.ConvertFault.{ConvertFault}
@@ -65,13 +63,6 @@ ExplainsPackingCause style l told given cause.Memory whole later front = (later 
 ExplainsPackingCause style l told given cause.TooLong whole later front =
     (MAX_BYTES < length (canonical_stream style (whole ++ later)))
     ⊎ ((later ≡ []) × (front ≡ []) × NamesAll l told whole × (2 ^ 64 - 1 ≤ given))
-
--- the cause says what the obstacle says, for any output that had sent nothing before
-abbrev pub ExplainsAs : TableObstacle → Cause → Type 0
-ExplainsAs why answer = (style : Style) (l : Allowance) (told : Option (List ℕ)) (given sent : ℕ)
-    (whole later : List Tree) (front : List ℕ) → sent ≡ 0
-    → ExplainsWhy style l told given why sent whole later front
-    → ExplainsPackingCause style l told given answer whole later front
 
 -- The writer took canonical blobs of geometries that may be written, and a prefix of the next blob.
 pub record StoppedPacking {R W : Type 0} (style : Style) (l : Allowance)

@@ -1,10 +1,11 @@
 //! The causes that faults of readers and outputs are for a caller.
 ghost use Rattle.std.specs.Prelude.{◌≡◌};
-ghost use Rattle.twkb_convert.specs.Causes.{cause_of_blob, cause_of_output};
+ghost use Rattle.twkb_convert.specs.Causes.{after_reads, cause_of_blob, cause_of_output, cause_of_table};
 
 use crate::report::Cause;
 use twkb_blob::BlobFault;
 use twkb_io::{InFault, OutFault};
+use twkb_table::TableFault;
 
 // The cause of a stop at a reader of blobs. No call is made after a refused one.
 pub(crate) fn cause_of_blob(fault: BlobFault) -> Cause
@@ -18,6 +19,19 @@ pub(crate) fn cause_of_blob(fault: BlobFault) -> Cause
     }
 }
 
+// The cause of a stop at a reader of tables. `csv` tells no want of memory from a failed read:
+// `after_reads` does. No call is made after a refused one.
+pub(crate) fn cause_of_table(fault: TableFault) -> Cause
+    ensures { result ≡ cause_of_table fault }
+{
+    match fault {
+        TableFault::At { number, reason } => Cause::Row { number, reason },
+        TableFault::TooManyRecords => Cause::TooManyRecords,
+        TableFault::Source => Cause::ReadDevice,
+        TableFault::Memory | TableFault::Spent => Cause::Memory,
+    }
+}
+
 // The cause of a stop at an output. No put is made after a refused one.
 pub(crate) fn cause_of_output(fault: OutFault) -> Cause
     ensures { result ≡ cause_of_output fault }
@@ -25,5 +39,17 @@ pub(crate) fn cause_of_output(fault: OutFault) -> Cause
     match fault {
         OutFault::Write | OutFault::Stuck => Cause::WriteDevice,
         OutFault::TooLong | OutFault::Spent => Cause::TooLong,
+    }
+}
+
+// An answer, once it is known whether a read failed: that is the cause, unless a write failed.
+pub(crate) fn after_reads(answer: Result<(), Cause>, has_read_failed: bool) -> Result<(), Cause>
+    ensures { result ≡ after_reads has_read_failed answer }
+{
+    match answer {
+        Err(Cause::WriteDevice) => answer,
+        _ if has_read_failed => Err(Cause::ReadDevice),
+        Err(Cause::ReadDevice) => Err(Cause::Memory),
+        _ => answer,
     }
 }

@@ -8,14 +8,12 @@ mod conversion;
 mod draining;
 mod flushing;
 pub mod laws;
-mod obstacle;
 mod packing;
 mod report;
 mod sending;
 mod showing;
 mod span_line;
 mod stream_listing;
-mod table_sending;
 mod unpacking;
 mod version;
 

@@ -1,20 +1,18 @@
 //! Packing a table into a stream.
-ghost use Rattle.std.specs.Prelude.{◌≡◌, ◌<◌, ◌^◌, ◌⊎◌, IfOk, IfErr, true};
+ghost use Rattle.std.specs.Prelude.{◌≡◌, ◌<◌, ◌^◌, IfOk, IfErr};
 ghost use Rattle.twkb_grammar.specs.declared.style.Style.TheVariants.{Full};
-ghost use Rattle.twkb_convert.specs.Devices.{Changes, IsDeviceCause};
+ghost use Rattle.twkb_convert.specs.Devices.{Changes};
 ghost use Rattle.twkb_convert.specs.Flushing.{IsFlushedButForDevices};
-ghost use Rattle.twkb_convert.specs.Packed.{ExplainsAs, Packed, PackedWith, StoppedPacking};
-ghost use Rattle.twkb_convert.specs.Sending.{is_output, is_write};
+ghost use Rattle.twkb_convert.specs.Packed.{Packed, PackedWith, StoppedPacking};
 
-use crate::obstacle::TableObstacle;
-use crate::report::{Cause, ConvertFault, Report};
-use crate::sending::Tally;
-use crate::table_sending::send_table_and_flush;
+use crate::causes::after_reads;
+use crate::flushing::flush_last;
+use crate::report::{ConvertFault, Report};
+use crate::sending::send_table;
 use std::alloc::Global;
 use std::io::{Read, Write};
 use twkb_flat::Work;
-use twkb_io::{OutFault, Output, Tap};
-use twkb_table::TableFault;
+use twkb_io::{Output, Tap};
 use twkb_tree::Limits;
 use twkb_writer::Style;
 
@@ -80,24 +78,13 @@ pub fn pack_counted<R: Read, W: Write>(
 {
     let reads_failed = reader.failures();
     let mut output = Output::new(writer);
-    let sending = send_table_and_flush(alloc, reader, limits, style, &mut output);
+    let (done, work, sending) = send_table(alloc, reader, limits, style, &mut output);
+    let flushed = flush_last(&mut output, sending);
     let sent = output.sent();
     let has_read_failed = has_changed(reads_failed, reader.failures());
-    match sending {
-        Err(stop) => {
-            let cause = packing_cause(stop.why, has_read_failed);
-            Err(ConvertFault {
-                done: stop.done,
-                sent,
-                cause,
-            })
-        }
-        Ok(tally) if has_read_failed => Err(ConvertFault {
-            done: tally.geometries,
-            sent,
-            cause: Cause::ReadDevice,
-        }),
-        Ok(tally) => Ok(packed(tally, sent)),
+    match after_reads(flushed, has_read_failed) {
+        Ok(()) => Ok(packed(done, work, sent)),
+        Err(cause) => Err(ConvertFault { done, sent, cause }),
     }
 }
 
@@ -112,35 +99,13 @@ fn has_changed(before: u64, after: u64) -> bool
 }
 
 // The answer if the whole table was sent.
-fn packed(tally: Tally, sent: u64) -> (Report, Work)
-    ensures report { result.0 ≡ record { geometries = tally.geometries; bytes = sent } }
-    ensures work { result.1 ≡ tally.work }
-    ensures fits { (result.1.point_reads < 2 ^ 64) × (result.1.node_reads < 2 ^ 64) }
+fn packed(done: u64, work: Work, sent: u64) -> (Report, Work)
+    ensures is { result ≡ (record { geometries = done; bytes = sent }, work) }
+    ensures fits { (work.point_reads < 2 ^ 64) × (work.node_reads < 2 ^ 64) }
 {
     let report = Report {
-        geometries: tally.geometries,
+        geometries: done,
         bytes: sent,
     };
-    (report, tally.work)
-}
-
-// The cause of a stop: a failed write if there was one, else a failed read, else the reason that
-// the obstacle gives.
-#[tactic(auto, using(crate::proofs::PackedLemmas::read_explained))]
-fn packing_cause(why: TableObstacle, has_read_failed: bool) -> Cause
-    ensures devices { IsDeviceCause has_read_failed (is_write why) result }
-    ensures explains { ExplainsAs why result }
-    ensures output { is_output why ≡ true → (result ≡ Cause.WriteDevice)
-        ⊎ (result ≡ Cause.ReadDevice) ⊎ (result ≡ Cause.TooLong) }
-{
-    match why {
-        TableObstacle::Output(OutFault::Write | OutFault::Stuck) => Cause::WriteDevice,
-        _ if has_read_failed => Cause::ReadDevice,
-        TableObstacle::Table(TableFault::At { number, reason }) => Cause::Row { number, reason },
-        TableObstacle::Table(TableFault::TooManyRecords) => Cause::TooManyRecords,
-        TableObstacle::Table(TableFault::Source | TableFault::Memory | TableFault::Spent) =>
-            Cause::Memory,
-        TableObstacle::Undrained | TableObstacle::Output(OutFault::TooLong | OutFault::Spent) =>
-            Cause::TooLong,
-    }
+    (report, work)
 }

@@ -1,80 +1,79 @@
 //! The geometries of a table, sent one after another.
-ghost use Rattle.std.specs.Prelude.{◌≡◌, ◌<◌, ◌≤◌, ◌-◌, ◌^◌, true, false, Ok, Err, IfOk, IfErr};
+ghost use Rattle.std.specs.Prelude.{◌≡◌, ◌≢◌, ℕ, ◌<◌, ◌≤◌, ◌-◌, ◌^◌, false, Ok, OnOk};
+ghost use Rattle.std.specs.Io.KnownBytes.{IsAtEnd};
 ghost use Rattle.twkb_io.specs.Taps.{bytes_given, device_of};
-ghost use Rattle.twkb_io.specs.Outputs.{is_spent};
-ghost use Rattle.twkb_convert.specs.Sending.{SendsAll, SendsFrom, SendsMore, SendsTable, StopsAfter};
+ghost use Rattle.twkb_io.specs.Outputs.{is_spent, sent_of};
+ghost use Rattle.twkb_convert.specs.CountedWork.{no_work};
+ghost use Rattle.twkb_convert.specs.Sending.{EndsAfter, SendsMore, SendsOne, SendsPoints, SendsTable};
 
 use crate::blob_writing::{Room, write_blob};
-use crate::obstacle::{TableObstacle, Unfinished};
+use crate::causes::{cause_of_output, cause_of_table};
+use crate::draining::drain;
+use crate::report::Cause;
 use std::alloc::Global;
 use std::io::{Read, Write};
 use twkb_flat::{Flat, Work};
-use twkb_io::{OutFault, Output, Tap};
-use twkb_table::{TableFault, TableReader};
+use twkb_io::{Output, Tap};
+use twkb_table::TableReader;
 use twkb_tree::Limits;
 use twkb_writer::{EncodeFault, Style, write_point};
 
-// The number of geometries sent, and the work of sending them.
-#[derive(Clone, Copy)]
-pub(crate) struct Tally {
-    pub(crate) geometries: u64,
-    pub(crate) work: Work,
-}
-
 // Sends the geometries of a table in a style, each once the row after it was accepted or the
-// table's end was reached.
+// table's end was reached, and then reads the reader to its end. Returns the number of geometries
+// sent whole, and their work.
 pub(crate) fn send_table<R: Read, W: Write>(
     alloc: Global,
     tap: &mut Tap<R>,
     limits: Limits,
     style: Style,
     output: &mut Output<'_, W>,
-) -> Result<Tally, Unfinished<TableObstacle>>
+) -> (u64, Work, Result<(), Cause>)
     requires fresh { is_spent output.old ≡ false }
+    requires unsent { sent_of output.old ≡ 0 }
     ensures sends { SendsTable style limits W.contents (R.remaining (device_of tap.old))
-        (bytes_given tap.new) output.old output.new result }
+        (bytes_given tap.new) output.old output.new result.0 result.1 result.2 }
+    ensures end { OnOk result.2 (IsAtEnd (R.remaining (device_of tap.new))) }
 {
-    let mut table = TableReader::new(alloc, tap, limits);
-    let mut flat = Flat::new(alloc);
-    let mut room = Room::new(alloc);
-    send_all(&mut table, &mut flat, style, &mut room, output)
+    let (done, work, sending) = {
+        let mut table = TableReader::new(alloc, tap, limits);
+        let mut flat = Flat::new(alloc);
+        let mut room = Room::new(alloc);
+        send_all(&mut table, &mut flat, style, &mut room, output)
+    };
+    match sending {
+        Ok(()) => (done, work, drain(tap)),
+        Err(cause) => (done, work, Err(cause)),
+    }
 }
 
-// Sends the geometries of a table that was not read yet. The flat form and the room are reused
-// from one geometry to the next.
+// Sends the geometries of a table, after none. The flat form and the room are reused from one
+// geometry to the next.
 fn send_all<R: Read, W: Write>(
     table: &mut TableReader<'_, R>,
     flat: &mut Flat,
     style: Style,
     room: &mut Room,
     output: &mut Output<'_, W>,
-) -> Result<Tally, Unfinished<TableObstacle>>
-    requires fresh { is_spent output.old ≡ false }
-    ensures sends { SendsAll style R.remaining W.contents table.old output.old output.new result }
+) -> (u64, Work, Result<(), Cause>)
+    ensures ends { EndsAfter style R.remaining W.contents table.old output.old 0 no_work output.new
+        result.0 result.1 result.2 }
 {
     let mut work = Work::new();
     let mut done = 0;
     for steps in 0..u64::MAX {
-        done = match pass_points(table, style, room, output, done, &mut work) {
-            Ok(done) => done,
-            Err(stop) => return Err(stop),
-        };
+        let (now, passed) = pass_points(table, style, room, output, done, &mut work);
+        match passed {
+            Ok(()) => done = now,
+            Err(cause) => return (now, work, Err(cause)),
+        }
         match send_next(table, flat, style, room, output, &mut work) {
             Ok(true) => {}
-            Ok(false) => {
-                return Ok(Tally {
-                    geometries: done,
-                    work,
-                });
-            }
-            Err(why) => return Err(Unfinished { done, why }),
+            Ok(false) => return (done, work, Ok(())),
+            Err(cause) => return (done, work, Err(cause)),
         }
         done += 1;
     }
-    Err(Unfinished {
-        done,
-        why: TableObstacle::Output(OutFault::TooLong),
-    })
+    (done, work, Err(Cause::TooLong))
 }
 
 // Sends the points that wait, one after another, after so many geometries, and returns how many
@@ -87,16 +86,14 @@ fn pass_points<R: Read, W: Write>(
     output: &mut Output<'_, W>,
     done: u64,
     work: &mut Work,
-) -> Result<u64, Unfinished<TableObstacle>>
-    ensures sent { IfOk result (λ now. SendsMore style R.remaining W.contents table.old output.old
-        done work.old table.new output.new now work.new) }
-    ensures within { IfOk result (λ now. (done ≤ now) × (now < 2 ^ 64 - 1)) }
-    ensures stopped { IfErr result (λ stop. StopsAfter style R.remaining W.contents table.old
-        output.old done work.old output.new stop) }
+) -> (u64, Result<(), Cause>)
+    ensures sends { SendsPoints style R.remaining W.contents table.old output.old done work.old table.new
+        output.new result.0 work.new result.1 }
+    ensures within { OnOk result.1 ((done ≤ result.0) × (result.0 < 2 ^ 64 - 1)) }
 {
     if done < u64::MAX {
         if !table.has_point() {
-            return Ok(done);
+            return (done, Ok(()));
         }
     }
     send_points(table, style, room, output, done, work)
@@ -113,24 +110,19 @@ fn send_points<R: Read, W: Write>(
     output: &mut Output<'_, W>,
     done: u64,
     work: &mut Work,
-) -> Result<u64, Unfinished<TableObstacle>>
-    ensures sent { IfOk result (λ now. SendsMore style R.remaining W.contents table.old output.old
-        done work.old table.new output.new now work.new) }
-    ensures within { IfOk result (λ now. (done ≤ now) × (now < 2 ^ 64 - 1)) }
-    ensures stopped { IfErr result (λ stop. StopsAfter style R.remaining W.contents table.old
-        output.old done work.old output.new stop) }
+) -> (u64, Result<(), Cause>)
+    ensures sends { SendsPoints style R.remaining W.contents table.old output.old done work.old table.new
+        output.new result.0 work.new result.1 }
+    ensures within { OnOk result.1 ((done ≤ result.0) × (result.0 < 2 ^ 64 - 1)) }
 {
     for now in done..u64::MAX {
         match send_point(table, style, room, output, work) {
             Ok(true) => {}
-            Ok(false) => return Ok(now),
-            Err(why) => return Err(Unfinished { done: now, why }),
+            Ok(false) => return (now, Ok(())),
+            Err(cause) => return (now, Err(cause)),
         }
     }
-    Err(Unfinished {
-        done: u64::MAX,
-        why: TableObstacle::Output(OutFault::TooLong),
-    })
+    (u64::MAX, Err(Cause::TooLong))
 }
 
 // Sends the next geometry if it is known to be a point, and returns whether it is.
@@ -141,22 +133,20 @@ fn send_point<R: Read, W: Write>(
     room: &mut Room,
     output: &mut Output<'_, W>,
     work: &mut Work,
-) -> Result<bool, TableObstacle>
-    ensures sent { result ≡ Ok true → SendsFrom style R.remaining W.contents table.old output.old
-        work.old table.new output.new work.new (Ok true) }
-    ensures none { result ≡ Ok false
-        → (table.new ≡ table.old) × (output.new ≡ output.old) × (work.new ≡ work.old) }
-    ensures failed { IfErr result (λ why. SendsFrom style R.remaining W.contents table.old output.old
-        work.old table.new output.new work.new (Err why)) }
+) -> Result<bool, Cause>
+    ensures sends { result ≢ Ok false → SendsOne style R.remaining W.contents table.old output.old work.old
+        table.new output.new work.new result }
+    ensures none { result ≡ Ok false → (done : ℕ) → SendsMore style R.remaining W.contents table.old
+        output.old done work.old table.new output.new done work.new }
 {
     let (precision, point) = match table.next_point() {
         Ok(Some(found)) => found,
         Ok(None) => return Ok(false),
-        Err(fault) => return Err(TableObstacle::Table(fault)),
+        Err(fault) => return Err(cause_of_table(fault)),
     };
     match write_point(precision, point, style, &mut room.piece, output, work) {
         Ok(()) => Ok(true),
-        Err(fault) => Err(TableObstacle::Output(fault)),
+        Err(fault) => Err(cause_of_output(fault)),
     }
 }
 
@@ -169,18 +159,18 @@ fn send_next<R: Read, W: Write>(
     room: &mut Room,
     output: &mut Output<'_, W>,
     work: &mut Work,
-) -> Result<bool, TableObstacle>
-    ensures sends { SendsFrom style R.remaining W.contents table.old output.old work.old table.new
+) -> Result<bool, Cause>
+    ensures sends { SendsOne style R.remaining W.contents table.old output.old work.old table.new
         output.new work.new result }
 {
     match table.next_flat(flat) {
         Ok(true) => {}
         Ok(false) => return Ok(false),
-        Err(fault) => return Err(TableObstacle::Table(fault)),
+        Err(fault) => return Err(cause_of_table(fault)),
     }
     match write_blob(flat, style, room, output, work) {
         Ok(()) => Ok(true),
-        Err(EncodeFault::Memory) => Err(TableObstacle::Table(TableFault::Memory)),
-        Err(EncodeFault::Sink(fault)) => Err(TableObstacle::Output(fault)),
+        Err(EncodeFault::Memory) => Err(Cause::Memory),
+        Err(EncodeFault::Sink(fault)) => Err(cause_of_output(fault)),
     }
 }

@@ -2,7 +2,8 @@ use Rattle.std.proofs.Common.{◌≡◌, arith, false, rules}
 use Rattle.twkb_io.specs.Outputs.{output_tap}
 use Rattle.twkb_io.specs.Taps.{has_unflushed}
 use Rattle.twkb_blob.specs.StreamReaders.{reader_in}
-use Rattle.twkb_convert.proofs.ListingEnds.{flushed_last, listed, lists_last, stopped}
+use Rattle.twkb_convert.proofs.FlushLemmas.{flushed_last}
+use Rattle.twkb_convert.proofs.ListingEnds.{listed, lists_last, stopped}
 use Rattle.twkb_convert.proofs.stream_listing.list_stream.Goals as goal
 
 pub list_blobs-done-requires-clause-going : goal.list_blobs-done-requires-clause-going
@@ -17,8 +18,8 @@ returns-in-Ok-clause-ok g c =
     listed g.T.BlobText.layout g.R.Read.remaining g.W.Write.contents _ _ _ _ _ (reader_in c.new-blobs.result)
     (reader_in c.list_blobs-done.new.blobs) c.new-output.result c.flush_last-listed.new.output _ _
     (search rules) (search rules) (search rules) (search rules) (search rules) (search rules)
-    (search rules) (search rules) (search rules) _
-    (lists_last g.T.BlobText.layout g.W.Write.contents _ _ _ _ _ _ _ c.list_blobs-done.ensures.lists _
+    (search rules) (search rules) (search rules)
+    (lists_last g.T.BlobText.layout g.W.Write.contents _ _ _ _ _ _ _ _ c.list_blobs-done.ensures.lists
     c.in-Ok.ensures.flushes)
 
 pub returns-clause-err : goal.returns-clause-err
@@ -27,19 +28,19 @@ returns-clause-err g c =
     (reader_in c.list_blobs-done.new.blobs) c.new-output.result c.flush_last-listed.new.output _ _
     (search rules) (search rules) (search rules) (search rules) (search rules) (search rules)
     (search rules) (search rules) (search rules) c.in-Err.cause
-    (lists_last g.T.BlobText.layout g.W.Write.contents _ _ _ _ _ _ _ c.list_blobs-done.ensures.lists _
+    (lists_last g.T.BlobText.layout g.W.Write.contents _ _ _ _ _ _ _ _ c.list_blobs-done.ensures.lists
     c.in-Err.ensures.flushes)
 
 pub returns-in-Ok-clause-flushed : goal.returns-in-Ok-clause-flushed
 returns-in-Ok-clause-flushed g c =
     let output = c.flush_last-listed.new.output in
     let held : has_unflushed (output_tap output).now ≡ false = flushed_last g.W.Write.contents _ _ _ _
-    c.list_blobs-done.ensures.lists.unspent c.in-Ok.ensures.flushes in
+    c.list_blobs-done.ensures.lists.leaves.unspent c.in-Ok.ensures.flushes in
     search rules
 
 pub returns-clause-flushed : goal.returns-clause-flushed
 returns-clause-flushed g c no_write no_length =
     let output = c.flush_last-listed.new.output in
     let held : has_unflushed (output_tap output).now ≡ false = flushed_last g.W.Write.contents _ _ _ _
-    c.list_blobs-done.ensures.lists.unspent c.in-Err.ensures.flushes no_write no_length in
+    c.list_blobs-done.ensures.lists.leaves.unspent c.in-Err.ensures.flushes no_write no_length in
     search rules

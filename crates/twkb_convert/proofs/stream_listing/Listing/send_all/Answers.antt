@@ -6,7 +6,7 @@ use Rattle.twkb_convert.proofs.stream_listing.Listing.send_all.Goals as goal
 pub returns-in-Err-clause-lists : goal.returns-in-Err-clause-lists
 returns-in-Err-clause-lists g c =
     rw c.cause_of_output.ensures (lists_none g.T.BlobText.layout g.W.Write.contents _ _ _
-    _ _ _ c.in-Err.fault c.first_line.ensures.text c.requires.going
+    _ _ c.in-Err.fault c.first_line.ensures.text c.requires.going
     c.requires.unread c.requires.unsent c.in-Err.ensures.cut)
 
 pub loop-cause-init : goal.loop-cause-init
@@ -30,11 +30,11 @@ loop-cause-preserved g c = record {
 
 pub returns-in-Ok-false-clause-lists : goal.returns-in-Ok-false-clause-lists
 returns-in-Ok-false-clause-lists g c =
-    lists_all g.T.BlobText.layout g.W.Write.contents _ _ _ _ _ _ _ _ _ _
+    lists_all g.T.BlobText.layout g.W.Write.contents _ _ _ _ _ _ _ _
     c.loop-cause.invariant.sent
     (rw c.in-Ok-false.field-0-test at c.in-Ok-false.ensures.sends)
 
 pub returns-in-Err-send_next-clause-lists : goal.returns-in-Err-send_next-clause-lists
 returns-in-Err-send_next-clause-lists g c =
-    lists_up_to g.T.BlobText.layout g.W.Write.contents _ _ _ _ _ _ _ _ _ _
+    lists_up_to g.T.BlobText.layout g.W.Write.contents _ _ _ _ _ _ _ _ _
     c.requires.unsent c.loop-cause.invariant.sent c.in-Err-send_next.ensures.sends
