@@ -4,7 +4,8 @@ use Rattle.twkb_convert.proofs.Prelude.{Output, OutFault, Took, Cut, Tree, simpl
 use Rattle.twkb_convert.proofs.Prelude.{Work, canonical_blob, Style, Record}
 use Rattle.std.specs.Prelude.{ℤ}
 use Rattle.twkb_points.specs.Point.{Point}
-use Rattle.twkb_tree.specs.Tree.{Simple, point, line, polygon, multi_point, multi_line, multi_polygon, IsTree, IsPrecision}
+use Rattle.twkb_tree.specs.Tree.{Simple, point, line, polygon, multi_point, multi_line, multi_polygon}
+use Rattle.twkb_tree.specs.Tree.{IsTree, IsPrecision}
 use Rattle.twkb_tree.specs.Rows.{own_row}
 use Rattle.twkb_writer.specs.Measuring.{Measures}
 use Rattle.twkb_writer.specs.PointBlob.{one_point}

@@ -1,5 +1,6 @@
 //! Canonical decimals: digits without a leading zero, after a minus sign if the number is negative.
-ghost use Rattle.std.specs.Prelude.{◌≡◌, ◌++◌, ◌≤◌, ◌<◌, ◌^◌, IfSome, OnOk, OnErr, decimal, get_or, length, take, pos, true, int_lt};
+ghost use Rattle.std.specs.Prelude.{◌≡◌, ◌++◌, ◌≤◌, ◌<◌, ◌^◌, IfSome, OnOk, OnErr, decimal, get_or, length};
+ghost use Rattle.std.specs.Prelude.{take, pos, true, int_lt};
 ghost use lib.Lanes.{Each1};
 ghost use Rattle.std.specs.Fmt.{signed_decimal};
 ghost use Rattle.twkb_table.specs.Fields.{Reads, IsDepthField, IsIdField, IsPrecisionField};
