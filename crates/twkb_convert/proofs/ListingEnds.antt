@@ -1,9 +1,9 @@
 -- The flush after the text of a stream, and what the caller of the conversion learns.
 use Rattle.twkb_convert.proofs.Prelude.{◌≡◌, ◌⊎◌, ◌∙◌, ℕ, Bool, true, false, List, [], ◌++◌, Option, Some, None}
 use Rattle.twkb_convert.proofs.Prelude.{Result, Ok, Err, inl, inr, IfSome, length, ap, arith, refl, sym, subst}
-use Rattle.twkb_convert.proofs.Prelude.{append-nil, Appends, IsAtEnd, Ghosts, BeginsWith, Sent, count_failure, device_of}
-use Rattle.twkb_convert.proofs.Prelude.{failures_of, output_failures, output_tap, sent_of, Tap, Output, Allowance}
-use Rattle.twkb_convert.proofs.Prelude.{Reader, Located, LocatedStream, geometries_of, listing_text, Layout}
+use Rattle.twkb_convert.proofs.Prelude.{append-nil, Appends, IsAtEnd, Ghosts, BeginsWith, Sent, count_failure}
+use Rattle.twkb_convert.proofs.Prelude.{device_of, failures_of, output_failures, output_tap, sent_of, Tap, Output}
+use Rattle.twkb_convert.proofs.Prelude.{Allowance, Reader, Located, LocatedStream, geometries_of, listing_text, Layout}
 use Rattle.twkb_convert.proofs.Prelude.{IsDeviceCause, Cause}
 use Rattle.twkb_convert.specs.BlobReading.{limits_of, reader_failures, reader_tap, rest_of, told_of}
 use Rattle.twkb_convert.specs.Devices.{is_write}
