@@ -57,8 +57,8 @@ pub(crate) fn only_point(text: &[u8]) -> Option<Pt>
     Some(point)
 }
 
-// The group of a character that says that more follow; `None` for any other. By its range, as
-// `Five::from_unit` in its place took 42 instructions more for each ring of 24 points.
+// The group of a character that says that more follow; `None` for any other. By its range: with
+// `Five::from_unit` in its place, `pack` of multipolygons takes 1 in 1000 more instructions.
 #[inline(always)]
 fn open_group(unit: u8) -> Option<u64>
     ensures { IfSome result (λ group. five_group unit ≡ Some (group, true)) }
