@@ -64,6 +64,12 @@ fn two_by<C: StepCode>(from: Pt, bytes: &[u8], ends: u64) -> Option<(Pt, Pt, usi
     Some((one, two, four.used))
 }
 
+// Whether the fourth point is tested, and is not an inner one.
+#[inline(always)]
+fn fails_fourth<C: StepCode>(fourth: Pt) -> bool {
+    C::TESTS_FOURTH && !fourth.is_inner()
+}
+
 /// Fast path: reads the eight points of the first sixteen numbers, by the ends of numbers in these
 /// bytes (`StepCode::two_steps_by`); only from an inner point, so that none of the eight can be out of
 /// range. `None` proves nothing about the bytes. Takes no memory.
@@ -83,9 +89,9 @@ pub fn eight_points<C: StepCode>(from: Pt, bytes: &[u8], ends: u64) -> Option<Ei
     }
     let (a, b, two) = two_by::<C>(from, bytes, ends)?;
     let (c, d, more) = two_by::<C>(b, &bytes[two..], ends >> (two as u32))?;
-    // tested again, so that the first four points are worked out before the others are looked for,
-    // and fewer values wait in memory
-    if !d.is_inner() {
+    // so that the first four points are worked out before the others are looked for, and fewer
+    // values wait in memory
+    if fails_fourth::<C>(d) {
         return None;
     }
     let four = two + more;

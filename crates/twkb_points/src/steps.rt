@@ -19,6 +19,11 @@ pub trait StepCode {
     /// The number of groups.
     ghost radix: { ℕ };
 
+    /// Whether `eight_points` tests too that the fourth of its points is an inner one. With
+    /// characters, fewer values then wait in memory; with varints, it costs more in wrong branches
+    /// than it saves.
+    const TESTS_FOURTH: bool;
+
     /// Fast path: reads the two steps that begin at `start`, if each of their numbers has a shortest
     /// spelling of at most four units. `None` proves nothing about the bytes: it is also the answer
     /// for fewer than sixteen. Takes no memory.
@@ -46,6 +51,8 @@ impl StepCode for Leb128 {
 
     ghost radix = { 128 };
 
+    const TESTS_FOURTH: bool = false;
+
     #[inline(always)]
     fn two_steps(bytes: &[u8], start: usize) -> Option<Four> {
         four_varints(&bytes[start..])
@@ -65,6 +72,8 @@ impl StepCode for Five {
     ghost base = { 63 };
 
     ghost radix = { 32 };
+
+    const TESTS_FOURTH: bool = true;
 
     #[inline(always)]
     fn two_steps(bytes: &[u8], start: usize) -> Option<Four> {
