@@ -29,7 +29,8 @@ pub(crate) trait BlobText {
     fn bytes(&self) -> &[u8]
         ensures text { result.now ≡ made self.now };
 
-    // Reads the next blob and makes its text; false if there is none.
+    // Reads the next blob and makes its text, in place of the last; false if there is none. Takes
+    // memory. After a false or an `Err` the text may be the last one, empty, or a part of one.
     fn read_next<R: Read>(&mut self, blobs: &mut StreamReader<'_, '_, R>) -> Result<bool, Cause>
         requires between { IsBetween (reader_in blobs.old) }
         ensures reads { ReadsText layout (reader_in blobs.old) (reader_in blobs.new) (made self.new) result };
@@ -105,7 +106,7 @@ pub(crate) struct HeaderLines {
 }
 
 impl HeaderLines {
-    // Makes an empty text. Takes no memory.
+    // Makes an empty text and an empty list of spans. Takes no memory.
     pub(crate) fn new(alloc: Global) -> HeaderLines {
         HeaderLines {
             spans: Spans::new(alloc),

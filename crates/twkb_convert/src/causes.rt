@@ -7,7 +7,8 @@ use twkb_blob::BlobFault;
 use twkb_io::{InFault, OutFault};
 use twkb_table::TableFault;
 
-// The cause of a stop at a reader of blobs. No call is made after a refused one.
+// The cause of a stop at a reader of blobs. `Spent` does not occur, since no call follows a
+// refused one.
 pub(crate) fn cause_of_blob(fault: BlobFault) -> Cause
     ensures { result ≡ cause_of_blob fault }
 {
@@ -19,8 +20,8 @@ pub(crate) fn cause_of_blob(fault: BlobFault) -> Cause
     }
 }
 
-// The cause of a stop at a reader of tables. `csv` tells no want of memory from a failed read:
-// `after_reads` does. No call is made after a refused one.
+// The cause of a stop at a reader of tables. `csv` does not tell want of memory from a failed read;
+// `after_reads` does. `Spent` does not occur, since no call follows a refused one.
 pub(crate) fn cause_of_table(fault: TableFault) -> Cause
     ensures { result ≡ cause_of_table fault }
 {
@@ -32,7 +33,7 @@ pub(crate) fn cause_of_table(fault: TableFault) -> Cause
     }
 }
 
-// The cause of a stop at an output. No put is made after a refused one.
+// The cause of a stop at an output. `Spent` does not occur, since no put follows a refused one.
 pub(crate) fn cause_of_output(fault: OutFault) -> Cause
     ensures { result ≡ cause_of_output fault }
 {
@@ -42,7 +43,8 @@ pub(crate) fn cause_of_output(fault: OutFault) -> Cause
     }
 }
 
-// An answer, once it is known whether a read failed: that is the cause, unless a write failed.
+// An answer, once it is known whether a read failed. If one did, that is the cause, unless a write
+// failed; if none did, a failed read as the cause was want of memory.
 pub(crate) fn after_reads(answer: Result<(), Cause>, has_read_failed: bool) -> Result<(), Cause>
     ensures { result ≡ after_reads has_read_failed answer }
 {

@@ -44,8 +44,8 @@ pub fn one_packed_output()
 {}
 
 /// The refused record that `pack` reports is the first one refused in the whole table, and the
-/// geometries that it reports are those complete before that record. So the records of the whole
-/// table name no geometries.
+/// geometries that it has written are those complete before that record. So the records of the
+/// whole table name no geometries.
 pub fn refused_table()
     ensures complete { (l : Allowance) (text : List ℕ) (records : List Record) (number : ℕ)
         (reason : RowReason) (gs : List Tree)

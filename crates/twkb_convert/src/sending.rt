@@ -19,8 +19,8 @@ use twkb_tree::Limits;
 use twkb_writer::{EncodeFault, Style, write_point};
 
 // Sends the geometries of a table in a style, each once the row after it was accepted or the
-// table's end was reached, and then reads the reader to its end. Returns the number of geometries
-// sent whole, and their work.
+// table's end was reached; if all were sent, reads the reader to its end. Returns how many were
+// sent whole, and their work; after an `Err` the work may include some of one that was cut.
 pub(crate) fn send_table<R: Read, W: Write>(
     alloc: Global,
     tap: &mut Tap<R>,
@@ -46,8 +46,8 @@ pub(crate) fn send_table<R: Read, W: Write>(
     }
 }
 
-// Sends the geometries of a table, after none. The flat form and the room are reused from one
-// geometry to the next.
+// Sends all geometries of a table, none of which was sent before, and returns how many were sent
+// whole, and the work, as `send_table` does. The form and the room are reused by each geometry.
 fn send_all<R: Read, W: Write>(
     table: &mut TableReader<'_, R>,
     flat: &mut Flat,
@@ -76,8 +76,8 @@ fn send_all<R: Read, W: Write>(
     (done, work, Err(Cause::TooLong))
 }
 
-// Sends the points that wait, one after another, after so many geometries, and returns how many
-// geometries were sent then. If none waits, nothing is called.
+// Sends the points that wait, one after another, and returns how many geometries are then sent
+// whole, with the `done` ones before. If no point waits, it only asks the table whether one does.
 #[inline(always)]
 fn pass_points<R: Read, W: Write>(
     table: &mut TableReader<'_, R>,
@@ -99,9 +99,9 @@ fn pass_points<R: Read, W: Write>(
     send_points(table, style, room, output, done, work)
 }
 
-// Fast path: sends the points that wait, one after another, after so many geometries, and returns
-// how many geometries were sent then. Out of line, and a loop of its own: in one frame with other
-// geometries those take 1 in 100 more instructions, and a call for each point takes 150.
+// Fast path: sends the points that wait, as `pass_points` does. Out of line, and a loop of its own:
+// inlined, it adds 1 in 100 to the instructions of other geometries; a call for each point adds 150
+// instructions to each point.
 #[inline(never)]
 fn send_points<R: Read, W: Write>(
     table: &mut TableReader<'_, R>,

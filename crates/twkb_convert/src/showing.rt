@@ -16,10 +16,10 @@ use twkb_tree::Limits;
 /// type byte in bytes from the stream's start, its kind, its precision, its metadata byte as two
 /// upper-case hexadecimal digits, the number of its bytes from the type byte to its end, and the
 /// number of its points, those of members included (headers: TWKB; the line: profile). The lines
-/// of a blob are written once it was read whole, before a byte of the next blob is read. Each
-/// geometry must keep the limits. A refused blob stops it, after the lines of the blobs before.
-/// The writer is flushed last, unless it failed or more than 2^62 bytes would be written. Takes
-/// memory for one geometry, its spans and their text.
+/// of a blob are written once it was read whole, before the reader is read again. Each geometry
+/// must keep the limits. A refused blob stops it, after the lines of the blobs before. The writer
+/// is flushed last, unless it failed or more than 2^62 bytes would be written. Takes memory for one
+/// geometry, its spans and their text.
 pub fn show<R: Read, W: Write>(
     alloc: Global,
     reader: &mut Tap<R>,

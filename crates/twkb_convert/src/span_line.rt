@@ -22,7 +22,8 @@ pub(crate) fn put_lines(spans: &[Span], text: &mut Vec<u8>) -> Result<(), AllocE
     Ok(())
 }
 
-// Appends the line of a span. Its seven words and their ends have at most 124 bytes.
+// Appends the line of a span; an `Err` leaves the text as it was. The seven words of the line and
+// their ends have at most 124 bytes.
 fn put_line(span: &Span, text: &mut Vec<u8>) -> Result<(), AllocError>
     ensures appended { OnOk result (text.new.items ≡ text.old.items ++ span_line span.now) }
 {

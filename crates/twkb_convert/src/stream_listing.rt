@@ -1,4 +1,4 @@
-//! The listing of a stream of blobs: the text of each blob, sent before a byte of the next one is read.
+//! The listing of a stream of blobs: the text of each blob, sent before the reader is read again.
 ghost use Rattle.std.specs.Prelude.{◌≡◌, IfOk, IfErr};
 ghost use Rattle.twkb_io.specs.Outputs.{sent_of};
 ghost use Rattle.twkb_blob.specs.StreamReaders.{reader_in};
@@ -19,8 +19,8 @@ use twkb_blob::{StreamReader, StreamRoom};
 use twkb_io::{Input, Output, Sink, Tap};
 use twkb_tree::Limits;
 
-// Writes the text of a stream of blobs, each blob's text before a byte of the next one is read.
-// The writer is flushed last, unless it refused a write.
+// Writes the text of a stream of blobs, each blob's text before the reader is read again. The
+// writer is flushed last, unless it failed or more than 2^62 bytes would be written.
 pub(crate) fn list_stream<R: Read, W: Write, T: BlobText>(
     text: &mut T,
     alloc: Global,
