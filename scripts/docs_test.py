@@ -2,7 +2,8 @@
 """Runs the commands that documents show, and compares their output with the output shown. Compares the callers
 in the READMEs of crates with the files of the crate `examples`, which the gate proves. Then checks the links of
 pages and what README.md says to type (scripts/pages.py), the tables of promises (scripts/promises.py), numbers,
-names and texts of reasons (scripts/reasons.py), and what is said of each command (scripts/new_command.py).
+names and texts of reasons (scripts/reasons.py), what is said of each command (scripts/new_command.py), the counts in
+docs/DECISIONS.md (scripts/statistics.py), and imports of sources (scripts/unused_imports.py).
 
     scripts/docs_test.py [FILE ..]
     scripts/docs_test.py --pages      all but the commands, for which a program is needed
@@ -42,6 +43,8 @@ import new_command
 import pages
 import promises
 import reasons
+import statistics
+import unused_imports
 
 REPO = os.path.abspath(os.path.join(os.path.dirname(__file__), ".."))
 FILES = ["README.md", "docs/USING.md", "docs/RECIPES.md", "crates/polytwkb/README.md"]
@@ -269,8 +272,9 @@ def wrong_files():
 
 
 def page_faults():
-    """How many faults pages have that can be found without a program, each reported on standard output."""
-    return caller_differences() + lines_not_run() + pages.main([]) + promises.main([]) + reasons.main() + new_command.main()
+    """How many faults pages and imports have that can be found without a program, each reported on standard output."""
+    faults = caller_differences() + lines_not_run() + pages.main([]) + promises.main([]) + reasons.main() + new_command.main()
+    return faults + statistics.main(["--check"]) + unused_imports.main()
 
 
 def main():

@@ -4,7 +4,7 @@
     scripts/reasons.py [--write]
 
 Without --write each place that differs is reported: one that lacks a reason, has one too many, or has another number,
-name or text.
+name or text. What is compared and not made is in scripts/reason_numbers.py, the table's form in scripts/reason_table.py.
 """
 import argparse
 import difflib
@@ -14,7 +14,9 @@ import sys
 import textwrap
 from typing import NamedTuple
 
-REPO = os.path.abspath(os.path.join(os.path.dirname(__file__), ".."))
+import reason_numbers
+from reason_table import BUFFER, OTHERS, REPO, of_kind, own, table, text_of
+
 # the type of each kind of reason in the code, the name that definitions use for it, and the function of its number
 TYPES = {"row": "RowReason", "polyline": "PolyReason", "blob": "BlobReason"}
 NAMES = {"row": "row", "polyline": "text", "blob": "blob"}
@@ -38,27 +40,6 @@ FORMATS = {
     "polyline": (r"\| .* \| \w+, `[a-z ]+` \| .* \|", "| {where} | {code}, `{text}` | {place} |", None),
     "blob": (r"\| \w+ \| `[a-z ]+` \| .* \| .* \|", "| {code} | `{text}` | {formats} |", None),
 }
-BUFFER = "crates/twkb_buffer"
-# the names that rules of rows and the command have for a reason or a status, where these are others
-OTHERS = {
-    "PointsNotAllowed": "PolylineNotAllowed", "CoordinateRange": "Range", "TooManyPoints": "TooMany", "USAGE": "ARGUMENTS",
-}
-
-
-class Row(NamedTuple):
-    """A line of the table, and what the lines below it say: in the code, in docs/FORMATS.md and in the manual."""
-
-    what: str
-    number: int
-    code: str
-    name: str
-    text: str
-    said: dict
-
-    def put(self, line):
-        """The line with these words in it."""
-        where, _, place = self.said.get("formats", "").partition(" | ")
-        return line.format(**self._asdict(), **self.said, where=where, place=place)
 
 
 class Place(NamedTuple):
@@ -72,33 +53,6 @@ class Place(NamedTuple):
     def found(self, text):
         """The first run of lines of this form."""
         return re.compile(rf"(?:^{self.form}\n)+", re.M).search(text, text.index(self.heading) + len(self.heading))
-
-
-def text_of(file):
-    with open(os.path.join(REPO, file), encoding="utf-8") as opened:
-        return opened.read()
-
-
-def table():
-    """The rows of the table."""
-    rows = []
-    for line in re.sub(r"\n {6,}", " ", text_of("scripts/reasons.txt")).split("\n"):
-        if line.startswith("  "):
-            key, said = line.split(None, 1)
-            rows[-1].said[key] = said
-        elif line and not line.startswith("#"):
-            what, number, code, name, text = line.split(None, 4)
-            rows.append(Row(what, int(number), code, name, text, {}))
-    return rows
-
-
-def of_kind(rows, kind):
-    return [row for row in rows if row.what == kind]
-
-
-def own(rows):
-    """The reasons that are none of another table."""
-    return [row for row in rows if row.name != "-"]
 
 
 def split(rows, kind):
@@ -214,14 +168,21 @@ def proof_places(rows):
 
 
 def name_places(rows):
-    """Where the names of reasons are for C, Python and JavaScript."""
-    for kind, digits in (("row", r"1?\d"), ("polyline", r"2\d"), ("blob", r"4\d")):
+    """Where the numbers and names of reasons and statuses are for C, Python and JavaScript."""
+    for kind, digits in (("row", r"1?\d"), ("polyline", r"[23]\d"), ("blob", r"[45]\d")):
         yield Place("include/polytwkb.h", rf"#define POLYTWKB_\w+ {digits}u", each(own(of_kind(rows, kind)), "#define POLYTWKB_{name} {number}u"))
-    kinds = [kind for kind in dict.fromkeys(row.what for row in rows) if kind != "status"]
-    for file, quote, width in (("python/polytwkb/_refused.py", '"', 134), ("js/src/refused.js", "'", 120)):
-        wrap = textwrap.TextWrapper(width, initial_indent="    ", subsequent_indent="    ")
-        pairs = [" ".join(f"{row.number}:\0{quote}{row.name}{quote}," for row in own(of_kind(rows, kind))) for kind in kinds]
-        yield Place(file, rf" +(?:\d+: {quote}\w+{quote},? ?)+", [line.replace("\0", " ") for pair in pairs for line in wrap.wrap(pair)])
+    reasons = [row for row in rows if row.what != "status"]
+    first = {row.what.upper(): row.number for row in reversed(reasons)}
+    classes = {
+        "Status": [(row.name, row.number) for row in of_kind(rows, "status")],
+        "Reason": [(row.name, row.number) for row in own(reasons)],
+        "First": list(reversed(first.items())),
+    }
+    for name, numbers in classes.items():
+        for file, heading, line in (
+            ("python/polytwkb/_reasons.py", f"class {name}:\n", "    {} = {}"), ("js/src/reasons.js", f"const {name} = {{\n", "    {}: {},"),
+        ):
+            yield Place(file, line.format(r"\w+", r"\d+"), [line.format(*pair) for pair in numbers], heading)
 
 
 def roff(said):
@@ -269,46 +230,6 @@ def made(rows):
         yield f"{place.file}, {place.lines[0].strip().splitlines()[0]}", "\n".join(place.lines) + "\n", found.group() if found else ""
 
 
-def whole_input(rows):
-    """What is said of the reasons that are those of a whole input, which stand among other causes."""
-    wanted = of_kind(rows, "whole")
-    for file, line, columns in (
-        ("crates/twkb_convert/src/report.rt", r'^ *Cause::(\w+) => "(.*)",$', ("code", "text")),
-        ("crates/twkb_convert/specs/Texts.antt", r'^\w+ cause\.(\w+) = codes "(.*)"$', ("code", "text")),
-        (f"{BUFFER}/src/reason_numbers.rt", r"^ *Cause::(\w+) => (\d+),$", ("code", "number")),
-        (f"{BUFFER}/src/reason_texts.rt", r"^ *(\d+) => Some\(Cause::(\w+)\),$", ("number", "code")),
-        (f"{BUFFER}/specs/Numbers.antt", r"^reason_number_of cause\.(\w+) = (\d+)$", ("code", "number")),
-    ):
-        pairs = [tuple(str(getattr(row, column)) for column in columns) for row in wanted]
-        yield f"{file}, Cause", pairs, [pair for pair in re.findall(line, text_of(file), re.M) if pair in pairs]
-
-
-def array_texts(rows):
-    """The numbers and texts of the reasons for which arrays are refused: of the code and of its definition."""
-    wanted = [(row.number, row.text) for row in of_kind(rows, "array")]
-    for file, line in (("src/reason_texts.rt", r'^ *(\d+) => "(.*)",$'), ("specs/Texts.antt", r'if number == (\d+) then codes "(.*?)"')):
-        found = re.findall(line, text_of(f"{BUFFER}/{file}"), re.M)
-        yield f"{BUFFER}/{file}", wanted, [(int(number), text) for number, text in found]
-
-
-def c_names(rows):
-    """The numbers of all reasons and statuses in the header for C."""
-    header = re.findall(r"^#define POLYTWKB_(\w+) (\d+)u", text_of("include/polytwkb.h").split("/* Styles of packed blobs")[0], re.M)
-    yield "include/polytwkb.h", sorted((row.name, row.number) for row in own(rows)), sorted((name, int(number)) for name, number in header)
-
-
-def constants(rows):
-    """The numbers of statuses and reasons that the code names, and the statuses in the manual."""
-    of_name = {row.name: row.number for row in own(rows)}
-    arguments = "crates/twkb_c/src/arguments.rt"
-    for file in ("crates/twkb_command/src/exit_code.rt", f"{BUFFER}/src/reason_numbers.rt", arguments):
-        for name, number in re.findall(r"^(?:pub\(crate\) )?const (\w+): u(?:8|32) = (\d+);", text_of(file), re.M):
-            if OTHERS.get(name, name) in of_name:
-                yield f"{file}, {name}", of_name[OTHERS.get(name, name)], int(number)
-    section = text_of("man/polytwkb.1").split(".SH EXIT STATUS\n", 1)[1].split("\n.SH", 1)[0]
-    yield "man/polytwkb.1, EXIT STATUS", [0, 1, 2, 3, 4], [int(number) for number in re.findall(r"^(\d)$", section, re.M)]
-
-
 def difference(wanted, found):
     """How what a place has differs from what it should have."""
     if not isinstance(wanted, str):
@@ -319,7 +240,7 @@ def difference(wanted, found):
 
 def compare(rows):
     """Reports each place that differs, and returns how many do."""
-    compared = [place for part in (made, whole_input, array_texts, c_names, constants) for place in part(rows)]
+    compared = [*made(rows), *reason_numbers.compared(rows)]
     wrong = [place for place in compared if place[1] != place[2]]
     for place, wanted, found in wrong:
         print(f"FAIL  {place}: {difference(wanted, found)}")

@@ -4,6 +4,7 @@
     scripts/statistics.py            the table of docs/DECISIONS.md, and public items and `use` lines
     scripts/statistics.py --docs     writes it there, between its marks
     scripts/statistics.py --list     each clause, definition, function, test, file and line that is too long, with its place
+    scripts/statistics.py --check    whether the table there has what is too long and the longest, as scripts/docs_test.py asks
 
 - A clause is the text after `requires` or `ensures` in a source file, with that word, its label and its braces;
   several lines are joined by one space.
@@ -234,6 +235,22 @@ def others(counts):
     ])
 
 
+def lasting(text):
+    """The rows of a table without what each added line changes: how many things there are, and the number of a line."""
+    return [re.sub(r" of \d+(?= \|)|:\d+(?=\) \|)", "", line) for line in text.strip().split("\n")]
+
+
+def compare(text):
+    """Reports each row of the table in the document that has other numbers than the sources, and returns how many have."""
+    with open(DOCUMENT, encoding="utf-8") as file:
+        found = file.read().split(BEGIN)[1].split(END)[0]
+    wrong = [line for line in lasting(text) if line not in lasting(found)]
+    for line in wrong:
+        print(f"docs/DECISIONS.md: 'scripts/statistics.py --docs' would write {line}")
+    print(f"{'FAIL' if wrong else 'ok  '}  docs/DECISIONS.md: {len(lasting(text)) - 2} counts of what is too long, {len(wrong)} differ")
+    return len(wrong)
+
+
 def put_into_document(text):
     with open(DOCUMENT, encoding="utf-8") as file:
         before, rest = file.read().split(BEGIN)
@@ -241,17 +258,21 @@ def put_into_document(text):
         file.write(f"{before}{BEGIN}\n{text}\n{END}{rest.split(END)[1]}")
 
 
-def main():
+def main(words):
+    """Does what the words ask for, and returns how many rows of the table differ, if that is asked."""
     counts = Counts()
-    if "--list" in sys.argv[1:]:
+    if "--check" in words:
+        return compare(table(counts))
+    if "--list" in words:
         for _, found, most, unit in counts.limited():
             for one in too_long(found, most):
                 print(f"{one.length} {unit}: {one.path}:{one.line} {one.name}".rstrip())
-    elif "--docs" in sys.argv[1:]:
+    elif "--docs" in words:
         put_into_document(table(counts))
     else:
         print(table(counts), others(counts), sep="\n\n")
+    return 0
 
 
 if __name__ == "__main__":
-    main()
+    sys.exit(1 if main(sys.argv[1:]) else 0)

@@ -68,10 +68,21 @@ def unused(text, ending, traits):
                 yield name
 
 
-files = sorted(file for ending in COMMENT for file in glob.glob(f"{REPO}/crates/*/*/**/*{ending}", recursive=True))
-texts = {file: open(file, encoding="utf-8").read() for file in files if "/out/" not in os.path.relpath(file, REPO)}
-all_traits = TRAITS_OF_STD.union(*map(TRAIT.findall, texts.values()))
-found_names = [(file, name) for file in texts for name in unused(texts[file], os.path.splitext(file)[1], all_traits)]
-for file, name in found_names:
-    print(f"{os.path.relpath(file, REPO)}: {name}")
-sys.exit(1 if found_names else 0)
+def main():
+    """Reports each name that is not used, and returns how many there are."""
+    files = sorted(file for ending in COMMENT for file in glob.glob(f"{REPO}/crates/*/*/**/*{ending}", recursive=True))
+    texts = {}
+    for file in files:
+        if "/out/" not in os.path.relpath(file, REPO):
+            with open(file, encoding="utf-8") as opened:
+                texts[file] = opened.read()
+    traits = TRAITS_OF_STD.union(*map(TRAIT.findall, texts.values()))
+    found = [(file, name) for file in texts for name in unused(texts[file], os.path.splitext(file)[1], traits)]
+    for file, name in found:
+        print(f"{os.path.relpath(file, REPO)}: {name} is imported and not used")
+    print(f"{'FAIL' if found else 'ok  '}  crates: imports of {len(texts)} files, {len(found)} not used")
+    return len(found)
+
+
+if __name__ == "__main__":
+    sys.exit(1 if main() else 0)

@@ -1,8 +1,7 @@
 /** The geometries of a stream as typed arrays, a row for each row of its table. */
 import { bytesOf, checkObject, kindOf, limitsOf } from './inputs.js';
-import {
-    DONE, POINT, REFUSED, TOO_SMALL, answered, called, countsAt, memory, padded, reasonText, roomFor,
-} from './module.js';
+import { POINT, answered, called, countsAt, memory, padded, reasonText, roomFor } from './module.js';
+import { Status } from './reasons.js';
 import { OutOfMemory, Refused, whereOf } from './refused.js';
 import { numberAt, scaleOf } from './rounding.js';
 
@@ -50,11 +49,11 @@ function readInto(wasm, input, most) {
         isPut = true;
         const given = [base, input.length, base + rows, rooms.rows, base + points, rooms.points, ...most];
         const counts = countsAt(answered(() => wasm.read(...given)));
-        if (counts.status === DONE || counts.status === REFUSED) {
+        if (counts.status === Status.DONE || counts.status === Status.REFUSED) {
             return { counts, found: new Found(base + rows, counts.rows, base + points, counts.points) };
         }
         const more = counts.neededRows > rooms.rows || counts.neededPoints > rooms.points;
-        if (counts.status !== TOO_SMALL || !more) throw new OutOfMemory('polytwkb: out of memory');
+        if (counts.status !== Status.TOO_SMALL || !more) throw new OutOfMemory('polytwkb: out of memory');
         rooms = { rows: counts.neededRows, points: counts.neededPoints };
     }
 }
@@ -64,7 +63,7 @@ export function found(blobs, limits, result) {
     const input = bytesOf(blobs, 'a stream of blobs is bytes'), most = limitsOf(limits);
     return called(wasm => {
         const { counts, found: rows } = readInto(wasm, input, most), output = result(rows);
-        if (counts.status === REFUSED) {
+        if (counts.status === Status.REFUSED) {
             throw new Refused(counts.reason, reasonText(counts.reason), whereOf(counts), counts, output);
         }
         return output;

@@ -1,6 +1,7 @@
 /** Tables to streams, and streams to tables, headers and blobs. */
 import { bytesOf, limitsOf, styleOf, textOf } from './inputs.js';
-import { REFUSED, bytesAt, called, filled, reasonText } from './module.js';
+import { bytesAt, called, filled, reasonText } from './module.js';
+import { Status } from './reasons.js';
 import { Refused, whereOf } from './refused.js';
 
 const LARGE = 2 ** 24;
@@ -14,7 +15,7 @@ export function converted(input, room, call, result) {
     return called(wasm => {
         const { report, base, start } = filled(input, room, 1, (from, to, most) => call(wasm, from, to, most));
         const output = result(bytesAt(start, report.sent), base);
-        if (report.status === REFUSED) {
+        if (report.status === Status.REFUSED) {
             throw new Refused(report.reason, reasonText(report.reason), whereOf(report), report, output);
         }
         return output;

@@ -1,9 +1,9 @@
 /** The module of WebAssembly: loaded, called, and its memory. */
+import { Status } from './reasons.js';
 import { OutOfMemory } from './refused.js';
 
 export const version = '0.1.0';
 
-export const [DONE, REFUSED, TOO_SMALL] = [0, 1, 5];
 export const POINT = 16; // bytes of a point
 
 // An instance whose memory has grown past this is given up after the call, since memory never shrinks.
@@ -138,8 +138,9 @@ export function filled(input, room, unit, call) {
     input.put(at);
     for (;;) {
         const report = reportAt(answered(() => call(at, at + output, room)));
-        if (report.status === DONE || report.status === REFUSED) return { report, base: at, start: at + output };
-        if (report.status !== TOO_SMALL || report.needed <= room) throw new OutOfMemory('polytwkb: out of memory');
+        const { status } = report;
+        if (status === Status.DONE || status === Status.REFUSED) return { report, base: at, start: at + output };
+        if (status !== Status.TOO_SMALL || report.needed <= room) throw new OutOfMemory('polytwkb: out of memory');
         room = report.needed;
         at = roomFor(output + room * unit);
     }

@@ -1,8 +1,9 @@
 /** Lists of points to encoded polylines and back. */
 import { spelled } from './conversions.js';
 import { bytesOf, kindOf, precisionOf, textOf } from './inputs.js';
-import { POINT, REFUSED, called, filled, memory, reasonText } from './module.js';
-import { OUT_OF_RANGE, Refused } from './refused.js';
+import { POINT, called, filled, memory, reasonText } from './module.js';
+import { Reason, Status } from './reasons.js';
+import { Refused } from './refused.js';
 import { WHOLE, halves, pointsAt, scaleOf, scaled, whole } from './rounding.js';
 
 const WORDS = 4; // of 32 bits, of a point
@@ -62,9 +63,9 @@ export function encode(points, precision = undefined) {
     return called(wasm => {
         const call = (from, to, room) => wasm.encode(from, count, to, room);
         const { report, start } = filled(input, 8 * count + 26, 1, call);
-        if (report.status === REFUSED || more) {
-            const place = report.status === REFUSED ? report.place : count;
-            throw new Refused(OUT_OF_RANGE, reasonText(OUT_OF_RANGE), `point ${place}`, { place }, '');
+        if (report.status === Status.REFUSED || more) {
+            const reason = Reason.POLYLINE_RANGE, place = report.status === Status.REFUSED ? report.place : count;
+            throw new Refused(reason, reasonText(reason), `point ${place}`, { place }, '');
         }
         return spelled(new Uint8Array(memory(), start, report.sent));
     });
@@ -77,7 +78,7 @@ function decoded(text, result) {
         const call = (from, to, room) => wasm.decode(from, input.length, to, room);
         const { report, start } = filled(input, Math.ceil(input.length / 2), POINT, call);
         const points = result(start, report.sent);
-        if (report.status === REFUSED) {
+        if (report.status === Status.REFUSED) {
             const { reason, textOffset } = report, where = `polyline at ${textOffset}`;
             throw new Refused(reason, reasonText(reason), where, { place: textOffset, textOffset }, points);
         }

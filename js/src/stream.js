@@ -1,7 +1,8 @@
 /** A stream of blobs whose bytes come in pieces, as those of `fetch` do. */
 import { shown } from './conversions.js';
 import { Limits, kindOf, viewOf } from './inputs.js';
-import { Refused, TRUNCATED, whereOf } from './refused.js';
+import { Reason } from './reasons.js';
+import { Refused, whereOf } from './refused.js';
 
 // Fewer bytes of a blob are looked at each time that some come; more, when they are twice as many.
 const OFTEN = 2 ** 16;
@@ -84,7 +85,7 @@ class Held {
         } catch (refused) {
             if (!(refused instanceof Refused)) throw refused;
             found = refused.output;
-            if (ended || refused.reason !== TRUNCATED) fault = this.moved(refused);
+            if (ended || refused.reason !== Reason.BLOB_TRUNCATED) fault = this.moved(refused);
         }
         const whole = bytes.slice(0, found.end);
         this.drop(found);

@@ -1,8 +1,9 @@
 /** Geometries in typed arrays as a stream. */
 import { NO_PRECISION, ROW, ROW_WORDS } from './arrays.js';
 import { checkObject, kindOf, limitsOf, styleOf } from './inputs.js';
-import { POINT, REFUSED, bytesAt, called, filled, memory, reasonText } from './module.js';
-import { POINTS_LEFT, Refused } from './refused.js';
+import { POINT, bytesAt, called, filled, memory, reasonText } from './module.js';
+import { Reason, Status } from './reasons.js';
+import { Refused } from './refused.js';
 import { LONG, halves, scaled } from './rounding.js';
 
 const COLUMNS = {
@@ -105,8 +106,8 @@ export function write(arrays, options = {}) {
         const call = (at, to, room) => wasm.write(at + input.points, rows, at, points, to, room, ...most, form);
         const { report, start } = filled(input, roomOf(points, rows), 1, call);
         const output = bytesAt(start, report.sent).slice();
-        if (report.status === REFUSED) {
-            const where = report.reason === POINTS_LEFT ? '' : `row ${report.place}`;
+        if (report.status === Status.REFUSED) {
+            const where = report.reason === Reason.POINTS_LEFT ? '' : `row ${report.place}`;
             throw new Refused(report.reason, reasonText(report.reason), where, report, output);
         }
         return output;

@@ -8,8 +8,7 @@ import signal
 import sys
 
 from . import Limits, Refused, __version__, pack, show, unpack
-
-REFUSED, DEVICE, MEMORY = 1, 3, 4
+from ._reasons import Status
 
 
 def lines_of(headers):
@@ -88,11 +87,11 @@ def run(words):
     given = read()
     if given is None:
         # as the program, which writes a table's first line before it reads
-        output, status, line = unpack(b"").encode() if words.command == "unpack" else b"", DEVICE, "read failed"
+        output, status, line = unpack(b"").encode() if words.command == "unpack" else b"", Status.DEVICE, "read failed"
     else:
         output, line = converted(words, given)
-        status = REFUSED if line else 0
-    return (status, line) if write(output) else (DEVICE, "write failed")
+        status = Status.REFUSED if line else Status.DONE
+    return (status, line) if write(output) else (Status.DEVICE, "write failed")
 
 
 def main():
@@ -101,7 +100,7 @@ def main():
     try:
         status, line = run(words)
     except MemoryError:
-        status, line = MEMORY, "out of memory"
+        status, line = Status.MEMORY, "out of memory"
     if line:
         print(f"polytwkb: {line}", file=sys.stderr)
     return status

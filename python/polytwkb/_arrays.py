@@ -3,9 +3,10 @@ from enum import IntEnum
 from typing import NamedTuple, Optional
 
 from ._conversions import Buffer, Limits, _bytes, _limits
-from ._library import DONE, REFUSED, library
+from ._library import library
 from ._memory import address_of, memory_of, shortened
 from ._points import POINT
+from ._reasons import First, Status
 from ._refused import Refused
 
 ROW = 24
@@ -121,10 +122,10 @@ def read(blobs: Buffer, limits: Optional[Limits] = None) -> Arrays:
     except MemoryError:
         counts, _ = _read(given, (0, 0), limits)
         counts, memories = _read(given, (counts.needed_rows, counts.needed_points), limits)
-    if counts.status not in (DONE, REFUSED):
+    if counts.status not in (Status.DONE, Status.REFUSED):
         raise MemoryError("out of memory")
     arrays = _arrays(memories, counts)
-    if counts.status == REFUSED:
-        where = "" if counts.reason > 60 else f"byte {counts.place}"
+    if counts.status == Status.REFUSED:
+        where = "" if counts.reason >= First.WHOLE else f"byte {counts.place}"
         raise Refused(counts.reason, where, counts.place, 0, counts.done, arrays)
     return arrays

@@ -4,10 +4,11 @@ import re
 from typing import Iterable, List, Optional, Union
 
 from ._conversions import Buffer, Limits, _bytes, _limits, table_bytes
-from ._library import DONE, REFUSED, library
+from ._library import library
+from ._reasons import First, Reason, Status
 from ._refused import Refused, of_report
 
-_PACK, _UNPACK, _FULL, _TRUNCATED, _LAST_OF_RECORDS = 0, 1, 0, 41, 60
+_PACK, _UNPACK, _FULL = 0, 1, 0
 _HEADER = b"depth,kind,id,precision,polyline\n"
 _FIELD = rb'(?:"[^"]*(?:""[^"]*)*(?:"[^,\r\n]*)?|[^,\r\n]*)'
 # A record after line ends, and whether its first field is 0, which may be quoted in three ways. An empty line is no record.
@@ -47,7 +48,7 @@ class _Records:
 
 def _measured(conversion, address, length, limits):
     report = library.polytwkb_measure(conversion, address, length, limits, _FULL)
-    if report.status not in (DONE, REFUSED):
+    if report.status not in (Status.DONE, Status.REFUSED):
         raise MemoryError("out of memory")
     return report
 
@@ -60,9 +61,9 @@ def _of_table(given, limits):
     refusals, records = [], _Records(given)
     while True:
         report = _measured(_PACK, address + start if table else given, len(table) - start, limits)
-        if report.status == DONE:
+        if report.status == Status.DONE:
             return refusals
-        if report.reason <= _LAST_OF_RECORDS:
+        if report.reason < First.WHOLE:
             report.place += before
             records.go_to(report.place)
         report.done = max(records.geometries - 1, 0)
@@ -79,10 +80,10 @@ def _of_blobs(blobs, limits):
     for place, blob in enumerate(blobs):
         given = _bytes(blob, f"blob {place} is bytes")
         report = _measured(_UNPACK, given, len(given), limits)
-        if report.status == REFUSED:
+        if report.status == Status.REFUSED:
             refusals.append(Refused(report.reason, f"blob {place}: byte {report.place}", report.place, 0, place, None))
         elif not given:
-            refusals.append(Refused(_TRUNCATED, f"blob {place}: byte 0", 0, 0, place, None))
+            refusals.append(Refused(Reason.BLOB_TRUNCATED, f"blob {place}: byte 0", 0, 0, place, None))
     return refusals
 
 

@@ -2,7 +2,8 @@
 import operator
 from typing import List, NamedTuple, Optional, Union
 
-from ._library import REFUSED, CLimits, filled, library, some_bytes
+from ._library import CLimits, filled, library, some_bytes
+from ._reasons import Status
 from ._refused import of_report
 
 Buffer = Union[bytes, bytearray, memoryview]
@@ -83,7 +84,7 @@ def _converted(call, given, room, result, limits, *more):
     """What `result` makes of the bytes that a conversion writes."""
     report, output = filled(call, given, len(given), room, some_bytes, _limits(limits), *more)
     output = memoryview(output)[: report.sent]
-    if report.status == REFUSED:
+    if report.status == Status.REFUSED:
         raise of_report(report, result(output))
     return result(output)
 

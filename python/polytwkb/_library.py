@@ -2,9 +2,10 @@
 import ctypes
 import os
 
+from ._reasons import Status
+
 VERSION = "0.1.0"
 
-DONE, REFUSED, ARGUMENTS, DEVICE, MEMORY, TOO_SMALL = range(6)
 TEXT_ROOM = 32
 
 
@@ -99,8 +100,8 @@ def filled(call, given, count, room, made, *more):
         start = ctypes.c_char.from_buffer(output)
         report = call(given, count, ctypes.addressof(start), room, *more)
         del start
-        if report.status in (DONE, REFUSED):
+        if report.status in (Status.DONE, Status.REFUSED):
             return report, output
-        if report.status != TOO_SMALL or report.needed <= room:
+        if report.status != Status.TOO_SMALL or report.needed <= room:
             raise MemoryError("out of memory")
         room = report.needed

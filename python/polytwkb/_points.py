@@ -7,12 +7,12 @@ from itertools import islice
 from typing import Iterable, Tuple, Union
 
 from ._conversions import Buffer
+from ._reasons import Reason
 from ._refused import Refused
 from ._rounding import nearest, power, rounded
 
 LEAST, MOST = -(1 << 62), (1 << 62) - 1
 POINT = 16
-_RANGE = 26
 # Numbers that are converted at once.
 _PIECE = 1 << 13
 # Floats have all whole numbers up to here.
@@ -28,7 +28,7 @@ def numpy_of():
 
 def outside(place):
     """The refusal of a point."""
-    return Refused(_RANGE, f"point {place}", place, 0, 0, "")
+    return Refused(Reason.POLYLINE_RANGE, f"point {place}", place, 0, 0, "")
 
 
 def view_of(given):

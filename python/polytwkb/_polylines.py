@@ -4,8 +4,9 @@ from array import array
 from typing import List, Optional, Tuple, Union
 
 from ._conversions import Buffer, _bytes
-from ._library import REFUSED, encode_in_place, filled, library, some_bytes
+from ._library import encode_in_place, filled, library, some_bytes
 from ._points import POINT, Points, degrees_of, outside, units_of, whole_view
+from ._reasons import Status
 from ._refused import Refused
 from ._rounding import power
 
@@ -44,8 +45,8 @@ def _encoded_buffer(view):
 def _encoded(call, flat, count, more=False):
     """The polyline of so many points; there are more, if the one after these is out of range. Four characters a number are the first guess."""
     report, text = filled(call, flat, count, 8 * count + 26, some_bytes)
-    if report.status == REFUSED or more:
-        raise outside(report.place if report.status == REFUSED else count)
+    if report.status == Status.REFUSED or more:
+        raise outside(report.place if report.status == Status.REFUSED else count)
     return str(memoryview(text)[: report.sent], "ascii")
 
 
@@ -60,7 +61,7 @@ def _decoded(text, result):
     numbers = len(given.translate(None, _GO_ON))
     report, flat = filled(library.polytwkb_decode, given, len(given), numbers // 2, _some_points)
     del flat[2 * report.sent :]
-    if report.status == REFUSED:
+    if report.status == Status.REFUSED:
         place = report.text_offset
         raise Refused(report.reason, f"polyline at {place}", place, place, 0, result(flat))
     return result(flat)

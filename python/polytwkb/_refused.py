@@ -1,17 +1,8 @@
 """Why an input is refused."""
 from ._library import reason_text
+from ._reasons import First, Reason
 
-_NAMES = {
-    1: "BAD_HEADER", 2: "FIELD_COUNT", 3: "BAD_DEPTH", 4: "BAD_KIND", 5: "BAD_PLACE", 6: "TOO_DEEP", 7: "TOO_MANY_ROWS", 8: "BAD_ID",
-    9: "ID_NOT_ALLOWED", 10: "MIXED_IDS", 11: "BAD_PRECISION", 12: "PRECISION_MISSING", 13: "PRECISION_NOT_ALLOWED",
-    14: "POLYLINE_NOT_ALLOWED", 16: "POINT_COUNT",
-    21: "POLYLINE_BAD_CHARACTER", 22: "POLYLINE_CUT", 23: "POLYLINE_TOO_LONG", 24: "POLYLINE_PADDED", 25: "POLYLINE_HALF",
-    26: "POLYLINE_RANGE", 27: "POLYLINE_TOO_MANY",
-    41: "BLOB_TRUNCATED", 42: "BLOB_BAD_TYPE", 43: "BLOB_EXTRA_DIMENSIONS", 44: "BLOB_BAD_VARINT", 45: "BLOB_TOO_DEEP",
-    46: "BLOB_TOO_MANY_NODES", 47: "BLOB_TOO_MANY_POINTS", 48: "BLOB_RANGE", 49: "BLOB_SIZE_MISMATCH",
-    61: "TOO_LONG", 62: "TOO_MANY_RECORDS",
-    71: "POINTS_MISSING", 72: "POINTS_LEFT",
-}
+_NAMES = {number: name for name, number in vars(Reason).items() if not name.startswith("_")}
 
 
 class Refused(Exception):
@@ -38,11 +29,11 @@ class Refused(Exception):
 
 def of_report(report, output):
     """The refusal that the report of a conversion tells."""
-    if report.reason > 60:
+    if report.reason >= First.WHOLE:
         where = ""
-    elif report.reason > 40:
+    elif report.reason >= First.BLOB:
         where = f"byte {report.place}"
-    elif report.reason > 20:
+    elif report.reason >= First.POLYLINE:
         where = f"record {report.place}: polyline at {report.text_offset}"
     else:
         where = f"record {report.place}"

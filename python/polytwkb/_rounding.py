@@ -7,7 +7,8 @@ import operator
 from array import array
 from decimal import Decimal
 
-from ._library import DONE, library
+from ._library import library
+from ._reasons import Status
 
 # Floats have all whole numbers below this.
 _WHOLE = 1 << 53
@@ -68,4 +69,4 @@ def rounded(numbers, precision):
         return None
     units = array("q", bytes(8 * len(floats)))
     report = library.polytwkb_round(floats.buffer_info()[0], len(floats), precision, units.buffer_info()[0], len(units))
-    return units if report.status == DONE else None
+    return units if report.status == Status.DONE else None

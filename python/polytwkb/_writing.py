@@ -8,12 +8,12 @@ from typing import Optional, Union
 
 from ._arrays import NO_PRECISION, ROW, Rows
 from ._conversions import Buffer, Limits, _limits, style_of
-from ._library import DONE, REFUSED, library, write_in_place
+from ._library import library, write_in_place
 from ._memory import address_of, memory_of
 from ._points import POINT, Points, clipped_of, view_of, whole_view
+from ._reasons import Reason, Status
 from ._refused import Refused
 
-_POINTS_LEFT = 72
 # The most bytes that a row and a point have in a blob: a header of 2, a size and a count of 10 each, a box of 40 and an id of 10; two numbers.
 _MOST_OF_ROW, _MOST_OF_POINT = 72, 20
 _FORMAT = re.compile(r"T\{[=<]?[ql]:id:[=<]?[QL]:points:[=<]?I:depth:[=<]?H:kind:[=<]?\?:has_id:[=<]?b:precision:\}")
@@ -117,7 +117,7 @@ def _report(records, coordinates, limits, style):
     except MemoryError:
         report, _ = _written(records, coordinates, 0, limits, style)
         report, memory = _written(records, coordinates, report.needed, limits, style)
-    if report.status not in (DONE, REFUSED):
+    if report.status not in (Status.DONE, Status.REFUSED):
         raise MemoryError("out of memory")
     return report, memoryview(memory)[: report.sent].tobytes()
 
@@ -136,7 +136,7 @@ def write(rows: Union[Rows, Buffer, Mapping], points: Points, style: str = "full
     """
     style, limits = style_of(style), _limits(limits)
     report, output = _report(_records(rows), _coordinates(points), limits, style)
-    if report.status == REFUSED:
-        where = "" if report.reason == _POINTS_LEFT else f"row {report.place}"
+    if report.status == Status.REFUSED:
+        where = "" if report.reason == Reason.POINTS_LEFT else f"row {report.place}"
         raise Refused(report.reason, where, report.place, 0, report.done, output)
     return output

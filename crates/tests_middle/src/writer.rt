@@ -1,4 +1,5 @@
-//! Sinks that refuse a put, and lengths at their thresholds. Blobs of tables are those of the
+//! Sinks that refuse a put, lines written from lists, and lengths at their thresholds. Blobs of tables are those of the
 //! program `vectors`.
 mod failing;
+mod lines;
 mod thresholds;

@@ -3,6 +3,7 @@
 use twkb_arrays::BufferRow;
 use twkb_buffer::BufferPoint;
 
+mod followed;
 mod lines;
 mod reading;
 mod writing;

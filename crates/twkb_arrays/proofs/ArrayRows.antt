@@ -16,7 +16,7 @@ use Rattle.twkb_tree.specs.declared.kind.Kind.TheVariants as kind
 use Rattle.twkb_table.proofs.FieldLemmas.{ArePlain, IsPlain, head_same, tail_same}
 use Rattle.twkb_buffer.specs.Polylines.{coordinates_of}
 use Rattle.twkb_buffer.specs.declared.point.BufferPoint.{BufferPoint}
-use Rattle.twkb_arrays.specs.Judging.{HasRightId, RefusedAfter, is_no_precision, row_from_c}
+use Rattle.twkb_arrays.specs.JudgedRow.{HasRightId, RefusedAfter, is_no_precision, row_from_c}
 use Rattle.twkb_arrays.specs.Rows.{id_flag, id_number, kind_number, points_of, precision_number, row_in_c, rows_in_c}
 use Rattle.twkb_arrays.specs.declared.row.BufferRow.{BufferRow}
 use Rattle.twkb_arrays.proofs.ArrayLemmas.{coordinates_of-append, length-coordinates_of}

@@ -17,9 +17,9 @@ use Rattle.twkb_table.proofs.FieldLemmas.{ArePlain, IsPlain, head_same}
 use Rattle.twkb_table.proofs.Tables.{plain_rows, geometries}
 use Rattle.twkb_buffer.specs.Polylines.{coordinates_of}
 use Rattle.twkb_buffer.specs.declared.point.BufferPoint.{BufferPoint}
-use Rattle.twkb_arrays.specs.Judging.{RefusedAfter}
+use Rattle.twkb_arrays.specs.JudgedRow.{RefusedAfter}
 use Rattle.twkb_arrays.specs.Rows.{array_points, array_rows, row_in_c, rows_in_c}
-use Rattle.twkb_arrays.specs.Writing.{AreArrays, AreRead, ArePointsLeft, IsRefusedRow}
+use Rattle.twkb_arrays.specs.WrittenArrays.{AreArrays, AreRead, ArePointsLeft, IsRefusedRow}
 use Rattle.twkb_arrays.specs.declared.row.BufferRow.{BufferRow}
 use Rattle.twkb_arrays.proofs.ArrayLemmas.{coordinates_of-append}
 use Rattle.twkb_arrays.proofs.ArrayRows.{BeginsWith, begins_with, refused_row}

@@ -33,7 +33,7 @@ use Rattle.twkb_flat.specs.Stops.{IfRefused}
 use Rattle.twkb_flat.specs.declared.stop.Stop.{Stop}
 use Rattle.twkb_flat.specs.declared.stop.Stop.TheVariants as stop
 use Rattle.twkb_buffer.specs.declared.point.BufferPoint.{BufferPoint}
-use Rattle.twkb_arrays.specs.Judging.{AcceptedAfter, HasRightId, RefusedAfter, refusal_number, row_from_c}
+use Rattle.twkb_arrays.specs.JudgedRow.{AcceptedAfter, HasRightId, RefusedAfter, refusal_number, row_from_c}
 use Rattle.twkb_arrays.specs.RowTests.{checks_there, range_refusal}
 use Rattle.twkb_arrays.specs.Rows.{kind_number}
 use Rattle.twkb_arrays.specs.declared.row.BufferRow.{BufferRow}

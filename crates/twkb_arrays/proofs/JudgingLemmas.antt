@@ -21,7 +21,7 @@ use Rattle.twkb_tree.proofs.RowRanges.{are_in_range-true, points_in_range}
 use Rattle.twkb_table.specs.RowRules.{first_reason, kind_checks}
 use Rattle.twkb_table.specs.declared.reason.RowReason.{RowReason}
 use Rattle.twkb_buffer.specs.declared.point.BufferPoint.{BufferPoint}
-use Rattle.twkb_arrays.specs.Judging.{AreBelow}
+use Rattle.twkb_arrays.specs.JudgedRow.{AreBelow}
 use Rattle.twkb_arrays.specs.RowTests.{IsFirstButRange, IsReasonOf, checks_there, number_checks, range_refusal}
 use Rattle.twkb_arrays.specs.Rows.{point_of, points_of}
 

@@ -3,7 +3,6 @@ pub mod ArrayRows
 pub mod ArraysRefused
 pub mod GatheringLemmas
 pub mod JudgingLemmas
-pub mod OpenLemmas
 pub mod OwnPointsLemmas
 pub mod ReadingLaws
 pub mod ReadingLemmas
@@ -15,3 +14,4 @@ pub mod TakingLemmas
 pub mod WritingEnds
 pub mod WritingLaws
 pub mod WritingLemmas
+pub mod WritingRows

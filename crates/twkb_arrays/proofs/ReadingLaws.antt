@@ -15,10 +15,10 @@ use Rattle.twkb_blob.specs.declared.fault.BlobFault.TheVariants as fault
 use Rattle.twkb_convert.specs.Outputs.{table_text}
 use Rattle.twkb_buffer.specs.Slices.{UnpackedSlice}
 use Rattle.twkb_buffer.specs.declared.point.BufferPoint.{BufferPoint}
-use Rattle.twkb_arrays.specs.Reading.{EndsReading, ReadsArrays, outcome_of}
+use Rattle.twkb_arrays.specs.FilledArrays.{EndsReading, ReadsArrays, outcome_of}
 use Rattle.twkb_arrays.specs.SameRows.{AreSameRows}
 use Rattle.twkb_arrays.specs.Rooms.{are_more}
-use Rattle.twkb_arrays.specs.declared.reading.BufferCounts.{BufferCounts}
+use Rattle.twkb_arrays.specs.declared.filled_arrays.BufferCounts.{BufferCounts}
 use Rattle.twkb_arrays.specs.declared.row.BufferRow.{BufferRow}
 use Rattle.twkb_arrays.proofs.RoomLemmas.{no_more}
 

@@ -14,10 +14,10 @@ use Rattle.twkb_blob.specs.declared.session.Session.{Session}
 use Rattle.twkb_blob.specs.declared.fault.BlobFault.{BlobFault}
 use Rattle.twkb_blob.specs.declared.fault.BlobFault.TheVariants as fault
 use Rattle.twkb_buffer.specs.declared.point.BufferPoint.{BufferPoint}
-use Rattle.twkb_arrays.specs.Taking.{HasTaken, TakesOne}
-use Rattle.twkb_arrays.specs.Reading.{BeginsWithBlobs, EndsReading, IsReading}
+use Rattle.twkb_arrays.specs.TakenGeometries.{HasTaken, TakesOne}
+use Rattle.twkb_arrays.specs.FilledArrays.{BeginsWithBlobs, EndsReading, IsReading}
 use Rattle.twkb_arrays.specs.declared.row.BufferRow.{BufferRow}
-use Rattle.twkb_arrays.specs.declared.taking.Taken.{Taken}
+use Rattle.twkb_arrays.specs.declared.taken_geometries.Taken.{Taken}
 use Rattle.twkb_arrays.proofs.ArrayLemmas.{parts_join, some_more}
 
 -- the bytes after those that a session stands after

@@ -1,10 +1,11 @@
--- The row of a point or of a linestring that begins a geometry may come first.
-use Rattle.std.proofs.Common.{◌≡◌, ◌∙◌, ◌<◌, ◌≤◌, ℕ, true, false, List, [], ◌∷◌, ◌++◌, length, take, get_or}
-use Rattle.std.proofs.Common.{Option, Some, None, ap, arith, inl, inr, refl, subst, sym}
-use Rattle.std.specs.Prelude.{◌==◌, ℤ, pos, negsuc, IfSome, if◌then◌else◌, nat_lt}
-use Rattle.std.proofs.lemmas.Bool.{cases_Bool}
+-- The row of a point or of a linestring that is a whole geometry, and its blob.
+use Rattle.std.proofs.Common.{◌≡◌, ◌∙◌, ◌<◌, ◌≤◌, ℕ, true, List, [], ◌∷◌, length, take, get_or}
+use Rattle.std.proofs.Common.{Option, Some, None, ap, arith, inr, refl, subst, sym}
+use Rattle.std.proofs.Common.{SFits, to_z, of_z, w8}
+use Rattle.std.specs.Prelude.{◌==◌, ℤ, pos, negsuc, IfSome, if◌then◌else◌}
 use Rattle.std.proofs.lemmas.Bool.Decides.{nat_tests}
-use Rattle.std.proofs.lemmas.Int.{ints}
+use Rattle.std.proofs.lemmas.Grind.{common_steps}
+use Rattle.std.proofs.lemmas.Int.{ints, to_z-of_z}
 use Rattle.std.proofs.lemmas.List.{length-map, length-take-le}
 use Rattle.twkb_points.specs.Point.{Point, AreInRange, IsInRange}
 use Rattle.twkb_tree.specs.declared.kind.Kind.{Kind}
@@ -12,19 +13,22 @@ use Rattle.twkb_tree.specs.declared.kind.Kind.TheVariants as kind
 use Rattle.twkb_tree.specs.Accepted.{Continues}
 use Rattle.twkb_tree.specs.Admits.{points_fit}
 use Rattle.twkb_tree.specs.Limits.{Allowance}
-use Rattle.twkb_tree.specs.Refusal.{CoordinateRange, are_in_range, refusal}
-use Rattle.twkb_tree.specs.RowLists.{AreValidRowsOfOne}
-use Rattle.twkb_tree.specs.Rows.{Row, whole_row}
-use Rattle.twkb_tree.specs.Tree.{IsPrecision}
+use Rattle.twkb_tree.specs.Refusal.{are_in_range}
+use Rattle.twkb_tree.specs.Rows.{rows, whole_row}
+use Rattle.twkb_tree.specs.Tree.{Tree, IsPrecision, IsTree}
+use Rattle.twkb_tree.proofs.RootLaws.{one_geometry}
 use Rattle.twkb_tree.proofs.RowRanges.{is_precision-true, points_in_range}
+use Rattle.twkb_grammar.specs.Written.{canonical_blob}
+use Rattle.twkb_grammar.specs.declared.style.Style.{Style}
+use Rattle.twkb_writer.specs.LineBlob.{one_line}
+use Rattle.twkb_writer.specs.PointBlob.{one_point}
 use Rattle.twkb_buffer.specs.Polylines.{coordinates_at}
 use Rattle.twkb_buffer.specs.declared.point.BufferPoint.{BufferPoint}
-use Rattle.twkb_arrays.specs.Gathering.{BeginsAlone, BeginsLine, BeginsPoint}
-use Rattle.twkb_arrays.specs.Judging.{AcceptedAfter, RefusedAfter, id_of, is_no_precision, precision_of, row_from_c}
-use Rattle.twkb_arrays.specs.OwnPoints.{AreOutOfRange}
+use Rattle.twkb_arrays.specs.LoneRow.{BeginsAlone, BeginsLine, BeginsPoint, IsMadeAlone}
+use Rattle.twkb_arrays.specs.JudgedRow.{id_of, is_no_precision, precision_of, row_from_c}
 use Rattle.twkb_arrays.specs.Rows.{kind_number, point_of, points_of}
 use Rattle.twkb_arrays.specs.declared.row.BufferRow.{BufferRow}
-use Rattle.twkb_arrays.proofs.GatheringLemmas.{refused_for, row_pushed}
+use Rattle.twkb_arrays.proofs.GatheringLemmas.{row_pushed}
 
 -- the first of at least one
 first_is : (ahead : List BufferPoint) (blank c : BufferPoint) → 0 < length ahead → c ≡ get_or ahead 0 blank
@@ -118,47 +122,41 @@ line_first l n ps nodes points h in_range = (
   refl,
 )
 
-some_allowed : (n : ℕ) → 0 < n → nat_lt 0 n ≡ true
-some_allowed n h = grind (arith, nat_tests)
-
-not_in_range : (ps : List Point) → (AreInRange ps → ⊥) → are_in_range ps ≡ false
-not_in_range ps out = elim (cases_Bool (are_in_range ps)) [
-  | inl passed ↦ absurd (out (points_in_range ps passed))
-  | inr failed ↦ failed
-]
-
--- it is refused if a point is out of range, and nothing else is wrong
-line_refused : (l : Allowance) (n : ℤ) (ps : List Point) → 0 < l.nodes → IsPrecision n → (AreInRange ps → ⊥)
-    → refusal l [] (whole_row 0 kind.Linestring None n ps) ≡ Some CoordinateRange
-line_refused l n ps nodes h out =
-    rw (some_allowed l.nodes nodes, is_precision-true n h, not_in_range ps out) refl
-
--- a row that begins a geometry alone, of this kind and with these points, is accepted if it may come
--- first, and is the row of one geometry
-root_pushed : (l : Allowance) (rs new : List Row) (row : BufferRow) (ahead : List BufferPoint) (k : Kind)
-    (ps : List Point) → AreValidRowsOfOne l rs → BeginsAlone l row ahead → kind_number k ≡ row.kind
+-- the blob of a geometry was made, whose only row is such a row
+root_made : (l : Allowance) (style : Style) (row : BufferRow) (ahead : List BufferPoint) (k : Kind) (ps : List Point)
+    (g : Tree) (count : ℕ) (blob : List ℕ) → BeginsAlone l row ahead → kind_number k ≡ row.kind
     → points_of (take row.points ahead) ≡ ps → Continues l [] (whole_row 0 k None row.precision ps)
-    → rs ≡ [] → new ≡ rs ++ whole_row 0 k None row.precision ps ∷ []
-    → (r : Row) × (new ≡ rs ++ r ∷ []) × AcceptedAfter l rs row ahead r × AreValidRowsOfOne l new
-root_pushed l rs new row ahead k ps valid b kind own first none pushed =
+    → IsTree g → rows 0 g ≡ whole_row 0 k None row.precision ps ∷ [] → count ≡ row.points
+    → blob ≡ canonical_blob style g → IsMadeAlone l style row ahead count blob
+root_made l style row ahead k ps g count blob b kind own first tree same count_is blob_is =
     let r = whole_row 0 k None row.precision ps in
     let is = root_row l row ahead k ps b own in
-    let next = subst (Continues l rs) (sym is) (subst (λ (xs : List Row). Continues l xs r) (sym none) first) in
-    row_pushed l rs new row ahead k r valid kind (inr (b.has_no_id, b.id_is)) b.enough is next pushed
+    let pushed = row_pushed l [] (r ∷ []) row ahead k r tt kind (inr (b.has_no_id, b.id_is)) b.enough is
+    (subst (Continues l []) (sym is) first) refl in
+    let one = pushed.3 in
+    record {
+      is_root = b.is_root;
+      geometry = one.0;
+      valid = one.1;
+      only_row = pushed.0;
+      row_is = one.2 ∙ pushed.1;
+      accepted = pushed.2;
+      count_is = count_is;
+      blob_is = blob_is ∙ ap (canonical_blob style) (one_geometry g one.0 tree one.1.tree (same ∙ sym one.2));
+    }
 
--- the row of a point is accepted after no rows, and is the row of one geometry
-pub point_pushed : (l : Allowance) (rs new : List Row) (row : BufferRow) (ahead : List BufferPoint) (p : Point)
-    → AreValidRowsOfOne l rs → BeginsPoint l row ahead p → (row.depth ≡ 0 → rs ≡ [])
-    → new ≡ whole_row 0 kind.Point None row.precision (p ∷ []) ∷ []
-    → (r : Row) × (new ≡ rs ++ r ∷ []) × AcceptedAfter l rs row ahead r × AreValidRowsOfOne l new
-point_pushed l rs new row ahead p valid b root begun =
-    let r = whole_row 0 kind.Point None row.precision (p ∷ []) in
-    let none = root b.alone.is_root in
-    let own : points_of (take row.points ahead) ≡ p ∷ [] = ap (λ (n : ℕ). points_of (take n ahead)) b.has_one
+-- the blob of the point that such a row begins was made
+pub point_made : (l : Allowance) (style : Style) (row : BufferRow) (ahead : List BufferPoint) (p : Point) (n : ℤ)
+    (blob : List ℕ) → BeginsPoint l row ahead p → n ≡ row.precision
+    → (IsPrecision n → blob ≡ canonical_blob style (one_point n p)) → IsMadeAlone l style row ahead 1 blob
+point_made l style row ahead p n blob b same made =
+    let own : points_of (take row.points ahead) ≡ p ∷ [] = ap (λ (m : ℕ). points_of (take m ahead)) b.has_one
     ∙ ap points_of b.first in
-    root_pushed l rs new row ahead kind.Point (p ∷ []) valid b.alone (sym b.is_point) own
-    (point_first l row.precision p b.alone.nodes_left (omega (arith, b.has_one, b.alone.points_left))
-    b.alone.has_precision b.in_range) none (begun ∙ ap (λ (xs : List Row). xs ++ r ∷ []) (sym none))
+    let precise = b.alone.has_precision in
+    root_made l style row ahead kind.Point (p ∷ []) (one_point row.precision p) 1 blob b.alone (sym b.is_point) own
+    (point_first l row.precision p b.alone.nodes_left (omega (arith, b.has_one, b.alone.points_left)) precise
+    b.in_range) (precise, tt) refl (sym b.has_one)
+    (subst (λ (m : ℤ). IsPrecision m → blob ≡ canonical_blob style (one_point m p)) same made precise)
 
 -- the points of a linestring that the limits allow
 few_points : (l : Allowance) (row : BufferRow) (ahead : List BufferPoint) → BeginsAlone l row ahead
@@ -170,39 +168,25 @@ few_points l row ahead b = omega (
   length-take-le row.points ahead b.enough,
 )
 
--- the row of a linestring with its points, all in range, may come after no rows
-pub line_next : (l : Allowance) (rs : List Row) (row : BufferRow) (ahead : List BufferPoint) (n : ℤ)
-    (ps : List Point) → BeginsLine l row ahead → (row.depth ≡ 0 → rs ≡ []) → n ≡ row.precision
-    → ps ≡ points_of (take row.points ahead) → AreInRange ps
-    → Continues l rs (whole_row 0 kind.Linestring None n ps)
-line_next l rs row ahead n ps b root precision own in_range =
-    let few = subst (λ (qs : List Point). length qs ≤ l.points) (sym own) (few_points l row ahead b.alone) in
-    subst (λ (xs : List Row). Continues l xs (whole_row 0 kind.Linestring None n ps)) (sym (root b.alone.is_root))
-    (line_first l n ps b.alone.nodes_left few (subst IsPrecision (sym precision) b.alone.has_precision) in_range)
-
--- it is accepted, and is the row of one geometry
-pub line_pushed : (l : Allowance) (rs new : List Row) (row : BufferRow) (ahead : List BufferPoint) (n : ℤ)
-    (ps : List Point) → AreValidRowsOfOne l rs → BeginsLine l row ahead → (row.depth ≡ 0 → rs ≡ [])
-    → n ≡ row.precision → ps ≡ points_of (take row.points ahead) → AreInRange ps
-    → new ≡ rs ++ whole_row 0 kind.Linestring None n ps ∷ []
-    → (r : Row) × (new ≡ rs ++ r ∷ []) × AcceptedAfter l rs row ahead r × AreValidRowsOfOne l new
-line_pushed l rs new row ahead n ps valid b root precision own in_range pushed =
-    let few = subst (λ (qs : List Point). length qs ≤ l.points) (sym own) (few_points l row ahead b.alone) in
-    root_pushed l rs new row ahead kind.Linestring ps valid b.alone (sym b.is_line) (sym own)
-    (line_first l row.precision ps b.alone.nodes_left few b.alone.has_precision in_range)
-    (root b.alone.is_root)
-    (pushed ∙ ap (λ (m : ℤ). rs ++ whole_row 0 kind.Linestring None m ps ∷ []) precision)
-
--- it is refused for a point out of range
-pub line_out_of_range : (l : Allowance) (rs : List Row) (row : BufferRow) (ahead : List BufferPoint) (number : ℕ)
-    → BeginsLine l row ahead → (row.depth ≡ 0 → rs ≡ [])
-    → AreOutOfRange (points_of (take row.points ahead)) number → RefusedAfter l rs row ahead number
-line_out_of_range l rs row ahead number b root out =
+-- the blob of the linestring that such a row begins was made
+pub line_made : (l : Allowance) (style : Style) (row : BufferRow) (ahead : List BufferPoint) (n : ℤ)
+    (blob : List ℕ) → BeginsLine l row ahead → n ≡ row.precision
+    → are_in_range (points_of (take row.points ahead)) ≡ true
+    → (IsPrecision n → blob ≡ canonical_blob style (one_line n (points_of (take row.points ahead))))
+    → IsMadeAlone l style row ahead row.points blob
+line_made l style row ahead n blob b same in_range made =
     let ps = points_of (take row.points ahead) in
-    let because : refusal l rs (row_from_c kind.Linestring row (take row.points ahead)) ≡ Some CoordinateRange =
-    ap (λ (xs : List Row). refusal l xs (row_from_c kind.Linestring row (take row.points ahead)))
-    (root b.alone.is_root)
-    ∙ ap (refusal l []) (root_row l row ahead kind.Linestring ps b.alone refl)
-    ∙ line_refused l row.precision ps b.alone.nodes_left b.alone.has_precision out.0 in
-    refused_for l rs row ahead kind.Linestring CoordinateRange number (sym b.is_line)
-    (inr (b.alone.has_no_id, b.alone.id_is)) b.alone.enough because out.1
+    let precise = b.alone.has_precision in
+    root_made l style row ahead kind.Linestring ps (one_line row.precision ps) row.points blob b.alone
+    (sym b.is_line) refl
+    (line_first l row.precision ps b.alone.nodes_left (few_points l row ahead b.alone) precise
+    (points_in_range ps in_range)) (precise, tt) refl refl
+    (subst (λ (m : ℤ). IsPrecision m → blob ≡ canonical_blob style (one_line m ps)) same made precise)
+
+-- a precision fits 8 bits
+precision_fits : (n : ℤ) → IsPrecision n → SFits w8 n
+precision_fits n h = grind (arith, common_steps)
+
+-- a precision that was passed as 8 bits is the same
+pub precision_passed : (n : ℤ) → IsPrecision n → to_z w8 (of_z w8 n) ≡ n
+precision_passed n h = to_z-of_z w8 n (precision_fits n h)

@@ -8,7 +8,7 @@ use Rattle.twkb_tree.specs.Limits.{Allowance}
 use Rattle.twkb_tree.specs.Rows.{Row}
 use Rattle.twkb_buffer.specs.Polylines.{coordinates_of}
 use Rattle.twkb_buffer.specs.declared.point.BufferPoint.{BufferPoint}
-use Rattle.twkb_arrays.specs.Judging.{AcceptedAfter, HasRightId, id_of, is_no_precision, precision_of}
+use Rattle.twkb_arrays.specs.JudgedRow.{AcceptedAfter, HasRightId, id_of, is_no_precision, precision_of}
 use Rattle.twkb_arrays.specs.Rows.{id_flag, id_number, kind_number, point_of, points_of, precision_number, row_in_c}
 use Rattle.twkb_arrays.specs.declared.row.BufferRow.{BufferRow}
 

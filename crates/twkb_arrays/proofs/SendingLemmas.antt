@@ -8,8 +8,8 @@ use Rattle.twkb_flat.proofs.FlatLaws.{reads_join}
 use Rattle.twkb_grammar.specs.Written.{canonical_blob, canonical_stream}
 use Rattle.twkb_grammar.specs.declared.style.Style.{Style}
 use Rattle.twkb_arrays.specs.Rooms.{StopsBefore}
-use Rattle.twkb_arrays.specs.Sending.{HasSent, IsSentWithin, IsStreamIn, LacksBytes, SendsOne}
-use Rattle.twkb_arrays.specs.declared.sending.Sent.{Sent}
+use Rattle.twkb_arrays.specs.SentBlobs.{HasSent, IsSentWithin, IsStreamIn, LacksBytes, SendsOne}
+use Rattle.twkb_arrays.specs.declared.sent_blobs.Sent.{Sent}
 use Rattle.twkb_arrays.proofs.ArrayLemmas.{laid_more}
 use Rattle.twkb_arrays.proofs.RoomLemmas.{more_stay, no_more, stops_as_before, stops_here}
 

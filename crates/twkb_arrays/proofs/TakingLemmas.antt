@@ -11,9 +11,9 @@ use Rattle.twkb_buffer.specs.Polylines.{coordinates_of}
 use Rattle.twkb_buffer.specs.declared.point.BufferPoint.{BufferPoint}
 use Rattle.twkb_arrays.specs.Rooms.{StopsBefore}
 use Rattle.twkb_arrays.specs.Rows.{LacksRoom, array_points, array_rows, row_in_c, rows_in_c}
-use Rattle.twkb_arrays.specs.Taking.{HasTaken, IsFilled, IsWithin, TakesOne}
+use Rattle.twkb_arrays.specs.TakenGeometries.{HasTaken, IsFilled, IsWithin, TakesOne}
 use Rattle.twkb_arrays.specs.declared.row.BufferRow.{BufferRow}
-use Rattle.twkb_arrays.specs.declared.taking.Taken.{Taken}
+use Rattle.twkb_arrays.specs.declared.taken_geometries.Taken.{Taken}
 use Rattle.twkb_arrays.proofs.ArrayLemmas.{coordinates_of-append, laid_more, length-coordinates_of, row_points-append}
 use Rattle.twkb_arrays.proofs.RoomLemmas.{more_stay, no_more, stops_as_before, stops_here}
 

@@ -1,9 +1,9 @@
 -- The end of arrays that are written as streams: all is written, or a row or points are refused.
-use Rattle.std.proofs.Common.{◌≡◌, ℕ, ◌+◌, ◌<◌, ◌≤◌, inl, inr, List, [], ◌∷◌, ◌++◌, length, take, drop}
-use Rattle.std.proofs.Common.{refl, sym, ap, ◌∙◌, subst, arith, append_assoc, slice_index_or}
+use Rattle.std.proofs.Common.{◌≡◌, ℕ, ◌+◌, ◌<◌, ◌≤◌, inl, inr, List, [], ◌++◌, length, take, drop}
+use Rattle.std.proofs.Common.{refl, sym, ap, ◌∙◌, subst, arith}
 use Rattle.std.specs.Prelude.{Ok, Err}
 use Rattle.std.proofs.lemmas.List.{append-nil, length-drop, length-take-le, take-append-drop}
-use Rattle.std.proofs.lemmas.List.{take_all, take_more}
+use Rattle.std.proofs.lemmas.List.{drop-drop, take_all, take_rest}
 use Rattle.twkb_tree.specs.Tree.{Tree}
 use Rattle.twkb_tree.specs.Limits.{Allowance}
 use Rattle.twkb_tree.specs.Rows.{Row, rows_of, row_points}
@@ -12,24 +12,24 @@ use Rattle.twkb_flat.specs.declared.stop.Stop.TheVariants as stop
 use Rattle.twkb_grammar.specs.declared.style.Style.{Style}
 use Rattle.twkb_buffer.specs.Polylines.{coordinates_of}
 use Rattle.twkb_buffer.specs.declared.point.BufferPoint.{BufferPoint}
+use Rattle.twkb_arrays.specs.LoneRow.{BeginWithRoot}
 use Rattle.twkb_arrays.specs.Rows.{rows_in_c}
-use Rattle.twkb_arrays.specs.Sending.{HasSent}
-use Rattle.twkb_arrays.specs.Writing.{EndsWriting, IsWriting, StopsAtRow, StopsWriting}
-use Rattle.twkb_arrays.specs.Writing.{stopped_at}
+use Rattle.twkb_arrays.specs.SentBlobs.{HasSent}
+use Rattle.twkb_arrays.specs.WrittenArrays.{EndsWriting, IsWriting, StopsAtRow, StopsWriting}
+use Rattle.twkb_arrays.specs.WrittenArrays.{stopped_at}
 use Rattle.twkb_arrays.specs.declared.row.BufferRow.{BufferRow}
-use Rattle.twkb_arrays.specs.declared.sending.Sent.{Sent}
-use Rattle.twkb_arrays.specs.declared.writing.Writer.{Writer}
-use Rattle.twkb_arrays.specs.declared.writing.RefusedAt.{RefusedAt}
+use Rattle.twkb_arrays.specs.declared.sent_blobs.Sent.{Sent}
+use Rattle.twkb_arrays.specs.declared.written_arrays.Writer.{Writer}
+use Rattle.twkb_arrays.specs.declared.written_arrays.RefusedAt.{RefusedAt}
 use Rattle.twkb_arrays.proofs.ArrayLemmas.{parts_join, rest_of, some_more}
 
 -- a row that is not read ends the writing
-pub stops_writing : (l : Allowance) (style : Style) (start : List ℕ) (in_rows front_rows more : List BufferRow)
-    (in_points front_points ahead : List BufferPoint) (place : ℕ) (row : BufferRow) (out : List ℕ)
-    (writer : Writer) (why : Stop ℕ)
-    → StopsAtRow l style start front_rows front_points row ahead out writer why
-    → in_rows ≡ front_rows ++ row ∷ more → in_points ≡ front_points ++ ahead → place ≡ length front_rows
+stops_writing : (l : Allowance) (style : Style) (start : List ℕ) (in_rows front_rows rows_ahead : List BufferRow)
+    (in_points front_points ahead : List BufferPoint) (place : ℕ) (out : List ℕ) (writer : Writer) (why : Stop ℕ)
+    → StopsAtRow l style start front_rows front_points rows_ahead ahead out writer why
+    → in_rows ≡ front_rows ++ rows_ahead → in_points ≡ front_points ++ ahead → place ≡ length front_rows
     → StopsWriting l style start in_rows in_points out writer (stopped_at place why)
-stops_writing l style start in_rows front_rows more in_points front_points ahead place row out writer stop.Memory s
+stops_writing l style start in_rows front_rows rows_ahead in_points front_points ahead place out writer stop.Memory s
     rows_are points_are place_is = (
       s.given,
       s.later,
@@ -37,7 +37,7 @@ stops_writing l style start in_rows front_rows more in_points front_points ahead
       record {
         begun = s.begun;
         front_rows = front_rows;
-        more = row ∷ more;
+        more = rows_ahead;
         front_points = front_points;
         ahead = ahead;
         rows_are = rows_are;
@@ -45,7 +45,7 @@ stops_writing l style start in_rows front_rows more in_points front_points ahead
         read = s.read;
       },
     )
-stops_writing l style start in_rows front_rows more in_points front_points ahead place row out writer
+stops_writing l style start in_rows front_rows rows_ahead in_points front_points ahead place out writer
     (stop.Refused number) s rows_are points_are place_is = (
       s.given,
       s.later,
@@ -53,11 +53,11 @@ stops_writing l style start in_rows front_rows more in_points front_points ahead
       inl (record {
         begun = s.begun;
         front_rows = front_rows;
-        row = row;
-        more = more;
+        row = s.row;
+        more = s.more;
         front_points = front_points;
         ahead = ahead;
-        rows_are = rows_are;
+        rows_are = rows_are ∙ ap (λ (xs : List BufferRow). front_rows ++ xs) s.rows_are;
         points_are = points_are;
         read = s.read;
         root = s.stops.0;
@@ -67,42 +67,45 @@ stops_writing l style start in_rows front_rows more in_points front_points ahead
       }),
     )
 
--- the rows up to a place and the row there
-with_next : (in_rows : List BufferRow) (i : ℕ) (row none : BufferRow) → i < length in_rows
-    → row ≡ slice_index_or in_rows i none
-    → take (i + 1) in_rows ≡ take i in_rows ++ row ∷ []
-with_next in_rows i row none within is = take_more in_rows i none within
-    ∙ ap (λ (x : BufferRow). take i in_rows ++ x ∷ []) (sym is)
-
 -- the row at a place is not read
 pub row_stops : (l : Allowance) (style : Style) (start : List ℕ) (in_rows : List BufferRow)
-    (in_points : List BufferPoint) (i used : ℕ) (row none : BufferRow) (out : List ℕ) (writer : Writer) (why : Stop ℕ)
+    (in_points : List BufferPoint) (i used : ℕ) (out : List ℕ) (writer : Writer) (why : Stop ℕ)
     (answer : Stop RefusedAt)
-    → StopsAtRow l style start (take i in_rows) (take used in_points) row (rest_of in_points used) out writer why
-    → i < length in_rows → row ≡ slice_index_or in_rows i none → answer ≡ stopped_at i why
+    → StopsAtRow l style start (take i in_rows) (take used in_points) (rest_of in_rows i) (rest_of in_points used) out
+    writer why
+    → i < length in_rows → answer ≡ stopped_at i why
     → StopsWriting l style start in_rows in_points out writer answer
-row_stops l style start in_rows in_points i used row none out writer why answer s within is answer_is =
+row_stops l style start in_rows in_points i used out writer why answer s within answer_is =
     subst (λ (f : Stop RefusedAt). StopsWriting l style start in_rows in_points out writer f) (sym answer_is)
-    (stops_writing l style start in_rows (take i in_rows) (drop (i + 1) in_rows) in_points (take used in_points)
-    (rest_of in_points used) i row out writer why s
-    (sym (take-append-drop (i + 1) in_rows)
-    ∙ ap (λ (xs : List BufferRow). xs ++ drop (i + 1) in_rows) (with_next in_rows i row none within is)
-    ∙ append_assoc (take i in_rows) (row ∷ []) (drop (i + 1) in_rows))
+    (stops_writing l style start in_rows (take i in_rows) (rest_of in_rows i) in_points (take used in_points)
+    (rest_of in_points used) i out writer why s
+    (sym (parts_join in_rows (rest_of in_rows i) i refl))
     (sym (parts_join in_points (rest_of in_points used) used refl))
     (sym (length-take-le i in_rows (omega (arith, within)))))
 
 -- the row at a place is read
 pub next_read : (l : Allowance) (style : Style) (start : List ℕ) (in_rows : List BufferRow)
-    (in_points : List BufferPoint) (i used count : ℕ) (row none : BufferRow) (out : List ℕ) (writer : Writer)
-    → IsWriting l style start (take i in_rows ++ row ∷ []) (take used in_points ++ take count (rest_of in_points used))
-    out writer
-    → i < length in_rows → row ≡ slice_index_or in_rows i none
+    (in_points : List BufferPoint) (i used count : ℕ) (out : List ℕ) (writer : Writer)
+    → IsWriting l style start (take i in_rows ++ take 1 (rest_of in_rows i))
+    (take used in_points ++ take count (rest_of in_points used)) out writer
     → IsWriting l style start (take (i + 1) in_rows) (take (used + count) in_points) out writer
-next_read l style start in_rows in_points i used count row none out writer w within is =
+next_read l style start in_rows in_points i used count out writer w =
     subst (λ (xs : List BufferRow). IsWriting l style start xs (take (used + count) in_points) out writer)
-    (sym (with_next in_rows i row none within is))
-    (subst (λ (xs : List BufferPoint). IsWriting l style start (take i in_rows ++ row ∷ []) xs out writer)
+    (some_more in_rows (rest_of in_rows i) i 1 refl)
+    (subst (λ (xs : List BufferPoint). IsWriting l style start (take i in_rows ++ take 1 (rest_of in_rows i)) xs out
+    writer)
     (some_more in_points (rest_of in_points used) used count refl) w)
+
+-- a root at a place is the first of the rows from there on
+pub root_ahead : (in_rows : List BufferRow) (i : ℕ) → BeginWithRoot (drop i in_rows)
+    → BeginWithRoot (rest_of in_rows i)
+root_ahead in_rows i = subst BeginWithRoot (sym (take_rest in_rows i))
+
+-- and the other way round, for the row after it
+pub next_root : (in_rows : List BufferRow) (i : ℕ) → BeginWithRoot (drop 1 (rest_of in_rows i))
+    → BeginWithRoot (drop (i + 1) in_rows)
+next_root in_rows i = subst BeginWithRoot
+    (ap (λ (xs : List BufferRow). drop 1 xs) (take_rest in_rows i) ∙ drop-drop 1 i in_rows)
 
 -- points that are left over end the writing
 pub points_left_over : (l : Allowance) (style : Style) (start : List ℕ) (in_rows : List BufferRow)

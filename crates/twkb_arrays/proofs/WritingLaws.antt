@@ -20,13 +20,13 @@ use Rattle.twkb_blob.specs.declared.fault.BlobFault.TheVariants as reading
 use Rattle.twkb_buffer.specs.declared.point.BufferPoint.{BufferPoint}
 use Rattle.twkb_buffer.specs.declared.report.BufferReport.{BufferReport}
 use Rattle.twkb_arrays.specs.ReadBack.{Arrays, BeginAs, IsRoundTrip}
-use Rattle.twkb_arrays.specs.Reading.{EndsReading, ReadsArrays, outcome_of}
+use Rattle.twkb_arrays.specs.FilledArrays.{EndsReading, ReadsArrays, outcome_of}
 use Rattle.twkb_arrays.specs.Rooms.{StopsBefore, are_more}
 use Rattle.twkb_arrays.specs.Rows.{HasRoom, LacksRoom, array_points, array_rows, row_in_c}
-use Rattle.twkb_arrays.specs.Writing.{AreArrays, EndsWriting, WritesArrays, write_outcome_of}
-use Rattle.twkb_arrays.specs.declared.reading.BufferCounts.{BufferCounts}
+use Rattle.twkb_arrays.specs.WrittenArrays.{AreArrays, EndsWriting, WritesArrays, write_outcome_of}
+use Rattle.twkb_arrays.specs.declared.filled_arrays.BufferCounts.{BufferCounts}
 use Rattle.twkb_arrays.specs.declared.row.BufferRow.{BufferRow}
-use Rattle.twkb_arrays.specs.declared.writing.RefusedAt.{RefusedAt}
+use Rattle.twkb_arrays.specs.declared.written_arrays.RefusedAt.{RefusedAt}
 use Rattle.twkb_arrays.proofs.ArrayLemmas.{length-coordinates_of, row_points-append}
 use Rattle.twkb_arrays.proofs.ArraysRefused.{none_left, none_refused, one_arrays}
 use Rattle.twkb_arrays.proofs.ReadingLaws.{all_read, status_zero}

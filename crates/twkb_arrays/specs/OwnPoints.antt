@@ -2,7 +2,7 @@
 use Rattle.std.specs.Prelude.{◌≡◌, ℕ, List}
 use Rattle.twkb_points.specs.Point.{Point, AreInRange}
 use Rattle.twkb_tree.specs.Refusal.{CoordinateRange}
-use Rattle.twkb_arrays.specs.Judging.{refusal_number}
+use Rattle.twkb_arrays.specs.JudgedRow.{refusal_number}
 
 -- a point is out of range, and the number is that of this reason
 abbrev pub AreOutOfRange : List Point → ℕ → Type 0

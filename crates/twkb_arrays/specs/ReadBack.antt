@@ -6,9 +6,9 @@ use Rattle.twkb_grammar.specs.declared.style.Style.{Style}
 use Rattle.twkb_buffer.specs.declared.point.BufferPoint.{BufferPoint}
 use Rattle.twkb_buffer.specs.declared.report.BufferReport.{BufferReport}
 use Rattle.twkb_arrays.specs.declared.row.BufferRow.{BufferRow}
-use Rattle.twkb_arrays.specs.declared.reading.BufferCounts.{BufferCounts}
-use Rattle.twkb_arrays.specs.Reading.{ReadsArrays}
-use Rattle.twkb_arrays.specs.Writing.{WritesArrays}
+use Rattle.twkb_arrays.specs.declared.filled_arrays.BufferCounts.{BufferCounts}
+use Rattle.twkb_arrays.specs.FilledArrays.{ReadsArrays}
+use Rattle.twkb_arrays.specs.WrittenArrays.{WritesArrays}
 
 -- An array of rows and one of points.
 pub record Arrays : Type 0 where

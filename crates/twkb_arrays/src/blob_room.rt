@@ -1,15 +1,21 @@
-//! The canonical blob of a flat form or of a point, made in memory that is reused from one to the next.
-ghost use Rattle.std.specs.Prelude.{◌≡◌, OnOk};
+//! The canonical blob of a flat form, a point or a linestring, made in memory that is reused from one to the next.
+ghost use Rattle.std.specs.Prelude.{◌≡◌, ◌≤◌, OnOk, length};
+ghost use Rattle.twkb_tree.specs.declared.limits.TheConstants.{POINTS_CAP};
 ghost use Rattle.twkb_tree.specs.Tree.{Tree, IsPrecision, IsTree};
 ghost use Rattle.twkb_tree.specs.Rows.{rows};
 ghost use Rattle.twkb_grammar.specs.Written.{canonical_blob};
+ghost use Rattle.twkb_writer.specs.LineBlob.{one_line};
 ghost use Rattle.twkb_writer.specs.PointBlob.{one_point};
+ghost use Rattle.twkb_arrays.specs.Rows.{points_of};
 
+use crate::own_points::PointsInRange;
 use std::alloc::{AllocError, Global};
 use twkb_flat::{Flat, Work};
 use twkb_io::Bytes;
 use twkb_points::Pt;
-use twkb_writer::{Depths, Piece, Sizes, Style, measure_into, write_point, write_through};
+use twkb_writer::{
+    Depths, Piece, Sizes, Style, measure_into, write_line, write_point, write_through,
+};
 
 // Memory for one blob and for the sizes of its form.
 #[derive(Drop)]
@@ -69,6 +75,31 @@ impl BlobRoom {
         write_point(
             precision,
             point,
+            style,
+            &mut self.piece,
+            &mut self.bytes,
+            &mut work,
+        )
+    }
+
+    // Makes the canonical blob of a linestring in a style, in place of the blob before it. The
+    // precision is from -8 to 7.
+    #[inline(always)]
+    pub(crate) fn make_line(
+        &mut self,
+        precision: i8,
+        points: &PointsInRange<'_>,
+        style: Style,
+    ) -> Result<(), AllocError>
+        requires { length points.now.own.now ≤ POINTS_CAP }
+        ensures { OnOk result (IsPrecision precision
+            → blob_in self.new ≡ canonical_blob style (one_line precision (points_of points.now.own.now))) }
+    {
+        let mut work = Work::new();
+        self.bytes.clear();
+        write_line(
+            precision,
+            points,
             style,
             &mut self.piece,
             &mut self.bytes,

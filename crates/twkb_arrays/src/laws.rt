@@ -10,11 +10,11 @@ ghost use Rattle.twkb_buffer.specs.Slices.{UnpackedSlice};
 ghost use Rattle.twkb_buffer.specs.declared.point.BufferPoint.{BufferPoint as InPoint};
 ghost use Rattle.twkb_buffer.specs.declared.report.BufferReport.{BufferReport as InReport};
 ghost use Rattle.twkb_arrays.specs.declared.row.BufferRow.{BufferRow as InRow};
-ghost use Rattle.twkb_arrays.specs.declared.reading.BufferCounts.{BufferCounts as InCounts};
+ghost use Rattle.twkb_arrays.specs.declared.filled_arrays.BufferCounts.{BufferCounts as InCounts};
 ghost use Rattle.twkb_arrays.specs.ReadBack.{Arrays, BeginAs, IsRoundTrip};
-ghost use Rattle.twkb_arrays.specs.Reading.{ReadsArrays};
+ghost use Rattle.twkb_arrays.specs.FilledArrays.{ReadsArrays};
 ghost use Rattle.twkb_arrays.specs.SameRows.{AreSameRows};
-ghost use Rattle.twkb_arrays.specs.Writing.{AreArrays, WritesArrays};
+ghost use Rattle.twkb_arrays.specs.WrittenArrays.{AreArrays, WritesArrays};
 
 /// If at most 2^62 bytes are a stream, the geometries that a call reads are those of the stream, and
 /// it refuses nothing, unless memory is refused.

@@ -1,20 +1,20 @@
 //! Rows and points in arrays: read from blobs, and written as blobs, with no text between.
 #![tactic(auto)]
 
+mod appended_row;
 mod blob_room;
-mod gathering;
-mod judging;
+mod copied_form;
+mod filled_arrays;
+mod judged_row;
 pub mod laws;
-mod open_geometry;
+mod lone_row;
 mod own_points;
-mod placing;
-mod reading;
 mod row;
-mod sending;
+mod sent_blobs;
 mod status;
-mod taking;
-mod writing;
+mod taken_geometries;
+mod written_arrays;
 
-pub use reading::{BufferCounts, read_arrays};
+pub use filled_arrays::{BufferCounts, read_arrays};
 pub use row::{BufferRow, NO_PRECISION};
-pub use writing::write_arrays;
+pub use written_arrays::write_arrays;

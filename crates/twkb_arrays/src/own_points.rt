@@ -3,7 +3,7 @@ ghost use Rattle.std.specs.Prelude.{◌≡◌, true};
 ghost use Rattle.twkb_tree.specs.Refusal.{are_in_range};
 ghost use Rattle.twkb_arrays.specs.Rows.{points_of};
 
-use crate::judging::{OUT_OF_RANGE, are_in_range, refused};
+use crate::judged_row::{OUT_OF_RANGE, are_in_range, refused};
 use twkb_buffer::BufferPoint;
 use twkb_flat::{PointSource, Stop};
 use twkb_points::{PointList, PointTail, Pt};
@@ -16,8 +16,8 @@ pub(crate) struct OwnPoints<'a> {
 
 // A row's own points, all in range.
 #[derive(Clone, Copy)]
-struct PointsInRange<'a> {
-    own: &'a [BufferPoint],
+pub(crate) struct PointsInRange<'a> {
+    pub(crate) own: &'a [BufferPoint],
     ghost in_range: { are_in_range (points_of own.now) ≡ true },
 }
 

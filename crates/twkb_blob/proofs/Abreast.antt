@@ -1,5 +1,5 @@
 -- An engine that keeps pace with a reader.
-use Rattle.std.proofs.Common.{◌≡◌, List, [], sym, ◌∙◌, refl, subst, Bool, true, false, Result, Ok, arith}
+use Rattle.std.proofs.Common.{◌≡◌, List, [], sym, ◌∙◌, subst, Bool, true, Result, Ok, arith}
 use Rattle.std.proofs.Math.Logic.{∥∥₁_elim}
 use Rattle.std.proofs.Props.{props}
 use Rattle.std.proofs.lemmas.List.{nil_from_length}
@@ -18,17 +18,9 @@ use Rattle.twkb_engine.proofs.RootPoints.{begins}
 use Rattle.twkb_engine.proofs.Steps.{stands_begun}
 use Rattle.twkb_blob.specs.Feeding.{Reads}
 use Rattle.twkb_blob.specs.Located.{ReadsInto}
-use Rattle.twkb_blob.specs.Readers.{IsAtBlob, ended_at, ready_at, spent_at}
-use Rattle.twkb_blob.specs.declared.reader.State.{State}
-use Rattle.twkb_blob.specs.declared.reader.State.TheVariants as state
+use Rattle.twkb_blob.specs.Readers.{IsAtBlob}
 use Rattle.twkb_blob.specs.declared.fault.BlobFault.{BlobFault}
 use Rattle.twkb_blob.proofs.Answering.{read_next}
-
--- a state in which a further blob is to be read
-pub ready : (s : State) → ready_at s ≡ Ok true → (spent_at s ≡ false) × (ended_at s ≡ false)
-ready state.Ready is = (refl, refl)
-ready state.Ended is = cc is
-ready state.Spent is = cc is
 
 -- an engine that took no byte is where a blob begins
 begun : (d : Engine) → IsAlive [] d → count_of d ≡ 0 → StandsAt [] [] d

@@ -60,6 +60,8 @@ module _ {R : Type 0} {read : Ghosts R} {old new : Reader R read} {answer : Resu
       next = λ live going. flat_next answer (run live going);
       memory = no_memory;
       cleared = cleared;
+      some = some_came;
+      spent = (was_spent, h.spent);
     }
 
   -- rows and spans were read

@@ -1,7 +1,7 @@
 -- Bytes that leave an input one piece after another, and what is known of those that are left.
 use Rattle.std.proofs.Common.{◌≡◌, ◌≢◌, ℕ, ◌+◌, ◌<◌, ◌≤◌, List, [], ◌∷◌, ◌++◌, length, length-append, take, refl}
-use Rattle.std.proofs.Common.{sym, ap, ◌∙◌, subst, append_assoc, true, Bool, nat_eq, Option, Some, None, Result, Err}
-use Rattle.std.proofs.Common.{arith}
+use Rattle.std.proofs.Common.{sym, ap, ◌∙◌, subst, append_assoc, true, false, Bool, nat_eq, Option, Some, None, Result}
+use Rattle.std.proofs.Common.{Err, arith}
 use Rattle.std.proofs.KnownBytes.{Consumes-kept, Consumes-nil, Consumes-trans}
 use Rattle.std.proofs.Math.Seq.{take-append-add}
 use Rattle.std.proofs.lemmas.Grind.{common_steps}
@@ -16,8 +16,9 @@ use Rattle.twkb_body.specs.JudgedParts.{IsJudged, PartIn}
 use Rattle.twkb_io.specs.declared.input.Input.{Input}
 use Rattle.twkb_io.specs.declared.input.InFault.{InFault}
 use Rattle.twkb_io.specs.declared.input.InFault.TheVariants.{Read, TooLong, Spent}
-use Rattle.twkb_io.specs.Inputs.{given, held_of, rest_of, is_spent}
-use Rattle.twkb_blob.specs.Readers.{HasNone, Left, told_by}
+use Rattle.twkb_io.specs.Inputs.{given, held_of, is_read, rest_of, is_spent}
+use Rattle.twkb_blob.specs.Readers.{HasNone, Left, failed_by_read, told_by}
+use Rattle.twkb_blob.specs.declared.fault.BlobFault.TheVariants.{Device}
 
 -- what follows for all known bytes from what holds of those that are left
 pub known_after : {P : List ℕ → Type 0} (Q : List ℕ → Type 0) (a b : Option (List ℕ))
@@ -44,6 +45,19 @@ none_in piece empty is on = nil_from_length piece (is_zero (length piece) (sym i
   where
     is_zero : (n : ℕ) → nat_eq n 0 ≡ true → n ≡ 0
     is_zero n same = grind (arith, common_steps)
+
+-- and one with bytes
+pub some_in : (piece : List ℕ) (empty : Bool) → empty ≡ nat_eq (length piece) 0 → empty ≡ false → 0 < length piece
+some_in piece empty is off = is_some (length piece) (sym is ∙ off)
+  where
+    is_some : (n : ℕ) → nat_eq n 0 ≡ false → 0 < n
+    is_some n same = grind (arith, common_steps)
+
+-- whether a fault of an input is a failed read
+pub read_failed : (why : InFault) → is_read why ≡ failed_by_read {A = Bool} (Err (Device why))
+read_failed Read = refl
+read_failed TooLong = refl
+read_failed Spent = refl
 
 module _ {R : Type 0} {read : Ghosts R} {a b : Input R read} where
   -- a fill loses nothing

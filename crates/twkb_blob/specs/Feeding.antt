@@ -1,6 +1,6 @@
 -- What an engine answers that is fed a piece, or the held bytes of an input.
 use Rattle.std.specs.Prelude.{◌≡◌, ◌+◌, ◌-◌, ◌<◌, ◌⊎◌, take, ℕ, List, [], ◌++◌, length, Bool, true, false}
-use Rattle.std.specs.Prelude.{Result, Ok, Err, IfSome, ⊤}
+use Rattle.std.specs.Prelude.{Result, Ok, Err, IfSome}
 use Rattle.std.specs.Io.KnownBytes.{IsAtEnd}
 use Rattle.std.specs.declared.io.traits.Read.{Ghosts}
 use Rattle.twkb_io.specs.declared.TheConstants.{MAX_BYTES}
@@ -72,13 +72,6 @@ ReadsNoBlob limits start bs old new (fault.Device why) =
     ((bytes : List ℕ) × Left old new bytes × AreCutOff limits (bs ++ bytes) × HasNone why old new)
     ⊎ ((why ≡ TooLong) × (given old < start + length bs))
 ReadsNoBlob limits start bs old new fault.Spent = ⊥
-
--- What it answers that fills an input: it holds bytes; or it is at its end, and there are no bytes.
-abbrev pub Fills : Allowance → (start : ℕ) → List ℕ → {R : Type 0} {read : Ghosts R} → Input R read
-    → Input R read → Result Bool BlobFault → Type 0
-Fills limits start bs old new (Ok true) = ⊤
-Fills limits start bs old new (Ok false) = IsAtEnd (rest_of new) × (bs ≡ [])
-Fills limits start bs old new (Err why) = ReadsNoBlob limits start bs old new why
 
 -- What it answers that reads a blob of an input, after these bytes of it: some that left end the
 -- blob, whose rows and spans it has; or the input ended, and there are no bytes; or it halts.

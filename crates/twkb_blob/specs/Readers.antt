@@ -1,6 +1,6 @@
 -- What a reader of an input answers.
-use Rattle.std.specs.Prelude.{ℕ, ◌≡◌, ◌+◌, ◌<◌, ◌⊎◌, List, [], ◌++◌, length, Bool, true, false, Option, Some}
-use Rattle.std.specs.Prelude.{None, IfSome, Result, Ok, Err, is_err, ⊤}
+use Rattle.std.specs.Prelude.{ℕ, ◌≡◌, ◌+◌, ◌<◌, ◌⊎◌, ◌↔◌, List, [], ◌++◌, length, Bool, true, false}
+use Rattle.std.specs.Prelude.{Option, Some, None, IfSome, Result, Ok, Err, is_err, ⊤}
 use Rattle.std.specs.Io.KnownBytes.{Consumes, IsAtEnd}
 use Rattle.std.specs.declared.io.traits.Read.{Ghosts}
 use Rattle.twkb_io.specs.declared.TheConstants.{MAX_BYTES}
@@ -163,12 +163,6 @@ abbrev pub failed_by_read : {A : Type 0} → Result A BlobFault → Bool
 failed_by_read (Err (fault.Device stopped.Read)) = true
 failed_by_read _ = false
 
--- whether a reader is to read, by its state
-abbrev pub ready_at : State → Result Bool BlobFault
-ready_at state.Ready = Ok true
-ready_at state.Ended = Ok false
-ready_at state.Spent = Err fault.Spent
-
 -- What every call of a reader says: its limits and the name of its tap stay; a failed read is
 -- counted; after an error it answers `Spent`, after the end it answers the end, and then it stays
 -- as it is.
@@ -186,10 +180,13 @@ pub record ReadsNext {A : Type 0} (none : A) {R : Type 0} {read : Ghosts R}
   pub for_good : has_ended old ≡ true → (answer ≡ Ok none) × (new ≡ old)
 
 -- What a call says that reads the next geometry into rows: what every call does, and of one that
--- reads, its answer and the rows; only a geometry leaves rows.
+-- reads, its answer and the rows; exactly a geometry leaves rows. It is refused for an error before,
+-- and only then.
 pub record ReadsRows {R : Type 0} {read : Ghosts R} (old new : Reader R read)
     (answer : Result Bool BlobFault) (rs : List Row) : Type 0 where
   pub shared : ReadsNext false old new answer
   pub next : IfGoingOn old (IsNextFlat (reader_limits old) (reader_input old) (reader_input new) answer rs)
   pub memory : answer ≡ Err fault.Memory → PartAhead (reader_limits old) [] (reader_input old)
   pub cleared : (answer ≡ Ok true) ⊎ (rs ≡ [])
+  pub some : answer ≡ Ok true → 0 < length rs
+  pub spent : (answer ≡ Err fault.Spent) ↔ (is_spent old ≡ true)

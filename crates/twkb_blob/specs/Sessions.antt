@@ -1,6 +1,6 @@
 -- What a session stands for.
-use Rattle.std.specs.Prelude.{ℕ, ◌≡◌, ◌+◌, ◌-◌, ◌<◌, ◌≤◌, ◌⊎◌, if◌then◌else◌, List, [], ◌∷◌, ◌++◌, length, take}
-use Rattle.std.specs.Prelude.{sum_by, Bool, true, false, Option, Some, None, Result, Ok, Err}
+use Rattle.std.specs.Prelude.{ℕ, ◌≡◌, ◌+◌, ◌-◌, ◌<◌, ◌≤◌, ◌⊎◌, ◌↔◌, if◌then◌else◌, List, [], ◌∷◌, ◌++◌, length}
+use Rattle.std.specs.Prelude.{take, sum_by, Bool, true, false, Option, Some, None, Result, Ok, Err, is_err}
 use Rattle.twkb_io.specs.declared.TheConstants.{MAX_BYTES}
 use Rattle.twkb_tree.specs.Tree.{Tree}
 use Rattle.twkb_tree.specs.Rows.{Row, rows}
@@ -15,6 +15,7 @@ use Rattle.twkb_engine.specs.Stops.{reason_of}
 use Rattle.twkb_body.specs.JudgedParts.{PartIn}
 use Rattle.twkb_io.specs.declared.input.InFault.TheVariants.{TooLong}
 use Rattle.twkb_blob.specs.Faults.{RefusedAt}
+use Rattle.twkb_blob.specs.Readers.{failed_by_read}
 use Rattle.twkb_blob.specs.declared.session.Session.{Session}
 use Rattle.twkb_blob.specs.declared.fault.BlobFault.{BlobFault}
 use Rattle.twkb_blob.specs.declared.fault.BlobFault.TheVariants as fault
@@ -120,6 +121,14 @@ FedFlat bytes gs piece (Ok (used, false)) s = FedSession bytes gs piece (Ok (use
 FedFlat bytes gs piece (Ok (used, true)) s = (g : Tree)
     × FedSession bytes gs piece (Ok (used, Some g)) s × (session_rows s ≡ rows 0 g)
 FedFlat bytes gs piece (Err why) s = FedSession bytes gs piece (Err why) s
+
+-- What every feed of a session says: no read failed; it is refused for an error before, and only
+-- then; an error leaves the session spent; its limits stay.
+pub record FeedsOn {A : Type 0} (old new : Session) (answer : Result A BlobFault) : Type 0 where
+  pub unread : failed_by_read answer ≡ false
+  pub spent : (answer ≡ Err fault.Spent) ↔ (is_spent old ≡ true)
+  pub stays : is_spent new ≡ is_err answer
+  pub limits : session_limits new ≡ session_limits old
 
 -- how many bytes a call took, with whether a geometry ended
 abbrev pub with_end : Bool → Result ℕ BlobFault → Result (ℕ × Bool) BlobFault

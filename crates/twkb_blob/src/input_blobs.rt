@@ -2,12 +2,10 @@
 ghost use Rattle.std.specs.Prelude.{◌≡◌, ◌+◌, ◌<◌, ◌≤◌, ◌∷◌, ℕ, List, [], false, true, Ok, Err, length};
 ghost use Rattle.std.specs.Prelude.{if◌then◌else◌, IfOk, IfSome, IfNone, OnOk};
 ghost use Rattle.twkb_tree.specs.Rows.{Row};
-ghost use Rattle.twkb_io.specs.Taps.{count_failure};
-ghost use Rattle.twkb_io.specs.Inputs.{given, held_of, input_failures, input_tap, is_spent};
 ghost use Rattle.twkb_engine.specs.State.{allowance_of};
 ghost use Rattle.twkb_engine.specs.Standing.{StandsAt, IsAlive, count_of, place_in};
-ghost use Rattle.twkb_blob.specs.Readers.{Left, failed_by_read};
-ghost use Rattle.twkb_blob.specs.Feeding.{EndsAt, Feeds, Fills, Reads, Turns, with_one};
+ghost use Rattle.twkb_blob.specs.Readers.{failed_by_read};
+ghost use Rattle.twkb_blob.specs.Feeding.{EndsAt, Feeds, Reads, with_one};
 
 use crate::fault::{BlobFault, fault_at};
 use std::io::Read;
@@ -108,63 +106,10 @@ pub(crate) fn at_end(engine: &Engine) -> Result<(), BlobFault>
     })
 }
 
-// Reads if the input holds no bytes, and returns true if it then holds some. At the input's end it
-// returns false if no blob is begun, else `Truncated`. An input that fails is a `Device` fault.
-#[inline(always)]
-fn fill_held<R: Read>(input: &mut Input<'_, R>, engine: &Engine) -> Result<bool, BlobFault>
-    ensures same_tap { (input_tap input.new).ghost_name ≡ (input_tap input.old).ghost_name }
-    ensures failures { input_failures input.new ≡ count_failure (failed_by_read result) (input_failures input.old) }
-    ensures left { Left input.old input.new [] }
-    ensures some { result ≡ Ok true → 0 < length (held_of input.new) }
-    ensures live { OnOk result (is_spent input.new ≡ false) }
-    ensures filled { (bs : List ℕ) (rs : List Row) → StandsAt bs rs engine.now
-        → Fills (allowance_of engine.now) engine.now.start bs input.old input.new result }
-{
-    // learnt: where the engine stands, the bytes end inside a blob, or there are none
-    let _learnt = engine.is_between();
-    if let Err(fault) = input.fill() {
-        return Err(BlobFault::Device(fault));
-    }
-    if !input.held().is_empty() {
-        return Ok(true);
-    }
-    match at_end(engine) {
-        Ok(()) => Ok(false),
-        Err(fault) => Err(fault),
-    }
-}
-
-// Feeds an engine the held bytes of an input, up to the end of a blob, and counts them as given
-// out; returns whether a blob ended. After an `Err` the input still holds them.
-#[inline(always)]
-fn feed_held<R: Read, S: SpanNotes>(
-    input: &mut Input<'_, R>,
-    engine: &mut Engine,
-    flat: &mut Flat,
-    spans: &mut S,
-) -> Result<bool, BlobFault>
-    requires counted { place_in engine.old ≤ MAX_BYTES }
-    requires alive { IsAlive flat.old engine.old }
-    requires live { is_spent input.old ≡ false }
-    requires some { 0 < length (held_of input.old) }
-    ensures few { OnOk result (engine.new.start + count_of engine.new ≤ MAX_BYTES) }
-    ensures alive { IfOk result (λ ends. IsAlive (if ends then [] else flat.new) engine.new) }
-    ensures given { result ≡ Ok false → given input.old < given input.new }
-    ensures fed { Turns S.holds engine.old flat.old spans.old input.old input.new result engine.new flat.new spans.new }
-{
-    let piece = input.held();
-    match feed_piece(engine, flat, spans, piece) {
-        Ok((used, ends)) => {
-            input.advance(used);
-            Ok(ends)
-        }
-        Err(fault) => Err(fault),
-    }
-}
-
 // Reads the next blob of an input, its rows into `flat` and its spans into `spans`, and returns
 // true; no byte after the blob leaves the input. It returns false if the input ends before another
-// blob begins. After an `Err` rows and spans of a part of the blob may be left.
+// blob begins. If it ends inside a blob, that is `Truncated`; if it fails or goes past 2^62 bytes,
+// it is a `Device` fault. After an `Err` rows and spans of a part of the blob may be left.
 #[inline(always)]
 pub(crate) fn read_blob<R: Read, S: SpanNotes>(
     input: &mut Input<'_, R>,
@@ -180,14 +125,25 @@ pub(crate) fn read_blob<R: Read, S: SpanNotes>(
         flat.new spans.new }
 {
     loop {
-        match fill_held(input, engine) {
-            Ok(true) => {}
-            Ok(false) => return Ok(false),
-            Err(fault) => return Err(fault),
+        // learnt: where the engine stands, the bytes end inside a blob, or there are none
+        let _learnt = engine.is_between();
+        if let Err(fault) = input.fill() {
+            return Err(BlobFault::Device(fault));
         }
-        match feed_held(input, engine, flat, spans) {
-            Ok(false) => {}
-            Ok(true) => return Ok(true),
+        let piece = input.held();
+        if piece.is_empty() {
+            match at_end(engine) {
+                Ok(()) => return Ok(false),
+                Err(fault) => return Err(fault),
+            }
+        }
+        match feed_piece(engine, flat, spans, piece) {
+            Ok((used, ends)) => {
+                input.advance(used);
+                if ends {
+                    return Ok(true);
+                }
+            }
             Err(fault) => return Err(fault),
         }
     }

@@ -52,8 +52,8 @@ pub struct Reader<'a, R: Read> {
 }
 
 impl<'a, R: Read> Reader<'a, R> {
-    ghost use Rattle.twkb_blob.specs.Readers.{reader_input, reader_limits, is_spent, has_ended, ready_at, IsNext};
-    ghost use Rattle.twkb_blob.specs.Readers.{IfGoingOn, IsAbreast, IsNextFlat, PartAhead, ReadsNext};
+    ghost use Rattle.twkb_blob.specs.Readers.{reader_input, reader_limits, is_spent, has_ended, IsNext};
+    ghost use Rattle.twkb_blob.specs.Readers.{IfGoingOn, IsAbreast, PartAhead, ReadsNext, ReadsRows};
     ghost use Rattle.twkb_blob.specs.Located.{IsLocated, ReadsInto};
 
     /// Makes a reader of what the input still has, which reads nothing yet. The limits are those of
@@ -97,16 +97,10 @@ impl<'a, R: Read> Reader<'a, R> {
     /// of it and of the others may be mixed. It takes memory for rows and points past the room of
     /// the form, and anew in each call for ids and open collections.
     pub fn next_flat(&mut self, alloc: Global, flat: &mut Flat) -> Result<bool, BlobFault>
-        ensures shared { ReadsNext false self.old self.new result }
-        ensures next { is_spent self.old ≡ false → has_ended self.old ≡ false
-            → IsNextFlat (reader_limits self.old) (reader_input self.old) (reader_input self.new)
-            result flat.new }
-        ensures memory { result ≡ Err BlobFault.Memory → PartAhead (reader_limits self.old) [] (reader_input self.old) }
-        ensures cleared { (result ≡ Ok true) ⊎ (flat.new ≡ []) }
-        ensures some { result ≡ Ok true → 0 < length flat.new }
-        ensures spent { (result ≡ Err BlobFault.Spent) ↔ (is_spent self.old ≡ true) }
+        ensures { ReadsRows self.old self.new result flat.new }
     {
-        self.read_anew(alloc, flat, &mut NoSpans)
+        let mut engine = Engine::new(alloc, self.limits, self.input.offset());
+        self.read_with(&mut engine, flat, &mut NoSpans)
     }
 
     /// Reads the next geometry as `next` does, and returns it with the spans of its headers, whose
@@ -122,42 +116,13 @@ impl<'a, R: Read> Reader<'a, R> {
     {
         let mut flat = Flat::new(alloc);
         let mut notes = OpenSpans::new(alloc);
-        if !self.read_anew(alloc, &mut flat, &mut notes)? {
+        let mut engine = Engine::new(alloc, self.limits, self.input.offset());
+        if !self.read_with(&mut engine, &mut flat, &mut notes)? {
             return Ok(None);
         }
         let geometry = self.tree_of(alloc, &flat)?;
         let spans = Spans { notes };
         Ok(Some(Located { geometry, spans }))
-    }
-
-    // Whether a further blob is to be read: false after the end, and `Spent` after an `Err`.
-    #[inline(always)]
-    fn is_ready(&self) -> Result<bool, BlobFault>
-        ensures { result ≡ ready_at self.now.state }
-    {
-        match self.state {
-            State::Ready => Ok(true),
-            State::Ended => Ok(false),
-            State::Spent => Err(BlobFault::Spent),
-        }
-    }
-
-    // Reads the next blob as `read_with` does, with a new engine, which begins where the input is.
-    #[inline(always)]
-    fn read_anew<S: SpanNotes>(
-        &mut self,
-        alloc: Global,
-        flat: &mut Flat,
-        spans: &mut S,
-    ) -> Result<bool, BlobFault>
-        requires no_notes { S.holds spans.old no_notes }
-        ensures shared { ReadsNext false self.old self.new result }
-        ensures read { IfGoingOn self.old (ReadsInto S.holds (reader_limits self.old)
-            (reader_input self.old) (reader_input self.new) result flat.new spans.new) }
-        ensures cleared { (result ≡ Ok true) ⊎ (flat.new ≡ []) }
-    {
-        let mut engine = Engine::new(alloc, self.limits, self.input.offset());
-        self.read_with(&mut engine, flat, spans)
     }
 
     // Reads the next blob with an engine that keeps pace: replaces the rows of a form by its rows,
@@ -179,8 +144,10 @@ impl<'a, R: Read> Reader<'a, R> {
         ensures abreast { IsAbreast self.new engine.new }
     {
         flat.clear();
-        if !self.is_ready()? {
-            return Ok(false);
+        match self.state {
+            State::Ready => {}
+            State::Ended => return Ok(false),
+            State::Spent => return Err(BlobFault::Spent),
         }
         let found = read_blob(&mut self.input, engine, flat, spans);
         if let Ok(true) = found {

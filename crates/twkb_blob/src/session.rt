@@ -33,7 +33,7 @@ pub struct Session {
 impl Session {
     ghost use Rattle.twkb_blob.specs.Sessions.{Stands, FedFlat, FedSession, Finished, HeldOf, FramesOf, begun_rows};
     ghost use Rattle.twkb_blob.specs.Sessions.{with_end, is_spent, session_limits, session_held, session_open};
-    ghost use Rattle.twkb_blob.specs.Sessions.{session_rows};
+    ghost use Rattle.twkb_blob.specs.Sessions.{session_rows, FeedsOn};
 
     /// Makes a session that has taken no byte. The limits are those of each geometry. Takes no
     /// memory.
@@ -152,10 +152,7 @@ impl Session {
         ensures fed { (bytes : List ℕ) (gs : List Tree) → Stands bytes gs self.old
             → FedFlat bytes gs piece.now (with_end self.new.is_whole result) self.new }
         ensures within { IfOk result (λ used. used ≤ length piece.now) }
-        ensures unread { failed_by_read result ≡ false }
-        ensures spent { (result ≡ Err BlobFault.Spent) ↔ (is_spent self.old ≡ true) }
-        ensures stays { is_spent self.new ≡ is_err result }
-        ensures limits { session_limits self.new ≡ session_limits self.old }
+        ensures kept { FeedsOn self.old self.new result }
     {
         if self.spent {
             return Err(BlobFault::Spent);
@@ -179,10 +176,7 @@ impl Session {
         ensures fed { (bytes : List ℕ) (gs : List Tree) → Stands bytes gs self.old
             → FedFlat bytes gs piece.now (with_end self.new.is_whole result) self.new }
         ensures within { IfOk result (λ used. used ≤ length piece.now) }
-        ensures unread { failed_by_read result ≡ false }
-        ensures unspent { (result ≡ Err BlobFault.Spent) → ⊥ }
-        ensures stays { is_spent self.new ≡ is_err result }
-        ensures limits { session_limits self.new ≡ session_limits self.old }
+        ensures kept { FeedsOn self.old self.new result }
     {
         // nothing is known of an engine that refused
         self.spent = true;
@@ -207,10 +201,7 @@ impl Session {
         ensures fed { (bytes : List ℕ) (gs : List Tree) → Stands bytes gs self.old
             → FedFlat bytes gs (byte ∷ []) (with_end self.new.is_whole result) self.new }
         ensures one { IfOk result (λ used. used ≡ 1) }
-        ensures unread { failed_by_read result ≡ false }
-        ensures unspent { (result ≡ Err BlobFault.Spent) → ⊥ }
-        ensures stays { is_spent self.new ≡ is_err result }
-        ensures limits { session_limits self.new ≡ session_limits self.old }
+        ensures kept { FeedsOn self.old self.new result }
     {
         match feed_one(&mut self.engine, &mut self.rows.flat, &mut NoSpans, byte) {
             Ok(ends) => {
@@ -247,7 +238,8 @@ impl Session {
         &self.rows.flat
     }
 
-    /// The form that `flat` gives, whose rows give their points as slices. Takes no memory.
+    /// The rows that `flat` gives, in a form that gives the points of each as a slice. Takes no
+    /// memory.
     pub fn rows(&self) -> &Rows
         ensures { result.now.flat ≡ session_rows self.now }
     {

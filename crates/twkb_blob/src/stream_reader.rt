@@ -1,6 +1,7 @@
 //! The blobs of an input, one after another, through one engine and one form.
-ghost use Rattle.std.specs.Prelude.{◌≡◌, ◌≤◌, ◌^◌, [], false};
+ghost use Rattle.std.specs.Prelude.{◌≡◌, ◌≤◌, [], false};
 ghost use Rattle.std.proofs.Props.{props};
+ghost use Rattle.twkb_engine.specs.Caps.{place_cap};
 ghost use Rattle.twkb_engine.specs.State.{allowance_of};
 ghost use Rattle.twkb_engine.specs.Standing.{StandsAt};
 ghost use Rattle.twkb_blob.specs.Readers.{IsAbreast};
@@ -39,7 +40,7 @@ impl StreamRoom {
     // Replaces the engine by a new one, for a blob at this offset of a stream and with these
     // limits, and forgets the rows, whose memory stays.
     fn restart(&mut self, limits: Limits, start: u64)
-        requires room { start ≤ 2 ^ 63 }
+        requires room { start ≤ place_cap }
         ensures stands { StandsAt [] [] self.new.engine }
         ensures limits { allowance_of self.new.engine ≡ limits }
         ensures start { self.new.engine.start ≡ start }

@@ -18,6 +18,19 @@ use Rattle.twkb_body.specs.Reading.{Pair, sums_past, point_after}
 use Rattle.twkb_body.specs.Noting.{NotedOutline}
 use Rattle.twkb_body.proofs.Outlined.{noted_item}
 
+-- the notes after the x of a point that was expected
+pub noted_x : (limits : Allowance) (front : List ℕ) (e : Sums) (gs : List FrameOutline) (h : Head)
+    (f : BodyForm) (ids : Ids) (lefts : List ℕ) (rs : List Row) (told : ℕ → Notes) (bytes : List ℕ)
+    (to : Point)
+    → NotedOutline limits front e (gs, OnBody h f ids (Wanted 0 lefts)) rs told
+    → (p : Pair e.position bytes to)
+    → NotedOutline limits (front ++ p.x_bytes) (added e (record { role = X; number = p.x; bytes = p.x_bytes }))
+    (gs, OnBody h f ids (WantedY lefts)) rs told
+noted_x limits front e gs h f ids lefts rs told bytes to r p =
+    noted_item limits front e (gs, OnBody h f ids (Wanted 0 lefts)) rs told
+    (record { role = X; number = p.x; bytes = p.x_bytes }) r refl p.x_spelled
+    (ap (λ b. unless (not b) CoordinateRange None) p.x_kept)
+
 -- the notes after a point that was expected
 pub noted_point : (limits : Allowance) (front : List ℕ) (e : Sums) (gs : List FrameOutline) (h : Head)
     (f : BodyForm) (ids : Ids) (lefts : List ℕ) (rs : List Row) (told : ℕ → Notes) (bytes : List ℕ)
@@ -29,8 +42,7 @@ noted_point limits front e gs h f ids lefts rs told bytes to r p =
     let i : Item = record { role = X; number = p.x; bytes = p.x_bytes } in
     let j : Item = record { role = Y; number = p.y; bytes = p.y_bytes } in
     let a : NotedOutline limits (front ++ p.x_bytes) (added e i) (gs, OnBody h f ids (WantedY lefts)) rs told =
-    noted_item limits front e (gs, OnBody h f ids (Wanted 0 lefts)) rs told i r refl p.x_spelled
-    (ap (λ b. unless (not b) CoordinateRange None) p.x_kept) in
+    noted_x limits front e gs h f ids lefts rs told bytes to r p in
     let there : point_at (e.position.x +ℤ unzigzag_of p.x) (e.position.y +ℤ unzigzag_of p.y) ≡ to = sym p.leads in
     let b : NotedOutline limits ((front ++ p.x_bytes) ++ p.y_bytes) (added (added e i) j)
     (gs, shut h f ids 0 lefts)

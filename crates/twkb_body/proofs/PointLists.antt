@@ -9,12 +9,12 @@ use Rattle.twkb_tree.specs.declared.limits.TheConstants.{POINTS_CAP}
 use Rattle.twkb_tree.specs.Rows.{Row, row_points}
 use Rattle.twkb_tree.specs.RowGrowth.{EndsInLine, point_added, points_added}
 use Rattle.twkb_body.specs.Front.{PointInFront, PointsInFront}
-use Rattle.twkb_body.specs.Running.{ListGoesOn, ListStops, in_list}
+use Rattle.twkb_body.specs.Running.{ListGoesOn, ListStops, StageRuns, in_list}
 use Rattle.twkb_body.specs.declared.list_points.Taken.{Taken}
 use Rattle.twkb_body.proofs.LinePoints.{ends_again, one_point_more}
 use Rattle.twkb_body.proofs.Pieces.{one_within}
 use Rattle.twkb_body.proofs.StepsInFront.{points_in_front}
-use Rattle.twkb_body.proofs.PointRuns.{list_runs, stage_none, stage_more, stage_judged, stage_stops}
+use Rattle.twkb_body.proofs.PointRuns.{list_runs, list_judged, stage_none, stage_more, stage_stops}
 
 -- no points
 pub list_none : (rs : List Row) (from : Point) (bytes : List ℕ) (most : ℕ) → EndsInLine rs
@@ -24,8 +24,9 @@ list_none rs from bytes most line room = record {
   leads = record {
     within = omega arith;
     few = omega arith;
-    run = λ h f ids outer listed same.
-        stage_none h (in_list h f ids most outer) rs from;
+    long = omega arith;
+    run = λ h f ids outer others listed same.
+        stage_none h (in_list h f ids (most + others) outer) rs from;
   };
   line = line;
   room = room;
@@ -41,9 +42,10 @@ list_on {bytes = bytes} {t = t} {u = u} a b = record {
   leads = record {
     within = one_within bytes t.used u.used a.leads.within b.leads.within;
     few = omega (arith, a.leads.few, b.leads.few);
-    run = λ h f ids outer listed same.
-        stage_more h _ _ _ _ _ _ _ _ _ bytes t.used u.used (a.leads.run h f ids outer listed same)
-        (b.leads.run h f ids outer listed same);
+    long = omega (arith, a.leads.long, b.leads.long);
+    run = λ h f ids outer others listed same.
+        stage_more h _ _ _ _ _ _ _ _ _ bytes t.used u.used (a.leads.run h f ids outer others listed same)
+        (b.leads.run h f ids outer others listed same);
   };
   line = b.line;
   room = b.room;
@@ -54,33 +56,37 @@ pub list_stops_on : {rs mid : List Row} {most left : ℕ} {from : Point} {bytes 
     → ListGoesOn rs from bytes most t left mid
     → ListStops mid t.position left (take (length bytes - t.used) (drop t.used bytes))
     → ListStops rs from most bytes
-list_stops_on {bytes = bytes} {t = t} a stops = λ h f ids outer listed same.
-    stage_stops h _ _ _ _ _ _ bytes t.used a.leads.within (a.leads.run h f ids outer listed same)
-    (stops h f ids outer listed same)
+list_stops_on {bytes = bytes} {t = t} a stops = λ h f ids outer others listed same.
+    stage_stops h _ _ _ _ _ _ bytes t.used a.leads.within (a.leads.run h f ids outer others listed same)
+    (stops h f ids outer others listed same)
 
 -- one point
 pub list_one : {rs more : List Row} {most count : ℕ} {from p : Point} {bytes : List ℕ}
     → EndsInLine rs → length (row_points rs) + most ≤ POINTS_CAP → 0 < most
     → PointInFront from bytes p count → more ≡ point_added p rs
     → ListGoesOn rs from bytes most (record { used = count; position = p }) (most - 1) more
-list_one {rs = rs} {more = more} {most = most} {p = p} line room some cut added = record {
-  leads = record {
-    within = cut.within;
-    few = omega arith;
-    run = λ h f ids outer listed same.
-        list_runs h f ids outer rs more most _ _ p _ some listed same cut added;
-  };
-  line = subst EndsInLine (sym added) (ends_again p rs line);
-  room = omega (arith, room, ap (λ (l : List Row). length (row_points l)) added, one_point_more p rs line);
-}
+list_one {rs = rs} {more = more} {most = most} {count = count} {from = from} {p = p} {bytes = bytes}
+    line room some cut added = record {
+      leads = record {
+        within = cut.within;
+        few = omega arith;
+        long = omega (arith, cut.some);
+        run = λ h f ids outer others listed same.
+            let less : (most + others) - 1 ≡ (most - 1) + others = omega (arith, some) in
+            subst (λ n. StageRuns h (in_list h f ids (most + others) outer) rs from (take count bytes)
+            (in_list h f ids n outer) more p) less
+            (list_runs h f ids outer rs more (most + others) count from p bytes (omega (arith, some))
+            listed same cut added);
+      };
+      line = subst EndsInLine (sym added) (ends_again p rs line);
+      room = omega (arith, room, ap (λ (l : List Row). length (row_points l)) added, one_point_more p rs line);
+    }
 
 -- a point for which there is no memory
 pub list_one_stop : (rs : List Row) (most count : ℕ) (from p : Point) (bytes : List ℕ) → 0 < most
     → PointInFront from bytes p count → ListStops rs from most bytes
-list_one_stop rs most count from p bytes some cut = λ h f ids outer listed same.
-    stage_judged h _ (in_list h f ids (most - 1) outer) rs _ from p bytes count
-    cut.some cut.within tt
-    (list_runs h f ids outer rs _ most count from p bytes some listed same cut refl)
+list_one_stop rs most count from p bytes some cut = λ h f ids outer others listed same.
+    list_judged h f ids outer rs (most + others) count from p bytes (omega (arith, some)) same cut
 
 -- these points, at most as many as are left
 points_lead : (ps : List Point) (rs more : List Row) (most count : ℕ) (from : Point)

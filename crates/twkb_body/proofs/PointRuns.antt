@@ -1,8 +1,10 @@
 -- Points that are complete at the start of bytes lead a body on; and the bytes up to one for which
 -- there is no memory are a part.
 use Rattle.std.proofs.Common.{Result, Ok, Err, ◌≡◌, ℕ, zero, suc, ◌+◌, ◌-◌, ◌<◌, ◌≤◌, List, [], ◌∷◌, ◌++◌, length}
-use Rattle.std.proofs.Common.{take, drop, refl, sym, ap, ◌∙◌, subst, arith}
+use Rattle.std.proofs.Common.{take, drop, refl, sym, ap, ◌∙◌, subst, arith, length-append}
+use Rattle.std.proofs.lemmas.List.{length-take-le, take-take, take-append-le, take_all}
 use Rattle.std.specs.Prelude.{Option, ℤ, IsErr}
+use Rattle.twkb_num.specs.Varint.{HasMarks}
 use Rattle.twkb_points.specs.Point.{Point}
 use Rattle.twkb_tree.specs.declared.kind.Kind.TheVariants as kinds
 use Rattle.twkb_tree.specs.Tree.{Ids}
@@ -14,8 +16,8 @@ use Rattle.twkb_body.specs.Outline.{FrameOutline, Stage, OnBody, Wanted, shut, n
 use Rattle.twkb_body.specs.Growing.{applied, NewPoint, point_change, id_in}
 use Rattle.twkb_body.specs.Reading.{Pair, sums_past}
 use Rattle.twkb_body.specs.Noting.{NotedOutline}
-use Rattle.twkb_body.specs.JudgedParts.{IsPastEnds}
-use Rattle.twkb_body.proofs.NotedPairs.{noted_point}
+use Rattle.twkb_body.specs.JudgedParts.{IsPastEnds, IsJudged}
+use Rattle.twkb_body.proofs.NotedPairs.{noted_x, noted_point}
 use Rattle.twkb_body.proofs.NotedJoins.{noted_still, noted_join}
 use Rattle.twkb_body.proofs.Judging.{outlined_judged, part_further}
 use Rattle.twkb_body.proofs.Pieces.{used_join, one_within}
@@ -98,6 +100,34 @@ point_runs h f ids rs from to bytes lefts used cut = λ limits e front gs told a
     (gs, shut (head_of h) f ids 0 lefts) (applied k rs) told)
     (same_change to gs h f (first_id ids) i.placed) next
 
+-- a varint has bytes
+marked_some : (bytes : List ℕ) → HasMarks bytes → 0 < length bytes
+marked_some [] h = absurd h
+marked_some (b ∷ bs) h = omega arith
+
+-- a point for which there is no memory: its x was judged
+point_judged : (h : Head) (f : BodyForm) (ids : Ids) (rs : List Row) (from to : Point)
+    (bytes lefts : List ℕ) (used : ℕ) → PointInFront from bytes to used
+    → StageStops h (OnBody (head_of h) f ids (Wanted 0 lefts)) rs from bytes
+point_judged h f ids rs from to bytes lefts used cut = λ limits e front gs told at i.
+    let p = subst (λ q. Pair q (take used bytes) to) (sym at) cut.pair in
+    let xs = p.x_bytes in
+    let fits : length xs + length p.y_bytes ≡ used =
+    sym (length-append xs p.y_bytes) ∙ (ap length (sym p.whole) ∙ length-take-le used bytes cut.within) in
+    let within : length xs ≤ used = omega (arith, fits) in
+    let is : take (length xs) bytes ≡ xs =
+    sym (take-take (length xs) used bytes within)
+    ∙ (ap (λ l. take (length xs) l) p.whole
+    ∙ (take-append-le (length xs) xs p.y_bytes (omega arith) ∙ take_all (length xs) xs (omega arith))) in
+    record {
+      used = length xs;
+      some = marked_some xs p.x_spelled.marked;
+      within = omega (arith, within, cut.within);
+      part = subst (λ l. IsJudged limits (front ++ l)) (sym is)
+          (outlined_judged limits (front ++ xs) _ _ rs
+          (noted_x limits front e gs (head_of h) f ids lefts rs told _ to i.outlined p).outlined tt);
+    }
+
 -- ---- a point of a list
 
 -- a point comes to the last row
@@ -110,7 +140,7 @@ comes MultiPointForm to d id precision member h = absurd h
 comes MultiLineForm to d id precision member h = refl
 comes MultiPolygonForm to d id precision member h = refl
 
--- one point leads on to the next of its list
+-- one point leads on to the next of its list, or to the end of the list
 pub list_runs : (h : Head) (f : BodyForm) (ids : Ids) (lefts : List ℕ) (rs more : List Row)
     (left used : ℕ) (from to : Point) (bytes : List ℕ) → 0 < left → HasLists f
     → next_ids lefts ids ≡ ids → PointInFront from bytes to used → more ≡ point_added to rs
@@ -120,20 +150,30 @@ list_runs h f ids lefts rs more zero used from to bytes some listed same cut add
     absurd (omega (arith, some))
 list_runs h f ids lefts rs more (suc left) used from to bytes some listed same cut added =
     let less : suc left - 1 ≡ left = omega arith in
-    let Runs : Stage → List Row → Type 0 = λ s l.
-    StageRuns h (in_list h f ids (suc left) lefts) rs from (take used bytes) s l to in
+    let Runs : Ids → List Row → Type 0 = λ i l.
+    StageRuns h (OnBody (head_of h) f i (Wanted 0 (left ∷ lefts))) rs from (take used bytes)
+    (in_list h f ids left lefts) l to in
     let change = comes f to h.depth h.id h.precision (first_id ids) listed in
     rw less
-    (subst (λ i. Runs (in_list h f i left lefts) more) same
-    (subst (λ l. Runs (shut (head_of h) f ids 0 (suc left ∷ lefts)) l)
-    (ap (λ c. applied c rs) change ∙ sym added)
-    (point_runs h f ids rs from to bytes (suc left ∷ lefts) used cut)))
+    (subst (λ i. Runs i more) (sym same)
+    (subst (λ l. Runs ids l) (ap (λ c. applied c rs) change ∙ sym added)
+    (point_runs h f ids rs from to bytes (left ∷ lefts) used cut)))
+
+-- there is no memory for one, of which the x was judged
+pub list_judged : (h : Head) (f : BodyForm) (ids : Ids) (lefts : List ℕ) (rs : List Row)
+    (left used : ℕ) (from to : Point) (bytes : List ℕ) → 0 < left
+    → next_ids lefts ids ≡ ids → PointInFront from bytes to used
+    → StageStops h (in_list h f ids left lefts) rs from bytes
+list_judged h f ids lefts rs zero used from to bytes some same cut = absurd (omega (arith, some))
+list_judged h f ids lefts rs (suc left) used from to bytes some same cut =
+    subst (λ i. StageStops h (OnBody (head_of h) f i (Wanted 0 (left ∷ lefts))) rs from bytes)
+    (sym same) (point_judged h f ids rs from to bytes (left ∷ lefts) used cut)
 
 -- ---- a member of a multipoint
 
 -- a member comes next, with so many after it
 abbrev in_members : Head → Ids → (left : ℕ) → Stage
-in_members h ids left = in_list h MultiPointForm ids left []
+in_members h ids left = OnBody (head_of h) MultiPointForm ids (Wanted 0 (left ∷ []))
 
 -- one leads to the next
 member_runs : (h : Head) (ids others : Ids) (rs more : List Row) (left used : ℕ) (from to : Point)

@@ -9,7 +9,7 @@ use Rattle.twkb_tree.specs.Rows.{Row, row_points}
 use Rattle.twkb_tree.specs.RowGrowth.{EndsInLine}
 use Rattle.twkb_grammar.specs.Machine.{BodyForm, PointForm, MultiPointForm, Many, Sums}
 use Rattle.twkb_grammar.specs.Noting.{Notes}
-use Rattle.twkb_body.specs.Outline.{FrameOutline, Stage, OnId, OnBody, Wanted, next_ids}
+use Rattle.twkb_body.specs.Outline.{FrameOutline, Stage, OnId, OnBody, Wanted, shut, next_ids}
 use Rattle.twkb_body.specs.Growing.{id_in}
 use Rattle.twkb_body.specs.Reading.{sums_past}
 use Rattle.twkb_body.specs.Noting.{NotedOutline}
@@ -45,27 +45,32 @@ StageStops h s rs from bytes = (limits : Allowance) (e : Sums) (front : List ℕ
     (told : ℕ → Notes) → e.position ≡ from → WantedIn limits front e gs told h s rs
     → PartIn limits front bytes
 
--- a point comes next in a list of this form and with these ids, with this number after it, inside other lists
+-- in a list of points of this form and with these ids, inside other lists, with so many points still
+-- to come: the next one, or the end of the list
 abbrev pub in_list : Head → BodyForm → Ids → (left : ℕ) → (outer : List ℕ) → Stage
-in_list h f ids left outer = OnBody (head_of h) f ids (Wanted 0 (left ∷ outer))
+in_list h f ids left outer = shut (head_of h) f ids 0 (left ∷ outer)
 
--- wherever a point of a list comes to the last row, with `most` after it, the bytes lead on to a
--- point with `left` after it
+-- wherever `most` points of a list come to the last row, and whatever number of others after them,
+-- the bytes lead on to the last `left` of these, or past all
 abbrev pub ListRuns : List Row → Point → ℕ → List ℕ → ℕ → List Row → Point → Type 0
 ListRuns rs from most bytes left more to = (h : Head) (f : BodyForm) (ids : Ids) (outer : List ℕ)
-    → HasLists f → next_ids outer ids ≡ ids
-    → StageRuns h (in_list h f ids most outer) rs from bytes (in_list h f ids left outer) more to
+    (others : ℕ) → HasLists f → next_ids outer ids ≡ ids
+    → StageRuns h (in_list h f ids (most + others) outer) rs from bytes
+    (in_list h f ids (left + others) outer) more to
 
--- wherever a point of a list comes to the last row, a prefix of the bytes ends a part that was judged
+-- wherever `most` points of a list come to the last row, and whatever number of others after them,
+-- a prefix of the bytes ends a part that was judged
 abbrev pub ListStops : List Row → Point → ℕ → List ℕ → Type 0
-ListStops rs from most bytes = (h : Head) (f : BodyForm) (ids : Ids) (outer : List ℕ) → HasLists f
-    → next_ids outer ids ≡ ids → StageStops h (in_list h f ids most outer) rs from bytes
+ListStops rs from most bytes = (h : Head) (f : BodyForm) (ids : Ids) (outer : List ℕ) (others : ℕ)
+    → HasLists f → next_ids outer ids ≡ ids
+    → StageStops h (in_list h f ids (most + others) outer) rs from bytes
 
--- these points of a list were taken, at most `most`, and the others are left
+-- these points of a list were taken, at most `most`, each of a byte or more, and the others are left
 pub record ListLeads (rs : List Row) (from : Point) (bytes : List ℕ) (most : ℕ) (t : Taken)
     (left : ℕ) (more : List Row) : Type 0 where
   pub within : t.used ≤ length bytes
   pub few : left ≤ most
+  pub long : most ≤ left + t.used
   pub run : ListRuns rs from most (take t.used bytes) left more t.position
 
 -- what a call answers that takes points of a list

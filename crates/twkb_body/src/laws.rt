@@ -100,9 +100,10 @@ pub fn reading()
         → bytes ≢ [] → HasBytes role → FirstFault limits bytes e.bytes Truncated }
 {}
 
-/// The rows so far can take the change of the next item if there is no objection to the item,
-/// whether or not the sizes that end with it are exact (`item`). They can also take the change of
-/// a point's two numbers at once (`point`).
+/// The rows so far can take the change of the next item, within the largest limits, if there is no
+/// objection to the item, whether or not the sizes that end with it are exact (`item`). If a point
+/// is expected, and its two numbers lead to a point in range, they can also take the change of both
+/// at once (`point`).
 pub fn admitting()
     ensures item { (limits : Allowance) → IsAllowance limits
         → (bytes : List ℕ) (e : Sums) (o : Outline) (rs : List Row) (i : Item)

@@ -31,10 +31,10 @@ const NEAR: usize = 16;
 // How many points are taken at once from a block.
 const POINTS: u64 = POINTS_AT_ONCE as u64;
 
-/// Appends to the last row the points that are complete at the start of the bytes, at most `most`,
-/// each by its steps from the one before, the first from `from`; returns what was taken, and how
-/// many of `most` are left. Takes memory. Points that lie near one another are read eight or two at
-/// a time.
+/// Appends to the last row the points at the start of the bytes, at most `most`, each by its steps
+/// from the one before, the first from `from`; it stops before one that is cut, too long or out of
+/// range. Returns what was taken, and how many of `most` are left. Takes memory; after an `Err` the
+/// points appended so far stay. Points that lie near one another are read eight or two at a time.
 // One function, as its loop with the choice of the next step in another took up to 6 in 1000
 // instructions more.
 #[inline(always)]
@@ -75,9 +75,10 @@ pub fn take_row(
     Ok((Taken { used, position }, left))
 }
 
-// Appends the next two points of a list to the last row, or one; `None` if the next is not complete.
-// Takes memory. Two only after points that lie near: `pair_bytes` is how many bytes the last two had, or
-// twice those of the last one.
+// Appends the next two points of a list to the last row, or one. Returns what was taken, and how
+// many of `most` are left; `None` if the next is cut, too long or out of range. Takes memory. Two
+// only if their numbers are short, and at the start or after points that lie near: `pair_bytes` is
+// 0 at the start, and becomes how many bytes the two had, or twice those of the one.
 #[inline(always)]
 fn take_few(
     flat: &mut Flat,
@@ -106,8 +107,9 @@ fn take_few(
     Ok(Some((Taken { used, position }, most - 1)))
 }
 
-// Appends points of a list to the last row, eight at a time, as long as their numbers are found in
-// blocks, at most `most`; returns what was taken, and how many of `most` are left. Takes memory.
+// Appends points of a list to the last row, eight at a time, as long as `eight_points` reads them
+// and eight or more of `most` are left. Returns what was taken, which may be nothing, and how many
+// of `most` are left. Takes memory; after an `Err` the points appended so far stay.
 #[inline(never)]
 fn take_eights(
     flat: &mut Flat,
@@ -140,8 +142,10 @@ fn take_eights(
     Ok((Taken { used, position }, left))
 }
 
-/// Takes members of a multipoint, whose rows are at this depth and after a member's row, as far as
-/// they are complete, at most `most`; and how many of these are left. Takes memory.
+/// Appends members of a multipoint, at most `most`, as rows at this depth after the row of a
+/// member, each with its id if members have ids; such an id leaves `ids`. It stops before a point
+/// that is cut, too long or out of range, or for which no id is left. Returns what was taken, and
+/// how many of `most` are left. Takes memory; after an `Err` the rows appended so far stay.
 pub fn take_members(
     flat: &mut Flat,
     ids: &mut MemberIds,

@@ -164,8 +164,8 @@ beyond_product number factor exponent leading some large whole near =
     let power : 2 ^ 11 ≤ 2 ^ (exponent - 1075) = power_more 11 (exponent - 1075) (omega arith) in
     let product = mul-le (2 ^ 52) (2 ^ 11) number (2 ^ (exponent - 1075)) leading power in
     let above = mul-le (2 ^ 63) 1 (number * 2 ^ (exponent - 1075)) factor product some in
-    let least = nearest_from (number * 2 ^ (exponent - 1075) * factor) 1 (2 ^ 63) whole (omega (arith, above))
-    (rw none at near) in
+    let least = nearest_from (number * 2 ^ (exponent - 1075) * factor) 1 (COORDINATE_BOUND + 1) whole
+    (omega (arith, above)) (rw none at near) in
     omega (arith, least)
 
 -- a number that is beyond the coordinates after it is divided
@@ -175,7 +175,7 @@ beyond_quotient number divisor exponent leading few large whole near =
     let none : 1075 - exponent ≡ 0 = omega arith in
     let power : 2 ^ 37 ≤ 2 ^ (exponent - 1075) = power_more 37 (exponent - 1075) (omega arith) in
     let product = mul-le (2 ^ 52) (2 ^ 37) number (2 ^ (exponent - 1075)) leading power in
-    let least = nearest_from (number * 2 ^ (exponent - 1075) * 1) (1 * divisor) (2 ^ 62 + 1) whole
+    let least = nearest_from (number * 2 ^ (exponent - 1075) * 1) (1 * divisor) (COORDINATE_BOUND + 1) whole
     (omega (arith, product)) (rw none at near) in
     omega (arith, least)
 

@@ -9,7 +9,7 @@ use Rattle.std.proofs.Math.Nat.{one-le-pow, pow-le-pow_right}
 use Rattle.twkb_points.specs.Point.{IsCoordinate}
 use Rattle.twkb_buffer.specs.Binary64.{IsFinite, with_sign}
 use Rattle.twkb_buffer.specs.Fractions.{IsNearest}
-use Rattle.twkb_buffer.specs.Rounding.{FindsUnit, IsUnit, RoundsFront, above, below}
+use Rattle.twkb_buffer.specs.RoundedNumbers.{FindsUnit, IsUnit, RoundsFront, above, below}
 use Rattle.twkb_buffer.proofs.FractionLemmas.{IsNearest-one}
 
 -- a power of ten with few zeros

@@ -10,4 +10,4 @@ pub mod Polylines
 pub mod Fractions
 pub mod Binary64
 pub mod Scales
-pub mod Rounding
+pub mod RoundedNumbers

@@ -2,25 +2,25 @@
 #![tactic(auto)]
 
 mod binary64;
+mod filled_slice;
 mod filler;
-mod filling;
 mod fractions;
 pub mod laws;
-mod measuring;
+mod lengths;
 mod point;
 mod polylines;
 mod reason_numbers;
 mod reason_texts;
 mod report;
-mod rounding;
+mod rounded_numbers;
 mod scale;
 
-pub use filling::fill;
-pub use measuring::measure;
+pub use filled_slice::fill;
+pub use lengths::measure;
 pub use point::BufferPoint;
 pub use polylines::{as_coordinates, as_point, fill_points, fill_polyline};
 pub use reason_numbers::{blob_number, row_number};
 pub use reason_texts::{put_reason, put_version};
 pub use report::BufferReport;
-pub use rounding::round_numbers;
+pub use rounded_numbers::round_numbers;
 pub use twkb_convert::Conversion;

@@ -8,10 +8,10 @@ use Rattle.twkb_blob.specs.declared.fault.BlobFault.{BlobFault}
 use Rattle.twkb_blob.specs.declared.fault.BlobFault.TheVariants as fault
 use Rattle.twkb_buffer.specs.declared.point.BufferPoint.{BufferPoint}
 use Rattle.twkb_buffer.specs.declared.report.BufferReport.{BufferReport}
-use Rattle.twkb_arrays.specs.Reading.{ReadsArrays, outcome_of}
+use Rattle.twkb_arrays.specs.FilledArrays.{ReadsArrays, outcome_of}
 use Rattle.twkb_arrays.specs.Rooms.{are_more}
-use Rattle.twkb_arrays.specs.Writing.{WritesArrays}
-use Rattle.twkb_arrays.specs.declared.reading.BufferCounts.{BufferCounts}
+use Rattle.twkb_arrays.specs.WrittenArrays.{WritesArrays}
+use Rattle.twkb_arrays.specs.declared.filled_arrays.BufferCounts.{BufferCounts}
 use Rattle.twkb_arrays.specs.declared.row.BufferRow.{BufferRow}
 use Rattle.twkb_c.specs.Arguments.{IsStyleNumber}
 use Rattle.twkb_c.proofs.ExportLemmas.{one_style}

@@ -6,7 +6,7 @@ use Rattle.twkb_grammar.specs.declared.style.Style.TheVariants.{Full, Plain}
 use Rattle.twkb_convert.specs.declared.conversion.Conversion.{Conversion}
 use Rattle.twkb_convert.specs.declared.conversion.Conversion.TheVariants as conversion
 use Rattle.twkb_buffer.specs.declared.report.BufferReport.{BufferReport}
-use Rattle.twkb_arrays.specs.declared.reading.BufferCounts.{BufferCounts}
+use Rattle.twkb_arrays.specs.declared.filled_arrays.BufferCounts.{BufferCounts}
 use Rattle.twkb_c.specs.declared.arguments.BufferLimits.{BufferLimits}
 
 -- the number of a style

@@ -3,8 +3,8 @@
 ghost use Rattle.std.specs.Prelude.{◌≡◌, ◌<◌};
 ghost use Rattle.twkb_tree.specs.Limits.{IsAllowance};
 ghost use Rattle.twkb_grammar.specs.declared.style.Style.{Style};
-ghost use Rattle.twkb_arrays.specs.Reading.{ReadsArrays};
-ghost use Rattle.twkb_arrays.specs.Writing.{WritesArrays};
+ghost use Rattle.twkb_arrays.specs.FilledArrays.{ReadsArrays};
+ghost use Rattle.twkb_arrays.specs.WrittenArrays.{WritesArrays};
 ghost use Rattle.twkb_c.specs.Arguments.{IsStyleNumber, allowance_of, arguments_counts, arguments_report};
 
 use crate::arguments::{BufferLimits, refused_arguments, refused_counts, style_of};

@@ -6,7 +6,7 @@ ghost use Rattle.twkb_grammar.specs.declared.style.Style.{Style};
 ghost use Rattle.twkb_convert.specs.Version.{version_text};
 ghost use Rattle.twkb_buffer.specs.Conversions.{MeasuresOutput, PacksSlice, ShowsSlice, UnpacksSlice};
 ghost use Rattle.twkb_buffer.specs.Polylines.{DecodesSlice, EncodesSlice, nothing_report};
-ghost use Rattle.twkb_buffer.specs.Rounding.{Rounds};
+ghost use Rattle.twkb_buffer.specs.RoundedNumbers.{Rounds};
 ghost use Rattle.twkb_buffer.specs.Texts.{AreWordsOf, PutsText};
 ghost use Rattle.twkb_convert.specs.declared.conversion.Conversion.{Conversion};
 ghost use Rattle.twkb_c.specs.Arguments.{IsConversionNumber, IsStyleNumber, allowance_of, arguments_report};

@@ -8,7 +8,7 @@ use Rattle.clap.specs.declared.error.kind.ErrorKind.TheVariants.{DisplayHelp, Di
 use Rattle.twkb_io.specs.declared.tap.Tap.{Tap}
 use Rattle.twkb_command.specs.declared.refusal.Refusal.{Refusal}
 use Rattle.twkb_command.specs.declared.refusal.Refusal.TheVariants as refusal
-use Rattle.twkb_command.specs.Carrying.{Refuses, TellsMemory}
+use Rattle.twkb_command.specs.Outcome.{Refuses, TellsMemory}
 use Rattle.twkb_command.specs.Runs.{Answers, LacksMemory}
 use Rattle.twkb_command.specs.Words.{IsRefusal, IsRefusalAmong}
 

@@ -1,7 +1,7 @@
 pub mod Lines
 pub mod Printing
 pub mod ExitCode
-pub mod Carrying
+pub mod Outcome
 pub mod CommandLine
 pub mod Words
 pub mod Runs

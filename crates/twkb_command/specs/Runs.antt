@@ -6,7 +6,7 @@ use Rattle.clap.specs.declared.error.kind.ErrorKind.TheVariants.{DisplayHelp, Di
 use Rattle.twkb_io.specs.declared.tap.Tap.{Tap}
 use Rattle.twkb_convert.specs.declared.report.Cause.TheVariants as cause
 use Rattle.twkb_command.specs.declared.request.Request.{Request}
-use Rattle.twkb_command.specs.Carrying.{CarriesOut}
+use Rattle.twkb_command.specs.Outcome.{CarriesOut}
 use Rattle.twkb_command.specs.Lines.{line_of}
 use Rattle.twkb_command.specs.Printing.{IsPrinted}
 use Rattle.twkb_command.specs.Words.{AsksFor, IsOneRequest}

@@ -2,20 +2,20 @@
 //! ask for is carried out.
 #![tactic(auto)]
 
-mod carrying;
 mod command_line;
 mod exit_code;
 mod help;
 mod lines;
+mod outcome;
 mod refusal;
 mod request;
 mod runs;
 mod words;
 
-pub use carrying::{carry_out, lack_memory, lack_words, refuse};
 pub use exit_code::status;
 pub use lines::print_line;
+pub use outcome::{lack_memory, lack_words};
 pub use refusal::Refusal;
-pub use request::{Request, nested_limits, style_named};
+pub use request::Request;
 pub use runs::run;
 pub use words::read_words;

@@ -13,8 +13,8 @@ pub struct Request {
     pub limits: Limits,
 }
 
-/// The standard limits with a nesting of 0 to 32; `None` if it is greater. Takes no memory.
-pub fn nested_limits(nest: u32) -> Option<Limits>
+// The standard limits with a nesting of 0 to 32; `None` if it is greater. Takes no memory.
+pub(crate) fn nested_limits(nest: u32) -> Option<Limits>
     ensures accepted { IsSome result ↔ (nest ≤ NEST_CAP) }
     ensures value { IfSome result (λ l. l ≡ record standard_limits { nest = nest }) }
 {
@@ -22,8 +22,8 @@ pub fn nested_limits(nest: u32) -> Option<Limits>
     Limits::try_new(nest, standard.nodes(), standard.points())
 }
 
-/// The style with a name: plain for `plain`, full for any other.
-pub fn style_named(name: &str) -> Style
+// The style with a name: plain for `plain`, full for any other.
+pub(crate) fn style_named(name: &str) -> Style
     ensures { (result ≡ Style.Plain) ↔ (name.now ≡ codes "plain") }
 {
     match name {

@@ -4,7 +4,7 @@ ghost use Rattle.clap.specs.Words.{App};
 ghost use Rattle.twkb_command.specs.CommandLine.{IsCommandLine};
 ghost use Rattle.twkb_command.specs.Runs.{Runs};
 
-use crate::carrying::{carry_out, refuse};
+use crate::outcome::{carry_out, refuse};
 use crate::words::read_words;
 use std::alloc::Global;
 use std::io::{Read, Write};

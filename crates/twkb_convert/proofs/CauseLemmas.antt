@@ -9,7 +9,7 @@ use Rattle.twkb_io.specs.declared.output.OutFault.TheVariants as out
 use Rattle.twkb_convert.specs.BlobReading.{Misses, RefusesBlob, Used, is_read}
 use Rattle.twkb_convert.specs.Causes.{cause_of_output}
 use Rattle.twkb_convert.specs.Devices.{is_write}
-use Rattle.twkb_convert.specs.Flushing.{UnlessRefused}
+use Rattle.twkb_convert.specs.LastFlush.{UnlessRefused}
 use Rattle.twkb_convert.specs.Listed.{ExplainsListingCause}
 use Rattle.twkb_convert.specs.declared.report.Cause.TheVariants as cause
 use Rattle.twkb_convert.proofs.LocatedLemmas.{located-stream}

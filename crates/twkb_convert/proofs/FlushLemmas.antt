@@ -8,7 +8,7 @@ use Rattle.twkb_io.specs.Taps.{has_unflushed}
 use Rattle.twkb_io.specs.declared.output.OutFault.TheVariants as out
 use Rattle.twkb_convert.specs.Causes.{after_reads, cause_of_output}
 use Rattle.twkb_convert.specs.Devices.{is_write}
-use Rattle.twkb_convert.specs.Flushing.{Flushes, Leaves, UnlessRefused}
+use Rattle.twkb_convert.specs.LastFlush.{Flushes, Leaves, UnlessRefused}
 use Rattle.twkb_convert.specs.declared.report.Cause.TheVariants as cause
 use Rattle.twkb_convert.proofs.CauseLemmas.{put_refused}
 

@@ -7,7 +7,7 @@ use Rattle.twkb_convert.proofs.Prelude.{Allowance, Reader, Located, LocatedStrea
 use Rattle.twkb_convert.proofs.Prelude.{IsDeviceCause, Cause}
 use Rattle.twkb_convert.specs.BlobReading.{limits_of, reader_failures, reader_tap, rest_of, told_of}
 use Rattle.twkb_convert.specs.Devices.{is_write}
-use Rattle.twkb_convert.specs.Flushing.{Flushes}
+use Rattle.twkb_convert.specs.LastFlush.{Flushes}
 use Rattle.twkb_convert.specs.Listed.{ExplainsListingCause, Listed, StoppedListing}
 use Rattle.twkb_convert.specs.BlobsListed.{Ends, Lists}
 use Rattle.twkb_convert.specs.declared.report.Cause.TheVariants as cause

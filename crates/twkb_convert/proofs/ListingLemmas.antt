@@ -1,20 +1,19 @@
 -- The exits of the loop over a stream's blobs.
-use Rattle.twkb_convert.proofs.Prelude.{◌≡◌, ◌∙◌, ◌+◌, ◌-◌, ◌<◌, ◌≤◌, ℕ, Bool, false, List, [], ◌∷◌, ◌++◌, Option, Some}
+use Rattle.twkb_convert.proofs.Prelude.{◌≡◌, ◌∙◌, ◌+◌, ◌-◌, ◌<◌, ℕ, Bool, false, List, [], ◌∷◌, ◌++◌, Option, Some}
 use Rattle.twkb_convert.proofs.Prelude.{None, Result, Ok, Err, IfSome, length, ap, arith, refl, sym, subst, inl, inr}
 use Rattle.twkb_convert.proofs.Prelude.{append_assoc, length-append, append-nil, Consumes, IsAtEnd, Ghosts, BeginsWith}
-use Rattle.twkb_convert.proofs.Prelude.{Cut, Took, is_spent, sent_of, refused_join, took_join}
+use Rattle.twkb_convert.proofs.Prelude.{Cut, Took, sent_of, refused_join, took_join}
 use Rattle.twkb_convert.proofs.Prelude.{Output, OutFault, Allowance, Reader}
 use Rattle.twkb_convert.proofs.Prelude.{Located, LocatedStream, TellsSpans, blobs_text}
 use Rattle.twkb_convert.proofs.Prelude.{listing_text, Layout, Cause}
 use Rattle.std.proofs.KnownBytes.{Consumes-nil, Consumes-trans}
 use Rattle.twkb_io.specs.declared.TheConstants.{MAX_BYTES}
 use Rattle.twkb_grammar.proofs.Streams.{blob_long}
-use Rattle.twkb_convert.specs.BlobReading.{Follows, GivesBlob, GivesText, Misses, Used, given, is_read}
-use Rattle.twkb_convert.specs.BlobReading.{limits_of, rest_of, told_of}
+use Rattle.twkb_convert.specs.BlobReading.{EndsBlobs, Follows, GivesBlob, GivesText, Misses, MissesText, Used}
+use Rattle.twkb_convert.specs.BlobReading.{given, is_read, limits_of, rest_of, told_of}
 use Rattle.twkb_convert.specs.Causes.{cause_of_output}
 use Rattle.twkb_convert.specs.Devices.{is_write}
-use Rattle.twkb_convert.specs.Flushing.{Leaves}
-use Rattle.twkb_convert.specs.BlobsListed.{CutsBlob, Ends, IsGoing, Lists, SendsBlob, SendsNext, SentSoFar}
+use Rattle.twkb_convert.specs.BlobsListed.{Ends, IsFresh, Lists, SentSoFar}
 use Rattle.twkb_convert.proofs.CauseLemmas.{explained, put_explained, told_missed, told_put}
 use Rattle.twkb_convert.proofs.FlushLemmas.{leaves_refused, leaves_took}
 use Rattle.twkb_convert.proofs.LocatedLemmas.{located-append, located-one}
@@ -76,48 +75,10 @@ given_more : (l : Allowance) (old new : Option (List ℕ)) (before after : ℕ) 
 given_more l old new before after b gives =
     omega (arith, gives.used.counted, blob_long l gives.front b.geometry gives.tells.blob)
 
--- ---- one blob
-
-module _ {R W : Type 0} {read : Ghosts R} (layout : Layout) (contents : W → Option (List ℕ))
-    (from to : Reader R read) (old new : Output W) (done : ℕ) (text : List ℕ)
-    (gives : GivesText layout from to text) where
-  pub sends_blob : is_spent old ≡ false → done ≤ given from → Took contents old text new
-      → SendsBlob layout contents from old done to new (done + 1)
-  sends_blob fresh few took = record {
-    found = gives.found;
-    gives = gives.gives;
-    took = subst (λ t. Took contents old t new) gives.own took;
-    follows = gives.follows;
-    going = record {
-      between = gives.between;
-      unspent = took.spent ∙ fresh;
-      few = omega (
-        arith,
-        few,
-        given_more (limits_of from) (rest_of from) (rest_of to) (given from) (given to)
-            gives.found gives.gives,
-      );
-    };
-    count = refl;
-  }
-
-  pub cuts_blob : (fault : OutFault) → Cut contents old text fault new
-      → CutsBlob layout contents from old to new (cause_of_output fault)
-  cuts_blob fault cut = record {
-    found = gives.found;
-    gives = gives.gives;
-    follows = gives.follows;
-    fault = fault;
-    cut = subst (λ t. Cut contents old t fault new) gives.own cut;
-    caused = refl;
-  }
-
 -- fewer bytes may still be given out after a blob was read
-pub fewer_left : {R W : Type 0} {read : Ghosts R} (layout : Layout) (contents : W → Option (List ℕ))
-    (from : Reader R read) (old : Output W) (done : ℕ) (to : Reader R read)
-    (new : Output W) (after : ℕ) → SendsBlob layout contents from old done to new after
-    → MAX_BYTES - given to < MAX_BYTES - given from
-fewer_left layout contents from old done to new after one =
+pub fewer_left : {R : Type 0} {read : Ghosts R} (layout : Layout) (from to : Reader R read) (text : List ℕ)
+    → GivesText layout from to text → MAX_BYTES - given to < MAX_BYTES - given from
+fewer_left layout from to text one =
     omega (
       arith,
       given_more (limits_of from) (rest_of from) (rest_of to) (given from) (given to) one.found
@@ -130,26 +91,26 @@ fewer_left layout contents from old done to new after one =
 module _ {R W : Type 0} {read : Ghosts R} (layout : Layout) (contents : W → Option (List ℕ))
     (from : Reader R read) (old : Output W) where
   -- the text before the first blob was sent
-  pub sent_first : (new : Output W) (done : ℕ) → IsGoing from old done
-      → given from ≡ 0 → Took contents old layout.first new
-      → SentSoFar layout contents from old from new done
-  sent_first new done going start took = record {
+  pub sent_first : (new : Output W) → IsFresh from old → Took contents old layout.first new
+      → SentSoFar layout contents from old from new 0
+  sent_first new fresh took = record {
     found = [];
     bytes = [];
     blobs = refl;
-    used = record { consumed = Consumes-nil (rest_of from); counted = start };
+    used = record { consumed = Consumes-nil (rest_of from); counted = fresh.unread };
     took = subst (λ t. Took contents old t new) (sym (append-nil layout.first)) took;
-    count = omega (arith, going.few, start);
+    count = refl;
     follows = record { same_tap = refl; limits = refl; failures = refl; within = from.input.within };
-    going = record { between = going.between; unspent = took.spent ∙ going.unspent; few = going.few };
+    between = fresh.between;
+    unspent = took.spent ∙ fresh.unspent;
+    few = omega arith;
   }
 
   -- the text of one more blob was sent
-  pub sent_more : (mid to : Reader R read) (out new : Output W) (done after : ℕ)
-      → SentSoFar layout contents from old mid out done
-      → SendsBlob layout contents mid out done to new after
-      → SentSoFar layout contents from old to new after
-  sent_more mid to out new done after sent one = record {
+  pub sent_more : (mid to : Reader R read) (out new : Output W) (done : ℕ) (text : List ℕ)
+      → SentSoFar layout contents from old mid out done → GivesText layout mid to text
+      → Took contents out text new → SentSoFar layout contents from old to new (done + 1)
+  sent_more mid to out new done text sent one took = record {
     found = sent.found ++ one.found ∷ [];
     bytes = sent.bytes ++ one.gives.front;
     blobs = one_more (limits_of from) (limits_of mid) 0 (given mid) sent.bytes one.gives.front
@@ -157,26 +118,31 @@ module _ {R W : Type 0} {read : Ghosts R} (layout : Layout) (contents : W → Op
     used = used_join (rest_of from) (rest_of mid) (rest_of to) 0 (given mid) (given to) sent.bytes
         one.gives.front sent.used one.gives.used;
     took = subst (λ text. Took contents old text new) (text_more layout sent.found one.found)
-        (took_join contents old out new (listing_text layout sent.found)
-        (layout.text_of one.found) sent.took one.took);
-    count = omega (arith, sent.count, one.count, length-append sent.found (one.found ∷ []));
+        (took_join contents old out new (listing_text layout sent.found) (layout.text_of one.found) sent.took
+        (subst (λ t. Took contents out t new) one.own took));
+    count = omega (arith, sent.count, length-append sent.found (one.found ∷ []));
     follows = record {
       same_tap = one.follows.same_tap ∙ sent.follows.same_tap;
       limits = one.follows.limits ∙ sent.follows.limits;
       failures = one.follows.failures ∙ sent.follows.failures;
       within = one.follows.within;
     };
-    going = one.going;
+    between = one.between;
+    unspent = took.spent ∙ sent.unspent;
+    few = omega (
+      arith,
+      sent.few,
+      given_more (limits_of mid) (rest_of mid) (rest_of to) (given mid) (given to) one.found one.gives,
+    );
   }
 
   -- no text was sent after those of whole blobs
-  lists_whole : (answer : Result (Unit {0}) Cause) (mid to : Reader R read)
-      (out new : Output W) (done after : ℕ) (failed : Bool)
-      (sent : SentSoFar layout contents from old mid out done) → new ≡ out → after ≡ done
+  lists_whole : (answer : Result (Unit {0}) Cause) (mid to : Reader R read) (out : Output W) (done : ℕ)
+      (failed : Bool) (sent : SentSoFar layout contents from old mid out done)
       → Follows mid to failed → is_write answer ≡ false
       → Ends layout from to sent.bytes sent.found [] [] failed answer
-      → Lists layout contents from old to new after answer
-  lists_whole answer mid to out new done after failed sent same is follows quiet ends = record {
+      → Lists layout contents from old to out done answer
+  lists_whole answer mid to out done failed sent follows quiet ends = record {
     text = listing_text layout sent.found;
     part = record {
       whole = sent.found;
@@ -190,9 +156,8 @@ module _ {R W : Type 0} {read : Ghosts R} (layout : Layout) (contents : W → Op
       one = inl refl;
       holds = inr ([], sym (append-nil (listing_text layout sent.found)));
     };
-    leaves = subst (λ o. Leaves contents old (listing_text layout sent.found) o answer) (sym same)
-        (leaves_took contents old out _ answer (sym sent.took.spent ∙ sent.going.unspent) quiet sent.took);
-    count = is ∙ sent.count;
+    leaves = leaves_took contents old out _ answer (sym sent.took.spent ∙ sent.unspent) quiet sent.took;
+    count = sent.count;
     read_failed = failed;
     follows = record {
       same_tap = follows.same_tap ∙ sent.follows.same_tap;
@@ -204,18 +169,16 @@ module _ {R W : Type 0} {read : Ghosts R} (layout : Layout) (contents : W → Op
   }
 
   -- a prefix of the text of one more blob was sent
-  lists_cut : (mid to : Reader R read) (out new : Output W) (done after : ℕ)
-      (why : Cause) → sent_of old ≡ 0 → SentSoFar layout contents from old mid out done
-      → after ≡ done → CutsBlob layout contents mid out to new why
-      → Lists layout contents from old to new after (Err why)
-  lists_cut mid to out new done after why none sent is one =
-      let cut = one.cut in
+  pub lists_cut : (mid to : Reader R read) (out new : Output W) (done : ℕ) (text : List ℕ) (fault : OutFault)
+      → sent_of old ≡ 0 → SentSoFar layout contents from old mid out done → GivesText layout mid to text
+      → Cut contents out text fault new → Lists layout contents from old to new done (Err (cause_of_output fault))
+  lists_cut mid to out new done text fault none sent one refused_text =
+      let cut : Cut contents out (layout.text_of one.found) fault new =
+      subst (λ t. Cut contents out t fault new) one.own refused_text in
       let all = used_join (rest_of from) (rest_of mid) (rest_of to) 0 (given mid) (given to)
       sent.bytes one.gives.front sent.used one.gives.used in
-      let refused = refused_join contents old out new (listing_text layout sent.found) cut.front
-      one.fault sent.took cut.refused in
       let joined = text_more layout sent.found one.found in
-      subst (λ w. Lists layout contents from old to new after (Err w)) (sym one.caused) (record {
+      record {
         text = listing_text layout sent.found ++ cut.front;
         part = record {
           whole = sent.found;
@@ -228,11 +191,12 @@ module _ {R W : Type 0} {read : Ghosts R} (layout : Layout) (contents : W → Op
           begins = consumes_begins (rest_of from) (rest_of to) (sent.bytes ++ one.gives.front) all.consumed;
           cut = sym joined ∙ ap (λ t. listing_text layout sent.found ++ t) cut.whole
               ∙ sym (append_assoc (listing_text layout sent.found) cut.front cut.rest);
-          one = inr (one.found, refl, cut.left sent.going.unspent);
+          one = inr (one.found, refl, cut.left sent.unspent);
           holds = inr (cut.front, refl);
         };
-        leaves = leaves_refused contents old new _ one.fault refused;
-        count = is ∙ sent.count;
+        leaves = leaves_refused contents old new _ fault
+            (refused_join contents old out new (listing_text layout sent.found) cut.front fault sent.took cut.refused);
+        count = sent.count;
         read_failed = false;
         follows = record {
           same_tap = one.follows.same_tap ∙ sent.follows.same_tap;
@@ -242,7 +206,7 @@ module _ {R W : Type 0} {read : Ghosts R} (layout : Layout) (contents : W → Op
         };
         ends = record {
           explains = put_explained layout (limits_of from) (rest_of from) (told_of to)
-              (sent.bytes ++ one.gives.front) one.fault sent.found (one.found ∷ []) cut.rest
+              (sent.bytes ++ one.gives.front) fault sent.found (one.found ∷ []) cut.rest
               (λ e. (let far = cut.too_long e in
               omega (
                 arith,
@@ -252,17 +216,15 @@ module _ {R W : Type 0} {read : Ghosts R} (layout : Layout) (contents : W → Op
                 ap length joined,
                 length-append (listing_text layout sent.found) (layout.text_of one.found),
               )))
-              (cut.unspent sent.going.unspent);
-          tell = told_put one.fault;
+              (cut.unspent sent.unspent);
+          tell = told_put fault;
         };
-      })
+      }
 
   -- the text before the first blob was not sent whole
-  pub lists_none : (new : Output W) (done : ℕ) (text : List ℕ) (f : OutFault)
-      → text ≡ layout.first → IsGoing from old done → given from ≡ 0 → sent_of old ≡ 0
-      → Cut contents old text f new
-      → Lists layout contents from old from new done (Err (cause_of_output f))
-  lists_none new done text f own going start none cut =
+  pub lists_none : (new : Output W) (text : List ℕ) (f : OutFault) → text ≡ layout.first → IsFresh from old
+      → Cut contents old text f new → Lists layout contents from old from new 0 (Err (cause_of_output f))
+  lists_none new text f own fresh cut =
       let whole : listing_text layout [] ≡ text = append-nil layout.first ∙ sym own in
       record {
         text = cut.front;
@@ -278,48 +240,40 @@ module _ {R W : Type 0} {read : Ghosts R} (layout : Layout) (contents : W → Op
           holds = inl refl;
         };
         leaves = leaves_refused contents old new _ f cut.refused;
-        count = omega (arith, going.few, start);
+        count = refl;
         read_failed = false;
         follows = record { same_tap = refl; limits = refl; failures = refl; within = from.input.within };
         ends = record {
           explains = put_explained layout (limits_of from) (rest_of from) (told_of from) [] f [] []
-              cut.rest (λ e. (let far = cut.too_long e in omega (arith, far, none, ap length whole)))
-              (cut.unspent going.unspent);
+              cut.rest (λ e. (let far = cut.too_long e in omega (arith, far, fresh.unsent, ap length whole)))
+              (cut.unspent fresh.unspent);
           tell = told_put f;
         };
       }
 
   -- the end was found
-  pub lists_all : (mid to : Reader R read) (out new : Output W) (done after : ℕ)
-      → SentSoFar layout contents from old mid out done
-      → SendsNext layout contents mid out done to new after (Ok false)
-      → Lists layout contents from old to new after (Ok tt)
-  lists_all mid to out new done after sent (ends, same, is) =
-      lists_whole (Ok tt) mid to out new done after false sent same is ends.follows refl
-      (record {
-        no_later = refl;
-        none_left = refl;
-        all = consumes_all (rest_of from) (rest_of mid) sent.bytes sent.used.consumed ends.empty;
-        ended = still_known (rest_of from) (rest_of mid) sent.bytes (IsAtEnd (told_of to))
-            sent.used.consumed ends.ended;
-        no_read = refl;
-      })
+  pub lists_all : (mid to : Reader R read) (out : Output W) (done : ℕ)
+      → SentSoFar layout contents from old mid out done → EndsBlobs mid to
+      → Lists layout contents from old to out done (Ok tt)
+  lists_all mid to out done sent ends = lists_whole (Ok tt) mid to out done false sent ends.follows refl (record {
+    no_later = refl;
+    none_left = refl;
+    all = consumes_all (rest_of from) (rest_of mid) sent.bytes sent.used.consumed ends.empty;
+    ended = still_known (rest_of from) (rest_of mid) sent.bytes (IsAtEnd (told_of to)) sent.used.consumed ends.ended;
+    no_read = refl;
+  })
 
-  -- the text of the next blob was not sent whole
-  pub lists_up_to : (mid to : Reader R read) (out new : Output W)
-      (done after : ℕ) (why : Cause) → sent_of old ≡ 0
-      → SentSoFar layout contents from old mid out done
-      → SendsNext layout contents mid out done to new after (Err why)
-      → Lists layout contents from old to new after (Err why)
-  lists_up_to mid to out new done after why none sent (inl (missed, same), is) =
+  -- the text of the next blob was not made
+  pub lists_up_to : (mid to : Reader R read) (out : Output W) (done : ℕ) (why : Cause)
+      → SentSoFar layout contents from old mid out done → MissesText mid to why
+      → Lists layout contents from old to out done (Err why)
+  lists_up_to mid to out done why sent missed =
       let misses : Misses (limits_of from) (rest_of mid) (given mid) (told_of to) why =
       subst (λ l. Misses l (rest_of mid) (given mid) (told_of to) why) sent.follows.limits missed.misses in
       let told = told_missed (limits_of from) (rest_of mid) (told_of to) (given mid) why misses in
-      lists_whole (Err why) mid to out new done after (is_read why) sent same is missed.follows told.0
+      lists_whole (Err why) mid to out done (is_read why) sent missed.follows told.0
       (record {
         explains = explained layout (limits_of from) (rest_of from) (rest_of mid) (told_of to)
             (given mid) sent.bytes sent.found why sent.blobs sent.used misses;
         tell = told.1;
       })
-  lists_up_to mid to out new done after why none sent (inr one, is) =
-      lists_cut mid to out new done after why none sent is one

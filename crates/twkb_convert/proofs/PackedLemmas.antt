@@ -8,7 +8,7 @@ use Rattle.twkb_convert.specs.Causes.{after_reads}
 use Rattle.twkb_convert.specs.CountedWork.{IsWorkOf}
 use Rattle.twkb_convert.specs.Devices.{is_write}
 use Rattle.twkb_convert.specs.Packed.{ExplainsPackingCause, PackedWith, StoppedPacking}
-use Rattle.twkb_convert.specs.Sending.{Ends, EndsTable, SendsTable}
+use Rattle.twkb_convert.specs.SentGeometries.{Ends, EndsTable, SendsTable}
 use Rattle.twkb_convert.specs.declared.report.Cause.TheVariants as cause
 use Rattle.twkb_convert.proofs.WorkLemmas.{read_thrice, read_twice}
 

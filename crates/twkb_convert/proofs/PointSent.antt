@@ -7,12 +7,12 @@ use Rattle.twkb_points.specs.Point.{Point}
 use Rattle.twkb_tree.specs.Tree.{Simple, point, line, polygon, multi_point, multi_line, multi_polygon}
 use Rattle.twkb_tree.specs.Tree.{IsTree, IsPrecision}
 use Rattle.twkb_tree.specs.Rows.{own_row}
-use Rattle.twkb_writer.specs.Measuring.{Measures}
+use Rattle.twkb_writer.specs.MeasuredRows.{Measures}
 use Rattle.twkb_writer.specs.PointBlob.{one_point}
 use Rattle.twkb_table.specs.TableReading.{GivesNext}
 use Rattle.twkb_table.specs.Waiting.{point_row}
 use Rattle.twkb_table.specs.declared.table_reader.TableReader.{TableReader}
-use Rattle.twkb_convert.specs.BlobWriting.{WritesBlob}
+use Rattle.twkb_convert.specs.WrittenBlob.{WritesBlob}
 use Rattle.twkb_convert.specs.CountedWork.{AddsWork}
 
 -- ---- the geometry

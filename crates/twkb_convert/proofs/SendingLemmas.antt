@@ -16,13 +16,13 @@ use Rattle.twkb_table.specs.declared.table_fault.TableFault.{TableFault}
 use Rattle.twkb_table.specs.declared.table_fault.TableFault.TheVariants as fault
 use Rattle.twkb_table.specs.declared.table_reader.TableReader.{TableReader}
 use Rattle.twkb_table.proofs.TableReaderLemmas.{all_but_last-last, names_so_far, text_begins}
-use Rattle.twkb_convert.specs.BlobWriting.{WritesBlob}
+use Rattle.twkb_convert.specs.WrittenBlob.{WritesBlob}
 use Rattle.twkb_convert.specs.Causes.{cause_of_output, cause_of_table}
 use Rattle.twkb_convert.specs.CountedWork.{no_work}
 use Rattle.twkb_convert.specs.Devices.{is_write}
-use Rattle.twkb_convert.specs.Draining.{Drains}
-use Rattle.twkb_convert.specs.Flushing.{Flushes}
-use Rattle.twkb_convert.specs.Sending.{Ends, SendsTable, SentSoFar}
+use Rattle.twkb_convert.specs.ReaderEnd.{Drains}
+use Rattle.twkb_convert.specs.LastFlush.{Flushes}
+use Rattle.twkb_convert.specs.SentGeometries.{Ends, SendsTable, SentSoFar}
 use Rattle.twkb_convert.specs.declared.report.Cause.TheVariants as cause
 use Rattle.twkb_convert.proofs.FlushLemmas.{leaves_last, leaves_refused, leaves_took}
 use Rattle.twkb_convert.proofs.WorkLemmas.{work_more}

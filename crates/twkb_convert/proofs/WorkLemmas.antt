@@ -5,7 +5,7 @@ use Rattle.twkb_tree.specs.Rows.{Row, rows, row_points}
 use Rattle.twkb_flat.specs.declared.work.Work.{Work}
 use Rattle.twkb_grammar.specs.Spans.{geometries}
 use Rattle.twkb_writer.specs.declared.sizes.Entry.{Entry}
-use Rattle.twkb_writer.specs.Measuring.{Counted}
+use Rattle.twkb_writer.specs.MeasuredRows.{Counted}
 use Rattle.twkb_writer.specs.Reads.{Reads}
 use Rattle.twkb_convert.specs.CountedWork.{AddsWork, IsWorkOf, points, total}
 

@@ -3,7 +3,7 @@ use Rattle.std.specs.Prelude.{ℕ, List, Option, Result, IfOk, IfErr}
 use Rattle.twkb_io.specs.declared.tap.Tap.{Tap}
 use Rattle.twkb_tree.specs.Limits.{Allowance}
 use Rattle.twkb_grammar.specs.declared.style.Style.{Style}
-use Rattle.twkb_convert.specs.Flushing.{IsFlushed, IsFlushedButForDevices}
+use Rattle.twkb_convert.specs.LastFlush.{IsFlushed, IsFlushedButForDevices}
 use Rattle.twkb_convert.specs.Packed.{Packed, StoppedPacking}
 use Rattle.twkb_convert.specs.Unpacked.{StoppedUnpacking, Unpacked}
 use Rattle.twkb_convert.specs.Shown.{Shown, StoppedShowing}

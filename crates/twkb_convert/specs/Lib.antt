@@ -1,9 +1,9 @@
-pub mod Draining
+pub mod ReaderEnd
 pub mod RefusedRows
 pub mod Outputs
 pub mod Fronts
 pub mod CountedWork
-pub mod BlobWriting
+pub mod WrittenBlob
 pub mod SpanLines
 pub mod LocatedBlobs
 pub mod Listings
@@ -11,13 +11,12 @@ pub mod BlobReading
 pub mod Devices
 pub mod Listed
 pub mod Causes
-pub mod Flushing
+pub mod LastFlush
 pub mod BlobsListed
-pub mod StreamListing
 pub mod Unpacked
 pub mod Shown
 pub mod Packed
-pub mod Sending
+pub mod SentGeometries
 pub mod Parts
 pub mod Texts
 pub mod Conversions

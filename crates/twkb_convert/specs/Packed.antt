@@ -19,7 +19,7 @@ use Rattle.twkb_convert.specs.declared.report.Cause.TheVariants as cause
 use Rattle.twkb_convert.specs.declared.report.ConvertFault.{ConvertFault}
 use Rattle.twkb_convert.specs.declared.report.Report.{Report}
 
--- The records of the reader's text, fewer than 2 ^ 32, name geometries, and their canonical
+-- The records of the reader's text, fewer than RECORD_CAP, name geometries, and their canonical
 -- stream in this style was written after the bytes that the writer held. No device failed, and
 -- the reader is at its end.
 pub record Packed {R W : Type 0} (style : Style) (l : Allowance) (remaining : R → Option (List ℕ))

@@ -2,25 +2,25 @@
 #![tactic(auto)]
 
 mod blob_text;
-mod blob_writing;
 mod causes;
 mod conversion;
-mod draining;
-mod flushing;
+mod last_flush;
 pub mod laws;
-mod packing;
+mod listed_stream;
+mod packed_table;
+mod reader_end;
 mod report;
-mod sending;
-mod showing;
+mod sent_geometries;
+mod shown_stream;
 mod span_line;
-mod stream_listing;
-mod unpacking;
+mod unpacked_stream;
 mod version;
+mod written_blob;
 
 pub use conversion::{Conversion, convert};
-pub use packing::{pack, pack_counted, pack_styled};
+pub use packed_table::{pack, pack_counted, pack_styled};
 pub use report::{Cause, ConvertFault, Report};
-pub use showing::show;
+pub use shown_stream::show;
 pub use twkb_blob::BlobReason;
 pub use twkb_flat::Work;
 pub use twkb_io::Tap;
@@ -28,5 +28,5 @@ pub use twkb_polyline::PolyReason;
 pub use twkb_table::RowReason;
 pub use twkb_tree::Limits;
 pub use twkb_writer::Style;
-pub use unpacking::unpack;
+pub use unpacked_stream::unpack;
 pub use version::VERSION;

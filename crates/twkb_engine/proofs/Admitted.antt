@@ -15,7 +15,7 @@ use Rattle.twkb_body.specs.Head.{IsHeadAt}
 use Rattle.twkb_body.specs.declared.head.Head as place
 use Rattle.twkb_engine.specs.State.{outline_in, sums_of, IsPlaced, IsNext}
 use Rattle.twkb_engine.specs.Collections.{frames_of}
-use Rattle.twkb_engine.specs.Fits.{depth_cap}
+use Rattle.twkb_engine.specs.Caps.{depth_cap}
 use Rattle.twkb_engine.specs.Taking.{IsFree, brings}
 use Rattle.twkb_engine.specs.Standing.{IsAlive}
 use Rattle.twkb_engine.specs.declared.next_item.NextItem.{NextItem}

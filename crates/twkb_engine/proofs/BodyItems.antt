@@ -1,5 +1,5 @@
 -- A y: where it leads, and what it brings.
-use Rattle.std.proofs.Common.{◌≡◌, ℕ, zero, suc, ◌-◌, ◌<◌, List, refl, sym, ap, ◌∙◌, subst, arith, true}
+use Rattle.std.proofs.Common.{◌≡◌, ℕ, zero, suc, ◌-◌, ◌<◌, ◌≤◌, List, refl, sym, ap, ◌∙◌, subst, arith, true}
 use Rattle.std.proofs.Common.{if◌then◌else◌, Ok, None}
 use Rattle.std.specs.Prelude.{ℤ, Option}
 use Rattle.twkb_points.specs.Point.{Point}
@@ -46,30 +46,31 @@ line_goes_on k h ids gs bytes p r m has = cc
 module _ {rs : List Row} {d : Engine} {n width : ℕ} {p : Point} (at : ComesNext next.Y rs d n width)
     (free : IsFree role.Y n d) (there : p ≡ moved d.position role.Y n) where
   y_leads : Leads rs d role.Y n width (past_with width d (shut_at d 0 (lists_of d.head.kind
-      d.points_left d.rings_left d.members_left))) (point_row p d)
+      (d.points_left - 1) d.rings_left d.members_left))) (point_row p d)
   y_leads =
       leads_as (number_leads at.alive at.next role.Y n width refl (λ p. p) tt at.wide free) refl
       (ap (λ q. point_row q d) (sym there))
 
-  -- the last point of a list leads past its end
-  pub y_last : d.points_left ≡ 0 → Leads rs d role.Y n width (past_with width d (shut_at d 0
+  -- the last point of a list, or one in none, leads past its end
+  pub y_last : d.points_left ≤ 1 → Leads rs d role.Y n width (past_with width d (shut_at d 0
       (last_lists d))) (point_row p d)
-  y_last none =
+  y_last few =
+      let none : d.points_left - 1 ≡ 0 = omega (arith, few) in
       leads_as y_leads (ap (λ k. past_with width d (shut_at d 0 (lists_of d.head.kind k d.rings_left
       d.members_left))) none) refl
 
   -- another to the next one, and it comes to the last row
-  pub y_more : 0 < d.points_left → Leads rs d role.Y n width
+  pub y_more : 1 < d.points_left → Leads rs d role.Y n width
       (Ok (
         frames_of d.collections,
         body_at d (Wanted 0
-            (lists_of d.head.kind (d.points_left - 1) d.rings_left d.members_left)),
+            (lists_of d.head.kind ((d.points_left - 1) - 1) d.rings_left d.members_left)),
       )) (NewPoint p)
   y_more some =
-      let one : d.points_left ≡ suc (d.points_left - 1) = omega (arith, some) in
+      let one : d.points_left - 1 ≡ suc ((d.points_left - 1) - 1) = omega (arith, some) in
       let fits = subst (λ i. lists_fit i d.head.kind d.points_left d.rings_left d.members_left
       ≡ true) at.next d.lists_fit in
-      let has = lines_left d.head.kind d.points_left d.rings_left d.members_left some fits in
+      let has = lines_left d.head.kind d.points_left d.rings_left d.members_left (omega (arith, some)) fits in
       leads_as y_leads (ap (λ k. past_with width d (shut_at d 0 (lists_of d.head.kind k d.rings_left
       d.members_left))) one
       ∙ line_goes_on d.head.kind (head_of d.head) (ids_of d.ids) (frames_of d.collections) _ _

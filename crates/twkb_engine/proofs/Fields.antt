@@ -6,7 +6,8 @@ use Rattle.twkb_grammar.specs.Machine.{Sums}
 use Rattle.twkb_body.specs.declared.head.Head.{Head}
 use Rattle.twkb_body.specs.declared.member_ids.MemberIds.{MemberIds}
 use Rattle.twkb_engine.specs.State.{sums_of}
-use Rattle.twkb_engine.specs.Standing.{held_in}
+use Rattle.twkb_engine.specs.Standing.{held_in, MovesOn}
+use Rattle.twkb_engine.specs.Taking.{Stays}
 use Rattle.twkb_engine.specs.declared.open_collections.OpenCollection.{OpenCollection}
 use Rattle.twkb_engine.specs.declared.next_item.NextItem.{NextItem}
 use Rattle.twkb_engine.specs.declared.engine.Engine.{Engine}
@@ -45,6 +46,28 @@ abbrev pub moved_to : Engine → (used : ℕ) → Point → MemberIds → (membe
 moved_to d used to ids members points =
     let s : Sums = record { bytes = d.bytes + used; position = to; nodes = d.nodes; points = d.points } in
     record (fields_of d) { sums = s; ids = ids; members_left = members; points_left = points }
+
+-- an engine that moved on so
+pub moved_fields : {d m : Engine} {used : ℕ} → Stays d m → MovesOn d used m
+    → fields_of m ≡ moved_to d used m.position d.ids d.members_left m.points_left
+moved_fields {m = m} same moves = λ i. record {
+  limits = same.limits i;
+  start = same.start i;
+  sums = record {
+    bytes = moves.bytes i;
+    position = m.position;
+    nodes = moves.nodes i;
+    points = moves.points i;
+  };
+  collections = moves.collections i;
+  head = moves.head i;
+  ids = moves.ids i;
+  members_left = moves.members_left i;
+  rings_left = moves.rings_left i;
+  points_left = m.points_left;
+  next = moves.next i;
+  held = same.held i;
+}
 
 -- two engines that differ in the bytes of a number alone
 abbrev pub SameItem : Engine → Engine → Type 0

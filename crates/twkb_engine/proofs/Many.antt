@@ -12,23 +12,25 @@ use Rattle.twkb_grammar.specs.Machine.{MultiPointForm}
 use Rattle.twkb_body.specs.Outline.{Stage, OnId, OnBody, Wanted, next_ids}
 use Rattle.twkb_body.specs.Growing.{id_in}
 use Rattle.twkb_body.specs.Noting.{NotedOutline, notes_in}
+use Rattle.twkb_body.specs.Reading.{sums_past}
 use Rattle.twkb_body.specs.JudgedParts.{PartIn}
 use Rattle.twkb_body.specs.Head.{head_of, form_of, many_of, IsHeadAt}
 use Rattle.twkb_body.specs.Ids.{ids_of, ids_read}
 use Rattle.twkb_body.specs.declared.member_ids.MemberIds.{MemberIds}
 use Rattle.twkb_body.specs.Running.{HasLists, WantedIn, StageRuns, StageStops, ListRuns, ListStops, in_list, IdsTaken}
 use Rattle.twkb_body.specs.Running.{IdsStop}
+use Rattle.twkb_body.proofs.PointRuns.{stage_none}
 use Rattle.twkb_engine.specs.Collections.{frames_of}
 use Rattle.twkb_engine.specs.Fits.{lists_of, line_lists_of, has_members, left_fit, lists_fit}
 use Rattle.twkb_engine.specs.State.{IsPlaced, sums_of, stage_at, ids_in}
-use Rattle.twkb_engine.specs.Taking.{Stays}
-use Rattle.twkb_engine.specs.Standing.{StandsAt, TakesMany, notes_at, held_in}
+use Rattle.twkb_engine.specs.Taking.{Stays, shut_at, last_lists}
+use Rattle.twkb_engine.specs.Standing.{StandsAt, TakesMany, TakesList, notes_at, held_in}
 use Rattle.twkb_engine.specs.declared.next_item.NextItem.{NextItem}
 use Rattle.twkb_engine.specs.declared.next_item.NextItem.TheVariants as next
 use Rattle.twkb_engine.specs.declared.engine.Engine.{Engine}
 use Rattle.twkb_engine.proofs.Steps.{all_whole, noted_at, stands_whole}
 use Rattle.twkb_engine.proofs.Between.{is_some}
-use Rattle.twkb_engine.proofs.Fields.{Fields, fields_of, moved_to}
+use Rattle.twkb_engine.proofs.Fields.{Fields, fields_of, moved_to, moved_fields}
 
 -- none are taken: the engine stays where it is
 pub none_taken : {E : Type 0} {rs : List Row} {d : Engine} {rest : List ℕ} → TakesMany {E = E} rs d rest (Ok 0) rs d
@@ -38,6 +40,34 @@ none_taken {rs = rs} {d = d} = record {
   memory = tt;
   stays = record { limits = refl; start = refl; held = refl };
 }
+
+pub none_listed : {E : Type 0} {rs : List Row} {d : Engine} {rest : List ℕ} → TakesList {E = E} rs d rest (Ok 0) rs d
+none_listed {rs = rs} {d = d} = record {
+  within = omega arith;
+  long = omega arith;
+  run = λ h f ids outer others listed same.
+      stage_none h (in_list h f ids (d.points_left + others) outer) rs d.position;
+  moves = record {
+    bytes = omega arith;
+    nodes = refl;
+    points = refl;
+    collections = refl;
+    head = refl;
+    ids = refl;
+    members_left = refl;
+    rings_left = refl;
+    next = refl;
+  };
+  memory = tt;
+  stays = record { limits = refl; start = refl; held = refl };
+}
+
+-- there is no memory for a point of the open list
+pub list_unkept : {E : Type 0} {why : E} {rs more : List Row} {d e : Engine} {rest : List ℕ} {r : Result ℕ E}
+    → r ≡ Err why → Stays d e → ListStops rs d.position d.points_left rest → TakesList rs d rest r more e
+list_unkept {rs = rs} {more = more} {d = d} {e = e} {rest = rest} failed stays stops =
+    subst (λ x. TakesList rs d rest x more e) (sym failed)
+    (record { within = tt; long = tt; run = tt; moves = tt; memory = stops; stays = stays })
 
 pub place_at : (d e : Engine) → e.collections ≡ d.collections → e.head ≡ d.head
     → IsHeadAt (length (frames_of d.collections)) (id_in (frames_of d.collections)) d.head
@@ -115,7 +145,7 @@ module _ (rs : List Row) (d : Engine) (i : NextItem) (step : Fields → Stage) (
 abbrev on_point : Fields → Stage
 on_point f = OnBody (head_of f.head) (form_of f.head.kind)
     (if has_members f.head.kind then ids_of f.ids else None)
-    (Wanted 0 (lists_of f.head.kind f.points_left f.rings_left f.members_left))
+    (Wanted 0 (lists_of f.head.kind (f.points_left - 1) f.rings_left f.members_left))
 
 -- an id comes next
 abbrev on_id : Fields → Stage
@@ -144,29 +174,67 @@ module _ (rs : List Row) (d : Engine) (is : d.next ≡ next.X) (some : 0 < d.poi
       (subst (λ i. lists_fit i d.head.kind d.points_left d.rings_left d.members_left ≡ true) is
       d.lists_fit) some
 
+  abbrev outer : List ℕ
+  outer = line_lists_of d.head.kind d.rings_left d.members_left
+
   abbrev point : ℕ → Stage
-  point left = in_list d.head (form_of d.head.kind) (ids_in d) left
-      (line_lists_of d.head.kind d.rings_left d.members_left)
+  point left = in_list d.head (form_of d.head.kind) (ids_in d) (left + 0) outer
 
-  listed : (left : ℕ) → OnBody (head_of d.head) (form_of d.head.kind) (ids_in d)
-      (Wanted 0 (lists_of d.head.kind left d.rings_left d.members_left)) ≡ point left
-  listed left = ap (λ l. OnBody (head_of d.head) (form_of d.head.kind) (ids_in d) (Wanted 0 l)) (inside.lists left)
+  abbrev wanted_in : Ids → List ℕ → Stage
+  wanted_in ids lists = OnBody (head_of d.head) (form_of d.head.kind) ids (Wanted 0 lists)
 
-  pub list_stops : {E : Type 0} {why : E} {more : List Row} {e : Engine} {rest : List ℕ} {r : Result ℕ E}
+  listed : (left : ℕ) → 0 < left
+      → wanted_in (ids_in d) (lists_of d.head.kind (left - 1) d.rings_left d.members_left) ≡ point left
+  listed left more =
+      let one : suc (left - 1) ≡ left + 0 = omega (arith, more) in
+      ap (λ l. wanted_in (ids_in d) l) (inside.lists (left - 1))
+      ∙ (ap (λ i. wanted_in i ((left - 1) ∷ outer)) (sym inside.same)
+      ∙ ap (λ n. in_list d.head (form_of d.head.kind) (ids_in d) n outer) one)
+
+  list_stops : {E : Type 0} {why : E} {more : List Row} {e : Engine} {rest : List ℕ} {r : Result ℕ E}
       → r ≡ Err why → Stays d e → ListStops rs d.position d.points_left rest → TakesMany rs d rest r more e
   list_stops {rest = rest} failed stays stops =
-      stage_stops rs d next.X on_point (point d.points_left) is (λ e. refl) (listed d.points_left)
+      stage_stops rs d next.X on_point (point d.points_left) is (λ e. refl) (listed d.points_left some)
       none (λ e. (λ p. p, λ p. p)) rest failed stays
-      (stops d.head (form_of d.head.kind) (ids_in d) _ inside.form inside.same)
+      (stops d.head (form_of d.head.kind) (ids_in d) _ 0 inside.form inside.same)
 
-  pub list_taken : {E : Type 0} {rest : List ℕ} (more : List Row) (e : Engine) (used left : ℕ) (to : Point)
-      → fields_of e ≡ moved_to d used to d.ids d.members_left left → used ≤ length rest
+  -- others of the list are to come
+  list_taken : {E : Type 0} {rest : List ℕ} (more : List Row) (e : Engine) (used left : ℕ) (to : Point)
+      → 0 < left → fields_of e ≡ moved_to d used to d.ids d.members_left left → used ≤ length rest
       → ListRuns rs d.position d.points_left (take used rest) left more to
       → TakesMany {E = E} rs d rest (Ok used) more e
-  list_taken more e used left to q within run =
-      stage_taken rs d next.X on_point (point d.points_left) is (λ e. refl) (listed d.points_left) none
+  list_taken more e used left to others q within run =
+      stage_taken rs d next.X on_point (point d.points_left) is (λ e. refl) (listed d.points_left some) none
       (λ e. (λ p. p, λ p. p)) more e (point left) used to d.ids d.members_left left
-      (run d.head (form_of d.head.kind) (ids_in d) _ inside.form inside.same) within q (listed left)
+      (run d.head (form_of d.head.kind) (ids_in d) _ 0 inside.form inside.same) within q (listed left others)
+
+  pub list_stopped : {E : Type 0} {why : E} {more : List Row} {e : Engine} {rest : List ℕ}
+      → TakesList {E = E} rs d rest (Err why) more e → TakesMany {E = E} rs d rest (Err why) more e
+  list_stopped t = list_stops refl t.stays t.memory
+
+  pub list_goes_on : {E : Type 0} {used : ℕ} {more : List Row} {e : Engine} {rest : List ℕ}
+      → TakesList {E = E} rs d rest (Ok used) more e → 0 < e.points_left
+      → TakesMany {E = E} rs d rest (Ok used) more e
+  list_goes_on {used = used} {more = more} {e = e} t others = list_taken more e used e.points_left
+      e.position others (moved_fields t.stays t.moves) t.within t.run
+
+  -- all were taken, and the list ends
+  pub list_read : (more : List Row) (used left : ℕ) (to : Point) (rest : List ℕ) → left ≡ 0
+      → ListRuns rs d.position d.points_left (take used rest) left more to
+      → (front : List ℕ) (s : StandsAt front rs d)
+      → NotedOutline d.limits (s.front ++ take used rest) (sums_past (sums_of d) (take used rest) to)
+      (frames_of d.collections, shut_at d 0 (last_lists d)) more (λ start. notes_in start s.outlined)
+  list_read more used left to rest last run front s =
+      let zero : left + 0 ≡ 0 = omega (arith, last) in
+      let ended : point left ≡ shut_at d 0 (last_lists d) =
+      ap (λ n. in_list d.head (form_of d.head.kind) (ids_in d) n outer) zero
+      ∙ ap (shut_at d 0) (sym (inside.lists 0)) in
+      subst (λ p. NotedOutline d.limits (s.front ++ take used rest) (sums_past (sums_of d) (take used rest) to)
+      (frames_of d.collections, p) more (λ start. notes_in start s.outlined)) ended
+      (run d.head (form_of d.head.kind) (ids_in d) _ 0 inside.form inside.same d.limits (sums_of d)
+      s.front (frames_of d.collections) _ refl
+      (wanted rs d next.X on_point (point d.points_left) is (λ e. refl) (listed d.points_left some) none
+      (λ e. (λ p. p, λ p. p)) front s))
 
 -- ---- members of a multipoint
 
@@ -178,10 +246,10 @@ module _ (rs : List Row) (d : Engine) (is : d.next ≡ next.X) (kind : d.head.ki
   -- the stage there, by the kind
   of_kind : (ids : MemberIds) (left : ℕ) → OnBody (head_of d.head) (form_of d.head.kind)
       (if has_members d.head.kind then ids_of ids else None)
-      (Wanted 0 (lists_of d.head.kind d.points_left d.rings_left left)) ≡ member ids left
+      (Wanted 0 (lists_of d.head.kind (d.points_left - 1) d.rings_left left)) ≡ member ids left
   of_kind ids left = ap (λ k. OnBody (head_of d.head) (form_of k)
       (if has_members k then ids_of ids else None) (Wanted 0
-      (lists_of k d.points_left d.rings_left left))) kind
+      (lists_of k (d.points_left - 1) d.rings_left left))) kind
 
   pub members_stop : {E : Type 0} {why : E} {more : List Row} {e : Engine} {rest : List ℕ} {r : Result ℕ E}
       → r ≡ Err why → Stays d e → StageStops d.head (member d.ids d.members_left) rs d.position rest

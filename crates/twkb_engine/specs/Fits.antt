@@ -111,10 +111,6 @@ first_item kinds.Polygon = next.RingCount
 first_item kinds.MultiPolygon = next.RingCount
 first_item kinds.Collection = next.TypeByte
 
--- more collections than can be open: limits let at most 32 nest
-abbrev pub depth_cap : ℕ
-depth_cap = 64
-
 -- the next item is a byte
 abbrev pub IsByte : NextItem → Type 0
 IsByte next.TypeByte = ⊤

@@ -1,3 +1,4 @@
+pub mod Caps
 pub mod Collections
 pub mod Fits
 pub mod State

@@ -14,7 +14,9 @@ use Rattle.twkb_body.specs.Reading.{Outlined}
 use Rattle.twkb_body.specs.Noting.{notes_in}
 use Rattle.twkb_engine.specs.State.{IsPlaced, IsNext, allowance_of, sums_of, outline_in}
 use Rattle.twkb_engine.specs.Fits.{IsByte}
+use Rattle.twkb_engine.specs.Caps.{place_cap}
 use Rattle.twkb_body.specs.JudgedParts.{PartIn}
+use Rattle.twkb_body.specs.Running.{ListRuns, ListStops}
 use Rattle.twkb_engine.specs.Taking.{Stays}
 use Rattle.twkb_engine.specs.Stops.{Stop, reason_of}
 use Rattle.twkb_engine.specs.declared.next_item.NextItem.{NextItem}
@@ -56,7 +58,7 @@ IsAlive rs d = ∥ ((bytes : List ℕ) × StandsAt bytes rs d) ∥₁
 
 -- it stands somewhere, and there is room for this number of bytes
 pub record IsReady (rs : List Row) (d : Engine) (many : ℕ) : Type 0 where
-  pub room : d.start + (count_of d + many) ≤ 2 ^ 63
+  pub room : d.start + (count_of d + many) ≤ place_cap
   pub alive : IsAlive rs d
 
 -- what was noted of the items that it took
@@ -85,14 +87,14 @@ pub record SaysNext (d : Engine) (bytes : List ℕ) (n count : ℕ) : Type 0 whe
 -- this item comes next, with this number, in this number of bytes, for which there is room
 pub record ComesNext (item : NextItem) (rs : List Row) (d : Engine) (n width : ℕ) : Type 0 where
   pub next : d.next ≡ item
-  pub room : d.start + (d.bytes + width) ≤ 2 ^ 63
+  pub room : d.start + (d.bytes + width) ≤ place_cap
   pub wide : n < 2 ^ 64
   pub alive : IsAlive rs d
 
 -- this item comes next, no byte of it is held, and there is room for this number of bytes
 pub record IsAhead (item : NextItem) (d : Engine) (many : ℕ) : Type 0 where
   pub next : d.next ≡ item
-  pub room : place_in d + many ≤ 2 ^ 63
+  pub room : place_in d + many ≤ place_cap
   pub alone : held_in d ≡ []
 
 -- wherever the engine stands, a prefix of these bytes ends a part that was judged
@@ -106,6 +108,31 @@ pub record TakesMany {E : Type 0} (rs : List Row) (d : Engine) (bytes : List ℕ
   pub within : IfOk answer (λ used. used ≤ length bytes)
   pub led : IfOk answer (λ used. LeadsQuietly rs d (take used bytes) more e)
   pub memory : OnErr answer (StopsIn rs d bytes)
+  pub stays : Stays d e
+
+-- it is so many bytes further in the same body, perhaps at another point and with fewer points of
+-- its open list to come
+pub record MovesOn (d : Engine) (used : ℕ) (e : Engine) : Type 0 where
+  pub bytes : e.bytes ≡ d.bytes + used
+  pub nodes : e.nodes ≡ d.nodes
+  pub points : e.points ≡ d.points
+  pub collections : e.collections ≡ d.collections
+  pub head : e.head ≡ d.head
+  pub ids : e.ids ≡ d.ids
+  pub members_left : e.members_left ≡ d.members_left
+  pub rings_left : e.rings_left ≡ d.rings_left
+  pub next : e.next ≡ d.next
+
+-- What an engine answers that takes points of the open list, each of a byte or more, and does not go
+-- past its end: so many bytes are points that came to the last row; or there is no memory for one.
+pub record TakesList {E : Type 0} (rs : List Row) (d : Engine) (bytes : List ℕ) (answer : Result ℕ E)
+    (more : List Row) (e : Engine) : Type 0 where
+  pub within : IfOk answer (λ used. used ≤ length bytes)
+  pub long : IfOk answer (λ used. d.points_left ≤ e.points_left + used)
+  pub run : IfOk answer (λ used. ListRuns rs d.position d.points_left (take used bytes) e.points_left
+      more e.position)
+  pub moves : IfOk answer (λ used. MovesOn d used e)
+  pub memory : OnErr answer (ListStops rs d.position d.points_left bytes)
   pub stays : Stays d e
 
 -- a byte of the piece is the last of an item that is refused, whatever follows

@@ -53,8 +53,8 @@ stage_at (next.BoxNumber left) d = OnOption (kind_of d.head.kind) (head_of d.hea
 stage_at next.MemberCount d = OnCount (many_of d.head.kind) (head_of d.head)
 stage_at next.Id d = OnId (many_of d.head.kind) (head_of d.head) (suc d.members_left)
     (ids_read d.ids) (d.members_left - length (ids_read d.ids))
-stage_at next.X d = body_at d (Wanted 0 (lists_of d.head.kind d.points_left d.rings_left d.members_left))
-stage_at next.Y d = body_at d (WantedY (lists_of d.head.kind d.points_left d.rings_left d.members_left))
+stage_at next.X d = body_at d (Wanted 0 (lists_of d.head.kind (d.points_left - 1) d.rings_left d.members_left))
+stage_at next.Y d = body_at d (WantedY (lists_of d.head.kind (d.points_left - 1) d.rings_left d.members_left))
 stage_at next.PointCount d = body_at d (Wanted 1 (line_lists_of d.head.kind d.rings_left d.members_left))
 stage_at next.RingCount d = body_at d (Wanted 2 (area_lists_of d.head.kind d.members_left))
 

@@ -18,6 +18,8 @@ use Rattle.twkb_engine.specs.Fits.{lists_of}
 use Rattle.twkb_engine.specs.Stops.{Stop, reason_of}
 use Rattle.twkb_engine.specs.declared.next_item.NextItem.TheVariants as next
 use Rattle.twkb_engine.specs.declared.engine.Engine.{Engine}
+use Rattle.twkb_engine.specs.declared.end.Inexact.{Inexact}
+use Rattle.twkb_engine.specs.declared.blob_reason.BlobReason.TheVariants.{SizeMismatch}
 use Rattle.twkb_flat.specs.declared.stop.Stop.TheVariants.{Memory, Refused}
 
 -- the sums after an item of this role, number and width
@@ -105,6 +107,11 @@ Lands way change d rs (Ok true) e more = (way ≡ Ok ([], OnFinished)) × (more 
     × BeginsAt (d.start + d.bytes) e
 Lands way change d rs (Err Memory) e more = Passes way
 Lands way change d rs (Err (Refused why)) e more = (way ≡ Err (reason_of why)) × (e.bytes ≡ d.bytes)
+
+-- the answer to an item with which geometries end: a size may be wrong
+abbrev pub judged_as : Result Bool Inexact → Result Bool Stop
+judged_as (Ok ends) = Ok ends
+judged_as (Err inexact) = Err (Refused SizeMismatch)
 
 -- past this stage of the geometry that is read
 abbrev pub past : Engine → Stage → Result Outline Reason

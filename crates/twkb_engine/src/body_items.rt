@@ -1,5 +1,5 @@
 //! The items of a body: coordinates, and counts of points and of rings.
-ghost use Rattle.std.specs.Prelude.{◌≡◌, ◌≢◌, ◌+◌, ◌≤◌, ◌^◌, [], true, false, List, Ok, Some, IfOk, OnOk, IfSome};
+ghost use Rattle.std.specs.Prelude.{◌≡◌, ◌≢◌, ◌+◌, ◌≤◌, [], true, false, List, Ok, Some, IfOk, OnOk, IfSome};
 ghost use Rattle.std.specs.Prelude.{IfNone};
 ghost use Rattle.twkb_tree.specs.Rows.{Row as TableRow};
 ghost use Rattle.twkb_grammar.specs.Roles as role;
@@ -12,6 +12,7 @@ ghost use Rattle.twkb_body.specs.Admitting.{Admits};
 ghost use Rattle.twkb_engine.specs.declared.next_item.NextItem.TheVariants as next;
 
 use crate::blob_reason::BlobReason;
+use crate::end::Inexact;
 use crate::engine::Engine;
 use crate::next_item::NextItem;
 use crate::span_notes::SpanNotes;
@@ -23,8 +24,10 @@ use twkb_points::Pt;
 
 impl Engine {
     ghost use Rattle.twkb_engine.specs.State.{IsPlaced, IsHere, outline_in, sums_of};
+    ghost use Rattle.twkb_engine.specs.Caps.{place_cap};
     ghost use Rattle.twkb_engine.specs.Fits.{are_shut, IsInside, IsBodyItem};
     ghost use Rattle.twkb_engine.specs.Taking.{Takes, Lands, IsFree, SameBlob, Keeps, past_end, past_last, point_row};
+    ghost use Rattle.twkb_engine.specs.Taking.{judged_as};
     ghost use Rattle.twkb_engine.specs.Notes.{NotesGo, notes_with, notes_past, open_in};
     ghost use Rattle.twkb_engine.specs.Standing.{ComesNext};
 
@@ -34,7 +37,7 @@ impl Engine {
     #[tactic(auto, using(twkb_body::proofs::Ranges::ranges))]
     pub(crate) fn x(&mut self, number: u64, width: u64) -> Result<bool, Stop>
         requires next { self.old.next ≡ next.X }
-        requires room { self.old.start + (self.old.bytes + width) ≤ 2 ^ 63 }
+        requires room { self.old.start + (self.old.bytes + width) ≤ place_cap }
         ensures taken { (rs : List TableRow) → Takes role.X number width self.old rs result self.new rs }
         ensures begun { IfOk result (λ ends. (ends ≡ false) × (open_in self.new ≡ open_in self.old)) }
         ensures placed { IsPlaced self.old.next self.old → OnOk result (IsPlaced self.new.next self.new) }
@@ -87,12 +90,13 @@ impl Engine {
         };
         self.bytes += width;
         self.position = position;
-        if self.points_left > 0 {
+        if self.points_left > 1 {
             flat.add_point(position)?;
             self.points_left -= 1;
             self.next = NextItem::X;
             return Ok(false);
         }
+        self.points_left = 0;
         self.last_point(flat, spans, position)
     }
 
@@ -152,7 +156,7 @@ impl Engine {
             return self.put_empty(flat, spans, row);
         }
         push_row(flat, row)?;
-        self.points_left = count - 1;
+        self.points_left = count;
         self.next = NextItem::X;
         Ok(false)
     }
@@ -219,10 +223,11 @@ impl Engine {
     // past the end of the geometry as `end_geometry` does. Returns whether the blob ends there.
     // Takes no memory.
     #[inline(always)]
-    fn end_value<S: SpanNotes>(&mut self, spans: &mut S) -> Result<bool, Stop>
+    fn end_value<S: SpanNotes>(&mut self, spans: &mut S) -> Result<bool, Inexact>
         requires last { self.old.points_left ≡ 0 }
         requires body { IsBodyItem self.old.next }
-        ensures ended { (rs : List TableRow) → Lands (past_last self.old) Nothing self.old rs result self.new rs }
+        ensures ended { (rs : List TableRow) → Lands (past_last self.old) Nothing self.old rs
+            (judged_as result) self.new rs }
         ensures noted { IfOk result (λ ends. NotesGo S.holds (notes_past self.old self.new ends)
             self.old spans.old spans.new) }
         ensures head { self.new.head ≡ self.old.head }
@@ -234,6 +239,22 @@ impl Engine {
         }
         self.end_list();
         Ok(false)
+    }
+
+    // Goes past the end of a list of points that are all taken, as `end_value` does. Not inlined, so
+    // that its caller keeps its registers.
+    #[inline(never)]
+    pub(crate) fn end_points<S: SpanNotes>(&mut self, spans: &mut S) -> Result<bool, Inexact>
+        requires last { self.old.points_left ≡ 0 }
+        requires body { IsBodyItem self.old.next }
+        ensures ended { (rs : List TableRow) → Lands (past_last self.old) Nothing self.old rs
+            (judged_as result) self.new rs }
+        ensures noted { IfOk result (λ ends. NotesGo S.holds (notes_past self.old self.new ends)
+            self.old spans.old spans.new) }
+        ensures placed { IsHere self.old → OnOk result (IsPlaced self.new.next self.new) }
+        ensures kept { Keeps self.old self.new }
+    {
+        self.end_value(spans)
     }
 
     // Whether no ring and no member is left after the open list or point, so that the body ends

@@ -26,20 +26,36 @@ fn is_exact(head: &Head, bytes: u64) -> bool
     }
 }
 
+// A size that is not exact.
+#[derive(Clone, Copy, Debug, PartialEq, Eq)]
+pub(crate) struct Inexact;
+
+impl From<Inexact> for Stop {
+    ghost use Rattle.twkb_flat.specs.declared.stop.Stop.TheVariants.{Refused};
+    ghost use Rattle.twkb_engine.specs.declared.blob_reason.BlobReason.TheVariants.{SizeMismatch};
+
+    ghost from_gives = { λ e stop. stop ≡ Refused SizeMismatch };
+
+    fn from(_: Inexact) -> Stop {
+        Stop::Refused(BlobReason::SizeMismatch)
+    }
+}
+
 impl Engine {
     ghost use Rattle.twkb_engine.specs.State.{IsPlaced};
     ghost use Rattle.twkb_engine.specs.Fits.{are_shut, IsInside, IsHeaderItem};
-    ghost use Rattle.twkb_engine.specs.Taking.{Lands, Keeps, past_end, own_row};
+    ghost use Rattle.twkb_engine.specs.Taking.{Lands, Keeps, past_end, own_row, judged_as};
     ghost use Rattle.twkb_engine.specs.Notes.{NotesGo, notes_past};
 
     // Ends the geometry that is read, and each collection whose last member ends with it, the
     // innermost first, and notes the ends of their spans. Returns true if the blob ends, and then
-    // goes to the next one's start; false if a member comes next. Refused at the first size that is
-    // not exact. Takes no memory.
-    pub(crate) fn end_geometry<S: SpanNotes>(&mut self, spans: &mut S) -> Result<bool, Stop>
+    // goes to the next one's start; false if a member comes next. Returns `Err` at the first size
+    // that is not exact. Takes no memory.
+    pub(crate) fn end_geometry<S: SpanNotes>(&mut self, spans: &mut S) -> Result<bool, Inexact>
         requires shut { are_shut self.old.points_left self.old.rings_left self.old.members_left ≡ true }
         requires inside { IsInside self.old.next }
-        ensures ended { (rs : List Row) → Lands (past_end self.old) Nothing self.old rs result self.new rs }
+        ensures ended { (rs : List Row) → Lands (past_end self.old) Nothing self.old rs
+            (judged_as result) self.new rs }
         ensures noted { IfOk result (λ ends. NotesGo S.holds (notes_past self.old self.new ends)
             self.old spans.old spans.new) }
         ensures judged { OnOk result (Passes (past_end self.old)) }
@@ -50,7 +66,7 @@ impl Engine {
         let mut head = self.head;
         loop {
             if !is_exact(&head, self.bytes) {
-                return Err(Stop::Refused(BlobReason::SizeMismatch));
+                return Err(Inexact);
             }
             spans.end(self.offset(), self.points);
             match self.collections.end_member(&mut self.ids) {

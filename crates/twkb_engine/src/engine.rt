@@ -1,10 +1,11 @@
 //! A blob that is read item by item into a flat form.
-ghost use Rattle.std.specs.Prelude.{◌≡◌, ◌+◌, ◌≤◌, ◌<◌, ◌^◌, [], ℕ, List, true, false, IfOk, OnOk, length};
+ghost use Rattle.std.specs.Prelude.{◌≡◌, ◌+◌, ◌≤◌, ◌<◌, [], ℕ, List, true, false, IfOk, OnOk, length};
 ghost use Rattle.twkb_num.specs.Varint.{IsOpenVarint};
 ghost use Rattle.twkb_tree.specs.Rows.{Row};
 ghost use Rattle.twkb_tree.specs.Limits.{IsAllowance};
 ghost use Rattle.twkb_grammar.specs.Roles.{Role};
-ghost use Rattle.twkb_engine.specs.Fits.{item_fits as fits, lists_fit as lists, depth_cap};
+ghost use Rattle.twkb_engine.specs.Fits.{item_fits as fits, lists_fit as lists};
+ghost use Rattle.twkb_engine.specs.Caps.{depth_cap, place_cap};
 
 use crate::next_item::NextItem;
 use crate::open_collections::OpenCollections;
@@ -32,8 +33,9 @@ pub struct Engine {
     pub(crate) nodes: u64,
     pub(crate) points: u64,
     pub(crate) collections: OpenCollections,
-    // The geometry that is read: its header, its members' ids, and the number of values after the
-    // open one in each of its lists.
+    // The geometry that is read: its header, its members' ids, the number of values after the open
+    // one in its lists of members and rings, and the number of points of the open list to come, 0 if
+    // none is open.
     pub(crate) head: Head,
     pub(crate) ids: MemberIds,
     pub(crate) members_left: u64,
@@ -47,7 +49,7 @@ pub struct Engine {
     ghost few_open: { length collections ≤ depth_cap },
     ghost item_fits: { fits next head.kind ≡ true },
     ghost lists_fit: { lists next head.kind points_left rings_left members_left ≡ true },
-    ghost within: { start + bytes ≤ 2 ^ 63 },
+    ghost within: { start + bytes ≤ place_cap },
 }
 
 impl Engine {
@@ -60,7 +62,7 @@ impl Engine {
     /// Makes an engine that has read nothing, for a blob at this offset of a stream. The limits are
     /// those of each geometry. Takes no memory.
     pub fn new(alloc: Global, limits: Limits, start: u64) -> Engine
-        requires room { start ≤ 2 ^ 63 }
+        requires room { start ≤ place_cap }
         ensures stands { StandsAt [] [] result }
         ensures limits { allowance_of result ≡ limits }
         ensures begins { BeginsAt start result }
@@ -113,7 +115,7 @@ impl Engine {
         width: u64,
     ) -> Result<bool, Stop>
         requires byte { IsByte self.old.next → (number < 256) × (width ≡ 1) }
-        requires room { self.old.start + (self.old.bytes + width) ≤ 2 ^ 63 }
+        requires room { self.old.start + (self.old.bytes + width) ≤ place_cap }
         requires alive { IsAlive flat.old self.old }
         ensures taken { (r : Role) → IsNext r self.old
             → Takes r number width self.old flat.old result self.new flat.new }

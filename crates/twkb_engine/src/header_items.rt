@@ -1,5 +1,5 @@
 //! The items of a header: type byte, metadata byte, extended byte, size and box.
-ghost use Rattle.std.specs.Prelude.{◌≡◌, ◌+◌, ◌≤◌, ◌<◌, ◌^◌, ◌/◌, ◌%◌, ℕ, List, [], None, true, IfOk, OnOk};
+ghost use Rattle.std.specs.Prelude.{◌≡◌, ◌+◌, ◌≤◌, ◌<◌, ◌/◌, ◌%◌, ℕ, List, [], None, true, IfOk, OnOk};
 ghost use Rattle.twkb_tree.specs.Rows.{Row};
 ghost use Rattle.twkb_grammar.specs.Roles as role;
 ghost use Rattle.twkb_grammar.specs.Fault.{announces_point as announces};
@@ -29,6 +29,7 @@ const BOX_REST: u8 = 3;
 impl Engine {
     ghost use Rattle.twkb_engine.specs.State.{IsPlaced, IsHere, outline_in, sums_of, size_roles, box_roles};
     ghost use Rattle.twkb_engine.specs.Collections.{frames_of};
+    ghost use Rattle.twkb_engine.specs.Caps.{place_cap};
     ghost use Rattle.twkb_engine.specs.Fits.{IsHeaderItem, are_shut, is_typed};
     ghost use Rattle.twkb_engine.specs.Taking.{Takes, Lands, SameBlob, SameBut, Keeps, past_parts, header_row};
     ghost use Rattle.twkb_engine.specs.Notes.{NotesGo, notes_with, notes_past};
@@ -103,7 +104,7 @@ impl Engine {
     ) -> Result<bool, Stop>
         requires byte { number < 256 }
         requires next { self.old.next ≡ next.TypeByte }
-        requires room { self.old.start + self.old.bytes < 2 ^ 63 }
+        requires room { self.old.start + self.old.bytes < place_cap }
         ensures taken { (rs : List Row) → Takes role.Header number 1 self.old rs result self.new rs }
         ensures noted { IfOk result (λ ends. NotesGo S.holds
             (notes_with role.Header number 1 self.old self.new ends) self.old spans.old spans.new) }
@@ -217,7 +218,7 @@ impl Engine {
         width: u64,
     ) -> Result<bool, Stop>
         requires next { self.old.next ≡ next.BoxNumber left }
-        requires room { self.old.start + (self.old.bytes + width) ≤ 2 ^ 63 }
+        requires room { self.old.start + (self.old.bytes + width) ≤ place_cap }
         requires alive { IsAlive flat.old self.old }
         ensures taken { (number : ℕ) → Takes role.Box number width self.old flat.old result self.new flat.new }
         ensures noted { (number : ℕ)

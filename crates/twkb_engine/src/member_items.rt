@@ -40,7 +40,7 @@ fn push_id(ids: &mut MemberIds, number: u64) -> Result<(), AllocError>
 impl Engine {
     ghost use Rattle.twkb_engine.specs.State.{IsPlaced, outline_in, sums_of};
     ghost use Rattle.twkb_engine.specs.Collections.{frames_of};
-    ghost use Rattle.twkb_engine.specs.Fits.{depth_cap};
+    ghost use Rattle.twkb_engine.specs.Caps.{depth_cap};
     ghost use Rattle.twkb_engine.specs.Taking.{Takes, SameBlob, Keeps, own_row, counted_row, count_role};
     ghost use Rattle.twkb_engine.specs.Notes.{NotesGo, notes_with, open_in};
     ghost use Rattle.twkb_engine.specs.Standing.{ComesNext};

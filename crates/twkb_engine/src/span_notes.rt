@@ -16,7 +16,8 @@ pub trait SpanNotes {
         ensures { OnOk result ((w : Notes) → length w.begun < 2 ^ 32 → holds self.old w
             → holds self.new (note_header offset points byte w)) };
 
-    /// Notes the metadata byte of the innermost open geometry. Takes no memory.
+    /// Notes the metadata byte of the innermost open geometry; nothing if none is open. Takes no
+    /// memory.
     fn set_metadata(&mut self, byte: u8)
         ensures { (w : Notes) → holds self.old w → holds self.new (note_metadata byte w) };
 
@@ -31,7 +32,7 @@ pub trait SpanNotes {
         ensures { OnOk result (holds self.old no_notes → holds self.new (record { spans = span ∷ []; begun = [] })) };
 }
 
-/// Notes nothing.
+/// Notes nothing, and takes no memory.
 #[derive(Clone, Copy, Debug)]
 pub struct NoSpans;
 

@@ -1,5 +1,5 @@
 //! Items that are complete at the start of bytes: a header, and a blob of a single point.
-ghost use Rattle.std.specs.Prelude.{◌≡◌, ◌+◌, ◌-◌, ◌<◌, ◌≤◌, ◌^◌, [], true, List, Ok, length, take};
+ghost use Rattle.std.specs.Prelude.{◌≡◌, ◌+◌, ◌-◌, ◌<◌, ◌≤◌, [], true, List, Ok, length, take};
 ghost use Rattle.std.specs.Prelude.{IfOk, IfSome, OnErr};
 ghost use Rattle.twkb_tree.specs.Rows.{Row};
 ghost use Rattle.twkb_grammar.specs.PlainReader.{is_exact};
@@ -51,6 +51,7 @@ fn point_span(offset: u64, blob: &[u8]) -> Span
 }
 
 impl Engine {
+    ghost use Rattle.twkb_engine.specs.Caps.{place_cap};
     ghost use Rattle.twkb_engine.specs.Taking.{Stays};
     ghost use Rattle.twkb_engine.specs.Standing.{FedBy, IsAhead, LeadsOn, StopsIn, held_in, count_of};
 
@@ -63,7 +64,7 @@ impl Engine {
         spans: &mut S,
         piece: &[u8],
     ) -> Result<usize, AllocError>
-        requires room { self.old.start + (count_of self.old + length piece.now) ≤ 2 ^ 63 }
+        requires room { self.old.start + (count_of self.old + length piece.now) ≤ place_cap }
         ensures made { IfOk result (λ used. 0 < used → FedBy S.holds self.old flat.old spans.old
             piece.now (Ok (used, true)) self.new flat.new spans.new) }
         ensures same { result ≡ Ok 0 → (self.new ≡ self.old) × (flat.new ≡ flat.old) × (spans.new ≡ spans.old) }
@@ -89,7 +90,7 @@ impl Engine {
     ) -> Result<usize, AllocError>
         requires none { self.old.bytes ≡ 0 }
         requires alone { held_in self.old ≡ [] }
-        requires room { self.old.start + length piece.now ≤ 2 ^ 63 }
+        requires room { self.old.start + length piece.now ≤ place_cap }
         ensures made { IfOk result (λ used. 0 < used → FedBy S.holds self.old flat.old spans.old
             piece.now (Ok (used, true)) self.new flat.new spans.new) }
         ensures same { result ≡ Ok 0 → (self.new ≡ self.old) × (flat.new ≡ flat.old) × (spans.new ≡ spans.old) }

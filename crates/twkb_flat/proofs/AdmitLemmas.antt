@@ -27,7 +27,7 @@ use Rattle.twkb_tree.proofs.RowLaws.{admitted_rows}
 use Rattle.twkb_tree.proofs.RootLaws.{as_list}
 use Rattle.twkb_tree.proofs.OpenLaws.{open_none}
 use Rattle.twkb_tree.proofs.OpenDecides.{open_at}
-use Rattle.twkb_flat.specs.Admitting.{is_admitted_at}
+use Rattle.twkb_flat.specs.RowTest.{is_admitted_at}
 
 -- two tests that imply each other are equal
 alike : (a b : Bool) → (a ≡ true → b ≡ true) → (b ≡ true → a ≡ true) → a ≡ b

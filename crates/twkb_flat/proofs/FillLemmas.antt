@@ -18,6 +18,7 @@ use Rattle.twkb_tree.proofs.RootLimits.{valid_list, continues_row, one_valid_fro
 use Rattle.twkb_tree.proofs.RowDepths.{valid_depths}
 use Rattle.twkb_tree.proofs.RowFitting.{own_row-depth}
 use Rattle.twkb_tree.proofs.RowMembers.{each_next, ids_from_start, member_rows_each, own_row_first, under_shape}
+use Rattle.twkb_flat.specs.Rows.{row_depth_cap}
 use Rattle.twkb_flat.specs.Components.{IsSimple, component_rows}
 
 -- these are rows of one geometry within the largest limits
@@ -44,9 +45,10 @@ shallow_at : (n : ℕ) (old : List Row) (r : Row) (more : List Row) → AreShall
 shallow_at n [] r more h = h.0
 shallow_at n (s ∷ old) r more h = shallow_at n old r more h.1
 
--- no row is deeper than 34
-pub no_deeper : (old : List Row) (r : Row) (more : List Row) → AreFlatRows (old ++ r ∷ more) → r.depth ≤ 34
-no_deeper old r more v = shallow_at 34 old r more
+-- no row is deeper than the cap
+pub no_deeper : (old : List Row) (r : Row) (more : List Row) → AreFlatRows (old ++ r ∷ more)
+    → r.depth ≤ row_depth_cap
+no_deeper old r more v = shallow_at row_depth_cap old r more
     (valid_depths largest_limits (old ++ r ∷ more) (valid_list largest_limits (old ++ r ∷ more) v))
 
 -- ---- members, one after another
@@ -140,10 +142,10 @@ component_pushed own below k d id x ps now after last e pushed all =
     (pushed ∙ ap (λ (qs : List Point). now ++ plain_row d k id qs ∷ []) e)
     ∙ append_assoc now (plain_row d k id (own x) ∷ []) (below (suc d) x)
 
--- a component is no deeper than 34
+-- a component is no deeper than the cap
 pub component_no_deeper : {A : Type 0} (own : A → List Point) (below : ℕ → A → List Row) (k : Kind)
     (d : ℕ) (id : Option ℤ) (x : A) (now : List Row)
-    → AreFlatRows (now ++ component_rows own below k d id x) → d ≤ 34
+    → AreFlatRows (now ++ component_rows own below k d id x) → d ≤ row_depth_cap
 component_no_deeper own below k d id x now v = no_deeper now (plain_row d k id (own x)) (below (suc d) x) v
 
 -- ---- a geometry
@@ -177,9 +179,10 @@ all_pushed result id d g r old now last e pushed told =
     ∙ ap (λ q. old ++ q ∷ rows_under (suc d) g) e ∙ ap (λ rs. old ++ rs) (sym (own_row_first id d g)))
     told
 
--- a geometry is no deeper than 34
-pub own_no_deeper : (id : Option ℤ) (d : ℕ) (g : Tree) (old : List Row) → AreFlatRows (old ++ rows_with id d g) → d ≤ 34
-own_no_deeper id d g old v = subst (λ e. e ≤ 34) (own_row-depth id d g)
+-- a geometry is no deeper than the cap
+pub own_no_deeper : (id : Option ℤ) (d : ℕ) (g : Tree) (old : List Row) → AreFlatRows (old ++ rows_with id d g)
+    → d ≤ row_depth_cap
+own_no_deeper id d g old v = subst (λ e. e ≤ row_depth_cap) (own_row-depth id d g)
     (no_deeper old (own_row id d g) (rows_under (suc d) g)
     (subst (λ rs. AreFlatRows (old ++ rs)) (own_row_first id d g) v))
 

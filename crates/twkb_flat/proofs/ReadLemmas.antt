@@ -12,7 +12,7 @@ use Rattle.twkb_tree.specs.Rows.{Row as TableRow, row_points}
 use Rattle.twkb_flat.specs.declared.node.Row.{Row}
 use Rattle.twkb_flat.specs.declared.kept_nodes.PlacedRow.{PlacedRow}
 use Rattle.twkb_flat.specs.declared.kept_nodes.KeptNode.{KeptNode}
-use Rattle.twkb_flat.specs.Rows.{row_with}
+use Rattle.twkb_flat.specs.Rows.{row_with, row_depth_cap}
 use Rattle.twkb_flat.specs.KeptNodes.{listed, Laid, placed_of}
 use Rattle.twkb_flat.specs.Taking.{IsAt}
 use Rattle.twkb_tree.specs.Limits.{largest_limits}
@@ -98,20 +98,19 @@ points_here es ps i e rows r rest laid view within is at =
     cut_out own.0 h.own own.1 ps e.placed.first (e.placed.first + e.placed.points - e.placed.first) own.2
     count own.3 ∙ ap (λ (q : TableRow). q.points) same
 
--- no row is deeper than 34
+-- no row is deeper than the cap
 pub shallow_here : (es : List KeptNode) (ps : List Point) (i : ℕ) (e : KeptNode)
     (rows : List TableRow) → AreValidRowsOfOne largest_limits (listed (map placed_of es) ps)
     → Laid 0 (map placed_of es) (length ps) → i < length es → e ≡ get_or es i e
-    → e.placed.row.depth < 35
+    → e.placed.row.depth ≤ row_depth_cap
 shallow_here es ps i e rows v laid within is =
     let h = node_here es ps i e laid within is in
     let rows = listed (map placed_of es) ps in
     let split : take i rows ++ row_with e.placed.row h.own ∷ h.rest ≡ rows =
     ap (λ (q : List TableRow). take i (listed (map placed_of es) ps) ++ q) (sym h.here)
     ∙ take-append-drop i rows in
-    let most = no_deeper (take i rows) (row_with e.placed.row h.own) h.rest
-    (subst (AreValidRowsOfOne largest_limits) (sym split) v) in
-    omega (arith, most)
+    no_deeper (take i rows) (row_with e.placed.row h.own) h.rest
+    (subst (AreValidRowsOfOne largest_limits) (sym split) v)
 
 -- ---- by the rows alone
 

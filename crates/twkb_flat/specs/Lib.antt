@@ -1,5 +1,5 @@
 -- The definitions of the crate, by their topic.
-pub mod Admitting
+pub mod RowTest
 pub mod KeptNodes
 pub mod Lasts
 pub mod Links

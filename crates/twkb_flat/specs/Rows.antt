@@ -1,6 +1,7 @@
 -- The rows of a flat form, and its nodes among them.
 use Rattle.std.specs.Prelude.{ℕ, ◌≡◌, ◌+◌, ◌≤◌, ◌<◌, List, ◌∷◌, map, length, drop, take, slice_index}
 use Rattle.twkb_points.specs.Point.{Point}
+use Rattle.twkb_tree.specs.declared.limits.TheConstants.{NEST_CAP}
 use Rattle.twkb_tree.specs.Rows.{Row as TableRow, row_points}
 use Rattle.twkb_flat.specs.declared.node.Row.{Row}
 use Rattle.twkb_flat.specs.declared.node.Node.{Node}
@@ -9,6 +10,11 @@ use Rattle.twkb_flat.specs.Links.{IsNext}
 -- a row with its own points
 abbrev pub row_with : Row → List Point → TableRow
 row_with r ps = record { depth = r.depth; kind = r.kind; id = r.id; precision = r.precision; points = ps }
+
+-- The greatest depth of a row: that of a ring in a polygon of a multipolygon that is in as many
+-- collections as limits allow.
+abbrev pub row_depth_cap : ℕ
+row_depth_cap = NEST_CAP + 2
 
 -- the depth of a row
 abbrev pub depth_of : TableRow → ℕ

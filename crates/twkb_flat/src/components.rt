@@ -8,9 +8,9 @@ ghost use Rattle.twkb_tree.specs.declared.kind.Kind.{Kind};
 ghost use Rattle.twkb_flat.specs.Components.{component_rows};
 ghost use Rattle.twkb_flat.specs.Taking.{OneAt, IsAny};
 
-use crate::building::take_each;
-use crate::filling::push_each;
+use crate::built_geometry::take_each;
 use crate::flat::Flat;
+use crate::geometry_rows::push_each;
 use std::alloc::{AllocError, Global};
 use std::slice::from_ref;
 use twkb_points::Pt;

@@ -9,10 +9,10 @@ ghost use Rattle.twkb_tree.specs.Accepted.{Continues};
 ghost use Rattle.twkb_tree.specs.RowLists.{AreValidRowsOfOne};
 ghost use Rattle.twkb_flat.specs.Rows.{IsNode, row_with};
 
-use crate::admitting::{admits_at, is_next, look};
 use crate::kept_nodes::{KeptNode, PlacedRow, link_last, put_point, put_row};
 use crate::node::{Node, NodeId, PointId, Row};
 use crate::point_source::{Copied, PointSource};
+use crate::row_test::{admits_at, is_next, look};
 use crate::work::Work;
 use std::alloc::{AllocError, Global};
 use std::marker::Model;

@@ -7,7 +7,7 @@ use Rattle.std.specs.Simd.{first_chunks}
 use Rattle.twkb_points.specs.Point.{Point}
 use Rattle.twkb_points.specs.Steps.{last_of}
 use Rattle.twkb_polyline.specs.Polyline.{number_text, polyline_from}
-use Rattle.twkb_polyline.specs.Spelling.{points_of}
+use Rattle.twkb_polyline.specs.SpelledNumbers.{points_of}
 
 -- Of the points after `start`, those in `left` are still to be written: the text of the others
 -- was appended to `old`, and the cursor is at the last of them.

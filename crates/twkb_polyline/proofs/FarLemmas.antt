@@ -5,7 +5,7 @@ use lib.Count.{count_leading_zeros}
 use Rattle.std.proofs.Math.Nat.{pow-suc, pow-le-pow_right}
 use Rattle.std.proofs.lemmas.Bool.{cases_lt}
 use Rattle.std.proofs.lemmas.Nat.{leading_top, le_or_l, le_or_r, or_lt, pow-add}
-use Rattle.twkb_polyline.specs.Spelling.{spread, marks, HasGroups}
+use Rattle.twkb_polyline.specs.SpelledNumbers.{spread, marks, HasGroups}
 use Rattle.twkb_num.specs.Alphabet.{five_unit}
 use Rattle.twkb_num.specs.Digits.{digits, low_digits}
 use Rattle.twkb_num.specs.Spelling.{shortest}

@@ -1,7 +1,7 @@
 -- The lanes of a vector, one number in each.
 use Rattle.std.proofs.Common.{◌≡◌, ℕ, ◌+◌, ◌*◌, ◌/◌, ◌%◌, ◌<◌, ◌^◌, ◌∙◌, arith, bit_and}
 use Rattle.std.proofs.lemmas.Nat.{and_mask}
-use Rattle.twkb_polyline.specs.Spelling.{spread}
+use Rattle.twkb_polyline.specs.SpelledNumbers.{spread}
 
 -- groups put at their places add up without a carry
 placed : (a b c d : ℕ) → a < 32 → b < 32 → c < 32 → d < 32

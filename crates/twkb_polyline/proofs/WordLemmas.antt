@@ -7,7 +7,7 @@ use Rattle.twkb_num.specs.Alphabet.{five_unit}
 use Rattle.twkb_num.specs.Digits.{low_digits}
 use Rattle.twkb_num.specs.Spelling.{shortest}
 use Rattle.twkb_num.proofs.SpellingLemmas.{shortest_more, shortest_one}
-use Rattle.twkb_polyline.specs.Spelling.{spread, marks, HasGroups}
+use Rattle.twkb_polyline.specs.SpelledNumbers.{spread, marks, HasGroups}
 
 -- ---- one number
 

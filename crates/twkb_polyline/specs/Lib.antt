@@ -1,5 +1,5 @@
 pub mod Polyline
 pub mod Fault
 pub mod Reading
-pub mod Spelling
+pub mod SpelledNumbers
 pub mod Texts

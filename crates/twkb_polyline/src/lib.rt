@@ -1,15 +1,15 @@
 //! Encoded polylines: lists of points as text, and back.
 #![tactic(auto)]
 
-mod decoding;
-mod encoding;
+mod decoded_points;
+mod encoded_text;
 mod fault;
 pub mod laws;
 mod pairs;
 mod piece;
-mod spelling;
+mod spelled_numbers;
 mod whole;
 
-pub use decoding::{decode, decode_into, decode_one};
-pub use encoding::{encode, encode_into, encode_point};
+pub use decoded_points::{decode, decode_into, decode_one};
+pub use encoded_text::{encode, encode_into, encode_point};
 pub use fault::{PolyFault, PolyReason};

@@ -13,6 +13,7 @@ use Rattle.std.proofs.lemmas.Fmt.{signed_decimal_injective}
 use Rattle.std.proofs.lemmas.Str.{IsUtf8-from_ascii}
 use Rattle.twkb_tree.specs.Tree.{IsId, IsPrecision}
 use Rattle.twkb_table.specs.Fields.{IsDepthField, IsIdField, IsPrecisionField}
+use Rattle.twkb_table.specs.declared.decimal.TheConstants.{GREATEST_DEPTH}
 
 -- the size of an i64, less one if it is negative, is below 2 ^ 63
 pub mag-id : (id : ℤ) → IsId id → mag id < 2 ^ 63
@@ -55,7 +56,7 @@ pub precision-id : (precision : ℤ) → IsPrecision precision → IsId precisio
 precision-id precision h = let least = h.0 in let most = h.1 in (omega (arith, ints), omega (arith, ints))
 
 -- a depth is an i64
-pub depth-id : (depth : ℕ) → depth ≤ 999 → IsId (pos depth)
+pub depth-id : (depth : ℕ) → depth ≤ GREATEST_DEPTH → IsId (pos depth)
 depth-id depth few = (omega (arith, ints), omega (arith, ints))
 
 -- the depth that a field spells is its number

@@ -16,6 +16,7 @@ use Rattle.twkb_tree.specs.Admits.{is_id, is_precision}
 use Rattle.twkb_tree.proofs.RowRanges.{is_id-true, id_is, is_precision-true, precision_is}
 use Rattle.twkb_table.specs.Fields.{IsDepthField, IsIdField, IsPrecisionField, IsOptionalId, IsOptionalPrecision}
 use Rattle.twkb_tree.specs.Kind.{word_of}
+use Rattle.twkb_table.specs.declared.decimal.TheConstants.{GREATEST_DEPTH}
 use Rattle.twkb_table.proofs.DecimalLemmas.{mag-id, depth-id, precision-id, depth_number, precision_number}
 use Rattle.twkb_table.proofs.FieldLemmas.{kind_from, kind_from-word_of}
 
@@ -76,17 +77,17 @@ decided_id field = id_by field (spelled field) (bytes_eq field (signed_decimal (
     ∙ spelled-signed_decimal id h.1)
 
 too_deep : (field : List ℕ) (number : ℤ) → IsIdField field number
-    → ((d : ℕ) → number ≡ pos d → d ≤ 999 → ⊥) → (d : ℕ) → IsDepthField field d → ⊥
+    → ((d : ℕ) → number ≡ pos d → d ≤ GREATEST_DEPTH → ⊥) → (d : ℕ) → IsDepthField field d → ⊥
 too_deep field number n apart d h = apart d (depth_number field number d n h) h.1
 
-depth_by : (field : List ℕ) (n : ℕ) (b : Bool) → IsIdField field (pos n) → nat_le n 999 ≡ b
+depth_by : (field : List ℕ) (n : ℕ) (b : Bool) → IsIdField field (pos n) → nat_le n GREATEST_DEPTH ≡ b
     → SomeOrNone (IsDepthField field)
 depth_by field n true h e = inl (n, (h.0, grind (arith, nat_tests)))
 depth_by field n false h e = inr (too_deep field (pos n) h
     (λ d same few. (let one : n ≡ d = cc same in grind (arith, nat_tests))))
 
 depth_of : (field : List ℕ) → SomeOrNone (IsIdField field) → SomeOrNone (IsDepthField field)
-depth_of field (inl (pos n, h)) = depth_by field n (nat_le n 999) h refl
+depth_of field (inl (pos n, h)) = depth_by field n (nat_le n GREATEST_DEPTH) h refl
 depth_of field (inl (negsuc n, h)) = inr (too_deep field (negsuc n) h (λ d same few. cc same))
 depth_of field (inr none) = inr (λ d h. none (pos d) (h.0, depth-id d h.1))
 

@@ -13,6 +13,7 @@ use Rattle.twkb_tree.specs.Rows.{Row}
 use Rattle.twkb_table.specs.Fields.{optional}
 use Rattle.twkb_tree.specs.Kind.{word_of}
 use Rattle.twkb_table.specs.Record.{record_of}
+use Rattle.twkb_table.specs.declared.decimal.TheConstants.{GREATEST_DEPTH}
 use Rattle.twkb_polyline.proofs.OneFault.{one_polyline}
 use Rattle.twkb_table.proofs.DecimalLemmas.{mag-id, one_id, precision-id}
 
@@ -58,7 +59,7 @@ tail_same x y xs ys e = cc e
 -- ---- numbers
 
 -- two depths with the same decimal are equal
-pub one_depth : (d e : ℕ) → d ≤ 999 → e ≤ 999 → decimal d ≡ decimal e → d ≡ e
+pub one_depth : (d e : ℕ) → d ≤ GREATEST_DEPTH → e ≤ GREATEST_DEPTH → decimal d ≡ decimal e → d ≡ e
 one_depth d e p q h = decimal_injective d e (omega arith) (omega arith) h
 
 -- a number's decimal is not empty
@@ -83,7 +84,7 @@ precision-ids (Some n) h = precision-id n h
 
 -- The row's numbers are in the ranges of their fields.
 pub record IsPlain (r : Row) : Type 0 where
-  pub depth : r.depth ≤ 999
+  pub depth : r.depth ≤ GREATEST_DEPTH
   pub id : IfSome r.id IsId
   pub precision : IfSome r.precision IsPrecision
 

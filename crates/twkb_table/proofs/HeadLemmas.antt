@@ -132,15 +132,15 @@ text_refused head points left offset why f needed are_left is refused =
     )
 
 -- the list grew by the points that were decoded
-pub has_grown : (text : List ℕ) (left held count : ℕ) (old new : List Point)
-    → AppendsDecoded text left old new → held ≡ length old → count ≡ length new → held ≤ count
-has_grown text left held count old new a before after = omega
+pub has_grown : (text : List ℕ) (left start count : ℕ) (old new : List Point)
+    → AppendsDecoded text left old new → start ≡ length old → count ≡ length new → start ≤ count
+has_grown text left start count old new a before after = omega
     (arith, before, after, ap length a.appended, length-append old a.ps)
 
 -- as many points were decoded as the list grew by
-grown_by : (text : List ℕ) (left held count : ℕ) (old new : List Point) (a : AppendsDecoded text left old new)
-    → held ≡ length old → count ≡ length new → length a.ps ≡ count - held
-grown_by text left held count old new a before after = omega
+grown_by : (text : List ℕ) (left start count : ℕ) (old new : List Point) (a : AppendsDecoded text left old new)
+    → start ≡ length old → count ≡ length new → length a.ps ≡ count - start
+grown_by text left start count old new a before after = omega
     (arith, before, after, ap length a.appended, length-append old a.ps)
 
 decoded_left : (head : RowHead) (points left : ℕ) (ps : List Point) → AreLeft head points left
@@ -149,12 +149,12 @@ decoded_left : (head : RowHead) (points left : ℕ) (ps : List Point) → AreLef
 decoded_left head points left ps are_left = subst (λ m. DecodesTo head.text.now m ps)
     (left_is head points left are_left)
 
-pub points_accepted : (head : RowHead) (points left held count : ℕ) (old new : List Point)
+pub points_accepted : (head : RowHead) (points left start count : ℕ) (old new : List Point)
     → (HasNeedlessText head → ⊥) → AreLeft head points left → AppendsDecoded head.text.now left old new
-    → held ≡ length old → count ≡ length new → AllowsMany head (count - held)
+    → start ≡ length old → count ≡ length new → AllowsMany head (count - start)
     → (own : List Point) × (new ≡ old ++ own) × JudgedAs head (Accepted (row_with (head_row head) own))
-points_accepted head points left held count old new needed are_left a before after allows =
-    let many = grown_by head.text.now left held count old new a before after in (
+points_accepted head points left start count old new needed are_left a before after allows =
+    let many = grown_by head.text.now left start count old new a before after in (
       a.ps,
       a.appended,
       inr (
@@ -172,12 +172,12 @@ abbrev pub RefusesMany : RowHead → ℕ → RowReason → Type 0
 RefusesMany head count reason =
     (ps : List Point) → length ps ≡ count → RefusesCount (place_seen head.row_place) head.kind ps reason
 
-pub points_refused : (head : RowHead) (points left held count : ℕ) (old new : List Point) (reason : RowReason)
+pub points_refused : (head : RowHead) (points left start count : ℕ) (old new : List Point) (reason : RowReason)
     → (HasNeedlessText head → ⊥) → AreLeft head points left → AppendsDecoded head.text.now left old new
-    → held ≡ length old → count ≡ length new → RefusesMany head (count - held) reason
+    → start ≡ length old → count ≡ length new → RefusesMany head (count - start) reason
     → JudgedAs head (Refused reason)
-points_refused head points left held count old new reason needed are_left a before after refuses =
-    let many = grown_by head.text.now left held count old new a before after in
+points_refused head points left start count old new reason needed are_left a before after refuses =
+    let many = grown_by head.text.now left start count old new a before after in
     inr (
       needed,
       inr (

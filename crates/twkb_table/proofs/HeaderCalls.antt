@@ -1,5 +1,5 @@
 -- What a call of a reader of tables shows up to its first row.
-use Rattle.std.proofs.Common.{◌≡◌, ℕ, ◌+◌, ◌<◌, ◌^◌, ◌⊎◌, Bool, true, false, List, [], ◌∷◌, ◌++◌}
+use Rattle.std.proofs.Common.{◌≡◌, ℕ, ◌+◌, ◌<◌, ◌⊎◌, Bool, true, false, List, [], ◌∷◌, ◌++◌}
 use Rattle.std.proofs.Common.{length, Option, Result, Ok, Err, refl, sym, ◌∙◌, ap, subst, arith}
 use Rattle.std.proofs.Common.{inl, inr}
 use Rattle.std.specs.Prelude.{IfSome}
@@ -12,8 +12,8 @@ use Rattle.twkb_tree.specs.Rows.{Row, rows}
 use Rattle.twkb_table.specs.Record.{Record, header}
 use Rattle.twkb_table.specs.Named.{Named}
 use Rattle.twkb_table.specs.RowFault.{AreComplete, all_but_last}
-use Rattle.twkb_table.specs.CsvRecords.{AreRecordsOf, BeginWith, standing}
-use Rattle.twkb_table.specs.Numbering.{MissesRecord, fault_of}
+use Rattle.twkb_table.specs.CsvRecords.{AreRecordsOf, BeginWith}
+use Rattle.twkb_table.specs.NumberedRecords.{MissesRecord, fault_of}
 use Rattle.twkb_table.specs.RowReading.{limits_of, waiting}
 use Rattle.twkb_table.specs.TableReading.{HaveGiven, StandsAfter, Extends, MeetsEnd, IsRefusedAt}
 use Rattle.twkb_table.specs.TableReading.{Explains, HasHeader, BeginsNext, ReadsRoot, HasRead}
@@ -21,6 +21,7 @@ use Rattle.twkb_table.specs.TableReading.{is_ended, is_spent}
 use Rattle.twkb_flat.specs.declared.stop.Stop.{Stop}
 use Rattle.twkb_flat.specs.declared.stop.Stop.TheVariants.{Memory, Refused}
 use Rattle.twkb_flat.specs.Stops.{IfRefused}
+use Rattle.twkb_table.specs.declared.numbered_records.TheConstants.{RECORD_CAP}
 use Rattle.twkb_table.specs.declared.reason.RowReason.{RowReason}
 use Rattle.twkb_table.specs.declared.reason.RowReason.TheVariants.{BadHeader}
 use Rattle.twkb_table.specs.declared.table_fault.TableFault.{TableFault}
@@ -35,7 +36,7 @@ use Rattle.twkb_table.proofs.TableSteps.{too_many}
 pub no_record : (l : Allowance) (told : Option (List ℕ)) (records : List Record)
     (given gs : List Tree) (number : ℕ) (f : TableFault) → Named l records gs
     → given ≡ all_but_last gs → number ≡ length records
-    → (f ≡ fault.Source) ⊎ ((f ≡ fault.TooManyRecords) × (number + 1 ≡ 2 ^ 32)
+    → (f ≡ fault.Source) ⊎ ((f ≡ fault.TooManyRecords) × (number + 1 ≡ RECORD_CAP)
     × ((here : Record) × IfSome told (λ text. BeginWith text (records ++ here ∷ []))))
     → Explains l told records given f
 no_record l told records given gs number f named complete count (inl source) =
@@ -160,13 +161,6 @@ after_header l remaining told records given mid new r h reads =
     (header ∷ [], ap (λ (rs : List Record). rs ++ header ∷ []) (sym h.fresh)) there
 
 -- ---- the root that waits
-
-pub still_read : {R : Type 0} (remaining : R → Option (List ℕ)) (told : Option (List ℕ))
-    (records : List Record) (old new : TableReader R) → HasRead remaining told records old
-    → new.reader ≡ old.reader → is_ended new ≡ is_ended old → HasRead remaining told records new
-still_read remaining told records old new s source ended =
-    subst (standing remaining told records (is_ended new)) (sym source)
-    (subst (λ e. standing remaining told records e old.reader) (sym ended) s)
 
 -- a root that waits is that of one more geometry
 a_tree : (l : Allowance) (records : List Record) (given : List Tree) (ws : List Row) (ended : Bool)

@@ -11,7 +11,7 @@ use Rattle.twkb_flat.specs.declared.work.Work.{Work}
 use Rattle.twkb_tree.specs.Rows.{Row, row_points}
 use Rattle.twkb_table.specs.Record.{Record, record_of}
 use Rattle.twkb_table.specs.Text.{csvtext, joined}
-use Rattle.twkb_table.specs.Printing.{row_lines, Grows}
+use Rattle.twkb_table.specs.RowLines.{row_lines, Grows}
 
 -- the lines of two lists of rows
 pub row_lines-append : (rs ss : List Row) → row_lines (rs ++ ss) ≡ row_lines rs ++ row_lines ss

@@ -14,6 +14,7 @@ use Rattle.twkb_tree.proofs.RootEnd.{first_all_ended}
 use Rattle.twkb_table.specs.Record.{Record, header, record_of}
 use Rattle.twkb_table.specs.Named.{Named}
 use Rattle.twkb_table.specs.Parts.{BeginAtRoot}
+use Rattle.twkb_table.specs.declared.decimal.TheConstants.{GREATEST_DEPTH}
 use Rattle.twkb_table.proofs.FieldLemmas.{tail_same}
 use Rattle.twkb_table.proofs.Tables.{geometries, shallow_rows, split}
 
@@ -42,7 +43,7 @@ named_joined l records more gs hs a b = record {
 }
 
 -- a record of depth 0 is that of a root
-at_root : (rs : List Row) (records : List Record) → AreShallow 999 rs → map record_of rs ≡ records
+at_root : (rs : List Row) (records : List Record) → AreShallow GREATEST_DEPTH rs → map record_of rs ≡ records
     → BeginAtRoot records → IsAtRoot rs
 at_root [] records shallow e root = tt
 at_root (r ∷ rs) records shallow e root = decimal_injective r.depth 0 (omega (arith, shallow.0))
@@ -54,8 +55,8 @@ pub named_cut : (l : Allowance) (records more : List Record) (ks : List Tree) �
 named_cut l records more ks cap root n =
     let s = split (rows_of ks) records more (sym (below_header l (records ++ more) ks n)) in
     let (gs, valid, front) = valid_front l s.front s.more (ks, n.valid, s.whole) in
-    let shallow = all_apart (IsShallow 999) s.front s.more
-    (subst (λ rs. AreShallow 999 rs) s.whole (shallow_rows l ks cap n.valid)) in
+    let shallow = all_apart (IsShallow GREATEST_DEPTH) s.front s.more
+    (subst (λ rs. AreShallow GREATEST_DEPTH rs) s.whole (shallow_rows l ks cap n.valid)) in
     let (hs, whole, others) = first_all_ended gs s.more ks (geometries l gs valid)
     (geometries l ks n.valid) (at_root s.more more shallow.1 s.others root)
     (ap (λ rs. rs ++ s.more) front ∙ sym s.whole) in

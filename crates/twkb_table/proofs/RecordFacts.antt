@@ -72,7 +72,7 @@ row_place_begins remaining (Some text) records true reader s = (s.0, s.1, s.2)
 -- what a read shows about the source
 pub source_gives : {R : Type 0} (remaining : R → Option (List ℕ)) (old new : RecordSource R)
     (r : Result Bool TableFault) → new.spent ≡ is_err r
-    → IfOk r (λ found. found ≡ true → Advances remaining old.ended old.reader (fields_of new.held)
+    → IfOk r (λ found. found ≡ true → Advances remaining old.ended old.reader (fields_of new.last)
     new.ended new.reader) → IfOk r (λ found. found ≡ true → GivesRecord remaining old new)
 source_gives remaining old new (Ok found) spent h = λ is told records s.
     (let (stands, begins) = h is told records s.0 in ((stands, spent), begins))

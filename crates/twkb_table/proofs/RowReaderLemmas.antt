@@ -186,5 +186,5 @@ pub judged_by_open : (l : Allowance) (rows : List Row) (os : List OpenRow) (node
     → AreOpen (reverse rows) os → nodes ≡ length rows → points ≡ length (row_points rows)
     → ((before : List Row) → StandsAfter before os nodes points → Judged l before fields v)
     → (earlier : List Row) → Judged l (reverse (earlier ++ rows)) fields v
-judged_by_open l rows os nodes points fields v of_one some open_now count held j earlier =
-    j (reverse (earlier ++ rows)) (rw (count, held) (stands_after l os rows earlier of_one some open_now))
+judged_by_open l rows os nodes points fields v of_one some open_now nodes_are points_are j earlier =
+    j (reverse (earlier ++ rows)) (rw (nodes_are, points_are) (stands_after l os rows earlier of_one some open_now))

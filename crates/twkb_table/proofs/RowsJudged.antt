@@ -26,6 +26,7 @@ use Rattle.twkb_table.specs.declared.reason.RowReason.TheVariants.{IdNotAllowed,
 use Rattle.twkb_table.specs.declared.reason.RowReason.TheVariants.{BadPrecision, PrecisionMissing}
 use Rattle.twkb_table.specs.declared.reason.RowReason.TheVariants.{PrecisionNotAllowed}
 use Rattle.twkb_table.specs.declared.reason.RowReason.TheVariants.{PolylineNotAllowed, PointCount}
+use Rattle.twkb_table.specs.declared.decimal.TheConstants.{GREATEST_DEPTH}
 use Rattle.twkb_polyline.proofs.OneFault.{one_polyline, text_fault_none}
 use Rattle.twkb_table.proofs.FieldLemmas.{one_depth, one_word, one_optional, precision-ids}
 use Rattle.twkb_table.proofs.Verdicts.{both_true, both, stays_true, skip, pick}
@@ -62,7 +63,7 @@ judged_polyline l before r v h own j =
     skip v PointCount last (stays_true (points_fit k w r.points) h.points)
 
 pub judged_only : (l : Allowance) (before : List Row) (r : Row) (v : Verdict) → Accepts l before r
-    → r.depth ≤ 999 → Judged l before (record_of r) v → v ≡ Accepted r
+    → r.depth ≤ GREATEST_DEPTH → Judged l before (record_of r) v → v ≡ Accepted r
 judged_only l before r v a le j =
     let d = r.depth in
     let k = r.kind in
@@ -100,7 +101,7 @@ judged_only l before r v a le j =
     let extra = skip v PrecisionNotAllowed needed (stays_true (precision_allowed p r.precision) tested.1) in
     judged_polyline l before r v h (decoded l before r a) extra
 
-pub row_judged : (l : Allowance) (before : List Row) (r : Row) → Accepts l before r → r.depth ≤ 999
+pub row_judged : (l : Allowance) (before : List Row) (r : Row) → Accepts l before r → r.depth ≤ GREATEST_DEPTH
     → Judged l before (record_of r) (Accepted r)
 row_judged l before r a le =
     let d = r.depth in

@@ -9,13 +9,10 @@ use Rattle.twkb_tree.specs.Limits.{Allowance}
 use Rattle.twkb_tree.specs.Rows.{Row, rows}
 use Rattle.twkb_tree.proofs.RootLaws.{one_geometry}
 use Rattle.twkb_table.specs.Record.{Record}
-use Rattle.twkb_table.specs.RowReading.{limits_of, waiting}
 use Rattle.twkb_table.specs.TableReading.{StandsAfter, GivesGeometry, Ends, GivesNext, GivesTree}
-use Rattle.twkb_table.specs.TableReading.{MeetsEnd, IsReading, BeginsNext, ReadsRoot, ReadsOn}
-use Rattle.twkb_table.specs.TableReading.{is_ended, is_spent}
+use Rattle.twkb_table.specs.TableReading.{MeetsEnd, IsReading, ReadsRoot, ReadsOn}
 use Rattle.twkb_table.specs.declared.table_fault.TableFault.{TableFault}
 use Rattle.twkb_table.specs.declared.table_reader.TableReader.{TableReader}
-use Rattle.twkb_table.proofs.HeaderCalls.{fresh, still_read}
 
 -- no root waits
 pub none_waiting : (ws : List Row) → (0 < length ws → ⊥) → ws ≡ []
@@ -23,24 +20,6 @@ none_waiting [] none = refl
 none_waiting (w ∷ ws) none = absurd (none (omega arith))
 
 -- ---- a geometry and its end
-
--- the root is in the flat form
-pub reading_in : {R : Type 0} (l : Allowance) (remaining : R → Option (List ℕ))
-    (told : Option (List ℕ)) (records : List Record) (given : List Tree) (root flat : List Row)
-    (old new : TableReader R) → IsReading l remaining told records given root old → flat ≡ root
-    → new.reader ≡ old.reader → is_ended new ≡ is_ended old
-    → new.number ≡ old.number → limits_of new.rows ≡ limits_of old.rows
-    → is_spent new ≡ is_spent old → IsReading l remaining told records given flat new
-reading_in l remaining told records given root flat old new r put source ended number limits spent = record {
-  source = still_read remaining told records old new r.source source ended;
-  count = number ∙ r.count;
-  few = r.few;
-  limits = limits ∙ r.limits;
-  geometry = r.geometry;
-  named = r.named;
-  rows = r.rows ∙ sym put;
-  unspent = spent ∙ r.unspent;
-}
 
 pub reads_by : {R : Type 0} (l : Allowance) (remaining : R → Option (List ℕ))
     (told : Option (List ℕ)) (records : List Record) (given : List Tree) (so_far : List Row)
@@ -68,13 +47,6 @@ pub ended_by : {R : Type 0} (l : Allowance) (remaining : R → Option (List ℕ)
     → GivesNext l remaining told records given so_far reader
 ended_by l remaining told records given so_far reader true e reads = cc e
 ended_by l remaining told records given so_far reader false e reads = reads
-
--- a root was read
-pub root_by : {R : Type 0} (l : Allowance) (remaining : R → Option (List ℕ))
-    (told : Option (List ℕ)) (records : List Record) (given : List Tree) (reader : TableReader R)
-    (found : Bool) → found ≡ true → ReadsRoot l remaining told records given reader (Ok found)
-    → BeginsNext l remaining told records given (waiting reader.rows) reader
-root_by l remaining told records given reader found e reads = rw e at reads
 
 -- the table ended
 pub end_by : {R : Type 0} (l : Allowance) (remaining : R → Option (List ℕ)) (told : Option (List ℕ))

@@ -1,5 +1,5 @@
 -- What one more record shows to a reader of tables.
-use Rattle.std.proofs.Common.{◌≡◌, ℕ, ◌+◌, ◌^◌, ◌<◌, Bool, true, false, List, [], ◌∷◌, ◌++◌, length}
+use Rattle.std.proofs.Common.{◌≡◌, ℕ, ◌+◌, ◌<◌, Bool, true, false, List, [], ◌∷◌, ◌++◌, length}
 use Rattle.std.proofs.Common.{Option, Result, Ok, Err, refl, sym, ◌∙◌, ap, subst, arith}
 use Rattle.std.proofs.Common.{length-append, inl, inr}
 use Rattle.std.specs.Prelude.{reverse, IfSome}
@@ -17,6 +17,7 @@ use Rattle.twkb_table.specs.RowReading.{limits_of, waiting, BeginsFirst, JudgedA
 use Rattle.twkb_table.specs.TableReading.{HaveGiven, StandsAfter, GivesNext, MeetsEnd, IsRefusedAt}
 use Rattle.twkb_table.specs.TableReading.{HasTooMany, IsReading, BeginsNext, HasRead, IsOver}
 use Rattle.twkb_table.specs.TableReading.{is_ended, is_spent}
+use Rattle.twkb_table.specs.declared.numbered_records.TheConstants.{RECORD_CAP}
 use Rattle.twkb_table.specs.declared.reason.RowReason.{RowReason}
 use Rattle.twkb_table.specs.declared.table_fault.TableFault.{TableFault}
 use Rattle.twkb_table.specs.declared.table_reader.TableReader.{TableReader}
@@ -30,7 +31,7 @@ one_more : (m n : ℕ) (records : List Record) (here : Record) → n ≡ m + 1 �
 one_more m n records here next count = omega (arith, next, count, length-append records (here ∷ []))
 
 few_more : (m n : ℕ) (records : List Record) (here : Record) → n ≡ m + 1 → m ≡ length records
-    → n < 2 ^ 32 → length (records ++ here ∷ []) < 2 ^ 32
+    → n < RECORD_CAP → length (records ++ here ∷ []) < RECORD_CAP
 few_more m n records here next count few = omega (arith, next, count, few, length-append records (here ∷ []))
 
 -- ---- while a geometry is read
@@ -41,7 +42,7 @@ pub reads_more : {R : Type 0} (l : Allowance) (remaining : R → Option (List �
     (here : Record) (old new : TableReader R)
     → IsReading l remaining told records given before old
     → HasRead remaining told (records ++ here ∷ []) new → new.number ≡ old.number + 1
-    → new.number < 2 ^ 32 → limits_of new.rows ≡ limits_of old.rows → is_spent new ≡ is_spent old
+    → new.number < RECORD_CAP → limits_of new.rows ≡ limits_of old.rows → is_spent new ≡ is_spent old
     → GoesOn old.rows before here new.rows after → IsReading l remaining told (records ++ here ∷ []) given after new
 reads_more l remaining told records given before after here old new r source number few limits spent g =
     let j = judged_after l (limits_of old.rows) given r.geometry before here (Accepted g.row)
@@ -64,7 +65,7 @@ pub reads_next : {R : Type 0} (l : Allowance) (remaining : R → Option (List �
     (here : Record) (old new : TableReader R)
     → IsReading l remaining told records given before old
     → HasRead remaining told (records ++ here ∷ []) new → new.number ≡ old.number + 1
-    → new.number < 2 ^ 32 → limits_of new.rows ≡ limits_of old.rows → is_spent new ≡ is_spent old
+    → new.number < RECORD_CAP → limits_of new.rows ≡ limits_of old.rows → is_spent new ≡ is_spent old
     → is_ended new ≡ false → EndsBefore old.rows before here new.rows
     → GivesNext l remaining told records given before new
 reads_next l remaining told records given before here old new r source number few limits spent going e =
@@ -149,7 +150,7 @@ reads_refused l remaining told records given before here old new reason r source
 -- the table has too many records
 pub too_many : (l : Allowance) (told : Option (List ℕ)) (records : List Record)
     (given gs : List Tree) (number : ℕ) (here : Record) → Named l records gs
-    → given ≡ all_but_last gs → number ≡ length records → number + 1 ≡ 2 ^ 32
+    → given ≡ all_but_last gs → number ≡ length records → number + 1 ≡ RECORD_CAP
     → IfSome told (λ text. BeginWith text (records ++ here ∷ [])) → HasTooMany l told records given
 too_many l told records given gs number here named complete count last begins = record {
   before = records;
@@ -237,7 +238,7 @@ pub begins_next : {R : Type 0} (l : Allowance) (remaining : R → Option (List �
     (old new : TableReader R)
     → StandsAfter l remaining told records given old → waiting old.rows ≡ [] → 0 < old.number
     → is_ended old ≡ false → HasRead remaining told (records ++ here ∷ []) new
-    → new.number ≡ old.number + 1 → new.number < 2 ^ 32 → limits_of new.rows ≡ limits_of old.rows
+    → new.number ≡ old.number + 1 → new.number < RECORD_CAP → limits_of new.rows ≡ limits_of old.rows
     → is_spent new ≡ is_spent old → BeginsFirst old.rows here new.rows
     → BeginsNext l remaining told records given (waiting new.rows) new
 begins_next l remaining told records given here old new s none some going source number few limits spent first =

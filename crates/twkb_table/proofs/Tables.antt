@@ -15,6 +15,7 @@ use Rattle.twkb_tree.proofs.RowDepths.{valid_depths}
 use Rattle.twkb_tree.proofs.RowLaws.{one_reading}
 use Rattle.twkb_table.specs.Record.{Record, record_of, header}
 use Rattle.twkb_table.specs.Named.{Named}
+use Rattle.twkb_table.specs.declared.decimal.TheConstants.{GREATEST_DEPTH}
 use Rattle.twkb_tree.proofs.LimitLaws.{accepted_rows, valid_front}
 use Rattle.twkb_table.proofs.FieldLemmas.{ArePlain, one_list, head_same, tail_same}
 use Rattle.twkb_table.proofs.RowsJudged.{optional_precision_is}
@@ -43,9 +44,10 @@ shallower m n [] le h = tt
 shallower m n (r ∷ rs) le h = (omega (arith, h.0), shallower m n rs le h.1)
 
 -- no row of valid geometries is deeper than a field can say
-pub shallow_rows : (l : Allowance) (gs : List Tree) → IsAllowance l → AreValid l gs → AreShallow 999 (rows_of gs)
+pub shallow_rows : (l : Allowance) (gs : List Tree) → IsAllowance l → AreValid l gs
+    → AreShallow GREATEST_DEPTH (rows_of gs)
 shallow_rows l gs cap v = let most = cap.nest_cap in
-    shallower (l.nest + 2) 999 (rows_of gs) (omega (arith, most))
+    shallower (l.nest + 2) GREATEST_DEPTH (rows_of gs) (omega (arith, most))
     (valid_depths l (rows_of gs) (gs, v, refl))
 
 -- what is true of each row of a reversed list is true of each row of the list
@@ -54,7 +56,7 @@ all_back : (P : Row → Type 0) (xs ys : List Row) → AllByRecursion P (reverse
 all_back P [] ys h = (tt, h)
 all_back P (x ∷ xs) ys h = let t = all_back P xs (x ∷ ys) h in ((t.1.0, t.0), t.1.1)
 
-plain_each : (rs : List Row) → AreShallow 999 rs → AllByRecursion IsRanged rs → ArePlain rs
+plain_each : (rs : List Row) → AreShallow GREATEST_DEPTH rs → AllByRecursion IsRanged rs → ArePlain rs
 plain_each [] s h = tt
 plain_each (r ∷ rs) s h = (record { depth = s.0; id = h.0.id; precision = h.0.precision }, plain_each rs s.1 h.1)
 

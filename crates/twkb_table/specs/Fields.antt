@@ -2,6 +2,7 @@
 use Rattle.std.specs.Prelude.{◌≡◌, ℕ, ℤ, ◌≤◌, ◌+◌, ◌*◌, List, [], Option, Some, None, IfSome, decimal, get_or}
 use Rattle.std.specs.Fmt.{signed_decimal}
 use Rattle.twkb_tree.specs.Tree.{IsPrecision, IsId}
+use Rattle.twkb_table.specs.declared.decimal.TheConstants.{GREATEST_DEPTH}
 
 -- the answer is a value that the field spells, or none if it spells no value
 abbrev pub Reads : {A : Type 0} → (A → Type 0) → Option A → Type 0
@@ -14,9 +15,9 @@ eight_digits ds =
     ((get_or ds 0 0 * 10 + get_or ds 1 0) * 100 + (get_or ds 2 0 * 10 + get_or ds 3 0)) * 10000
     + ((get_or ds 4 0 * 10 + get_or ds 5 0) * 100 + (get_or ds 6 0 * 10 + get_or ds 7 0))
 
--- the canonical decimal of a depth from 0 to 999 (profile)
+-- the canonical decimal of a depth up to GREATEST_DEPTH (profile)
 abbrev pub IsDepthField : List ℕ → ℕ → Type 0
-IsDepthField field depth = (field ≡ decimal depth) × (depth ≤ 999)
+IsDepthField field depth = (field ≡ decimal depth) × (depth ≤ GREATEST_DEPTH)
 
 -- the canonical decimal of an i64 (profile)
 abbrev pub IsIdField : List ℕ → ℤ → Type 0

@@ -6,10 +6,10 @@ pub mod Head
 pub mod Judged
 pub mod KindWord
 pub mod Named
-pub mod Numbering
+pub mod NumberedRecords
 pub mod Parts
 pub mod Places
-pub mod Printing
+pub mod RowLines
 pub mod Reading
 pub mod Record
 pub mod RecordWriting

@@ -15,7 +15,7 @@ StandsAfter remaining told records source = standing remaining told records sour
 
 -- the last record read, as `csv` holds it
 abbrev pub record_in : {R : Type 0} → RecordSource R → Csv.Row
-record_in source = source.held
+record_in source = source.last
 
 -- whether the end of the text was reached
 abbrev pub is_ended : {R : Type 0} → RecordSource R → Bool

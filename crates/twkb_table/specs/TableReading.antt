@@ -1,5 +1,5 @@
 -- The state of a reader of tables, and what its calls return.
-use Rattle.std.specs.Prelude.{◌≡◌, ℕ, ◌+◌, ◌^◌, ◌<◌, ◌⊎◌, List, [], ◌∷◌, ◌++◌, length, Option}
+use Rattle.std.specs.Prelude.{◌≡◌, ℕ, ◌+◌, ◌<◌, ◌⊎◌, List, [], ◌∷◌, ◌++◌, length, Option}
 use Rattle.std.specs.Prelude.{IfSome, Result, Ok, Err, Bool, true, false, ⊤}
 use Rattle.twkb_tree.specs.Tree.{Tree}
 use Rattle.twkb_tree.specs.Rows.{Row, rows}
@@ -10,6 +10,7 @@ use Rattle.twkb_table.specs.RowFault.{AreComplete, all_but_last}
 use Rattle.twkb_table.specs.CsvRecords.{AreRecordsOf, BeginWith, standing}
 use Rattle.twkb_table.specs.RowReading.{limits_of, waiting}
 use Rattle.twkb_table.specs.Waiting.{IsPoint}
+use Rattle.twkb_table.specs.declared.numbered_records.TheConstants.{RECORD_CAP}
 use Rattle.twkb_table.specs.declared.reason.RowReason.{RowReason}
 use Rattle.twkb_table.specs.declared.table_fault.TableFault.{TableFault}
 use Rattle.twkb_table.specs.declared.table_fault.TableFault.TheVariants as fault
@@ -43,14 +44,14 @@ is_spent reader = reader.spent
 abbrev pub HasRead : {R : Type 0} → (R → Option (List ℕ)) → Option (List ℕ) → List Record → TableReader R → Type 0
 HasRead remaining told records reader = standing remaining told records (is_ended reader) reader.reader
 
--- A reader with these limits read these records, fewer than 2 ^ 32, of a text known at the start,
+-- A reader with these limits read these records, fewer than RECORD_CAP, of a text known at the start,
 -- and returned these geometries.
 pub record StandsAfter {R : Type 0} (l : Allowance) (remaining : R → Option (List ℕ))
     (told : Option (List ℕ)) (records : List Record) (given : List Tree)
     (reader : TableReader R) : Type 0 where
   pub source : HasRead remaining told records reader
   pub count : reader.number ≡ length records
-  pub few : length records < 2 ^ 32
+  pub few : length records < RECORD_CAP
   pub limits : limits_of reader.rows ≡ l
   pub gave : HaveGiven l records given (waiting reader.rows) (is_ended reader)
   pub unspent : is_spent reader ≡ false
@@ -113,7 +114,7 @@ pub record IsRefusedAt (l : Allowance) (told : Option (List ℕ)) (records : Lis
   pub none : seen ≡ [] → IfSome told (λ text. AreRecordsOf text [])
   pub complete : AreComplete l seen number reason given
 
--- The text begins with 2 ^ 32 records. Those before the last name geometries, of which all but
+-- The text begins with RECORD_CAP records. Those before the last name geometries, of which all but
 -- the last were returned.
 pub record HasTooMany (l : Allowance) (told : Option (List ℕ)) (records : List Record)
     (given : List Tree) : Type 0 where
@@ -121,7 +122,7 @@ pub record HasTooMany (l : Allowance) (told : Option (List ℕ)) (records : List
   pub here : Record
   pub extends : Extends records before
   pub begins : IfSome told (λ text. BeginWith text (before ++ here ∷ []))
-  pub many : length before + 1 ≡ 2 ^ 32
+  pub many : length before + 1 ≡ RECORD_CAP
   pub geometries : List Tree
   pub named : Named l before geometries
   pub complete : given ≡ all_but_last geometries
@@ -174,7 +175,7 @@ pub record IsReading {R : Type 0} (l : Allowance) (remaining : R → Option (Lis
     (reader : TableReader R) : Type 0 where
   pub source : HasRead remaining told records reader
   pub count : reader.number ≡ length records
-  pub few : length records < 2 ^ 32
+  pub few : length records < RECORD_CAP
   pub limits : limits_of reader.rows ≡ l
   pub geometry : Tree
   pub named : Named l records (given ++ geometry ∷ [])
@@ -195,13 +196,13 @@ abbrev pub ReadsHeader : {R : Type 0} → Allowance → (R → Option (List ℕ)
 ReadsHeader l remaining told records given reader (Ok done) = HasHeader l remaining told records given reader
 ReadsHeader l remaining told records given reader (Err fault) = Explains l told records given fault
 
--- The records seen name one more geometry, of which only the root was read.
+-- The records seen name one more geometry, which has these rows so far.
 pub record BeginsNext {R : Type 0} (l : Allowance) (remaining : R → Option (List ℕ))
-    (told : Option (List ℕ)) (records : List Record) (given : List Tree) (root : List Row)
+    (told : Option (List ℕ)) (records : List Record) (given : List Tree) (so_far : List Row)
     (reader : TableReader R) : Type 0 where
   pub seen : List Record
   pub extends : Extends records seen
-  pub reading : IsReading l remaining told seen given root reader
+  pub reading : IsReading l remaining told seen given so_far reader
 
 -- what reading a root shows: it waits, or the table ended
 abbrev pub ReadsRoot : {R : Type 0} → Allowance → (R → Option (List ℕ)) → Option (List ℕ)

@@ -11,7 +11,8 @@ use std::alloc::AllocError;
 use std::simd::{u8x8, u16x4};
 use twkb_tree::{GREATEST_PRECISION, LEAST_PRECISION};
 
-const GREATEST_DEPTH: i64 = 999;
+// The greatest depth of a row (profile).
+const GREATEST_DEPTH: u32 = 999;
 
 // The number of digits that are read at once.
 const EIGHT: usize = 8;
@@ -44,7 +45,7 @@ fn long_depth(field: &[u8]) -> Option<u32>
     ensures reads { Reads (IsDepthField field.now) result }
 {
     match parse_id(field) {
-        Some(depth) if 0 <= depth && depth <= GREATEST_DEPTH => Some(depth as u32),
+        Some(depth) if 0 <= depth && depth <= GREATEST_DEPTH as i64 => Some(depth as u32),
         _ => None,
     }
 }

@@ -28,11 +28,11 @@ pub fn put_flat_rows(rows: &Rows, work: &mut Work, text: &mut Vec<u8>) -> Result
     // lets proofs know that the counts fit 64 bits
     let _learnt = work.node_reads;
     let _learnt = work.point_reads;
-    let held = text.len();
+    let start = text.len();
     for index in 0..rows.flat.node_count() {
         let (row, points) = rows.row_at(NodeId(index), work);
         let Ok(()) = put_row(&row, points, text) else {
-            text.truncate(held);
+            text.truncate(start);
             return Err(AllocError);
         };
     }

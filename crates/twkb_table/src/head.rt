@@ -81,7 +81,7 @@ impl PointSource for RowHead<'_> {
             return Err(Stop::Refused(RowReason::PolylineNotAllowed));
         }
         let left = self.limits.points().saturating_sub(self.row_place.points);
-        let held = points.count();
+        let start = points.count();
         match decode_into(self.text, left, points) {
             Ok(()) => {}
             Err(PolyFault::Memory) => return Err(Stop::Memory),
@@ -89,8 +89,8 @@ impl PointSource for RowHead<'_> {
                 return Err(Stop::Refused(RowReason::Polyline(offset, reason)));
             }
         }
-        if let Some(reason) = refused_count(&self.row_place, self.kind, points.count() - held) {
-            points.cut(held);
+        if let Some(reason) = refused_count(&self.row_place, self.kind, points.count() - start) {
+            points.cut(start);
             return Err(Stop::Refused(reason));
         }
         Ok(())

@@ -4,18 +4,18 @@
 mod decimal;
 mod fields;
 mod flat_text;
+mod geometry_text;
 mod head;
 mod header;
-mod judging;
 mod kind_word;
 pub mod laws;
-mod numbering;
+mod numbered_records;
 mod open_rows;
 mod places;
 mod point_roots;
-mod printing;
 mod reason;
 mod record_source;
+mod record_verdict;
 mod record_writer;
 mod row_line;
 mod row_reader;
@@ -27,12 +27,13 @@ pub use decimal::{
     push_decimal,
 };
 pub use flat_text::put_flat_rows;
+pub use geometry_text::{put_rows, rows_text};
 pub use header::header_text;
-pub use judging::judge;
 pub use kind_word::{parse_kind, push_kind};
+pub use numbered_records::RECORD_CAP;
 pub use places::{refused_count, refused_id, refused_place, refused_precision};
-pub use printing::{put_rows, rows_text};
 pub use reason::RowReason;
 pub use record_source::RecordSource;
+pub use record_verdict::judge;
 pub use table_fault::TableFault;
 pub use table_reader::TableReader;

@@ -21,15 +21,15 @@ const INLINE: usize = 16;
 #[derive(Drop)]
 pub(crate) struct OpenRows {
     places: SmallVec<OpenRow, INLINE>,
-    levels: usize,
+    open_count: usize,
 }
 
 impl Model for OpenRows {
     ghost Value = { List OpenRow };
 
-    ghost view = { λ rows. take rows.levels rows.places.items };
+    ghost view = { λ rows. take rows.open_count rows.places.items };
 
-    ghost invariant = { λ rows. rows.levels ≤ length rows.places.items };
+    ghost invariant = { λ rows. rows.open_count ≤ length rows.places.items };
 }
 
 // Opens a row of this kind at this depth, and records at its parent that it has a child, with an id
@@ -81,7 +81,7 @@ impl OpenRows {
     {
         OpenRows {
             places: SmallVec::new(alloc),
-            levels: 0,
+            open_count: 0,
         }
     }
 
@@ -90,7 +90,7 @@ impl OpenRows {
     pub(crate) fn as_slice(&self) -> &[OpenRow]
         ensures { result.now ≡ self.now }
     {
-        &self.places.as_slice()[..self.levels]
+        &self.places.as_slice()[..self.open_count]
     }
 
     // Opens a row that was read: rows at its depth and below are complete, its parent gets a child,
@@ -112,7 +112,7 @@ impl OpenRows {
         } else {
             write(self.places.as_mut_slice(), depth, row.kind, has_id);
         }
-        self.levels = depth + 1;
+        self.open_count = depth + 1;
         Ok(())
     }
 }

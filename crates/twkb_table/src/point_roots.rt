@@ -2,7 +2,7 @@
 ghost use Rattle.std.specs.Prelude.{◌≡◌, ◌↔◌, ◌≢◌, [], ◌∷◌, None, Ok, Err};
 ghost use Rattle.std.specs.Prelude.{true, is_err, OnOk, IfOk, IfErr, IfSome, IsTrue};
 
-use crate::numbering::{fault_at, next_record};
+use crate::numbered_records::{fault_at, next_record};
 use crate::table_fault::TableFault;
 use crate::table_reader::TableReader;
 use std::io::Read;
@@ -72,7 +72,7 @@ impl<'a, R: Read> TableReader<'a, R> {
     {
         match next_record(
             &mut self.reader,
-            &mut self.held,
+            &mut self.last,
             &mut self.ended,
             &mut self.number,
         ) {
@@ -84,7 +84,7 @@ impl<'a, R: Read> TableReader<'a, R> {
             Err(fault) => return Err(fault),
         }
         // only a root can come after a point, and it is judged like the first one
-        match self.rows.read_root(&self.held) {
+        match self.rows.read_root(&self.last) {
             Ok(()) => Ok(()),
             Err(fault) => Err(fault_at(self.number, fault)),
         }

@@ -14,7 +14,7 @@ use twkb_io::Tap;
 #[derive(Drop)]
 pub struct RecordSource<'a, R> {
     reader: Reader<&'a mut Tap<R>>,
-    held: ByteRecord,
+    last: ByteRecord,
     ended: bool,
     spent: bool,
 }
@@ -29,7 +29,7 @@ impl<'a, R: Read> RecordSource<'a, R> {
     {
         RecordSource {
             reader: new_reader(alloc, tap),
-            held: ByteRecord::new(alloc),
+            last: ByteRecord::new(alloc),
             ended: false,
             spent: false,
         }
@@ -39,7 +39,7 @@ impl<'a, R: Read> RecordSource<'a, R> {
     pub fn record(&self) -> &ByteRecord
         ensures { result.now ≡ record_in self.now }
     {
-        &self.held
+        &self.last
     }
 
     /// Reads the next record, and returns whether there was one. `Source` says that the reader
@@ -59,7 +59,7 @@ impl<'a, R: Read> RecordSource<'a, R> {
         if self.spent {
             return Err(TableFault::Spent);
         }
-        let found = read_next(&mut self.reader, &mut self.held, &mut self.ended);
+        let found = read_next(&mut self.reader, &mut self.last, &mut self.ended);
         self.spent = found.is_err();
         found
     }
@@ -70,23 +70,23 @@ impl<'a, R: Read> RecordSource<'a, R> {
 #[inline(always)]
 pub(crate) fn read_next<R: Read>(
     reader: &mut Reader<&mut Tap<R>>,
-    held: &mut ByteRecord,
+    last: &mut ByteRecord,
     ended: &mut bool,
 ) -> Result<bool, TableFault>
     ensures gives { IfOk result (λ found. found ≡ true
-        → Advances R.remaining ended.old reader.old (fields_of held.new) ended.new reader.new) }
+        → Advances R.remaining ended.old reader.old (fields_of last.new) ended.new reader.new) }
     ensures ends { IfOk result (λ found. found ≡ false
         → Finishes R.remaining ended.old reader.old ended.new reader.new) }
     ensures source { IfErr result (λ fault. fault ≡ TableFault.Source) }
     ensures over { ended.old ≡ true → result ≡ Ok false }
-    ensures unread { ended.old ≡ true → (reader.new ≡ reader.old) × (held.new ≡ held.old) × (ended.new ≡ ended.old) }
+    ensures unread { ended.old ≡ true → (reader.new ≡ reader.old) × (last.new ≡ last.old) × (ended.new ≡ ended.old) }
     ensures ended { result ≡ Ok false → ended.new ≡ true }
     ensures going { IfOk result (λ found. found ≡ true → ended.new ≡ false) }
 {
     if *ended {
         return Ok(false);
     }
-    let Ok(found) = reader.read_byte_record(held) else {
+    let Ok(found) = reader.read_byte_record(last) else {
         return Err(TableFault::Source);
     };
     *ended = !found;

@@ -4,7 +4,7 @@ ghost use Rattle.std.specs.Fmt.{signed_decimal};
 ghost use Rattle.twkb_tree.specs.Kind.{word_of};
 ghost use Rattle.twkb_flat.specs.Rows.{row_with};
 ghost use Rattle.twkb_table.specs.Fields.{optional};
-ghost use Rattle.twkb_table.specs.Printing.{row_lines, Grows};
+ghost use Rattle.twkb_table.specs.RowLines.{row_lines, Grows};
 
 use crate::kind_word::push_kind;
 use itoa::Buffer;

@@ -9,9 +9,9 @@ ghost use Rattle.twkb_table.specs.Head.{JudgedAs};
 ghost use Rattle.twkb_table.specs.Waiting.{may_wait, point_row, IsPoint};
 
 use crate::head::RowHead;
-use crate::judging::{judge, judge_head};
 use crate::open_rows::OpenRows;
 use crate::reason::RowReason;
+use crate::record_verdict::{judge, judge_head};
 use csv::ByteRecord;
 use std::alloc::{AllocError, Global};
 use twkb_flat::{Flat, PointSource, Row, Stop};

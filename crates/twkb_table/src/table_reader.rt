@@ -1,10 +1,11 @@
 //! The geometries of a table, one after another.
-ghost use Rattle.std.specs.Prelude.{◌≡◌, ◌+◌, ◌⊎◌, ◌↔◌, ◌<◌, ◌^◌, ◌≢◌, [], length, None, Ok, Err};
+ghost use Rattle.std.specs.Prelude.{◌≡◌, ◌+◌, ◌⊎◌, ◌↔◌, ◌<◌, ◌≢◌, [], length, None, Ok, Err};
 ghost use Rattle.std.specs.Prelude.{true, false, is_err, OnOk, IfOk, IfErr, IfSome, IsTrue};
 ghost use Rattle.twkb_io.specs.Taps.{device_of};
+ghost use Rattle.twkb_table.specs.declared.numbered_records.TheConstants.{RECORD_CAP};
 
 use crate::header::is_header;
-use crate::numbering::{fault_at, next_record};
+use crate::numbered_records::{RECORD_CAP, fault_at, next_record};
 use crate::reason::RowReason;
 use crate::record_source::{new_reader, read_next};
 use crate::row_reader::RowReader;
@@ -23,7 +24,7 @@ pub struct TableReader<'a, R> {
     alloc: Global,
     pub(crate) reader: Reader<&'a mut Tap<R>>,
     // The last record read.
-    pub(crate) held: ByteRecord,
+    pub(crate) last: ByteRecord,
     // Whether the end of the table was reached.
     pub(crate) ended: bool,
     // The number of records read.
@@ -35,9 +36,6 @@ pub struct TableReader<'a, R> {
     pub(crate) spent: bool,
 }
 
-// The number that no record of a table may have.
-const RECORD_CAP: u64 = 1 << 32;
-
 // The fault of a first record that is missing or not the header.
 const BAD_HEADER: TableFault = TableFault::At {
     number: 1,
@@ -47,9 +45,8 @@ const BAD_HEADER: TableFault = TableFault::At {
 impl<'a, R: Read> TableReader<'a, R> {
     ghost use Rattle.twkb_table.specs.RowReading.{waiting, Keeps};
     ghost use Rattle.twkb_table.specs.TableReading.{StandsAfter, Gives, GivesGeometry, Ends};
-    ghost use Rattle.twkb_table.specs.TableReading.{Faults, Completes, FaultsIn, ShowsHeader};
-    ghost use Rattle.twkb_table.specs.TableReading.{ShowsRoot, ShowsRow, IsOver, is_spent};
-    ghost use Rattle.twkb_table.specs.TableReading.{records_read};
+    ghost use Rattle.twkb_table.specs.TableReading.{Faults, ShowsHeader, ShowsRoot, ShowsRow, IsOver};
+    ghost use Rattle.twkb_table.specs.TableReading.{is_spent, records_read};
 
     /// Makes a reader that has read nothing. Each geometry must keep the limits. Takes no memory.
     pub fn new(alloc: Global, tap: &'a mut Tap<R>, limits: Limits) -> TableReader<'a, R>
@@ -58,7 +55,7 @@ impl<'a, R: Read> TableReader<'a, R> {
         TableReader {
             alloc,
             reader: new_reader(alloc, tap),
-            held: ByteRecord::new(alloc),
+            last: ByteRecord::new(alloc),
             ended: false,
             number: 0,
             rows: RowReader::new(alloc, limits),
@@ -164,7 +161,8 @@ impl<'a, R: Read> TableReader<'a, R> {
         Ok(Some(geometry))
     }
 
-    // Reads the next geometry into a flat form without rows.
+    // Reads the next geometry, row by row up to the next root or the table's end, into a flat form
+    // without rows; returns whether there was one.
     #[inline(always)]
     fn read_geometry(&mut self, flat: &mut Flat) -> Result<bool, TableFault>
         requires empty { flat.old ≡ [] }
@@ -185,7 +183,46 @@ impl<'a, R: Read> TableReader<'a, R> {
         let Ok(()) = self.rows.begin(flat) else {
             return Err(TableFault::Memory);
         };
-        self.read_rows(flat)
+        // lets proofs know that the number is a u32
+        let _learnt = self.number;
+        for _ in 0..RECORD_CAP {
+            match self.read_row(flat) {
+                Ok(true) => {}
+                Ok(false) => return Ok(true),
+                Err(fault) => return Err(fault),
+            }
+        }
+        Err(TableFault::TooManyRecords)
+    }
+
+    // Reads the next record, if there is one, and appends it to the flat form if it is one more row
+    // of the geometry; returns whether it is. The root of the next geometry waits instead.
+    #[inline(always)]
+    fn read_row(&mut self, flat: &mut Flat) -> Result<bool, TableFault>
+        requires keeps { Keeps self.old.rows flat.old }
+        ensures reads { ShowsRow R.remaining self.old flat.old flat.new self.new result }
+        ensures keeps { IfOk result (λ more. more ≡ true → Keeps self.new.rows flat.new) }
+        ensures counts { IfOk result (λ more. more ≡ true
+            → (records_read self.new ≡ records_read self.old + 1)
+            × (records_read self.new < RECORD_CAP)) }
+        ensures some { OnOk result (0 < length flat.new) }
+        ensures fresh { IfErr result (λ fault. fault ≢ TableFault.Spent) }
+        ensures same { is_spent self.new ≡ is_spent self.old }
+    {
+        match next_record(
+            &mut self.reader,
+            &mut self.last,
+            &mut self.ended,
+            &mut self.number,
+        ) {
+            Ok(true) => {}
+            Ok(false) => return Ok(false),
+            Err(fault) => return Err(fault),
+        }
+        match self.rows.read_row(&self.last, flat) {
+            Ok(more) => Ok(more),
+            Err(stop) => Err(fault_at(self.number, stop)),
+        }
     }
 
     // Makes sure that the root of the next geometry waits, and returns whether there is one. If
@@ -221,12 +258,12 @@ impl<'a, R: Read> TableReader<'a, R> {
         ensures fresh { IfErr result (λ fault. fault ≢ TableFault.Spent) }
         ensures same { is_spent self.new ≡ is_spent self.old }
     {
-        match read_next(&mut self.reader, &mut self.held, &mut self.ended) {
+        match read_next(&mut self.reader, &mut self.last, &mut self.ended) {
             Ok(true) => {}
             Ok(false) => return Err(BAD_HEADER),
             Err(_) => return Err(TableFault::Source),
         }
-        if !is_header(&self.held) {
+        if !is_header(&self.last) {
             return Err(BAD_HEADER);
         }
         self.number = 1;
@@ -246,7 +283,7 @@ impl<'a, R: Read> TableReader<'a, R> {
     {
         match next_record(
             &mut self.reader,
-            &mut self.held,
+            &mut self.last,
             &mut self.ended,
             &mut self.number,
         ) {
@@ -254,61 +291,9 @@ impl<'a, R: Read> TableReader<'a, R> {
             Ok(false) => return Ok(false),
             Err(fault) => return Err(fault),
         }
-        match self.rows.read_root(&self.held) {
+        match self.rows.read_root(&self.last) {
             Ok(()) => Ok(true),
             Err(fault) => Err(fault_at(self.number, fault)),
-        }
-    }
-
-    // Reads the rows of a geometry after its first ones, up to its end, and returns `true`.
-    #[inline(always)]
-    fn read_rows(&mut self, flat: &mut Flat) -> Result<bool, TableFault>
-        requires keeps { Keeps self.old.rows flat.old }
-        ensures found { IfOk result (λ found. found ≡ true) }
-        ensures gives { OnOk result (Completes R.remaining self.old flat.old flat.new self.new) }
-        ensures fault { IfErr result (λ fault. FaultsIn R.remaining self.old flat.old fault) }
-        ensures some { OnOk result (0 < length flat.new) }
-        ensures fresh { IfErr result (λ fault. fault ≢ TableFault.Spent) }
-        ensures same { is_spent self.new ≡ is_spent self.old }
-    {
-        // lets proofs know that the number is a u32
-        let _learnt = self.number;
-        for _ in 0..RECORD_CAP {
-            match self.read_row(flat) {
-                Ok(true) => {}
-                Ok(false) => return Ok(true),
-                Err(fault) => return Err(fault),
-            }
-        }
-        Err(TableFault::TooManyRecords)
-    }
-
-    // Reads one record, and returns whether it is one more row of the geometry.
-    #[inline(always)]
-    fn read_row(&mut self, flat: &mut Flat) -> Result<bool, TableFault>
-        requires keeps { Keeps self.old.rows flat.old }
-        ensures reads { ShowsRow R.remaining self.old flat.old flat.new self.new result }
-        ensures keeps { IfOk result (λ more. more ≡ true → Keeps self.new.rows flat.new) }
-        ensures counts { IfOk result (λ more. more ≡ true
-            → (records_read self.new ≡ records_read self.old + 1)
-            × (records_read self.new < 2 ^ 32)) }
-        ensures some { OnOk result (0 < length flat.new) }
-        ensures fresh { IfErr result (λ fault. fault ≢ TableFault.Spent) }
-        ensures same { is_spent self.new ≡ is_spent self.old }
-    {
-        match next_record(
-            &mut self.reader,
-            &mut self.held,
-            &mut self.ended,
-            &mut self.number,
-        ) {
-            Ok(true) => {}
-            Ok(false) => return Ok(false),
-            Err(fault) => return Err(fault),
-        }
-        match self.rows.read_row(&self.held, flat) {
-            Ok(more) => Ok(more),
-            Err(stop) => Err(fault_at(self.number, stop)),
         }
     }
 }

@@ -4,15 +4,16 @@ use lib.ListN.{replicate, set}
 use Rattle.std.proofs.lemmas.List.{get_or-replicate, set-get_or, get_or-set_same, get_or-set_other}
 use Rattle.std.proofs.lemmas.List.{length-set, length-replicate}
 use Rattle.std.proofs.lemmas.Bool.{cases_eq}
+use Rattle.twkb_writer.specs.declared.depths.TheConstants.{DEPTHS}
 use Rattle.twkb_writer.specs.declared.totals.RowTotals.{RowTotals}
 use Rattle.twkb_writer.specs.Depths.{IsBlankFrom}
 use Rattle.twkb_writer.specs.Totals.{blank}
 
-pub blank_totals : (l : RowTotals) → l ≡ blank → IsBlankFrom 0 (replicate 36 l)
+pub blank_totals : (l : RowTotals) → l ≡ blank → IsBlankFrom 0 (replicate DEPTHS l)
 blank_totals l none = record {
-  size = length-replicate 36 l;
+  size = length-replicate DEPTHS l;
   within = omega arith;
-  blanks = λ k from small. get_or-replicate 36 k l blank small ∙ none;
+  blanks = λ k from small. get_or-replicate DEPTHS k l blank small ∙ none;
 }
 
 -- totals are those made blank, or some that were there
@@ -27,7 +28,7 @@ set_blank by_depth i k l none here there =
 
 -- the totals of a depth after the last one with rows are already blank
 pub blank_there : (used : ℕ) (by_depth now : List RowTotals) (depth : ℕ) → IsBlankFrom used by_depth
-    → by_depth ≡ now → used ≤ depth → depth < 36 → now ≡ set now depth blank
+    → by_depth ≡ now → used ≤ depth → depth < DEPTHS → now ≡ set now depth blank
 blank_there used by_depth now depth old view above small =
     let kept : by_depth ≡ set by_depth depth blank = sym (ap (λ (l : RowTotals). set by_depth depth l)
     (sym (old.blanks depth above small)) ∙ set-get_or by_depth depth blank) in

@@ -4,6 +4,7 @@ pub mod CapLemmas
 pub mod DepthLemmas
 pub mod HeaderLemmas
 pub mod TotalsLemmas
+pub mod LineBlobLemmas
 pub mod MeasuringBodies
 pub mod MeasuringBounds
 pub mod MeasuringCaps

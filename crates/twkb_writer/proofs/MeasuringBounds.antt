@@ -11,7 +11,7 @@ use Rattle.twkb_tree.specs.Rows.{Row, row_points}
 use Rattle.twkb_grammar.specs.declared.style.Style.{Style}
 use Rattle.twkb_writer.specs.declared.totals.RowTotals.{RowTotals}
 use Rattle.twkb_writer.specs.Totals.{IsSmall}
-use Rattle.twkb_writer.specs.Measuring.{totals, points_ahead, row_totals, ahead_of, cost_of, load}
+use Rattle.twkb_writer.specs.MeasuredRows.{totals, points_ahead, row_totals, ahead_of, cost_of, load}
 use Rattle.twkb_writer.specs.Tails.{tail_of}
 use Rattle.twkb_writer.proofs.CapLemmas.{sums_fit}
 use Rattle.twkb_writer.proofs.TotalsLemmas.{totals_above, totals_at, totals_below}

@@ -10,13 +10,13 @@ use Rattle.twkb_tree.specs.RowLemmas.{length-rows_with}
 use Rattle.twkb_tree.proofs.RowDepths.{valid_depths}
 use Rattle.twkb_tree.proofs.RowPoints.{row_points-with}
 use Rattle.twkb_flat.specs.declared.node.Node.{Node}
-use Rattle.twkb_flat.specs.Rows.{IsNode}
+use Rattle.twkb_flat.specs.Rows.{IsNode, row_depth_cap}
 
--- there are at most this many rows and points, and none is deeper than 34
+-- there are at most this many rows and points, and none is deeper than the cap
 pub record IsCapped (rs : List Row) : Type 0 where
   pub nodes : length rs ≤ NODES_CAP
   pub points : length (row_points rs) ≤ POINTS_CAP
-  pub depths : AreShallow 34 rs
+  pub depths : AreShallow row_depth_cap rs
 
 -- the rows of a geometry are within the caps
 pub capped : (rs : List Row) → AreValidRowsOfOne largest_limits rs → IsCapped rs
@@ -48,6 +48,7 @@ capped_drop (suc i) (r ∷ rs) c =
       depths = c.depths.1;
     })
 
--- no node is deeper than 34
-pub node_depth : (rs : List Row) (i : ℕ) (node : Node) → IsCapped rs → IsNode rs i node → node.row.depth ≤ 34
-node_depth rs i node c is = (subst (AreShallow 34) is.here (capped_drop i rs c).depths).0
+-- no node is deeper than the cap
+pub node_depth : (rs : List Row) (i : ℕ) (node : Node) → IsCapped rs → IsNode rs i node
+    → node.row.depth ≤ row_depth_cap
+node_depth rs i node c is = (subst (AreShallow row_depth_cap) is.here (capped_drop i rs c).depths).0

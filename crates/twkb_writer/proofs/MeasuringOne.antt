@@ -1,5 +1,5 @@
 -- The sizes of a flat form of one node, measured without a pass.
-use Rattle.std.proofs.Common.{◌≡◌, ℕ, ◌+◌, ◌<◌, ◌≤◌, ◌^◌, List, [], ◌∷◌, ◌++◌, length, drop, Option}
+use Rattle.std.proofs.Common.{◌≡◌, ℕ, ◌+◌, ◌<◌, ◌^◌, List, [], ◌∷◌, ◌++◌, length, Option}
 use Rattle.std.proofs.Common.{None, Some, refl, sym, ◌∙◌, ap, subst, arith, append-nil}
 use Rattle.std.specs.Prelude.{ℤ, slice_get}
 use Rattle.std.proofs.lemmas.List.{drop_all}
@@ -17,14 +17,15 @@ use Rattle.twkb_writer.specs.declared.totals.RowTotals.{RowTotals}
 use Rattle.twkb_writer.specs.declared.sizes.Entry.{Entry}
 use Rattle.twkb_writer.specs.declared.tails.TailTotals.{TailTotals}
 use Rattle.twkb_writer.specs.Totals.{blank, entry_for}
-use Rattle.twkb_writer.specs.Measuring.{measured, row_entry, points_at, option_list}
+use Rattle.twkb_writer.specs.MeasuredRows.{measured, row_entry, option_list}
+use Rattle.twkb_writer.specs.Nodes.{own_points_in}
 use Rattle.twkb_writer.specs.Reads.{ReadsExactly}
 use Rattle.twkb_writer.specs.Sizes.{AreSizes}
 use Rattle.twkb_writer.specs.Tails.{tail_of}
 use Rattle.twkb_writer.proofs.MeasuringPass.{sizes_are}
-use Rattle.twkb_writer.proofs.MeasuringPoints.{own_at, read_back}
+use Rattle.twkb_writer.proofs.PointLemmas.{part_more, nothing_left, whole_part}
 use Rattle.twkb_writer.proofs.ReadLemmas.{exactly_none, exactly_node, exactly_point}
-use Rattle.twkb_writer.proofs.RowStep.{rest_is}
+use Rattle.twkb_writer.proofs.RowStep.{rest_is, own_points}
 
 -- ---- the node
 
@@ -52,21 +53,21 @@ none_behind rs node is one = rest_is rs 0 node is ∙ drop_all 1 rs (omega (arit
 pub all_points : (rs : List Row) (node : Node) (is : IsNode rs 0 node) (points before : TailTotals)
     → before ≡ tail_of []
     → ((ahead : List Point) → before ≡ tail_of ahead
-    → points ≡ tail_of (points_at (drop 0 rs) ++ ahead)) → points ≡ tail_of is.own
+    → points ≡ tail_of (own_points_in node (row_points rs) ++ ahead)) → points ≡ tail_of is.own
 all_points rs node is points before none found = found [] none
-    ∙ ap tail_of (append-nil (points_at (drop 0 rs)) ∙ own_at rs 0 node is)
+    ∙ ap tail_of (append-nil (own_points_in node (row_points rs)) ∙ own_points rs 0 node is)
 
 -- the only point is the one that was read
 only_point : (rs : List Row) (node : Node) (is : IsNode rs 0 node) (p : Point) → node.points ≡ 1
     → slice_get (row_points rs) node.first.0 ≡ Some p → is.own ≡ p ∷ []
 only_point rs node is p one read =
-    let here : node.first.0 ≡ node.first.0 + 0 = omega arith in
-    let all : length is.own ≤ 1 = omega (arith, is.count, one) in
-    sym (own_at rs 0 node is)
-    ∙ read_back rs 0 node is 0 p (omega (arith, one))
-    (subst (λ (n : ℕ). slice_get (row_points rs) n ≡ Some p) here read)
-    ∙ ap (λ (ps : List Point). p ∷ drop 1 ps) (own_at rs 0 node is)
-    ∙ ap (λ (ps : List Point). p ∷ ps) (drop_all 1 is.own all)
+    let ps : List Point = row_points rs in
+    let first : ℕ = node.first.0 in
+    let end : ℕ = first + node.points in
+    sym (own_points rs 0 node is)
+    ∙ sym (whole_part ps first node.points)
+    ∙ part_more ps first end p (omega (arith, one)) read
+    ∙ ap (λ (l : List Point). p ∷ l) (nothing_left ps (first + 1) end (omega (arith, one)))
 
 -- the reads of the node and its only point
 pub reads_point : (old next new : Work) (points all : ℕ) → old.node_reads < 2 ^ 64 → old.point_reads < 2 ^ 64

@@ -13,7 +13,7 @@ use Rattle.twkb_tree.specs.RowLists.{IsAbove}
 use Rattle.twkb_grammar.specs.declared.style.Style.{Style}
 use Rattle.twkb_writer.specs.declared.totals.RowTotals.{RowTotals}
 use Rattle.twkb_writer.specs.Totals.{blank, with_part}
-use Rattle.twkb_writer.specs.Measuring.{totals, points_ahead, measured}
+use Rattle.twkb_writer.specs.MeasuredRows.{totals, points_ahead, measured}
 use Rattle.twkb_writer.proofs.TotalsLemmas.{totals_at, totals_none, totals_past}
 use Rattle.twkb_writer.proofs.BelowLemmas.{deep-rings}
 

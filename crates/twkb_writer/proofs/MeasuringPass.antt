@@ -10,26 +10,27 @@ use Rattle.twkb_tree.specs.RowLists.{AreValidRowsOfOne, IsAbove}
 use Rattle.twkb_flat.specs.declared.node.Node.{Node}
 use Rattle.twkb_flat.specs.Rows.{IsNode, row_with}
 use Rattle.twkb_grammar.specs.declared.style.Style.{Style}
+use Rattle.twkb_writer.specs.declared.depths.TheConstants.{DEPTHS}
 use Rattle.twkb_writer.specs.declared.totals.RowTotals.{RowTotals}
 use Rattle.twkb_writer.specs.declared.sizes.Entry.{Entry}
 use Rattle.twkb_writer.specs.declared.tails.TailTotals.{TailTotals}
 use Rattle.twkb_writer.specs.Caps.{point_bytes_cap}
 use Rattle.twkb_writer.specs.Totals.{blank, IsSmall}
-use Rattle.twkb_writer.specs.Measuring.{measured, points_ahead, points_at, option_list, tail_after, TakenRow}
+use Rattle.twkb_writer.specs.MeasuredRows.{measured, points_ahead, option_list, tail_after, TakenRow}
+use Rattle.twkb_writer.specs.Nodes.{own_points_in}
 use Rattle.twkb_writer.specs.Sizes.{AreSizes}
 use Rattle.twkb_writer.specs.Tails.{tail_of}
 use Rattle.twkb_writer.proofs.CapLemmas.{points_fit}
 use Rattle.twkb_writer.proofs.MeasuringBounds.{costs_within, totals_small}
 use Rattle.twkb_writer.proofs.MeasuringCaps.{IsCapped, node_depth}
-use Rattle.twkb_writer.proofs.MeasuringPoints.{own_at}
 use Rattle.twkb_writer.proofs.MeasuringSteps.{Pass, set_row, pass_cons, pass_none, above_drop}
 use Rattle.twkb_writer.proofs.MeasuringTrees.{measured_rows}
-use Rattle.twkb_writer.proofs.RowStep.{rest_is, points_step}
+use Rattle.twkb_writer.proofs.RowStep.{rest_is, own_points, points_step}
 
 -- at the start of the pass there is no row after the place
 pub pass_start : (style : Style) (rs : List Row) (n : ℕ) (by_depth : List RowTotals) (t : TailTotals)
-    (es : List Entry) → length rs ≤ n → length by_depth ≡ 36
-    → ((k : ℕ) → k < 36 → get_or by_depth k blank ≡ blank)
+    (es : List Entry) → length rs ≤ n → length by_depth ≡ DEPTHS
+    → ((k : ℕ) → k < DEPTHS → get_or by_depth k blank ≡ blank)
     → t ≡ tail_of [] → es ≡ [] → Pass style (drop n rs) by_depth t es
 pass_start style rs n by_depth t es all whole blanks no_tail no_entries =
     subst (λ l. Pass style (drop n rs) by_depth t l) (sym no_entries)
@@ -39,7 +40,7 @@ pass_start style rs n by_depth t es all whole blanks no_tail no_entries =
 
 -- the totals kept for a depth are small
 pub pass_small : (style : Style) (rs : List Row) (by_depth : List RowTotals) (t : TailTotals) (es : List Entry)
-    → IsCapped rs → Pass style rs by_depth t es → (k : ℕ) → k < 36 → IsSmall (get_or by_depth k blank)
+    → IsCapped rs → Pass style rs by_depth t es → (k : ℕ) → k < DEPTHS → IsSmall (get_or by_depth k blank)
 pass_small style rs by_depth t es caps pass k small = subst IsSmall (sym (pass.stands k small))
     (totals_small style k rs pass.bounded caps.nodes caps.points)
 
@@ -54,7 +55,7 @@ pub pass_back : (style : Style) (rows : List Row) (i : ℕ) (node : Node) (by_de
     (tail points : TailTotals) (e : Option Entry) (es : List Entry)
     → IsCapped rows → (is : IsNode rows i node) → Pass style (drop (i + 1) rows) by_depth tail es
     → ((ahead : List Point) → tail ≡ tail_of ahead
-    → points ≡ tail_of (points_at (drop i rows) ++ ahead))
+    → points ≡ tail_of (own_points_in node (row_points rows) ++ ahead))
     → points.bytes ≤ tail.bytes + 20 * node.points
     → TakenRow style node points by_depth new e
     → Pass style (drop i rows) new (tail_after node.row.precision points) (es ++ option_list e)
@@ -74,7 +75,7 @@ pass_back style rows i node by_depth new tail points e es caps is pass found sho
       child = child;
       count = is.count;
       points_are = found (points_ahead is.rest) behind.tail_is
-          ∙ ap (λ ps. tail_of (ps ++ points_ahead is.rest)) (own_at rows i node is);
+          ∙ ap (λ ps. tail_of (ps ++ points_ahead is.rest)) (own_points rows i node is);
       points_small = short;
       own_is = taken.own_is;
       own_small = taken.own_small;
@@ -91,7 +92,7 @@ pub pass_step : (style : Style) (rows : List Row) (total back : ℕ) (node : Nod
     → back < total → IsCapped rows → IsNode rows (total - 1 - back) node
     → Pass style (drop (total - back) rows) by_depth tail es
     → ((ahead : List Point) → tail ≡ tail_of ahead
-    → points ≡ tail_of (points_at (drop (total - 1 - back) rows) ++ ahead))
+    → points ≡ tail_of (own_points_in node (row_points rows) ++ ahead))
     → points.bytes ≤ tail.bytes + 20 * node.points
     → TakenRow style node points by_depth new e → before ≡ tail_after node.row.precision points
     → kept ≡ es ++ option_list e

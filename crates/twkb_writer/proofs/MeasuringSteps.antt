@@ -8,21 +8,22 @@ use Rattle.std.proofs.lemmas.Bool.{cases_lt, cases_eq}
 use Rattle.twkb_points.specs.Point.{Point}
 use Rattle.twkb_tree.specs.Rows.{Row}
 use Rattle.twkb_tree.specs.RowLists.{IsAbove}
-use Rattle.twkb_flat.specs.Rows.{depths}
+use Rattle.twkb_flat.specs.Rows.{depths, row_depth_cap}
 use Rattle.twkb_grammar.specs.declared.style.Style.{Style}
+use Rattle.twkb_writer.specs.declared.depths.TheConstants.{DEPTHS}
 use Rattle.twkb_writer.specs.declared.totals.RowTotals.{RowTotals}
 use Rattle.twkb_writer.specs.declared.sizes.Entry.{Entry}
 use Rattle.twkb_writer.specs.declared.tails.TailTotals.{TailTotals}
 use Rattle.twkb_writer.specs.Totals.{blank}
-use Rattle.twkb_writer.specs.Measuring.{totals, measured, points_ahead, ahead_of, row_totals}
-use Rattle.twkb_writer.specs.Measuring.{row_entry, option_list, tail_after, cost_of, load}
+use Rattle.twkb_writer.specs.MeasuredRows.{totals, measured, points_ahead, ahead_of, row_totals}
+use Rattle.twkb_writer.specs.MeasuredRows.{row_entry, option_list, tail_after, cost_of, load}
 use Rattle.twkb_writer.specs.Tails.{tail_of}
 use Rattle.twkb_writer.proofs.TotalsLemmas.{totals_above, totals_at, totals_below, totals_none}
 use Rattle.twkb_writer.proofs.MeasuringBounds.{IsBounded, bounded_none, bounded_step}
 
 -- an array has the totals of the rows at each depth
 abbrev pub Stands : Style → List RowTotals → List Row → Type 0
-Stands style by_depth rs = (k : ℕ) → k < 36 → get_or by_depth k blank ≡ totals style k rs
+Stands style by_depth rs = (k : ℕ) → k < DEPTHS → get_or by_depth k blank ≡ totals style k rs
 
 -- the array with one depth set, and the depth below it blank
 abbrev pub set_row : List RowTotals → ℕ → RowTotals → List RowTotals
@@ -34,14 +35,14 @@ above_more j k (r ∷ rs) le h = omega arith
 
 -- the array after one more row before the others
 pub stands_step : (style : Style) (by_depth : List RowTotals) (r : Row) (rs : List Row) (own : RowTotals)
-    → length by_depth ≡ 36 → r.depth < 35 → IsAbove (r.depth + 2) rs
+    → length by_depth ≡ DEPTHS → r.depth ≤ row_depth_cap → IsAbove (r.depth + 2) rs
     → own ≡ row_totals style r.kind (length r.points) r.id r.precision (totals style (suc r.depth) rs)
     (tail_of (r.points ++ points_ahead rs)) (totals style r.depth rs)
     → Stands style by_depth rs → Stands style (set_row by_depth r.depth own) (r ∷ rs)
 stands_step style by_depth r rs own whole deep child is stands k small =
     let d : ℕ = r.depth in
     let cleared : List RowTotals = set by_depth (d + 1) blank in
-    let whole2 : length cleared ≡ 36 = length-set by_depth (d + 1) blank ∙ whole in
+    let whole2 : length cleared ≡ DEPTHS = length-set by_depth (d + 1) blank ∙ whole in
     elim (cases_eq k d) [
       | inl same ↦
           ap (λ (j : ℕ). get_or (set cleared d own) j blank) same
@@ -92,7 +93,7 @@ reverse-option (Some e) = refl
 -- and the entries, last one first.
 pub record Pass (style : Style) (rs : List Row) (by_depth : List RowTotals) (tail : TailTotals)
     (es : List Entry) : Type 0 where
-  pub whole : length by_depth ≡ 36
+  pub whole : length by_depth ≡ DEPTHS
   pub stands : Stands style by_depth rs
   pub bounded : IsBounded style rs
   pub tail_is : tail ≡ tail_of (points_ahead rs)
@@ -102,7 +103,7 @@ pub record Pass (style : Style) (rs : List Row) (by_depth : List RowTotals) (tai
 -- what a pass adds with one more row: its points, the totals at its depth, and its entry
 pub record TakesIn (style : Style) (r : Row) (n : ℕ) (rs : List Row) (by_depth : List RowTotals)
     (tail points : TailTotals) (own : RowTotals) (e : Option Entry) : Type 0 where
-  pub deep : r.depth < 35
+  pub deep : r.depth ≤ row_depth_cap
   pub child : IsAbove (r.depth + 2) rs
   pub count : length r.points ≡ n
   pub points_are : points ≡ tail_of (r.points ++ points_ahead rs)
@@ -160,8 +161,8 @@ pass_cons style r n rs by_depth tail points own e es pass t =
     }
 
 -- the pass before the last row
-pub pass_none : (style : Style) (by_depth : List RowTotals) → length by_depth ≡ 36
-    → ((k : ℕ) → k < 36 → get_or by_depth k blank ≡ blank) → Pass style [] by_depth (tail_of []) []
+pub pass_none : (style : Style) (by_depth : List RowTotals) → length by_depth ≡ DEPTHS
+    → ((k : ℕ) → k < DEPTHS → get_or by_depth k blank ≡ blank) → Pass style [] by_depth (tail_of []) []
 pass_none style by_depth whole blanks = record {
   whole = whole;
   stands = blanks;

@@ -26,7 +26,7 @@ use Rattle.twkb_writer.specs.declared.precisions.Precisions.TheVariants.{One}
 use Rattle.twkb_writer.specs.declared.sizes.Entry.{Entry}
 use Rattle.twkb_writer.specs.Totals.{blank, id_len, is_bare, with_geometry, entry_for, blob_len}
 use Rattle.twkb_writer.specs.Totals.{is_point as is_point_kind}
-use Rattle.twkb_writer.specs.Measuring.{totals, measured, points_ahead, row_totals}
+use Rattle.twkb_writer.specs.MeasuredRows.{totals, measured, points_ahead, row_totals}
 use Rattle.twkb_writer.specs.Precisions.{all_are, agreed}
 use Rattle.twkb_writer.specs.Sizes.{entry_of, sizes_of, sizes_of_all, content_of, body_of}
 use Rattle.twkb_writer.specs.Tails.{number_len, tail_of}

@@ -40,24 +40,6 @@ one_node a b more e = record {
   same_entries = ap (λ (w : Work). w.entries) e;
 }
 
-pub one_point : (a b : Work) → a.point_reads ≤ b.point_reads
-    → b ≡ record a { point_reads = saturated (a.point_reads + 1) } → Reads a 0 1 b
-one_point a b more e = record {
-  node_reads = omega (arith, ap (λ (w : Work). w.node_reads) e);
-  point_reads = omega (arith, ap (λ (w : Work). w.point_reads) e);
-  no_fewer_nodes = omega (arith, ap (λ (w : Work). w.node_reads) e);
-  no_fewer_points = omega (arith, ap (λ (w : Work). w.point_reads) e);
-  same_points = ap (λ (w : Work). w.points) e;
-  same_nodes = ap (λ (w : Work). w.nodes) e;
-  same_entries = ap (λ (w : Work). w.entries) e;
-}
-
-pub two_points : (a b c : Work) → a.point_reads ≤ b.point_reads
-    → b ≡ record a { point_reads = saturated (a.point_reads + 1) } → b.point_reads ≤ c.point_reads
-    → c ≡ record b { point_reads = saturated (b.point_reads + 1) } → Reads a 0 2 c
-two_points a b c more e further f = reads_join a b c 0 1 0 1 0 2 (one_point a b more e)
-    (one_point b c further f) (omega arith) (omega arith)
-
 pub reads_if : (named : Bool) (a b : Work) (n : ℕ) → Reads a (if named then n else 0) 0 b → Reads a n 0 b
 reads_if true a b n r = r
 reads_if false a b n r = reads_join a b b 0 0 0 0 n 0 r (reads_none b 0 0) (omega arith) (omega arith)
@@ -117,4 +99,17 @@ exactly_point a b c n m r e = record {
   same_points = ap (λ (w : Work). w.points) e ∙ r.same_points;
   same_nodes = ap (λ (w : Work). w.nodes) e ∙ r.same_nodes;
   same_entries = ap (λ (w : Work). w.entries) e ∙ r.same_entries;
+}
+
+-- exact counts are at most these
+pub at_most : (a b : Work) (n m : ℕ) → a.node_reads < 2 ^ 64 → a.point_reads < 2 ^ 64 → ReadsExactly a n m b
+    → Reads a n m b
+at_most a b n m few_nodes few_points r = record {
+  node_reads = omega (arith, r.node_reads);
+  point_reads = omega (arith, r.point_reads);
+  no_fewer_nodes = omega (arith, r.node_reads);
+  no_fewer_points = omega (arith, r.point_reads);
+  same_points = r.same_points;
+  same_nodes = r.same_nodes;
+  same_entries = r.same_entries;
 }

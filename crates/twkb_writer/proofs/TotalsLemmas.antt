@@ -8,7 +8,7 @@ use Rattle.twkb_tree.specs.RowLists.{IsAbove}
 use Rattle.twkb_grammar.specs.declared.style.Style.{Style}
 use Rattle.twkb_writer.specs.declared.totals.RowTotals.{RowTotals}
 use Rattle.twkb_writer.specs.Totals.{blank}
-use Rattle.twkb_writer.specs.Measuring.{totals, chosen, row_totals, points_ahead}
+use Rattle.twkb_writer.specs.MeasuredRows.{totals, chosen, row_totals, points_ahead}
 use Rattle.twkb_writer.specs.Tails.{tail_of}
 
 is_lt : (a b : ℕ) → a < b → nat_lt a b ≡ true

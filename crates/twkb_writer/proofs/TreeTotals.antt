@@ -25,10 +25,10 @@ use Rattle.twkb_writer.specs.declared.precisions.Precisions.TheVariants.{One}
 use Rattle.twkb_writer.specs.declared.sizes.Entry.{Entry}
 use Rattle.twkb_writer.specs.declared.tails.TailTotals.{TailTotals}
 use Rattle.twkb_writer.specs.Totals.{blank, entry_for, with_part, with_geometry}
-use Rattle.twkb_writer.specs.Measuring.{totals, row_totals, points_ahead}
+use Rattle.twkb_writer.specs.MeasuredRows.{totals, row_totals, points_ahead}
 use Rattle.twkb_writer.specs.Precisions.{agreed}
 use Rattle.twkb_writer.specs.Tails.{tail_of}
-use Rattle.twkb_writer.specs.TreeMeasuring.{way_of, totals_under, tree_totals}
+use Rattle.twkb_writer.specs.MeasuredTree.{way_of, totals_under, tree_totals}
 use Rattle.twkb_writer.proofs.MeasuringBodies.{total_parts}
 use Rattle.twkb_writer.proofs.MeasuringParts.{with_each, with_row_of, with_polygon, IsComponent}
 use Rattle.twkb_writer.proofs.MeasuringParts.{one_part, polygon_part, totals_each, components_totals}

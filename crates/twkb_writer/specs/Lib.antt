@@ -2,9 +2,10 @@
 pub mod Bytes
 pub mod Caps
 pub mod Depths
-pub mod Encoding
+pub mod EncodedGeometry
 pub mod Totals
-pub mod Measuring
+pub mod MeasuredRows
+pub mod LineBlob
 pub mod Nodes
 pub mod PointBlob
 pub mod Precisions
@@ -12,4 +13,4 @@ pub mod Putting
 pub mod Reads
 pub mod Sizes
 pub mod Tails
-pub mod TreeMeasuring
+pub mod MeasuredTree

@@ -2,7 +2,7 @@
 use Rattle.std.specs.Prelude.{ℕ, ◌+◌, Bool, if◌then◌else◌, List, [], ◌++◌, take, drop, ℤ}
 use Rattle.twkb_num.specs.Varint.{varint_of}
 use Rattle.twkb_points.specs.Point.{Point, origin}
-use Rattle.twkb_tree.specs.Rows.{Row, row_points}
+use Rattle.twkb_tree.specs.Rows.{Row}
 use Rattle.twkb_flat.specs.declared.node.Node.{Node}
 use Rattle.twkb_grammar.specs.declared.style.Style.{Style}
 use Rattle.twkb_writer.specs.declared.job.Job.{Job}
@@ -55,6 +55,6 @@ lead_of job entry at =
 abbrev pub bytes_of : Job → List ℕ
 bytes_of job = rows_bytes job.style origin job.sizes.now job.flat.now
 
--- the node's own points among those of the rows
-abbrev pub own_points_of : List Row → Node → List Point
-own_points_of rows node = take node.points (drop node.first.0 (row_points rows))
+-- the node's own points among all points
+abbrev pub own_points_in : Node → List Point → List Point
+own_points_in node ps = take node.points (drop node.first.0 ps)

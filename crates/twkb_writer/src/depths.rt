@@ -1,12 +1,15 @@
 //! The totals of the rows at each depth, reused from one flat form to the next.
-ghost use Rattle.std.specs.Prelude.{◌≡◌, ◌<◌, ◌+◌, slice_index_or, slice_set};
+ghost use Rattle.std.specs.Prelude.{◌≡◌, ◌<◌, ◌≤◌, ◌+◌, slice_index_or, slice_set};
+ghost use Rattle.twkb_flat.specs.Rows.{row_depth_cap};
+ghost use Rattle.twkb_writer.specs.declared.depths.TheConstants.{DEPTHS};
 ghost use Rattle.twkb_writer.specs.Totals.{blank};
 
 use crate::totals::RowTotals;
 use std::marker::Model;
+use twkb_tree::NEST_CAP;
 
-// The number of depths that rows may have, and one more below them.
-const DEPTHS: usize = 36;
+// The number of depths that rows may have, NEST_CAP + 3, and one more below them.
+const DEPTHS: usize = NEST_CAP as usize + 4;
 
 /// The totals of the rows at each depth, reused to measure one flat form after another. A
 /// contract sees the list of these totals.
@@ -56,7 +59,7 @@ impl Depths {
     // The totals of the rows at a depth.
     #[inline(always)]
     pub(crate) fn at(&self, depth: usize) -> &RowTotals
-        requires { depth < 36 }
+        requires { depth < DEPTHS }
         ensures { result.now ≡ slice_index_or self.now depth blank }
     {
         &self.by_depth[depth]
@@ -65,7 +68,7 @@ impl Depths {
     // Drops the rows at a depth, if there are any.
     #[inline(always)]
     fn blank_at(&mut self, depth: usize)
-        requires { depth < 36 }
+        requires { depth < DEPTHS }
         ensures { self.new ≡ slice_set self.old depth blank }
     {
         if self.used > depth {
@@ -76,7 +79,7 @@ impl Depths {
     // Sets the totals of the rows at a depth, and drops the rows below it.
     #[inline(always)]
     pub(crate) fn put(&mut self, depth: usize, own: RowTotals)
-        requires { depth < 35 }
+        requires { depth ≤ row_depth_cap }
         ensures { self.new ≡ slice_set (slice_set self.old (depth + 1) blank) depth own }
     {
         self.blank_at(depth + 1);

@@ -3,12 +3,12 @@ ghost use Rattle.std.specs.Prelude.{◌≡◌, ◌≤◌, ◌<◌, ◌+◌, ◌+
 ghost use Rattle.twkb_tree.specs.Tree.{IsPrecision};
 ghost use Rattle.twkb_io.specs.Sinks.{TookFront};
 ghost use Rattle.twkb_grammar.specs.Written.{canonical_blob};
-ghost use Rattle.twkb_writer.specs.Measuring.{Measures};
+ghost use Rattle.twkb_writer.specs.MeasuredRows.{Measures};
 ghost use Rattle.twkb_writer.specs.PointBlob.{one_point, point_frame};
 
 use crate::gatherer::step_to;
 use crate::lengths::number_len;
-use crate::measuring::count_measured;
+use crate::measured_rows::count_measured;
 use crate::piece::Piece;
 use twkb_flat::Work;
 use twkb_grammar::{Metadata, Style, TypeByte};

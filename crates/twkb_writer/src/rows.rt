@@ -10,6 +10,7 @@ ghost use Rattle.twkb_writer.specs.Reads.{Reads};
 use crate::gatherer::Gatherer;
 use crate::header::{has_no_body, put_header};
 use crate::job::{Job, PlacedNode};
+use crate::measured_rows::look_at_reads;
 use crate::members::{MemberList, count_members, put_ids};
 use crate::points::put_points;
 use crate::sizes::Entry;
@@ -178,6 +179,7 @@ pub(crate) fn put_rows<S: Sink>(
         let at = PlacedNode { id, node };
         put_lead(job, &at, start.entry, gatherer, work);
         start = start_of_points(node.row.precision, start);
+        look_at_reads(work);
         put_points(flat, &node, &mut start.cursor, gatherer, work);
     }
 }

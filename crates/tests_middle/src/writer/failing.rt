@@ -5,6 +5,13 @@ use twkb_geom::{Flat, Work};
 use twkb_io::{Fuse, FuseEnd, Output, Tap};
 use twkb_writer::{Style, measure_flat, write_flat};
 
+// Whether a device with room for this many bytes took that prefix of the blob, and only the whole
+// blob is reported as written.
+pub(super) fn is_front(front: &[u8], blob: &[u8], room: usize, is_written: bool) -> bool {
+    let is_whole = room >= blob.len();
+    blob.starts_with(front) & (front.len() == room.min(blob.len())) & (is_written == is_whole)
+}
+
 // Whether a device with room for this many bytes takes that prefix of the form's blob, and only
 // the whole blob is reported as written.
 pub(super) fn keeps_a_front(
@@ -21,9 +28,7 @@ pub(super) fn keeps_a_front(
     let mut tap = Tap::new(Fuse::new(Vec::new(alloc), room as u64, 3, FuseEnd::Fail, false));
     let mut output = Output::new(&mut tap);
     let is_written = write_flat(flat, style, &sizes, &mut output, &mut work).is_ok();
-    let front = tap.into_inner().into_inner();
-    let is_whole = room >= blob.len();
-    blob.starts_with(&front) & (front.len() == room.min(blob.len())) & (is_written == is_whole)
+    is_front(&tap.into_inner().into_inner(), blob, room, is_written)
 }
 
 // Whether a prefix is kept in each room from this size up to the blob's length.
@@ -49,7 +54,7 @@ fn put(blob: &mut Vec<u8>, bytes: &[u8]) {
 
 // The plain blob of a line of 1100 points, of 4404 bytes, which is more than the writer gathers:
 // type, metadata and count, and equal differences, each 100 to the right and 100 down.
-fn long_blob(alloc: Global) -> Vec<u8> {
+pub(super) fn long_blob(alloc: Global) -> Vec<u8> {
     let mut blob = Vec::new(alloc);
     put(&mut blob, b"\x02\x00\xCC\x08");
     for _ in 0..1100 {

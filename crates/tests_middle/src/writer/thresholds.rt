@@ -9,7 +9,7 @@ use twkb_writer::Style;
 // 16384, 2097151 and 2097152, 268435455 and 268435456: in each pair the last number of its length
 // and the first longer one. Lengths, boxes and bytes were made by a short program in Python from
 // the TWKB specification, and not by this repository.
-const LINES: [&[u8]; 4] = [
+pub(super) const LINES: [&[u8]; 4] = [
     // at 2^7 and 2^14, then at 2^21 and 2^28: [(-64, 64), (-8256, 8256), (-1056832, 1056832), (-135274560, 135274560)]
     b"\x02\x03\x2A\xFF\x80\x81\x81\x01\x80\x80\x81\x81\x01\x80\x01\x80\x80\x81\x81\x01\x04\x7F\
     \x80\x01\xFF\x7F\x80\x80\x01\xFF\xFF\x7F\x80\x80\x80\x01\xFF\xFF\xFF\x7F\x80\x80\x80\x80\x01",

@@ -38,8 +38,9 @@ pub(crate) const LINE_OF_ONE_PLACE: &[u8] = b"\x02\x00\x02\x02\x02\x00\x00";
 
 pub(crate) const LINE_OF_A_POINT: &[u8] = b"\x02\x00\x01\x02\x02";
 
-// The linestring from (1, 1) to (5, 5) with its size and its box.
-const FULL_LINE: &[u8] = b"\x02\x03\x09\x02\x08\x02\x08\x02\x02\x02\x08\x08";
+// The linestring from (1, 1) to (5, 5) twice, with its size and its box.
+const FULL_LINES: &[u8] =
+    b"\x02\x03\x09\x02\x08\x02\x08\x02\x02\x02\x08\x08\x02\x03\x09\x02\x08\x02\x08\x02\x02\x02\x08\x08";
 
 const WRITINGS: [Writing; 12] = [
     Writing {
@@ -239,27 +240,33 @@ fn arrays_are_written_as_a_stream(rt: HostRuntime) {
     }
 }
 
-// Whether a line in the full style has its size and its box.
-fn is_full(alloc: Global) -> bool {
-    let line = Writing {
-        name: "a line",
-        rows: &[(0, 2, 2, None, 0)],
-        row_count: 1,
-        points: &[BufferPoint { x: 1, y: 1 }, BufferPoint { x: 5, y: 5 }],
-        point_count: 2,
+// Whether two lines in the full style, of which the first has a root after it, have their sizes and
+// their boxes.
+fn are_full(alloc: Global) -> bool {
+    let lines = Writing {
+        name: "two lines",
+        rows: &[(0, 2, 2, None, 0), (0, 2, 2, None, 0)],
+        row_count: 2,
+        points: &[
+            BufferPoint { x: 1, y: 1 },
+            BufferPoint { x: 5, y: 5 },
+            BufferPoint { x: 1, y: 1 },
+            BufferPoint { x: 5, y: 5 },
+        ],
+        point_count: 4,
         room: MOST_BYTES,
         ends: (0, 0, 0),
-        given: (1, 12, 12),
-        blobs: FULL_LINE,
+        given: (2, 24, 24),
+        blobs: FULL_LINES,
     };
     let mut output = [UNWRITTEN; MOST_BYTES];
-    let report = write(alloc, &line, Style::Full, &mut output);
-    report == report_of(&line) && has_sent(&output, FULL_LINE, 12)
+    let report = write(alloc, &lines, Style::Full, &mut output);
+    report == report_of(&lines) && has_sent(&output, FULL_LINES, 24)
 }
 
 #[test]
 fn a_full_stream_has_sizes_and_boxes(rt: HostRuntime) {
-    assert!(rt; is_full(rt.alloc()));
+    assert!(rt; are_full(rt.alloc()));
 }
 
 // Whether a writing ends as it should, or lacks memory after whole blobs.
@@ -271,8 +278,10 @@ pub(crate) fn is_written_or_lacks(alloc: Global, writing: &Writing) -> bool {
     }
     let is_whole = (report.sent == 0)
         | (report.sent == 2)
+        | (report.sent == 4)
         | (report.sent == 5)
         | (report.sent == 7)
+        | (report.sent == 10)
         | (report.sent == 11);
     (report.status == 4) & is_whole && has_sent(&output, writing.blobs, report.sent as usize)
 }

@@ -1,26 +1,27 @@
-use Rattle.std.proofs.Common.{◌∙◌, ◌+◌, sym, ap, arith}
-use Rattle.twkb_tree.specs.Rows.{row_points}
+use Rattle.std.proofs.Common.{◌∙◌, ◌+◌, ◌-◌, sym, ap, arith}
 use Rattle.twkb_writer.specs.Bytes.{way_bytes, way_end}
 use Rattle.twkb_writer.proofs.PutLemmas.{begun, step, finished}
 use Rattle.twkb_writer.proofs.PointLemmas.{way_more, end_more, way_two, end_two, whole_part, nothing_left}
-use Rattle.twkb_writer.proofs.ReadLemmas.{reads_none, reads_join, one_point, two_points}
+use Rattle.twkb_writer.proofs.ReadLemmas.{exactly_none, exactly_point, exactly_same}
 use Rattle.twkb_writer.proofs.points.put_points.Goals as goal
 
 pub loop-index-init : goal.loop-index-init
 loop-index-init g c =
-    let same = whole_part (row_points c.args.flat.now) c.args.node.now.first.0 c.args.node.now.points in
+    let same = whole_part (g.P.PlacedPoints.points c.args.all.now) c.args.node.now.first.0 c.args.node.now.points in
     record {
       behind = omega arith;
       within = omega arith;
       progress = rw same (begun g.S.Sink.took g.S.Sink.refused _ _);
       last = ap (way_end c.args.cursor.now) same;
-      reads = reads_none _ _ _;
+      reads = exactly_same _ _ 0 0 _ (exactly_none _ c.look_at_reads.ensures.nodes c.look_at_reads.ensures.points)
+          (omega arith);
     }
 
 pub loop-index-preserved : goal.loop-index-preserved
 loop-index-preserved g c =
-    let ps = row_points c.args.flat.now in
+    let ps = g.P.PlacedPoints.points c.args.all.now in
     let i = c.loop-index.index in
+    let read = i - c.args.node.now.first.0 in
     let at = c.loop-index.cursor in
     let end = c.args.node.now.first.0 + c.args.node.now.points in
     record {
@@ -33,15 +34,14 @@ loop-index-preserved g c =
       last = rw c.put_steps.ensures.moved
           (sym (end_two ps i end at c.point-to.result c.point-next.result (omega arith)
           c.point-to.ensures.point c.point-next.ensures.point) ∙ c.loop-index.invariant.last);
-      reads = reads_join _ _ _ _ _ _ _ _ _ c.loop-index.invariant.reads
-          (two_points _ _ _ c.point-to.ensures.no_fewer c.point-to.ensures.counted
-          c.point-next.ensures.no_fewer c.point-next.ensures.counted) (omega arith)
-          (omega (arith, c.loop-index.invariant.behind));
+      reads = exactly_same _ _ 0 (read + 1 + 1) _ (exactly_point _ _ _ 0 (read + 1)
+          (exactly_point _ _ _ 0 read c.loop-index.invariant.reads c.point-to.ensures.counted)
+          c.point-next.ensures.counted) (omega (arith, c.loop-index.invariant.behind));
     }
 
 pub returns-then-index-end-clause-put : goal.returns-then-index-end-clause-put
 returns-then-index-end-clause-put g c =
-    let ps = row_points c.args.flat.now in
+    let ps = g.P.PlacedPoints.points c.args.all.now in
     let i = c.loop-index.index in
     let end = c.args.node.now.first.0 + c.args.node.now.points in
     let to = c.point-to-then-index-end.result in
@@ -53,7 +53,7 @@ returns-then-index-end-clause-put g c =
 
 pub returns-then-index-end-clause-moved : goal.returns-then-index-end-clause-moved
 returns-then-index-end-clause-moved g c =
-    let ps = row_points c.args.flat.now in
+    let ps = g.P.PlacedPoints.points c.args.all.now in
     let i = c.loop-index.index in
     let end = c.args.node.now.first.0 + c.args.node.now.points in
     let to = c.point-to-then-index-end.result in
@@ -63,24 +63,23 @@ returns-then-index-end-clause-moved g c =
 
 pub returns-then-index-end-clause-reads : goal.returns-then-index-end-clause-reads
 returns-then-index-end-clause-reads g c =
-    reads_join _ _ _ _ _ _ _ _ _ c.loop-index.invariant.reads
-    (one_point _ _ c.point-to-then-index-end.ensures.no_fewer
-    c.point-to-then-index-end.ensures.counted) (omega arith)
-    (omega (arith, c.loop-index.invariant.behind))
+    let read = c.loop-index.index - c.args.node.now.first.0 in
+    exactly_same _ _ 0 (read + 1) _ (exactly_point _ _ _ 0 read c.loop-index.invariant.reads
+    c.point-to-then-index-end.ensures.counted) (omega (arith, c.loop-index.invariant.behind))
 
 pub returns-else-index-end-clause-put : goal.returns-else-index-end-clause-put
 returns-else-index-end-clause-put g c =
     finished g.S.Sink.took g.S.Sink.refused _ _ _ _
-    (ap (way_bytes c.loop-index.cursor) (nothing_left (row_points c.args.flat.now)
+    (ap (way_bytes c.loop-index.cursor) (nothing_left (g.P.PlacedPoints.points c.args.all.now)
     c.loop-index.index (c.args.node.now.first.0 + c.args.node.now.points) (omega arith)))
     c.loop-index.invariant.progress
 
 pub returns-else-index-end-clause-moved : goal.returns-else-index-end-clause-moved
 returns-else-index-end-clause-moved g c =
-    sym (ap (way_end c.loop-index.cursor) (nothing_left (row_points c.args.flat.now)
+    sym (ap (way_end c.loop-index.cursor) (nothing_left (g.P.PlacedPoints.points c.args.all.now)
     c.loop-index.index (c.args.node.now.first.0 + c.args.node.now.points) (omega arith)))
     ∙ c.loop-index.invariant.last
 
 pub returns-else-index-end-clause-reads : goal.returns-else-index-end-clause-reads
-returns-else-index-end-clause-reads g c = reads_join _ _ _ _ _ 0 0 _ _ c.loop-index.invariant.reads
-    (reads_none _ _ _) (omega arith) (omega (arith, c.loop-index.invariant.within))
+returns-else-index-end-clause-reads g c = exactly_same _ _ 0 (c.loop-index.index - c.args.node.now.first.0) _
+    c.loop-index.invariant.reads (omega (arith, c.loop-index.invariant.within))

@@ -1,13 +1,12 @@
 use Rattle.std.proofs.Common.{◌≡◌, ◌+◌, ◌-◌, ◌≤◌, take, drop}
-use Rattle.twkb_tree.specs.Rows.{row_points}
 use Rattle.twkb_writer.specs.Bytes.{way_bytes, way_end}
 use Rattle.twkb_writer.specs.Putting.{Progress}
-use Rattle.twkb_writer.specs.Reads.{Reads}
+use Rattle.twkb_writer.specs.Reads.{ReadsExactly}
 use Rattle.twkb_writer.proofs.points.put_points.Given as goal
 
 abbrev pub invariant-loop-index : goal.invariant-loop-index
 invariant-loop-index g l =
-    let ps = row_points l.flat in
+    let ps = g.P.PlacedPoints.points l.all in
     record {
       behind : l.fn.node.first.0 ≤ l.index;
       within : l.index ≤ l.fn.node.first.0 + l.fn.node.points;
@@ -17,7 +16,7 @@ invariant-loop-index g l =
       last : way_end l.cursor (take (l.fn.node.first.0 + l.fn.node.points - l.index)
           (drop l.index ps)) ≡ way_end l.fn.cursor (take l.fn.node.points
           (drop l.fn.node.first.0 ps));
-      reads : Reads l.fn.work 0 (l.index - l.fn.node.first.0) l.work;
+      reads : ReadsExactly l.fn.work 0 (l.index - l.fn.node.first.0) l.work;
     }
 
 abbrev pub decreases-loop-index : goal.decreases-loop-index

@@ -2,7 +2,7 @@ use Rattle.std.proofs.Common.{◌+◌, length, drop, ap, arith, rules}
 use Rattle.std.proofs.lemmas.List.{drop_all}
 use Rattle.twkb_writer.specs.Bytes.{members_below, rows_bytes}
 use Rattle.twkb_writer.proofs.PutLemmas.{begun, step, finished, given_up}
-use Rattle.twkb_writer.proofs.ReadLemmas.{reads_none, reads_join, reads_row, one_node}
+use Rattle.twkb_writer.proofs.ReadLemmas.{reads_none, reads_join, reads_row, one_node, at_most}
 use Rattle.twkb_writer.proofs.RowStep.{rows_step, entries_step, walks_step, points_step}
 use Rattle.twkb_writer.proofs.RowStep.{points_within, few_points, next_rows}
 use Rattle.twkb_writer.proofs.WalkLemmas.{walks_twice}
@@ -58,7 +58,8 @@ loop-index-preserved g c =
         omega (arith, walked, walk),
         omega (arith, seen, see),
         reads_row _ _ _ _ _ _ _ _ _ reads (one_node _ _ c.node-node.ensures.no_fewer
-            c.node-node.ensures.counted) c.put_lead.ensures.reads c.put_points.ensures.reads,
+            c.node-node.ensures.counted) c.put_lead.ensures.reads (at_most _ _ _ _
+            c.look_at_reads.ensures.nodes c.look_at_reads.ensures.points c.put_points.ensures.reads),
       );
     }
 

@@ -8,18 +8,18 @@ use Rattle.twkb_blob.proofs.Trees.{tree_made}
 use Rattle.twkb_blob.proofs.reader.Reader.next_located.Goals as goal
 
 pub tree_of-requires : goal.tree_of-requires
-tree_of-requires g c = some_came c.read_anew.ensures.shared c.read_anew.ensures.read (search rules)
+tree_of-requires g c = some_came c.read_with.ensures.shared c.read_with.ensures.read (search rules)
 
 pub returns-in_err-geometry-clause-memory : goal.returns-in_err-geometry-clause-memory
 returns-in_err-geometry-clause-memory g c = λ is.
-    let read = c.read_anew in
+    let read = c.read_with in
     let found : read.result ≡ Ok true = search rules in
     made_ahead (same_answer found (came read.ensures.shared found read.ensures.read)).is.1
 
 pub returns-clause-next : goal.returns-clause-next
 returns-clause-next g c = λ live going.
     let old = c.args.self.now in
-    let read = c.read_anew in
+    let read = c.read_with in
     let tree = c.in_ok-geometry in
     let found : read.result ≡ Ok true = search rules in
     let (h, has, is) = spanned_next (Ok true) (same_answer found (read.ensures.read live going)) (λ e. refl) in

@@ -1,12 +1,12 @@
 use Rattle.std.proofs.Common.{◌≡◌, Ok, true, refl, rules, subst, sym}
 use Rattle.twkb_engine.specs.Standing.{IsAlive}
-use Rattle.twkb_blob.proofs.Abreast.{ready, read_abreast, still_abreast}
+use Rattle.twkb_blob.proofs.Abreast.{read_abreast, still_abreast}
 use Rattle.twkb_blob.proofs.reader.Reader.read_with.Goals as goal
 
 pub read_blob-found-requires-clause-alive : goal.read_blob-found-requires-clause-alive
 read_blob-found-requires-clause-alive g c =
-    let live = ready c.args.self.now.state (search rules) in
-    subst (λ rs. IsAlive rs c.args.engine.now) (sym c.clear.ensures) (c.requires.abreast live.0 live.1).alive
+    subst (λ rs. IsAlive rs c.args.engine.now) (sym c.clear.ensures)
+    (c.requires.abreast (search rules) (search rules)).alive
 
 pub returns-in-Ok-true-clause-read : goal.returns-in-Ok-true-clause-read
 returns-in-Ok-true-clause-read g c = λ live going. read_abreast (c.requires.abreast live going) c.clear.ensures

@@ -1,4 +1,6 @@
 use Rattle.std.proofs.Common.{rules}
+use Rattle.twkb_flat.specs.declared.stop.Stop.TheVariants.{Refused}
+use Rattle.twkb_engine.specs.declared.blob_reason.BlobReason.TheVariants.{SizeMismatch}
 use Rattle.twkb_engine.specs.Taking.{past_end, own_row}
 use Rattle.twkb_engine.proofs.Ends.{empty_ended, lands_stopped}
 use Rattle.twkb_engine.proofs.engine.Engine.end_empty.Goals as goal
@@ -6,7 +8,7 @@ use Rattle.twkb_engine.proofs.engine.Engine.end_empty.Goals as goal
 pub returns-in_err-ends-clause-ended : goal.returns-in_err-ends-clause-ended
 returns-in_err-ends-clause-ended g c =
     let d = c.args.self.now in
-    lands_stopped (past_end d) d _ c.args.flat.now (own_row d) _ _ c.in_err-ends.field-0.0 c.from_residual.ensures.1
+    lands_stopped (past_end d) d _ c.args.flat.now (own_row d) _ _ (Refused SizeMismatch) c.from_residual.ensures.1
     (λ y same. same) (c.in_err-ends.ensures.ended c.args.flat.now)
 
 pub returns-clause-ended : goal.returns-clause-ended

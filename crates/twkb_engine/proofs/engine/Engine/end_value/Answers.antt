@@ -2,7 +2,7 @@ use Rattle.std.proofs.Common.{Result, sym, subst}
 use Rattle.twkb_grammar.specs.Fault.{Reason}
 use Rattle.twkb_body.specs.Outline.{Outline}
 use Rattle.twkb_body.specs.Growing.{Nothing}
-use Rattle.twkb_engine.specs.Taking.{Lands}
+use Rattle.twkb_engine.specs.Taking.{Lands, judged_as}
 use Rattle.twkb_engine.proofs.Ends.{none_ended}
 use Rattle.twkb_engine.proofs.Lists.{body_inside}
 use Rattle.twkb_engine.proofs.engine.Engine.end_value.Goals as goal
@@ -13,7 +13,7 @@ end_geometry-requires-clause-inside g c = body_inside c.args.self.now.next c.req
 pub returns-then-ends_with_list-clause-ended : goal.returns-then-ends_with_list-clause-ended
 returns-then-ends_with_list-clause-ended g c = λ rs.
     subst (λ (way : Result Outline Reason). Lands way Nothing c.args.self.now rs
-    c.end_geometry.result c.end_geometry.new.self rs)
+    (judged_as c.end_geometry.result) c.end_geometry.new.self rs)
     (sym (c.ends_with_list.ensures.ends c.if-ends_with_list.true))
     (c.end_geometry.ensures.ended rs)
 

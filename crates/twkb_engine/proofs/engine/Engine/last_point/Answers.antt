@@ -1,6 +1,8 @@
 use Rattle.std.proofs.Common.{sym, subst, ap, ◌∙◌}
 use Rattle.twkb_body.specs.Growing.{Change, applied}
 use Rattle.twkb_body.specs.Admitting.{Admits}
+use Rattle.twkb_flat.specs.declared.stop.Stop.TheVariants.{Refused}
+use Rattle.twkb_engine.specs.declared.blob_reason.BlobReason.TheVariants.{SizeMismatch}
 use Rattle.twkb_engine.specs.Taking.{last_lists, past_last, point_row}
 use Rattle.twkb_engine.proofs.Ends.{past_lists, lands_passed, lands_brought, lands_stopped, lands_unkept}
 use Rattle.twkb_engine.proofs.Lists.{point_there}
@@ -10,7 +12,7 @@ pub returns-in_err-ends-clause-shut : goal.returns-in_err-ends-clause-shut
 returns-in_err-ends-clause-shut g c =
     let d = c.args.self.now in
     lands_stopped (past_last d) d c.end_value.new.self _ (point_row c.args.position d) _
-    c.from_residual.result c.in_err-ends.field-0.0 c.from_residual.ensures.1 (λ y same. same)
+    c.from_residual.result (Refused SizeMismatch) c.from_residual.ensures.1 (λ y same. same)
     (c.in_err-ends.ensures.ended c.args.flat.now)
 
 pub put_point-requires : goal.put_point-requires

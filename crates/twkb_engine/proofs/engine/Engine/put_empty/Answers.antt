@@ -2,8 +2,17 @@ use Rattle.std.proofs.Common.{[]}
 use Rattle.twkb_body.specs.Growing.{NewRow}
 use Rattle.twkb_flat.specs.Rows.{row_with}
 use Rattle.twkb_engine.specs.Taking.{last_lists, past_last}
-use Rattle.twkb_engine.proofs.Ends.{past_lists, lands_passed, lands_brought, lands_unkept}
+use Rattle.twkb_flat.specs.declared.stop.Stop.TheVariants.{Refused}
+use Rattle.twkb_engine.specs.declared.blob_reason.BlobReason.TheVariants.{SizeMismatch}
+use Rattle.twkb_engine.proofs.Ends.{past_lists, lands_passed, lands_brought, lands_stopped, lands_unkept}
 use Rattle.twkb_engine.proofs.engine.Engine.put_empty.Goals as goal
+
+pub returns-in_err-ends-clause-shut : goal.returns-in_err-ends-clause-shut
+returns-in_err-ends-clause-shut g c =
+    let d = c.args.self.now in
+    lands_stopped (past_last d) d c.end_value.new.self _ (NewRow (row_with c.args.row [])) _
+    c.from_residual.result (Refused SizeMismatch) c.from_residual.ensures.1 (λ y same. same)
+    (c.in_err-ends.ensures.ended c.args.flat.now)
 
 pub returns-in_err-push_row-clause-shut : goal.returns-in_err-push_row-clause-shut
 returns-in_err-push_row-clause-shut g c =

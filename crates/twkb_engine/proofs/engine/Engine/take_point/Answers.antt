@@ -17,7 +17,8 @@ returns g c =
       limits = t.kept.limits;
       fed = point_fed c.args.flat.now c.args.self.now c.requires.next c.requires.last
           c.args.rest.now _ _ c.in-Some.ensures
-          g.S.SpanNotes.holds _ c.last_point.new.self c.last_point.new.flat c.args.spans.now c.last_point.new.spans
+          g.S.SpanNotes.holds _ c.last_point.new.self c.last_point.new.flat c.args.spans.now
+          c.last_point.new.spans
           refl
           c.requires.alone c.last_point.result t.kept.limits t.kept.held t.shut t.noted t.placed;
     })

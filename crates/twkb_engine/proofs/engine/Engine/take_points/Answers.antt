@@ -1,16 +1,9 @@
 use Rattle.twkb_engine.proofs.Answering.{many_fed, many_stopped, ready_still, answer_next}
 use Rattle.twkb_engine.proofs.engine.Engine.take_points.Goals as goal
 
-pub returns-in_err-take_list : goal.returns-in_err-take_list
-returns-in_err-take_list g c =
-    many_stopped c.from_residual.result c.from_residual.ensures.1 (λ y same. same) c.in_err-take_list.ensures
-
-pub returns-then-self-gt0 : goal.returns-then-self-gt0
-returns-then-self-gt0 g c = many_fed c.in_ok-take_list.ensures
-
 pub returns-in_err-used : goal.returns-in_err-used
 returns-in_err-used g c =
-    many_stopped c.from_residual-in_err-used.result c.from_residual-in_err-used.ensures.1
+    many_stopped c.from_residual.result c.from_residual.ensures.1
     (λ y same. same) c.in_err-used.ensures.taken
 
 pub returns-then-used-gt0 : goal.returns-then-used-gt0

@@ -7,29 +7,29 @@ use Rattle.twkb_engine.proofs.engine.Engine.y.Goals as goal
 pub add_point-requires : goal.add_point-requires
 add_point-requires g c =
     let at = c.in-Some.ensures in
-    let l = y_more c.requires at.free at.moved c.if-self-gt0.true in
+    let l = y_more c.requires at.free at.moved c.if-self-gt1.true in
     record { line = l.admits.0; room = l.admits.1 }
 
 pub returns-in_err-add_point-clause-taken : goal.returns-in_err-add_point-clause-taken
 returns-in_err-add_point-clause-taken g c =
     let at = c.in-Some.ensures in
-    takes_none (y_more c.requires at.free at.moved c.if-self-gt0.true) _ _ _
+    takes_none (y_more c.requires at.free at.moved c.if-self-gt1.true) _ _ _
     c.from_residual.ensures.1 tt
 
-pub returns-then-self-gt0-clause-taken : goal.returns-then-self-gt0-clause-taken
-returns-then-self-gt0-clause-taken g c =
+pub returns-then-self-gt1-clause-taken : goal.returns-then-self-gt1-clause-taken
+returns-then-self-gt1-clause-taken g c =
     let at = c.in-Some.ensures in
-    takes_on (y_more c.requires at.free at.moved c.if-self-gt0.true)
+    takes_on (y_more c.requires at.free at.moved c.if-self-gt1.true)
     refl (sums_as refl at.moved (add_zero _) (add_zero _)) c.in_ok-add_point.ensures.added
     (record { limits = refl; start = refl })
 
 pub last_point-requires-clause-may : goal.last_point-requires-clause-may
 last_point-requires-clause-may g c =
     let at = c.in-Some.ensures in
-    (y_last c.requires at.free at.moved (omega (arith, c.if-self-gt0.false))).admits
+    (y_last c.requires at.free at.moved (omega (arith, c.if-self-gt1.false))).admits
 
 pub returns-clause-taken : goal.returns-clause-taken
 returns-clause-taken g c =
     let at = c.in-Some.ensures in
-    takes (y_last c.requires at.free at.moved (omega (arith, c.if-self-gt0.false)))
+    takes (y_last c.requires at.free at.moved (omega (arith, c.if-self-gt1.false)))
     _ _ _ _ (sums_as refl at.moved (add_zero _) (add_zero _)) refl refl c.last_point.ensures.shut

@@ -5,7 +5,7 @@ use Rattle.twkb_table.proofs.head.RowHeadPointSource.append_to.Goals as goal
 use Rattle.twkb_table.proofs.head.RowHeadPointSource.append_to.Goals.{else-not-is_empty-via-else-not-is_empty}
 
 pub overflow_sub-count : goal.overflow_sub-count
-overflow_sub-count g c = has_grown _ _ _ _ _ _ c.in-Ok-decode_into.ensures.decodes c.count-held.ensures c.count.ensures
+overflow_sub-count g c = has_grown _ _ _ _ _ _ c.in-Ok-decode_into.ensures.decodes c.count-start.ensures c.count.ensures
 
 pub returns-in-Ok : goal.returns-in-Ok
 returns-in-Ok g c = record {
@@ -62,10 +62,10 @@ returns-in-Some-refused_count-clause-refused g c =
       | else-not-is_empty-via-else-not-is_empty w ↦ no_text head c.is_empty.result
           c.is_empty.ensures w.if-not-is_empty.false
     ] in
-    points_refused head c.points.result c.saturating_sub-left.result c.count-held.result
+    points_refused head c.points.result c.saturating_sub-left.result c.count-start.result
     c.count.result _ _ c.in-Some-refused_count.reason needed
     (c.points.ensures, c.saturating_sub-left.ensures) c.in-Ok-decode_into.ensures.decodes
-    c.count-held.ensures c.count.ensures c.in-Some-refused_count.ensures.judged
+    c.count-start.ensures c.count.ensures c.in-Some-refused_count.ensures.judged
 
 pub returns-clause-given : goal.returns-clause-given
 returns-clause-given g c =
@@ -76,7 +76,7 @@ returns-clause-given g c =
       | else-not-is_empty-via-else-not-is_empty w ↦ no_text head c.is_empty.result
           c.is_empty.ensures w.if-not-is_empty.false
     ] in
-    points_accepted head c.points.result c.saturating_sub-left.result c.count-held.result
+    points_accepted head c.points.result c.saturating_sub-left.result c.count-start.result
     c.count.result _ _ needed (c.points.ensures, c.saturating_sub-left.ensures)
-    c.in-Ok-decode_into.ensures.decodes c.count-held.ensures c.count.ensures
+    c.in-Ok-decode_into.ensures.decodes c.count-start.ensures c.count.ensures
     c.in_default-refused_count.ensures.judged

@@ -12,7 +12,7 @@ returns-clause-opened c = λ points.
     let d = c.args.row.now.depth in
     let r = row_with c.args.row.now points in
     let items = c.self.inside.places.items in
-    let open_now : opened d items r ≡ opened d c.args.self.now r = opened_in d c.self.inside.levels
+    let open_now : opened d items r ≡ opened d c.args.self.now r = opened_in d c.self.inside.open_count
     items c.args.self.now r c.self.invariant (sym c.self.view_is) c.requires in
     elim c.if-depth-len.branch [
       | then-depth-len+in-Ok w ↦

@@ -22,7 +22,7 @@ pub returns-clause-gives : goal.returns-clause-gives
 returns-clause-gives g c =
     let new = record c.args.self.now {
       reader = c.read_next-found.new.reader;
-      held = c.read_next-found.new.held;
+      last = c.read_next-found.new.last;
       ended = c.read_next-found.new.ended;
       spent = c.is_err-self.result;
     } in
@@ -33,7 +33,7 @@ pub returns-clause-ends : goal.returns-clause-ends
 returns-clause-ends g c =
     let new = record c.args.self.now {
       reader = c.read_next-found.new.reader;
-      held = c.read_next-found.new.held;
+      last = c.read_next-found.new.last;
       ended = c.read_next-found.new.ended;
       spent = c.is_err-self.result;
     } in

@@ -12,7 +12,7 @@ returns-in-Ok-false g c = record {
       let over = c.in-Ok-false.ensures.ended (ap Ok c.in-Ok-false.field-0-test) in
       let new = record c.args.self.now {
         reader = c.next_record.new.reader;
-        held = c.next_record.new.held;
+        last = c.next_record.new.last;
         ended = c.next_record.new.ended;
         number = c.next_record.new.number;
       } in
@@ -50,7 +50,7 @@ returns-in-Err g c = record {
 
 pub returns-in-Ok : goal.returns-in-Ok
 returns-in-Ok g c = record {
-  reads = λ l told records given s. (let here = fields_of c.next_record.new.held in
+  reads = λ l told records given s. (let here = fields_of c.next_record.new.last in
       let source = (c.in-Ok-true.ensures.more c.in-Ok-true.field-0-test told records s.source).0 in
       let going = going_on _ c.in-Ok-true.field-0 c.in-Ok-true.ensures.over c.in-Ok-true.field-0-test in
       let counted = c.in-Ok-true.ensures.counted c.in-Ok-true.field-0-test in
@@ -65,7 +65,7 @@ returns-in-Ok g c = record {
 
 pub returns-in-Err-read_root : goal.returns-in-Err-read_root
 returns-in-Err-read_root g c = record {
-  reads = λ l told records given s. (let here = fields_of c.next_record.new.held in
+  reads = λ l told records given s. (let here = fields_of c.next_record.new.last in
       let source = (c.in-Ok-true.ensures.more c.in-Ok-true.field-0-test told records s.source).0 in
       let going = going_on _ c.in-Ok-true.field-0 c.in-Ok-true.ensures.over c.in-Ok-true.field-0-test in
       let number = (c.in-Ok-true.ensures.counted c.in-Ok-true.field-0-test).0 in
@@ -75,7 +75,7 @@ returns-in-Err-read_root g c = record {
       records given here c.args.self.now
       (record c.args.self.now {
         reader = c.next_record.new.reader;
-        held = c.next_record.new.held;
+        last = c.next_record.new.last;
         ended = c.next_record.new.ended;
         number = c.next_record.new.number;
       }) reason s c.requires.none c.requires.begun going

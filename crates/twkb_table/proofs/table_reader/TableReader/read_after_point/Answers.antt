@@ -16,7 +16,7 @@ returns-in-Ok-false-clause-gives g c l told records given r =
     reads_end l g.R.Read.remaining told records given (waiting c.args.self.now.rows) c.args.self.now
     (record c.args.self.now {
       reader = c.next_record.new.reader;
-      held = c.next_record.new.held;
+      last = c.next_record.new.last;
       ended = c.next_record.new.ended;
       number = c.next_record.new.number;
       rows = c.forget_root.new.self;
@@ -37,12 +37,12 @@ returns-in-Err-clause-fault g c l told records given r =
 
 pub returns-in-Ok-clause-gives : goal.returns-in-Ok-clause-gives
 returns-in-Ok-clause-gives g c l told records given r =
-    let here = fields_of c.next_record.new.held in
+    let here = fields_of c.next_record.new.last in
     let source = (c.in-Ok-true.ensures.more c.in-Ok-true.field-0-test told records r.source).0 in
     let counted = c.in-Ok-true.ensures.counted c.in-Ok-true.field-0-test in
     let new : TableReader _ = record c.args.self.now {
       reader = c.next_record.new.reader;
-      held = c.next_record.new.held;
+      last = c.next_record.new.last;
       ended = c.next_record.new.ended;
       number = c.next_record.new.number;
       rows = c.read_root.new.self;
@@ -55,7 +55,7 @@ returns-in-Ok-clause-gives g c l told records given r =
 
 pub returns-in-Err-read_root-clause-fault : goal.returns-in-Err-read_root-clause-fault
 returns-in-Err-read_root-clause-fault g c l told records given r =
-    let here = fields_of c.next_record.new.held in
+    let here = fields_of c.next_record.new.last in
     let source = (c.in-Ok-true.ensures.more c.in-Ok-true.field-0-test told records r.source).0 in
     let number = (c.in-Ok-true.ensures.counted c.in-Ok-true.field-0-test).0 in
     let refused = c.in-Err-read_root.ensures.refused in
@@ -64,7 +64,7 @@ returns-in-Err-read_root-clause-fault g c l told records given r =
     records given (waiting c.args.self.now.rows) here c.args.self.now
     (record c.args.self.now {
       reader = c.next_record.new.reader;
-      held = c.next_record.new.held;
+      last = c.next_record.new.last;
       ended = c.next_record.new.ended;
       number = c.next_record.new.number;
     }) reason r source number c.read_root.ensures.sound

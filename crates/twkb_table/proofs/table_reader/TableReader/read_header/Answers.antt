@@ -10,7 +10,7 @@ returns-then-not-is_header-clause-reads g c l told records given s =
     let before = fresh l records given (is_ended c.args.self.now) (sym s.count ∙ c.requires.first)
     (subst (λ w. HaveGiven l records given w (is_ended c.args.self.now)) c.requires.none s.gave)
     in
-    other_header l told records given (fields_of c.read_next.new.held) before
+    other_header l told records given (fields_of c.read_next.new.last) before
     (c.in-Ok-true.ensures.gives c.in-Ok-true.field-0-test told records s.source).1
     (λ e. false≢true (c.if-not-is_header.ensures.1 e))
 
@@ -29,11 +29,11 @@ returns-clause-reads g c l told records given s =
     in
     let new = record c.args.self.now {
       reader = c.read_next.new.reader;
-      held = c.read_next.new.held;
+      last = c.read_next.new.last;
       ended = c.read_next.new.ended;
       number = 1;
     } in
-    the_header l g.R.Read.remaining told records given (fields_of c.read_next.new.held)
+    the_header l g.R.Read.remaining told records given (fields_of c.read_next.new.last)
     c.args.self.now new s before (c.in-Ok-true.ensures.gives c.in-Ok-true.field-0-test told
     records s.source).0 (c.is_header.ensures.0 c.if-not-is_header.false) refl refl
     c.requires.none refl

@@ -17,7 +17,7 @@ returns-in-Ok-false g c = record {
       reads_end l g.R.Read.remaining told records given c.args.flat.now c.args.self.now
       (record c.args.self.now {
         reader = c.next_record.new.reader;
-        held = c.next_record.new.held;
+        last = c.next_record.new.last;
         ended = c.next_record.new.ended;
         number = c.next_record.new.number;
       }) r (end told records r.source).0 over
@@ -50,12 +50,12 @@ returns-in-Err g c = record {
 
 pub returns-in-Ok : goal.returns-in-Ok
 returns-in-Ok g c = record {
-  reads = λ l told records given r. (let here = fields_of c.next_record.new.held in
+  reads = λ l told records given r. (let here = fields_of c.next_record.new.last in
       let source = (c.in-Ok-true.ensures.more c.in-Ok-true.field-0-test told records r.source).0 in
       let counted = c.in-Ok-true.ensures.counted c.in-Ok-true.field-0-test in
       let new : TableReader _ = record c.args.self.now {
         reader = c.next_record.new.reader;
-        held = c.next_record.new.held;
+        last = c.next_record.new.last;
         ended = c.next_record.new.ended;
         number = c.next_record.new.number;
         rows = c.read_row.new.self;
@@ -82,7 +82,7 @@ returns-in-Ok g c = record {
 
 pub returns-in-Err-read_row : goal.returns-in-Err-read_row
 returns-in-Err-read_row g c = record {
-  reads = λ l told records given r. (let here = fields_of c.next_record.new.held in
+  reads = λ l told records given r. (let here = fields_of c.next_record.new.last in
       let source = (c.in-Ok-true.ensures.more c.in-Ok-true.field-0-test told records r.source).0 in
       let number = (c.in-Ok-true.ensures.counted c.in-Ok-true.field-0-test).0 in
       let refused = c.in-Err-read_row.ensures.refused in
@@ -91,7 +91,7 @@ returns-in-Err-read_row g c = record {
       records given c.args.flat.now here c.args.self.now
       (record c.args.self.now {
         reader = c.next_record.new.reader;
-        held = c.next_record.new.held;
+        last = c.next_record.new.last;
         ended = c.next_record.new.ended;
         number = c.next_record.new.number;
       }) reason r source number c.read_row.ensures.sound j)

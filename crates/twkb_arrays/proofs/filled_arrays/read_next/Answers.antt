@@ -1,0 +1,74 @@
+use Rattle.std.proofs.Common.{◌∙◌, ◌++◌, List, ap, arith, length, refl, sym, take}
+use Rattle.twkb_tree.specs.Rows.{Row}
+use Rattle.twkb_arrays.proofs.ArrayLemmas.{length-rest_of, rest_of}
+use Rattle.twkb_arrays.proofs.ReadingLemmas.{fed_all, fed_whole, stopped, took, went_on}
+use Rattle.twkb_arrays.proofs.TakingLemmas.{some_rows}
+use Rattle.twkb_arrays.proofs.filled_arrays.read_next.Goals as goal
+
+pub take_geometry-requires-clause-some : goal.take_geometry-requires-clause-some
+take_geometry-requires-clause-some c =
+    let bytes = take c.args.used c.args.blobs.now in
+    let fed = fed_whole bytes c.requires.stands.0 (rest_of c.args.blobs.now c.args.used) c.in-Ok-default-true.more
+    c.in-Ok-default-true.field-0-1 c.feed_flat.new.self
+    (c.in-Ok-default-true.ensures.fed bytes c.requires.stands.0 c.requires.stands.1)
+    c.in-Ok-default-true.field-0-1-test in
+    omega (arith, some_rows fed.0, ap (λ (rs : List Row). length rs) (c.rows.ensures ∙ fed.2))
+
+pub returns-in-Ok-default-true-clause-more : goal.returns-in-Ok-default-true-clause-more
+returns-in-Ok-default-true-clause-more c =
+    let bytes = take c.args.used c.args.blobs.now in
+    let fed = fed_whole bytes c.requires.stands.0 (rest_of c.args.blobs.now c.args.used) c.in-Ok-default-true.more
+    c.in-Ok-default-true.field-0-1 c.feed_flat.new.self
+    (c.in-Ok-default-true.ensures.fed bytes c.requires.stands.0 c.requires.stands.1)
+    c.in-Ok-default-true.field-0-1-test in
+    let some = fed.1.0 in
+    let most = fed.1.1 in
+    let count = length-rest_of c.args.blobs.now c.args.used in (
+      omega (arith, some),
+      omega (arith, most, count, c.requires.left),
+    )
+
+pub returns-in-Ok-default-true-clause-reads : goal.returns-in-Ok-default-true-clause-reads
+returns-in-Ok-default-true-clause-reads c = λ start_rows start_points r.
+    let bytes = take c.args.used c.args.blobs.now in
+    let piece = rest_of c.args.blobs.now c.args.used in
+    let fed = fed_whole bytes (r.0 ++ r.1) piece c.in-Ok-default-true.more c.in-Ok-default-true.field-0-1
+    c.feed_flat.new.self (c.in-Ok-default-true.ensures.fed bytes (r.0 ++ r.1) r.2)
+    c.in-Ok-default-true.field-0-1-test in
+    took start_rows start_points c.args.blobs.now piece c.args.used c.in-Ok-default-true.more r.0 r.1 fed.0
+    c.take_geometry.new.row_array c.take_geometry.new.point_array c.feed_flat.new.self c.take_geometry.new.taken refl
+    fed.1.3 (c.take_geometry.ensures start_rows start_points r.0 r.1 fed.0 r.3 (sym (c.rows.ensures ∙ fed.2)))
+
+pub returns-in-Ok-default-false-clause-more : goal.returns-in-Ok-default-false-clause-more
+returns-in-Ok-default-false-clause-more c =
+    let bytes = take c.args.used c.args.blobs.now in
+    let fed = fed_all bytes c.requires.stands.0 (rest_of c.args.blobs.now c.args.used) c.in-Ok-default-false.more
+    c.in-Ok-default-false.field-0-1 c.feed_flat.new.self
+    (c.in-Ok-default-false.ensures.fed bytes c.requires.stands.0 c.requires.stands.1)
+    c.in-Ok-default-false.field-0-1-test in
+    let all = fed.0 in
+    let count = length-rest_of c.args.blobs.now c.args.used in (
+      omega (arith, all, count, c.requires.left),
+      omega (arith, all, count, c.requires.left),
+    )
+
+pub returns-in-Ok-default-false-clause-reads : goal.returns-in-Ok-default-false-clause-reads
+returns-in-Ok-default-false-clause-reads c = λ start_rows start_points r.
+    let bytes = take c.args.used c.args.blobs.now in
+    let piece = rest_of c.args.blobs.now c.args.used in
+    let fed = fed_all bytes (r.0 ++ r.1) piece c.in-Ok-default-false.more c.in-Ok-default-false.field-0-1
+    c.feed_flat.new.self (c.in-Ok-default-false.ensures.fed bytes (r.0 ++ r.1) r.2)
+    c.in-Ok-default-false.field-0-1-test in
+    went_on start_rows start_points c.args.blobs.now piece c.args.used c.in-Ok-default-false.more r.0 r.1
+    c.args.row_array.now c.args.point_array.now c.feed_flat.new.self c.args.taken.now refl fed.0 fed.1 r.3
+
+pub returns-in-Err-clause-stops : goal.returns-in-Err-clause-stops
+returns-in-Err-clause-stops c = λ start_rows start_points r.
+    let bytes = take c.args.used c.args.blobs.now in (
+      r.0,
+      r.1,
+      r.3,
+      stopped _ c.args.blobs.now (rest_of c.args.blobs.now c.args.used) c.args.used (r.0 ++ r.1) c.args.session.now
+          c.feed_flat.new.self c.in-Err.fault refl r.2 refl c.feed_flat.ensures.limits
+          (c.in-Err.ensures.fed bytes (r.0 ++ r.1) r.2),
+    )

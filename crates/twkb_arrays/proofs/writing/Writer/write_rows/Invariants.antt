@@ -1,9 +1,0 @@
--- The rows so far are read, with their points.
-use Rattle.std.proofs.Common.{◌≡◌, ◌≤◌, [], length, take}
-use Rattle.twkb_arrays.specs.Writing.{IsWriting}
-use Rattle.twkb_arrays.proofs.writing.Writer.write_rows.Given as goal
-
-abbrev pub invariant-loop-at : goal.invariant-loop-at
-invariant-loop-at l =
-    IsWriting l.limits l.style l.fn.output (take l.at l.rows) (take l.used l.points) l.output l.self
-    × (l.used ≤ length l.points) × (l.self.open_geometry ≡ [] → take l.at l.rows ≡ [])

@@ -1,0 +1,85 @@
+-- The effect of a call that reads a stream into arrays.
+use Rattle.std.specs.Prelude.{◌≡◌, ℕ, ◌<◌, List, ◌++◌, length, Bool, Result, Ok, Err}
+use Rattle.twkb_io.specs.declared.TheConstants.{MAX_BYTES}
+use Rattle.twkb_tree.specs.Tree.{Tree, saturated}
+use Rattle.twkb_tree.specs.Limits.{Allowance}
+use Rattle.twkb_tree.specs.Rows.{rows_of, row_points}
+use Rattle.twkb_grammar.specs.Blob.{Stream}
+use Rattle.twkb_grammar.specs.Fault.{StreamFault}
+use Rattle.twkb_engine.specs.Stops.{reason_of}
+use Rattle.twkb_blob.specs.declared.fault.BlobFault.{BlobFault}
+use Rattle.twkb_blob.specs.declared.fault.BlobFault.TheVariants as fault
+use Rattle.twkb_buffer.specs.Numbers.{blob_number_of}
+use Rattle.twkb_buffer.specs.declared.point.BufferPoint.{BufferPoint}
+use Rattle.twkb_blob.specs.Sessions.{Stands}
+use Rattle.twkb_blob.specs.declared.session.Session.{Session}
+use Rattle.twkb_arrays.specs.Status.{unless_full}
+use Rattle.twkb_arrays.specs.Rooms.{StopsBefore, are_more}
+use Rattle.twkb_arrays.specs.Rows.{LacksRoom}
+use Rattle.twkb_arrays.specs.TakenGeometries.{HasTaken, IsFilled}
+use Rattle.twkb_arrays.specs.declared.row.BufferRow.{BufferRow}
+use Rattle.twkb_arrays.specs.declared.taken_geometries.Taken.{Taken}
+use Rattle.twkb_arrays.specs.declared.filled_arrays.BufferCounts.{BufferCounts}
+
+-- the bytes begin with blobs of these geometries
+abbrev pub BeginsWithBlobs : Allowance → List ℕ → List Tree → Type 0
+BeginsWithBlobs l bytes gs = (front rest : List ℕ) × (bytes ≡ front ++ rest) × Stream l front gs
+
+-- How the reading of bytes ended, after these geometries: the bytes are a stream of them; or an item
+-- after them is refused; or there are more than 2^62 bytes; or memory was refused.
+abbrev pub EndsReading : {A : Type 0} → Allowance → List ℕ → List Tree → Result A BlobFault → Type 0
+EndsReading l bytes gs (Ok done) = Stream l bytes gs
+EndsReading l bytes gs (Err (fault.At offset reason)) = StreamFault l bytes gs offset (reason_of reason)
+EndsReading l bytes gs (Err (fault.Device why)) = (MAX_BYTES < length bytes) × BeginsWithBlobs l bytes gs
+EndsReading l bytes gs (Err fault.Memory) = BeginsWithBlobs l bytes gs
+EndsReading l bytes gs (Err fault.Spent) = ⊥
+
+-- The session stands after these bytes, and of their geometries the first were taken.
+abbrev pub IsReading : List BufferRow → List BufferPoint → List ℕ → List BufferRow
+    → List BufferPoint → Session → Taken → Type 0
+IsReading start_rows start_points bytes in_rows in_points session taken =
+    (given later : List Tree) × Stands bytes (given ++ later) session
+    × HasTaken start_rows start_points given later in_rows in_points taken
+
+-- The reading of bytes stopped after geometries of which the first were taken.
+abbrev pub StopsReading : Allowance → List BufferRow → List BufferPoint → List ℕ → List BufferRow
+    → List BufferPoint → Taken → BlobFault → Type 0
+StopsReading l start_rows start_points bytes in_rows in_points taken why =
+    (given later : List Tree) × HasTaken start_rows start_points given later in_rows in_points taken
+    × EndsReading {A = ℕ} l bytes (given ++ later) (Err why)
+
+-- the status, the reason and the place of a reading that ended like this, given whether there was
+-- too little room for a geometry: 4 without memory, 5 without room, 1 for a refusal, and 0
+abbrev pub outcome_of : {A : Type 0} → Bool → Result A BlobFault → ℕ × ℕ × ℕ
+outcome_of full (Ok done) = unless_full full (0, 0, 0)
+outcome_of full (Err fault.Memory) = (4, 0, 0)
+outcome_of full (Err fault.Spent) = (4, 0, 0)
+outcome_of full (Err (fault.Device why)) = unless_full full (1, 61, 0)
+outcome_of full (Err (fault.At offset reason)) = unless_full full (1, blob_number_of reason, offset)
+
+-- What the counts of a call state: how it ended, the geometries in the arrays with their rows and
+-- points, and the rows and points of all geometries that were read.
+pub record CountsAs {A : Type 0} (given later : List Tree) (answer : Result A BlobFault)
+    (counts : BufferCounts) : Type 0 where
+  pub status_is : counts.status ≡ (outcome_of (are_more later) answer).0
+  pub reason_is : counts.reason ≡ (outcome_of (are_more later) answer).1
+  pub place_is : counts.place ≡ (outcome_of (are_more later) answer).2
+  pub done_is : counts.done ≡ length given
+  pub rows_is : counts.rows ≡ length (rows_of given)
+  pub points_is : counts.points ≡ length (row_points (rows_of given))
+  pub needed_rows_is : counts.needed_rows ≡ saturated (length (rows_of (given ++ later)))
+  pub needed_points_is : counts.needed_points ≡ saturated (length (row_points (rows_of (given ++ later))))
+
+-- A call read the geometries of bytes, to the end of the bytes or to where it was stopped. The first
+-- ones are at the start of the arrays, and the places after them are as they were. The others were
+-- counted, since there is no room for the first of these.
+pub record ReadsArrays (l : Allowance) (bytes : List ℕ) (old_rows : List BufferRow)
+    (old_points : List BufferPoint) (new_rows : List BufferRow) (new_points : List BufferPoint)
+    (counts : BufferCounts) : Type 0 where
+  pub given : List Tree
+  pub later : List Tree
+  pub filled : IsFilled old_rows old_points given new_rows new_points
+  pub stops : StopsBefore (LacksRoom old_rows old_points) given later
+  pub answer : Result (Unit {0}) BlobFault
+  pub ended : EndsReading l bytes (given ++ later) answer
+  pub counted : CountsAs given later answer counts

@@ -1,0 +1,153 @@
+//! Streams of blobs as rows and points in arrays.
+ghost use Rattle.std.specs.Prelude.{◌≡◌, ◌<◌, ◌≤◌, List, [], ◌++◌, length, take, IfOk, IfErr};
+ghost use Rattle.twkb_tree.specs.Tree.{Tree};
+ghost use Rattle.twkb_buffer.specs.declared.point.BufferPoint.{BufferPoint as InPoint};
+ghost use Rattle.twkb_blob.specs.Sessions.{Stands, session_limits};
+ghost use Rattle.twkb_arrays.specs.declared.row.BufferRow.{BufferRow as InRow};
+ghost use Rattle.twkb_arrays.specs.TakenGeometries.{HasTaken, IsWithin};
+ghost use Rattle.twkb_arrays.specs.FilledArrays.{CountsAs, EndsReading, IsReading, ReadsArrays, StopsReading};
+ghost use Rattle.twkb_arrays.specs.FilledArrays.{outcome_of};
+
+use crate::row::BufferRow;
+use crate::status::unless_full;
+use crate::taken_geometries::{Taken, take_geometry};
+use std::alloc::Global;
+use twkb_blob::{BlobFault, Session};
+use twkb_buffer::{BufferPoint, blob_number};
+use twkb_tree::Limits;
+
+/// What a call read, and what it wrote into arrays.
+#[repr(C)]
+#[derive(Clone, Copy, Debug, PartialEq, Eq)]
+pub struct BufferCounts {
+    /// 0: everything was read. 1: the bytes are refused. 2: the limits are refused. 4: no memory.
+    /// 5: an array has too little room.
+    pub status: u32,
+    /// The number of the reason for which the bytes are refused; 0 if they are not.
+    pub reason: u32,
+    /// The offset of the refused item; otherwise 0.
+    pub place: u64,
+    /// The number of geometries in the arrays.
+    pub done: u64,
+    /// The number of rows written.
+    pub rows: u64,
+    /// The number of points written.
+    pub points: u64,
+    /// The number of rows of all geometries that were read.
+    pub needed_rows: u64,
+    /// The number of points of all geometries that were read.
+    pub needed_points: u64,
+}
+
+// The status, the reason and the place of a reading that ended like this.
+fn outcome(full: bool, answer: Result<(), BlobFault>) -> (u32, u32, u64)
+    ensures { result ≡ outcome_of full answer }
+{
+    match answer {
+        Ok(()) => unless_full(full, (0, 0, 0)),
+        Err(BlobFault::Memory) => (4, 0, 0),
+        Err(BlobFault::Spent) => (4, 0, 0),
+        Err(BlobFault::Device(_)) => unless_full(full, (1, 61, 0)),
+        Err(BlobFault::At { offset, reason }) => {
+            unless_full(full, (1, blob_number(reason), offset))
+        }
+    }
+}
+
+// The counts of a reading that ended like this.
+fn counted(taken: &Taken, answer: Result<(), BlobFault>) -> BufferCounts
+    ensures { (start_rows new_rows : List InRow) (start_points new_points : List InPoint)
+        (given later : List Tree) → HasTaken start_rows start_points given later new_rows new_points
+        taken.now → CountsAs given later answer result }
+{
+    let (status, reason, place) = outcome(taken.full, answer);
+    BufferCounts {
+        status,
+        reason,
+        place,
+        done: taken.done,
+        rows: taken.rows as u64,
+        points: taken.points as u64,
+        needed_rows: taken.needed_rows,
+        needed_points: taken.needed_points,
+    }
+}
+
+// Reads up to the end of a geometry and takes that, or to the end of the bytes; returns how many
+// bytes were read then.
+#[inline(always)]
+fn read_next(
+    blobs: &[u8],
+    used: usize,
+    session: &mut Session,
+    row_array: &mut [BufferRow],
+    point_array: &mut [BufferPoint],
+    taken: &mut Taken,
+) -> Result<usize, BlobFault>
+    requires left { used < length blobs.now }
+    requires within { IsWithin row_array.old point_array.old taken.old }
+    requires stands { (gs : List Tree) × Stands (take used blobs.now) gs session.old }
+    ensures more { IfOk result (λ next. (used < next) × (next ≤ length blobs.now)) }
+    ensures reads { IfOk result (λ next. (start_rows : List InRow) (start_points : List InPoint)
+        → IsReading start_rows start_points (take used blobs.now) row_array.old point_array.old
+        session.old taken.old → IsReading start_rows start_points (take next blobs.now) row_array.new
+        point_array.new session.new taken.new) }
+    ensures stops { IfErr result (λ why. (start_rows : List InRow) (start_points : List InPoint)
+        → IsReading start_rows start_points (take used blobs.now) row_array.old point_array.old
+        session.old taken.old → StopsReading (session_limits session.old) start_rows start_points
+        blobs.now row_array.new point_array.new taken.new why) }
+    ensures limits { session_limits session.new ≡ session_limits session.old }
+{
+    match session.feed_flat(&blobs[used..]) {
+        Ok((more, true)) => {
+            take_geometry(session.rows(), row_array, point_array, taken);
+            Ok(used + more)
+        }
+        Ok((more, false)) => Ok(used + more),
+        Err(fault) => Err(fault),
+    }
+}
+
+// Reads the blobs through a new session to their end or to a fault, and takes each geometry.
+fn read_all(
+    blobs: &[u8],
+    session: &mut Session,
+    row_array: &mut [BufferRow],
+    point_array: &mut [BufferPoint],
+    taken: &mut Taken,
+) -> Result<(), BlobFault>
+    requires { IsReading row_array.old point_array.old [] row_array.old point_array.old session.old taken.old }
+    ensures { (given later : List Tree) × HasTaken row_array.old point_array.old given later
+        row_array.new point_array.new taken.new
+        × EndsReading (session_limits session.old) blobs.now (given ++ later) result }
+{
+    let mut used = 0;
+    while used < blobs.len() {
+        match read_next(blobs, used, session, row_array, point_array, taken) {
+            Ok(next) => used = next,
+            Err(fault) => return Err(fault),
+        }
+    }
+    session.finish()
+}
+
+/// Reads a stream of blobs into arrays: the rows of its geometries as a table has them (blobs:
+/// TWKB; rows: profile), each with the number of its points, and the points of all rows in one
+/// list. Each geometry must keep the limits. A refused blob stops it, after the geometries before
+/// it. A geometry for which an array has too little room is not written, nor is any after it, but
+/// all are counted. Places of the arrays after what is written are unchanged. Takes memory for one
+/// geometry.
+pub fn read_arrays(
+    alloc: Global,
+    blobs: &[u8],
+    rows: &mut [BufferRow],
+    points: &mut [BufferPoint],
+    limits: Limits,
+) -> BufferCounts
+    ensures { ReadsArrays limits blobs.now rows.old points.old rows.new points.new result }
+{
+    let mut session = Session::new(alloc, limits);
+    let mut taken = Taken::nothing();
+    let answer = read_all(blobs, &mut session, rows, points, &mut taken);
+    counted(&taken, answer)
+}

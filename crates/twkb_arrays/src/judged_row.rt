@@ -1,0 +1,249 @@
+//! The row of a geometry that a row of an array stands for, and the reason to refuse it.
+ghost use Rattle.std.specs.Prelude.{◌≡◌, ◌↔◌, ◌+◌, ◌<◌, ◌^◌, ◌||◌, [], List, IsTrue, MatchOption};
+ghost use Rattle.std.specs.Prelude.{length, true, nat_le};
+ghost use Rattle.twkb_points.specs.Point.{IsCoordinate, IsInRange};
+ghost use Rattle.twkb_tree.specs.declared.kind.Kind.{Kind};
+ghost use Rattle.twkb_tree.specs.Admits.{has_points, id_in_range, precision_in_range};
+ghost use Rattle.twkb_tree.specs.Open.{row_of, child_of};
+ghost use Rattle.twkb_tree.specs.Refusal.{are_in_range, has_none};
+ghost use Rattle.twkb_tree.specs.Refusal.{id_checks, point_checks, precision_checks};
+ghost use Rattle.twkb_tree.specs.Rows.{Row as TableRow};
+ghost use Rattle.twkb_flat.specs.Rows.{row_with};
+ghost use Rattle.twkb_flat.specs.declared.stop.Stop.TheVariants.{Refused};
+ghost use Rattle.twkb_table.specs.RowRules.{first_reason};
+ghost use Rattle.twkb_buffer.specs.Numbers.{row_number_of};
+ghost use Rattle.twkb_buffer.specs.declared.point.BufferPoint.{BufferPoint as InPoint};
+ghost use Rattle.twkb_arrays.specs.Rows.{kind_number, point_of, points_of};
+ghost use Rattle.twkb_arrays.specs.JudgedRow.{AreBelow, HasRightId, row_from_c};
+ghost use Rattle.twkb_arrays.specs.RowTests.{IsFirstButRange, checks_there, number_checks};
+
+use crate::row::{BufferRow, NO_PRECISION};
+use std::simd::u64x2;
+use twkb_buffer::{BufferPoint, row_number};
+use twkb_convert::{PolyReason, RowReason};
+use twkb_flat::{Row, Stop};
+use twkb_points::COORDINATE_BOUND;
+use twkb_table::{refused_count, refused_id, refused_place, refused_precision};
+use twkb_tree::row_rules::has_points;
+use twkb_tree::{GREATEST_PRECISION, Kind, LEAST_PRECISION, Limits, RowPlace};
+
+// The reason for which a row with a point out of range is refused. There is no text, and so no place
+// in one.
+pub(crate) const OUT_OF_RANGE: RowReason = RowReason::Polyline(0, PolyReason::Range);
+
+// The reason for which a row with more points than the limit leaves is refused.
+const TOO_MANY_POINTS: RowReason = RowReason::Polyline(0, PolyReason::TooMany);
+
+// A row, or the points of one, are refused for the reason of the same row of a table.
+#[inline(always)]
+pub(crate) fn refused(reason: RowReason) -> Stop<u32>
+    ensures { result ≡ Refused (row_number_of reason) }
+{
+    Stop::Refused(row_number(reason))
+}
+
+// The kind with this number.
+#[inline(always)]
+pub(crate) fn kind_of(number: u16) -> Option<Kind>
+    ensures { MatchOption result ((k : Kind) → ¬ (kind_number k ≡ number)) (λ k. kind_number k ≡ number) }
+{
+    match number {
+        1 => Some(Kind::Point),
+        2 => Some(Kind::Linestring),
+        3 => Some(Kind::Polygon),
+        4 => Some(Kind::MultiPoint),
+        5 => Some(Kind::MultiLinestring),
+        6 => Some(Kind::MultiPolygon),
+        7 => Some(Kind::Collection),
+        8 => Some(Kind::Ring),
+        _ => None,
+    }
+}
+
+// Whether the row has an id and says so, or has none and a 0 in its place.
+#[inline(always)]
+pub(crate) fn has_right_id(row: &BufferRow) -> bool
+    ensures { IsTrue result ↔ HasRightId row.now }
+{
+    if row.has_id == 1 {
+        return true;
+    }
+    if row.has_id > 1 {
+        return false;
+    }
+    row.id == 0
+}
+
+// The row of a geometry that this row stands for, without its points.
+#[inline(always)]
+pub(crate) fn bare_row(row: &BufferRow, kind: Kind) -> Row
+    ensures { (own : List InPoint) → row_with result (points_of own) ≡ row_from_c kind row.now own }
+{
+    let id = if row.has_id == 0 { None } else { Some(row.id) };
+    let precision = if row.precision == NO_PRECISION {
+        None
+    } else {
+        Some(row.precision)
+    };
+    Row {
+        depth: row.depth,
+        kind,
+        id,
+        precision,
+    }
+}
+
+// Lets a proof know that an id is in range. Changes nothing.
+#[inline(always)]
+fn look_at_id(id: Option<i64>)
+    ensures { id_in_range id ≡ true }
+{
+    if let Some(number) = id {
+        // lets proofs know that the number fits 64 bits
+        let _learnt = number;
+    }
+}
+
+// The reason why the row's id is refused at this place.
+#[inline(always)]
+fn refused_row_id(row_place: &RowPlace, row: &Row) -> Option<RowReason>
+    ensures { result ≡ first_reason (id_checks (row_of row_place.now.parent)
+        (child_of row_place.now.parent) (row_with row.now [])) }
+{
+    look_at_id(row.id);
+    refused_id(row_place, row.kind, row.id.is_some())
+}
+
+// Whether the precision is in range, if there is one.
+#[inline(always)]
+fn is_right_precision(precision: Option<i8>) -> bool
+    ensures { result ≡ precision_in_range precision }
+{
+    match precision {
+        None => true,
+        Some(decimals) => LEAST_PRECISION <= decimals && decimals <= GREATEST_PRECISION,
+    }
+}
+
+// The reason why the row's precision is refused at this place.
+#[inline(always)]
+fn refused_row_precision(row_place: &RowPlace, row: &Row) -> Option<RowReason>
+    ensures { result ≡ first_reason (precision_checks (row_of row_place.now.parent) (row_with row.now [])) }
+{
+    if !is_right_precision(row.precision) {
+        return Some(RowReason::BadPrecision);
+    }
+    refused_precision(row_place, row.precision.is_some())
+}
+
+// A coordinate less the least one, if it is in range; else 2^63 or more.
+#[inline(always)]
+fn above_least(coordinate: i64) -> u64
+    ensures { (result < 2 ^ 63) ↔ IsCoordinate coordinate }
+{
+    coordinate.cast_unsigned().wrapping_add(COORDINATE_BOUND)
+}
+
+// The coordinates of a point less the least one, each if it is in range; else 2^63 or more.
+#[inline(always)]
+fn both_above_least(point: &BufferPoint) -> u64x2
+    ensures two { length result ≡ 2 }
+    ensures value { AreBelow result ↔ IsInRange (point_of point.now) }
+{
+    u64x2::from_array([above_least(point.x), above_least(point.y)])
+}
+
+// Whether the coordinates of each point are in range. Both coordinates are looked at together, and
+// each point is, so that several are at once.
+#[inline(always)]
+pub(crate) fn are_in_range(own: &[BufferPoint]) -> bool
+    ensures { result ≡ are_in_range (points_of own.now) }
+{
+    let mut joined = u64x2::splat(0);
+    for point in own {
+        joined |= both_above_least(point);
+    }
+    let [x, y] = joined.to_array();
+    x | y < 1 << 63
+}
+
+// Whether a row of this kind may have these points of its own.
+#[inline(always)]
+fn may_have_points(kind: Kind, own: &[BufferPoint]) -> bool
+    ensures { result ≡ (has_points kind || has_none (points_of own.now)) }
+{
+    own.is_empty() || has_points(kind)
+}
+
+// Whether the limits leave room for `count` points at this place.
+#[inline(always)]
+fn has_room(limits: &Limits, row_place: &RowPlace, count: usize) -> bool
+    ensures { result ≡ nat_le (row_place.now.points + count) limits.now.points }
+{
+    row_place.points <= limits.points() && count <= (limits.points() - row_place.points) as usize
+}
+
+// The reason why a row of this kind may not have `count` points at this place.
+#[inline(always)]
+fn refused_number(
+    limits: &Limits,
+    row_place: &RowPlace,
+    kind: Kind,
+    count: usize,
+) -> Option<RowReason>
+    ensures { (r : TableRow) → r.kind ≡ kind → length r.points ≡ count
+        → result ≡ first_reason (number_checks limits.now row_place.now r) }
+{
+    if !has_room(limits, row_place, count) {
+        return Some(TOO_MANY_POINTS);
+    }
+    refused_count(row_place, kind, count)
+}
+
+// The reason why the row's points are refused at this place. The points themselves are only looked
+// at if their number is wrong.
+#[inline(always)]
+fn refused_points(
+    limits: &Limits,
+    row_place: &RowPlace,
+    row: &Row,
+    own: &[BufferPoint],
+) -> Option<RowReason>
+    ensures { IsFirstButRange (point_checks limits.now (row_of row_place.now.parent)
+        row_place.now.points (row_with row.now (points_of own.now))) (points_of own.now) result }
+{
+    if !may_have_points(row.kind, own) {
+        return Some(RowReason::PolylineNotAllowed);
+    }
+    let Some(reason) = refused_number(limits, row_place, row.kind, own.len()) else {
+        return None;
+    };
+    if !are_in_range(own) {
+        return Some(OUT_OF_RANGE);
+    }
+    Some(reason)
+}
+
+// The reason why the row with these points may not come at this place. `None` if there is none,
+// unless a coordinate is out of range.
+#[inline(always)]
+pub(crate) fn refused_row(
+    limits: &Limits,
+    row_place: &RowPlace,
+    row: &Row,
+    own: &[BufferPoint],
+) -> Option<RowReason>
+    ensures { IsFirstButRange (checks_there limits.now row_place.now
+        (row_with row.now (points_of own.now))) (points_of own.now) result }
+{
+    if let Some(reason) = refused_place(limits, row_place, row.kind) {
+        return Some(reason);
+    }
+    if let Some(reason) = refused_row_id(row_place, row) {
+        return Some(reason);
+    }
+    if let Some(reason) = refused_row_precision(row_place, row) {
+        return Some(reason);
+    }
+    refused_points(limits, row_place, row, own)
+}

@@ -1,0 +1,74 @@
+//! Blobs written into a slice one after another, each whole.
+ghost use Rattle.std.specs.Prelude.{◌≡◌, ◌+◌, ◌++◌, ◌<◌, ◌≤◌, List, ℕ, [], length, take, drop};
+ghost use Rattle.twkb_tree.specs.Tree.{Tree, saturated};
+ghost use Rattle.twkb_grammar.specs.Written.{canonical_blob};
+ghost use Rattle.twkb_grammar.specs.declared.style.Style.{Style};
+ghost use Rattle.twkb_arrays.specs.SentBlobs.{HasSent, IsSentWithin, SendsOne};
+
+// What was written of the blobs made so far.
+#[derive(Clone, Copy)]
+pub(crate) struct Sent {
+    // The number of blobs in the slice.
+    pub(crate) done: u64,
+    // The number of bytes in the slice.
+    pub(crate) bytes: usize,
+    // The number of bytes of all blobs that were made.
+    pub(crate) needed: u64,
+    // Whether a blob was made for which the slice had too little room.
+    pub(crate) full: bool,
+}
+
+impl Sent {
+    // Nothing is written yet.
+    pub(crate) fn nothing() -> Sent
+        ensures { (style : Style) (output : List ℕ) → HasSent style output [] [] output result }
+    {
+        Sent {
+            done: 0,
+            bytes: 0,
+            needed: 0,
+            full: false,
+        }
+    }
+
+    // Counts the bytes of a blob that was made.
+    #[inline(always)]
+    fn count(&mut self, bytes: usize)
+        ensures { self.new ≡ record self.old { needed = saturated (self.old.needed + bytes) } }
+    {
+        self.needed = self.needed.saturating_add(bytes as u64);
+    }
+}
+
+// Writes a blob into a slice, from this place on.
+#[inline(always)]
+fn put_from(blob: &[u8], output: &mut [u8], first: usize)
+    requires { first + length blob.now ≤ length output.old }
+    ensures { output.new ≡ take first output.old ++ (blob.now ++ drop (first + length blob.now) output.old) }
+{
+    let last = first + blob.len();
+    output[first..last].copy_from_slice(blob);
+}
+
+// Writes the next blob after those in the slice, if it has room for it and had for all blobs
+// before it.
+pub(crate) fn send_blob(blob: &[u8], output: &mut [u8], sent: &mut Sent)
+    requires some { 0 < length blob.now }
+    requires within { IsSentWithin output.old sent.old }
+    ensures within { IsSentWithin output.new sent.new }
+    ensures sends { (style : Style) (start : List ℕ) (given later : List Tree) (g : Tree)
+        → HasSent style start given later output.old sent.old → blob.now ≡ canonical_blob style g
+        → SendsOne style start given later g output.new sent.new }
+{
+    sent.count(blob.len());
+    if sent.full {
+        return;
+    }
+    if blob.len() > output.len() - sent.bytes {
+        sent.full = true;
+        return;
+    }
+    put_from(blob, output, sent.bytes);
+    sent.bytes += blob.len();
+    sent.done += 1;
+}

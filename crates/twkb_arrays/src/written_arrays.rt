@@ -1,0 +1,274 @@
+//! Rows and points in arrays as streams of blobs.
+ghost use Rattle.std.specs.Prelude.{◌≡◌, ◌⊎◌, ◌<◌, ◌≤◌, ◌++◌, List, ℕ, [], length, take, drop};
+ghost use Rattle.std.specs.Prelude.{IfOk, IfErr, OnOk, OnErr};
+ghost use Rattle.twkb_tree.specs.Limits.{Allowance};
+ghost use Rattle.twkb_tree.specs.Tree.{Tree};
+ghost use Rattle.twkb_grammar.specs.declared.style.Style.{Style as InStyle};
+ghost use Rattle.twkb_tree.specs.RowLists.{AreValidRowsOfOne};
+ghost use Rattle.twkb_buffer.specs.declared.point.BufferPoint.{BufferPoint as InPoint};
+ghost use Rattle.twkb_arrays.specs.declared.row.BufferRow.{BufferRow as InRow};
+ghost use Rattle.twkb_arrays.specs.LoneRow.{BeginWithRoot};
+ghost use Rattle.twkb_arrays.specs.SentBlobs.{HasSent, IsSentWithin};
+ghost use Rattle.twkb_arrays.specs.WrittenArrays.{EndsWriting, IsWriting, ReportsAs, StopsAtRow, StopsWriting};
+ghost use Rattle.twkb_arrays.specs.WrittenArrays.{WritesArrays, stopped_at, write_outcome_of};
+
+use crate::appended_row::push_judged;
+use crate::blob_room::BlobRoom;
+use crate::lone_row::make_first;
+use crate::row::BufferRow;
+use crate::sent_blobs::{Sent, send_blob};
+use crate::status::unless_full;
+use std::alloc::{AllocError, Global};
+use twkb_buffer::{BufferPoint, BufferReport};
+use twkb_flat::{Flat, Stop};
+use twkb_tree::Limits;
+use twkb_writer::Style;
+
+// The number of the reason for which points that no row names are refused.
+const POINTS_LEFT: u32 = 72;
+
+// The row at this place is refused for the reason with this number, or the points after the last
+// row are.
+#[derive(Clone, Copy)]
+pub(crate) struct RefusedAt {
+    place: u64,
+    number: u32,
+}
+
+// The form of the open geometry, whose rows are being read, and the blobs of the geometries before
+// it.
+#[derive(Drop)]
+pub(crate) struct Writer {
+    open_geometry: Flat,
+    room: BlobRoom,
+    sent: Sent,
+}
+
+impl Writer {
+    // Makes a writer that has read no row and written nothing. Takes no memory.
+    fn new(alloc: Global) -> Writer
+        ensures { (l : Allowance) (style : InStyle) (output : List ℕ)
+            → IsWriting l style output [] [] output result }
+    {
+        Writer {
+            open_geometry: Flat::new(alloc),
+            room: BlobRoom::new(alloc),
+            sent: Sent::nothing(),
+        }
+    }
+
+    // Ends the open geometry, if there is one: makes its blob, writes that if there is room, and
+    // drops the rows. An `Err` changes nothing but the room.
+    #[inline(always)]
+    fn end_geometry(&mut self, style: Style, output: &mut [u8]) -> Result<(), AllocError>
+        requires { IsSentWithin output.old self.old.sent }
+        ensures within { OnOk result (IsSentWithin output.new self.new.sent) }
+        ensures closed { OnOk result (self.new.open_geometry ≡ []) }
+        ensures ended { OnOk result ((l : Allowance) (start : List ℕ) (in_rows : List InRow)
+            (in_points : List InPoint)
+            → IsWriting l style start in_rows in_points output.old self.old
+            → IsWriting l style start in_rows in_points output.new self.new) }
+        ensures same_output { OnErr result (output.new ≡ output.old) }
+        ensures same { OnErr result (self.new ≡ record self.old { room = self.new.room }) }
+    {
+        if self.open_geometry.is_empty() {
+            return Ok(());
+        }
+        self.room.make(&self.open_geometry, style)?;
+        send_blob(self.room.blob(), output, &mut self.sent);
+        self.open_geometry.clear();
+        Ok(())
+    }
+
+    // Ends the open geometry if the row is a root, which then begins the next one. An `Err` changes
+    // nothing but the room.
+    #[inline(always)]
+    fn end_before(
+        &mut self,
+        style: Style,
+        row: &BufferRow,
+        output: &mut [u8],
+    ) -> Result<(), AllocError>
+        requires { IsSentWithin output.old self.old.sent }
+        ensures within { OnOk result (IsSentWithin output.new self.new.sent) }
+        ensures closed { OnOk result (row.now.depth ≡ 0 → self.new.open_geometry ≡ []) }
+        ensures kept { OnOk result (self.new.open_geometry ≡ [] → (row.now.depth ≡ 0) ⊎ (self.old.open_geometry ≡ [])) }
+        ensures valid { OnOk result ((l : Allowance) → AreValidRowsOfOne l self.old.open_geometry
+            → AreValidRowsOfOne l self.new.open_geometry) }
+        ensures ended { OnOk result ((l : Allowance) (start : List ℕ) (in_rows : List InRow)
+            (in_points : List InPoint)
+            → IsWriting l style start in_rows in_points output.old self.old
+            → IsWriting l style start in_rows in_points output.new self.new) }
+        ensures same_output { OnErr result (output.new ≡ output.old) }
+        ensures same { OnErr result (self.new ≡ record self.old { room = self.new.room }) }
+    {
+        if row.depth > 0 {
+            return Ok(());
+        }
+        self.end_geometry(style, output)
+    }
+
+    // Reads the first of the rows ahead, with as many of the points ahead as it names. If it is a
+    // root, the open geometry ends. If it is known to be a whole geometry, its blob is written at
+    // once; else it is appended to the open geometry. Returns the number of points that it has.
+    #[inline(always)]
+    fn write_row(
+        &mut self,
+        limits: &Limits,
+        style: Style,
+        rows: &[BufferRow],
+        ahead: &[BufferPoint],
+        output: &mut [u8],
+    ) -> Result<usize, Stop<u32>>
+        requires some { 0 < length rows.now }
+        requires within { IsSentWithin output.old self.old.sent }
+        requires valid { AreValidRowsOfOne limits.now self.old.open_geometry }
+        ensures few { IfOk result (λ count. count ≤ length ahead.now) }
+        ensures closed { IfOk result (λ count. self.new.open_geometry ≡ [] → BeginWithRoot (drop 1 rows.now)) }
+        ensures reads { IfOk result (λ count. (start : List ℕ) (in_rows : List InRow)
+            (in_points : List InPoint)
+            → IsWriting limits.now style start in_rows in_points output.old self.old
+            → IsWriting limits.now style start (in_rows ++ take 1 rows.now)
+            (in_points ++ take count ahead.now) output.new self.new) }
+        ensures stops { IfErr result (λ why. (start : List ℕ) (in_rows : List InRow)
+            (in_points : List InPoint)
+            → IsWriting limits.now style start in_rows in_points output.old self.old
+            → (self.old.open_geometry ≡ [] → (in_rows ≡ []) ⊎ BeginWithRoot rows.now)
+            → StopsAtRow limits.now style start in_rows in_points rows.now ahead.now output.new
+            self.new why) }
+    {
+        let Ok(()) = self.end_before(style, &rows[0], output) else {
+            return Err(Stop::Memory);
+        };
+        match make_first(limits, style, rows, ahead, &mut self.room) {
+            Ok(Some(count)) => {
+                send_blob(self.room.blob(), output, &mut self.sent);
+                Ok(count)
+            }
+            Ok(None) => push_judged(limits, &mut self.open_geometry, &rows[0], ahead),
+            Err(_) => Err(Stop::Memory),
+        }
+    }
+
+    // Reads the rows, each with its points; returns how many points they have.
+    fn write_rows(
+        &mut self,
+        limits: &Limits,
+        style: Style,
+        rows: &[BufferRow],
+        points: &[BufferPoint],
+        output: &mut [u8],
+    ) -> Result<usize, Stop<RefusedAt>>
+        requires { IsWriting limits.now style output.old [] [] output.old self.old }
+        ensures few { IfOk result (λ used. used ≤ length points.now) }
+        ensures reads { IfOk result (λ used. IsWriting limits.now style output.old rows.now
+            (take used points.now) output.new self.new) }
+        ensures last { IfOk result (λ used. self.new.open_geometry ≡ [] → rows.now ≡ []) }
+        ensures stops { IfErr result (λ why. StopsWriting limits.now style output.old rows.now
+            points.now output.new self.new why) }
+    {
+        let mut used = 0;
+        for at in 0..rows.len() {
+            match self.write_row(limits, style, &rows[at..], &points[used..], output) {
+                Ok(count) => used += count,
+                Err(stop) => return Err(at_row(at, stop)),
+            }
+        }
+        Ok(used)
+    }
+
+    // Reads the rows, each with its points, and ends the last geometry if no points are left.
+    fn write_all(
+        &mut self,
+        limits: &Limits,
+        style: Style,
+        rows: &[BufferRow],
+        points: &[BufferPoint],
+        output: &mut [u8],
+    ) -> Result<(), Stop<RefusedAt>>
+        requires { IsWriting limits.now style output.old [] [] output.old self.old }
+        ensures { (given later : List Tree)
+            × HasSent style output.old given later output.new self.new.sent
+            × EndsWriting limits.now (given ++ later) rows.now points.now result }
+    {
+        let used = match self.write_rows(limits, style, rows, points, output) {
+            Ok(count) => count,
+            Err(stop) => return Err(stop),
+        };
+        if used < points.len() {
+            return Err(Stop::Refused(RefusedAt {
+                place: rows.len() as u64,
+                number: POINTS_LEFT,
+            }));
+        }
+        match self.end_geometry(style, output) {
+            Ok(()) => Ok(()),
+            Err(_) => Err(Stop::Memory),
+        }
+    }
+}
+
+// Why arrays were not written past the row at a place.
+fn at_row(place: usize, stop: Stop<u32>) -> Stop<RefusedAt>
+    ensures { result ≡ stopped_at place stop }
+{
+    match stop {
+        Stop::Memory => Stop::Memory,
+        Stop::Refused(number) => Stop::Refused(RefusedAt {
+            place: place as u64,
+            number,
+        }),
+    }
+}
+
+// The status, the reason and the place of a writing that ended like this.
+fn outcome(full: bool, answer: Result<(), Stop<RefusedAt>>) -> (u32, u32, u64)
+    ensures { result ≡ write_outcome_of full answer }
+{
+    match answer {
+        Ok(()) => unless_full(full, (0, 0, 0)),
+        Err(Stop::Memory) => (4, 0, 0),
+        Err(Stop::Refused(at)) => unless_full(full, (1, at.number, at.place)),
+    }
+}
+
+// The report of a writing that ended like this.
+fn reported(sent: &Sent, answer: Result<(), Stop<RefusedAt>>) -> BufferReport
+    ensures { (style : InStyle) (start output : List ℕ) (given later : List Tree)
+        → HasSent style start given later output sent.now
+        → ReportsAs style given later answer result }
+{
+    let (status, reason, place) = outcome(sent.full, answer);
+    BufferReport {
+        status,
+        reason,
+        place,
+        text_offset: 0,
+        done: sent.done,
+        sent: sent.bytes as u64,
+        needed: sent.needed,
+    }
+}
+
+/// Writes rows and points in arrays as a stream of canonical blobs in a style: the rows of one
+/// geometry after another as a table has them (blobs: TWKB; rows: profile), each with as many of
+/// the next points as it names. Each geometry must keep the limits. A refused row stops it, after
+/// the blobs of the complete geometries before it; so do points that are left over, which are
+/// refused at the number of rows, and before the blob of the last geometry. A blob for which the
+/// output has too little room is not written, nor is any after it, but the bytes of all are
+/// counted. Bytes of the output after what is written are unchanged. Takes memory for one
+/// geometry and its blob.
+pub fn write_arrays(
+    alloc: Global,
+    rows: &[BufferRow],
+    points: &[BufferPoint],
+    output: &mut [u8],
+    limits: Limits,
+    style: Style,
+) -> BufferReport
+    ensures { WritesArrays limits style rows.now points.now output.old output.new result }
+{
+    let mut writer = Writer::new(alloc);
+    let answer = writer.write_all(&limits, style, rows, points, output);
+    reported(&writer.sent, answer)
+}

@@ -1,0 +1,97 @@
+//! Numbers as coordinates in an array.
+ghost use Rattle.std.specs.Prelude.{◌≡◌, ◌<◌, ◌≤◌, length};
+ghost use Rattle.twkb_tree.specs.Tree.{IsPrecision};
+ghost use Rattle.twkb_buffer.specs.Fractions.{FindsNearest};
+ghost use Rattle.twkb_buffer.specs.Polylines.{nothing_report};
+ghost use Rattle.twkb_buffer.specs.RoundedNumbers.{FindsUnit, Rounds, RoundsFront, above, below, rounded_report};
+ghost use Rattle.twkb_buffer.specs.Scales.{IsScale, divisor_of, factor_of};
+
+use crate::binary64::{NOT_FINITE, exponent, exponent_field, significand, with_sign};
+use crate::fractions::{divided, multiplied};
+use crate::polylines::nothing_put;
+use crate::reason_numbers::{ARGUMENTS, DONE, REFUSED, TOO_SMALL, point_text_number};
+use crate::report::BufferReport;
+use crate::scale::{Scale, scale_of};
+use twkb_polyline::PolyReason;
+
+// The size of a number in units; `None` if it is beyond all coordinates.
+fn size_of(number: u64, scale: Scale) -> Option<u64>
+    requires { IsScale scale }
+    ensures { FindsNearest (above (factor_of scale) number) (below (divisor_of scale) number) result }
+{
+    let significand = significand(number);
+    let exponent = exponent(number);
+    match scale {
+        Scale::Times(factor) => multiplied(significand, exponent, factor),
+        Scale::Over(divisor) => divided(significand, exponent, divisor),
+    }
+}
+
+// The coordinate that a number is rounded to; `None` if there is none.
+fn unit_of(number: u64, scale: Scale) -> Option<i64>
+    requires { IsScale scale }
+    ensures { FindsUnit (factor_of scale) (divisor_of scale) number result }
+{
+    if exponent_field(number) == NOT_FINITE {
+        return None;
+    }
+    let size = size_of(number, scale)?;
+    with_sign(number, size)
+}
+
+// Rounds numbers up to the first that has no coordinate, and returns how many.
+fn round_front(numbers: &[u64], scale: Scale, units: &mut [i64]) -> usize
+    requires scale { IsScale scale }
+    requires room { length numbers.now ≤ length units.old }
+    ensures { RoundsFront (factor_of scale) (divisor_of scale) numbers.now units.old units.new result }
+{
+    for at in 0..numbers.len() {
+        let Some(unit) = unit_of(numbers[at], scale) else {
+            return at;
+        };
+        units[at] = unit;
+    }
+    numbers.len()
+}
+
+// The report of a call that rounded so many numbers of all.
+fn rounded(all: usize, count: usize) -> BufferReport
+    ensures { result ≡ rounded_report all count }
+{
+    let whole = BufferReport {
+        done: 1,
+        sent: count as u64,
+        ..nothing_put(DONE, count as u64)
+    };
+    if count == all {
+        return whole;
+    }
+    BufferReport {
+        status: REFUSED,
+        reason: point_text_number(PolyReason::Range),
+        place: count as u64,
+        done: 0,
+        ..whole
+    }
+}
+
+/// Rounds numbers, given by the bits of each, to whole numbers of units of 10^-precision: the
+/// nearest, of two the one farther from 0. A refusal's place is that of the first number that is
+/// not finite, or whose unit is out of range, counted from 0; the units before it are written.
+/// Takes no memory.
+pub fn round_numbers(numbers: &[u64], precision: i8, units: &mut [i64]) -> BufferReport
+    ensures rounds { IsPrecision precision → length numbers.now ≤ length units.old
+        → Rounds precision numbers.now units.old units.new result }
+    ensures small { IsPrecision precision → length units.old < length numbers.now
+        → (units.new ≡ units.old) × (result ≡ nothing_report 5 (length numbers.now)) }
+    ensures no_precision { (IsPrecision precision → ⊥)
+        → (units.new ≡ units.old) × (result ≡ nothing_report 2 0) }
+{
+    let Some(scale) = scale_of(precision) else {
+        return nothing_put(ARGUMENTS, 0);
+    };
+    if units.len() < numbers.len() {
+        return nothing_put(TOO_SMALL, numbers.len() as u64);
+    }
+    rounded(numbers.len(), round_front(numbers, scale, units))
+}

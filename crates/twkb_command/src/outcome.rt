@@ -1,0 +1,89 @@
+//! Carrying out a request, and answering words that make none, over any devices.
+ghost use Rattle.std.specs.Prelude.{◌≡◌, ◌≢◌};
+ghost use Rattle.twkb_command.specs.Outcome.{CarriesOut, Refuses};
+ghost use Rattle.twkb_command.specs.Lines.{line_of, no_text_line};
+ghost use Rattle.twkb_command.specs.Printing.{IsPrinted};
+
+use crate::exit_code::{DONE, MEMORY, USAGE, status};
+use crate::lines::{print_line, print_text};
+use crate::refusal::Refusal;
+use crate::request::Request;
+use std::alloc::Global;
+use std::io::{ErrorKind, Read, Write};
+use twkb_convert::{Cause, convert};
+use twkb_io::Tap;
+
+// Carries out a request, and returns the status: 0 if all was converted, 1 if the input is
+// refused or a length passes its bound, 3 if a device failed, 4 if memory was refused. A fault is
+// reported to `errors`; a failure there changes nothing else.
+pub(crate) fn carry_out<R: Read, W: Write, E: Write>(
+    alloc: Global,
+    request: Request,
+    reader: &mut Tap<R>,
+    writer: &mut Tap<W>,
+    errors: &mut Tap<E>,
+) -> u8
+    ensures { CarriesOut R.remaining W.contents E.contents request reader.old writer.old errors.old
+        reader.new writer.new errors.new result }
+{
+    match convert(alloc, request.conversion, reader, writer, request.limits) {
+        Ok(_) => DONE,
+        Err(stop) => {
+            print_line(errors, stop.cause);
+            status(&stop.cause)
+        }
+    }
+}
+
+// Prints the text that was asked for, and returns the status.
+fn tell<W: Write>(writer: &mut Tap<W>, text: &str) -> u8
+    ensures { result ≡ 0 }
+{
+    print_text(writer, text);
+    DONE
+}
+
+// Answers words that ask for no conversion: help and the version go to `writer`, everything else
+// to `errors`. The status is 0 for help and the version, 2 if the words are refused, 4 if memory
+// was refused. Takes no memory.
+pub(crate) fn refuse<W: Write, E: Write>(
+    refusal: &Refusal,
+    writer: &mut Tap<W>,
+    errors: &mut Tap<E>,
+) -> u8
+    ensures { Refuses E.contents refusal.now writer.old errors.old writer.new errors.new result }
+{
+    match refusal {
+        Refusal::Memory => lack_memory(errors),
+        Refusal::Help(text) => tell(writer, text),
+        Refusal::Version(text) => tell(writer, text),
+        Refusal::Usage(text) => {
+            print_text(errors, text);
+            USAGE
+        }
+    }
+}
+
+/// Reports that memory was refused, and returns the status. Takes no memory.
+pub fn lack_memory<E: Write>(errors: &mut Tap<E>) -> u8
+    ensures status { result ≡ 4 }
+    ensures line { IsPrinted E.contents errors.old (line_of Cause.Memory) errors.new }
+{
+    print_line(errors, Cause::Memory);
+    MEMORY
+}
+
+/// Reports why the words were not read, and returns the status. A word that is not UTF-8 is
+/// refused like any other bad word. Takes no memory.
+pub fn lack_words<E: Write>(errors: &mut Tap<E>, kind: ErrorKind) -> u8
+    ensures memory { kind ≡ ErrorKind.OutOfMemory → (result ≡ 4)
+        × IsPrinted E.contents errors.old (line_of Cause.Memory) errors.new }
+    ensures other { kind ≢ ErrorKind.OutOfMemory → (result ≡ 2)
+        × IsPrinted E.contents errors.old no_text_line errors.new }
+{
+    if kind == ErrorKind::OutOfMemory {
+        return lack_memory(errors);
+    }
+    print_text(errors, "polytwkb: a word is not UTF-8\n");
+    USAGE
+}

@@ -1,7 +1,0 @@
-use Rattle.twkb_convert.specs.Sending.{SendsMore}
-use Rattle.twkb_convert.proofs.sending.send_points.Given as goal
-
--- the points so far were sent
-abbrev pub invariant-loop-now : goal.invariant-loop-now
-invariant-loop-now g l = SendsMore l.style g.R.Read.remaining g.W.Write.contents l.fn.table l.fn.output l.done
-    l.fn.work l.table l.output l.now l.work

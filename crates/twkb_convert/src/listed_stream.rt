@@ -1,0 +1,78 @@
+//! The listing of a stream of blobs: the text of each blob, sent before the reader is read again.
+ghost use Rattle.std.specs.Prelude.{IfOk, IfErr};
+ghost use Rattle.twkb_blob.specs.StreamReaders.{reader_in};
+ghost use Rattle.twkb_convert.specs.LocatedBlobs.{LocatedStream, geometries_of};
+ghost use Rattle.twkb_convert.specs.Listings.{listing_text};
+ghost use Rattle.twkb_convert.specs.LastFlush.{IsFlushed};
+ghost use Rattle.twkb_convert.specs.BlobsListed.{IsFresh, Lists};
+ghost use Rattle.twkb_convert.specs.Listed.{Listed, StoppedListing};
+
+use crate::blob_text::BlobText;
+use crate::causes::cause_of_output;
+use crate::last_flush::flush_last;
+use crate::report::{Cause, ConvertFault, Report};
+use std::alloc::Global;
+use std::io::{Read, Write};
+use twkb_blob::{StreamReader, StreamRoom};
+use twkb_io::{Input, Output, Sink, Tap};
+use twkb_tree::Limits;
+
+// Writes the text of a stream of blobs, each blob's text before the reader is read again. The
+// writer is flushed last, unless it failed or more than 2^62 bytes would be written.
+pub(crate) fn list_stream<R: Read, W: Write, T: BlobText>(
+    text: &mut T,
+    alloc: Global,
+    reader: &mut Tap<R>,
+    writer: &mut Tap<W>,
+    limits: Limits,
+) -> Result<Report, ConvertFault>
+    ensures ok { IfOk result (λ report. Listed (LocatedStream limits 0) (listing_text T.layout)
+        R.remaining W.contents reader.old writer.old report reader.new writer.new) }
+    ensures err { IfErr result (λ fault. StoppedListing (LocatedStream limits 0) geometries_of
+        (listing_text T.layout) limits R.remaining W.contents reader.old writer.old fault reader.new
+        writer.new) }
+    ensures flushed { IsFlushed result writer.new }
+{
+    let mut output = Output::new(writer);
+    let mut room = StreamRoom::new(alloc);
+    let mut blobs = StreamReader::new(Input::new(reader), limits, &mut room);
+    let (done, sending) = list_blobs(text, &mut blobs, &mut output);
+    let listed = flush_last(&mut output, sending);
+    let sent = output.sent();
+    match listed {
+        Ok(()) => Ok(Report {
+            geometries: done,
+            bytes: sent,
+        }),
+        Err(cause) => Err(ConvertFault { done, sent, cause }),
+    }
+}
+
+// Sends the text before the first blob, and then the text of each blob that a reader gives, each
+// in one put. Returns the number of blobs whose text was sent whole.
+fn list_blobs<R: Read, W: Write, T: BlobText>(
+    text: &mut T,
+    blobs: &mut StreamReader<'_, '_, R>,
+    output: &mut Output<'_, W>,
+) -> (u64, Result<(), Cause>)
+    requires fresh { IsFresh (reader_in blobs.old) output.old }
+    ensures lists { Lists T.layout W.contents (reader_in blobs.old) output.old (reader_in blobs.new)
+        output.new result.0 result.1 }
+{
+    match output.put(T::first_line()) {
+        Ok(()) => {}
+        Err(fault) => return (0, Err(cause_of_output(fault))),
+    }
+    let mut done = 0;
+    loop {
+        match text.read_next(blobs) {
+            Ok(true) => {}
+            Ok(false) => return (done, Ok(())),
+            Err(why) => return (done, Err(why)),
+        }
+        match output.put(text.bytes()) {
+            Ok(()) => done += 1,
+            Err(fault) => return (done, Err(cause_of_output(fault))),
+        }
+    }
+}

@@ -1,0 +1,111 @@
+//! Packing a table into a stream.
+ghost use Rattle.std.specs.Prelude.{◌≡◌, ◌<◌, ◌^◌, IfOk, IfErr};
+ghost use Rattle.twkb_grammar.specs.declared.style.Style.TheVariants.{Full};
+ghost use Rattle.twkb_convert.specs.Devices.{Changes};
+ghost use Rattle.twkb_convert.specs.LastFlush.{IsFlushedButForDevices};
+ghost use Rattle.twkb_convert.specs.Packed.{Packed, PackedWith, StoppedPacking};
+
+use crate::causes::after_reads;
+use crate::last_flush::flush_last;
+use crate::report::{ConvertFault, Report};
+use crate::sent_geometries::send_table;
+use std::alloc::Global;
+use std::io::{Read, Write};
+use twkb_flat::Work;
+use twkb_io::{Output, Tap};
+use twkb_tree::Limits;
+use twkb_writer::Style;
+
+/// Packs a table into a stream of TWKB blobs, each geometry with its size, and with its bounding
+/// box if it may have one. This is `pack_styled` in full style.
+pub fn pack<R: Read, W: Write>(
+    alloc: Global,
+    reader: &mut Tap<R>,
+    writer: &mut Tap<W>,
+    limits: Limits,
+) -> Result<Report, ConvertFault>
+    ensures ok { IfOk result (λ report. Packed Full limits R.remaining W.contents reader.old
+        writer.old report reader.new writer.new) }
+    ensures err { IfErr result (λ fault. StoppedPacking Full limits R.remaining W.contents
+        reader.old writer.old fault reader.new writer.new) }
+    ensures flushed { IsFlushedButForDevices result writer.new }
+{
+    pack_styled(alloc, reader, writer, limits, Style::Full)
+}
+
+/// Packs a table into a stream in a style. Reads the records to the reader's end, and writes the
+/// canonical blob of each geometry once the row after it was accepted or the table's end was
+/// reached (records: RFC 4180; their polylines: Encoded Polyline Algorithm Format; blobs: TWKB;
+/// the columns, and which blob is canonical: profile). Each geometry must keep the limits. A
+/// refused record stops it; the geometry before that record is not written, since the record
+/// might have belonged to it. The writer is flushed last, unless it failed or more than 2^62
+/// bytes would be written. Takes memory for one record and one geometry with its sizes. After the
+/// end that `csv` saw, the reader is read once more: wrap a reader that may go on after an end,
+/// such as a terminal, in `twkb_io::Ending`.
+pub fn pack_styled<R: Read, W: Write>(
+    alloc: Global,
+    reader: &mut Tap<R>,
+    writer: &mut Tap<W>,
+    limits: Limits,
+    style: Style,
+) -> Result<Report, ConvertFault>
+    ensures ok { IfOk result (λ report. Packed style limits R.remaining W.contents reader.old
+        writer.old report reader.new writer.new) }
+    ensures err { IfErr result (λ fault. StoppedPacking style limits R.remaining W.contents
+        reader.old writer.old fault reader.new writer.new) }
+    ensures flushed { IsFlushedButForDevices result writer.new }
+{
+    match pack_counted(alloc, reader, writer, limits, style) {
+        Ok((report, _)) => Ok(report),
+        Err(fault) => Err(fault),
+    }
+}
+
+/// Packs a table like `pack_styled`, and counts the work of measuring and writing the geometries
+/// that were written.
+pub fn pack_counted<R: Read, W: Write>(
+    alloc: Global,
+    reader: &mut Tap<R>,
+    writer: &mut Tap<W>,
+    limits: Limits,
+    style: Style,
+) -> Result<(Report, Work), ConvertFault>
+    ensures ok { IfOk result (λ done. PackedWith style limits R.remaining W.contents reader.old
+        writer.old done.0 done.1 reader.new writer.new) }
+    ensures err { IfErr result (λ fault. StoppedPacking style limits R.remaining W.contents
+        reader.old writer.old fault reader.new writer.new) }
+    ensures flushed { IsFlushedButForDevices result writer.new }
+{
+    let reads_failed = reader.failures();
+    let mut output = Output::new(writer);
+    let (done, work, sending) = send_table(alloc, reader, limits, style, &mut output);
+    let flushed = flush_last(&mut output, sending);
+    let sent = output.sent();
+    let has_read_failed = has_changed(reads_failed, reader.failures());
+    match after_reads(flushed, has_read_failed) {
+        Ok(()) => Ok(packed(done, work, sent)),
+        Err(cause) => Err(ConvertFault { done, sent, cause }),
+    }
+}
+
+// Whether a count of failures has changed.
+fn has_changed(before: u64, after: u64) -> bool
+    ensures { Changes result before after }
+{
+    if after == before {
+        return false;
+    }
+    true
+}
+
+// The answer if the whole table was sent.
+fn packed(done: u64, work: Work, sent: u64) -> (Report, Work)
+    ensures is { result ≡ (record { geometries = done; bytes = sent }, work) }
+    ensures fits { (work.point_reads < 2 ^ 64) × (work.node_reads < 2 ^ 64) }
+{
+    let report = Report {
+        geometries: done,
+        bytes: sent,
+    };
+    (report, work)
+}

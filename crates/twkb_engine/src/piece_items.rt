@@ -1,0 +1,337 @@
+//! The items of a piece of bytes, taken one at a time, byte by byte if need be, or many at once.
+ghost use Rattle.std.specs.Prelude.{◌≡◌, ◌+◌, ◌<◌, ◌≤◌, ◌∷◌, [], List, IfOk, IfSome, length};
+ghost use Rattle.twkb_engine.specs.Standing.{with_used};
+
+use crate::blob_reason::BlobReason;
+use crate::engine::Engine;
+use crate::next_item::NextItem;
+use crate::span_notes::SpanNotes;
+use crate::stop::Stop;
+use std::alloc::AllocError;
+use twkb_body::{front_number, front_point, take_members, take_row};
+use twkb_flat::Flat;
+use twkb_num::Step;
+use twkb_tree::Kind;
+
+// Pairs an item's answer with the number of bytes used; an `Err` stays as it is.
+#[inline(always)]
+fn with_bytes(used: usize, answer: Result<bool, Stop>) -> Result<(usize, bool), Stop>
+    ensures is { result ≡ with_used used answer }
+    ensures some { 0 < used → IfOk result (λ taken. 0 < taken.0) }
+{
+    match answer {
+        Ok(ends) => Ok((used, ends)),
+        Err(stop) => Err(stop),
+    }
+}
+
+impl Engine {
+    ghost use Rattle.twkb_tree.specs.Rows.{Row};
+    ghost use Rattle.twkb_engine.specs.Caps.{place_cap};
+    ghost use Rattle.twkb_engine.specs.Standing.{IsAhead, IsAlive, IsReady, IsAnswer, FedBy, SaysNext, TakesAll};
+    ghost use Rattle.twkb_engine.specs.Standing.{TakesMany, TakesList, held_in, count_of};
+    ghost use Rattle.twkb_engine.specs.declared.next_item.NextItem.TheVariants.{X, Id};
+
+    /// Takes one byte, and returns whether the blob ends with it. A byte that does not end its
+    /// number is held. Rows, an `Err` and memory are as with `feed`.
+    #[inline(always)]
+    pub fn take_byte<S: SpanNotes>(
+        &mut self,
+        flat: &mut Flat,
+        spans: &mut S,
+        byte: u8,
+    ) -> Result<bool, Stop>
+        requires room { self.old.start + count_of self.old < place_cap }
+        requires alive { IsAlive flat.old self.old }
+        ensures limits { self.new.limits ≡ self.old.limits }
+        ensures fed { FedBy S.holds self.old flat.old spans.old (byte ∷ []) (with_used 1 result)
+            self.new flat.new spans.new }
+    {
+        if self.next.is_byte() {
+            return self.take(flat, spans, u64::from(byte), 1);
+        }
+        let width = self.held.len() as u64 + 1;
+        match self.held.step(byte) {
+            Step::More => Ok(false),
+            Step::Done { value, .. } => self.take(flat, spans, value, width),
+            Step::TooLong => Err(Stop::Refused(BlobReason::BadVarint)),
+            Step::BadUnit => Err(Stop::Refused(BlobReason::BadVarint)),
+        }
+    }
+
+    // The number of the next item and how many bytes it has, if it is complete at the start of the
+    // bytes; `None` if it is cut or too long.
+    #[inline(always)]
+    fn front_item(&self, rest: &[u8]) -> Option<(u64, usize)>
+        requires some { 0 < length rest.now }
+        requires alone { held_in self.now ≡ [] }
+        ensures { IfSome result (λ item. SaysNext self.now rest.now item.0 item.1) }
+    {
+        if self.next.is_byte() {
+            return Some((u64::from(rest[0]), 1));
+        }
+        front_number(rest)
+    }
+
+    // Takes the next item if it is complete at the start of the bytes and no byte of it is held,
+    // else one byte of it. Returns how many bytes were taken, and whether the blob ends with them.
+    #[inline(always)]
+    fn take_item<S: SpanNotes>(
+        &mut self,
+        flat: &mut Flat,
+        spans: &mut S,
+        rest: &[u8],
+    ) -> Result<(usize, bool), Stop>
+        requires some { 0 < length rest.now }
+        requires ready { IsReady flat.old self.old (length rest.now) }
+        ensures some { IfOk result (λ taken. 0 < taken.0) }
+        ensures answer { IsAnswer S.holds self.old flat.old spans.old rest.now result self.new flat.new spans.new }
+    {
+        if self.held.len() == 0 {
+            if let Some((number, width)) = self.front_item(rest) {
+                return with_bytes(width, self.take(flat, spans, number, width as u64));
+            }
+        }
+        with_bytes(1, self.take_byte(flat, spans, rest[0]))
+    }
+
+    // Takes points when an x comes next: many of the open list; if none is open, many members of a
+    // multipoint, but not the last; if it takes no member, one point. Returns how many bytes were
+    // taken, or 0, and whether the blob ends with them.
+    #[inline(always)]
+    fn take_points<S: SpanNotes>(
+        &mut self,
+        flat: &mut Flat,
+        spans: &mut S,
+        rest: &[u8],
+    ) -> Result<(usize, bool), Stop>
+        requires next { self.old.next ≡ X }
+        requires alone { held_in self.old ≡ [] }
+        requires ready { IsReady flat.old self.old (length rest.now) }
+        ensures { IsAnswer S.holds self.old flat.old spans.old rest.now result self.new flat.new spans.new }
+    {
+        if self.points_left > 0 {
+            return self.take_line(flat, spans, rest);
+        }
+        let used = self.take_others(flat, rest)?;
+        if used > 0 {
+            return Ok((used, false));
+        }
+        self.take_point(flat, spans, rest)
+    }
+
+    // Takes points of the open list, and after its last one goes past what ends with it. Returns how
+    // many bytes were taken, or 0, and whether the blob ends with them. The points take memory.
+    #[inline(always)]
+    fn take_line<S: SpanNotes>(
+        &mut self,
+        flat: &mut Flat,
+        spans: &mut S,
+        rest: &[u8],
+    ) -> Result<(usize, bool), Stop>
+        requires next { self.old.next ≡ X }
+        requires some { 0 < self.old.points_left }
+        requires alone { held_in self.old ≡ [] }
+        requires ready { IsReady flat.old self.old (length rest.now) }
+        ensures { IsAnswer S.holds self.old flat.old spans.old rest.now result self.new flat.new spans.new }
+    {
+        let used = self.take_list(flat, rest)?;
+        if self.points_left > 0 {
+            return Ok((used, false));
+        }
+        let ends = self.end_points(spans)?;
+        Ok((used, ends))
+    }
+
+    // Takes a point that is in no list, if it is complete and in range, and goes past what ends
+    // with it. Returns how many bytes were taken, or 0, and whether the blob ends with them. The
+    // point takes memory.
+    #[inline(always)]
+    fn take_point<S: SpanNotes>(
+        &mut self,
+        flat: &mut Flat,
+        spans: &mut S,
+        rest: &[u8],
+    ) -> Result<(usize, bool), Stop>
+        requires next { self.old.next ≡ X }
+        requires last { self.old.points_left ≡ 0 }
+        requires alone { held_in self.old ≡ [] }
+        requires ready { IsReady flat.old self.old (length rest.now) }
+        ensures { IsAnswer S.holds self.old flat.old spans.old rest.now result self.new flat.new spans.new }
+    {
+        let Some((position, used)) = front_point(self.position, rest) else {
+            return Ok((0, false));
+        };
+        self.bytes += used as u64;
+        self.position = position;
+        with_bytes(used, self.last_point(flat, spans, position))
+    }
+
+    // Takes points of the open list, and does not go past its end. Returns how many bytes they had;
+    // 0 if the next is cut, too long or out of range, or the form is not known to have room for all
+    // that are left. Takes memory. Not inlined, so that its callers keep their registers.
+    #[inline(never)]
+    fn take_list(&mut self, flat: &mut Flat, rest: &[u8]) -> Result<usize, AllocError>
+        requires ahead { IsAhead X self.old (length rest.now) }
+        requires some { 0 < self.old.points_left }
+        ensures { TakesList flat.old self.old rest.now result flat.new self.new }
+    {
+        if !flat.takes_points(self.points_left) {
+            return Ok(0);
+        }
+        let (taken, left) = take_row(flat, self.position, rest, self.points_left)?;
+        self.points_left = left;
+        self.bytes += taken.used as u64;
+        self.position = taken.position;
+        Ok(taken.used)
+    }
+
+    // Takes members of a multipoint after its first, but not its last, each with its id if members
+    // have ids, and returns how many bytes they had; 0 if the geometry is no multipoint, the next
+    // member is the first or the last, is cut, too long or out of range, or has no id left, or the
+    // form is not known to have room for all that are left. Takes memory. Not inlined, so that its
+    // callers keep their registers.
+    #[inline(never)]
+    fn take_members(&mut self, flat: &mut Flat, rest: &[u8]) -> Result<usize, AllocError>
+        requires { IsAhead X self.old (length rest.now) }
+        ensures taken { TakesMany flat.old self.old rest.now result flat.new self.new }
+        ensures next { self.new.next ≡ self.old.next }
+        ensures lists { self.new.points_left ≡ self.old.points_left }
+    {
+        let depth = self.head.depth + 1;
+        let most = self.members_left;
+        if self.head.kind != Kind::MultiPoint
+            || !flat.takes_members(depth, self.ids.has_ids(), most)
+        {
+            return Ok(0);
+        }
+        let (taken, left) = take_members(flat, &mut self.ids, depth, self.position, rest, most)?;
+        self.members_left = left;
+        self.bytes += taken.used as u64;
+        self.position = taken.position;
+        Ok(taken.used)
+    }
+
+    // Takes members as `take_members` does, if any are left after the open one; else it returns 0.
+    #[inline(always)]
+    fn take_others(&mut self, flat: &mut Flat, rest: &[u8]) -> Result<usize, AllocError>
+        requires { IsAhead X self.old (length rest.now) }
+        ensures taken { TakesMany flat.old self.old rest.now result flat.new self.new }
+        ensures next { self.new.next ≡ self.old.next }
+        ensures lists { self.new.points_left ≡ self.old.points_left }
+    {
+        if self.members_left == 0 {
+            return Ok(0);
+        }
+        self.take_members(flat, rest)
+    }
+
+    // Takes ids, but not the last, and returns how many bytes they had; 0 if the next is the last,
+    // or is cut or too long. Takes memory.
+    #[inline(never)]
+    fn take_ids(&mut self, rest: &[u8]) -> Result<usize, AllocError>
+        requires { IsAhead Id self.old (length rest.now) }
+        ensures { (rs : List Row) → TakesMany rs self.old rest.now result rs self.new }
+    {
+        let most = self.members_left.saturating_sub(self.ids.count());
+        if most == 0 {
+            return Ok(0);
+        }
+        let used = self.ids.take(rest, most)?;
+        self.bytes += used as u64;
+        Ok(used)
+    }
+
+    // Takes a header, ids or points that are complete at the start of the bytes, if these come next
+    // and no byte of a number is held. Returns how many bytes were taken, or 0, and whether the
+    // blob ends with them.
+    #[inline(always)]
+    fn take_many<S: SpanNotes>(
+        &mut self,
+        flat: &mut Flat,
+        spans: &mut S,
+        rest: &[u8],
+    ) -> Result<(usize, bool), Stop>
+        requires { IsReady flat.old self.old (length rest.now) }
+        ensures { IsAnswer S.holds self.old flat.old spans.old rest.now result self.new flat.new spans.new }
+    {
+        if self.held.len() > 0 {
+            return Ok((0, false));
+        }
+        match self.next {
+            NextItem::TypeByte => Ok((self.take_header(spans, rest)?, false)),
+            NextItem::Id => Ok((self.take_ids(rest)?, false)),
+            NextItem::X => self.take_points(flat, spans, rest),
+            _ => Ok((0, false)),
+        }
+    }
+
+    // Takes the next bytes of a piece, one at least: many items at once, or else one item or one
+    // byte. Returns how many, and whether the blob ends with them.
+    #[inline(always)]
+    fn take_some<S: SpanNotes>(
+        &mut self,
+        flat: &mut Flat,
+        spans: &mut S,
+        rest: &[u8],
+    ) -> Result<(usize, bool), Stop>
+        requires some { 0 < length rest.now }
+        requires ready { IsReady flat.old self.old (length rest.now) }
+        ensures some { IfOk result (λ taken. 0 < taken.0) }
+        ensures answer { IsAnswer S.holds self.old flat.old spans.old rest.now result self.new flat.new spans.new }
+    {
+        let taken = self.take_many(flat, spans, rest)?;
+        if taken.0 > 0 {
+            return Ok(taken);
+        }
+        self.take_item(flat, spans, rest)
+    }
+
+    // Takes bytes as `feed` does, without its shortcut for a blob of a single point.
+    #[inline(never)]
+    fn feed_items<S: SpanNotes>(
+        &mut self,
+        flat: &mut Flat,
+        spans: &mut S,
+        piece: &[u8],
+    ) -> Result<(usize, bool), Stop>
+        requires { IsReady flat.old self.old (length piece.now) }
+        ensures all { TakesAll (length piece.now) result }
+        ensures answer { IsAnswer S.holds self.old flat.old spans.old piece.now result self.new flat.new spans.new }
+    {
+        let mut used = 0;
+        while used < piece.len() {
+            let (count, ends) = self.take_some(flat, spans, &piece[used..])?;
+            used += count;
+            if ends {
+                return Ok((used, true));
+            }
+        }
+        Ok((used, false))
+    }
+
+    /// Takes bytes up to the end of a blob, else all of them; returns how many, and whether a blob
+    /// ends with them. `flat` has no rows when a blob begins, and then the rows read of it so far;
+    /// those of a blob that ended stay in it, so clear it before the next call. An `Err` is the
+    /// reason against what is at `offset`, or want of memory; after it the engine cannot be fed
+    /// further. Takes memory for rows, points, ids, open collections and spans.
+    #[inline(always)]
+    pub fn feed<S: SpanNotes>(
+        &mut self,
+        flat: &mut Flat,
+        spans: &mut S,
+        piece: &[u8],
+    ) -> Result<(usize, bool), Stop>
+        requires room { self.old.start + (count_of self.old + length piece.now) ≤ place_cap }
+        requires alive { IsAlive flat.old self.old }
+        ensures limits { self.new.limits ≡ self.old.limits }
+        ensures all { TakesAll (length piece.now) result }
+        ensures fed { FedBy S.holds self.old flat.old spans.old piece.now result self.new flat.new spans.new }
+    {
+        let used = self.take_root(flat, spans, piece)?;
+        if used > 0 {
+            return Ok((used, true));
+        }
+        self.feed_items(flat, spans, piece)
+    }
+}

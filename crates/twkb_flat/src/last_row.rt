@@ -1,0 +1,147 @@
+//! Points and members that are appended to the last row of a flat form.
+ghost use Rattle.std.specs.Prelude.{◌≡◌, ◌↔◌, ◌+◌, ◌<◌, ◌≤◌, ◌++◌, ◌∷◌, [], length, OnOk};
+ghost use Rattle.std.specs.Prelude.{OnErr, IsTrue, true, is_some};
+ghost use Rattle.twkb_tree.specs.declared.limits.TheConstants.{POINTS_CAP, NODES_CAP};
+ghost use Rattle.twkb_tree.specs.Rows.{row_points, plain_row};
+ghost use Rattle.twkb_tree.specs.RowGrowth.{EndsInLine, point_added, points_added};
+ghost use Rattle.twkb_flat.specs.Members.{EndsInMember};
+
+use crate::flat::Flat;
+use crate::kept_nodes::{
+    KeptNode, PlacedRow, count_point, count_points, ends_in_line, link, put_point,
+};
+use crate::node::Row;
+use crate::room::{make_room, put_reserved};
+use crate::row_test::{MOST_POINTS, leaves_room, look, look_at_id};
+use std::alloc::AllocError;
+use twkb_points::Pt;
+use twkb_tree::Kind;
+
+impl Flat {
+    /// Whether one more point may be added: the last row is that of a linestring or a ring, and
+    /// there are fewer than 2^24 points. Takes no memory.
+    #[inline(always)]
+    pub fn takes_point(&self) -> bool
+        ensures { IsTrue result ↔ (EndsInLine self.now × (length (row_points self.now) < POINTS_CAP)) }
+    {
+        if !ends_in_line(&self.kept) {
+            return false;
+        }
+        self.points.len() < MOST_POINTS as usize
+    }
+
+    /// Whether `count` points may be added to the last row, which is that of a linestring or a
+    /// ring. `false` proves nothing. Takes no memory.
+    pub fn takes_points(&self, count: u64) -> bool
+        ensures line { result ≡ true → EndsInLine self.now }
+        ensures room { result ≡ true → length (row_points self.now) + count ≤ POINTS_CAP }
+    {
+        self.takes_point() && count <= MOST_POINTS - u64::from(self.point_count())
+    }
+
+    /// Appends a point to the last row, which is that of a linestring or a ring and has room.
+    /// Takes memory; an `Err` changes nothing.
+    #[inline(always)]
+    pub fn add_point(&mut self, point: Pt) -> Result<(), AllocError>
+        requires line { EndsInLine self.old }
+        requires room { length (row_points self.old) < POINTS_CAP }
+        ensures added { OnOk result (self.new ≡ point_added point self.old) }
+        ensures same { OnErr result (self.new ≡ self.old) }
+    {
+        // lets proofs know that the point is in range
+        let _learnt = point.x();
+        if let Err(refused) = self.points.push(point) {
+            return Err(refused.into());
+        }
+        count_point(&mut self.kept);
+        Ok(())
+    }
+
+    /// Appends two points to the last row, which is that of a linestring or a ring and has room,
+    /// with one test for memory. Takes memory if there is no room for both; an `Err` changes
+    /// nothing.
+    #[inline(always)]
+    pub fn add_two(&mut self, first: Pt, second: Pt) -> Result<(), AllocError>
+        requires line { EndsInLine self.old }
+        requires room { length (row_points self.old) + 2 ≤ POINTS_CAP }
+        ensures added { OnOk result (self.new ≡ point_added second (point_added first self.old)) }
+        ensures same { OnErr result (self.new ≡ self.old) }
+    {
+        // lets proofs know that the points are in range
+        let _learnt = first.x();
+        let _learnt = second.x();
+        make_room(&mut self.points, 2)?;
+        self.points.push_reserved(first);
+        self.points.push_reserved(second);
+        count_point(&mut self.kept);
+        count_point(&mut self.kept);
+        Ok(())
+    }
+
+    /// Appends points to the last row, which is that of a linestring or a ring and has room, with
+    /// one test for memory. Takes memory if there is no room for all; an `Err` changes nothing.
+    #[inline(always)]
+    pub fn add_points(&mut self, points: &[Pt]) -> Result<(), AllocError>
+        requires line { EndsInLine self.old }
+        requires room { length (row_points self.old) + length points.now ≤ POINTS_CAP }
+        ensures added { OnOk result (self.new ≡ points_added points.now self.old) }
+        ensures same { OnErr result (self.new ≡ self.old) }
+    {
+        look(points);
+        make_room(&mut self.points, points.len())?;
+        put_reserved(&mut self.points, points);
+        count_points(&mut self.kept, points.len() as u32);
+        Ok(())
+    }
+
+    /// Whether `count` members, all with ids or all without, may be added at this depth to the
+    /// multipoint that the last row is a member of. `false` proves nothing. Takes no memory.
+    pub fn takes_members(&self, depth: u32, named: bool, count: u64) -> bool
+        ensures ends { result ≡ true → EndsInMember depth named self.now }
+        ensures nodes { result ≡ true → length self.now + count ≤ NODES_CAP }
+        ensures points { result ≡ true → length (row_points self.now) + count ≤ POINTS_CAP }
+    {
+        if !leaves_room(self.node_count(), self.point_count(), count) {
+            return false;
+        }
+        self.is_in_member(depth, named)
+    }
+
+    /// Appends a point as one more member of the multipoint that the last row is a member of, if
+    /// it has room. Takes memory; an `Err` changes nothing.
+    #[inline(always)]
+    pub fn add_member(&mut self, depth: u32, id: Option<i64>, point: Pt) -> Result<(), AllocError>
+        requires member { EndsInMember depth (is_some id) self.old }
+        requires nodes { length self.old < NODES_CAP }
+        requires points { length (row_points self.old) < POINTS_CAP }
+        ensures added { OnOk result (self.new ≡ self.old ++ plain_row depth Kind.Point id (point ∷ []) ∷ []) }
+        ensures same { OnErr result (self.new ≡ self.old) }
+    {
+        look_at_id(id);
+        // lets proofs know that the point is in range
+        let _learnt = point.x();
+        let next = self.kept.len() as u32;
+        let last = next - 1;
+        let row = Row {
+            depth,
+            kind: Kind::Point,
+            id,
+            precision: None,
+        };
+        let placed = PlacedRow {
+            row,
+            first: self.points.len() as u32,
+            points: 1,
+        };
+        // the subtree of the last node ends here, and the new member has the same parent
+        let node = KeptNode {
+            placed,
+            next: self.kept[last as usize].next,
+        };
+        if let Err(refused) = put_point(&mut self.kept, &mut self.points, node, point) {
+            return Err(refused);
+        }
+        link(&mut self.kept, last, next);
+        Ok(())
+    }
+}

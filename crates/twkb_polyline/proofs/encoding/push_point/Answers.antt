@@ -1,5 +1,0 @@
-use Rattle.std.proofs.Common.{rules}
-use Rattle.twkb_polyline.proofs.encoding.push_point.Goals as goal
-
-pub returns-clause-appended : goal.returns-clause-appended
-returns-clause-appended c = search rules

@@ -1,0 +1,19 @@
+use Rattle.std.proofs.Common.{subst}
+use Rattle.csv.specs.Records.{fields_of}
+use Rattle.twkb_table.specs.Judged.{Accepted, Refused, Judged}
+use Rattle.twkb_table.proofs.HeadLemmas.{given_row}
+use Rattle.twkb_table.proofs.RecordJudged.{if_refused}
+use Rattle.twkb_table.proofs.record_verdict.judge.Goals as goal
+
+pub returns-in-Err-append_to-clause-refused : goal.returns-in-Err-append_to-clause-refused
+returns-in-Err-append_to-clause-refused c =
+    if_refused _ _ c.in-Err-append_to.fault (λ reason j. c.in-Ok.ensures.read (Refused reason) j)
+    c.in-Err-append_to.ensures.refused
+
+pub returns-clause-read : goal.returns-clause-read
+returns-clause-read c before stands =
+    let own = c.in_default.ensures.given in
+    subst (λ r. Judged c.args.limits.now before (fields_of c.args.here.now) (Accepted r))
+    (given_row c.in-Ok.head c.row.result c.clear.new.self.items c.append_to.new.points.items
+    own.0 c.row.ensures c.clear.ensures.items own.1)
+    (c.in-Ok.ensures.read _ own.2 before stands)

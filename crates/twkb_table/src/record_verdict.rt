@@ -1,0 +1,152 @@
+//! The verdict on a record after the first: a row, or the first reason to refuse it.
+ghost use Rattle.std.specs.Prelude.{List, IfOk, IfErr};
+ghost use Rattle.csv.specs.Records.{fields_of};
+ghost use Rattle.twkb_tree.specs.Rows.{Row as TableRow};
+ghost use Rattle.twkb_table.specs.Judged.{Verdict, Judged, Accepted, Refused, JudgedByPlace};
+ghost use Rattle.twkb_table.specs.Standing.{place_seen, StandsAfter};
+ghost use Rattle.twkb_table.specs.Head.{JudgedAs};
+ghost use Rattle.twkb_table.specs.FiveFields.{record_seen};
+ghost use Rattle.twkb_flat.specs.Rows.{row_with};
+ghost use Rattle.twkb_flat.specs.Stops.{IfRefused};
+
+use crate::decimal::parse_depth;
+use crate::fields::{FIELD_COUNT, Fields, five_fields};
+use crate::head::RowHead;
+use crate::kind_word::parse_kind;
+use crate::places::{read_id, read_precision, refused_place};
+use crate::reason::RowReason;
+use csv::ByteRecord;
+use twkb_flat::{PointSource, Row, Stop};
+use twkb_points::Pt;
+use twkb_tree::{Kind, Limits, OpenRow, RowPlace};
+
+// Reads the row of these fields except for its points, given its kind and place, or finds the
+// reason to refuse it.
+#[inline(always)]
+fn judge_at<'a>(
+    limits: &Limits,
+    row_place: &RowPlace,
+    kind: Kind,
+    id_field: &[u8],
+    precision_field: &[u8],
+    text: &'a [u8],
+) -> Result<RowHead<'a>, RowReason>
+    ensures read { IfOk result (λ head. (v : Verdict) → JudgedAs head v
+        → JudgedByPlace limits.now (place_seen row_place.now) kind id_field.now precision_field.now
+        text.now v) }
+    ensures refused { IfErr result (λ reason. JudgedByPlace limits.now (place_seen row_place.now)
+        kind id_field.now precision_field.now text.now (Refused reason)) }
+{
+    if let Some(reason) = refused_place(limits, row_place, kind) {
+        return Err(reason);
+    }
+    let id = match read_id(row_place, kind, id_field) {
+        Ok(id) => id,
+        Err(reason) => return Err(reason),
+    };
+    let precision = match read_precision(row_place, precision_field) {
+        Ok(precision) => precision,
+        Err(reason) => return Err(reason),
+    };
+    Ok(RowHead {
+        limits: *limits,
+        row_place: *row_place,
+        kind,
+        id,
+        precision,
+        text,
+    })
+}
+
+// Reads the row of a record of these five fields except for its points, or finds the reason to
+// refuse it.
+#[inline(always)]
+fn judge_fields<'a>(
+    limits: &Limits,
+    rows: &[OpenRow],
+    nodes: u32,
+    points_before: u32,
+    fields: &Fields<'a>,
+) -> Result<RowHead<'a>, RowReason>
+    ensures read { IfOk result (λ head. (v : Verdict) → JudgedAs head v → (before : List TableRow)
+        → StandsAfter before rows.now nodes points_before → Judged limits.now before
+        (record_seen fields.now) v) }
+    ensures refused { IfErr result (λ reason. (before : List TableRow)
+        → StandsAfter before rows.now nodes points_before → Judged limits.now before (record_seen fields.now)
+        (Refused reason)) }
+{
+    let Some(depth) = parse_depth(fields.depth) else {
+        return Err(RowReason::BadDepth);
+    };
+    let Some(kind) = parse_kind(fields.kind) else {
+        return Err(RowReason::BadKind);
+    };
+    let Some(row_place) = RowPlace::at(depth, rows, nodes, points_before) else {
+        return Err(RowReason::BadPlace);
+    };
+    judge_at(
+        limits,
+        &row_place,
+        kind,
+        fields.id,
+        fields.precision,
+        fields.polyline,
+    )
+}
+
+// Reads a record after the first except for its points, given the open rows of the rows so far,
+// the root first, and the counts of rows and points since the last root. Returns its row, or the
+// first reason to refuse it (profile); the verdict on its points is then the verdict on the
+// record.
+#[inline(always)]
+pub(crate) fn judge_head<'a>(
+    limits: &Limits,
+    rows: &[OpenRow],
+    nodes: u32,
+    points_before: u32,
+    here: &'a ByteRecord,
+) -> Result<RowHead<'a>, RowReason>
+    ensures read { IfOk result (λ head. (v : Verdict) → JudgedAs head v → (before : List TableRow)
+        → StandsAfter before rows.now nodes points_before → Judged limits.now before
+        (fields_of here.now) v) }
+    ensures refused { IfErr result (λ reason. (before : List TableRow)
+        → StandsAfter before rows.now nodes points_before → Judged limits.now before (fields_of here.now)
+        (Refused reason)) }
+{
+    if here.len() != FIELD_COUNT {
+        return Err(RowReason::FieldCount);
+    }
+    let fields = five_fields(here);
+    judge_fields(limits, rows, nodes, points_before, &fields)
+}
+
+/// Reads a record after the first, given the open rows of the rows so far, the root first, and
+/// the counts of rows and points since the last root. Returns its row, or the first reason to
+/// refuse it (profile). The row's points replace those in `points`, which alone takes memory.
+/// After an `Err` the contents of `points` are not specified.
+#[inline(always)]
+pub fn judge(
+    limits: &Limits,
+    rows: &[OpenRow],
+    nodes: u32,
+    points_before: u32,
+    here: &ByteRecord,
+    points: &mut Vec<Pt>,
+) -> Result<Row, Stop<RowReason>>
+    ensures read { IfOk result (λ row. (before : List TableRow)
+        → StandsAfter before rows.now nodes points_before → Judged limits.now before (fields_of here.now)
+        (Accepted (row_with row points.new.items))) }
+    ensures refused { IfErr result (IfRefused (λ reason. (before : List TableRow)
+        → StandsAfter before rows.now nodes points_before → Judged limits.now before (fields_of here.now)
+        (Refused reason))) }
+{
+    let head = match judge_head(limits, rows, nodes, points_before, here) {
+        Ok(head) => head,
+        Err(reason) => return Err(Stop::Refused(reason)),
+    };
+    points.clear();
+    if let Err(fault) = head.append_to(points) {
+        return Err(fault);
+    }
+    Ok(head.row())
+}

@@ -1,4 +1,0 @@
-use Rattle.twkb_writer.proofs.measuring.take_row.Goals as goal
-
-pub returns-in-None : goal.returns-in-None
-returns-in-None c = c.take_part.ensures c.args.style c.args.points.now

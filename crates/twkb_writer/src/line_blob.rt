@@ -1,0 +1,128 @@
+//! The blob of one line, written without a form and without a vector of sizes.
+ghost use Rattle.std.specs.Prelude.{◌≡◌, ◌≤◌, [], length, OnOk, IfErr};
+ghost use Rattle.twkb_tree.specs.Tree.{IsPrecision};
+ghost use Rattle.twkb_tree.specs.declared.kind.Kind.TheVariants.{Linestring};
+ghost use Rattle.twkb_tree.specs.declared.limits.TheConstants.{POINTS_CAP};
+ghost use Rattle.twkb_io.specs.Sinks.{TookFront};
+ghost use Rattle.twkb_grammar.specs.Written.{canonical_blob};
+ghost use Rattle.twkb_writer.specs.Bytes.{geometry_lead};
+ghost use Rattle.twkb_writer.specs.LineBlob.{one_line, MeasuresLine};
+ghost use Rattle.twkb_writer.specs.Putting.{Put};
+ghost use Rattle.twkb_writer.specs.Reads.{ReadsExactly};
+ghost use Rattle.twkb_writer.specs.Sizes.{entry_of};
+
+use crate::gatherer::Gatherer;
+use crate::header::{has_no_body, put_header};
+use crate::measured_rows::{count_measured, look_at_reads, take_points};
+use crate::piece::Piece;
+use crate::placed_points::ListedPoints;
+use crate::points::put_points;
+use crate::sizes::Entry;
+use crate::tails::TailTotals;
+use crate::totals::RowTotals;
+use twkb_flat::{Node, NodeId, PointId, Row, Work};
+use twkb_grammar::Style;
+use twkb_io::Sink;
+use twkb_points::{Cursor, PointList};
+use twkb_tree::Kind;
+
+// The node of a line that is the whole geometry.
+#[inline(always)]
+fn line_node(precision: i8, points: u32) -> Node
+    ensures kind { result.row.kind ≡ Linestring }
+    ensures first { result.first.0 ≡ 0 }
+    ensures points { result.points ≡ points }
+{
+    Node {
+        row: Row {
+            depth: 0,
+            kind: Kind::Linestring,
+            id: None,
+            precision: Some(precision),
+        },
+        next: NodeId(1),
+        first: PointId(0),
+        points,
+    }
+}
+
+// Measures a line.
+#[inline(always)]
+fn line_entry<L: PointList>(
+    style: Style,
+    node: &Node,
+    precision: i8,
+    line: &ListedPoints<'_, L>,
+    work: &mut Work,
+) -> Entry
+    requires first { node.now.first.0 ≡ 0 }
+    requires count { node.now.points ≡ length (L.points line.now.list.now) }
+    requires few { length (L.points line.now.list.now) ≤ POINTS_CAP }
+    ensures value { result ≡ entry_of style (one_line precision (L.points line.now.list.now)) }
+    ensures reads { ReadsExactly work.old 0 (length (L.points line.now.list.now)) work.new }
+{
+    let points = take_points(line, node, TailTotals::none(), work);
+    RowTotals::blank().entry_for(style, Kind::Linestring, precision, node.points, &points)
+}
+
+// Puts the bytes before the points of a line.
+#[inline(always)]
+fn put_line_lead<S: Sink>(
+    style: Style,
+    node: &Node,
+    precision: i8,
+    entry: &Entry,
+    gatherer: &mut Gatherer<'_, '_, '_, S, S::Fault>,
+)
+    requires { node.now.row.kind ≡ Linestring }
+    ensures { Put S.took S.refused gatherer.old
+        (geometry_lead style precision entry.now Linestring 0 node.now.points []) gatherer.new }
+{
+    put_header(style, node, precision, entry, gatherer);
+    if has_no_body(node.points, entry) {
+        return;
+    }
+    gatherer.put_number(node.points as u64);
+}
+
+/// Writes the canonical blob of the line through the points of a list, in a style: the bytes that
+/// `write_through` writes of a form of that line. The precision is from -8 to 7. Counts one node
+/// and one entry as measured, and the points; reads each point twice, and counts that. The bytes go
+/// through the piece, whatever it holds. Takes no memory.
+#[inline(always)]
+pub fn write_line<L: PointList, S: Sink>(
+    precision: i8,
+    list: &L,
+    style: Style,
+    piece: &mut Piece,
+    sink: &mut S,
+    work: &mut Work,
+) -> Result<(), S::Fault>
+    requires few { length (L.points list.now) ≤ POINTS_CAP }
+    ensures ok { OnOk result (IsPrecision precision
+        → S.took sink.old (canonical_blob style (one_line precision (L.points list.now))) sink.new) }
+    ensures err { IfErr result (λ fault. IsPrecision precision
+        → TookFront S.refused sink.old (canonical_blob style (one_line precision (L.points list.now))) fault sink.new) }
+    ensures work { MeasuresLine work.old (length (L.points list.now)) work.new }
+{
+    let count = list.count() as u32;
+    count_measured(count, 1, 1, work);
+    look_at_reads(work);
+    let node = line_node(precision, count);
+    let line = ListedPoints { list };
+    let entry = line_entry(style, &node, precision, &line, work);
+    piece.clear();
+    let mut fault = None;
+    let mut gatherer = Gatherer {
+        sink,
+        piece,
+        fault: &mut fault,
+    };
+    put_line_lead(style, &node, precision, &entry, &mut gatherer);
+    put_points(&line, &node, &mut Cursor::origin(), &mut gatherer, work);
+    gatherer.flush();
+    match fault {
+        Some(fault) => Err(fault),
+        None => Ok(()),
+    }
+}
