@@ -3,6 +3,7 @@ use Rattle.std.proofs.Common.{◌≡◌, ℕ, ◌≤◌, true, List, Option, ref
 use Rattle.std.specs.Prelude.{nat_le}
 use Rattle.std.proofs.lemmas.Bool.{cases_Bool}
 use Rattle.std.proofs.lemmas.Bool.Decides.{nat_tests}
+use Rattle.twkb_tree.specs.declared.limits.TheConstants.{NEST_CAP}
 use Rattle.twkb_tree.specs.Limits.{Allowance, IsAllowance, largest_limits}
 use Rattle.twkb_tree.specs.Rows.{Row}
 use Rattle.twkb_tree.specs.Accepted.{Accepts, Continues, is_member, nest_kept}
@@ -13,7 +14,7 @@ more_levels d m n le e = grind (arith, nat_tests)
 nest_largest : (l : Allowance) (p : Option Row) (d : ℕ) → IsAllowance l → nest_kept l p d ≡ true
     → nest_kept largest_limits p d ≡ true
 nest_largest l p d sound e = elim (cases_Bool (is_member p)) [
-  | inl member ↦ rw member (more_levels d l.nest 32 sound.nest_cap (rw member at e))
+  | inl member ↦ rw member (more_levels d l.nest NEST_CAP sound.nest_cap (rw member at e))
   | inr other ↦ rw other refl
 ]
 
