@@ -13,8 +13,8 @@ use twkb_engine::{BlobReason, Engine, SpanNotes};
 use twkb_flat::Flat;
 use twkb_io::{InFault, Input, MAX_BYTES};
 
-// How many bytes of the piece fit into a stream after its first `taken`: all, or those up to 2^62
-// bytes in the stream. `None` if it has more already.
+// How many bytes of the piece fit into a stream after its first `taken` bytes: all, or those up to
+// 2^62 bytes in the stream. `None` if `taken` is above 2^62.
 #[inline(always)]
 fn room_in(taken: u64, piece: &[u8]) -> Option<usize>
     ensures fits { IfSome result (λ count. (taken + count ≤ MAX_BYTES) × (count ≤ length piece.now)) }
@@ -28,7 +28,7 @@ fn room_in(taken: u64, piece: &[u8]) -> Option<usize>
 // Feeds a piece to an engine, up to the end of a blob, or all of it if none ends; returns how many
 // bytes were taken, and whether a blob ends with them. A refusal states its offset in the stream.
 // If the piece goes past 2^62 bytes of the stream, and no blob ends and nothing is refused up to
-// there, the bytes up to there are fed, and it is `TooLong`.
+// there, the bytes up to there are fed, and `TooLong` is returned. Takes memory as the engine does.
 #[inline(always)]
 pub(crate) fn feed_piece<S: SpanNotes>(
     engine: &mut Engine,
@@ -66,7 +66,7 @@ pub(crate) fn feed_piece<S: SpanNotes>(
 }
 
 // Feeds an engine a byte of a stream that has room for it; returns whether a blob ends with it. A
-// refusal states its offset in the stream.
+// refusal states its offset in the stream. Takes memory as the engine does.
 #[inline(always)]
 pub(crate) fn feed_one<S: SpanNotes>(
     engine: &mut Engine,

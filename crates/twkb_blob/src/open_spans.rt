@@ -35,7 +35,8 @@ fn set_metadata(spans: &mut Vec<Span>, index: usize, metadata: u8)
 }
 
 // Sets length and points of the span at this place, if there is one. Its geometry ends at this
-// offset, after this many points of the blob; so far the span has the number of points before it.
+// offset, after this many points of the blob; so far its `points` is how many of these came before
+// the geometry.
 fn set_end(spans: &mut Vec<Span>, index: usize, offset: u64, points: u64)
     ensures { spans.new.items ≡ changed_at index (measured offset points) spans.old.items }
 {
@@ -94,8 +95,8 @@ impl SpanNotes for OpenSpans {
 
     ghost holds = { λ o w. o ≡ w };
 
-    // Adds an open span, which has the number of points before it until it ends. After an `Err` a
-    // span may be left that is not open.
+    // Adds an open span; until it ends, its `points` is how many points of the blob came before its
+    // geometry. After an `Err` a span may be left that is not open.
     #[inline(always)]
     fn begin(&mut self, offset: u64, points: u64, byte: TypeByte) -> Result<(), AllocError> {
         let level = self.begun.len().min(u32::MAX as usize) as u32;
@@ -113,7 +114,7 @@ impl SpanNotes for OpenSpans {
         Ok(())
     }
 
-    // Changes nothing if no span is open.
+    // Sets the metadata byte of the innermost open span; changes nothing if none is open.
     #[inline(always)]
     fn set_metadata(&mut self, byte: u8) {
         if let Some(place) = self.begun.last() {
@@ -122,7 +123,8 @@ impl SpanNotes for OpenSpans {
         }
     }
 
-    // Closes the innermost open span; changes nothing if none is open.
+    // Closes the innermost open span, and sets its length and its number of points; changes nothing
+    // if none is open.
     #[inline(always)]
     fn end(&mut self, offset: u64, points: u64) {
         if let Some(place) = self.begun.pop() {

@@ -73,9 +73,11 @@ impl<'a, R: Read> Reader<'a, R> {
     }
 
     /// Reads the next geometry, or returns `None` at the input's end. The blob of the geometry
-    /// leaves the input, and no further byte does. After an `Err` each call returns `Spent`, and
-    /// after the end each call returns `None`; neither reads. It takes memory for what it keeps and
-    /// for the geometry, and none for a count that it reads.
+    /// leaves the input, and no further byte does. An `Err` is want of memory, a fault of the
+    /// input, as a failed read or more than 2^62 bytes, or the first fault of a blob that is
+    /// refused or cut. After an `Err` each call returns `Spent`, and after the end each call
+    /// returns `None`; neither reads. It takes memory for what it keeps and for the geometry, and
+    /// none for what a count announces before it comes.
     pub fn next(&mut self, alloc: Global) -> Result<Option<Geometry>, BlobFault>
         ensures shared { ReadsNext None self.old self.new result }
         ensures next { is_spent self.old ≡ false → has_ended self.old ≡ false
@@ -158,8 +160,8 @@ impl<'a, R: Read> Reader<'a, R> {
         found
     }
 
-    // Builds the geometry of the rows of a blob that was read. Takes memory; if that is refused,
-    // the reader is spent.
+    // Builds the geometry of the rows of a blob that was read. Takes memory; if it is refused,
+    // returns `Memory`, and the reader is spent.
     fn tree_of(&mut self, alloc: Global, flat: &Flat) -> Result<Geometry, BlobFault>
         requires { 0 < length flat.now }
         ensures rows { IfOk result (λ g. rows 0 g ≡ flat.now) }

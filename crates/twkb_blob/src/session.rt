@@ -55,10 +55,11 @@ impl Session {
     }
 
     /// Takes bytes of the piece up to the end of a geometry, else all of them; returns how many,
-    /// and the geometry if one ended. Past 2^62 bytes of the stream it is `TooLong`, unless a
-    /// geometry ends or a fault comes earlier. After an `Err` each feed and `finish` return
-    /// `Spent`. It takes memory for what it keeps and for the geometry, and none for a count that
-    /// it reads.
+    /// and the geometry if one ended. An `Err` is the first item that is refused, want of memory,
+    /// or `TooLong` if the piece goes past 2^62 bytes of the stream and up to there no geometry
+    /// ends and nothing is refused. After an `Err` each feed and `finish` return `Spent`. It takes
+    /// memory for what it keeps and for the geometry, and none for what a count announces before it
+    /// comes.
     pub fn feed(&mut self, piece: &[u8]) -> Result<(usize, Option<Geometry>), BlobFault>
         ensures fed { (bytes : List ℕ) (gs : List Tree) → Stands bytes gs self.old
             → FedSession bytes gs piece.now result self.new }
@@ -76,9 +77,9 @@ impl Session {
         self.give_tree(used)
     }
 
-    // Builds the geometry that ended with a feed of `used` bytes, and returns both. Without memory
-    // for it the session is spent. A separate function: the places of what it moves, in `feed`
-    // itself, would be cleared for each byte.
+    // Builds the geometry that ended with a feed of `used` bytes, and returns both. Takes memory;
+    // if it is refused, returns `Memory`, and the session is spent. A function of its own: if its
+    // variables were those of `feed`, they would be cleared in each call.
     #[inline(always)]
     fn give_tree(&mut self, used: usize) -> Result<(usize, Option<Geometry>), BlobFault>
         requires live { self.old.spent ≡ false }
@@ -145,8 +146,9 @@ impl Session {
         }
     }
 
-    // Takes bytes as `feed_flat` does, and returns how many. It is not inlined, and returns one
-    // number, which stays in a register: whether a geometry ended is read off the session.
+    // Takes bytes as `feed_flat` does, and returns how many; `is_whole` then says whether a
+    // geometry ends with them. It is not inlined, and returns one number, which stays in a
+    // register.
     #[inline(never)]
     fn feed_apart(&mut self, piece: &[u8]) -> Result<usize, BlobFault>
         ensures fed { (bytes : List ℕ) (gs : List Tree) → Stands bytes gs self.old
@@ -231,7 +233,7 @@ impl Session {
     }
 
     /// The rows of the geometry that the last feed completed, if it completed one; else the rows so
-    /// far of the geometry that is read. Takes no memory.
+    /// far of the geometry that is read. After an `Err` nothing is known of them. Takes no memory.
     pub fn flat(&self) -> &Flat
         ensures { result.now ≡ session_rows self.now }
     {

@@ -89,9 +89,10 @@ impl<'a, 'b, R: Read> StreamReader<'a, 'b, R> {
 
     /// Reads the next geometry, and returns whether there was one. Its blob leaves the input, and
     /// no further byte does. Its rows are in `rows` until the next call; after a false and after an
-    /// `Err` there are none. After an `Err` each call returns `Spent`, and after the end each call
-    /// returns false; neither reads. It takes memory for rows, points, ids and open collections
-    /// past its room, and none for a further geometry once there is room for it.
+    /// `Err` there are none. An `Err` is as with `Reader::next`. After an `Err` each call returns
+    /// `Spent`, and after the end each call returns false; neither reads. It takes memory for rows,
+    /// points, ids and open collections past its room, and none for a further geometry once there
+    /// is room for it.
     pub fn next(&mut self) -> Result<bool, BlobFault>
         ensures { ReadsRows (reader_in self.old) (reader_in self.new) result (rows_in self.new) }
     {
@@ -116,8 +117,8 @@ impl<'a, 'b, R: Read> StreamReader<'a, 'b, R> {
         found
     }
 
-    /// The rows of the geometry that the last call read, or none if it read none; their points are
-    /// slices. Takes no memory.
+    /// The rows of the geometry that the last call read, or none if it read none, in a form that
+    /// gives the points of each as a slice. Takes no memory.
     pub fn rows(&self) -> &Rows
         ensures { result.now.flat ≡ rows_in self.now }
     {

@@ -32,11 +32,12 @@ const NEAR: usize = 16;
 const POINTS: u64 = POINTS_AT_ONCE as u64;
 
 /// Appends to the last row the points at the start of the bytes, at most `most`, each by its steps
-/// from the one before, the first from `from`; it stops before one that is cut, too long or out of
-/// range. Returns what was taken, and how many of `most` are left. Takes memory; after an `Err` the
-/// points appended so far stay. Points that lie near one another are read eight or two at a time.
-// One function, as its loop with the choice of the next step in another took up to 6 in 1000
-// instructions more.
+/// from the one before, the first from `from`. It stops before a point that is out of range, or
+/// that has a number which is cut or too long. Returns what was taken, and how many of `most` are
+/// left. Takes memory; after an `Err` the points appended so far stay. Points that lie near one
+/// another are read eight or two at a time.
+// One function: with the choice of the next step in a function of its own, it took up to 6 in 1000
+// more instructions.
 #[inline(always)]
 pub fn take_row(
     flat: &mut Flat,
@@ -107,9 +108,10 @@ fn take_few(
     Ok(Some((Taken { used, position }, most - 1)))
 }
 
-// Appends points of a list to the last row, eight at a time, as long as `eight_points` reads them
-// and eight or more of `most` are left. Returns what was taken, which may be nothing, and how many
-// of `most` are left. Takes memory; after an `Err` the points appended so far stay.
+// Appends the points of a list at the start of the bytes to the last row, eight at a time, the
+// first by its steps from `from`, as long as `eight_points` reads them and eight or more of `most`
+// are left. Returns what was taken, which may be nothing, and how many of `most` are left. Takes
+// memory; after an `Err` the points appended so far stay.
 #[inline(never)]
 fn take_eights(
     flat: &mut Flat,
@@ -142,10 +144,12 @@ fn take_eights(
     Ok((Taken { used, position }, left))
 }
 
-/// Appends members of a multipoint, at most `most`, as rows at this depth after the row of a
-/// member, each with its id if members have ids; such an id leaves `ids`. It stops before a point
-/// that is cut, too long or out of range, or for which no id is left. Returns what was taken, and
-/// how many of `most` are left. Takes memory; after an `Err` the rows appended so far stay.
+/// Appends the members of a multipoint at the start of the bytes, at most `most`, as rows at this
+/// depth after the row of a member, each by its steps from the point before, the first from `from`.
+/// Each has its id if members have ids; such an id leaves `ids`. It stops before a point that is
+/// out of range, that has a number which is cut or too long, or for which no id is left. Returns
+/// what was taken, and how many of `most` are left. Takes memory; after an `Err` the rows appended
+/// so far stay.
 pub fn take_members(
     flat: &mut Flat,
     ids: &mut MemberIds,

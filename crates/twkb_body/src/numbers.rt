@@ -6,7 +6,7 @@ use twkb_num::{FIVE_BYTES, FOUR_BYTES, GOES_ON, Leb128, Partial, Step, THREE_BYT
 
 // Reads a number of five bytes or fewer at the start of the bytes, and returns it and how many
 // bytes it has; `None` if it is not complete or has more. Nearly all numbers take this path, since
-// coordinates of six decimals have at most five bytes.
+// steps between degrees of six decimals have at most five bytes.
 #[inline(always)]
 pub(crate) fn short_number(bytes: &[u8]) -> Option<(u64, usize)>
     ensures front { IfSome result (λ front. NumberInFront bytes.now front.0 front.1) }

@@ -18,7 +18,8 @@ fn short_step(number: u64) -> i64
     unzigzag(number)
 }
 
-// The point after two steps, each in the range of a coordinate, or `None` if that is out of range.
+// The point at `dx` along x and `dy` along y from this one, both steps in the range of a
+// coordinate; `None` if that point is out of range.
 #[inline(always)]
 fn near_steps(from: Pt, dx: i64, dy: i64) -> Option<Pt>
     requires near_x { IsCoordinate dx }
@@ -28,7 +29,8 @@ fn near_steps(from: Pt, dx: i64, dy: i64) -> Option<Pt>
     from.moved_near(dx, dy)
 }
 
-// The point after two steps of five bytes or fewer, or `None` if that is out of range.
+// The point after two steps from this one, along x and along y, each spelled by a number of five
+// bytes or fewer; `None` if that point is out of range.
 #[inline(always)]
 fn near(from: Pt, x: u64, y: u64) -> Option<Pt>
     requires x_small { x < 2 ^ 35 }
@@ -38,7 +40,9 @@ fn near(from: Pt, x: u64, y: u64) -> Option<Pt>
     near_steps(from, short_step(x), short_step(y))
 }
 
-// Reads a point of any two numbers: the path if one of them has six bytes or more, or is cut.
+// The point at the start of the bytes, by its two steps from `from`, and how many bytes they have;
+// `None` if one is not complete or too long, or if they lead out of range. It is called when
+// `short_number` does not suffice for one of them, which is rare.
 #[cold]
 #[inline(never)]
 fn long_point(from: Pt, bytes: &[u8]) -> Option<(Pt, usize)>
@@ -51,8 +55,8 @@ fn long_point(from: Pt, bytes: &[u8]) -> Option<(Pt, usize)>
     Some((to, width + height))
 }
 
-/// The point at the start of the bytes, and how many bytes its two numbers have; `None` if one
-/// is not complete or too long, or if they lead out of range. Takes no memory.
+/// The point at the start of the bytes, by its two steps from `from`, and how many bytes they have;
+/// `None` if one is not complete or too long, or if they lead out of range. Takes no memory.
 #[inline(always)]
 pub fn front_point(from: Pt, bytes: &[u8]) -> Option<(Pt, usize)>
     ensures { IfSome result (λ front. PointInFront from bytes.now front.0 front.1) }

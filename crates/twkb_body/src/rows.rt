@@ -14,7 +14,8 @@ use twkb_flat::{Flat, Row};
 use twkb_points::Pt;
 use twkb_tree::Kind;
 
-/// Appends a row without points, which continues the rows. Takes memory; an `Err` changes nothing.
+/// Appends a row without points, which must be one that may follow the rows. Takes memory; an `Err`
+/// changes nothing.
 // Not inlined, since the push of a row is large.
 #[inline(never)]
 pub fn push_row(flat: &mut Flat, row: Row) -> Result<(), AllocError>
@@ -25,7 +26,8 @@ pub fn push_row(flat: &mut Flat, row: Row) -> Result<(), AllocError>
     flat.push(row, &[])
 }
 
-/// Appends a row with one point, which continues the rows. Takes memory; an `Err` changes nothing.
+/// Appends a row with one point, which must be one that may follow the rows. Takes memory; an `Err`
+/// changes nothing.
 #[inline(never)]
 pub fn push_point(flat: &mut Flat, row: Row, point: Pt) -> Result<(), AllocError>
     requires { Continues largest_limits flat.old (row_with row (point ∷ [])) }
@@ -35,9 +37,10 @@ pub fn push_point(flat: &mut Flat, row: Row, point: Pt) -> Result<(), AllocError
     flat.push(row, &[point])
 }
 
-/// Adds a point that was read to the rows, which must admit it: a point and a member of a
-/// multipoint, with this id, are rows of their own, and any other goes to the last row. Takes
-/// memory; an `Err` changes nothing.
+/// Adds a point of the geometry with this header to the rows, which must admit it. For a point
+/// geometry it pushes the geometry's own row with the point, and for a multipoint the row of a
+/// member with the point and the id `member`; any other point goes to the last row. Takes memory;
+/// an `Err` changes nothing.
 #[inline(always)]
 pub fn put_point(
     flat: &mut Flat,
@@ -59,7 +62,7 @@ pub fn put_point(
     }
 }
 
-/// The row of the geometry itself, without points. Takes no memory.
+/// The row, without points, of the geometry that has this header. Takes no memory.
 #[inline]
 pub fn own_row(head: &Head) -> Row
     requires { IsTyped head.now.kind }

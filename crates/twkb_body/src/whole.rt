@@ -22,8 +22,8 @@ pub struct Whole {
 }
 
 // The size that the header at the start of the bytes declares, if any, and how many bytes the
-// header has. `None` if it is not complete, is not that of a point with a body, or has more than a
-// size of one byte.
+// header has. `None` if it is not complete, if its type is not point, if its metadata byte has any
+// bit set but that of a size, or if its size has more than one byte.
 #[inline(always)]
 fn point_header(bytes: &[u8]) -> Option<(Option<u64>, usize)>
     ensures { IfSome result (λ front. PointHeader bytes.now front.0 front.1) }
@@ -46,9 +46,10 @@ fn point_header(bytes: &[u8]) -> Option<(Option<u64>, usize)>
     Some((Some(u64::from(size)), SIZED))
 }
 
-/// The point at the start of the bytes with its header, which has at most a size of one byte.
-/// `None` if the header is any other, or the point is not complete, too long or out of range.
-/// Whether the size is exact is not judged. Takes no memory.
+/// The point at the start of the bytes with its header, which has a size of one byte or no optional
+/// part. `None` if the header is any other, if one of the point's two numbers is not complete or
+/// too long, or if they lead out of range. Whether the size is exact is not judged. Takes no
+/// memory.
 #[inline(always)]
 pub fn whole_point(bytes: &[u8]) -> Option<Whole>
     ensures { IfSome result (λ front. WholePoint bytes.now front.to front.used front.size) }

@@ -18,19 +18,21 @@ pub(crate) trait BlobText {
     // What is written before the first blob, and for each blob.
     ghost layout: { Layout };
 
-    // The text made last.
+    // The text that `read_next` made last.
     ghost made: { Self → List ℕ };
 
     // The text that is written before the first blob. Takes no memory.
     fn first_line() -> &'static [u8]
         ensures text { result.now ≡ layout.first };
 
-    // The text made last.
+    // The text that `read_next` made last.
     fn bytes(&self) -> &[u8]
         ensures text { result.now ≡ made self.now };
 
-    // Reads the next blob and makes its text, in place of the last; false if there is none. Takes
-    // memory. After a false or an `Err` the text may be the last one, empty, or a part of one.
+    // Reads the next blob, makes its text in place of the last one's, and returns true; false if
+    // there is none. An `Err` is why there is no text: a fault of the reader, or want of memory.
+    // Takes memory. After a false or an `Err` the text may be the last one, empty, or a part of
+    // one.
     fn read_next<R: Read>(&mut self, blobs: &mut StreamReader<'_, '_, R>) -> Result<bool, Cause>
         requires between { IsBetween (reader_in blobs.old) }
         ensures reads { ReadsText layout (reader_in blobs.old) (reader_in blobs.new) (made self.new) result };
@@ -39,8 +41,8 @@ pub(crate) trait BlobText {
 // The bytes that a text has room for at first.
 const FIRST_ROOM: usize = 128;
 
-// Reserves room for the text of a small blob, if the capacity is below that: a text that grew from
-// nothing would ask for memory at each step.
+// Reserves room for the text of a small blob, if the text has less: one that grew from nothing
+// would ask for memory several times. Takes memory; an `Err` changes nothing.
 #[inline(always)]
 fn make_room(text: &mut Vec<u8>) -> Result<(), AllocError>
     ensures same { text.new.items ≡ text.old.items }

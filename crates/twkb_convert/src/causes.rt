@@ -7,8 +7,8 @@ use twkb_blob::BlobFault;
 use twkb_io::{InFault, OutFault};
 use twkb_table::TableFault;
 
-// The cause of a stop at a reader of blobs. `Spent` does not occur, since no call follows a
-// refused one.
+// The cause to report for this fault of a reader of blobs. `Spent` does not occur, since no call
+// follows a refused one.
 pub(crate) fn cause_of_blob(fault: BlobFault) -> Cause
     ensures { result ≡ cause_of_blob fault }
 {
@@ -20,8 +20,9 @@ pub(crate) fn cause_of_blob(fault: BlobFault) -> Cause
     }
 }
 
-// The cause of a stop at a reader of tables. `csv` does not tell want of memory from a failed read;
-// `after_reads` does. `Spent` does not occur, since no call follows a refused one.
+// The cause to report for this fault of a reader of tables. A fault of `csv` is a failed read or
+// want of memory; it counts as a failed read here, and `after_reads` corrects that. `Spent` does
+// not occur, since no call follows a refused one.
 pub(crate) fn cause_of_table(fault: TableFault) -> Cause
     ensures { result ≡ cause_of_table fault }
 {
@@ -33,7 +34,8 @@ pub(crate) fn cause_of_table(fault: TableFault) -> Cause
     }
 }
 
-// The cause of a stop at an output. `Spent` does not occur, since no put follows a refused one.
+// The cause to report for this fault of an output. `Spent` does not occur, since no put follows a
+// refused one.
 pub(crate) fn cause_of_output(fault: OutFault) -> Cause
     ensures { result ≡ cause_of_output fault }
 {
@@ -43,8 +45,8 @@ pub(crate) fn cause_of_output(fault: OutFault) -> Cause
     }
 }
 
-// An answer, once it is known whether a read failed. If one did, that is the cause, unless a write
-// failed; if none did, a failed read as the cause was want of memory.
+// The answer to report, given whether a read failed. If one did, it is `ReadDevice`, unless a write
+// failed. If none did, `ReadDevice` becomes `Memory`. Any other answer stays.
 pub(crate) fn after_reads(answer: Result<(), Cause>, has_read_failed: bool) -> Result<(), Cause>
     ensures { result ≡ after_reads has_read_failed answer }
 {

@@ -22,7 +22,8 @@ pub enum Conversion {
     Show,
 }
 
-/// Converts all that a reader gives, by `pack_styled`, `unpack` or `show`.
+/// Converts all that a reader gives, as `pack_styled`, `unpack` or `show` does, whichever `what`
+/// asks for; the answer and the memory are those of that call.
 pub fn convert<R: Read, W: Write>(
     alloc: Global,
     what: Conversion,

@@ -6,7 +6,8 @@ use crate::report::Cause;
 use std::io::Write;
 use twkb_io::{OutFault, Output};
 
-// Flushes an output to which all was sent, or which stopped for a cause. An output that refused a
+// Flushes an output to which all was sent, or which stopped for a cause, and returns `sending`; if
+// the writer fails in the flush, it returns the cause of that instead. An output that refused a
 // call refuses this one too, and its writer is left alone.
 pub(crate) fn flush_last<W: Write>(
     output: &mut Output<'_, W>,

@@ -17,8 +17,11 @@ use twkb_blob::{StreamReader, StreamRoom};
 use twkb_io::{Input, Output, Sink, Tap};
 use twkb_tree::Limits;
 
-// Writes the text of a stream of blobs, each blob's text before the reader is read again. The
-// writer is flushed last, unless it failed or more than 2^62 bytes would be written.
+// Writes the text of a stream of blobs: the text before the first blob, and then that of each blob
+// before the reader is read again. Returns how many blobs and bytes were written, and with an `Err`
+// why it stopped; a refused blob stops it after the texts of the blobs before. The writer is
+// flushed last, unless it failed or more than 2^62 bytes would be written. Takes memory for one
+// geometry and its text.
 pub(crate) fn list_stream<R: Read, W: Write, T: BlobText>(
     text: &mut T,
     alloc: Global,

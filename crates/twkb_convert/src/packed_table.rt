@@ -34,14 +34,15 @@ pub fn pack<R: Read, W: Write>(
 }
 
 /// Packs a table into a stream in a style. Reads the records to the reader's end, and writes the
-/// canonical blob of each geometry once the row after it was accepted or the table's end was
-/// reached (records: RFC 4180; their polylines: Encoded Polyline Algorithm Format; blobs: TWKB;
-/// the columns, and which blob is canonical: profile). Each geometry must keep the limits. A
-/// refused record stops it; the geometry before that record is not written, since the record
-/// might have belonged to it. The writer is flushed last, unless it failed or more than 2^62
-/// bytes would be written. Takes memory for one record and one geometry with its sizes. After the
-/// end that `csv` saw, the reader is read once more: wrap a reader that may go on after an end,
-/// such as a terminal, in `twkb_io::Ending`.
+/// canonical blob of each geometry when the row after it was accepted or the table's end was
+/// reached (records: RFC 4180; their polylines: Encoded Polyline Algorithm Format; blobs: TWKB; the
+/// columns, and which blob is canonical: profile). Returns how many geometries and bytes were
+/// written, and with an `Err` why it stopped. Each geometry must keep the limits. A refused record
+/// stops it; the geometry before that record is not written, since the record might have belonged
+/// to it. The writer is flushed last, unless it failed or more than 2^62 bytes would be written.
+/// Takes memory for one record and one geometry with its sizes. After the end that `csv` saw, the
+/// reader is read again until it gives no byte: wrap a reader that may go on after an end, such as
+/// a terminal, in `twkb_io::Ending`.
 pub fn pack_styled<R: Read, W: Write>(
     alloc: Global,
     reader: &mut Tap<R>,
@@ -61,8 +62,8 @@ pub fn pack_styled<R: Read, W: Write>(
     }
 }
 
-/// Packs a table like `pack_styled`, and counts the work of measuring and writing the geometries
-/// that were written.
+/// Packs a table as `pack_styled` does, and returns with its report the work of measuring and
+/// writing the geometries; an `Err` comes without it.
 pub fn pack_counted<R: Read, W: Write>(
     alloc: Global,
     reader: &mut Tap<R>,

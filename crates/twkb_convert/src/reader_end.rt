@@ -9,7 +9,8 @@ use twkb_io::Tap;
 // The number of bytes that one read asks for.
 const PIECE: usize = 64;
 
-// Reads a reader to its end, and drops the bytes. Takes no memory.
+// Reads a reader to its end, and drops the bytes. `ReadDevice` if a read fails; `TooLong` if
+// 2^64 - 1 reads gave bytes and no end. Takes no memory.
 pub(crate) fn drain<R: Read>(tap: &mut Tap<R>) -> Result<(), Cause>
     ensures { Drains (R.remaining (device_of tap.new)) (bytes_given tap.new) (failures_of tap.old)
         (failures_of tap.new) result }

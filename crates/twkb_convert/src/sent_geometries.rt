@@ -46,8 +46,10 @@ pub(crate) fn send_table<R: Read, W: Write>(
     }
 }
 
-// Sends all geometries of a table, none of which was sent before, and returns how many were sent
-// whole, and the work, as `send_table` does. The form and the room are reused by each geometry.
+// Sends the geometries of a table in a style, each when the row after it was accepted or the
+// table's end was reached; none was sent before. Returns how many were sent whole, their work, and
+// the cause if it stopped; the work may then include some of one that was cut. The form and the
+// room are used again for each geometry.
 fn send_all<R: Read, W: Write>(
     table: &mut TableReader<'_, R>,
     flat: &mut Flat,
@@ -80,8 +82,9 @@ fn send_all<R: Read, W: Write>(
     (done, work, Err(Cause::TooLong))
 }
 
-// Sends the points that wait, one after another, and returns how many geometries are then sent
-// whole, with the `done` ones before. If no point waits, it only asks the table whether one does.
+// Sends the geometries that come next in the table as long as they are known to be points. Returns
+// how many are then sent whole, with the `done` ones before, and the cause if it stopped: `TooLong`
+// if that number is 2^64 - 1. If the next one is not known to be a point, it only asks the table.
 #[inline(always)]
 fn pass_points<R: Read, W: Write>(
     table: &mut TableReader<'_, R>,
@@ -103,9 +106,9 @@ fn pass_points<R: Read, W: Write>(
     send_points(table, style, room, output, done, work)
 }
 
-// Fast path: sends the points that wait, as `pass_points` does. Out of line, and a loop of its own:
-// inlined, it adds 1 in 100 to the instructions of other geometries; a call for each point adds 150
-// instructions to each point.
+// Fast path: sends the points that come next, and returns what `pass_points` does; `TooLong` if
+// 2^64 - 1 geometries were sent. Out of line, and a loop of its own: inlined, it adds 1 in 100 to
+// the instructions of other geometries; a call for each point adds 150 instructions to each point.
 #[inline(never)]
 fn send_points<R: Read, W: Write>(
     table: &mut TableReader<'_, R>,
@@ -129,7 +132,8 @@ fn send_points<R: Read, W: Write>(
     (u64::MAX, Err(Cause::TooLong))
 }
 
-// Sends the next geometry if it is known to be a point, and returns whether it is.
+// If the next geometry is known to be a point, sends it and adds its work; returns whether it is.
+// An `Err` is why it was not read or not sent whole.
 #[inline(always)]
 fn send_point<R: Read, W: Write>(
     table: &mut TableReader<'_, R>,

@@ -15,11 +15,12 @@ use twkb_tree::Limits;
 /// words and LF at its end: the number of collections that the geometry is in, the offset of its
 /// type byte in bytes from the stream's start, its kind, its precision, its metadata byte as two
 /// upper-case hexadecimal digits, the number of its bytes from the type byte to its end, and the
-/// number of its points, those of members included (headers: TWKB; the line: profile). The lines
-/// of a blob are written once it was read whole, before the reader is read again. Each geometry
-/// must keep the limits. A refused blob stops it, after the lines of the blobs before. The writer
-/// is flushed last, unless it failed or more than 2^62 bytes would be written. Takes memory for one
-/// geometry, its spans and their text.
+/// number of its points, those of members included (headers: TWKB; the line: profile). The lines of
+/// a blob are written after it was read whole, before the reader is read again. Returns how many
+/// blobs and bytes were written, and with an `Err` why it stopped. Each geometry must keep the
+/// limits. A refused blob stops it, after the lines of the blobs before. The writer is flushed
+/// last, unless it failed or more than 2^62 bytes would be written. Takes memory for one geometry,
+/// its spans and their text.
 pub fn show<R: Read, W: Write>(
     alloc: Global,
     reader: &mut Tap<R>,

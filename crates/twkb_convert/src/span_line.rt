@@ -12,7 +12,7 @@ use twkb_table::push_kind;
 // The greatest number with one digit.
 const GREATEST_DIGIT: u64 = 9;
 
-// Appends a line for each span, or a prefix of them if memory is refused.
+// Appends a line for each span. Takes memory; after an `Err` the lines appended so far stay.
 pub(crate) fn put_lines(spans: &[Span], text: &mut Vec<u8>) -> Result<(), AllocError>
     ensures appended { OnOk result (text.new.items ≡ text.old.items ++ span_lines spans.now) }
 {
@@ -120,7 +120,7 @@ fn push_byte(byte: u8, line: &mut Piece<128>)
     line.push(b' ');
 }
 
-// The hexadecimal digit of a number below 16.
+// The upper-case hexadecimal digit of a number below 16.
 fn hex_digit(number: u8) -> u8
     requires { number < 16 }
     ensures { result ≡ digit_glyph true number }

@@ -11,12 +11,13 @@ use std::io::{Read, Write};
 use twkb_io::Tap;
 use twkb_tree::Limits;
 
-/// Writes the table of a stream of blobs: the header's line, then the rows of each blob, once it
+/// Writes the table of a stream of blobs: the header's line, then the rows of each blob, after it
 /// was read whole, before the reader is read again (blobs: TWKB; polylines: Encoded Polyline
-/// Algorithm Format; records: RFC 4180; the columns, and LF alone after each record: profile). Each
-/// geometry must keep the limits. A refused blob stops it, after the rows of the blobs before. The
-/// writer is flushed last, unless it failed or more than 2^62 bytes would be written. Takes memory
-/// for one geometry and its text.
+/// Algorithm Format; records: RFC 4180; the columns, and LF alone after each record: profile).
+/// Returns how many blobs and bytes were written, and with an `Err` why it stopped. Each geometry
+/// must keep the limits. A refused blob stops it, after the rows of the blobs before. The writer is
+/// flushed last, unless it failed or more than 2^62 bytes would be written. Takes memory for one
+/// geometry and its text.
 pub fn unpack<R: Read, W: Write>(
     alloc: Global,
     reader: &mut Tap<R>,

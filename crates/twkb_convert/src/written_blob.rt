@@ -30,8 +30,8 @@ impl Room {
 }
 
 // Writes the canonical blob of a flat form in a style, and adds its work. Takes memory for the
-// sizes if they have too little room; if it is refused, the output took nothing. After an `Err`
-// some of the work may have been added.
+// sizes if they have too little room; if it is refused, the output took nothing. If the output
+// refuses, it took a prefix of the blob. After an `Err` some of the work may have been added.
 pub(crate) fn write_blob<W: Write>(
     flat: &Flat,
     style: Style,

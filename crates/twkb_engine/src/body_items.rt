@@ -31,8 +31,8 @@ impl Engine {
     ghost use Rattle.twkb_engine.specs.Notes.{NotesGo, notes_with, notes_past, open_in};
     ghost use Rattle.twkb_engine.specs.Standing.{ComesNext};
 
-    // Takes an x, which moves the position, and returns false: the y comes next. Refused if it
-    // leads out of range.
+    // Takes an x, which moves the position; the y comes next. Returns false, as no blob ends with
+    // an x. Refused if it leads out of range.
     #[inline(always)]
     #[tactic(auto, using(twkb_body::proofs::Ranges::ranges))]
     pub(crate) fn x(&mut self, number: u64, width: u64) -> Result<bool, Stop>
@@ -52,7 +52,7 @@ impl Engine {
         Ok(false)
     }
 
-    // The position after a y of this number; `None` if that is out of range.
+    // The position after a y of this number; `None` if the position is out of range.
     #[inline(always)]
     #[tactic(auto, using(twkb_body::proofs::Ranges::ranges))]
     fn moved_y(&self, number: u64) -> Option<Pt>
@@ -69,7 +69,7 @@ impl Engine {
 
     // Takes a y, and adds the point that it completes to the rows: at once if its list goes on, and
     // else as `last_point` does. Returns whether the blob ends with it. Refused if it leads out of
-    // range, or a size that ends with it is not exact. The point takes memory.
+    // range, or if the size of a geometry that ends with it is not exact. The point takes memory.
     #[inline(always)]
     pub(crate) fn y<S: SpanNotes>(
         &mut self,
@@ -100,9 +100,9 @@ impl Engine {
         self.last_point(flat, spans, position)
     }
 
-    // Adds the last point of a list, or a point that is in none, to the rows, and goes past the
-    // lists and geometries that end with it. Returns whether the blob ends. The point takes memory,
-    // and is added once the sizes are judged.
+    // Goes past the last point of a list, or past a point that is a geometry or a member itself, as
+    // `end_value` does, and then adds the point to the rows. Returns whether the blob ends. Refused
+    // if the size of a geometry that ends with it is not exact. The point takes memory.
     #[inline(never)]
     pub(crate) fn last_point<S: SpanNotes>(
         &mut self,
@@ -128,8 +128,8 @@ impl Engine {
 
     // Takes the count of a line's or ring's points, adds it to the sum of points, and pushes the
     // list's row. Goes to the first point, or past an empty list. Returns whether the blob ends
-    // with it. Refused if the points are too many, or a size that ends with it is not exact. A row
-    // takes memory.
+    // with it. Refused if the points are too many, or if the size of a geometry that ends with it
+    // is not exact. A row takes memory.
     #[inline(always)]
     pub(crate) fn point_count<S: SpanNotes>(
         &mut self,
@@ -163,8 +163,8 @@ impl Engine {
 
     // Takes the count of a polygon's rings, adds it to the sum of rows, and pushes the polygon's
     // row. Goes to the first ring, or past an empty list. Returns whether the blob ends with it.
-    // Refused if the rings are too many, or a size that ends with it is not exact. A row takes
-    // memory.
+    // Refused if the rings are too many, or if the size of a geometry that ends with it is not
+    // exact. A row takes memory.
     #[inline(always)]
     pub(crate) fn ring_count<S: SpanNotes>(
         &mut self,
@@ -196,8 +196,9 @@ impl Engine {
         Ok(false)
     }
 
-    // Pushes the row of an empty list, and goes past the list and the geometries that end with it.
-    // Returns whether the blob ends. The row takes memory, and is pushed once the sizes are judged.
+    // Goes past an empty list, as `end_value` does, and then pushes its row. Returns whether the
+    // blob ends. Refused if the size of a geometry that ends with it is not exact. The row takes
+    // memory.
     fn put_empty<S: SpanNotes>(
         &mut self,
         flat: &mut Flat,
@@ -219,9 +220,9 @@ impl Engine {
         Ok(ends)
     }
 
-    // Goes past the end of a list, or of a point that is in none: to the next ring or member, or
-    // past the end of the geometry as `end_geometry` does. Returns whether the blob ends there.
-    // Takes no memory.
+    // Goes past the end of a list, or of a point that is a geometry or a member itself: to the next
+    // ring or member, or past the end of the geometry as `end_geometry` does. Returns whether the
+    // blob ends there; an `Err` is a size that is not exact. Takes no memory.
     #[inline(always)]
     fn end_value<S: SpanNotes>(&mut self, spans: &mut S) -> Result<bool, Inexact>
         requires last { self.old.points_left ≡ 0 }
@@ -241,8 +242,8 @@ impl Engine {
         Ok(false)
     }
 
-    // Goes past the end of a list of points that are all taken, as `end_value` does. Not inlined, so
-    // that its caller keeps its registers.
+    // Goes past the end of a list of points that are all taken, and returns what `end_value` does.
+    // Not inlined, so that its caller keeps its registers.
     #[inline(never)]
     pub(crate) fn end_points<S: SpanNotes>(&mut self, spans: &mut S) -> Result<bool, Inexact>
         requires last { self.old.points_left ≡ 0 }

@@ -15,7 +15,8 @@ use crate::stop::Stop;
 use twkb_body::{Head, own_row, push_row};
 use twkb_flat::Flat;
 
-// Whether a geometry that ends after this number of bytes has the size that it declared, if any.
+// Whether a geometry with this header, which ends after this number of bytes of the blob, has the
+// size that it declares; true if it declares none.
 #[inline(always)]
 fn is_exact(head: &Head, bytes: u64) -> bool
     ensures { result ≡ exact head.now.size (bytes - head.now.from) }
@@ -36,6 +37,7 @@ impl From<Inexact> for Stop {
 
     ghost from_gives = { λ e stop. stop ≡ Refused SizeMismatch };
 
+    // The stop at a size that is not exact: a refusal, as `SizeMismatch`.
     fn from(_: Inexact) -> Stop {
         Stop::Refused(BlobReason::SizeMismatch)
     }
@@ -83,9 +85,9 @@ impl Engine {
         }
     }
 
-    // Ends a geometry that has no body, or no members, as `end_geometry` does, and pushes its row.
-    // Returns whether the blob ends with it. The row, which takes memory, is pushed once the sizes
-    // are judged.
+    // Ends a geometry that has no body, or no members, as `end_geometry` does, and then pushes its
+    // row. Returns whether the blob ends with it. Refused if the size of a geometry that ends with
+    // it is not exact. The row takes memory.
     #[tactic(auto, using(crate::proofs::Ends::headings))]
     pub(crate) fn end_empty<S: SpanNotes>(
         &mut self,

@@ -104,8 +104,9 @@ impl Engine {
     }
 
     // Takes the next item, which is this number, of `width` bytes; returns whether the blob ends
-    // with it. An `Err` is the first reason against the item or a size that ends with it, or want
-    // of memory. A row, a point, an id, an open collection and a span take memory.
+    // with it. An `Err` is the first reason against the item, an inexact size of a geometry that
+    // ends with it, or want of memory. A row, a point, an id, an open collection and a span take
+    // memory.
     #[inline(never)]
     pub(crate) fn take<S: SpanNotes>(
         &mut self,
@@ -161,7 +162,8 @@ impl Engine {
         self.held.len()
     }
 
-    /// The offset of the blob that is read, in bytes from the stream's start. Takes no memory.
+    /// Where the blob that is read begins, or the next one if none is begun, in bytes from the
+    /// stream's start. Takes no memory.
     #[inline(always)]
     pub fn start(&self) -> u64
         ensures { result ≡ self.now.start }

@@ -61,7 +61,7 @@ impl Engine {
 
     // Keeps the metadata byte, in the header and in the notes of spans, and the geometry's depth
     // and id, which the open collections give. Sets `head.size` to `None`, and `head.from` to the
-    // bytes so far.
+    // number of the blob's bytes so far.
     #[inline(always)]
     pub(crate) fn set_metadata<S: SpanNotes>(&mut self, spans: &mut S, metadata: Metadata)
         ensures head { head_of self.new.head ≡ record {
@@ -94,8 +94,8 @@ impl Engine {
         kind == Kind::Point && !metadata.is_empty()
     }
 
-    // Takes a type byte, begins its geometry, and returns false: the metadata byte comes next.
-    // Refused if it names no type. The span takes memory.
+    // Takes a type byte, and begins its geometry; the metadata byte comes next. Returns false, as
+    // no blob ends with a type byte. Refused if it names no type. The span takes memory.
     #[inline(always)]
     pub(crate) fn type_byte<S: SpanNotes>(
         &mut self,
@@ -123,7 +123,8 @@ impl Engine {
 
     // Takes a metadata byte, counts a point if it announces one, and goes to the first part that it
     // asks for, or past the header as `begin_body` does; returns whether the blob ends with it.
-    // Refused if it announces a point too many.
+    // Refused if it announces a point too many, or if the size of a geometry that ends with it is
+    // not exact. The row of a geometry without a body takes memory.
     #[inline(always)]
     pub(crate) fn metadata_byte<S: SpanNotes>(
         &mut self,
@@ -157,7 +158,9 @@ impl Engine {
     }
 
     // Takes an extended dimensions byte, moves `head.from` past it, and goes on as `after_extended`
-    // does; returns whether the blob ends with it. Refused if it announces Z or M.
+    // does; returns whether the blob ends with it. Refused if it announces Z or M, or if the size
+    // of a geometry that ends with it is not exact. The row of a geometry without a body takes
+    // memory.
     #[inline(always)]
     pub(crate) fn extended_byte<S: SpanNotes>(
         &mut self,
@@ -182,9 +185,10 @@ impl Engine {
         self.after_extended(flat, spans, Metadata::from_byte(self.head.metadata))
     }
 
-    // Takes a size, which counts the bytes after it, and goes on to the box, if there is one, or
-    // past the header; returns whether the blob ends with it, as it may if the geometry is empty.
-    // Whether the size is exact is judged when the geometry ends.
+    // Takes a size, which counts the bytes after it, and goes on as `after_size` does; returns
+    // whether the blob ends with it. The size is judged when the geometry ends, which may be here
+    // if it has no body. Refused if the size of a geometry that ends with it is not exact. The row
+    // of a geometry without a body takes memory.
     #[inline(always)]
     pub(crate) fn size<S: SpanNotes>(
         &mut self,
@@ -209,6 +213,8 @@ impl Engine {
 
     // Takes a number of a box, whose value is not used, with `left` more after it. After the last
     // one it goes past the header as `begin_body` does. Returns whether the blob ends with it.
+    // Refused if the size of a geometry that ends with it is not exact. The row of a geometry
+    // without a body takes memory.
     #[inline(always)]
     pub(crate) fn box_number<S: SpanNotes>(
         &mut self,
@@ -236,7 +242,8 @@ impl Engine {
     }
 
     // Goes past the place of the extended dimensions byte: to the size, if there is one, or else as
-    // `after_size` does. Returns whether the blob ends there.
+    // `after_size` does. Returns whether the blob ends there. An `Err` and memory are as with
+    // `end_empty`.
     #[inline(always)]
     fn after_extended<S: SpanNotes>(
         &mut self,
@@ -263,7 +270,8 @@ impl Engine {
     }
 
     // Goes past the place of the size: to the box, if there is one, or else past the header as
-    // `begin_body` does. Returns whether the blob ends there.
+    // `begin_body` does. Returns whether the blob ends there. An `Err` and memory are as with
+    // `end_empty`.
     #[inline(always)]
     fn after_size<S: SpanNotes>(
         &mut self,
@@ -290,7 +298,7 @@ impl Engine {
     }
 
     // Goes past the header: to the body, or to the count of members. A geometry without a body
-    // ends, as by `end_empty`. Returns whether the blob ends there.
+    // ends, as by `end_empty`, with the same `Err` and memory. Returns whether the blob ends there.
     #[inline(always)]
     fn begin_body<S: SpanNotes>(&mut self, flat: &mut Flat, spans: &mut S) -> Result<bool, Stop>
         requires header { IsHeaderItem self.old.next }

@@ -92,8 +92,9 @@ impl Engine {
 
     // Takes the count of members, and adds their rows and points to the sums. Goes to the first id
     // or member; without members the geometry ends, as by `end_empty`. Returns whether the blob
-    // ends with it. Refused if the members are too deep, or too many rows or points. A row and an
-    // open collection take memory.
+    // ends with it. Refused if the members are too deep, if their rows or points are too many, or
+    // if the size of a geometry that ends with it is not exact. A row and an open collection take
+    // memory.
     #[inline(always)]
     pub(crate) fn member_count<S: SpanNotes>(
         &mut self,
@@ -152,7 +153,7 @@ impl Engine {
     }
 
     // Takes an id, and after the last one goes to the first member, as `begin_members` does.
-    // Returns false. An id, a row and an open collection take memory.
+    // Returns false, as no blob ends with an id. An id, a row and an open collection take memory.
     #[inline(always)]
     pub(crate) fn id(&mut self, flat: &mut Flat, number: u64, width: u64) -> Result<bool, Stop>
         requires { ComesNext next.Id flat.old self.old number width }

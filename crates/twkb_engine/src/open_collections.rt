@@ -118,7 +118,8 @@ impl OpenCollections {
 
     // Opens a collection inside those that are open, with this header, the ids of its members, and
     // the number of members after the first. `ids` then has the ids that were in the place before,
-    // for their memory. Takes memory if more are open than ever before; an `Err` changes nothing.
+    // for their memory. Takes memory only if more are open than ever before; an `Err` changes
+    // nothing.
     #[inline(always)]
     pub(crate) fn push(
         &mut self,
@@ -151,10 +152,10 @@ impl OpenCollections {
         self.count = 0;
     }
 
-    // Ends a member of the innermost collection. If members are left, the next one begins, with the
-    // next id. Otherwise the collection ends too: its head is returned, and its ids are swapped
-    // with `ids`, so that their room is used again. If no collection is open, the blob ends, and
-    // nothing changes.
+    // Ends a member of the innermost collection, and returns what comes next. If members are left,
+    // that is the next one, with the next id. Otherwise the collection ends too: its head is
+    // returned, and its ids are swapped with `ids`, so that their room is used again. If no
+    // collection is open, the blob ends, and nothing changes.
     #[inline(always)]
     pub(crate) fn end_member(&mut self, ids: &mut MemberIds) -> MemberEnd
         ensures blob { IfBlob result (self.old ≡ []) }

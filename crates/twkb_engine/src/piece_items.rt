@@ -33,7 +33,7 @@ impl Engine {
     ghost use Rattle.twkb_engine.specs.declared.next_item.NextItem.TheVariants.{X, Id};
 
     /// Takes one byte, and returns whether the blob ends with it. A byte that does not end its
-    /// number is held. Rows, an `Err` and memory are as with `feed`.
+    /// number is held. Rows, spans, an `Err` and memory are as with `feed`.
     #[inline(always)]
     pub fn take_byte<S: SpanNotes>(
         &mut self,
@@ -75,6 +75,7 @@ impl Engine {
 
     // Takes the next item if it is complete at the start of the bytes and no byte of it is held,
     // else one byte of it. Returns how many bytes were taken, and whether the blob ends with them.
+    // An `Err` and memory are as with `feed`.
     #[inline(always)]
     fn take_item<S: SpanNotes>(
         &mut self,
@@ -143,9 +144,10 @@ impl Engine {
         Ok((used, ends))
     }
 
-    // Takes a point that is in no list, if it is complete and in range, and goes past what ends
-    // with it. Returns how many bytes were taken, or 0, and whether the blob ends with them. The
-    // point takes memory.
+    // Takes a point that is a geometry or a member itself, and goes past what ends with it. Returns
+    // how many bytes were taken, and whether the blob ends with them; 0 bytes if the point is out
+    // of range or has a number that is cut or too long. Refused if the size of a geometry that ends
+    // with it is not exact. The point takes memory.
     #[inline(always)]
     fn take_point<S: SpanNotes>(
         &mut self,
@@ -167,9 +169,10 @@ impl Engine {
         with_bytes(used, self.last_point(flat, spans, position))
     }
 
-    // Takes points of the open list, and does not go past its end. Returns how many bytes they had;
-    // 0 if the next is cut, too long or out of range, or the form is not known to have room for all
-    // that are left. Takes memory. Not inlined, so that its callers keep their registers.
+    // Takes points of the open list of points, and does not go past its end. Returns how many bytes
+    // they had; 0 if the next is out of range or has a number that is cut or too long, or if the
+    // form is not known to have room for all that are left. Takes memory. Not inlined, so that its
+    // callers keep their registers.
     #[inline(never)]
     fn take_list(&mut self, flat: &mut Flat, rest: &[u8]) -> Result<usize, AllocError>
         requires ahead { IsAhead X self.old (length rest.now) }
@@ -187,10 +190,10 @@ impl Engine {
     }
 
     // Takes members of a multipoint after its first, but not its last, each with its id if members
-    // have ids, and returns how many bytes they had; 0 if the geometry is no multipoint, the next
-    // member is the first or the last, is cut, too long or out of range, or has no id left, or the
-    // form is not known to have room for all that are left. Takes memory. Not inlined, so that its
-    // callers keep their registers.
+    // have ids. Returns how many bytes they had; 0 if the geometry is no multipoint, if the next
+    // member is the first or the last, is out of range, has no id left, or has a number that is cut
+    // or too long, or if the form is not known to have room for all that are left. Takes memory.
+    // Not inlined, so that its callers keep their registers.
     #[inline(never)]
     fn take_members(&mut self, flat: &mut Flat, rest: &[u8]) -> Result<usize, AllocError>
         requires { IsAhead X self.old (length rest.now) }
@@ -267,7 +270,8 @@ impl Engine {
     }
 
     // Takes the next bytes of a piece, one at least: many items at once, or else one item or one
-    // byte. Returns how many, and whether the blob ends with them.
+    // byte. Returns how many bytes were taken, and whether the blob ends with them. An `Err` and
+    // memory are as with `feed`.
     #[inline(always)]
     fn take_some<S: SpanNotes>(
         &mut self,
@@ -311,10 +315,11 @@ impl Engine {
     }
 
     /// Takes bytes up to the end of a blob, else all of them; returns how many, and whether a blob
-    /// ends with them. `flat` has no rows when a blob begins, and then the rows read of it so far;
-    /// those of a blob that ended stay in it, so clear it before the next call. An `Err` is the
-    /// reason against what is at `offset`, or want of memory; after it the engine cannot be fed
-    /// further. Takes memory for rows, points, ids, open collections and spans.
+    /// ends with them. `flat` must have no rows when a blob begins, and later those that the calls
+    /// before left in it; those of a blob that ended stay, so clear it before the next call.
+    /// `spans` notes the spans of the blob. An `Err` is the reason against what is at `offset`, or
+    /// want of memory; after it the engine cannot be fed further. Takes memory for rows, points,
+    /// ids, open collections and spans.
     #[inline(always)]
     pub fn feed<S: SpanNotes>(
         &mut self,

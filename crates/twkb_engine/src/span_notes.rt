@@ -22,12 +22,12 @@ pub trait SpanNotes {
         ensures { (w : Notes) → holds self.old w → holds self.new (note_metadata byte w) };
 
     /// Notes that the innermost open geometry ends at this offset of the stream, after this number
-    /// of points of its blob. Takes no memory.
+    /// of points of its blob; nothing if none is open. Takes no memory.
     fn end(&mut self, offset: u64, points: u64)
         ensures { (w : Notes) → holds self.old w → holds self.new (note_end offset points w) };
 
-    /// Notes the span of a complete blob of one geometry, of which the caller has noted nothing
-    /// before. Takes memory.
+    /// Notes the only span of a complete blob, that of a geometry without members; nothing may be
+    /// noted before it. Takes memory.
     fn put(&mut self, span: Span) -> Result<(), AllocError>
         ensures { OnOk result (holds self.old no_notes → holds self.new (record { spans = span ∷ []; begun = [] })) };
 }

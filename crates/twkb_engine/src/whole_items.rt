@@ -56,7 +56,7 @@ impl Engine {
     ghost use Rattle.twkb_engine.specs.Standing.{FedBy, IsAhead, LeadsOn, StopsIn, held_in, count_of};
 
     // Takes a blob as `take_root_point` does, if no byte was taken since the start or the last
-    // blob; else it returns 0 and changes nothing.
+    // blob's end; else it returns 0 and changes nothing. The row and the span take memory.
     #[inline(always)]
     pub(crate) fn take_root<S: SpanNotes>(
         &mut self,
@@ -77,10 +77,11 @@ impl Engine {
         self.take_root_point(flat, spans, piece)
     }
 
-    // Takes a blob that is a single point, if it is complete at the start of the piece, its only
-    // optional part, if it has one, is a size of one byte that is exact, and the limits allow a
-    // point. It returns how many bytes the blob has. Otherwise it returns 0, and changes nothing.
-    // The row and the span take memory. It is not inlined, so that its callers have more registers.
+    // Takes a blob of a single point that is complete at the start of the piece, if its header has
+    // a size of one byte that is exact or no optional part, and the limits allow a point. It then
+    // replaces the rows of the form by the point's row, notes the span, goes to the next blob, and
+    // returns how many bytes the blob has. Otherwise it returns 0, and changes nothing. The row and
+    // the span take memory. Not inlined, so that its callers have more registers.
     #[inline(never)]
     fn take_root_point<S: SpanNotes>(
         &mut self,

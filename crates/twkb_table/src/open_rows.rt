@@ -50,7 +50,8 @@ fn write(places: &mut [OpenRow], depth: usize, kind: Kind, has_id: bool)
     }
 }
 
-// Opens a row if its depth has no place yet, or if the places are on the heap.
+// Opens a row as `write` does, if its depth has no place yet or the places are on the heap. Takes
+// memory only for a new place; an `Err` changes nothing.
 #[cold]
 #[inline(never)]
 fn write_apart(
@@ -94,8 +95,8 @@ impl OpenRows {
     }
 
     // Opens a row that was read: rows at its depth and below are complete, its parent gets a child,
-    // and it becomes the last open row. Takes memory if more rows are open than ever before, and
-    // more than sixteen; an `Err` changes nothing.
+    // and it becomes the last open row. Takes memory only if more rows are open than ever before,
+    // and more than sixteen; an `Err` changes nothing.
     #[inline(always)]
     pub(crate) fn open_row(&mut self, row: &Row) -> Result<(), AllocError>
         requires { row.now.depth ≤ length self.old }

@@ -28,7 +28,7 @@ impl<'a, R: Read> TableReader<'a, R> {
     /// Fast path: reads the next geometry if it is known to be a point that is not empty, and
     /// returns its precision and the point, with no flat form. `None` proves nothing and reads
     /// nothing: `next_flat` reads any geometry, and calls of the two may be mixed. Like any
-    /// geometry, the point is returned once the next root was accepted, or at the table's end.
+    /// geometry, the point is returned after the next root was accepted, or at the table's end.
     /// After an `Err` each call returns `Spent`. Takes memory for the reader of `csv`, one record
     /// and one root's points.
     #[inline(always)]

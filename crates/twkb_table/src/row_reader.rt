@@ -63,7 +63,8 @@ impl RowReader {
     }
 
     // Reads a record while no row is open that may have children: before the first geometry, and
-    // after a point. It is the root of the next geometry, and then waits.
+    // after a point. It is the root of the next geometry, and then waits. An `Err` is the first
+    // reason to refuse it, or want of memory for its points.
     #[inline(always)]
     pub(crate) fn read_root(&mut self, here: &ByteRecord) -> Result<(), Stop<RowReason>>
         ensures read { OnOk result (BeginsFirst self.old (fields_of here.now) self.new) }
@@ -113,7 +114,8 @@ impl RowReader {
         self.waiting = None;
     }
 
-    // Moves the root that waits into a flat form, in place of its rows.
+    // Moves the root that waits into a flat form, in place of the form's rows. Takes memory; the
+    // root waits no more, after an `Err` too.
     #[inline(always)]
     pub(crate) fn begin(&mut self, flat: &mut Flat) -> Result<(), AllocError>
         requires waits { 0 < length (waiting self.old) }
@@ -138,8 +140,9 @@ impl RowReader {
         Ok(())
     }
 
-    // Reads a record after the rows of the flat form. A row of the same geometry is appended
-    // there. The root of the next geometry waits, and the answer is `false`.
+    // Reads a record after the rows of the flat form. A row of the same geometry is appended there,
+    // and the answer is `true`; the root of the next geometry waits, and the answer is `false`. An
+    // `Err` is the first reason to refuse the record, or want of memory.
     #[inline(always)]
     pub(crate) fn read_row(
         &mut self,

@@ -65,7 +65,7 @@ impl<'a, R: Read> TableReader<'a, R> {
     }
 
     /// Reads the next geometry into a flat form, in place of its rows, and returns whether there
-    /// was one; after `false` and after an `Err` the form is empty. A geometry is returned once
+    /// was one; after `false` and after an `Err` the form is empty. A geometry is returned after
     /// the next root was accepted, or at the table's end. After the end each call returns
     /// `false`, after an `Err` each call returns `Spent`, and neither reads more. Takes memory
     /// for the reader of `csv`, one record, one root's points, the open rows, and the flat form.
@@ -138,7 +138,8 @@ impl<'a, R: Read> TableReader<'a, R> {
         !self.rows.has_root()
     }
 
-    // Reads the next geometry into a flat form, and builds it.
+    // Reads the next geometry into a flat form, builds it, and returns it; `None` at the table's
+    // end. An `Err` is as with `next_flat`, or `Memory` if there is none for the geometry.
     #[inline(never)]
     fn next_tree(&mut self, flat: &mut Flat) -> Result<Option<Geometry>, TableFault>
         ensures gives { IfOk result (λ found. IfSome found
@@ -270,7 +271,8 @@ impl<'a, R: Read> TableReader<'a, R> {
         Ok(())
     }
 
-    // Reads the root of the first geometry, after the header.
+    // Reads the root of the first geometry, after the header, and returns whether there is one; it
+    // then waits.
     #[inline(never)]
     fn first_root(&mut self) -> Result<bool, TableFault>
         requires begun { 0 < records_read self.old }

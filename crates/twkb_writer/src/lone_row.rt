@@ -58,7 +58,8 @@ fn row_entry(flat: &Flat, style: Style, node: &Node, precision: i8, work: &mut W
     RowTotals::blank().entry_for(style, node.row.kind, precision, node.points, &points)
 }
 
-// Replaces all entries by this one; if there is just one, it is overwritten in place.
+// Replaces all entries by this one; if there is just one, it is overwritten in place. Takes memory
+// for it if they have no room.
 #[inline(always)]
 fn keep_alone(entries: &mut Vec<Entry>, entry: Entry) -> Result<(), AllocError>
     ensures { OnOk result (entries.new.items ≡ entry ∷ []) }
@@ -71,7 +72,8 @@ fn keep_alone(entries: &mut Vec<Entry>, entry: Entry) -> Result<(), AllocError>
     keep(entries, Some(entry), 1)
 }
 
-// Measures a flat form of one row and replaces the entries.
+// Measures a flat form of one row and replaces the entries. Takes memory for its entry if they have
+// no room.
 #[inline(always)]
 pub(crate) fn measure_one(
     flat: &Flat,

@@ -129,8 +129,8 @@ fn take_row(style: Style, node: &Node, points: &TailTotals, by_depth: &mut Depth
     }
 }
 
-// Appends an entry, if there is one. The first one makes room for `most`, so the vector grows only
-// once.
+// Appends an entry, if there is one. The first one takes memory for `most`, if the vector has less,
+// so the vector grows only once.
 #[inline(always)]
 pub(crate) fn keep(
     entries: &mut Vec<Entry>,
@@ -159,7 +159,7 @@ fn before_row(node: &Node, points: TailTotals) -> TailTotals
 }
 
 // Measures the rows of a flat form one by one, from the last to the first, and replaces the
-// entries.
+// entries. Takes memory for the entries if they have too little room.
 fn measure_rows(
     flat: &Flat,
     style: Style,
@@ -187,7 +187,8 @@ fn measure_rows(
     Ok(())
 }
 
-// Measures a flat form and replaces the entries.
+// Measures a flat form and replaces the entries. Takes memory for them if they have too little
+// room.
 #[inline(always)]
 fn measure_entries(
     flat: &Flat,
