@@ -183,16 +183,19 @@ module _ (rs : List Row) (d : Engine) (is : d.next ≡ next.X) (last : d.points_
     -- the answer to it is the answer to the piece
     pub point_fed : {S : Type 0} (holds : S → Notes → Type 0) (m e : Engine) (more : List Row)
         (old new : S) → fields_of m ≡ moved_to d used to d.ids d.members_left d.points_left
-        → held_in d ≡ [] → (answer : Result Bool Stop) → e.limits ≡ m.limits → e.held ≡ m.held
+        → held_in d ≡ [] → (answer : Result Bool Stop) → Keeps m e
         → Lands (past_last m) (point_row to m) m rs answer e more
         → IfOk answer (λ ends. NotesGo holds (notes_past m e ends) m old new)
         → (IsHere m → OnOk answer (IsPlaced e.next e))
-        → FedBy holds d rs old rest (with_used used answer) e more new
-    point_fed holds m e more old new q none answer limits held lands go placed =
-        let same : point_row to m ≡ point_row to d = ap (λ (g : Fields). brought to g.head g.ids) q in
-        ended_fed rs d is none rest to used cut.some cut.within rs (point_row to d) point_read holds m e
-        more old new d.points_left q answer limits held
-        (subst (λ c. Lands (past_last m) c m rs answer e more) same lands) go placed
+        → IsAnswer holds d rs old rest (with_used used answer) e more new
+    point_fed holds m e more old new q none answer kept lands go placed = record {
+      limits = kept.limits ∙ ap (λ (g : Fields). g.limits) q;
+      fed =
+          let same : point_row to m ≡ point_row to d = ap (λ (g : Fields). brought to g.head g.ids) q in
+          ended_fed rs d is none rest to used cut.some cut.within rs (point_row to d) point_read holds m e
+          more old new d.points_left q answer kept.limits kept.held
+          (subst (λ c. Lands (past_last m) c m rs answer e more) same lands) go placed;
+    }
 
 -- all points of the open list were taken, and the ends after them are passed
 pub line_fed : {E : Type 0} (rs base : List Row) (d m e : Engine) (is : d.next ≡ next.X)

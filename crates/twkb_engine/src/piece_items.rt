@@ -13,18 +13,6 @@ use twkb_flat::Flat;
 use twkb_num::Step;
 use twkb_tree::Kind;
 
-// Pairs an item's answer with the number of bytes used; an `Err` stays as it is.
-#[inline(always)]
-fn with_bytes(used: usize, answer: Result<bool, Stop>) -> Result<(usize, bool), Stop>
-    ensures is { result ≡ with_used used answer }
-    ensures some { 0 < used → IfOk result (λ taken. 0 < taken.0) }
-{
-    match answer {
-        Ok(ends) => Ok((used, ends)),
-        Err(stop) => Err(stop),
-    }
-}
-
 impl Engine {
     ghost use Rattle.twkb_tree.specs.Rows.{Row};
     ghost use Rattle.twkb_engine.specs.Caps.{place_cap};
@@ -89,10 +77,10 @@ impl Engine {
     {
         if self.held.len() == 0 {
             if let Some((number, width)) = self.front_item(rest) {
-                return with_bytes(width, self.take(flat, spans, number, width as u64));
+                return Ok((width, self.take(flat, spans, number, width as u64)?));
             }
         }
-        with_bytes(1, self.take_byte(flat, spans, rest[0]))
+        Ok((1, self.take_byte(flat, spans, rest[0])?))
     }
 
     // Takes a point that is in no list, if it is complete and in range, and goes past what ends
@@ -116,7 +104,7 @@ impl Engine {
         };
         self.bytes += used as u64;
         self.position = position;
-        with_bytes(used, self.last_point(flat, spans, position))
+        Ok((used, self.last_point(flat, spans, position)?))
     }
 
     // Takes points of the open list, and does not go past its end. Returns how many bytes they had;
