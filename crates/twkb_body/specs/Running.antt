@@ -1,6 +1,6 @@
 -- Points, members and ids that are read on at the start of bytes, or for which there is no memory.
-use Rattle.std.specs.Prelude.{◌≡◌, ◌+◌, ◌<◌, ◌≤◌, ⊤, ℕ, suc, ℤ, List, [], ◌∷◌, ◌++◌, length, take, Option, Some}
-use Rattle.std.specs.Prelude.{None, Result, Ok, Err}
+use Rattle.std.specs.Prelude.{◌≡◌, ◌+◌, ◌≤◌, ⊤, ℕ, suc, ℤ, List, [], ◌∷◌, ◌++◌, length, take}
+use Rattle.std.specs.Prelude.{Result, Ok, Err}
 use Rattle.twkb_points.specs.Point.{Point}
 use Rattle.twkb_tree.specs.declared.limits.TheConstants.{POINTS_CAP}
 use Rattle.twkb_tree.specs.Tree.{Ids}
@@ -90,14 +90,6 @@ abbrev pub GoesOn : {E : Type 0} → List Row → Point → List ℕ → ℕ →
     → Type 0
 GoesOn rs from bytes most (Ok r) more = ListGoesOn rs from bytes most r.0 r.1 more
 GoesOn rs from bytes most (Err e) more = ListStops rs from most bytes
-
--- what a call answers that takes a few of them, or none if the next is not complete
-abbrev pub TakesFew : {E : Type 0} → List Row → Point → List ℕ → ℕ → Result (Option (Taken × ℕ)) E
-    → List Row → Type 0
-TakesFew rs from bytes most (Ok (Some r)) more = ListGoesOn rs from bytes most r.0 r.1
-    more × (r.1 < most)
-TakesFew rs from bytes most (Ok None) more = more ≡ rs
-TakesFew rs from bytes most (Err e) more = ListStops rs from most bytes
 
 -- the members of a multipoint at this depth that were taken, from these ids on, at most `most`; the
 -- others are left, with those ids

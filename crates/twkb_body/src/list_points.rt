@@ -1,11 +1,11 @@
 //! Points of a list, and members of a multipoint, many at once.
-ghost use Rattle.std.specs.Prelude.{◌≡◌, ◌<◌, ◌≤◌, ◌+◌, length};
+ghost use Rattle.std.specs.Prelude.{◌≡◌, ◌≤◌, ◌+◌, length};
 ghost use Rattle.twkb_tree.specs.declared.limits.TheConstants.{POINTS_CAP, NODES_CAP};
 ghost use Rattle.twkb_tree.specs.Rows.{row_points};
 ghost use Rattle.twkb_tree.specs.RowGrowth.{EndsInLine};
 ghost use Rattle.twkb_flat.specs.Members.{EndsInMember};
 ghost use Rattle.twkb_body.specs.Ids.{ids_of};
-ghost use Rattle.twkb_body.specs.Running.{TakesRow, GoesOn, TakesFew, TakesMembers};
+ghost use Rattle.twkb_body.specs.Running.{TakesRow, GoesOn, TakesMembers};
 
 use crate::member_ids::MemberIds;
 use crate::points::front_point;
@@ -49,63 +49,34 @@ pub fn take_row(
     requires room { length (row_points flat.old) + most ≤ POINTS_CAP }
     ensures { TakesRow flat.old from bytes.now most result flat.new }
 {
-    let mut used = 0;
-    let mut position = from;
-    let mut left = most;
-    let mut pair_bytes = 0;
-    let mut next_look = 0;
+    let (mut used, mut position, mut left) = (0, from, most);
+    // `pair_bytes` is how many bytes the last two points had, or twice those of the last one
+    let (mut pair_bytes, mut next_look) = (0, 0);
     while left > 0 {
+        let rest = &bytes[used..];
         // a block holds no eight points whose numbers have four bytes each
-        if pair_bytes < NEAR && used >= next_look && left >= POINTS && bytes.len() - used >= BLOCK {
-            let (taken, after) = take_eights(flat, position, &bytes[used..], left)?;
-            used += taken.used;
-            position = taken.position;
-            left = after;
+        if pair_bytes < NEAR && used >= next_look && left >= POINTS && rest.len() >= BLOCK {
+            let (taken, after) = take_eights(flat, position, rest, left)?;
+            (used, position, left) = (used + taken.used, taken.position, after);
             next_look = used + if taken.used == 0 { FAR_APART } else { APART };
             continue;
         }
-        match take_few(flat, position, &bytes[used..], left, &mut pair_bytes)? {
-            Some((taken, after)) => {
-                used += taken.used;
-                position = taken.position;
-                left = after;
+        if pair_bytes <= NEAR && left > 1 {
+            if let Some((first, second, width)) = two_points::<Leb128>(position, rest, 0) {
+                flat.add_two(first, second)?;
+                (used, position, left) = (used + width, second, left - 2);
+                pair_bytes = width;
+                continue;
             }
-            None => return Ok((Taken { used, position }, left)),
         }
+        let Some((next, width)) = front_point(position, rest) else {
+            break;
+        };
+        flat.add_point(next)?;
+        (used, position, left) = (used + width, next, left - 1);
+        pair_bytes = width * 2;
     }
     Ok((Taken { used, position }, left))
-}
-
-// Appends the next two points of a list to the last row, or one. Returns what was taken, and how
-// many of `most` are left; `None` if the next is cut, too long or out of range. Takes memory. Two
-// only if their numbers are short, and at the start or after points that lie near: `pair_bytes` is
-// 0 at the start, and becomes how many bytes the two had, or twice those of the one.
-#[inline(always)]
-fn take_few(
-    flat: &mut Flat,
-    from: Pt,
-    bytes: &[u8],
-    most: u64,
-    pair_bytes: &mut usize,
-) -> Result<Option<(Taken, u64)>, AllocError>
-    requires line { EndsInLine flat.old }
-    requires room { length (row_points flat.old) + most ≤ POINTS_CAP }
-    requires some { 0 < most }
-    ensures { TakesFew flat.old from bytes.now most result flat.new }
-{
-    if *pair_bytes <= NEAR && most > 1 {
-        if let Some((first, position, used)) = two_points::<Leb128>(from, bytes, 0) {
-            flat.add_two(first, position)?;
-            *pair_bytes = used;
-            return Ok(Some((Taken { used, position }, most - 2)));
-        }
-    }
-    let Some((position, used)) = front_point(from, bytes) else {
-        return Ok(None);
-    };
-    flat.add_point(position)?;
-    *pair_bytes = used * 2;
-    Ok(Some((Taken { used, position }, most - 1)))
 }
 
 // Appends the points of a list at the start of the bytes to the last row, eight at a time, the

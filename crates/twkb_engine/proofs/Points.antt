@@ -23,9 +23,10 @@ use Rattle.twkb_body.specs.Reading.{sums_past}
 use Rattle.twkb_engine.specs.Collections.{frames_of}
 use Rattle.twkb_engine.specs.Fits.{IsInside, lists_of, has_members}
 use Rattle.twkb_engine.specs.State.{IsHere, IsPlaced, sums_of, outline_in, stage_at, ids_in, body_at}
-use Rattle.twkb_engine.specs.Taking.{Lands, shut_at, last_lists, past_last, point_row}
+use Rattle.twkb_engine.specs.Taking.{Lands, Keeps, shut_at, last_lists, past_last, point_row}
 use Rattle.twkb_engine.specs.Notes.{NotesGo, notes_past, open_in}
-use Rattle.twkb_engine.specs.Standing.{StandsAt, IsAlive, FedBy, IsFed, TakesList, with_used, notes_at, held_in}
+use Rattle.twkb_engine.specs.Standing.{StandsAt, IsAlive, FedBy, IsFed, IsAnswer, TakesList, with_used, notes_at}
+use Rattle.twkb_engine.specs.Standing.{held_in}
 use Rattle.twkb_engine.specs.Stops.{Stop, reason_of}
 use Rattle.twkb_engine.specs.declared.engine.Engine.{Engine}
 use Rattle.twkb_engine.specs.declared.next_item.NextItem.TheVariants as next
@@ -182,28 +183,34 @@ module _ (rs : List Row) (d : Engine) (is : d.next ≡ next.X) (last : d.points_
     -- the answer to it is the answer to the piece
     pub point_fed : {S : Type 0} (holds : S → Notes → Type 0) (m e : Engine) (more : List Row)
         (old new : S) → fields_of m ≡ moved_to d used to d.ids d.members_left d.points_left
-        → held_in d ≡ [] → (answer : Result Bool Stop) → e.limits ≡ m.limits → e.held ≡ m.held
+        → held_in d ≡ [] → (answer : Result Bool Stop) → Keeps m e
         → Lands (past_last m) (point_row to m) m rs answer e more
         → IfOk answer (λ ends. NotesGo holds (notes_past m e ends) m old new)
         → (IsHere m → OnOk answer (IsPlaced e.next e))
-        → FedBy holds d rs old rest (with_used used answer) e more new
-    point_fed holds m e more old new q none answer limits held lands go placed =
-        let same : point_row to m ≡ point_row to d = ap (λ (g : Fields). brought to g.head g.ids) q in
-        ended_fed rs d is none rest to used cut.some cut.within rs (point_row to d) point_read holds m e
-        more old new d.points_left q answer limits held
-        (subst (λ c. Lands (past_last m) c m rs answer e more) same lands) go placed
+        → IsAnswer holds d rs old rest (with_used used answer) e more new
+    point_fed holds m e more old new q none answer kept lands go placed = record {
+      limits = kept.limits ∙ ap (λ (g : Fields). g.limits) q;
+      fed =
+          let same : point_row to m ≡ point_row to d = ap (λ (g : Fields). brought to g.head g.ids) q in
+          ended_fed rs d is none rest to used cut.some cut.within rs (point_row to d) point_read holds m e
+          more old new d.points_left q answer kept.limits kept.held
+          (subst (λ c. Lands (past_last m) c m rs answer e more) same lands) go placed;
+    }
 
 -- all points of the open list were taken, and the ends after them are passed
 pub line_fed : {E : Type 0} (rs base : List Row) (d m e : Engine) (is : d.next ≡ next.X)
     → 0 < d.points_left → held_in d ≡ [] → {rest : List ℕ} {used : ℕ}
     → TakesList {E = E} rs d rest (Ok used) base m → m.points_left ≡ 0
     → {S : Type 0} (holds : S → Notes → Type 0) (old new : S) (answer : Result Bool Stop)
-    → e.limits ≡ m.limits → e.held ≡ m.held → Lands (past_last m) Nothing m base answer e base
+    → Keeps m e → Lands (past_last m) Nothing m base answer e base
     → IfOk answer (λ ends. NotesGo holds (notes_past m e ends) m old new)
     → (IsHere m → OnOk answer (IsPlaced e.next e))
-    → FedBy holds d rs old rest (with_used used answer) e base new
-line_fed rs base d m e is some none {rest} {used} t last holds old new answer limits held lands go placed =
-    let taken : 0 < used = omega (arith, some, t.long, last) in
-    ended_fed rs d is none rest m.position used taken t.within base Nothing
-    (list_read rs d is some none base used m.points_left m.position rest last t.run) holds m e base
-    old new m.points_left (moved_fields t.stays t.moves) answer limits held lands go placed
+    → IsAnswer holds d rs old rest (with_used used answer) e base new
+line_fed rs base d m e is some none {rest} {used} t last holds old new answer kept lands go placed = record {
+  limits = kept.limits ∙ t.stays.limits;
+  fed =
+      let taken : 0 < used = omega (arith, some, t.long, last) in
+      ended_fed rs d is none rest m.position used taken t.within base Nothing
+      (list_read rs d is some none base used m.points_left m.position rest last t.run) holds m e base
+      old new m.points_left (moved_fields t.stays t.moves) answer kept.limits kept.held lands go placed;
+}

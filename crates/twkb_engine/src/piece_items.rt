@@ -13,18 +13,6 @@ use twkb_flat::Flat;
 use twkb_num::Step;
 use twkb_tree::Kind;
 
-// Pairs an item's answer with the number of bytes used; an `Err` stays as it is.
-#[inline(always)]
-fn with_bytes(used: usize, answer: Result<bool, Stop>) -> Result<(usize, bool), Stop>
-    ensures is { result ≡ with_used used answer }
-    ensures some { 0 < used → IfOk result (λ taken. 0 < taken.0) }
-{
-    match answer {
-        Ok(ends) => Ok((used, ends)),
-        Err(stop) => Err(stop),
-    }
-}
-
 impl Engine {
     ghost use Rattle.twkb_tree.specs.Rows.{Row};
     ghost use Rattle.twkb_engine.specs.Caps.{place_cap};
@@ -90,58 +78,10 @@ impl Engine {
     {
         if self.held.len() == 0 {
             if let Some((number, width)) = self.front_item(rest) {
-                return with_bytes(width, self.take(flat, spans, number, width as u64));
+                return Ok((width, self.take(flat, spans, number, width as u64)?));
             }
         }
-        with_bytes(1, self.take_byte(flat, spans, rest[0]))
-    }
-
-    // Takes points when an x comes next: many of the open list; if none is open, many members of a
-    // multipoint, but not the last; if it takes no member, one point. Returns how many bytes were
-    // taken, or 0, and whether the blob ends with them.
-    #[inline(always)]
-    fn take_points<S: SpanNotes>(
-        &mut self,
-        flat: &mut Flat,
-        spans: &mut S,
-        rest: &[u8],
-    ) -> Result<(usize, bool), Stop>
-        requires next { self.old.next ≡ X }
-        requires alone { held_in self.old ≡ [] }
-        requires ready { IsReady flat.old self.old (length rest.now) }
-        ensures { IsAnswer S.holds self.old flat.old spans.old rest.now result self.new flat.new spans.new }
-    {
-        if self.points_left > 0 {
-            return self.take_line(flat, spans, rest);
-        }
-        let used = self.take_others(flat, rest)?;
-        if used > 0 {
-            return Ok((used, false));
-        }
-        self.take_point(flat, spans, rest)
-    }
-
-    // Takes points of the open list, and after its last one goes past what ends with it. Returns how
-    // many bytes were taken, or 0, and whether the blob ends with them. The points take memory.
-    #[inline(always)]
-    fn take_line<S: SpanNotes>(
-        &mut self,
-        flat: &mut Flat,
-        spans: &mut S,
-        rest: &[u8],
-    ) -> Result<(usize, bool), Stop>
-        requires next { self.old.next ≡ X }
-        requires some { 0 < self.old.points_left }
-        requires alone { held_in self.old ≡ [] }
-        requires ready { IsReady flat.old self.old (length rest.now) }
-        ensures { IsAnswer S.holds self.old flat.old spans.old rest.now result self.new flat.new spans.new }
-    {
-        let used = self.take_list(flat, rest)?;
-        if self.points_left > 0 {
-            return Ok((used, false));
-        }
-        let ends = self.end_points(spans)?;
-        Ok((used, ends))
+        Ok((1, self.take_byte(flat, spans, rest[0])?))
     }
 
     // Takes a point that is a geometry or a member itself, and goes past what ends with it. Returns
@@ -166,7 +106,7 @@ impl Engine {
         };
         self.bytes += used as u64;
         self.position = position;
-        with_bytes(used, self.last_point(flat, spans, position))
+        Ok((used, self.last_point(flat, spans, position)?))
     }
 
     // Takes points of the open list of points, and does not go past its end. Returns how many bytes
@@ -215,20 +155,6 @@ impl Engine {
         Ok(taken.used)
     }
 
-    // Takes members as `take_members` does, if any are left after the open one; else it returns 0.
-    #[inline(always)]
-    fn take_others(&mut self, flat: &mut Flat, rest: &[u8]) -> Result<usize, AllocError>
-        requires { IsAhead X self.old (length rest.now) }
-        ensures taken { TakesMany flat.old self.old rest.now result flat.new self.new }
-        ensures next { self.new.next ≡ self.old.next }
-        ensures lists { self.new.points_left ≡ self.old.points_left }
-    {
-        if self.members_left == 0 {
-            return Ok(0);
-        }
-        self.take_members(flat, rest)
-    }
-
     // Takes ids, but not the last, and returns how many bytes they had; 0 if the next is the last,
     // or is cut or too long. Takes memory.
     #[inline(never)]
@@ -243,30 +169,6 @@ impl Engine {
         let used = self.ids.take(rest, most)?;
         self.bytes += used as u64;
         Ok(used)
-    }
-
-    // Takes a header, ids or points that are complete at the start of the bytes, if these come next
-    // and no byte of a number is held. Returns how many bytes were taken, or 0, and whether the
-    // blob ends with them.
-    #[inline(always)]
-    fn take_many<S: SpanNotes>(
-        &mut self,
-        flat: &mut Flat,
-        spans: &mut S,
-        rest: &[u8],
-    ) -> Result<(usize, bool), Stop>
-        requires { IsReady flat.old self.old (length rest.now) }
-        ensures { IsAnswer S.holds self.old flat.old spans.old rest.now result self.new flat.new spans.new }
-    {
-        if self.held.len() > 0 {
-            return Ok((0, false));
-        }
-        match self.next {
-            NextItem::TypeByte => Ok((self.take_header(spans, rest)?, false)),
-            NextItem::Id => Ok((self.take_ids(rest)?, false)),
-            NextItem::X => self.take_points(flat, spans, rest),
-            _ => Ok((0, false)),
-        }
     }
 
     // Takes the next bytes of a piece, one at least: many items at once, or else one item or one
@@ -284,7 +186,27 @@ impl Engine {
         ensures some { IfOk result (λ taken. 0 < taken.0) }
         ensures answer { IsAnswer S.holds self.old flat.old spans.old rest.now result self.new flat.new spans.new }
     {
-        let taken = self.take_many(flat, spans, rest)?;
+        if self.held.len() > 0 {
+            return self.take_item(flat, spans, rest);
+        }
+        let taken = match self.next {
+            NextItem::TypeByte => (self.take_header(spans, rest)?, false),
+            NextItem::Id => (self.take_ids(rest)?, false),
+            NextItem::X if self.points_left > 0 => {
+                let used = self.take_list(flat, rest)?;
+                (used, self.points_left == 0 && self.end_points(spans)?)
+            }
+            NextItem::X => {
+                if self.members_left > 0 {
+                    let used = self.take_members(flat, rest)?;
+                    if used > 0 {
+                        return Ok((used, false));
+                    }
+                }
+                self.take_point(flat, spans, rest)?
+            }
+            _ => (0, false),
+        };
         if taken.0 > 0 {
             return Ok(taken);
         }

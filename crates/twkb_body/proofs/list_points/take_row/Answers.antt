@@ -1,7 +1,7 @@
-use Rattle.std.proofs.Common.{sym, subst}
-use Rattle.twkb_body.specs.Running.{ListLeads, TakesRow}
+use Rattle.twkb_body.specs.Running.{TakesRow}
 use Rattle.twkb_body.proofs.PointRuns.{err_only}
-use Rattle.twkb_body.proofs.PointLists.{list_none, list_on, list_stops_on}
+use Rattle.twkb_body.proofs.PointLists.{list_none, list_on, list_stops_on, list_one, list_one_stop}
+use Rattle.twkb_body.proofs.PointLists.{list_two, list_two_stop}
 use Rattle.twkb_body.proofs.list_points.take_row.Goals as goal
 
 pub loop-left-init : goal.loop-left-init
@@ -14,26 +14,35 @@ returns-in_err-taken c =
     c.take_eights.new.flat) _ c.from_residual.ensures.0
     (λ e. list_stops_on c.loop-left.invariant c.in_err-taken.ensures)
 
-pub loop-left-preserved-then-bytes-used-ge-BLOCK : goal.loop-left-preserved-then-bytes-used-ge-BLOCK
-loop-left-preserved-then-bytes-used-ge-BLOCK c = list_on c.loop-left.invariant c.in_ok-taken.ensures
+pub loop-left-preserved-then-rest-ge-BLOCK : goal.loop-left-preserved-then-rest-ge-BLOCK
+loop-left-preserved-then-rest-ge-BLOCK c = list_on c.loop-left.invariant c.in_ok-taken.ensures
 
-pub returns-in_err-taken-2 : goal.returns-in_err-taken-2
-returns-in_err-taken-2 c =
+pub returns-in_err-add_two : goal.returns-in_err-add_two
+returns-in_err-add_two c =
     err_only (λ r. TakesRow c.args.flat.now c.args.from c.args.bytes.now c.args.most r
-    c.take_few.new.flat) _ c.from_residual-in_err-taken-2.ensures.0
-    (λ e. list_stops_on c.loop-left.invariant c.in_err-taken-2.ensures)
+    c.add_two.new.self) _ c.from_residual-in_err-add_two.ensures.0
+    (λ e. list_stops_on c.loop-left.invariant (list_two_stop c.if-left-gt1.true c.in-Some.ensures))
+
+pub loop-left-preserved-in-Some : goal.loop-left-preserved-in-Some
+loop-left-preserved-in-Some c =
+    let so_far = c.loop-left.invariant in
+    list_on so_far
+    (list_two so_far.line so_far.room c.if-left-gt1.true c.in-Some.ensures c.in_ok-add_two.ensures.added)
+
+pub returns-in_err-add_point : goal.returns-in_err-add_point
+returns-in_err-add_point c =
+    err_only (λ r. TakesRow c.args.flat.now c.args.from c.args.bytes.now c.args.most r
+    c.add_point.new.self) _ c.from_residual-in_err-add_point.ensures.0
+    (λ e. list_stops_on c.loop-left.invariant
+    (list_one_stop c.loop-left.flat c.loop-left.left _ c.loop-left.position _ _ c.loop-left-test.true
+    c.in-Some-front_point.ensures))
 
 pub loop-left-preserved : goal.loop-left-preserved
 loop-left-preserved c =
-    let few = rw c.in-Some.is at c.in_ok-taken-2.ensures in
-    list_on c.loop-left.invariant few.0
-
-pub returns-in-None : goal.returns-in-None
-returns-in-None c =
-    let same = rw c.in-None.is at c.in_ok-taken-2.ensures in
-    subst (λ rows. ListLeads c.args.flat.now c.args.from c.args.bytes.now c.args.most
-    (record { used = c.loop-left.used; position = c.loop-left.position }) c.loop-left.left rows)
-    (sym same) c.loop-left.invariant.leads
+    let so_far = c.loop-left.invariant in
+    list_on so_far
+    (list_one so_far.line so_far.room c.loop-left-test.true c.in-Some-front_point.ensures
+    c.in_ok-add_point.ensures.added)
 
 pub returns : goal.returns
 returns c = c.loop-left.invariant.leads
