@@ -1,10 +1,7 @@
 //! The units of both alphabets. Vectors of numbers are those of the program `vectors`.
 ghost use Rattle.std.specs.Prelude.{◌<◌, ◌^◌};
 
-use twkb_num::{
-    Five, Four, Groups, Leb128, Piece, character_ends, four_characters, four_varints, varint_ends,
-    zigzag,
-};
+use twkb_num::{Five, Four, Groups, Leb128, Piece, character_ends, four_at, varint_ends, zigzag};
 
 // Whether this is the unit of a group that says that more follow, both ways, and the alphabet has
 // groups of this many bits and spellings of at most this many units.
@@ -45,13 +42,14 @@ fn are_in_front(found: Option<Four>, numbers: [i64; 4], used: usize) -> bool {
 #[test]
 fn four_numbers_stand_in_front(rt: HostRuntime) {
     let are_steps = are_in_front(
-        four_varints(STEPS),
+        four_at::<Leb128>(STEPS, 0),
         [-12020000, 3850000, -75000, 220000],
         14,
     );
-    let are_first = are_in_front(four_characters(TEXT, 0), [1, 1, 4, 4], 4);
-    let are_later = are_in_front(four_characters(TEXT, 8), [1, 1, 4, 4], 4);
-    assert!(rt; are_steps & are_first & are_later & four_varints(b"\x02\x02\x08\x08").is_none());
+    let are_first = are_in_front(four_at::<Five>(TEXT, 0), [1, 1, 4, 4], 4);
+    let are_later = are_in_front(four_at::<Five>(TEXT, 8), [1, 1, 4, 4], 4);
+    let are_few = four_at::<Leb128>(b"\x02\x02\x08\x08", 0).is_none();
+    assert!(rt; are_steps & are_first & are_later & are_few);
 }
 
 // The table of the Protocol Buffers documentation, to which the TWKB specification refers for zigzag.

@@ -8,9 +8,11 @@ use Rattle.std.proofs.lemmas.Bool.{cases_lt, lt-ltb, le-ltb}
 use Rattle.std.proofs.lemmas.List.{drop-map, take-map, drop-drop, get_or-drop, length-drop}
 use Rattle.std.proofs.lemmas.List.{drop-take, length-map, length-take, map-append, take-take}
 use Rattle.std.proofs.lemmas.Nat.{mod_below, mul-le}
-use Rattle.twkb_num.specs.Four.{unit_over, number_in_front, run_of, FourInFront}
+use Rattle.twkb_num.specs.Four.{number_in_front, run_of, FourInFront}
 use Rattle.twkb_num.specs.Block.{AreUnits}
-use Rattle.twkb_num.specs.Alphabet.{leb_unit}
+use Rattle.twkb_num.specs.Alphabet.{leb_unit, unit_over, IsNumbered}
+use Rattle.twkb_num.specs.AlphabetLemmas.{leb_numbered}
+use Rattle.twkb_num.specs.declared.alphabet.Alphabet.{Alphabet}
 use Rattle.twkb_num.specs.Digits.{digits}
 use Rattle.twkb_num.specs.Spelling.{shortest, units_of}
 use Rattle.twkb_num.proofs.FourLemmas.{marks_of, number_spelled}
@@ -202,23 +204,22 @@ units_same unit other same (d ∷ []) = ap (λ u. u ∷ []) (same d false)
 units_same unit other same (d ∷ e ∷ ds) = ap (λ u. u ∷ units_of unit (e ∷ ds)) (same d true)
     ∙ ap (λ us. other d true ∷ us) (units_same unit other same (e ∷ ds))
 
--- units over base 0 are the bytes of varints
-leb_same : (d : ℕ) (more : Bool) → unit_over 0 128 d more ≡ leb_unit d more
-leb_same d true = omega arith
-leb_same d false = omega arith
-
 -- the shortest spelling over base 0 is the shortest varint
 pub leb_spelled : (n : ℕ) → shortest (unit_over 0 128) 128 n ≡ shortest leb_unit 128 n
-leb_spelled n = units_same (unit_over 0 128) leb_unit leb_same (digits 128 n)
+leb_spelled n = sym (units_same leb_unit (unit_over 0 128) leb_numbered.units (digits 128 n))
 
--- four numbers found over base 0 are four varints
-pub four_as_varints : (bytes : List ℕ) (a b c d count : ℕ)
-    → FourInFront (unit_over 0 128) 128 bytes a b c d count
-    → FourInFront leb_unit 128 bytes a b c d count
-four_as_varints bytes a b c d count found =
+-- four numbers found by the base and the radix of an alphabet are four in its units
+pub four_in_units : (unit : ℕ → Bool → ℕ) (alphabet : Alphabet) → IsNumbered unit alphabet
+    → (bytes : List ℕ) (a b c d count : ℕ)
+    → FourInFront (unit_over alphabet.base alphabet.radix) alphabet.radix bytes a b c d count
+    → FourInFront unit alphabet.radix bytes a b c d count
+four_in_units unit alphabet numbered bytes a b c d count found =
+    let over = unit_over alphabet.base alphabet.radix in
+    let same : (n : ℕ) → shortest unit alphabet.radix n ≡ shortest over alphabet.radix n =
+    λ n. units_same unit over numbered.units (digits alphabet.radix n) in
     record {
       within = found.within;
-      spelled = rw (sym (leb_spelled a), sym (leb_spelled b), sym (leb_spelled c), sym (leb_spelled d)) found.spelled;
+      spelled = rw (same a, same b, same c, same d) found.spelled;
       first_small = found.first_small;
       second_small = found.second_small;
       third_small = found.third_small;

@@ -5,7 +5,8 @@ use Rattle.std.specs.Prelude.{nat_lt}
 use Rattle.std.proofs.Math.Nat.{mod-eq_of_lt, mul-le-mul_left}
 use Rattle.std.proofs.lemmas.Bool.{cases_lt, lt-ltb, le-ltb}
 use Rattle.std.proofs.lemmas.Nat.{mod_below}
-use Rattle.twkb_num.specs.Four.{unit_over, number_in_front, run_of}
+use Rattle.twkb_num.specs.Alphabet.{unit_over}
+use Rattle.twkb_num.specs.Four.{number_in_front, run_of}
 use Rattle.twkb_num.specs.Spelling.{shortest}
 use Rattle.twkb_num.proofs.DigitLemmas.{low_digit, high_digits}
 use Rattle.twkb_num.proofs.SpellingLemmas.{shortest_one, shortest_more}

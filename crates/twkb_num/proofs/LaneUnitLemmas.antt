@@ -9,7 +9,7 @@ use Rattle.std.specs.Prelude.{nat_le}
 use Rattle.std.proofs.Math.Nat.{mod-eq_of_lt, div-eq_of_lt, pow-suc, pow-zero, one-le-pow}
 use Rattle.std.proofs.lemmas.Bool.{cases_lt, le-leb, lt-leb}
 use Rattle.std.proofs.lemmas.Nat.{div_below, mod_below}
-use Rattle.twkb_num.specs.Four.{unit_over}
+use Rattle.twkb_num.specs.Alphabet.{unit_over}
 use Rattle.twkb_num.specs.Shuffles.{units_within, lane_units, groups_after}
 use Rattle.twkb_num.specs.Spelling.{shortest}
 use Rattle.twkb_num.proofs.WordLemmas.{digits-number, four_words, word_of}

@@ -7,7 +7,7 @@ use lib.ListN.{replicate}
 use mathlib.Core.Bool.{cond}
 use Rattle.std.proofs.lemmas.Simd.{swz_l, SwzOk, tops_compared, zip2_splat_left}
 use Rattle.twkb_num.specs.Alphabet.{leb_unit}
-use Rattle.twkb_num.specs.Four.{unit_over}
+use Rattle.twkb_num.specs.Alphabet.{unit_over}
 use Rattle.twkb_num.specs.Shuffles.{lane_units, groups_after, marks_of_two, shuffle_of, AreSpelled}
 use Rattle.twkb_num.proofs.FoundLemmas.{leb_spelled}
 use Rattle.twkb_num.proofs.LaneUnitLemmas.{units_spell, marks_are, few_groups}

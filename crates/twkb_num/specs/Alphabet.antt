@@ -1,7 +1,8 @@
 -- Alphabets of units, each of which stands for a group of bits and says whether more units follow:
 -- their laws, and our two alphabets.
-use Rattle.std.specs.Prelude.{◌≡◌, ℕ, ◌+◌, ◌-◌, ◌<◌, ◌≤◌, ◌^◌, Bool, true, false, Option, Some}
-use Rattle.std.specs.Prelude.{None, if◌then◌else◌, nat_lt}
+use Rattle.std.specs.Prelude.{◌≡◌, ℕ, ◌+◌, ◌-◌, ◌*◌, ◌<◌, ◌≤◌, ◌^◌, ◌⊎◌, Bool, true, false, Option}
+use Rattle.std.specs.Prelude.{Some, None, if◌then◌else◌, nat_lt}
+use Rattle.twkb_num.specs.declared.alphabet.Alphabet.{Alphabet}
 
 -- the laws of an alphabet
 pub record AlphabetLaws (bits longest : ℕ) (unit : ℕ → Bool → ℕ) (group : ℕ → Option (ℕ × Bool)) : Type 0 where
@@ -16,6 +17,21 @@ pub record AlphabetLaws (bits longest : ℕ) (unit : ℕ → Bool → ℕ) (grou
   pub read_back : (d : ℕ) (more : Bool) → d < 2 ^ bits → group (unit d more) ≡ Some (d, more)
   pub below : (u d : ℕ) (more : Bool) → u < 256 → group u ≡ Some (d, more) → d < 2 ^ bits
   pub written_back : (u d : ℕ) (more : Bool) → u < 256 → group u ≡ Some (d, more) → unit d more ≡ u
+
+-- the unit of a group in an alphabet that begins at `base`; it is `radix` higher if more follow
+abbrev pub unit_over : ℕ → ℕ → ℕ → Bool → ℕ
+unit_over base radix d more = (if more then d + radix else d) + base
+
+-- the number of groups in the alphabet of varints, or in that of polylines
+abbrev pub IsRadix : ℕ → Type 0
+IsRadix radix = (radix ≡ 128) ⊎ (radix ≡ 32)
+
+-- the units of an alphabet are bytes, numbered by its base and its radix
+pub record IsNumbered (unit : ℕ → Bool → ℕ) (alphabet : Alphabet) : Type 0 where
+  pub known : IsRadix alphabet.radix
+  pub bound : alphabet.most + 1 ≡ 2 * alphabet.radix
+  pub in_bytes : alphabet.most + alphabet.base < 256
+  pub units : (d : ℕ) (more : Bool) → unit d more ≡ unit_over alphabet.base alphabet.radix d more
 
 -- a varint's byte: seven bits, and 128 if more follow (TWKB specification; LEB128)
 abbrev pub leb_unit : ℕ → Bool → ℕ

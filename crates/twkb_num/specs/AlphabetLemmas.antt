@@ -1,9 +1,11 @@
 -- Proofs that our two alphabets keep the laws. They are in specs/ because the code cites them, and
 -- code can't cite proofs/.
-use Rattle.std.proofs.Common.{◌≡◌, ℕ, ◌<◌, ◌^◌, Bool, true, false, arith, lit<, lit≤}
+use Rattle.std.proofs.Common.{◌≡◌, ℕ, ◌<◌, ◌^◌, Bool, true, false, arith, inl, inr, lit<, lit≤, refl}
 use Rattle.std.proofs.lemmas.Grind.{common_steps}
 use Rattle.std.specs.Prelude.{Some}
-use Rattle.twkb_num.specs.Alphabet.{AlphabetLaws, leb_unit, leb_group, five_unit, five_group}
+use Rattle.twkb_num.specs.Alphabet.{AlphabetLaws, IsNumbered, leb_unit, leb_group, five_unit}
+use Rattle.twkb_num.specs.Alphabet.{five_group, unit_over}
+use Rattle.twkb_num.specs.declared.alphabet.TheConstants.{VARINTS, POLYLINES}
 
 -- a unit is a byte
 leb_is_byte : (d : ℕ) (more : Bool) → d < 2 ^ 7 → leb_unit d more < 256
@@ -38,6 +40,15 @@ leb_laws = record {
   written_back = leb_written_back;
 }
 
+-- a byte is the group, and 128 if more follow
+leb_over : (d : ℕ) (more : Bool) → leb_unit d more ≡ unit_over 0 128 d more
+leb_over d true = omega arith
+leb_over d false = omega arith
+
+-- the bytes of varints are numbered
+pub leb_numbered : IsNumbered leb_unit VARINTS
+leb_numbered = record { known = inl refl; bound = refl; in_bytes = lit< tt; units = leb_over }
+
 -- a unit is a byte
 five_is_byte : (d : ℕ) (more : Bool) → d < 2 ^ 5 → five_unit d more < 256
 five_is_byte d true h = omega arith
@@ -70,3 +81,7 @@ five_laws = record {
   below = five_below;
   written_back = five_written_back;
 }
+
+-- the characters of polylines are numbered
+pub five_numbered : IsNumbered five_unit POLYLINES
+five_numbered = record { known = inr refl; bound = refl; in_bytes = lit< tt; units = λ d more. refl }

@@ -3,7 +3,8 @@ use Rattle.std.specs.Prelude.{◌≡◌, ℕ, zero, suc, ◌+◌, ◌*◌, ◌/�
 use Rattle.std.specs.Prelude.{false, List, [], ◌∷◌, ◌++◌, length, take, nat_le, if◌then◌else◌}
 use Rattle.std.specs.Int.{w32, cast_unsigned}
 use Rattle.twkb_num.specs.Spelling.{shortest}
-use Rattle.twkb_num.specs.Zigzag.{unzigzag_of}
+use Rattle.twkb_num.specs.Zigzag.{unzigzag_of, zigzag_of}
+use Rattle.twkb_num.specs.declared.four.Four.{Four}
 
 -- the first `count` units are the shortest spellings of four numbers, one after the other, of at
 -- most 28 bits each
@@ -16,9 +17,10 @@ pub record FourInFront (unit : ℕ → Bool → ℕ) (base : ℕ) (units : List 
   pub third_small : c < 2 ^ 28
   pub fourth_small : d < 2 ^ 28
 
--- the unit of a group in an alphabet that begins at `base`; it is `radix` higher if more follow
-abbrev pub unit_over : ℕ → ℕ → ℕ → Bool → ℕ
-unit_over base radix d more = (if more then d + radix else d) + base
+-- the first units are the shortest spellings of the zigzag forms of four signed numbers
+abbrev pub SignedInFront : (ℕ → Bool → ℕ) → ℕ → List ℕ → Four → Type 0
+SignedInFront unit base units f = FourInFront unit base units (zigzag_of f.first) (zigzag_of f.second)
+    (zigzag_of f.third) (zigzag_of f.fourth) f.used
 
 -- the number whose groups are those of the first unit and of `more` units after it, low group first
 abbrev pub number_in_front : ℕ → ℕ → List ℕ → ℕ

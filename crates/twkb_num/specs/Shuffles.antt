@@ -1,7 +1,7 @@
 -- The units of two numbers, each number's in four bytes, and the shuffle that brings them together.
 use Rattle.std.specs.Prelude.{◌≡◌, ℕ, zero, suc, ◌+◌, ◌*◌, ◌/◌, ◌%◌, ◌-◌, ◌≤◌, ◌^◌, Bool, List, []}
 use Rattle.std.specs.Prelude.{◌∷◌, ◌++◌, take, drop, nat_le, if◌then◌else◌}
-use Rattle.twkb_num.specs.Four.{unit_over}
+use Rattle.twkb_num.specs.Alphabet.{unit_over}
 use Rattle.twkb_num.specs.Spelling.{shortest}
 
 -- the lowest `count` groups of n, each as a unit that says whether n has bits above it

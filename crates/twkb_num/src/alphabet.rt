@@ -27,15 +27,15 @@ pub const LAST_END: u8 = FIRST_OPEN - 1;
 /// The last character of the alphabet.
 pub const LAST_CHARACTER: u8 = LAST_END + CHARACTER_GOES_ON;
 
-// How the units of an alphabet are numbered.
+/// How the units of an alphabet are numbered.
 #[derive(Clone, Copy)]
-pub(crate) struct Alphabet {
-    // The unit of the group 0, if no unit follows.
-    pub(crate) base: u8,
-    // The number of groups. A unit after which more follow is greater by this number.
-    pub(crate) radix: u8,
-    // The difference between the greatest unit and `base`.
-    pub(crate) most: u8,
+pub struct Alphabet {
+    /// The unit of the group 0, if no unit follows.
+    pub base: u8,
+    /// The number of groups. A unit after which more follow is greater by this number.
+    pub radix: u8,
+    /// The difference between the greatest unit and `base`.
+    pub most: u8,
 }
 
 // The bytes of varints (TWKB specification; LEB128).

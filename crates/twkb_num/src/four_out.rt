@@ -1,8 +1,7 @@
 //! Four numbers spelled at once, with no branch on their lengths: tracks mix numbers of one, two
 //! and three units, so such a branch can't be predicted.
-ghost use Rattle.std.specs.Prelude.{◌≡◌, ◌≤◌, ◌<◌, ◌+◌, ◌++◌, ◌*◌, ◌^◌, ◌⊎◌};
-ghost use Rattle.twkb_num.specs.Alphabet.{five_unit, leb_unit};
-ghost use Rattle.twkb_num.specs.Four.{unit_over};
+ghost use Rattle.std.specs.Prelude.{◌≡◌, ◌≤◌, ◌<◌, ◌+◌, ◌++◌, ◌*◌, ◌^◌};
+ghost use Rattle.twkb_num.specs.Alphabet.{five_unit, leb_unit, unit_over, IsRadix};
 ghost use Rattle.twkb_num.specs.Shuffles.{lane_units, AreSpelled};
 
 use crate::alphabet::{Alphabet, POLYLINES, VARINTS};
@@ -51,7 +50,7 @@ pub(crate) fn as_characters(first: u32, second: u32, third: u32, fourth: u32) ->
 // The units of four numbers in an alphabet.
 #[inline(always)]
 fn spelled(first: u32, second: u32, third: u32, fourth: u32, alphabet: Alphabet) -> FourUnits
-    requires known { (alphabet.radix ≡ 128) ⊎ (alphabet.radix ≡ 32) }
+    requires known { IsRadix alphabet.radix }
     requires in_bytes { alphabet.base + 2 * alphabet.radix ≤ 256 }
     requires first_small { first < alphabet.radix ^ 4 }
     requires second_small { second < alphabet.radix ^ 4 }
@@ -77,7 +76,7 @@ fn spelled(first: u32, second: u32, third: u32, fourth: u32, alphabet: Alphabet)
 // The units of four numbers, four bytes for each number.
 #[inline(always)]
 fn lanes(first: u32, second: u32, third: u32, fourth: u32, alphabet: Alphabet) -> u8x16
-    requires known { (alphabet.radix ≡ 128) ⊎ (alphabet.radix ≡ 32) }
+    requires known { IsRadix alphabet.radix }
     requires in_bytes { alphabet.base + 2 * alphabet.radix ≤ 256 }
     requires first_small { first < alphabet.radix ^ 4 }
     requires second_small { second < alphabet.radix ^ 4 }

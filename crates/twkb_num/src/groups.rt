@@ -1,10 +1,13 @@
 //! Alphabets, in which numbers are spelled by groups of bits.
 ghost use Rattle.std.specs.Prelude.{◌≡◌, ℕ, ◌<◌, ◌^◌, Bool, Option};
-ghost use Rattle.twkb_num.specs.Alphabet.{AlphabetLaws, leb_unit, leb_group, five_unit, five_group};
-ghost use Rattle.twkb_num.specs.AlphabetLemmas.{leb_laws, five_laws};
+ghost use Rattle.twkb_num.specs.Alphabet.{AlphabetLaws, IsNumbered, leb_unit, leb_group, five_unit, five_group};
+ghost use Rattle.twkb_num.specs.declared.alphabet.Alphabet.{Alphabet};
+ghost use Rattle.twkb_num.specs.declared.alphabet.TheConstants.{POLYLINES, VARINTS};
+ghost use Rattle.twkb_num.specs.AlphabetLemmas.{leb_laws, leb_numbered, five_laws, five_numbered};
 
 use crate::alphabet::{
-    CHARACTER_BITS, FIRST_CHARACTER, FIRST_OPEN, GOES_ON, LAST_CHARACTER, LAST_END, VARINT_BITS,
+    Alphabet, CHARACTER_BITS, FIRST_CHARACTER, FIRST_OPEN, GOES_ON, LAST_CHARACTER, LAST_END,
+    POLYLINES, VARINT_BITS, VARINTS,
 };
 
 /// An alphabet that spells numbers of 64 bits by groups of bits, low group first. Each unit is a
@@ -19,6 +22,11 @@ pub trait Groups {
     const MAX_LEN: usize;
 
     ghost MAX_LEN: { ℕ };
+
+    /// How the units are numbered.
+    const ALPHABET: Alphabet;
+
+    ghost ALPHABET: { Alphabet };
 
     /// The unit for a group and a mark that says whether more follow.
     ghost unit_of: { ℕ → Bool → ℕ };
@@ -37,6 +45,8 @@ pub trait Groups {
         ensures { result ≡ group_of unit };
 
     ghost laws: { AlphabetLaws BITS MAX_LEN unit_of group_of };
+
+    ghost numbered: { IsNumbered unit_of ALPHABET };
 }
 
 /// The bytes of varints: seven bits each, 128 added if more follow (TWKB specification; LEB128).
@@ -51,6 +61,10 @@ impl Groups for Leb128 {
     const MAX_LEN: usize = 10;
 
     ghost MAX_LEN = { 10 };
+
+    const ALPHABET: Alphabet = VARINTS;
+
+    ghost ALPHABET = { VARINTS };
 
     ghost unit_of = { leb_unit };
 
@@ -69,6 +83,8 @@ impl Groups for Leb128 {
     }
 
     ghost laws = { leb_laws };
+
+    ghost numbered = { leb_numbered };
 }
 
 /// The characters `?` to `~` of encoded polylines: five bits each, plus 32 if more follow, plus
@@ -84,6 +100,10 @@ impl Groups for Five {
     const MAX_LEN: usize = 13;
 
     ghost MAX_LEN = { 13 };
+
+    const ALPHABET: Alphabet = POLYLINES;
+
+    ghost ALPHABET = { POLYLINES };
 
     ghost unit_of = { five_unit };
 
@@ -106,4 +126,6 @@ impl Groups for Five {
     }
 
     ghost laws = { five_laws };
+
+    ghost numbered = { five_numbered };
 }

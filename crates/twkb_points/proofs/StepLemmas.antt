@@ -1,17 +1,42 @@
 -- Steps at the start of bytes, two after two.
-use Rattle.std.proofs.Common.{◌≡◌, ℕ, ℤ, ◌+◌, ◌-◌, List, [], ◌∷◌, ◌++◌, length, take, drop}
+use Rattle.std.proofs.Common.{◌≡◌, ℕ, ℤ, pos, negsuc, ◌+◌, ◌-◌, ◌<◌, ◌^◌, List, [], ◌∷◌, ◌++◌, length, take, drop}
 use Rattle.std.proofs.Common.{refl, sym, ap, ◌∙◌, subst, append_assoc, length-append, arith}
 use Rattle.std.proofs.Math.Seq.{take-append_seam, drop-append_seam}
 use Rattle.std.proofs.lemmas.Int.{ints}
 use Rattle.std.proofs.lemmas.List.{drop-drop, take_rest, length-take-le, take-append-drop}
+use Rattle.twkb_num.specs.Alphabet.{five_unit}
+use Rattle.twkb_num.specs.Four.{SignedInFront}
+use Rattle.twkb_num.specs.Spelling.{shortest}
+use Rattle.twkb_num.specs.Zigzag.{zigzag_of}
+use Rattle.twkb_num.specs.declared.four.Four.{Four}
 use Rattle.twkb_points.specs.Near.{IsShortStep, IsNear}
 use Rattle.twkb_points.specs.Point.{Point, IsCoordinate, IsInRange, moved_by}
+use Rattle.twkb_points.specs.Steps.{TwoInFront, IsStepTo, AreStepsTo, character_step, last_of}
 use Rattle.twkb_points.proofs.NearLemmas.{near_further, near_in_range, step_in_range, step_near}
-use Rattle.twkb_points.specs.Steps.{TwoInFront, IsStepTo, AreStepsTo, last_of}
 
 -- a short step is in the range of a coordinate
 pub short_is_near : (d : ℤ) → IsShortStep d → IsCoordinate d
 short_is_near d short = (omega (arith, ints, short.0), omega (arith, ints, short.1))
+
+-- a number whose zigzag form has at most 28 bits is a short step
+form_is_short : (d : ℤ) → zigzag_of d < 2 ^ 28 → IsShortStep d
+form_is_short (pos n) small = (omega (arith, ints, small), omega (arith, ints, small))
+form_is_short (negsuc n) small = (omega (arith, ints, small), omega (arith, ints, small))
+
+-- four numbers in characters are two steps, y before x
+pub characters_in_front : (bytes : List ℕ) (f : Four) → SignedInFront five_unit 32 bytes f
+    → TwoInFront character_step bytes f.second f.first f.fourth f.third f.used
+characters_in_front bytes f found =
+    let spelling = λ (d : ℤ). shortest five_unit 32 (zigzag_of d) in
+    record {
+      within = found.within;
+      spelled = found.spelled
+          ∙ sym (append_assoc (spelling f.first) (spelling f.second) (spelling f.third ++ spelling f.fourth));
+      dx_short = form_is_short f.second found.second_small;
+      dy_short = form_is_short f.first found.first_small;
+      ex_short = form_is_short f.fourth found.fourth_small;
+      ey_short = form_is_short f.third found.third_small;
+    }
 
 module _ (bytes_of : ℤ → ℤ → List ℕ) where
   -- two steps lead to two points

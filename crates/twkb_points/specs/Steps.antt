@@ -4,7 +4,6 @@ use Rattle.twkb_num.specs.Alphabet.{five_unit}
 use Rattle.twkb_num.specs.Spelling.{shortest}
 use Rattle.twkb_num.specs.Varint.{varint_of}
 use Rattle.twkb_num.specs.Zigzag.{zigzag_of}
-use Rattle.twkb_num.specs.declared.four.Four.{Four}
 use Rattle.twkb_points.specs.Near.{IsShortStep}
 use Rattle.twkb_points.specs.Point.{Point, IsInRange, moved_by}
 
@@ -15,10 +14,6 @@ varint_step dx dy = varint_of (zigzag_of dx) ++ varint_of (zigzag_of dy)
 -- a step as characters, y before x (Encoded Polyline Algorithm Format)
 abbrev pub character_step : ℤ → ℤ → List ℕ
 character_step dx dy = shortest five_unit 32 (zigzag_of dy) ++ shortest five_unit 32 (zigzag_of dx)
-
--- two steps whose axes are exchanged
-abbrev pub exchanged : Four → Four
-exchanged f = record { first = f.second; second = f.first; third = f.fourth; fourth = f.third; used = f.used }
 
 -- the first `count` bytes are two short steps, one after the other
 pub record TwoInFront (bytes_of : ℤ → ℤ → List ℕ) (bytes : List ℕ) (dx dy ex ey : ℤ) (count : ℕ) : Type 0 where

@@ -6,7 +6,7 @@ ghost use Rattle.twkb_points.specs.Steps.{AreStepsTo, last_of};
 
 use crate::point::Pt;
 use crate::steps::StepCode;
-use twkb_num::BLOCK;
+use twkb_num::{BLOCK, four_at, four_by_ends};
 
 /// The number of points that are read at once from a block.
 pub const POINTS_AT_ONCE: usize = 8;
@@ -32,15 +32,16 @@ pub struct Eight {
     pub ends: u64,
 }
 
-/// Fast path: reads the two points that begin at `start`, and the number of their bytes. `None` unless
-/// each number is a shortest spelling of at most four units, both points are in range, and there are
-/// sixteen bytes or more; it proves nothing about the bytes. Takes no memory.
+/// Fast path: reads the two points that begin at `start`, the first by its step from `from`, and the
+/// number of their bytes. `None` unless each number is a shortest spelling of at most four units, both
+/// points are in range, and there are sixteen bytes or more, at least six of them from `start` on; it
+/// proves nothing about the bytes. Takes no memory.
 #[inline(always)]
 pub fn two_points<C: StepCode>(from: Pt, bytes: &[u8], start: usize) -> Option<(Pt, Pt, usize)>
     requires { start ≤ length bytes.now }
     ensures { IfSome result (λ two. AreStepsTo C.bytes_of from (drop start bytes.now) (two.0 ∷ two.1 ∷ []) two.2) }
 {
-    let four = C::two_steps(bytes, start)?;
+    let four = C::x_first(four_at::<C>(bytes, start)?);
     let first = from.moved_near(four.first, four.second)?;
     let second = first.moved_near(four.third, four.fourth)?;
     Some((first, second, four.used))
@@ -52,13 +53,14 @@ pub fn two_points<C: StepCode>(from: Pt, bytes: &[u8], start: usize) -> Option<(
 fn two_by<C: StepCode>(from: Pt, bytes: &[u8], ends: u64) -> Option<(Pt, Pt, usize)>
     requires near { IsNear 6 from }
     requires long { 16 ≤ length bytes.now }
-    requires ends { AreEnds C.base C.radix bytes.now ends }
+    requires ends { AreEnds C.ALPHABET.base C.ALPHABET.radix bytes.now ends }
     ensures two { IfSome result (λ two. AreStepsTo C.bytes_of from bytes.now (two.0 ∷ two.1 ∷ []) two.2) }
     ensures onward { IfSome result (λ two. (n : ℕ) → IsNear n from → IsNear (n + 2) two.1) }
     ensures few { IfSome result (λ two. two.2 ≤ 16) }
-    ensures rest { IfSome result (λ two. AreEnds C.base C.radix (drop two.2 bytes.now) (ends / 2 ^ two.2)) }
+    ensures rest { IfSome result (λ two. AreEnds C.ALPHABET.base C.ALPHABET.radix (drop two.2 bytes.now)
+        (ends / 2 ^ two.2)) }
 {
-    let four = C::two_steps_by(bytes, ends)?;
+    let four = C::x_first(four_by_ends::<C>(bytes, ends)?);
     let one = from.step(four.first, four.second);
     let two = one.step(four.third, four.fourth);
     Some((one, two, four.used))
@@ -71,15 +73,16 @@ fn fails_fourth<C: StepCode>(fourth: Pt) -> bool {
 }
 
 /// Fast path: reads the eight points of the first sixteen numbers, by the ends of numbers in these
-/// bytes (`StepCode::two_steps_by`); only from an inner point, so that none of the eight can be out of
+/// bytes (`twkb_num::four_by_ends`); only from an inner point, so that none of the eight can be out of
 /// range. `None` proves nothing about the bytes. Takes no memory.
 #[inline(always)]
 pub fn eight_points<C: StepCode>(from: Pt, bytes: &[u8], ends: u64) -> Option<Eight>
-    requires { AreEnds C.base C.radix bytes.now ends }
+    requires { AreEnds C.ALPHABET.base C.ALPHABET.radix bytes.now ends }
     ensures points { IfSome result (λ eight. AreStepsTo C.bytes_of from bytes.now eight.points eight.used) }
     ensures count { IfSome result (λ eight. length eight.points ≡ 8) }
     ensures last { IfSome result (λ eight. last_of from eight.points ≡ eight.last) }
-    ensures rest { IfSome result (λ eight. AreEnds C.base C.radix (drop eight.used bytes.now) eight.ends) }
+    ensures rest { IfSome result (λ eight. AreEnds C.ALPHABET.base C.ALPHABET.radix (drop eight.used bytes.now)
+        eight.ends) }
 {
     if bytes.len() < BLOCK {
         return None;

@@ -53,6 +53,12 @@ steps_read (q ∷ qs) text start used p before (first, rest, all, there, on) =
           (subst (λ t. AreStepsTo character_step q t qs rest) (drop-drop first start text) on)),
     )
 
+-- two steps from p are points there
+pub two_read : {text : List ℕ} {start used : ℕ} {p from q r : Point} → start ≤ length text → from ≡ p
+    → AreStepsTo character_step from (drop start text) (q ∷ r ∷ []) used
+    → ArePointsAt text start p (q ∷ r ∷ []) r (start + used)
+two_read {q = q} {r = r} before same steps = rw same at (steps_read (q ∷ r ∷ []) _ _ _ _ before steps)
+
 -- steps in the rest of the text, the last of which is known
 pub rest_read : (ps : List Point) (text : List ℕ) (at used : ℕ) (p q : Point) → at ≤ length text
     → AreStepsTo character_step p (take (length text - at) (drop at text)) ps used → last_of p ps ≡ q

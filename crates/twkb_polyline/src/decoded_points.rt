@@ -7,12 +7,12 @@ ghost use Rattle.twkb_polyline.specs.Fault.{IsNumberFault, IsPointFault, IsTextF
 ghost use Rattle.twkb_polyline.specs.Reading.{HasPutOn, IsNumberAt, IsPointAt, IsRefusedFrom, IsShortOfMemory};
 
 use crate::fault::{PolyFault, PolyReason};
-use crate::pairs::two_more;
 use crate::whole::{only_point, whole_point};
 use std::alloc::{AllocError, Global};
 use twkb_num::{BLOCK, Five, Partial, Step, character_ends, unzigzag};
 use twkb_points::{
     APART, Cursor, FAR_APART, NUMBERS_AT_ONCE, POINTS_AT_ONCE, PointTail, Pt, eight_points,
+    two_points,
 };
 
 /// Decodes a polyline of at most `max` points (Encoded Polyline Algorithm Format). Refuses any
@@ -92,16 +92,21 @@ fn read_points<L: PointTail>(text: &[u8], max: u32, points: &mut L) -> Result<()
     let mut next_look = FIRST_LOOK;
     while at < text.len() {
         let read = points.count() - held;
+        let room = max as usize - read;
         if at >= next_look && text.len() - at >= BLOCK {
-            let end = read_eights(text, at, max as usize - read, &mut cursor, points)?;
+            let end = read_eights(text, at, room, &mut cursor, points)?;
             next_look = end + apart(end > at);
             at = end;
             continue;
         }
-        if let Some(pair) = two_more(text, at, max as usize - read, &mut cursor) {
-            points.put_all(&[pair.first, pair.second])?;
-            at = pair.end;
-            continue;
+        // the first point of a text is mostly far
+        if at > 0 && room >= 2 {
+            if let Some((first, second, used)) = two_points::<Five>(cursor.place(), text, at) {
+                cursor.go(second);
+                points.put_all(&[first, second])?;
+                at += used;
+                continue;
+            }
         }
         one_more(read, max, at)?;
         let (point, end) = next_point(text, at, &mut cursor)?;

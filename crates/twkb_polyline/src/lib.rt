@@ -5,7 +5,6 @@ mod decoded_points;
 mod encoded_text;
 mod fault;
 pub mod laws;
-mod pairs;
 mod piece;
 mod spelled_numbers;
 mod whole;

@@ -6,58 +6,62 @@ use Rattle.twkb_points.proofs.eight.two_by.Goals as goal
 
 pub step-one-requires-clause-x_in_range : goal.step-one-requires-clause-x_in_range
 step-one-requires-clause-x_in_range g c =
-    let four = c.in_ok-four.four in
-    let short = c.in_ok-four.ensures.two in
+    let four = c.x_first-four.result in
+    let two = c.x_first-four.ensures.steps _ c.in_ok-four_by_ends.ensures.four in
     let fits : FitsSigned w64 four.first = search rules in
     simp to_z-of_z (step_in_range 6 c.args.from four.first four.second (omega arith) c.requires.near
-    short.dx_short short.dy_short).0
+    two.dx_short two.dy_short).0
 
 pub step-one-requires-clause-y_in_range : goal.step-one-requires-clause-y_in_range
 step-one-requires-clause-y_in_range g c =
-    let four = c.in_ok-four.four in
-    let short = c.in_ok-four.ensures.two in
+    let four = c.x_first-four.result in
+    let two = c.x_first-four.ensures.steps _ c.in_ok-four_by_ends.ensures.four in
     let fits : FitsSigned w64 four.second = search rules in
     simp to_z-of_z (step_in_range 6 c.args.from four.first four.second (omega arith) c.requires.near
-    short.dx_short short.dy_short).1
+    two.dx_short two.dy_short).1
 
 pub step-two-requires-clause-x_in_range : goal.step-two-requires-clause-x_in_range
 step-two-requires-clause-x_in_range g c =
-    let four = c.in_ok-four.four in
+    let four = c.x_first-four.result in
+    let two = c.x_first-four.ensures.steps _ c.in_ok-four_by_ends.ensures.four in
     let a_fits : FitsSigned w64 four.first = search rules in
     let b_fits : FitsSigned w64 four.second = search rules in
     let fits : FitsSigned w64 four.third = search rules in
     simp to_z-of_z (second_kept g.C.StepCode.bytes_of c.args.from c.step-one.result c.args.bytes.now four.first
-    four.second four.third four.fourth four.used c.in_ok-four.ensures.two c.requires.near
+    four.second four.third four.fourth four.used two c.requires.near
     (simp to_z-of_z at c.step-one.ensures)).0
 
 pub step-two-requires-clause-y_in_range : goal.step-two-requires-clause-y_in_range
 step-two-requires-clause-y_in_range g c =
-    let four = c.in_ok-four.four in
+    let four = c.x_first-four.result in
+    let two = c.x_first-four.ensures.steps _ c.in_ok-four_by_ends.ensures.four in
     let a_fits : FitsSigned w64 four.first = search rules in
     let b_fits : FitsSigned w64 four.second = search rules in
     let fits : FitsSigned w64 four.fourth = search rules in
     simp to_z-of_z (second_kept g.C.StepCode.bytes_of c.args.from c.step-one.result c.args.bytes.now four.first
-    four.second four.third four.fourth four.used c.in_ok-four.ensures.two c.requires.near
+    four.second four.third four.fourth four.used two c.requires.near
     (simp to_z-of_z at c.step-one.ensures)).1
 
 pub returns-clause-two : goal.returns-clause-two
 returns-clause-two g c =
-    let four = c.in_ok-four.four in
+    let four = c.x_first-four.result in
+    let two = c.x_first-four.ensures.steps _ c.in_ok-four_by_ends.ensures.four in
     let a_fits : FitsSigned w64 four.first = search rules in
     let b_fits : FitsSigned w64 four.second = search rules in
     let c_fits : FitsSigned w64 four.third = search rules in
     let d_fits : FitsSigned w64 four.fourth = search rules in
     two_near g.C.StepCode.bytes_of c.args.from c.step-one.result c.step-two.result c.args.bytes.now
-    four.first four.second four.third four.fourth four.used c.in_ok-four.ensures.two c.requires.near
+    four.first four.second four.third four.fourth four.used two c.requires.near
     (simp to_z-of_z at c.step-one.ensures) (simp to_z-of_z at c.step-two.ensures)
 
 pub returns-clause-onward : goal.returns-clause-onward
 returns-clause-onward g c = λ n near.
-    let four = c.in_ok-four.four in
+    let four = c.x_first-four.result in
+    let two = c.x_first-four.ensures.steps _ c.in_ok-four_by_ends.ensures.four in
     let a_fits : FitsSigned w64 four.first = search rules in
     let b_fits : FitsSigned w64 four.second = search rules in
     let c_fits : FitsSigned w64 four.third = search rules in
     let d_fits : FitsSigned w64 four.fourth = search rules in
     two_further g.C.StepCode.bytes_of n c.args.from c.step-one.result c.step-two.result c.args.bytes.now
-    four.first four.second four.third four.fourth four.used c.in_ok-four.ensures.two near
+    four.first four.second four.third four.fourth four.used two near
     (simp to_z-of_z at c.step-one.ensures) (simp to_z-of_z at c.step-two.ensures)

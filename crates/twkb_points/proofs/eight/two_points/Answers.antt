@@ -6,27 +6,32 @@ use Rattle.twkb_points.proofs.eight.two_points.Goals as goal
 
 pub moved_near-requires-clause-near_x : goal.moved_near-requires-clause-near_x
 moved_near-requires-clause-near_x g c =
-    let fits : FitsSigned w64 c.in_ok-four.four.first = search rules in
-    simp to_z-of_z (short_is_near c.in_ok-four.four.first c.in_ok-four.ensures.dx_short)
+    let two = c.x_first-four.ensures.steps _ c.in_ok-four_at.ensures in
+    let fits : FitsSigned w64 c.x_first-four.result.first = search rules in
+    simp to_z-of_z (short_is_near c.x_first-four.result.first two.dx_short)
 
 pub moved_near-requires-clause-near_y : goal.moved_near-requires-clause-near_y
 moved_near-requires-clause-near_y g c =
-    let fits : FitsSigned w64 c.in_ok-four.four.second = search rules in
-    simp to_z-of_z (short_is_near c.in_ok-four.four.second c.in_ok-four.ensures.dy_short)
+    let two = c.x_first-four.ensures.steps _ c.in_ok-four_at.ensures in
+    let fits : FitsSigned w64 c.x_first-four.result.second = search rules in
+    simp to_z-of_z (short_is_near c.x_first-four.result.second two.dy_short)
 
 pub moved_near-requires-2-clause-near_x : goal.moved_near-requires-2-clause-near_x
 moved_near-requires-2-clause-near_x g c =
-    let fits : FitsSigned w64 c.in_ok-four.four.third = search rules in
-    simp to_z-of_z (short_is_near c.in_ok-four.four.third c.in_ok-four.ensures.ex_short)
+    let two = c.x_first-four.ensures.steps _ c.in_ok-four_at.ensures in
+    let fits : FitsSigned w64 c.x_first-four.result.third = search rules in
+    simp to_z-of_z (short_is_near c.x_first-four.result.third two.ex_short)
 
 pub moved_near-requires-2-clause-near_y : goal.moved_near-requires-2-clause-near_y
 moved_near-requires-2-clause-near_y g c =
-    let fits : FitsSigned w64 c.in_ok-four.four.fourth = search rules in
-    simp to_z-of_z (short_is_near c.in_ok-four.four.fourth c.in_ok-four.ensures.ey_short)
+    let two = c.x_first-four.ensures.steps _ c.in_ok-four_at.ensures in
+    let fits : FitsSigned w64 c.x_first-four.result.fourth = search rules in
+    simp to_z-of_z (short_is_near c.x_first-four.result.fourth two.ey_short)
 
 pub returns : goal.returns
 returns g c =
-    let four = c.in_ok-four.four in
+    let four = c.x_first-four.result in
+    let two = c.x_first-four.ensures.steps _ c.in_ok-four_at.ensures in
     let first = c.in_ok-first in
     let second = c.in_ok-second in
     let a_fits : FitsSigned w64 four.first = search rules in
@@ -34,7 +39,7 @@ returns g c =
     let c_fits : FitsSigned w64 four.third = search rules in
     let d_fits : FitsSigned w64 four.fourth = search rules in
     two_led g.C.StepCode.bytes_of c.args.from first.first second.second (drop c.args.start c.args.bytes.now)
-    four.first four.second four.third four.fourth four.used c.in_ok-four.ensures
+    four.first four.second four.third four.fourth four.used two
     (simp to_z-of_z at first.ensures.value)
     (subst IsInRange (sym first.ensures.value) (first.ensures.range.0 refl))
     (simp to_z-of_z at second.ensures.value)

@@ -1,9 +1,10 @@
-use Rattle.std.proofs.Common.{◌≡◌, ◌∙◌, ◌+◌, ◌-◌, ◌<◌, ◌≤◌, ◌^◌, rules, length, refl, arith, [], ◌∷◌}
+use Rattle.std.proofs.Common.{◌≡◌, ◌∙◌, ◌+◌, ◌-◌, ◌<◌, ◌≤◌, ◌^◌, rules, length, refl, arith}
 use Rattle.std.proofs.lemmas.Result.{err_from_is_err_and}
 use Rattle.twkb_polyline.proofs.DecodeLemmas.{read_count, has_read_all, has_read_none}
 use Rattle.twkb_polyline.proofs.DecodeLemmas.{has_read_more, one_too_many}
 use Rattle.twkb_polyline.proofs.DecodeLemmas.{text_refused, no_memory}
 use Rattle.twkb_polyline.proofs.PointLists.{has_read_points, no_memory_on, points_end, points_from}
+use Rattle.twkb_polyline.proofs.StepTexts.{two_read}
 use Rattle.twkb_polyline.proofs.decoded_points.read_points.Goals as goal
 
 pub loop-at-init : goal.loop-at-init
@@ -27,10 +28,9 @@ loop-at-preserved g c =
       c.in_ok-one_more.ensures.few,
       read_count c.args.text.now c.args.max c.loop-at.at c.loop-at.cursor old held read,
     ) in
-    let point = rw c.in_default.ensures.unmoved at c.in_ok-point.ensures.read in
     rw (c.in_ok-put.ensures.appended, c.in_ok-point.ensures.moved) (record {
       read = has_read_more c.args.text.now c.args.max c.loop-at.at c.loop-at.cursor old held read
-          c.in_ok-point.point c.in_ok-point.end _ point c.in_ok-point.ensures.in_range room refl;
+          c.in_ok-point.point c.in_ok-point.end _ c.in_ok-point.ensures.read c.in_ok-point.ensures.in_range room refl;
       held = c.loop-at.invariant.held;
     })
 
@@ -43,16 +43,26 @@ loop-at-preserved-in-Some g c =
     omega (
       arith,
       c.count.ensures,
-      c.in-Some.ensures.fits,
+      c.if-room-ge2.true,
       read_count c.args.text.now c.args.max
           c.loop-at.at c.loop-at.cursor old held read,
     ) in
-    rw (c.in_ok-put_all.ensures.appended, c.in-Some.ensures.moved) (record {
-      read = has_read_points (c.in-Some.pair.first ∷ c.in-Some.pair.second ∷ []) c.args.text.now c.args.max
-          c.loop-at.at c.in-Some.pair.end c.loop-at.cursor c.in-Some.pair.second old held _ read
-          c.in-Some.ensures.read room refl;
+    rw (c.in_ok-put_all.ensures.appended, c.go.ensures) (record {
+      read = has_read_points _ c.args.text.now c.args.max c.loop-at.at _ c.loop-at.cursor _ old held _ read
+          (two_read read.within c.place.ensures c.in-Some.ensures) room refl;
       held = c.loop-at.invariant.held;
     })
+
+pub overflow_add-at : goal.overflow_add-at
+overflow_add-at g c =
+    let points = two_read c.loop-at.invariant.read.within c.place.ensures c.in-Some.ensures in
+    let few : length c.args.text.now < 2 ^ 64 = search rules in
+    record { fits = omega (arith, points.3.1.within, few) }
+
+pub loop-at-smaller-in-Some : goal.loop-at-smaller-in-Some
+loop-at-smaller-in-Some g c =
+    let points = two_read c.loop-at.invariant.read.within c.place.ensures c.in-Some.ensures in
+    omega (arith, points.1.further, points.3.1.further, points.3.3.1, c.loop-at-test.true)
 
 pub returns-in_err-end-clause-refuses : goal.returns-in_err-end-clause-refuses
 returns-in_err-end-clause-refuses g c =
@@ -105,17 +115,17 @@ returns-in_err-put_all-clause-refuses g c =
     let old = g.L.PointTail.held c.args.points.now in
     let held = g.L.PointTail.held c.loop-at.points in
     let read = c.loop-at.invariant.read in
-    let first = c.in-Some.ensures.read in
+    let first = two_read read.within c.place.ensures c.in-Some.ensures in
     let room : length read.ps < c.args.max =
     omega (
       arith,
       c.count.ensures,
-      c.in-Some.ensures.fits,
+      c.if-room-ge2.true,
       read_count c.args.text.now c.args.max
           c.loop-at.at c.loop-at.cursor old held read,
     ) in
     rw (p.1, p.2) (no_memory c.args.text.now c.args.max c.loop-at.at c.loop-at.cursor old held read
-    c.in-Some.pair.first first.0 first.1 first.2 room)
+    _ first.0 first.1 first.2 room)
 
 pub returns-in_err-point-clause-refuses : goal.returns-in_err-point-clause-refuses
 returns-in_err-point-clause-refuses g c =
@@ -132,7 +142,7 @@ returns-in_err-point-clause-refuses g c =
     ) in
     rw (p.1, p.2) (text_refused c.args.text.now c.args.max c.loop-at.at c.loop-at.cursor old held
     read c.in_err-point.field-0.0 c.loop-at-test.true room
-    (rw c.in_default.ensures.unmoved at c.in_err-point.ensures.refused))
+    c.in_err-point.ensures.refused)
 
 pub returns-in_err-put-clause-refuses : goal.returns-in_err-put-clause-refuses
 returns-in_err-put-clause-refuses g c =
@@ -148,8 +158,7 @@ returns-in_err-put-clause-refuses g c =
       read_count c.args.text.now c.args.max c.loop-at.at c.loop-at.cursor old held read,
     ) in
     rw (p.1, p.2) (no_memory c.args.text.now c.args.max c.loop-at.at c.loop-at.cursor old held read
-    c.in_ok-point.point c.in_ok-point.end (rw c.in_default.ensures.unmoved at
-    c.in_ok-point.ensures.read) c.in_ok-point.ensures.in_range room)
+    c.in_ok-point.point c.in_ok-point.end c.in_ok-point.ensures.read c.in_ok-point.ensures.in_range room)
 
 pub returns-in_err-one_more-clause-refuses : goal.returns-in_err-one_more-clause-refuses
 returns-in_err-one_more-clause-refuses g c =
