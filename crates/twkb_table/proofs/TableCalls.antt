@@ -10,7 +10,7 @@ use Rattle.twkb_tree.specs.Rows.{Row, rows}
 use Rattle.twkb_tree.proofs.RootLaws.{one_geometry}
 use Rattle.twkb_table.specs.Record.{Record}
 use Rattle.twkb_table.specs.TableReading.{StandsAfter, GivesGeometry, Ends, GivesNext, GivesTree}
-use Rattle.twkb_table.specs.TableReading.{MeetsEnd, IsReading, ReadsRoot, ReadsOn}
+use Rattle.twkb_table.specs.TableReading.{MeetsEnd, ReadsRoot}
 use Rattle.twkb_table.specs.declared.table_fault.TableFault.{TableFault}
 use Rattle.twkb_table.specs.declared.table_reader.TableReader.{TableReader}
 
@@ -19,34 +19,7 @@ pub none_waiting : (ws : List Row) → (0 < length ws → ⊥) → ws ≡ []
 none_waiting [] none = refl
 none_waiting (w ∷ ws) none = absurd (none (omega arith))
 
--- ---- a geometry and its end
-
-pub reads_by : {R : Type 0} (l : Allowance) (remaining : R → Option (List ℕ))
-    (told : Option (List ℕ)) (records : List Record) (given : List Tree) (so_far : List Row)
-    (reader : TableReader R) (more : Bool) → (more ≡ true → (here : Record)
-    × IsReading l remaining told (records ++ here ∷ []) given so_far reader)
-    → (more ≡ false → GivesNext l remaining told records given so_far reader)
-    → ReadsOn l remaining told records given so_far reader (Ok more)
-reads_by l remaining told records given so_far reader true on end = on refl
-reads_by l remaining told records given so_far reader false on end = end refl
-
--- one more row was read
-pub went_by : {R : Type 0} (l : Allowance) (remaining : R → Option (List ℕ))
-    (told : Option (List ℕ)) (records : List Record) (given : List Tree) (so_far : List Row)
-    (reader : TableReader R) (more : Bool) → more ≡ true
-    → ReadsOn l remaining told records given so_far reader (Ok more)
-    → (here : Record) × IsReading l remaining told (records ++ here ∷ []) given so_far reader
-went_by l remaining told records given so_far reader true e reads = reads
-went_by l remaining told records given so_far reader false e reads = cc e
-
--- the geometry is complete
-pub ended_by : {R : Type 0} (l : Allowance) (remaining : R → Option (List ℕ))
-    (told : Option (List ℕ)) (records : List Record) (given : List Tree) (so_far : List Row)
-    (reader : TableReader R) (more : Bool) → more ≡ false
-    → ReadsOn l remaining told records given so_far reader (Ok more)
-    → GivesNext l remaining told records given so_far reader
-ended_by l remaining told records given so_far reader true e reads = cc e
-ended_by l remaining told records given so_far reader false e reads = reads
+-- ---- a call that finds no geometry
 
 -- the table ended
 pub end_by : {R : Type 0} (l : Allowance) (remaining : R → Option (List ℕ)) (told : Option (List ℕ))
@@ -56,12 +29,6 @@ pub end_by : {R : Type 0} (l : Allowance) (remaining : R → Option (List ℕ)) 
 end_by l remaining told records given reader found e reads = rw e at reads
 
 -- ---- a call that goes on
-
--- there is a row in the form, whether or not one was just appended
-pub some_row : (l : Bool) (before after : List Row) → 0 < length before
-    → (l ≡ true → 0 < length after) → (l ≡ false → after ≡ before) → 0 < length after
-some_row true before after some more same = more refl
-some_row false before after some more same = subst (λ (rs : List Row). 0 < length rs) (sym (same refl)) some
 
 -- the reader is neither at its end nor spent
 pub goes_on : {P X : Type 0} (over before : Bool) → (over ≡ true → P) × (P → over ≡ true)

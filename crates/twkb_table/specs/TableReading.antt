@@ -212,14 +212,6 @@ ReadsRoot l remaining told records given reader (Ok true) = BeginsNext l remaini
 ReadsRoot l remaining told records given reader (Ok false) = MeetsEnd l remaining told records given reader
 ReadsRoot l remaining told records given reader (Err fault) = Explains l told records given fault
 
--- what reading one record shows: one more row of the geometry, the geometry's end, or a fault
-abbrev pub ReadsOn : {R : Type 0} → Allowance → (R → Option (List ℕ)) → Option (List ℕ)
-    → List Record → List Tree → List Row → TableReader R → Result Bool TableFault → Type 0
-ReadsOn l remaining told records given so_far reader (Ok true) = (here : Record)
-    × IsReading l remaining told (records ++ here ∷ []) given so_far reader
-ReadsOn l remaining told records given so_far reader (Ok false) = GivesNext l remaining told records given so_far reader
-ReadsOn l remaining told records given so_far reader (Err fault) = Explains l told records given fault
-
 -- reading the first record shows this, whatever the old reader's state
 abbrev pub ShowsHeader : {R : Type 0} → (R → Option (List ℕ)) → TableReader R → TableReader R
     → Result (Unit {0}) TableFault → Type 0
@@ -251,9 +243,3 @@ Completes remaining old so_far flat new = WhereverReading remaining old so_far
 abbrev pub FaultsIn : {R : Type 0} → (R → Option (List ℕ)) → TableReader R → List Row → TableFault → Type 0
 FaultsIn remaining old so_far f = WhereverReading remaining old so_far
     (λ l told records given. Explains l told records given f)
-
--- reading one record shows this, whatever state of reading the old reader was in
-abbrev pub ShowsRow : {R : Type 0} → (R → Option (List ℕ)) → TableReader R → List Row → List Row
-    → TableReader R → Result Bool TableFault → Type 0
-ShowsRow remaining old so_far flat new result = WhereverReading remaining old so_far
-    (λ l told records given. ReadsOn l remaining told records given flat new result)

@@ -2,10 +2,9 @@
 ghost use Rattle.std.specs.Prelude.{◌≡◌, ◌+◌, ◌⊎◌, ◌↔◌, ◌<◌, ◌≢◌, [], length, None, Ok, Err};
 ghost use Rattle.std.specs.Prelude.{true, false, is_err, OnOk, IfOk, IfErr, IfSome, IsTrue};
 ghost use Rattle.twkb_io.specs.Taps.{device_of};
-ghost use Rattle.twkb_table.specs.declared.numbered_records.TheConstants.{RECORD_CAP};
 
 use crate::header::is_header;
-use crate::numbered_records::{RECORD_CAP, fault_at, next_record};
+use crate::numbered_records::{fault_at, next_record};
 use crate::reason::RowReason;
 use crate::record_source::{new_reader, read_next};
 use crate::row_reader::RowReader;
@@ -43,9 +42,9 @@ const BAD_HEADER: TableFault = TableFault::At {
 };
 
 impl<'a, R: Read> TableReader<'a, R> {
-    ghost use Rattle.twkb_table.specs.RowReading.{waiting, Keeps};
+    ghost use Rattle.twkb_table.specs.RowReading.{waiting};
     ghost use Rattle.twkb_table.specs.TableReading.{StandsAfter, Gives, GivesGeometry, Ends};
-    ghost use Rattle.twkb_table.specs.TableReading.{Faults, ShowsHeader, ShowsRoot, ShowsRow, IsOver};
+    ghost use Rattle.twkb_table.specs.TableReading.{Faults, ShowsHeader, ShowsRoot, IsOver};
     ghost use Rattle.twkb_table.specs.TableReading.{is_spent, records_read};
 
     /// Makes a reader that has read nothing. Each geometry must keep the limits. Takes no memory.
@@ -183,45 +182,22 @@ impl<'a, R: Read> TableReader<'a, R> {
         let Ok(()) = self.rows.begin(flat) else {
             return Err(TableFault::Memory);
         };
-        // lets proofs know that the number is a u32
-        let _learnt = self.number;
-        for _ in 0..RECORD_CAP {
-            match self.read_row(flat) {
+        loop {
+            match next_record(
+                &mut self.reader,
+                &mut self.last,
+                &mut self.ended,
+                &mut self.number,
+            ) {
                 Ok(true) => {}
                 Ok(false) => return Ok(true),
                 Err(fault) => return Err(fault),
             }
-        }
-        Err(TableFault::TooManyRecords)
-    }
-
-    // Reads the next record, if there is one, and appends it to the flat form if it is one more row
-    // of the geometry; returns whether it is. The root of the next geometry waits instead.
-    #[inline(always)]
-    fn read_row(&mut self, flat: &mut Flat) -> Result<bool, TableFault>
-        requires keeps { Keeps self.old.rows flat.old }
-        ensures reads { ShowsRow R.remaining self.old flat.old flat.new self.new result }
-        ensures keeps { IfOk result (λ more. more ≡ true → Keeps self.new.rows flat.new) }
-        ensures counts { IfOk result (λ more. more ≡ true
-            → (records_read self.new ≡ records_read self.old + 1)
-            × (records_read self.new < RECORD_CAP)) }
-        ensures some { OnOk result (0 < length flat.new) }
-        ensures fresh { IfErr result (λ fault. fault ≢ TableFault.Spent) }
-        ensures same { is_spent self.new ≡ is_spent self.old }
-    {
-        match next_record(
-            &mut self.reader,
-            &mut self.last,
-            &mut self.ended,
-            &mut self.number,
-        ) {
-            Ok(true) => {}
-            Ok(false) => return Ok(false),
-            Err(fault) => return Err(fault),
-        }
-        match self.rows.read_row(&self.last, flat) {
-            Ok(more) => Ok(more),
-            Err(stop) => Err(fault_at(self.number, stop)),
+            match self.rows.read_row(&self.last, flat) {
+                Ok(true) => {}
+                Ok(false) => return Ok(true),
+                Err(stop) => return Err(fault_at(self.number, stop)),
+            }
         }
     }
 
