@@ -10,8 +10,9 @@ use Rattle.twkb_tree.specs.Rows.{Row, rows}
 use Rattle.twkb_tree.proofs.RootLaws.{one_geometry}
 use Rattle.twkb_table.specs.Record.{Record}
 use Rattle.twkb_table.specs.TableReading.{StandsAfter, GivesGeometry, Ends, GivesNext, GivesTree}
-use Rattle.twkb_table.specs.TableReading.{MeetsEnd, ReadsRoot}
+use Rattle.twkb_table.specs.TableReading.{MeetsEnd, ReadsRoot, IsOver, IsGoing, is_spent}
 use Rattle.twkb_table.specs.declared.table_fault.TableFault.{TableFault}
+use Rattle.twkb_table.specs.declared.table_fault.TableFault.TheVariants as fault
 use Rattle.twkb_table.specs.declared.table_reader.TableReader.{TableReader}
 
 -- no root waits
@@ -36,17 +37,40 @@ pub goes_on : {P X : Type 0} (over before : Bool) → (over ≡ true → P) × (
 goes_on over before tells going fresh (inl p) = absurd (true≢false (sym (tells.1 p) ∙ going))
 goes_on over before tells going fresh (inr e) = absurd (true≢false (sym e ∙ fresh))
 
--- an answer with a geometry is no refusal, before or after it
+-- an answer is no refusal, before or after it
 pub not_spent : {A E : Type 0} (a : A) (f : E) (spent : Bool) → spent ≡ false
     → (◌≡◌ {A = Result A E} (Ok a) (Err f)) ↔ (spent ≡ true)
 not_spent a f spent fresh = (λ e. cc e, λ e. absurd (true≢false (sym e ∙ fresh)))
 
--- a form has rows only if they were given
-pub given_or_none : {E : Type 0} (found : Bool) (flat : List Row)
-    → (◌≡◌ {A = Result Bool E} (Ok found) (Ok false) → flat ≡ [])
-    → (◌≡◌ {A = Result Bool E} (Ok found) (Ok true)) ⊎ (flat ≡ [])
-given_or_none true flat none = inl refl
-given_or_none false flat none = inr (none refl)
+-- a fault of this call
+pub spent_now : (spent : Bool) (f marked : TableFault) → marked ≡ f → (f ≡ fault.Spent → ⊥)
+    → spent ≡ false
+    → (◌≡◌ {A = Result Bool TableFault} (Err marked) (Err fault.Spent)) ↔ (spent ≡ true)
+spent_now spent f marked same other fresh = (
+  λ e. absurd (other (cc (same, e))),
+  λ e. absurd (true≢false (sym e ∙ fresh)),
+)
+
+-- a reader whose fault is marked is as it was if it was spent, and it was not at its end
+pub spent_again : {R P : Type 0} (old between new : TableReader R) (spent : Bool) (f : TableFault)
+    → (P → spent ≡ false → ◌≡◌ {A = Result Bool TableFault} (Err f) (Ok false))
+    → (P ⊎ (spent ≡ true) → between ≡ old) → is_spent between ≡ spent
+    → (is_spent between ≡ true → new ≡ between) → P ⊎ (spent ≡ true) → new ≡ old
+spent_again old between new true f over unchanged same marked either = marked same ∙ unchanged either
+spent_again old between new false f over unchanged same marked (inl p) = (let e = over p refl in cc e)
+spent_again old between new false f over unchanged same marked (inr e) = cc e
+
+-- a reader that gave an answer was not spent
+pub answered_unspent : (spent found : Bool) (f : TableFault)
+    → (◌≡◌ {A = Result Bool TableFault} (Ok found) (Err f)) ↔ (spent ≡ true) → spent ≡ false
+answered_unspent true found f tells = (let e = tells.1 refl in cc e)
+answered_unspent false found f tells = refl
+
+-- a reader that goes on is neither at its end nor spent
+pub not_final : {R X : Type 0} (reader : TableReader R) → IsGoing reader
+    → IsOver reader ⊎ (is_spent reader ≡ true) → X
+not_final reader going (inl over) = absurd (going.more over)
+not_final reader going (inr spent) = absurd (true≢false (sym spent ∙ going.unspent))
 
 -- the geometry of the rows that were given
 pub tree_given : {R : Type 0} (l : Allowance) (remaining : R → Option (List ℕ))

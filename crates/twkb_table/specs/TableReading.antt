@@ -62,6 +62,11 @@ pub record IsOver {R : Type 0} (reader : TableReader R) : Type 0 where
   pub none : waiting reader.rows ≡ []
   pub begun : 0 < reader.number
 
+-- No call returned an error or was the last.
+pub record IsGoing {R : Type 0} (reader : TableReader R) : Type 0 where
+  pub unspent : is_spent reader ≡ false
+  pub more : IsOver reader → ⊥
+
 -- The next geometry is known to be a point, and no call returned an error.
 pub record HasPoint {R : Type 0} (reader : TableReader R) : Type 0 where
   pub point : IsPoint (waiting reader.rows)
@@ -203,6 +208,11 @@ pub record BeginsNext {R : Type 0} (l : Allowance) (remaining : R → Option (Li
   pub seen : List Record
   pub extends : Extends records seen
   pub reading : IsReading l remaining told seen given so_far reader
+
+-- the records name one more geometry, which has these rows so far, and the new reader reads it
+abbrev pub Begins : {R : Type 0} → (R → Option (List ℕ)) → TableReader R → List Row → TableReader R → Type 0
+Begins remaining old so_far new = Wherever remaining old
+    (λ l told records given. BeginsNext l remaining told records given so_far new)
 
 -- what reading a root shows: it waits, or the table ended
 abbrev pub ReadsRoot : {R : Type 0} → Allowance → (R → Option (List ℕ)) → Option (List ℕ)

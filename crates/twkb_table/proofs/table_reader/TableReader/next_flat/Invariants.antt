@@ -1,17 +1,17 @@
 use Rattle.std.proofs.Common.{◌≡◌, ◌-◌}
 use Rattle.twkb_table.specs.RowReading.{Keeps}
-use Rattle.twkb_table.specs.TableReading.{BeginsNext, Wherever, is_spent}
+use Rattle.twkb_table.specs.TableReading.{Begins, IsGoing, is_spent}
 use Rattle.twkb_table.specs.declared.numbered_records.TheConstants.{RECORD_CAP}
-use Rattle.twkb_table.proofs.table_reader.TableReader.read_geometry.Given as goal
+use Rattle.twkb_table.proofs.table_reader.TableReader.next_flat.Given as goal
 
 -- each record so far was one more row of the geometry
 abbrev pub invariant-loop-fault : goal.invariant-loop-fault
 invariant-loop-fault g l =
     record {
+      going : IsGoing l.fn.self;
       keeps : Keeps l.self.rows l.flat;
       same : is_spent l.self ≡ is_spent l.fn.self;
-      begins : Wherever g.R.Read.remaining l.fn.self
-          (λ limits told records given. BeginsNext limits g.R.Read.remaining told records given l.flat l.self);
+      begins : Begins g.R.Read.remaining l.fn.self l.flat l.self;
     }
 
 -- each record has a number, which is below the cap
