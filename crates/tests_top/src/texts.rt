@@ -60,7 +60,7 @@ const LAST: TableFault = TableFault::At {
 
 const FAULTS: [(TableFault, &str); 6] = [
     (TableFault::Memory, "out of memory"),
-    (TableFault::Source, "read failed"),
+    (TableFault::Source, "the table could not be read"),
     (TableFault::TooManyRecords, "too many records"),
     (TableFault::Spent, "the table was refused before"),
     (FIRST, "record 1: bad header"),

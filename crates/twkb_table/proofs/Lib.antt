@@ -2,6 +2,7 @@
 pub mod AcceptedRecords
 pub mod AfterPoint
 pub mod AlikePlaces
+pub mod BegunGeometry
 pub mod Complete
 pub mod DecimalLemmas
 pub mod DigitLemmas

@@ -10,8 +10,9 @@ use Rattle.twkb_tree.specs.Rows.{Row, rows}
 use Rattle.twkb_tree.proofs.RootLaws.{one_geometry}
 use Rattle.twkb_table.specs.Record.{Record}
 use Rattle.twkb_table.specs.TableReading.{StandsAfter, GivesGeometry, Ends, GivesNext, GivesTree}
-use Rattle.twkb_table.specs.TableReading.{MeetsEnd, IsReading, ReadsRoot, ReadsOn}
+use Rattle.twkb_table.specs.TableReading.{MeetsEnd, ReadsRoot, IsOver, IsGoing, is_spent}
 use Rattle.twkb_table.specs.declared.table_fault.TableFault.{TableFault}
+use Rattle.twkb_table.specs.declared.table_fault.TableFault.TheVariants as fault
 use Rattle.twkb_table.specs.declared.table_reader.TableReader.{TableReader}
 
 -- no root waits
@@ -19,34 +20,7 @@ pub none_waiting : (ws : List Row) → (0 < length ws → ⊥) → ws ≡ []
 none_waiting [] none = refl
 none_waiting (w ∷ ws) none = absurd (none (omega arith))
 
--- ---- a geometry and its end
-
-pub reads_by : {R : Type 0} (l : Allowance) (remaining : R → Option (List ℕ))
-    (told : Option (List ℕ)) (records : List Record) (given : List Tree) (so_far : List Row)
-    (reader : TableReader R) (more : Bool) → (more ≡ true → (here : Record)
-    × IsReading l remaining told (records ++ here ∷ []) given so_far reader)
-    → (more ≡ false → GivesNext l remaining told records given so_far reader)
-    → ReadsOn l remaining told records given so_far reader (Ok more)
-reads_by l remaining told records given so_far reader true on end = on refl
-reads_by l remaining told records given so_far reader false on end = end refl
-
--- one more row was read
-pub went_by : {R : Type 0} (l : Allowance) (remaining : R → Option (List ℕ))
-    (told : Option (List ℕ)) (records : List Record) (given : List Tree) (so_far : List Row)
-    (reader : TableReader R) (more : Bool) → more ≡ true
-    → ReadsOn l remaining told records given so_far reader (Ok more)
-    → (here : Record) × IsReading l remaining told (records ++ here ∷ []) given so_far reader
-went_by l remaining told records given so_far reader true e reads = reads
-went_by l remaining told records given so_far reader false e reads = cc e
-
--- the geometry is complete
-pub ended_by : {R : Type 0} (l : Allowance) (remaining : R → Option (List ℕ))
-    (told : Option (List ℕ)) (records : List Record) (given : List Tree) (so_far : List Row)
-    (reader : TableReader R) (more : Bool) → more ≡ false
-    → ReadsOn l remaining told records given so_far reader (Ok more)
-    → GivesNext l remaining told records given so_far reader
-ended_by l remaining told records given so_far reader true e reads = cc e
-ended_by l remaining told records given so_far reader false e reads = reads
+-- ---- a call that finds no geometry
 
 -- the table ended
 pub end_by : {R : Type 0} (l : Allowance) (remaining : R → Option (List ℕ)) (told : Option (List ℕ))
@@ -57,29 +31,46 @@ end_by l remaining told records given reader found e reads = rw e at reads
 
 -- ---- a call that goes on
 
--- there is a row in the form, whether or not one was just appended
-pub some_row : (l : Bool) (before after : List Row) → 0 < length before
-    → (l ≡ true → 0 < length after) → (l ≡ false → after ≡ before) → 0 < length after
-some_row true before after some more same = more refl
-some_row false before after some more same = subst (λ (rs : List Row). 0 < length rs) (sym (same refl)) some
-
 -- the reader is neither at its end nor spent
 pub goes_on : {P X : Type 0} (over before : Bool) → (over ≡ true → P) × (P → over ≡ true)
     → over ≡ false → before ≡ false → P ⊎ (before ≡ true) → X
 goes_on over before tells going fresh (inl p) = absurd (true≢false (sym (tells.1 p) ∙ going))
 goes_on over before tells going fresh (inr e) = absurd (true≢false (sym e ∙ fresh))
 
--- an answer with a geometry is no refusal, before or after it
+-- an answer is no refusal, before or after it
 pub not_spent : {A E : Type 0} (a : A) (f : E) (spent : Bool) → spent ≡ false
     → (◌≡◌ {A = Result A E} (Ok a) (Err f)) ↔ (spent ≡ true)
 not_spent a f spent fresh = (λ e. cc e, λ e. absurd (true≢false (sym e ∙ fresh)))
 
--- a form has rows only if they were given
-pub given_or_none : {E : Type 0} (found : Bool) (flat : List Row)
-    → (◌≡◌ {A = Result Bool E} (Ok found) (Ok false) → flat ≡ [])
-    → (◌≡◌ {A = Result Bool E} (Ok found) (Ok true)) ⊎ (flat ≡ [])
-given_or_none true flat none = inl refl
-given_or_none false flat none = inr (none refl)
+-- a fault of this call
+pub spent_now : (spent : Bool) (f marked : TableFault) → marked ≡ f → (f ≡ fault.Spent → ⊥)
+    → spent ≡ false
+    → (◌≡◌ {A = Result Bool TableFault} (Err marked) (Err fault.Spent)) ↔ (spent ≡ true)
+spent_now spent f marked same other fresh = (
+  λ e. absurd (other (cc (same, e))),
+  λ e. absurd (true≢false (sym e ∙ fresh)),
+)
+
+-- a reader whose fault is marked is as it was if it was spent, and it was not at its end
+pub spent_again : {R P : Type 0} (old between new : TableReader R) (spent : Bool) (f : TableFault)
+    → (P → spent ≡ false → ◌≡◌ {A = Result Bool TableFault} (Err f) (Ok false))
+    → (P ⊎ (spent ≡ true) → between ≡ old) → is_spent between ≡ spent
+    → (is_spent between ≡ true → new ≡ between) → P ⊎ (spent ≡ true) → new ≡ old
+spent_again old between new true f over unchanged same marked either = marked same ∙ unchanged either
+spent_again old between new false f over unchanged same marked (inl p) = (let e = over p refl in cc e)
+spent_again old between new false f over unchanged same marked (inr e) = cc e
+
+-- a reader that gave an answer was not spent
+pub answered_unspent : (spent found : Bool) (f : TableFault)
+    → (◌≡◌ {A = Result Bool TableFault} (Ok found) (Err f)) ↔ (spent ≡ true) → spent ≡ false
+answered_unspent true found f tells = (let e = tells.1 refl in cc e)
+answered_unspent false found f tells = refl
+
+-- a reader that goes on is neither at its end nor spent
+pub not_final : {R X : Type 0} (reader : TableReader R) → IsGoing reader
+    → IsOver reader ⊎ (is_spent reader ≡ true) → X
+not_final reader going (inl over) = absurd (going.more over)
+not_final reader going (inr spent) = absurd (true≢false (sym spent ∙ going.unspent))
 
 -- the geometry of the rows that were given
 pub tree_given : {R : Type 0} (l : Allowance) (remaining : R → Option (List ℕ))

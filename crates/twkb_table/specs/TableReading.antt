@@ -62,6 +62,11 @@ pub record IsOver {R : Type 0} (reader : TableReader R) : Type 0 where
   pub none : waiting reader.rows ≡ []
   pub begun : 0 < reader.number
 
+-- No call returned an error or was the last.
+pub record IsGoing {R : Type 0} (reader : TableReader R) : Type 0 where
+  pub unspent : is_spent reader ≡ false
+  pub more : IsOver reader → ⊥
+
 -- The next geometry is known to be a point, and no call returned an error.
 pub record HasPoint {R : Type 0} (reader : TableReader R) : Type 0 where
   pub point : IsPoint (waiting reader.rows)
@@ -204,6 +209,11 @@ pub record BeginsNext {R : Type 0} (l : Allowance) (remaining : R → Option (Li
   pub extends : Extends records seen
   pub reading : IsReading l remaining told seen given so_far reader
 
+-- the records name one more geometry, which has these rows so far, and the new reader reads it
+abbrev pub Begins : {R : Type 0} → (R → Option (List ℕ)) → TableReader R → List Row → TableReader R → Type 0
+Begins remaining old so_far new = Wherever remaining old
+    (λ l told records given. BeginsNext l remaining told records given so_far new)
+
 -- what reading a root shows: it waits, or the table ended
 abbrev pub ReadsRoot : {R : Type 0} → Allowance → (R → Option (List ℕ)) → Option (List ℕ)
     → List Record → List Tree → TableReader R → Result Bool TableFault → Type 0
@@ -211,14 +221,6 @@ ReadsRoot l remaining told records given reader (Ok true) = BeginsNext l remaini
     given (waiting reader.rows) reader
 ReadsRoot l remaining told records given reader (Ok false) = MeetsEnd l remaining told records given reader
 ReadsRoot l remaining told records given reader (Err fault) = Explains l told records given fault
-
--- what reading one record shows: one more row of the geometry, the geometry's end, or a fault
-abbrev pub ReadsOn : {R : Type 0} → Allowance → (R → Option (List ℕ)) → Option (List ℕ)
-    → List Record → List Tree → List Row → TableReader R → Result Bool TableFault → Type 0
-ReadsOn l remaining told records given so_far reader (Ok true) = (here : Record)
-    × IsReading l remaining told (records ++ here ∷ []) given so_far reader
-ReadsOn l remaining told records given so_far reader (Ok false) = GivesNext l remaining told records given so_far reader
-ReadsOn l remaining told records given so_far reader (Err fault) = Explains l told records given fault
 
 -- reading the first record shows this, whatever the old reader's state
 abbrev pub ShowsHeader : {R : Type 0} → (R → Option (List ℕ)) → TableReader R → TableReader R
@@ -251,9 +253,3 @@ Completes remaining old so_far flat new = WhereverReading remaining old so_far
 abbrev pub FaultsIn : {R : Type 0} → (R → Option (List ℕ)) → TableReader R → List Row → TableFault → Type 0
 FaultsIn remaining old so_far f = WhereverReading remaining old so_far
     (λ l told records given. Explains l told records given f)
-
--- reading one record shows this, whatever state of reading the old reader was in
-abbrev pub ShowsRow : {R : Type 0} → (R → Option (List ℕ)) → TableReader R → List Row → List Row
-    → TableReader R → Result Bool TableFault → Type 0
-ShowsRow remaining old so_far flat new result = WhereverReading remaining old so_far
-    (λ l told records given. ReadsOn l remaining told records given flat new result)

@@ -9,7 +9,7 @@ pub enum TableFault {
     #[error("out of memory")]
     Memory,
     /// `csv` returned an error: the device failed, or memory was refused.
-    #[error("read failed")]
+    #[error("the table could not be read")]
     Source,
     /// The table has a record with number 2^32.
     #[error("too many records")]

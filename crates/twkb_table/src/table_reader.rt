@@ -1,11 +1,10 @@
 //! The geometries of a table, one after another.
-ghost use Rattle.std.specs.Prelude.{◌≡◌, ◌+◌, ◌⊎◌, ◌↔◌, ◌<◌, ◌≢◌, [], length, None, Ok, Err};
+ghost use Rattle.std.specs.Prelude.{◌≡◌, ◌⊎◌, ◌↔◌, ◌<◌, ◌≢◌, [], length, None, Ok, Err};
 ghost use Rattle.std.specs.Prelude.{true, false, is_err, OnOk, IfOk, IfErr, IfSome, IsTrue};
 ghost use Rattle.twkb_io.specs.Taps.{device_of};
-ghost use Rattle.twkb_table.specs.declared.numbered_records.TheConstants.{RECORD_CAP};
 
 use crate::header::is_header;
-use crate::numbered_records::{RECORD_CAP, fault_at, next_record};
+use crate::numbered_records::{fault_at, next_record};
 use crate::reason::RowReason;
 use crate::record_source::{new_reader, read_next};
 use crate::row_reader::RowReader;
@@ -44,8 +43,8 @@ const BAD_HEADER: TableFault = TableFault::At {
 
 impl<'a, R: Read> TableReader<'a, R> {
     ghost use Rattle.twkb_table.specs.RowReading.{waiting, Keeps};
-    ghost use Rattle.twkb_table.specs.TableReading.{StandsAfter, Gives, GivesGeometry, Ends};
-    ghost use Rattle.twkb_table.specs.TableReading.{Faults, ShowsHeader, ShowsRoot, ShowsRow, IsOver};
+    ghost use Rattle.twkb_table.specs.TableReading.{StandsAfter, Begins, Gives, GivesGeometry, Ends};
+    ghost use Rattle.twkb_table.specs.TableReading.{Faults, ShowsHeader, ShowsRoot, IsOver, IsGoing};
     ghost use Rattle.twkb_table.specs.TableReading.{is_spent, records_read};
 
     /// Makes a reader that has read nothing. Each geometry must keep the limits. Takes no memory.
@@ -84,18 +83,26 @@ impl<'a, R: Read> TableReader<'a, R> {
         ensures stays { is_spent self.new ≡ is_err result }
     {
         flat.clear();
-        if self.spent {
-            return Err(TableFault::Spent);
+        match self.begin_geometry(flat) {
+            Ok(true) => {}
+            Ok(false) => return Ok(false),
+            Err(fault) => return Err(self.spend(flat, fault)),
         }
-        if self.is_over() {
-            return Ok(false);
-        }
-        match self.read_geometry(flat) {
-            Ok(found) => Ok(found),
-            Err(fault) => {
-                self.spent = true;
-                flat.clear();
-                Err(fault)
+        loop {
+            match next_record(
+                &mut self.reader,
+                &mut self.last,
+                &mut self.ended,
+                &mut self.number,
+            ) {
+                Ok(true) => {}
+                Ok(false) => return Ok(true),
+                Err(fault) => return Err(self.spend(flat, fault)),
+            }
+            match self.rows.read_row(&self.last, flat) {
+                Ok(true) => {}
+                Ok(false) => return Ok(true),
+                Err(stop) => return Err(self.spend(flat, fault_at(self.number, stop))),
             }
         }
     }
@@ -162,68 +169,50 @@ impl<'a, R: Read> TableReader<'a, R> {
         Ok(Some(geometry))
     }
 
-    // Reads the next geometry, row by row up to the next root or the table's end, into a flat form
-    // without rows; returns whether there was one.
+    // Moves the root of the next geometry into a flat form, in place of its rows, and returns
+    // whether there is one.
     #[inline(always)]
-    fn read_geometry(&mut self, flat: &mut Flat) -> Result<bool, TableFault>
-        requires empty { flat.old ≡ [] }
-        ensures gives { IfOk result (λ found. found ≡ true → Gives R.remaining self.old flat.new self.new) }
+    fn begin_geometry(&mut self, flat: &mut Flat) -> Result<bool, TableFault>
+        ensures begins { IfOk result (λ found. found ≡ true → Begins R.remaining self.old flat.new self.new) }
+        ensures keeps { IfOk result (λ found. found ≡ true → Keeps self.new.rows flat.new) }
+        ensures going { IfOk result (λ found. found ≡ true → IsGoing self.old) }
         ensures ends { IfOk result (λ found. found ≡ false → Ends R.remaining self.old self.new) }
-        ensures fault { IfErr result (λ fault. Faults R.remaining self.old fault) }
-        ensures some { result ≡ Ok true → 0 < length flat.new }
-        ensures none { result ≡ Ok false → flat.new ≡ [] }
         ensures ended { result ≡ Ok false → IsOver self.new }
-        ensures fresh { IfErr result (λ fault. fault ≢ TableFault.Spent) }
+        ensures none { result ≡ Ok false → flat.new ≡ flat.old }
+        ensures fault { IfErr result (λ fault. Faults R.remaining self.old fault) }
+        ensures over { IsOver self.old → is_spent self.old ≡ false → result ≡ Ok false }
+        ensures spent { (result ≡ Err TableFault.Spent) ↔ (is_spent self.old ≡ true) }
+        ensures unchanged { IsOver self.old ⊎ (is_spent self.old ≡ true) → self.new ≡ self.old }
         ensures same { is_spent self.new ≡ is_spent self.old }
     {
+        if self.spent {
+            return Err(TableFault::Spent);
+        }
+        if self.is_over() {
+            return Ok(false);
+        }
         match self.next_root() {
             Ok(true) => {}
             Ok(false) => return Ok(false),
             Err(fault) => return Err(fault),
         }
-        let Ok(()) = self.rows.begin(flat) else {
-            return Err(TableFault::Memory);
-        };
-        // lets proofs know that the number is a u32
-        let _learnt = self.number;
-        for _ in 0..RECORD_CAP {
-            match self.read_row(flat) {
-                Ok(true) => {}
-                Ok(false) => return Ok(true),
-                Err(fault) => return Err(fault),
-            }
+        match self.rows.begin(flat) {
+            Ok(()) => Ok(true),
+            Err(_) => Err(TableFault::Memory),
         }
-        Err(TableFault::TooManyRecords)
     }
 
-    // Reads the next record, if there is one, and appends it to the flat form if it is one more row
-    // of the geometry; returns whether it is. The root of the next geometry waits instead.
-    #[inline(always)]
-    fn read_row(&mut self, flat: &mut Flat) -> Result<bool, TableFault>
-        requires keeps { Keeps self.old.rows flat.old }
-        ensures reads { ShowsRow R.remaining self.old flat.old flat.new self.new result }
-        ensures keeps { IfOk result (λ more. more ≡ true → Keeps self.new.rows flat.new) }
-        ensures counts { IfOk result (λ more. more ≡ true
-            → (records_read self.new ≡ records_read self.old + 1)
-            × (records_read self.new < RECORD_CAP)) }
-        ensures some { OnOk result (0 < length flat.new) }
-        ensures fresh { IfErr result (λ fault. fault ≢ TableFault.Spent) }
-        ensures same { is_spent self.new ≡ is_spent self.old }
+    // Marks that a call returned an error, and empties the form.
+    #[cold]
+    fn spend(&mut self, flat: &mut Flat, fault: TableFault) -> TableFault
+        ensures fault { result ≡ fault }
+        ensures empty { flat.new ≡ [] }
+        ensures spent { is_spent self.new ≡ true }
+        ensures same { is_spent self.old ≡ true → self.new ≡ self.old }
     {
-        match next_record(
-            &mut self.reader,
-            &mut self.last,
-            &mut self.ended,
-            &mut self.number,
-        ) {
-            Ok(true) => {}
-            Ok(false) => return Ok(false),
-            Err(fault) => return Err(fault),
-        }
-        match self.rows.read_row(&self.last, flat) {
-            Ok(more) => Ok(more),
-            Err(stop) => Err(fault_at(self.number, stop)),
-        }
+        self.spent = true;
+        flat.clear();
+        fault
     }
 
     // Makes sure that the root of the next geometry waits, and returns whether there is one. If
