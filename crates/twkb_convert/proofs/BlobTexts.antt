@@ -3,7 +3,8 @@ use Rattle.std.specs.Prelude.{map}
 use Rattle.std.proofs.Common.{Bool, true, false, ◌≡◌, ◌∙◌, ℕ, List, [], ◌∷◌, ◌++◌, Option, Some, None, Ok, Result}
 use Rattle.std.proofs.Common.{Err, ap, arith, refl, sym, subst, append_assoc, length, length-append}
 use Rattle.std.proofs.lemmas.List.{nil_from_length}
-use Rattle.std.specs.Prelude.{IfSome}
+use Rattle.std.specs.Prelude.{IfSome, ◌/◌, ◌%◌}
+use Rattle.std.specs.Fmt.{digit_glyph}
 use Rattle.std.specs.Io.KnownBytes.{Consumes, IsAtEnd, prepend_known}
 use Rattle.std.specs.declared.io.traits.Read.{Ghosts}
 use Rattle.twkb_tree.specs.Rows.{Row}
@@ -25,7 +26,7 @@ use Rattle.twkb_grammar.specs.declared.span.Span.{Span}
 use Rattle.twkb_convert.specs.BlobReading.{EndsBlobs, Follows, GivesText, IsBetween, Misses, MissesText, RefusesBlob}
 use Rattle.twkb_convert.specs.BlobReading.{given, is_input_spent, is_read, limits_of, reader_failures, rest_of, told_of}
 use Rattle.twkb_convert.specs.Causes.{cause_of_blob}
-use Rattle.twkb_convert.specs.SpanLines.{span_lines}
+use Rattle.twkb_convert.specs.SpanLines.{hex_of, span_lines}
 use Rattle.twkb_convert.specs.Listings.{lines_layout, table_layout}
 use Rattle.twkb_convert.specs.declared.report.Cause.TheVariants as cause
 use Rattle.twkb_convert.proofs.RowTexts.{rows_text-one}
@@ -41,6 +42,14 @@ pub words_put : (old space level offset kind precision metadata length points a 
 words_put old space level offset kind precision metadata length points a b c d e f ea eb ec ed ee ef =
     let whole : f ≡ (((((old ++ level) ++ offset) ++ (space ++ kind)) ++ precision) ++ metadata) ++ length = cc in
     ap (λ t. t ++ (points ++ 10 ∷ [])) whole ∙ simp (append_assoc)
+
+-- both digits of a byte were pushed, and a space
+pub hex_put : (old first both new : List ℕ) (byte : ℕ) → first ≡ old ++ digit_glyph true (byte / 16) ∷ []
+    → both ≡ first ++ digit_glyph true (byte % 16) ∷ [] → new ≡ both ++ 32 ∷ [] → new ≡ old ++ (hex_of byte ++ 32 ∷ [])
+hex_put old first both new byte high low space =
+    space ∙ ap (λ (t : List ℕ). t ++ 32 ∷ []) (low ∙ ap (λ (t : List ℕ). t ++ digit_glyph true (byte % 16) ∷ []) high)
+    ∙ append_assoc (old ++ digit_glyph true (byte / 16) ∷ []) (digit_glyph true (byte % 16) ∷ []) (32 ∷ [])
+    ∙ append_assoc old (digit_glyph true (byte / 16) ∷ []) (digit_glyph true (byte % 16) ∷ 32 ∷ [])
 
 -- the bytes left are refused
 refused_left : (limits : Allowance) (before : ℕ) (rest : Option (List ℕ)) (offset : ℕ)

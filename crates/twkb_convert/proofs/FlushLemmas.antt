@@ -2,13 +2,14 @@
 use Rattle.twkb_convert.proofs.Prelude.{◌≡◌, ◌≢◌, ◌∙◌, ◌⊎◌, ℕ, Bool, true, false, List, [], Option, Result, Ok, Err}
 use Rattle.twkb_convert.proofs.Prelude.{ap, refl, sym, subst, inl, inr, append-nil, count_failure, Refused, Sent}
 use Rattle.twkb_convert.proofs.Prelude.{Took, is_spent, output_tap, sent_join, Output, OutFault, Cause}
+use Rattle.twkb_convert.proofs.Prelude.{ConvertFault, Report, IfErr, IfOk}
 use Rattle.std.specs.Prelude.{OnOk}
 use Rattle.twkb_io.specs.Outputs.{is_device}
 use Rattle.twkb_io.specs.Taps.{has_unflushed}
 use Rattle.twkb_io.specs.declared.output.OutFault.TheVariants as out
 use Rattle.twkb_convert.specs.Causes.{after_reads, cause_of_output}
 use Rattle.twkb_convert.specs.Devices.{is_write}
-use Rattle.twkb_convert.specs.LastFlush.{Flushes, Leaves, UnlessRefused}
+use Rattle.twkb_convert.specs.LastFlush.{Flushes, Leaves, UnlessRefused, reported}
 use Rattle.twkb_convert.specs.declared.report.Cause.TheVariants as cause
 use Rattle.twkb_convert.proofs.CauseLemmas.{put_refused}
 
@@ -130,3 +131,49 @@ flushed_after true (Err first) why P is p no_write no_read no_length = p
 flushed_after false (Err first) why P is p no_write no_read no_length = p
     (λ e. no_write (cc (is ∙ ap (λ k. after_reads false (Err k)) e)))
     (λ e. no_length (cc (is ∙ ap (λ k. after_reads false (Err k)) e)))
+
+write_stays : (failed : Bool) → after_reads {A = Unit {0}} failed (Err cause.WriteDevice) ≡ Err cause.WriteDevice
+write_stays true = refl
+write_stays false = refl
+
+-- a flush of an answer after the reads is one of the answer before them
+pub flushes_before : {W : Type 0} (contents : W → Option (List ℕ)) (failed : Bool) (mid new : Output W)
+    (sending last : Result (Unit {0}) Cause) → Flushes contents mid (after_reads failed sending) new last
+    → (answer : Result (Unit {0}) Cause) × Flushes contents mid sending new answer × (last ≡ after_reads failed answer)
+flushes_before contents failed mid new sending last (inl (took, flushed, is)) =
+    (sending, inl (took, flushed, refl), is)
+flushes_before contents failed mid new sending last (inr (inl (spent, same, is))) =
+    (sending, inr (inl (spent, same, refl)), is)
+flushes_before contents failed mid new sending last (inr (inr (fresh, refused, is))) =
+    (Err cause.WriteDevice, inr (inr (fresh, refused, refl)), is ∙ sym (write_stays failed))
+
+-- ---- what is reported
+
+-- a report is that of an answer that is not a stop
+pub reports_ok : (geometries bytes : ℕ) (report : Report) (answer : Result (Unit {0}) Cause)
+    → Ok report ≡ reported geometries bytes answer
+    → (answer ≡ Ok tt) × (report ≡ record { geometries = geometries; bytes = bytes })
+reports_ok geometries bytes report (Ok done) is = (refl, cc is)
+reports_ok geometries bytes report (Err why) is = absurd (cc is)
+
+-- a fault is that of a stop, with its cause
+pub reports_err : (geometries bytes : ℕ) (fault : ConvertFault) (answer : Result (Unit {0}) Cause)
+    → Err fault ≡ reported geometries bytes answer
+    → (answer ≡ Err fault.cause) × (fault ≡ record { done = geometries; sent = bytes; cause = fault.cause })
+reports_err geometries bytes fault (Ok done) is = absurd (cc is)
+reports_err geometries bytes fault (Err why) is =
+    let same : fault ≡ record { done = geometries; sent = bytes; cause = why } = cc is in
+    let cause_is : fault.cause ≡ why = ap (λ (f : ConvertFault). f.cause) same in (
+      ap (λ w. Err w) (sym cause_is),
+      same ∙ ap (λ w. record { done = geometries; sent = bytes; cause = w }) (sym cause_is),
+    )
+
+-- a fact about a report, from what holds if there is one
+pub when_ok : {T E : Type 0} (r : Result T E) (P : T → Type 0) → ((t : T) → r ≡ Ok t → P t) → IfOk r P
+when_ok (Ok t) P h = h t refl
+when_ok (Err e) P h = tt
+
+-- a fact about a fault, from what holds if there is one
+pub when_err : {T E : Type 0} (r : Result T E) (P : E → Type 0) → ((e : E) → r ≡ Err e → P e) → IfErr r P
+when_err (Ok t) P h = tt
+when_err (Err e) P h = h e refl

@@ -2,16 +2,17 @@
 use Rattle.twkb_convert.proofs.Prelude.{◌≡◌, ◌⊎◌, ◌∙◌, ℕ, Bool, true, false, List, [], ◌++◌, Option, Some, None}
 use Rattle.twkb_convert.proofs.Prelude.{Result, Ok, Err, inl, inr, IfSome, length, ap, arith, refl, sym, subst}
 use Rattle.twkb_convert.proofs.Prelude.{append-nil, Appends, IsAtEnd, Ghosts, BeginsWith, Sent, count_failure}
-use Rattle.twkb_convert.proofs.Prelude.{device_of, failures_of, output_failures, output_tap, sent_of, Tap, Output}
+use Rattle.twkb_convert.proofs.Prelude.{device_of, failures_of, is_spent, output_failures, output_tap, sent_of, Tap, Output}
 use Rattle.twkb_convert.proofs.Prelude.{Allowance, Reader, Located, LocatedStream, geometries_of, listing_text, Layout}
-use Rattle.twkb_convert.proofs.Prelude.{IsDeviceCause, Cause}
+use Rattle.twkb_convert.proofs.Prelude.{IsDeviceCause, Cause, ConvertFault, Report, IfErr, IfOk}
+use Rattle.twkb_io.specs.Taps.{has_unflushed}
 use Rattle.twkb_convert.specs.BlobReading.{limits_of, reader_failures, reader_tap, rest_of, told_of}
 use Rattle.twkb_convert.specs.Devices.{is_write}
-use Rattle.twkb_convert.specs.LastFlush.{Flushes}
+use Rattle.twkb_convert.specs.LastFlush.{Finishes, Flushes, IsFlushed, UnlessRefused, reported}
 use Rattle.twkb_convert.specs.Listed.{ExplainsListingCause, Listed, StoppedListing}
 use Rattle.twkb_convert.specs.BlobsListed.{Ends, Lists}
 use Rattle.twkb_convert.specs.declared.report.Cause.TheVariants as cause
-use Rattle.twkb_convert.proofs.FlushLemmas.{leaves_last}
+use Rattle.twkb_convert.proofs.FlushLemmas.{flushed_last, leaves_last, reports_err, reports_ok, when_err, when_ok}
 
 -- ---- the flush
 
@@ -44,6 +45,25 @@ lists_last layout contents from old to mid new done answer last lists flushes =
     ends (inr write) = subst (Ends layout from to lists.part.bytes lists.part.whole lists.part.later lists.part.left
         lists.read_failed) (sym write) (record { explains = tt; tell = wrote lists.read_failed })
 
+-- what is flushed at the end
+module _ {W : Type 0} (contents : W → Option (List ℕ)) (mid new : Output W) (written : Tap W) (done : ℕ)
+    (sending : Result (Unit {0}) Cause) (report : Result Report ConvertFault)
+    (closes : (output_tap new).now ≡ written) (finishes : Finishes contents mid done sending new report)
+    (unspent : UnlessRefused sending (is_spent mid ≡ false)) where
+  held : (answer : Result (Unit {0}) Cause) → finishes.answer ≡ answer
+      → UnlessRefused answer (has_unflushed written ≡ false)
+  held answer is = subst (λ t. UnlessRefused answer (has_unflushed t ≡ false)) closes
+      (subst (λ a. UnlessRefused a (has_unflushed (output_tap new).now ≡ false)) is
+      (flushed_last contents mid new sending finishes.answer unspent finishes.flushes))
+
+  flushed_as : (r : Result Report ConvertFault) → r ≡ reported done (sent_of new) finishes.answer
+      → IsFlushed r written
+  flushed_as (Ok r) is = held (Ok tt) (reports_ok done (sent_of new) r finishes.answer is).0
+  flushed_as (Err fault) is = held (Err fault.cause) (reports_err done (sent_of new) fault finishes.answer is).0
+
+  pub flushed : IsFlushed report written
+  flushed = flushed_as report finishes.reports
+
 -- ---- the taps
 
 known_stream : (l : Allowance) (known : Option (List ℕ)) (bytes : List ℕ) (bs : List Located)
@@ -62,17 +82,20 @@ whole_text layout whole later text left cut no_later none_left =
 
 module _ {R W : Type 0} {read : Ghosts R} (layout : Layout) (remaining : R → Option (List ℕ))
     (contents : W → Option (List ℕ)) (l : Allowance) (reader after : Tap R) (writer written : Tap W)
-    (from to : Reader R read) (old new : Output W) (done sent : ℕ)
+    (from to : Reader R read) (old mid new : Output W) (done : ℕ) (sending : Result (Unit {0}) Cause)
+    (report : Result Report ConvertFault)
     (limits : limits_of from ≡ l) (told : rest_of from ≡ remaining (device_of reader))
     (failures : reader_failures from ≡ failures_of reader)
-    (borrowed : (output_tap old).now ≡ writer) (none : sent_of old ≡ 0) (count : sent ≡ sent_of new)
+    (borrowed : (output_tap old).now ≡ writer) (none : sent_of old ≡ 0)
     (ends : (reader_tap to).now ≡ after) (closes : (output_tap new).now ≡ written)
-    (later_told : told_of to ≡ remaining (device_of after)) where
+    (later_told : told_of to ≡ remaining (device_of after))
+    (finishes : Finishes contents mid done sending new report)
+    (sends : Lists layout contents from old to mid done sending) where
   appended : (text : List ℕ) → Sent contents old text new
       → Appends (contents (device_of writer)) (contents (device_of written)) text
-  appended text sends = subst (λ t. Appends (contents (device_of t)) (contents (device_of written)) text) borrowed
+  appended text sent = subst (λ t. Appends (contents (device_of t)) (contents (device_of written)) text) borrowed
       (subst (λ t. Appends (contents (device_of (output_tap old).now)) (contents (device_of t)) text)
-      closes sends.appends)
+      closes sent.appends)
 
   reads_as : (failed : Bool) → reader_failures to ≡ count_failure failed (reader_failures from)
       → failures_of after ≡ count_failure failed (failures_of reader)
@@ -83,10 +106,16 @@ module _ {R W : Type 0} {read : Ghosts R} (layout : Layout) (remaining : R → O
   writes_as failed writes = ap failures_of (sym closes) ∙ writes
       ∙ ap (λ t. count_failure failed (failures_of t)) borrowed
 
-  pub listed : Lists layout contents from old to new done (Ok tt)
-      → Listed (LocatedStream l 0) (listing_text layout) remaining contents reader writer
-      (record { geometries = done; bytes = sent }) after written
-  listed lists =
+  lists_with : (answer : Result (Unit {0}) Cause) → finishes.answer ≡ answer
+      → Lists layout contents from old to new done answer
+  lists_with answer is = subst (λ a. Lists layout contents from old to new done a) is
+      (lists_last layout contents from old to mid new done sending finishes.answer sends finishes.flushes)
+
+  listed_as : (r : Report) → Ok r ≡ reported done (sent_of new) finishes.answer
+      → Listed (LocatedStream l 0) (listing_text layout) remaining contents reader writer r after written
+  listed_as r is =
+      let (ok, same) = reports_ok done (sent_of new) r finishes.answer is in
+      let lists = lists_with (Ok tt) ok in
       let p = lists.part in
       let e = lists.ends in
       let text = whole_text layout p.whole p.later lists.text p.left p.cut e.no_later e.none_left in
@@ -99,8 +128,9 @@ module _ {R W : Type 0} {read : Ghosts R} (layout : Layout) (remaining : R → O
             (known_stream l (rest_of from) p.bytes p.whole e.all blobs);
         appends = subst (λ t. Appends (contents (device_of writer)) (contents (device_of written)) t) text
             (appended lists.text lists.leaves.sends);
-        geometries = lists.count;
-        bytes = omega (arith, count, lists.leaves.sends.sent, none, ap length text);
+        geometries = ap (λ (q : Report). q.geometries) same ∙ lists.count;
+        bytes = (let count = ap (λ (q : Report). q.bytes) same in
+            omega (arith, count, lists.leaves.sends.sent, none, ap length text));
         end = subst (λ k. IfSome k (λ bytes. IsAtEnd (remaining (device_of after)))) told
             (subst (λ t. IfSome (rest_of from) (λ bytes. IsAtEnd t)) later_told e.ended);
         reads = reads_as false (subst (λ f. reader_failures to ≡ count_failure f (reader_failures from))
@@ -108,10 +138,12 @@ module _ {R W : Type 0} {read : Ghosts R} (layout : Layout) (remaining : R → O
         writes = writes_as false lists.leaves.failures;
       }
 
-  pub stopped : (why : Cause) → Lists layout contents from old to new done (Err why)
+  stopped_as : (fault : ConvertFault) → Err fault ≡ reported done (sent_of new) finishes.answer
       → StoppedListing (LocatedStream l 0) geometries_of (listing_text layout) l remaining contents
-      reader writer (record { done = done; sent = sent; cause = why }) after written
-  stopped why lists =
+      reader writer fault after written
+  stopped_as fault is =
+      let (stops, same) = reports_err done (sent_of new) fault finishes.answer is in
+      let lists = lists_with (Err fault.cause) stops in
       let p = lists.part in
       record {
         text = lists.text;
@@ -127,19 +159,29 @@ module _ {R W : Type 0} {read : Ghosts R} (layout : Layout) (remaining : R → O
           holds = p.holds;
         };
         appends = appended lists.text lists.leaves.sends;
-        done = lists.count;
-        sent = omega (arith, count, lists.leaves.sends.sent, none);
+        done = ap (λ (f : ConvertFault). f.done) same ∙ lists.count;
+        sent = (let count = ap (λ (f : ConvertFault). f.sent) same in
+            omega (arith, count, lists.leaves.sends.sent, none));
         explains = subst (λ a. ExplainsListingCause geometries_of (listing_text layout) a
-            (remaining (device_of reader)) (remaining (device_of after)) p.bytes why p.whole p.later p.left) limits
+            (remaining (device_of reader)) (remaining (device_of after)) p.bytes fault.cause p.whole p.later p.left)
+            limits
             (subst (λ k. ExplainsListingCause geometries_of (listing_text layout) (limits_of from) k
-            (remaining (device_of after)) p.bytes why p.whole p.later p.left) told
+            (remaining (device_of after)) p.bytes fault.cause p.whole p.later p.left) told
             (subst (λ t. ExplainsListingCause geometries_of (listing_text layout) (limits_of from)
-            (rest_of from) t p.bytes why p.whole p.later p.left) later_told lists.ends.explains));
+            (rest_of from) t p.bytes fault.cause p.whole p.later p.left) later_told lists.ends.explains));
         devices = record {
           read_failed = lists.read_failed;
-          write_failed = is_write {A = Unit {0}} (Err why);
+          write_failed = is_write {A = Unit {0}} (Err fault.cause);
           reads = reads_as lists.read_failed lists.follows.failures;
-          writes = writes_as (is_write {A = Unit {0}} (Err why)) lists.leaves.failures;
+          writes = writes_as (is_write {A = Unit {0}} (Err fault.cause)) lists.leaves.failures;
           tell = lists.ends.tell;
         };
       }
+
+  pub listed : IfOk report (λ r. Listed (LocatedStream l 0) (listing_text layout) remaining contents reader writer r
+      after written)
+  listed = when_ok report _ (λ r is. listed_as r (sym is ∙ finishes.reports))
+
+  pub stopped : IfErr report (λ fault. StoppedListing (LocatedStream l 0) geometries_of (listing_text layout) l
+      remaining contents reader writer fault after written)
+  stopped = when_err report _ (λ fault is. stopped_as fault (sym is ∙ finishes.reports))

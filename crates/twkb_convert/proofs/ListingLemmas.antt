@@ -91,19 +91,19 @@ fewer_left layout from to text one =
 module _ {R W : Type 0} {read : Ghosts R} (layout : Layout) (contents : W → Option (List ℕ))
     (from : Reader R read) (old : Output W) where
   -- the text before the first blob was sent
-  pub sent_first : (new : Output W) → IsFresh from old → Took contents old layout.first new
-      → SentSoFar layout contents from old from new 0
-  sent_first new fresh took = record {
+  pub sent_first : (new : Output W) (done : ℕ) → done ≡ 0 → IsFresh from old → Took contents old layout.first new
+      → SentSoFar layout contents from old from new done
+  sent_first new done none fresh took = record {
     found = [];
     bytes = [];
     blobs = refl;
     used = record { consumed = Consumes-nil (rest_of from); counted = fresh.unread };
     took = subst (λ t. Took contents old t new) (sym (append-nil layout.first)) took;
-    count = refl;
+    count = none;
     follows = record { same_tap = refl; limits = refl; failures = refl; within = from.input.within };
     between = fresh.between;
     unspent = took.spent ∙ fresh.unspent;
-    few = omega arith;
+    few = omega (arith, none);
   }
 
   -- the text of one more blob was sent
@@ -222,9 +222,10 @@ module _ {R W : Type 0} {read : Ghosts R} (layout : Layout) (contents : W → Op
       }
 
   -- the text before the first blob was not sent whole
-  pub lists_none : (new : Output W) (text : List ℕ) (f : OutFault) → text ≡ layout.first → IsFresh from old
-      → Cut contents old text f new → Lists layout contents from old from new 0 (Err (cause_of_output f))
-  lists_none new text f own fresh cut =
+  pub lists_none : (new : Output W) (done : ℕ) (text : List ℕ) (f : OutFault) → done ≡ 0 → text ≡ layout.first
+      → IsFresh from old → Cut contents old text f new
+      → Lists layout contents from old from new done (Err (cause_of_output f))
+  lists_none new done text f none own fresh cut =
       let whole : listing_text layout [] ≡ text = append-nil layout.first ∙ sym own in
       record {
         text = cut.front;
@@ -240,7 +241,7 @@ module _ {R W : Type 0} {read : Ghosts R} (layout : Layout) (contents : W → Op
           holds = inl refl;
         };
         leaves = leaves_refused contents old new _ f cut.refused;
-        count = refl;
+        count = none;
         read_failed = false;
         follows = record { same_tap = refl; limits = refl; failures = refl; within = from.input.within };
         ends = record {

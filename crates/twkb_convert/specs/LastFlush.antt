@@ -2,13 +2,14 @@
 use Rattle.std.specs.Prelude.{◌≡◌, ◌≢◌, ◌⊎◌, ℕ, List, [], Option, Result, Ok, Err, false, true}
 use Rattle.twkb_io.specs.declared.tap.Tap.{Tap}
 use Rattle.twkb_io.specs.Taps.{count_failure, has_unflushed}
-use Rattle.twkb_io.specs.Outputs.{Refused, Sent, Took, is_spent, output_failures, output_tap}
+use Rattle.twkb_io.specs.Outputs.{Refused, Sent, Took, is_spent, output_failures, output_tap, sent_of}
 use Rattle.twkb_io.specs.declared.output.Output.{Output}
 use Rattle.twkb_io.specs.declared.output.OutFault.TheVariants as out
 use Rattle.twkb_convert.specs.Devices.{is_write}
 use Rattle.twkb_convert.specs.declared.report.Cause.{Cause}
 use Rattle.twkb_convert.specs.declared.report.Cause.TheVariants as cause
 use Rattle.twkb_convert.specs.declared.report.ConvertFault.{ConvertFault}
+use Rattle.twkb_convert.specs.declared.report.Report.{Report}
 
 -- no byte that the writer took is unflushed, unless the cause is that it failed or that too much
 -- would be written
@@ -45,3 +46,15 @@ Flushes contents old sending new answer =
     (Took contents old [] new × (has_unflushed (output_tap new).now ≡ false) × (answer ≡ sending))
     ⊎ ((is_spent old ≡ true) × (new ≡ old) × (answer ≡ sending))
     ⊎ ((is_spent old ≡ false) × Refused contents old [] out.Write new × (answer ≡ Err cause.WriteDevice))
+
+-- the report or the fault of an answer, with the numbers of geometries and of bytes
+abbrev pub reported : ℕ → ℕ → Result (Unit {0}) Cause → Result Report ConvertFault
+reported geometries bytes (Ok done) = Ok (record { geometries = geometries; bytes = bytes })
+reported geometries bytes (Err why) = Err (record { done = geometries; sent = bytes; cause = why })
+
+-- The output was flushed, and its bytes, this number of geometries and the answer are reported.
+pub record Finishes {W : Type 0} (contents : W → Option (List ℕ)) (old : Output W) (geometries : ℕ)
+    (sending : Result (Unit {0}) Cause) (new : Output W) (report : Result Report ConvertFault) : Type 0 where
+  pub answer : Result (Unit {0}) Cause
+  pub flushes : Flushes contents old sending new answer
+  pub reports : report ≡ reported geometries (sent_of new) answer

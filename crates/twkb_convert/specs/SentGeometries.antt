@@ -1,5 +1,5 @@
 -- How far the geometries of a table were sent.
-use Rattle.std.specs.Prelude.{◌≡◌, ℕ, ◌+◌, List, [], length, Option, Result, Ok, Err, Bool, true, false}
+use Rattle.std.specs.Prelude.{◌≡◌, ℕ, ◌<◌, ◌≤◌, ◌-◌, ◌^◌, List, [], length, Option, Result, Ok, Err, false}
 use Rattle.twkb_io.specs.Outputs.{Took, is_spent, sent_of}
 use Rattle.twkb_io.specs.declared.output.Output.{Output}
 use Rattle.twkb_tree.specs.Tree.{Tree}
@@ -17,18 +17,19 @@ use Rattle.twkb_convert.specs.Outputs.{AtMostOneCut}
 use Rattle.twkb_convert.specs.Packed.{ExplainsPackingCause}
 use Rattle.twkb_convert.specs.RefusedRows.{WholeTable}
 use Rattle.twkb_convert.specs.declared.report.Cause.{Cause}
+use Rattle.twkb_convert.specs.declared.sent_geometries.Sent.{Sent}
 use Rattle.twkb_convert.specs.declared.report.Cause.TheVariants as cause
 
 -- The geometries of the table so far were sent, by an output that had sent nothing before.
 pub record SentSoFar {R W : Type 0} (style : Style) (l : Allowance)
     (remaining : R → Option (List ℕ)) (contents : W → Option (List ℕ)) (told : Option (List ℕ))
-    (table : TableReader R) (old new : Output W) (done : ℕ) (work : Work) : Type 0 where
+    (table : TableReader R) (old new : Output W) (sent : Sent) : Type 0 where
   pub records : List Record
   pub geometries : List Tree
   pub stands : StandsAfter l remaining told records geometries table
   pub took : Took contents old (canonical_stream style geometries) new
-  pub count : done ≡ length geometries
-  pub work_of : IsWorkOf geometries work
+  pub count : sent.geometries ≡ length geometries
+  pub work_of : IsWorkOf geometries sent.work
   pub fresh : is_spent old ≡ false
   pub unsent : sent_of old ≡ 0
 
@@ -51,44 +52,34 @@ Ends style l told given work whole later front (Err why) =
 
 -- The blobs of the first geometries of a table were sent, so many, and a prefix of the next blob.
 pub record SendsTable {W : Type 0} (style : Style) (l : Allowance) (contents : W → Option (List ℕ))
-    (told : Option (List ℕ)) (given : ℕ) (old new : Output W) (done : ℕ) (work : Work)
-    (answer : Result (Unit {0}) Cause) : Type 0 where
+    (told : Option (List ℕ)) (given : ℕ) (old new : Output W) (sent : Sent) (answer : Result (Unit {0}) Cause) : Type 0 where
   pub bytes : List ℕ
   pub part : FrontOfBlobs style l told bytes
   pub one : AtMostOneCut part.later part.rest
   pub leaves : Leaves contents old bytes new answer
-  pub count : done ≡ length part.whole
-  pub ends : Ends style l told given work part.whole part.later part.front answer
+  pub count : sent.geometries ≡ length part.whole
+  pub ends : Ends style l told given sent.work part.whole part.later part.front answer
 
--- what was sent up to the first state goes on to the second, with so many geometries at each
+-- what was sent up to the first state goes on to the second
 abbrev pub SendsMore : {R W : Type 0} → Style → (R → Option (List ℕ)) → (W → Option (List ℕ))
-    → TableReader R → Output W → ℕ → Work → TableReader R → Output W → ℕ → Work → Type 0
-SendsMore {R} {W} style remaining contents from old done before to new now after = (l : Allowance)
-    (told : Option (List ℕ)) (first : Output W) → SentSoFar style l remaining contents told from first old done before
-    → SentSoFar style l remaining contents told to first new now after
+    → TableReader R → Output W → Sent → TableReader R → Output W → Sent → Type 0
+SendsMore {R} {W} style remaining contents from old before to new after = (l : Allowance)
+    (told : Option (List ℕ)) (first : Output W) → SentSoFar style l remaining contents told from first old before
+    → SentSoFar style l remaining contents told to first new after
 
--- what was sent up to the first state ends with so many geometries and this answer
+-- what was sent up to the first state ends with this answer
 abbrev pub EndsAfter : {R W : Type 0} → Style → (R → Option (List ℕ)) → (W → Option (List ℕ)) → TableReader R
-    → Output W → ℕ → Work → Output W → ℕ → Work → Result (Unit {0}) Cause → Type 0
-EndsAfter {R} {W} style remaining contents from old done before new now after answer = (l : Allowance)
+    → Output W → Sent → Output W → Sent → Result (Unit {0}) Cause → Type 0
+EndsAfter {R} {W} style remaining contents from old before new after answer = (l : Allowance)
     (told : Option (List ℕ)) (given : ℕ) (first : Output W)
-    → SentSoFar style l remaining contents told from first old done before
-    → SendsTable style l contents told given first new now after answer
+    → SentSoFar style l remaining contents told from first old before
+    → SendsTable style l contents told given first new after answer
 
--- the result of sending the next geometry if it is known to be a point, after any number of them
-abbrev pub SendsOne : {R W : Type 0} → Style → (R → Option (List ℕ)) → (W → Option (List ℕ))
-    → TableReader R → Output W → Work → TableReader R → Output W → Work → Result Bool Cause → Type 0
-SendsOne style remaining contents from old before to new after (Ok true) =
-    (done : ℕ) → SendsMore style remaining contents from old done before to new (done + 1) after
-SendsOne style remaining contents from old before to new after (Ok false) =
-    (done : ℕ) → SendsMore style remaining contents from old done before to new done after
-SendsOne style remaining contents from old before to new after (Err why) =
-    (done : ℕ) → EndsAfter style remaining contents from old done before new done after (Err why)
-
--- the result of sending the points that wait
+-- the result of sending the points that wait, after which one more geometry can be counted
 abbrev pub SendsPoints : {R W : Type 0} → Style → (R → Option (List ℕ)) → (W → Option (List ℕ)) → TableReader R
-    → Output W → ℕ → Work → TableReader R → Output W → ℕ → Work → Result (Unit {0}) Cause → Type 0
-SendsPoints style remaining contents from old done before to new now after (Ok sent) =
-    SendsMore style remaining contents from old done before to new now after
-SendsPoints style remaining contents from old done before to new now after (Err why) =
-    EndsAfter style remaining contents from old done before new now after (Err why)
+    → Output W → Sent → TableReader R → Output W → Sent → Result (Unit {0}) Cause → Type 0
+SendsPoints style remaining contents from old before to new after (Ok done) =
+    (after.geometries < 2 ^ 64 - 1) × (before.geometries ≤ after.geometries)
+    × SendsMore style remaining contents from old before to new after
+SendsPoints style remaining contents from old before to new after (Err why) =
+    EndsAfter style remaining contents from old before new after (Err why)

@@ -1,5 +1,5 @@
 -- The line of a TWKB header (profile).
-use Rattle.std.specs.Prelude.{ℕ, ◌/◌, ◌%◌, List, [], ◌∷◌, ◌++◌, decimal, flat_map, true}
+use Rattle.std.specs.Prelude.{ℕ, ◌≡◌, ◌≤◌, ◌+◌, ◌/◌, ◌%◌, List, length, [], ◌∷◌, ◌++◌, decimal, flat_map, true}
 use Rattle.std.specs.Fmt.{digit_glyph, signed_decimal}
 use Rattle.twkb_tree.specs.Kind.{word_of}
 use Rattle.twkb_grammar.specs.declared.span.Span.{Span}
@@ -26,3 +26,8 @@ span_line s = spaced (span_words s) ++ 10 ∷ []
 -- a line for each span
 abbrev pub span_lines : List Span → List ℕ
 span_lines spans = flat_map span_line spans
+
+-- These bytes, at most so many, were appended.
+pub record Adds (most : ℕ) (old bytes new : List ℕ) : Type 0 where
+  pub appended : new ≡ old ++ bytes
+  pub few : length new ≤ length old + most

@@ -1,22 +1,31 @@
 //! The flush of an output, the last act of a conversion.
-ghost use Rattle.twkb_convert.specs.LastFlush.{Flushes};
+ghost use Rattle.twkb_convert.specs.LastFlush.{Finishes};
 
-use crate::causes::cause_of_output;
-use crate::report::Cause;
+use crate::report::{Cause, ConvertFault, Report};
 use std::io::Write;
 use twkb_io::{OutFault, Output};
 
-// Flushes an output to which all was sent, or which stopped for a cause, and returns `sending`; if
-// the writer fails in the flush, it returns the cause of that instead. An output that refused a
-// call refuses this one too, and its writer is left alone.
-pub(crate) fn flush_last<W: Write>(
+// Flushes an output to which all was sent, or which stopped for a cause, and reports the number of
+// geometries and of bytes. An `Err` has the cause for which it stopped or, if the writer fails in
+// the flush, the cause of that. An output that refused a call before is not flushed.
+pub(crate) fn finish<W: Write>(
     output: &mut Output<'_, W>,
+    geometries: u64,
     sending: Result<(), Cause>,
-) -> Result<(), Cause>
-    ensures flushes { Flushes W.contents output.old sending output.new result }
+) -> Result<Report, ConvertFault>
+    ensures finishes { Finishes W.contents output.old geometries sending output.new result }
 {
-    match output.flush() {
+    let answer = match output.flush() {
         Ok(()) | Err(OutFault::Spent) => sending,
-        Err(fault) => Err(cause_of_output(fault)),
+        Err(fault) => Err(Cause::from(fault)),
+    };
+    let bytes = output.sent();
+    match answer {
+        Ok(()) => Ok(Report { geometries, bytes }),
+        Err(cause) => Err(ConvertFault {
+            done: geometries,
+            sent: bytes,
+            cause,
+        }),
     }
 }

@@ -15,7 +15,6 @@ mod shown_stream;
 mod span_line;
 mod unpacked_stream;
 mod version;
-mod written_blob;
 
 pub use conversion::{Conversion, convert};
 pub use packed_table::{pack, pack_counted, pack_styled};

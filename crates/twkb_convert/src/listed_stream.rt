@@ -1,5 +1,5 @@
 //! The listing of a stream of blobs: the text of each blob, sent before the reader is read again.
-ghost use Rattle.std.specs.Prelude.{IfOk, IfErr};
+ghost use Rattle.std.specs.Prelude.{◌≡◌, IfOk, IfErr};
 ghost use Rattle.twkb_blob.specs.StreamReaders.{reader_in};
 ghost use Rattle.twkb_convert.specs.LocatedBlobs.{LocatedStream, geometries_of};
 ghost use Rattle.twkb_convert.specs.Listings.{listing_text};
@@ -8,8 +8,7 @@ ghost use Rattle.twkb_convert.specs.BlobsListed.{IsFresh, Lists};
 ghost use Rattle.twkb_convert.specs.Listed.{Listed, StoppedListing};
 
 use crate::blob_text::BlobText;
-use crate::causes::cause_of_output;
-use crate::last_flush::flush_last;
+use crate::last_flush::finish;
 use crate::report::{Cause, ConvertFault, Report};
 use std::alloc::Global;
 use std::io::{Read, Write};
@@ -23,7 +22,7 @@ use twkb_tree::Limits;
 // flushed last, unless it failed or more than 2^62 bytes would be written. Takes memory for one
 // geometry and its text.
 pub(crate) fn list_stream<R: Read, W: Write, T: BlobText>(
-    text: &mut T,
+    maker: &mut T,
     alloc: Global,
     reader: &mut Tap<R>,
     writer: &mut Tap<W>,
@@ -39,43 +38,31 @@ pub(crate) fn list_stream<R: Read, W: Write, T: BlobText>(
     let mut output = Output::new(writer);
     let mut room = StreamRoom::new(alloc);
     let mut blobs = StreamReader::new(Input::new(reader), limits, &mut room);
-    let (done, sending) = list_blobs(text, &mut blobs, &mut output);
-    let listed = flush_last(&mut output, sending);
-    let sent = output.sent();
-    match listed {
-        Ok(()) => Ok(Report {
-            geometries: done,
-            bytes: sent,
-        }),
-        Err(cause) => Err(ConvertFault { done, sent, cause }),
-    }
+    let mut text = Vec::new(alloc);
+    let mut done = 0;
+    let sending = list_blobs(maker, &mut blobs, &mut text, &mut output, &mut done);
+    finish(&mut output, done, sending)
 }
 
 // Sends the text before the first blob, and then the text of each blob that a reader gives, each
-// in one put. Returns the number of blobs whose text was sent whole.
+// in one put. Counts in `done` the blobs whose text was sent whole. An `Err` is the cause for which
+// it stopped. Takes memory as `read_next` does.
 fn list_blobs<R: Read, W: Write, T: BlobText>(
-    text: &mut T,
+    maker: &mut T,
     blobs: &mut StreamReader<'_, '_, R>,
+    text: &mut Vec<u8>,
     output: &mut Output<'_, W>,
-) -> (u64, Result<(), Cause>)
+    done: &mut u64,
+) -> Result<(), Cause>
     requires fresh { IsFresh (reader_in blobs.old) output.old }
+    requires none { done.old ≡ 0 }
     ensures lists { Lists T.layout W.contents (reader_in blobs.old) output.old (reader_in blobs.new)
-        output.new result.0 result.1 }
+        output.new done.new result }
 {
-    match output.put(T::first_line()) {
-        Ok(()) => {}
-        Err(fault) => return (0, Err(cause_of_output(fault))),
+    output.put(T::first_line())?;
+    while maker.read_next(blobs, text)? {
+        output.put(text.as_slice())?;
+        *done += 1;
     }
-    let mut done = 0;
-    loop {
-        match text.read_next(blobs) {
-            Ok(true) => {}
-            Ok(false) => return (done, Ok(())),
-            Err(why) => return (done, Err(why)),
-        }
-        match output.put(text.bytes()) {
-            Ok(()) => done += 1,
-            Err(fault) => return (done, Err(cause_of_output(fault))),
-        }
-    }
+    Ok(())
 }

@@ -1,18 +1,19 @@
 //! Packing a table into a stream.
 ghost use Rattle.std.specs.Prelude.{◌≡◌, ◌<◌, ◌^◌, IfOk, IfErr};
 ghost use Rattle.twkb_grammar.specs.declared.style.Style.TheVariants.{Full};
-ghost use Rattle.twkb_convert.specs.Devices.{Changes};
 ghost use Rattle.twkb_convert.specs.LastFlush.{IsFlushedButForDevices};
 ghost use Rattle.twkb_convert.specs.Packed.{Packed, PackedWith, StoppedPacking};
 
 use crate::causes::after_reads;
-use crate::last_flush::flush_last;
+use crate::last_flush::finish;
+use crate::reader_end::drain;
 use crate::report::{ConvertFault, Report};
-use crate::sent_geometries::send_table;
+use crate::sent_geometries::{Room, Sent, send_table};
 use std::alloc::Global;
 use std::io::{Read, Write};
 use twkb_flat::Work;
 use twkb_io::{Output, Tap};
+use twkb_table::TableReader;
 use twkb_tree::Limits;
 use twkb_writer::Style;
 
@@ -56,10 +57,8 @@ pub fn pack_styled<R: Read, W: Write>(
         reader.old writer.old fault reader.new writer.new) }
     ensures flushed { IsFlushedButForDevices result writer.new }
 {
-    match pack_counted(alloc, reader, writer, limits, style) {
-        Ok((report, _)) => Ok(report),
-        Err(fault) => Err(fault),
-    }
+    let (report, _) = pack_counted(alloc, reader, writer, limits, style)?;
+    Ok(report)
 }
 
 /// Packs a table as `pack_styled` does, and returns with its report the work of measuring and
@@ -77,36 +76,28 @@ pub fn pack_counted<R: Read, W: Write>(
         reader.old writer.old fault reader.new writer.new) }
     ensures flushed { IsFlushedButForDevices result writer.new }
 {
-    let reads_failed = reader.failures();
+    let failures = reader.failures();
     let mut output = Output::new(writer);
-    let (done, work, sending) = send_table(alloc, reader, limits, style, &mut output);
-    let flushed = flush_last(&mut output, sending);
-    let sent = output.sent();
-    let has_read_failed = has_changed(reads_failed, reader.failures());
-    match after_reads(flushed, has_read_failed) {
-        Ok(()) => Ok(packed(done, work, sent)),
-        Err(cause) => Err(ConvertFault { done, sent, cause }),
-    }
+    let mut room = Room::new(alloc);
+    let mut sent = Sent {
+        geometries: 0,
+        work: Work::new(),
+    };
+    let sending = {
+        let mut table = TableReader::new(alloc, reader, limits);
+        send_table(&mut table, style, &mut room, &mut output, &mut sent)
+    };
+    let drained = drain(reader, sending);
+    let answer = after_reads(drained, reader.failures() != failures);
+    let report = finish(&mut output, sent.geometries, answer)?;
+    Ok(packed(report, sent.work))
 }
 
-// Whether a count of failures has changed.
-fn has_changed(before: u64, after: u64) -> bool
-    ensures { Changes result before after }
-{
-    if after == before {
-        return false;
-    }
-    true
-}
-
-// The answer if the whole table was sent.
-fn packed(done: u64, work: Work, sent: u64) -> (Report, Work)
-    ensures is { result ≡ (record { geometries = done; bytes = sent }, work) }
+// The answer if the whole table was sent: the report and the work. A function of its own, since its
+// contract lets the proof know that the counts of the work fit 64 bits.
+fn packed(report: Report, work: Work) -> (Report, Work)
+    ensures is { result ≡ (report, work) }
     ensures fits { (work.point_reads < 2 ^ 64) × (work.node_reads < 2 ^ 64) }
 {
-    let report = Report {
-        geometries: done,
-        bytes: sent,
-    };
     (report, work)
 }

@@ -1,157 +1,129 @@
 //! The geometries of a table, sent one after another.
-ghost use Rattle.std.specs.Prelude.{◌≡◌, ◌<◌, ◌≤◌, ◌-◌, ◌^◌, false, OnOk};
-ghost use Rattle.std.specs.Io.KnownBytes.{IsAtEnd};
-ghost use Rattle.twkb_io.specs.Taps.{bytes_given, device_of};
-ghost use Rattle.twkb_io.specs.Outputs.{is_spent, sent_of};
-ghost use Rattle.twkb_convert.specs.CountedWork.{no_work};
-ghost use Rattle.twkb_convert.specs.SentGeometries.{EndsAfter, SendsOne, SendsPoints, SendsTable};
+ghost use Rattle.std.specs.Prelude.{◌≡◌, OnOk, IfErr};
+ghost use Rattle.twkb_tree.specs.Tree.{Tree, IsTree};
+ghost use Rattle.twkb_tree.specs.Rows.{rows};
+ghost use Rattle.twkb_convert.specs.SentGeometries.{EndsAfter, SendsPoints};
+ghost use Rattle.twkb_convert.specs.WrittenBlob.{CutsBlob, WritesBlob};
 
-use crate::causes::{cause_of_output, cause_of_table};
-use crate::reader_end::drain;
 use crate::report::Cause;
-use crate::written_blob::{Room, write_blob};
 use std::alloc::Global;
 use std::io::{Read, Write};
 use twkb_flat::{Flat, Work};
-use twkb_io::{Output, Tap};
+use twkb_io::Output;
 use twkb_table::TableReader;
-use twkb_tree::Limits;
-use twkb_writer::{EncodeFault, Style, write_point};
+use twkb_writer::{Depths, Piece, Sizes, Style, measure_into, write_point, write_through};
 
-// Sends the geometries of a table in a style, each once the row after it was accepted or the
-// table's end was reached; if all were sent, reads the reader to its end. Returns how many were
-// sent whole, and their work; after an `Err` the work may include some of one that was cut.
-pub(crate) fn send_table<R: Read, W: Write>(
-    alloc: Global,
-    tap: &mut Tap<R>,
-    limits: Limits,
-    style: Style,
-    output: &mut Output<'_, W>,
-) -> (u64, Work, Result<(), Cause>)
-    requires fresh { is_spent output.old ≡ false }
-    requires unsent { sent_of output.old ≡ 0 }
-    ensures sends { SendsTable style limits W.contents (R.remaining (device_of tap.old))
-        (bytes_given tap.new) output.old output.new result.0 result.1 result.2 }
-    ensures end { OnOk result.2 (IsAtEnd (R.remaining (device_of tap.new))) }
-{
-    let (done, work, sending) = {
-        let mut table = TableReader::new(alloc, tap, limits);
-        let mut flat = Flat::new(alloc);
-        let mut room = Room::new(alloc);
-        send_all(&mut table, &mut flat, style, &mut room, output)
-    };
-    match sending {
-        Ok(()) => (done, work, drain(tap)),
-        Err(cause) => (done, work, Err(cause)),
+// Memory that is reused from one geometry to the next.
+#[derive(Drop)]
+pub(crate) struct Room {
+    form: Flat,
+    depths: Depths,
+    sizes: Sizes,
+    piece: Piece,
+}
+
+impl Room {
+    // Makes an empty room. Takes no memory.
+    pub(crate) fn new(alloc: Global) -> Room {
+        Room {
+            form: Flat::new(alloc),
+            depths: Depths::new(),
+            sizes: Sizes::new(alloc),
+            piece: Piece::new(),
+        }
     }
+}
+
+// The number of geometries that were sent whole, and the work of measuring and writing them; after
+// an `Err` the work may include some of one that was cut.
+#[derive(Drop)]
+pub(crate) struct Sent {
+    pub(crate) geometries: u64,
+    pub(crate) work: Work,
 }
 
 // Sends the geometries of a table in a style, each when the row after it was accepted or the
-// table's end was reached; none was sent before. Returns how many were sent whole, their work, and
-// the cause if it stopped; the work may then include some of one that was cut. The form and the
-// room are used again for each geometry.
-fn send_all<R: Read, W: Write>(
-    table: &mut TableReader<'_, R>,
-    flat: &mut Flat,
-    style: Style,
-    room: &mut Room,
-    output: &mut Output<'_, W>,
-) -> (u64, Work, Result<(), Cause>)
-    ensures ends { EndsAfter style R.remaining W.contents table.old output.old 0 no_work output.new
-        result.0 result.1 result.2 }
-{
-    let mut work = Work::new();
-    let mut done = 0;
-    for steps in 0..u64::MAX {
-        let (now, passed) = pass_points(table, style, room, output, done, &mut work);
-        match passed {
-            Ok(()) => done = now,
-            Err(cause) => return (now, work, Err(cause)),
-        }
-        match table.next_flat(flat) {
-            Ok(true) => {}
-            Ok(false) => return (done, work, Ok(())),
-            Err(fault) => return (done, work, Err(cause_of_table(fault))),
-        }
-        match write_blob(flat, style, room, output, &mut work) {
-            Ok(()) => done += 1,
-            Err(EncodeFault::Memory) => return (done, work, Err(Cause::Memory)),
-            Err(EncodeFault::Sink(fault)) => return (done, work, Err(cause_of_output(fault))),
-        }
-    }
-    (done, work, Err(Cause::TooLong))
-}
-
-// Sends the geometries that come next in the table as long as they are known to be points. Returns
-// how many are then sent whole, with the `done` ones before, and the cause if it stopped: `TooLong`
-// if that number is 2^64 - 1. If the next one is not known to be a point, it only asks the table.
-#[inline(always)]
-fn pass_points<R: Read, W: Write>(
+// table's end was reached, and adds them and their work to `sent`. An `Err` is the cause for which
+// it stopped: `TooLong` if 2^64 - 1 geometries were sent. Takes memory for one geometry.
+pub(crate) fn send_table<R: Read, W: Write>(
     table: &mut TableReader<'_, R>,
     style: Style,
     room: &mut Room,
     output: &mut Output<'_, W>,
-    done: u64,
-    work: &mut Work,
-) -> (u64, Result<(), Cause>)
-    ensures sends { SendsPoints style R.remaining W.contents table.old output.old done work.old table.new
-        output.new result.0 work.new result.1 }
-    ensures within { OnOk result.1 ((done ≤ result.0) × (result.0 < 2 ^ 64 - 1)) }
+    sent: &mut Sent,
+) -> Result<(), Cause>
+    ensures ends { EndsAfter style R.remaining W.contents table.old output.old sent.old output.new sent.new result }
 {
-    if done < u64::MAX {
-        if !table.has_point() {
-            return (done, Ok(()));
+    while sent.geometries < u64::MAX {
+        if table.has_point() {
+            send_points(table, style, room, output, sent)?;
         }
+        if !table.next_flat(&mut room.form)? {
+            return Ok(());
+        }
+        write_blob(style, room, output, &mut sent.work)?;
+        sent.geometries += 1;
     }
-    send_points(table, style, room, output, done, work)
+    Err(Cause::TooLong)
 }
 
-// Fast path: sends the points that come next, and returns what `pass_points` does; `TooLong` if
-// 2^64 - 1 geometries were sent. Out of line, and a loop of its own: inlined, it adds 1 in 100 to
-// the instructions of other geometries; a call for each point adds 150 instructions to each point.
+// Fast path: sends the geometries that come next as long as they are known to be points, and adds
+// them and their work to `sent`. An `Err` is as with `send_table`. Out of line, and a loop of its
+// own: inlined, it adds 1 in 100 to the instructions of other geometries; a call for each point adds
+// 150 instructions to each point.
 #[inline(never)]
 fn send_points<R: Read, W: Write>(
     table: &mut TableReader<'_, R>,
     style: Style,
     room: &mut Room,
     output: &mut Output<'_, W>,
-    done: u64,
-    work: &mut Work,
-) -> (u64, Result<(), Cause>)
-    ensures sends { SendsPoints style R.remaining W.contents table.old output.old done work.old table.new
-        output.new result.0 work.new result.1 }
-    ensures within { OnOk result.1 ((done ≤ result.0) × (result.0 < 2 ^ 64 - 1)) }
+    sent: &mut Sent,
+) -> Result<(), Cause>
+    ensures sends { SendsPoints style R.remaining W.contents table.old output.old sent.old table.new output.new
+        sent.new result }
 {
-    for now in done..u64::MAX {
-        match send_point(table, style, room, output, work) {
-            Ok(true) => {}
-            Ok(false) => return (now, Ok(())),
-            Err(cause) => return (now, Err(cause)),
-        }
+    while sent.geometries < u64::MAX {
+        let Some(found) = table.next_point()? else {
+            return Ok(());
+        };
+        let (precision, point) = found;
+        write_point(
+            precision,
+            point,
+            style,
+            &mut room.piece,
+            output,
+            &mut sent.work,
+        )?;
+        sent.geometries += 1;
     }
-    (u64::MAX, Err(Cause::TooLong))
+    Err(Cause::TooLong)
 }
 
-// If the next geometry is known to be a point, sends it and adds its work; returns whether it is.
-// An `Err` is why it was not read or not sent whole.
-#[inline(always)]
-fn send_point<R: Read, W: Write>(
-    table: &mut TableReader<'_, R>,
+// Writes the canonical blob of the form in a room, in a style, and adds its work. Takes memory for
+// the sizes if they have too little room; if it is refused, the output took nothing. If the output
+// refuses, it took a prefix of the blob. After an `Err` some of the work may have been added.
+fn write_blob<W: Write>(
     style: Style,
     room: &mut Room,
     output: &mut Output<'_, W>,
     work: &mut Work,
-) -> Result<bool, Cause>
-    ensures sends { SendsOne style R.remaining W.contents table.old output.old work.old table.new
-        output.new work.new result }
+) -> Result<(), Cause>
+    ensures ok { OnOk result ((g : Tree) → IsTree g → rows 0 g ≡ room.old.form
+        → WritesBlob style W.contents g output.old work.old output.new work.new) }
+    ensures err { IfErr result (λ fault. (g : Tree) → IsTree g → rows 0 g ≡ room.old.form
+        → CutsBlob style W.contents g output.old fault output.new) }
 {
-    let (precision, point) = match table.next_point() {
-        Ok(Some(found)) => found,
-        Ok(None) => return Ok(false),
-        Err(fault) => return Err(cause_of_table(fault)),
-    };
-    match write_point(precision, point, style, &mut room.piece, output, work) {
-        Ok(()) => Ok(true),
-        Err(fault) => Err(cause_of_output(fault)),
-    }
+    twkb_tree::laws::nodes_are_rows();
+    twkb_writer::laws::one_size_each();
+    measure_into(&room.form, style, &mut room.depths, &mut room.sizes, work)?;
+    write_through(
+        &room.form,
+        style,
+        &room.sizes,
+        &mut room.piece,
+        output,
+        work,
+    )?;
+    Ok(())
 }

@@ -8,6 +8,7 @@ use crate::listed_stream::list_stream;
 use crate::report::{ConvertFault, Report};
 use std::alloc::Global;
 use std::io::{Read, Write};
+use twkb_blob::Spans;
 use twkb_io::Tap;
 use twkb_tree::Limits;
 
@@ -33,6 +34,8 @@ pub fn show<R: Read, W: Write>(
         writer.old fault reader.new writer.new) }
     ensures flushed { IsFlushed result writer.new }
 {
-    let mut lines = HeaderLines::new(alloc);
+    let mut lines = HeaderLines {
+        spans: Spans::new(alloc),
+    };
     list_stream(&mut lines, alloc, reader, writer, limits)
 }

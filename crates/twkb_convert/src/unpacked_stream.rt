@@ -30,6 +30,5 @@ pub fn unpack<R: Read, W: Write>(
         writer.old fault reader.new writer.new) }
     ensures flushed { IsFlushed result writer.new }
 {
-    let mut rows = TableRows::new(alloc);
-    list_stream(&mut rows, alloc, reader, writer, limits)
+    list_stream(&mut TableRows, alloc, reader, writer, limits)
 }

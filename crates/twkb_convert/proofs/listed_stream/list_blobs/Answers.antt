@@ -1,47 +1,56 @@
-use Rattle.std.proofs.Common.{subst}
-use Rattle.twkb_io.specs.Outputs.{Cut, Took}
+use Rattle.std.proofs.Common.{◌≡◌, true, false, rules, subst}
+use Rattle.std.proofs.lemmas.Result.{err_from_is_err_and}
+use Rattle.twkb_io.specs.Outputs.{Took}
 use Rattle.twkb_convert.proofs.ListingLemmas.{fewer_left, lists_all, lists_cut, lists_none, lists_up_to, sent_first}
 use Rattle.twkb_convert.proofs.ListingLemmas.{sent_more}
 use Rattle.twkb_convert.proofs.listed_stream.list_blobs.Goals as goal
 
-pub returns-in-Err : goal.returns-in-Err
-returns-in-Err g c = record {
-  lists = rw c.cause_of_output.ensures (lists_none g.T.BlobText.layout g.W.Write.contents _ _ _ _ c.in-Err.fault
-      c.first_line.ensures.text c.requires.fresh c.in-Err.ensures.cut);
-}
+pub returns-in_err-put : goal.returns-in_err-put
+returns-in_err-put g c =
+    let p = err_from_is_err_and c.from_residual.result c.from_residual.ensures.1 in
+    rw (p.1, p.2) (record {
+      lists = lists_none g.T.BlobText.layout g.W.Write.contents _ _ _ _ _ _ c.requires.none c.first_line.ensures.text
+          c.requires.fresh c.in_err-put.ensures.cut;
+    })
 
-pub loop-why-init : goal.loop-why-init
-loop-why-init g c = sent_first g.T.BlobText.layout g.W.Write.contents _ _ _ c.requires.fresh
+pub loop-output-init : goal.loop-output-init
+loop-output-init g c = sent_first g.T.BlobText.layout g.W.Write.contents _ _ _ _ c.requires.none c.requires.fresh
     (subst (λ text. Took g.W.Write.contents c.args.output.now text c.put.new.self) c.first_line.ensures.text
-    c.in-Ok.ensures.ok)
+    c.in_ok-put.ensures.ok)
 
-pub returns-in-Ok-false : goal.returns-in-Ok-false
-returns-in-Ok-false g c = record {
-  lists = lists_all g.T.BlobText.layout g.W.Write.contents _ _ _ _ _ _ c.loop-why.invariant
-      (rw c.in-Ok-false.field-0-test at c.in-Ok-false.ensures.reads);
-}
+pub returns-in_err-read_next : goal.returns-in_err-read_next
+returns-in_err-read_next g c =
+    let p = err_from_is_err_and c.from_residual-in_err-read_next.result c.from_residual-in_err-read_next.ensures.1 in
+    rw (p.1, p.2) (record {
+      lists = lists_up_to g.T.BlobText.layout g.W.Write.contents _ _ _ _ _ _ _ c.loop-output.invariant
+          c.in_err-read_next.ensures.reads;
+    })
 
-pub returns-in-Err-read_next : goal.returns-in-Err-read_next
-returns-in-Err-read_next g c = record {
-  lists = lists_up_to g.T.BlobText.layout g.W.Write.contents _ _ _ _ _ _ _ c.loop-why.invariant
-      c.in-Err-read_next.ensures.reads;
-}
+pub returns-in_err-put-2 : goal.returns-in_err-put-2
+returns-in_err-put-2 g c =
+    let found : c.in_ok-read_next.field-0 ≡ true = search rules in
+    let p = err_from_is_err_and c.from_residual-in_err-put-2.result c.from_residual-in_err-put-2.ensures.1 in
+    rw (p.1, p.2) (record {
+      lists = lists_cut g.T.BlobText.layout g.W.Write.contents _ _ _ _ _ _ _ _ _ c.requires.fresh.unsent
+          c.loop-output.invariant (rw found at c.in_ok-read_next.ensures.reads)
+          (rw c.as_slice.ensures.value at c.in_err-put-2.ensures.cut);
+    })
 
-pub loop-why-smaller : goal.loop-why-smaller
-loop-why-smaller g c = fewer_left g.T.BlobText.layout _ _ _
-    (rw c.in-Ok-true.field-0-test at c.in-Ok-true.ensures.reads)
+pub loop-output-smaller : goal.loop-output-smaller
+loop-output-smaller g c =
+    let found : c.in_ok-read_next.field-0 ≡ true = search rules in
+    fewer_left g.T.BlobText.layout _ _ _ (rw found at c.in_ok-read_next.ensures.reads)
 
-pub loop-why-preserved : goal.loop-why-preserved
-loop-why-preserved g c = sent_more g.T.BlobText.layout g.W.Write.contents _ _ _ _ _ _ _ _ c.loop-why.invariant
-    (rw c.in-Ok-true.field-0-test at c.in-Ok-true.ensures.reads)
-    (subst (λ text. Took g.W.Write.contents c.loop-why.output text c.put-in-loop-why.new.self) c.bytes.ensures.text
-    c.in-Ok-put.ensures.ok)
+pub loop-output-preserved : goal.loop-output-preserved
+loop-output-preserved g c =
+    let found : c.in_ok-read_next.field-0 ≡ true = search rules in
+    sent_more g.T.BlobText.layout g.W.Write.contents _ _ _ _ _ _ _ _ c.loop-output.invariant
+    (rw found at c.in_ok-read_next.ensures.reads) (rw c.as_slice.ensures.value at c.in_ok-put-2.ensures.ok)
 
-pub returns-in-Err-put : goal.returns-in-Err-put
-returns-in-Err-put g c = record {
-  lists = rw c.cause_of_output-in-Err-put.ensures (lists_cut g.T.BlobText.layout g.W.Write.contents _ _ _ _ _ _ _ _
-      c.in-Err-put.fault c.requires.fresh.unsent c.loop-why.invariant
-      (rw c.in-Ok-true.field-0-test at c.in-Ok-true.ensures.reads)
-      (subst (λ text. Cut g.W.Write.contents c.loop-why.output text c.in-Err-put.fault c.put-in-loop-why.new.self)
-      c.bytes.ensures.text c.in-Err-put.ensures.cut));
-}
+pub returns : goal.returns
+returns g c =
+    let none : c.in_ok-read_next.field-0 ≡ false = search rules in
+    record {
+      lists = lists_all g.T.BlobText.layout g.W.Write.contents _ _ _ _ _ _ c.loop-output.invariant
+          (rw none at c.in_ok-read_next.ensures.reads);
+    }

@@ -1,11 +1,7 @@
-use Rattle.std.proofs.Common.{◌≡◌, ◌≤◌}
-use Rattle.twkb_io.specs.Taps.{bytes_given, failures_of}
+use Rattle.std.proofs.Common.{◌≤◌}
+use Rattle.twkb_io.specs.Taps.{bytes_given}
 use Rattle.twkb_convert.proofs.reader_end.drain.Given as goal
 
--- each turn gave at least one byte, and no read failed
+-- each turn gave at least one byte
 abbrev pub invariant-loop-turn : goal.invariant-loop-turn
-invariant-loop-turn g l =
-    record {
-      failures : failures_of l.tap ≡ failures_of l.fn.tap;
-      given : l.turn ≤ bytes_given l.tap;
-    }
+invariant-loop-turn g l = l.turn ≤ bytes_given l.tap

@@ -1,25 +1,51 @@
-use Rattle.std.proofs.Common.{arith}
-use Rattle.twkb_convert.proofs.SendingLemmas.{ends_uncounted}
+use Rattle.std.proofs.Common.{rules, arith, refl, SFits, w8}
+use Rattle.std.proofs.lemmas.Int.{to_z-of_z}
+use Rattle.std.proofs.lemmas.Result.{err_from_is_err_and}
+use Rattle.twkb_io.specs.OutputLaws.{cut_front}
+use Rattle.twkb_convert.proofs.PointSent.{cuts_point, writes_point}
+use Rattle.twkb_convert.proofs.SendingLemmas.{ends_cut, ends_fault, ends_uncounted, sent_more}
 use Rattle.twkb_convert.proofs.sent_geometries.send_points.Goals as goal
 
-pub loop-now-init : goal.loop-now-init
-loop-now-init g c = λ l told first s. s
+pub returns-in_err-found : goal.returns-in_err-found
+returns-in_err-found g c =
+    let p = err_from_is_err_and c.from_residual.result c.from_residual.ensures.1 in
+    rw (p.1, p.2) (record {
+      sends = λ l told given first s.
+          let so = c.loop-sent.invariant.sends l told first s in
+          ends_fault c.args.style l g.R.Read.remaining g.W.Write.contents told _ _ _ _ _ so given _ refl
+          (c.in_err-found.ensures.fault l told so.records so.geometries so.stands);
+    })
 
-pub loop-now-preserved : goal.loop-now-preserved
-loop-now-preserved g c = λ l told first s.
-    (rw c.in-Ok-true.field-0-test at c.in-Ok-true.ensures.sends) c.loop-now.now l told first
-    (c.loop-now.invariant l told first s)
+pub returns-in_err-write_point : goal.returns-in_err-write_point
+returns-in_err-write_point g c =
+    let p = err_from_is_err_and c.from_residual-in_err-write_point.result c.from_residual-in_err-write_point.ensures.1 in
+    rw (p.1, p.2) (record {
+      sends = λ l told given first s.
+          let so = c.loop-sent.invariant.sends l told first s in
+          let gives = (rw c.in-Some.is at c.in_ok-found.ensures.gives) l told so.records so.geometries so.stands in
+          let range : SFits w8 c.in-Some.found.0 = search rules in
+          let cut = simp (to_z-of_z w8 c.in-Some.found.0 range) at c.in_err-write_point.ensures.err in
+          ends_cut c.args.style l g.R.Read.remaining g.W.Write.contents told _ _ _ _ _ so _ _ given _ _ gives refl
+          (cuts_point c.args.style l g.R.Read.remaining g.W.Write.contents told _ _ _ _ _ _ _ gives _
+          (λ fits. cut_front g.W.Write.contents _ _ _ _ (cut fits)));
+    })
 
-pub returns-in-Ok-false-clause-sends : goal.returns-in-Ok-false-clause-sends
-returns-in-Ok-false-clause-sends g c = λ l told first s.
-    (rw c.in-Ok-false.field-0-test at c.in-Ok-false.ensures.sends) c.loop-now.now l told first
-    (c.loop-now.invariant l told first s)
+pub loop-sent-preserved : goal.loop-sent-preserved
+loop-sent-preserved g c = record {
+  no_fewer = (let most = c.loop-sent.invariant.no_fewer in omega (arith, most));
+  sends = λ l told first s.
+      let so = c.loop-sent.invariant.sends l told first s in
+      let gives = (rw c.in-Some.is at c.in_ok-found.ensures.gives) l told so.records so.geometries so.stands in
+      let range : SFits w8 c.in-Some.found.0 = search rules in
+      let took = simp (to_z-of_z w8 c.in-Some.found.0 range) at c.in_ok-write_point.ensures.ok in
+      sent_more c.args.style l g.R.Read.remaining g.W.Write.contents told _ _ _ _ _ so _ _ _ gives refl
+      (writes_point c.args.style l g.R.Read.remaining g.W.Write.contents told _ _ _ _ _ _ _ gives _ _ took
+      c.write_point.ensures.work);
+}
 
-pub returns-in-Err-clause-sends : goal.returns-in-Err-clause-sends
-returns-in-Err-clause-sends g c = λ l told given first s.
-    c.in-Err.ensures.sends c.loop-now.now l told given first (c.loop-now.invariant l told first s)
-
-pub returns-clause-sends : goal.returns-clause-sends
-returns-clause-sends g c = λ l told given first s. ends_uncounted c.args.style l g.R.Read.remaining
-    g.W.Write.contents told c.loop-now.table _ _ c.loop-now.now c.loop-now.work
-    (c.loop-now.invariant l told first s) given _ (omega arith) (omega arith)
+pub returns : goal.returns
+returns g c = record {
+  sends = λ l told given first s. ends_uncounted c.args.style l g.R.Read.remaining g.W.Write.contents told
+      c.loop-sent.table _ _ c.loop-sent.sent (c.loop-sent.invariant.sends l told first s) given
+      (let all = c.loop-sent-test.false in omega (arith, all));
+}

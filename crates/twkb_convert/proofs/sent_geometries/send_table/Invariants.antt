@@ -1,0 +1,12 @@
+use Rattle.std.proofs.Common.{◌-◌}
+use Rattle.twkb_convert.specs.SentGeometries.{SendsMore}
+use Rattle.twkb_convert.proofs.sent_geometries.send_table.Given as goal
+
+-- the geometries so far were sent
+abbrev pub invariant-loop-sent : goal.invariant-loop-sent
+invariant-loop-sent g l = SendsMore l.style g.R.Read.remaining g.W.Write.contents l.fn.table l.fn.output l.fn.sent
+    l.table l.output l.sent
+
+-- the number of geometries that may still be counted
+abbrev pub decreases-loop-sent : goal.decreases-loop-sent
+decreases-loop-sent g l = 18446744073709551615 - l.sent.geometries
