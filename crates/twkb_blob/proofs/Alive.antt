@@ -7,21 +7,26 @@ use Rattle.std.proofs.Math.Logic.{∥∥₁_elim, ∥∥₁_map}
 use Rattle.std.proofs.Props.{props}
 use Rattle.twkb_tree.specs.Rows.{Row}
 use Rattle.twkb_grammar.specs.Noting.{Notes}
-use Rattle.twkb_engine.specs.Standing.{IsAlive, count_of}
+use Rattle.twkb_engine.specs.Standing.{IsAlive, IsAnswer, count_of}
 use Rattle.twkb_engine.specs.declared.engine.Engine.{Engine}
 use Rattle.twkb_engine.proofs.Feeds.{count_is}
 use Rattle.twkb_blob.specs.Feeding.{Feeds}
 
 module _ {S : Type 0} {holds : S → Notes → Type 0} {rs more : List Row} {d e : Engine} {old new : S}
     {piece : List ℕ} {used : ℕ} where
+  -- what was answered to a piece of a stream, an engine answered
+  pub answer_of : {ends : Bool} → Feeds holds d rs old piece (Ok (used, ends)) e more new
+      → IsAnswer holds d rs old piece (Ok (used, ends)) e more new
+  answer_of f = record { limits = f.limits; fed = f.fed }
+
   -- the form has the rows of the geometry that is read, unless it ended
-  pub alive_fed : (ends : Bool) → Feeds holds d rs old piece (Ok (used, ends)) e more new
+  pub alive_fed : (ends : Bool) → IsAnswer holds d rs old piece (Ok (used, ends)) e more new
       → IsAlive rs d → IsAlive (if ends then [] else more) e
   alive_fed false f alive = ∥∥₁_map alive (λ s. (s.0 ++ take used piece, (f.fed s.0 s.1).2))
   alive_fed true f alive = ∥∥₁_map alive (λ s. ([], (f.fed s.0 s.1).2))
 
   -- it took these bytes, and no more than there are
-  pub many_fed : (ends : Bool) → Feeds holds d rs old piece (Ok (used, ends)) e more new → IsAlive rs d
+  pub many_fed : (ends : Bool) → IsAnswer holds d rs old piece (Ok (used, ends)) e more new → IsAlive rs d
       → (used ≤ length piece) × (e.start + count_of e ≡ (d.start + count_of d) + used)
   many_fed false f alive = ∥∥₁_elim alive (Prim.hlevel props) (λ s.
       let h = f.fed s.0 s.1 in (

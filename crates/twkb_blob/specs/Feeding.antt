@@ -1,5 +1,5 @@
 -- What an engine answers that is fed a piece, or the held bytes of an input.
-use Rattle.std.specs.Prelude.{◌≡◌, ◌+◌, ◌-◌, ◌<◌, ◌⊎◌, take, ℕ, List, [], ◌++◌, length, Bool, true, false}
+use Rattle.std.specs.Prelude.{◌≡◌, ◌+◌, ◌-◌, ◌<◌, take, ℕ, List, [], ◌++◌, length, Bool, true, false}
 use Rattle.std.specs.Prelude.{Result, Ok, Err, IfSome}
 use Rattle.std.specs.Io.KnownBytes.{IsAtEnd}
 use Rattle.std.specs.declared.io.traits.Read.{Ghosts}
@@ -10,7 +10,7 @@ use Rattle.twkb_tree.specs.Limits.{Allowance}
 use Rattle.twkb_grammar.specs.Noting.{Notes}
 use Rattle.twkb_grammar.specs.Fault.{FirstFault}
 use Rattle.twkb_io.specs.Taps.{count_failure}
-use Rattle.twkb_io.specs.Inputs.{given, input_failures, input_tap, is_spent, rest_of}
+use Rattle.twkb_io.specs.Inputs.{input_failures, input_tap, is_spent, rest_of}
 use Rattle.twkb_io.specs.declared.input.Input.{Input}
 use Rattle.twkb_io.specs.declared.input.InFault.TheVariants.{TooLong}
 use Rattle.twkb_engine.specs.State.{allowance_of}
@@ -60,8 +60,7 @@ EndsAt limits start bs (Ok done) = bs ≡ []
 EndsAt limits start bs (Err why) = IsCutAt limits start bs why
 
 -- Why no blob of an input was read, after these bytes of it, which began at this offset: there was
--- no memory, or the known bytes have a first fault; or the input gave no byte after some; or the
--- stream has no room for what it holds, since more than the input gave out was taken.
+-- no memory, or the known bytes have a first fault; or the input gave no byte after some.
 abbrev pub ReadsNoBlob : Allowance → (start : ℕ) → List ℕ → {R : Type 0} {read : Ghosts R} → Input R read
     → Input R read → BlobFault → Type 0
 ReadsNoBlob limits start bs old new fault.Memory = PartAhead limits bs old
@@ -69,8 +68,7 @@ ReadsNoBlob limits start bs old new (fault.At offset reason) =
     IfSome (rest_of old) (λ rest. (within : ℕ) × FirstFault limits (bs ++ rest) within
     (reason_of reason) × (offset ≡ start + within))
 ReadsNoBlob limits start bs old new (fault.Device why) =
-    ((bytes : List ℕ) × Left old new bytes × AreCutOff limits (bs ++ bytes) × HasNone why old new)
-    ⊎ ((why ≡ TooLong) × (given old < start + length bs))
+    (bytes : List ℕ) × Left old new bytes × AreCutOff limits (bs ++ bytes) × HasNone why old new
 ReadsNoBlob limits start bs old new fault.Spent = ⊥
 
 -- What it answers that reads a blob of an input, after these bytes of it: some that left end the

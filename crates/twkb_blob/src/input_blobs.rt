@@ -1,17 +1,16 @@
-//! A blob that is read from the held bytes of an input, or from a piece of a stream.
-ghost use Rattle.std.specs.Prelude.{◌≡◌, ◌+◌, ◌<◌, ◌≤◌, ◌∷◌, ℕ, List, [], false, true, Ok, Err, length};
+//! What an engine answers to a piece of a stream, and to its end.
+ghost use Rattle.std.specs.Prelude.{◌≡◌, ◌+◌, ◌<◌, ◌≤◌, ◌∷◌, ℕ, List, [], false, Err, length};
 ghost use Rattle.std.specs.Prelude.{if◌then◌else◌, IfOk, IfSome, IfNone, OnOk};
 ghost use Rattle.twkb_tree.specs.Rows.{Row};
 ghost use Rattle.twkb_engine.specs.State.{allowance_of};
 ghost use Rattle.twkb_engine.specs.Standing.{StandsAt, IsAlive, count_of, place_in};
 ghost use Rattle.twkb_blob.specs.Readers.{failed_by_read};
-ghost use Rattle.twkb_blob.specs.Feeding.{EndsAt, Feeds, Reads, with_one};
+ghost use Rattle.twkb_blob.specs.Feeding.{EndsAt, Feeds, with_one};
 
 use crate::fault::{BlobFault, fault_at};
-use std::io::Read;
 use twkb_engine::{BlobReason, Engine, SpanNotes};
 use twkb_flat::Flat;
-use twkb_io::{InFault, Input, MAX_BYTES};
+use twkb_io::{InFault, MAX_BYTES};
 
 // How many bytes of the piece fit into a stream after its first `taken`: all, or those up to 2^62
 // bytes in the stream. `None` if it has more already.
@@ -104,47 +103,4 @@ pub(crate) fn at_end(engine: &Engine) -> Result<(), BlobFault>
         offset: engine.offset(),
         reason: BlobReason::Truncated,
     })
-}
-
-// Reads the next blob of an input, its rows into `flat` and its spans into `spans`, and returns
-// true; no byte after the blob leaves the input. It returns false if the input ends before another
-// blob begins. If it ends inside a blob, that is `Truncated`; if it fails or goes past 2^62 bytes,
-// it is a `Device` fault. After an `Err` rows and spans of a part of the blob may be left.
-#[inline(always)]
-pub(crate) fn read_blob<R: Read, S: SpanNotes>(
-    input: &mut Input<'_, R>,
-    engine: &mut Engine,
-    flat: &mut Flat,
-    spans: &mut S,
-) -> Result<bool, BlobFault>
-    requires counted { place_in engine.old ≤ MAX_BYTES }
-    requires alive { IsAlive flat.old engine.old }
-    ensures few { result ≡ Ok true → engine.new.start + count_of engine.new ≤ MAX_BYTES }
-    ensures alive { result ≡ Ok true → IsAlive [] engine.new }
-    ensures read { Reads S.holds engine.old flat.old spans.old input.old input.new result engine.new
-        flat.new spans.new }
-{
-    loop {
-        // learnt: where the engine stands, the bytes end inside a blob, or there are none
-        let _learnt = engine.is_between();
-        if let Err(fault) = input.fill() {
-            return Err(BlobFault::Device(fault));
-        }
-        let piece = input.held();
-        if piece.is_empty() {
-            match at_end(engine) {
-                Ok(()) => return Ok(false),
-                Err(fault) => return Err(fault),
-            }
-        }
-        match feed_piece(engine, flat, spans, piece) {
-            Ok((used, ends)) => {
-                input.advance(used);
-                if ends {
-                    return Ok(true);
-                }
-            }
-            Err(fault) => return Err(fault),
-        }
-    }
 }

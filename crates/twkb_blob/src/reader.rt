@@ -1,12 +1,12 @@
 //! The blobs of an input, one after another.
 ghost use Rattle.std.specs.Prelude.{◌≡◌, ◌<◌, ◌↔◌, ◌⊎◌, [], length, true, false, Ok, Err, None, IfOk, IfErr};
-ghost use Rattle.std.specs.Prelude.{OnOk, OnErr, is_err};
+ghost use Rattle.std.specs.Prelude.{OnOk, OnErr};
 ghost use Rattle.twkb_tree.specs.Rows.{rows};
 ghost use Rattle.twkb_tree.specs.Limits.{IsValid, largest_limits};
 ghost use Rattle.twkb_grammar.specs.Noting.{no_notes};
 
-use crate::fault::BlobFault;
-use crate::input_blobs::read_blob;
+use crate::fault::{BlobFault, fault_at};
+use crate::input_blobs::at_end;
 use crate::open_spans::OpenSpans;
 use crate::spans::{Located, Spans};
 use std::alloc::Global;
@@ -22,25 +22,6 @@ pub(crate) enum State {
     Ready,
     Ended,
     Spent,
-}
-
-impl State {
-    ghost use Rattle.twkb_blob.specs.Readers.{ended_at, spent_at};
-
-    // The state after a call that read and returned this: `Ready` after a blob, `Ended` at the end,
-    // `Spent` after an `Err`.
-    #[inline(always)]
-    fn after(found: Result<bool, BlobFault>) -> State
-        ensures spent { spent_at result ≡ is_err found }
-        ensures ended { found ≡ Ok false → ended_at result ≡ true }
-        ensures going_on { ¬ (found ≡ Ok false) → ended_at result ≡ false }
-    {
-        match found {
-            Ok(true) => State::Ready,
-            Ok(false) => State::Ended,
-            Err(_) => State::Spent,
-        }
-    }
 }
 
 /// The blobs of an input, one after another, each read as its bytes come.
@@ -149,13 +130,33 @@ impl<'a, R: Read> Reader<'a, R> {
             State::Ended => return Ok(false),
             State::Spent => return Err(BlobFault::Spent),
         }
-        let found = read_blob(&mut self.input, engine, flat, spans);
-        if let Ok(true) = found {
-            return found;
-        }
+        let stopped = loop {
+            // learnt: where the engine stands, the bytes end inside a blob, or there are none
+            let _learnt = engine.is_between();
+            if let Err(fault) = self.input.fill() {
+                break Err(BlobFault::Device(fault));
+            }
+            let piece = self.input.held();
+            if piece.is_empty() {
+                break at_end(engine).and(Ok(false));
+            }
+            let start = engine.start();
+            match engine.feed(flat, spans, piece) {
+                Ok((used, ends)) => {
+                    self.input.advance(used);
+                    if ends {
+                        return Ok(true);
+                    }
+                }
+                Err(stop) => break Err(fault_at(start + engine.bytes(), stop)),
+            }
+        };
         flat.clear();
-        self.state = State::after(found);
-        found
+        self.state = match stopped {
+            Ok(_) => State::Ended,
+            Err(_) => State::Spent,
+        };
+        stopped
     }
 
     // Builds the geometry of the rows of a blob that was read. Takes memory; if that is refused,

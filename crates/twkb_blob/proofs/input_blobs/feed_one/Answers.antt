@@ -1,5 +1,5 @@
 use Rattle.std.proofs.Common.{arith}
-use Rattle.twkb_blob.proofs.Alive.{alive_fed, many_fed}
+use Rattle.twkb_blob.proofs.Alive.{alive_fed, answer_of, many_fed}
 use Rattle.twkb_blob.proofs.Cuts.{stopped}
 use Rattle.twkb_blob.proofs.input_blobs.feed_one.Goals as goal
 
@@ -8,11 +8,11 @@ returns-in-Ok-clause-fed g c = record { limits = c.take_byte.ensures.limits; fed
 
 pub returns-in-Ok-clause-few : goal.returns-in-Ok-clause-few
 returns-in-Ok-clause-few g c =
-    let many = many_fed c.in-Ok.ends (returns-in-Ok-clause-fed g c) c.requires.alive in
+    let many = many_fed c.in-Ok.ends (answer_of (returns-in-Ok-clause-fed g c)) c.requires.alive in
     omega (arith, many.1, c.requires.room)
 
 pub returns-in-Ok-clause-alive : goal.returns-in-Ok-clause-alive
-returns-in-Ok-clause-alive g c = alive_fed c.in-Ok.ends (returns-in-Ok-clause-fed g c) c.requires.alive
+returns-in-Ok-clause-alive g c = alive_fed c.in-Ok.ends (answer_of (returns-in-Ok-clause-fed g c)) c.requires.alive
 
 pub returns-in-Err-clause-fed : goal.returns-in-Err-clause-fed
 returns-in-Err-clause-fed g c =

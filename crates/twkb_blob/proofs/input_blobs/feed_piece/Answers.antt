@@ -3,7 +3,7 @@ use Rattle.std.proofs.lemmas.List.{length-take}
 use Rattle.twkb_engine.specs.State.{allowance_of}
 use Rattle.twkb_engine.specs.Standing.{offset_in}
 use Rattle.twkb_blob.specs.Feeding.{Feeds}
-use Rattle.twkb_blob.proofs.Alive.{alive_fed, many_fed}
+use Rattle.twkb_blob.proofs.Alive.{alive_fed, answer_of, many_fed}
 use Rattle.twkb_blob.proofs.Cuts.{are_cut_off, cut_feeds, no_room, stopped, too_far}
 use Rattle.twkb_blob.proofs.input_blobs.feed_piece.Goals as goal
 
@@ -36,7 +36,7 @@ returns-else-not-ends-clause-fed g c =
 
 pub returns-else-not-ends-clause-within : goal.returns-else-not-ends-clause-within
 returns-else-not-ends-clause-within g c = (many_fed c.in-Ok.ends
-    (returns-else-not-ends-clause-fed g c) c.requires.alive).0
+    (answer_of (returns-else-not-ends-clause-fed g c)) c.requires.alive).0
 
 pub returns-else-not-ends-clause-few : goal.returns-else-not-ends-clause-few
 returns-else-not-ends-clause-few g c =
@@ -44,7 +44,7 @@ returns-else-not-ends-clause-few g c =
     (take c.in-Some.count c.args.piece.now)
     (Ok (c.in-Ok.used, c.in-Ok.ends)) c.feed.new.self c.feed.new.flat c.feed.new.spans =
     record { limits = c.feed.ensures.limits; fed = c.in-Ok.ensures.fed } in
-    let many = many_fed c.in-Ok.ends cut c.requires.alive in
+    let many = many_fed c.in-Ok.ends (answer_of cut) c.requires.alive in
     omega (
       arith,
       many.0,
@@ -57,7 +57,7 @@ returns-else-not-ends-clause-few g c =
 
 pub returns-else-not-ends-clause-alive : goal.returns-else-not-ends-clause-alive
 returns-else-not-ends-clause-alive g c = alive_fed c.in-Ok.ends
-    (returns-else-not-ends-clause-fed g c) c.requires.alive
+    (answer_of (returns-else-not-ends-clause-fed g c)) c.requires.alive
 
 pub returns-in-Err-clause-fed : goal.returns-in-Err-clause-fed
 returns-in-Err-clause-fed g c =
