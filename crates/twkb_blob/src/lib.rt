@@ -3,7 +3,6 @@
 #![tactic(auto)]
 
 mod fault;
-mod input_blobs;
 pub mod laws;
 mod open_spans;
 mod reader;

@@ -5,8 +5,7 @@ ghost use Rattle.twkb_tree.specs.Rows.{rows};
 ghost use Rattle.twkb_tree.specs.Limits.{IsValid, largest_limits};
 ghost use Rattle.twkb_grammar.specs.Noting.{no_notes};
 
-use crate::fault::{BlobFault, fault_at};
-use crate::input_blobs::at_end;
+use crate::fault::{BlobFault, at_end, fault_at};
 use crate::open_spans::OpenSpans;
 use crate::spans::{Located, Spans};
 use std::alloc::Global;
