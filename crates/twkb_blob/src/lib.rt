@@ -4,7 +4,6 @@
 
 mod fault;
 pub mod laws;
-mod open_spans;
 mod reader;
 mod session;
 mod spans;

@@ -6,7 +6,6 @@ ghost use Rattle.twkb_tree.specs.Limits.{IsValid, largest_limits};
 ghost use Rattle.twkb_grammar.specs.Noting.{no_notes};
 
 use crate::fault::{BlobFault, at_end, fault_at};
-use crate::open_spans::OpenSpans;
 use crate::spans::{Located, Spans};
 use std::alloc::Global;
 use std::io::Read;
@@ -95,13 +94,14 @@ impl<'a, R: Read> Reader<'a, R> {
         ensures spent { (result ≡ Err BlobFault.Spent) ↔ (is_spent self.old ≡ true) }
     {
         let mut flat = Flat::new(alloc);
-        let mut notes = OpenSpans::new(alloc);
+        let mut spans = Spans::new(alloc);
+        // no span is open
+        spans.notes.restart();
         let mut engine = Engine::new(alloc, self.limits, self.input.offset());
-        if !self.read_with(&mut engine, &mut flat, &mut notes)? {
+        if !self.read_with(&mut engine, &mut flat, &mut spans.notes)? {
             return Ok(None);
         }
         let geometry = self.tree_of(alloc, &flat)?;
-        let spans = Spans { notes };
         Ok(Some(Located { geometry, spans }))
     }
 
