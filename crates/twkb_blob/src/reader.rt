@@ -1,8 +1,5 @@
 //! The blobs of an input, one after another.
-ghost use Rattle.std.specs.Prelude.{◌≡◌, ◌<◌, ◌↔◌, ◌⊎◌, [], length, true, false, Ok, Err, None, IfOk, IfErr};
-ghost use Rattle.std.specs.Prelude.{OnOk, OnErr};
-ghost use Rattle.twkb_tree.specs.Rows.{rows};
-ghost use Rattle.twkb_tree.specs.Limits.{IsValid, largest_limits};
+ghost use Rattle.std.specs.Prelude.{◌≡◌, ◌↔◌, [], true, false, Err, None};
 ghost use Rattle.twkb_grammar.specs.Noting.{no_notes};
 
 use crate::fault::{BlobFault, at_end, fault_at};
@@ -32,8 +29,8 @@ pub struct Reader<'a, R: Read> {
 
 impl<'a, R: Read> Reader<'a, R> {
     ghost use Rattle.twkb_blob.specs.Readers.{reader_input, reader_limits, is_spent, has_ended, IsNext};
-    ghost use Rattle.twkb_blob.specs.Readers.{IfGoingOn, IsAbreast, PartAhead, ReadsNext, ReadsRows};
-    ghost use Rattle.twkb_blob.specs.Located.{IsLocated, ReadsInto};
+    ghost use Rattle.twkb_blob.specs.Readers.{IsAbreast, PartAhead, ReadsNext, ReadsRows, stopped_at};
+    ghost use Rattle.twkb_blob.specs.Located.{IsLocated, ReadsWith};
 
     /// Makes a reader of what the input still has, which reads nothing yet. The limits are those of
     /// each geometry. Takes no memory.
@@ -67,7 +64,10 @@ impl<'a, R: Read> Reader<'a, R> {
         if !self.next_flat(alloc, &mut flat)? {
             return Ok(None);
         }
-        let geometry = self.tree_of(alloc, &flat)?;
+        let Ok(geometry) = flat.to_geometry(alloc) else {
+            self.state = State::Spent;
+            return Err(BlobFault::Memory);
+        };
         Ok(Some(geometry))
     }
 
@@ -101,7 +101,10 @@ impl<'a, R: Read> Reader<'a, R> {
         if !self.read_with(&mut engine, &mut flat, &mut spans.notes)? {
             return Ok(None);
         }
-        let geometry = self.tree_of(alloc, &flat)?;
+        let Ok(geometry) = flat.to_geometry(alloc) else {
+            self.state = State::Spent;
+            return Err(BlobFault::Memory);
+        };
         Ok(Some(Located { geometry, spans }))
     }
 
@@ -117,11 +120,7 @@ impl<'a, R: Read> Reader<'a, R> {
     ) -> Result<bool, BlobFault>
         requires abreast { IsAbreast self.old engine.old }
         requires no_notes { S.holds spans.old no_notes }
-        ensures shared { ReadsNext false self.old self.new result }
-        ensures read { IfGoingOn self.old (ReadsInto S.holds (reader_limits self.old)
-            (reader_input self.old) (reader_input self.new) result flat.new spans.new) }
-        ensures cleared { (result ≡ Ok true) ⊎ (flat.new ≡ []) }
-        ensures abreast { IsAbreast self.new engine.new }
+        ensures { ReadsWith S.holds self.old self.new result flat.new spans.new engine.new }
     {
         flat.clear();
         match self.state {
@@ -150,31 +149,20 @@ impl<'a, R: Read> Reader<'a, R> {
                 Err(stop) => break Err(fault_at(start + engine.bytes(), stop)),
             }
         };
+        self.stop(flat, stopped)
+    }
+
+    // Clears the form, and returns what was found: the end, or an error for which the reader is spent.
+    fn stop(&mut self, flat: &mut Flat, found: Result<bool, BlobFault>) -> Result<bool, BlobFault>
+        ensures answer { result ≡ found }
+        ensures rows { flat.new ≡ [] }
+        ensures state { self.new ≡ record self.old { state = stopped_at found } }
+    {
         flat.clear();
-        self.state = match stopped {
+        self.state = match found {
             Ok(_) => State::Ended,
             Err(_) => State::Spent,
         };
-        stopped
-    }
-
-    // Builds the geometry of the rows of a blob that was read. Takes memory; if that is refused,
-    // the reader is spent.
-    fn tree_of(&mut self, alloc: Global, flat: &Flat) -> Result<Geometry, BlobFault>
-        requires { 0 < length flat.now }
-        ensures rows { IfOk result (λ g. rows 0 g ≡ flat.now) }
-        ensures valid { IfOk result (λ g. IsValid largest_limits g) }
-        ensures memory { IfErr result (λ why. why ≡ BlobFault.Memory) }
-        ensures stays { OnOk result (self.new ≡ self.old) }
-        ensures spent { OnErr result (is_spent self.new ≡ true) }
-        ensures kept { (self.new.input ≡ self.old.input) × (self.new.limits ≡ self.old.limits) }
-    {
-        match flat.to_geometry(alloc) {
-            Ok(geometry) => Ok(geometry),
-            Err(_) => {
-                self.state = State::Spent;
-                Err(BlobFault::Memory)
-            }
-        }
+        found
     }
 }

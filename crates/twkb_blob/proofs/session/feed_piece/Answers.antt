@@ -1,4 +1,4 @@
-use Rattle.std.proofs.Common.{◌≡◌, [], length, take, arith, inl, inr, Ok, Err, refl, subst, sym}
+use Rattle.std.proofs.Common.{◌≡◌, length, take, arith, inl, inr, Ok, Err, refl, subst, sym}
 use Rattle.std.proofs.lemmas.List.{length-take}
 use Rattle.twkb_engine.specs.State.{allowance_of}
 use Rattle.twkb_engine.specs.Standing.{FedBy, offset_in}

@@ -1,10 +1,10 @@
-use Rattle.std.proofs.Common.{◌≡◌, ◌∙◌, Bool, Ok, Err, Result, true, false, ap, arith, is_err, length, refl, rules, subst, sym}
+use Rattle.std.proofs.Common.{◌≡◌, ◌∙◌, Bool, Ok, Err, Result, true, false, ap, arith, inr, is_err, length, refl, rules, subst, sym}
 use Rattle.std.specs.Result.{result_and}
 use Rattle.twkb_io.specs.Inputs as input
 use Rattle.twkb_engine.specs.State.{allowance_of}
 use Rattle.twkb_engine.specs.Standing.{IsAlive, IsAnswer, offset_in}
 use Rattle.twkb_blob.specs.Feeding.{Reads}
-use Rattle.twkb_blob.specs.Readers.{IsAtBlob, ended_at, reader_input, reader_limits, spent_at}
+use Rattle.twkb_blob.specs.Readers.{IsAtBlob, ended_at, reader_input, reader_limits, spent_at, stopped_at}
 use Rattle.twkb_blob.specs.declared.fault.BlobFault.{BlobFault}
 use Rattle.twkb_blob.proofs.Abreast.{read_abreast, still_abreast}
 use Rattle.twkb_blob.proofs.Alive.{alive_fed, many_fed}
@@ -15,16 +15,27 @@ use Rattle.twkb_blob.proofs.Pieces.{fill_none, held_left, left_none, none_in}
 use Rattle.twkb_blob.proofs.reader.Reader.read_with.Goals as goal
 use Rattle.twkb_blob.proofs.reader.Reader.read_with.Goals.{in-Err, in_default+then-is_empty}
 use Rattle.twkb_blob.proofs.reader.Reader.read_with.Goals.{in_default+else-is_empty+in-Err-feed}
-use Rattle.twkb_blob.proofs.reader.Reader.read_with.Goals.{in-Ok-stopped, in-Err-stopped}
 
 -- what ends no blob is no geometry
 no_blob : {A : Type 0} (answer : Result A BlobFault) → result_and answer (Ok false) ≡ Ok true → ⊥
 no_blob (Ok done) e = cc
 no_blob (Err why) e = cc
 
-is_end : (found : Result Bool BlobFault) (b : Bool) → found ≡ Ok b → (found ≡ Ok true → ⊥) → found ≡ Ok false
-is_end found true is not = absurd (not is)
-is_end found false is not = is
+-- what was found is the end or an error
+no_end : (found : Result Bool BlobFault) → (found ≡ Ok true → ⊥) → ¬ (found ≡ Ok false)
+    → ended_at (stopped_at found) ≡ false
+no_end (Ok true) none going = absurd (none refl)
+no_end (Ok false) none going = absurd (going refl)
+no_end (Err why) none going = refl
+
+is_spent : (found : Result Bool BlobFault) → spent_at (stopped_at found) ≡ is_err found
+is_spent (Ok b) = refl
+is_spent (Err why) = refl
+
+is_over : (found : Result Bool BlobFault) → spent_at (stopped_at found) ≡ false
+    → ended_at (stopped_at found) ≡ false → ⊥
+is_over (Ok b) live going = absurd cc
+is_over (Err why) live going = absurd cc
 
 pub loop-fault-init : goal.loop-fault-init
 loop-fault-init g c =
@@ -65,7 +76,7 @@ returns-then-ends g c =
     record {
       shared = next_read (Ok true) run here.invariant.limits (search rules) (search rules) ready.0
           (λ e. absurd (cc)) (λ not. ready.1);
-      read = λ live going. read_abreast (c.requires.abreast live going) c.clear.ensures (Ok true)
+      into = λ live going. read_abreast (c.requires.abreast live going) c.clear.ensures (Ok true)
           c.requires.no_notes (λ e. refl) run;
       cleared = search rules;
       abreast = λ live going. still_abreast (c.requires.abreast (search rules) (search rules)) c.clear.ensures
@@ -114,29 +125,14 @@ returns g c =
             λ e. cc,
           )
     ] in
-    let state : (spent_at c.match-stopped.self ≡ is_err stopped)
-    × (stopped ≡ Ok false → ended_at c.match-stopped.self ≡ true)
-    × (¬ (stopped ≡ Ok false) → ended_at c.match-stopped.self ≡ false) =
-    elim c.match-stopped.branch [
-      | in-Ok-stopped w ↦ rw w.self-is (
-        ap (λ (r : Result Bool BlobFault). is_err r) (sym w.in-Ok-stopped.is),
-        λ e. refl,
-        λ not. absurd (not (is_end stopped _ w.in-Ok-stopped.is run.1)),
-      )
-      | in-Err-stopped w ↦ rw w.self-is (
-        ap (λ (r : Result Bool BlobFault). is_err r) (sym w.in-Err-stopped.is),
-        λ e. absurd (cc (e, w.in-Err-stopped.is)),
-        λ not. refl,
-      )
-    ] in
-    record {
-      shared = next_read stopped run.0 here.invariant.limits (search rules) (search rules) state.0
-          state.1 state.2;
-      read = λ live going. read_abreast (c.requires.abreast live going) c.clear.ensures stopped
+    rw (c.stop.ensures.answer, c.stop.ensures.state) (record {
+      shared = next_read stopped run.0 here.invariant.limits (search rules) (search rules) (is_spent stopped)
+          (λ e. ap (λ r. ended_at (stopped_at r)) e) (no_end stopped run.1);
+      into = λ live going. read_abreast (c.requires.abreast live going) c.clear.ensures stopped
           c.requires.no_notes (λ e. absurd (run.1 e)) run.0;
-      cleared = search rules;
-      abreast = search rules;
-    }
+      cleared = inr c.stop.ensures.rows;
+      abreast = λ live going. absurd (is_over stopped live going);
+    })
 
 pub loop-fault-preserved : goal.loop-fault-preserved
 loop-fault-preserved g c =
