@@ -51,8 +51,8 @@ module _ {R : Type 0} {read : Ghosts R} {limits : Allowance} {a c : Input R read
       noted kept run
 
   -- and the engine keeps pace
-  pub still_abreast : Reads holds d none w a c (Ok true) e more v → IsAtBlob limits c e
-  still_abreast run =
+  pub still_abreast : {own : Allowance} → own ≡ limits → Reads holds d none w a c (Ok true) e more v → IsAtBlob own c e
+  still_abreast same run =
       let (g, made, told, rows, stands, start) = run.blob []
       (subst (λ l. StandsAt [] l d) (sym cleared) (begun d k.alive k.none)) in
-      new_abreast stands (omega (arith, start, made.left.counted, k.start)) (run.limits ∙ k.same_limits)
+      new_abreast stands (omega (arith, start, made.left.counted, k.start)) (run.limits ∙ k.same_limits ∙ sym same)

@@ -1,5 +1,5 @@
 -- The answers of a reader, of what was read into a form.
-use Rattle.std.proofs.Common.{◌≡◌, ℕ, ◌<◌, inl, inr, List, [], length, length-append, sym, ap, ◌∙◌, refl, subst, Bool}
+use Rattle.std.proofs.Common.{◌≡◌, ℕ, ◌<◌, List, [], length, length-append, sym, ap, ◌∙◌, refl, subst, Bool}
 use Rattle.std.proofs.Common.{Option, Some, None, Result, Ok, Err, true, false, arith}
 use Rattle.std.proofs.KnownBytes.{Consumes-whole}
 use Rattle.std.proofs.Math.Seq.{take-append_seam}
@@ -75,9 +75,7 @@ module _ {R : Type 0} {read : Ghosts R} (limits : Allowance) (a c : Input R read
   answered holds told e rs qs v (Err fault.Memory) known kept h = h
   answered holds told e rs qs v (Err (fault.At offset reason)) known kept h = IfSome_then
       (rest_of a) h (λ rest f. record { within = f.0; first = f.1; place = f.2 })
-  answered holds told e rs qs v (Err (fault.Device why)) known kept (inl h) = stops why h.0 h.1 h.2 h.3
-  answered holds told e rs qs v (Err (fault.Device why)) known kept (inr h) = absurd
-      (let ahead = h.1 in omega (arith, ahead))
+  answered holds told e rs qs v (Err (fault.Device why)) known kept h = stops why h.0 h.1 h.2 h.3
   answered holds told e rs qs v (Err fault.Spent) known kept h = absurd h
 
 module _ {R : Type 0} {read : Ghosts R} {limits : Allowance} {a c : Input R read} where

@@ -1,12 +1,14 @@
 -- What follows from what every call of a reader says.
-use Rattle.std.proofs.Common.{◌≡◌, ◌⊎◌, inl, inr, ◌<◌, refl, Bool, Ok, Err, Result, true, false, List, [], length}
+use Rattle.std.proofs.Common.{◌≡◌, ◌⊎◌, inl, inr, ◌<◌, refl, Bool, Ok, Err, Result, true, false, List, [], length, is_err}
 use Rattle.std.specs.declared.io.traits.Read.{Ghosts}
 use Rattle.twkb_tree.specs.Rows.{Row}
 use Rattle.twkb_grammar.specs.Noting.{Notes}
 use Rattle.twkb_grammar.specs.declared.span.Span.{Span}
+use Rattle.twkb_engine.specs.declared.engine.Engine.{Engine}
 use Rattle.twkb_blob.specs.Readers.{IfGoingOn, PartAhead, ReadsNext, ReadsRows, has_ended, is_spent, reader_input}
 use Rattle.twkb_blob.specs.Readers.{reader_limits}
 use Rattle.twkb_blob.specs.Located.{ReadsInto, ReadsSpans}
+use Rattle.twkb_blob.specs.Feeding.{Reads}
 use Rattle.twkb_blob.specs.declared.fault.BlobFault.{BlobFault}
 use Rattle.twkb_blob.specs.declared.fault.BlobFault.TheVariants as fault
 use Rattle.twkb_blob.specs.declared.reader.Reader.{Reader}
@@ -25,6 +27,25 @@ pub both : {A B C : Type 0} → A ⊎ B → A ⊎ C → A ⊎ (B × C)
 both (inl a) other = inl a
 both (inr b) (inl a) = inl a
 both (inr b) (inr c) = inr (b, c)
+
+-- what was read of its input
+pub next_read : {R : Type 0} {read : Ghosts R} {old new : Reader R read} {S : Type 0}
+    {holds : S → Notes → Type 0} {d e : Engine} {none more : List Row} {w v : S} (answer : Result Bool BlobFault)
+    → Reads holds d none w (reader_input old) (reader_input new) answer e more v
+    → reader_limits new ≡ reader_limits old → is_spent old ≡ false → has_ended old ≡ false
+    → is_spent new ≡ is_err answer → (answer ≡ Ok false → has_ended new ≡ true)
+    → (¬ (answer ≡ Ok false) → has_ended new ≡ false) → ReadsNext false old new answer
+next_read answer run limits live going stays end on = record {
+  same_tap = run.same_tap;
+  limits = limits;
+  failures = run.failures;
+  spent = λ e. absurd (cc (e, live));
+  stays = stays;
+  unchanged = λ e. absurd (cc (e, live));
+  end = end;
+  going_on = on;
+  for_good = λ e. absurd (cc (e, going));
+}
 
 module _ {R : Type 0} {read : Ghosts R} {old new : Reader R read} {answer : Result Bool BlobFault}
     (h : ReadsNext false old new answer) where

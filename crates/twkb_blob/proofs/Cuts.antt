@@ -1,9 +1,9 @@
 -- An answer to a prefix of a piece is one to the piece.
 use Rattle.std.proofs.Common.{◌≡◌, ℕ, ◌+◌, ◌-◌, ◌<◌, ◌≤◌, List, ◌++◌, length, length-append, take, drop}
-use Rattle.std.proofs.Common.{take-append-drop, append-nil, refl, sym, ap, ◌∙◌, subst, Bool, true, false, Result, Ok}
-use Rattle.std.proofs.Common.{Err, arith, inl, inr}
+use Rattle.std.proofs.Common.{take-append-drop, refl, sym, ap, ◌∙◌, subst, Bool, true, false, Result, Ok}
+use Rattle.std.proofs.Common.{Err, [], ◌∷◌, get_or, arith, inl, inr}
 use Rattle.std.proofs.Math.Seq.{take-length}
-use Rattle.std.proofs.lemmas.List.{take-append-le}
+use Rattle.std.proofs.lemmas.List.{length-take, take-append-le}
 use Rattle.twkb_io.specs.declared.TheConstants.{MAX_BYTES}
 use Rattle.twkb_tree.specs.Rows.{Row}
 use Rattle.twkb_tree.specs.Limits.{Allowance}
@@ -12,7 +12,7 @@ use Rattle.twkb_grammar.specs.Noting.{Notes}
 use Rattle.twkb_io.specs.declared.input.InFault.TheVariants.{TooLong}
 use Rattle.twkb_engine.specs.State.{allowance_of}
 use Rattle.twkb_engine.specs.Standing.{StandsAt, IsEnd, IsFed, FedBy, HoldsSpans, TakesAll, count_of, notes_at}
-use Rattle.twkb_engine.specs.Standing.{offset_in}
+use Rattle.twkb_engine.specs.Standing.{IsAlive, IsAnswer, offset_in}
 use Rattle.twkb_engine.specs.Stops.{Stop}
 use Rattle.twkb_flat.specs.declared.stop.Stop.TheVariants.{Memory, Refused}
 use Rattle.twkb_engine.specs.declared.engine.Engine.{Engine}
@@ -20,6 +20,7 @@ use Rattle.twkb_blob.specs.Faults.{fault_of}
 use Rattle.twkb_blob.specs.Feeding.{Feeds}
 use Rattle.twkb_blob.specs.Readers.{AreCutOff}
 use Rattle.twkb_blob.specs.declared.fault.BlobFault.TheVariants as fault
+use Rattle.twkb_blob.proofs.Alive.{alive_fed, many_fed}
 
 -- where an engine stands there are no bytes, or they end inside a blob
 pub are_cut_off : (limits : Allowance) (bs : List ℕ) (offset : ℕ) (between : Bool)
@@ -78,24 +79,45 @@ piece_fed holds d e rs more old new piece count answer fed = λ bs s.
 module _ {S : Type 0} {holds : S → Notes → Type 0} {d e : Engine} {rs more : List Row} {old new : S}
     {piece : List ℕ} where
   -- bytes of it were used
-  pub cut_feeds : (count : ℕ) (fed : ℕ × Bool) → Feeds holds d rs old (take count piece) (Ok fed) e
-      more new → Feeds holds d rs old piece (Ok fed) e more new
-  cut_feeds count fed f = record {
-    limits = f.limits;
-    fed = piece_fed holds d e rs more old new piece count (Ok fed) f.fed;
-  }
+  pub cut_feeds : (count used : ℕ) (ends : Bool) → IsAnswer holds d rs old (take count piece) (Ok (used, ends))
+      e more new → IsAlive rs d → (d.start + count_of d) + count ≤ MAX_BYTES
+      → (ends ≡ false → used ≡ length piece) → Feeds holds d rs old piece (Ok (used, ends)) e more new
+  cut_feeds count used ends f alive room all =
+      let whole : IsAnswer holds d rs old piece (Ok (used, ends)) e more new = record {
+        limits = f.limits;
+        fed = piece_fed holds d e rs more old new piece count (Ok (used, ends)) f.fed;
+      } in
+      let cut = many_fed ends f alive in
+      record {
+        limits = f.limits;
+        fed = whole.fed;
+        within = (many_fed ends whole alive).0;
+        all = all;
+        few = omega (arith, cut.0, cut.1, length-take count piece, room);
+        alive = alive_fed ends whole alive;
+        unread = refl;
+      }
 
   -- the engine stopped
-  pub stopped : {place : ℕ} (count : ℕ) (stop : Stop) → e.limits ≡ d.limits
-      → FedBy holds d rs old (take count piece) (Err stop) e more new
+  pub stopped : {place : ℕ} (count : ℕ) (stop : Stop) → IsAnswer holds d rs old (take count piece) (Err stop) e more new
       → place ≡ d.start + offset_in e → Feeds holds d rs old piece (Err (fault_of place stop)) e more new
-  stopped count Memory limits fed at = record {
-    limits = limits;
-    fed = piece_fed holds d e rs more old new piece count (Err Memory) fed;
+  stopped count Memory f at = record {
+    limits = f.limits;
+    fed = piece_fed holds d e rs more old new piece count (Err Memory) f.fed;
+    within = tt;
+    all = tt;
+    few = tt;
+    alive = tt;
+    unread = refl;
   }
-  stopped count (Refused why) limits fed at = record {
-    limits = limits;
-    fed = (piece_fed holds d e rs more old new piece count (Err (Refused why)) fed, at);
+  stopped count (Refused why) f at = record {
+    limits = f.limits;
+    fed = (piece_fed holds d e rs more old new piece count (Err (Refused why)) f.fed, at);
+    within = tt;
+    all = tt;
+    few = tt;
+    alive = tt;
+    unread = refl;
   }
 
   -- the stream has no room for all of the piece
@@ -117,20 +139,20 @@ module _ {S : Type 0} {holds : S → Notes → Type 0} {d e : Engine} {rs more :
           subst (λ l. AreCutOff l (bs ++ take (MAX_BYTES - (d.start + count_of d)) piece)) limits
           (cut _ more (subst (λ l. StandsAt (bs ++ l) more e) whole (fed bs s).2)),
     );
+    within = tt;
+    all = tt;
+    few = tt;
+    alive = tt;
+    unread = refl;
   }
 
--- the stream has no room for any byte
-pub no_room : {S : Type 0} {holds : S → Notes → Type 0} {d : Engine} {rs : List Row} {old : S}
-    {piece : List ℕ} → MAX_BYTES < d.start + count_of d
-    → ((bs : List ℕ) (rs : List Row) → StandsAt bs rs d → AreCutOff (allowance_of d) bs)
-    → Feeds holds d rs old piece (Err (fault.Device TooLong)) d rs old
-no_room {d = d} {rs = rs} {piece = piece} past cut = record {
-  limits = refl;
-  fed = (
-    refl,
-    omega (arith, past),
-    λ bs s. let none : MAX_BYTES - (d.start + count_of d) ≡ 0 = omega (arith, past) in
-        subst (λ n. AreCutOff (allowance_of d) (bs ++ take n piece)) (sym none)
-        (subst (AreCutOff (allowance_of d)) (sym (append-nil bs)) (cut bs rs s)),
-  );
-}
+-- all bytes of it were used, if no blob ended
+pub all_used : (used many : ℕ) (ends : Bool) → TakesAll many (Ok (used, ends)) → ends ≡ false → used ≡ many
+all_used used many false all off = all
+all_used used many true all off = absurd cc
+
+-- a piece of one byte
+pub only_byte : (piece : List ℕ) (byte : ℕ) → length piece ≡ 1 → byte ≡ get_or piece 0 0 → take 1 piece ≡ byte ∷ []
+only_byte [] byte one is = absurd (omega (arith, one))
+only_byte (x ∷ []) byte one is = ap (λ y. y ∷ []) (sym is)
+only_byte (x ∷ y ∷ xs) byte one is = absurd (omega (arith, one))

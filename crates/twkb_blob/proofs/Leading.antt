@@ -1,15 +1,15 @@
 -- The turns of a call that reads a blob of an input.
-use Rattle.std.proofs.Common.{◌≡◌, ◌≢◌, ℕ, ◌+◌, ◌-◌, ◌≤◌, List, [], ◌++◌, length, length-append, take, drop}
+use Rattle.std.proofs.Common.{◌≡◌, ◌≢◌, ℕ, ◌+◌, List, [], ◌++◌, length, length-append, take, drop}
 use Rattle.std.proofs.Common.{refl, sym, ap, ◌∙◌, subst, append_assoc, append-nil, take-append-drop, Bool, Result, Ok}
-use Rattle.std.proofs.Common.{Err, true, false, arith, inl, inr}
+use Rattle.std.proofs.Common.{Err, true, false, arith}
 use Rattle.std.proofs.KnownBytes.{Consumes-whole, starts_with_rest}
 use Rattle.std.proofs.lemmas.List.{length-take-le}
 use Rattle.std.proofs.lemmas.Option.{IfSome_then}
 use Rattle.std.specs.Prelude.{IfSome}
+use Rattle.std.specs.Result.{result_and}
 use Rattle.std.specs.Io.{StartsWith}
 use Rattle.std.specs.Io.KnownBytes.{IsAtEnd}
 use Rattle.std.specs.declared.io.traits.Read.{Ghosts}
-use Rattle.twkb_io.specs.declared.TheConstants.{MAX_BYTES}
 use Rattle.twkb_tree.specs.Rows.{Row}
 use Rattle.twkb_tree.specs.Limits.{Allowance}
 use Rattle.twkb_grammar.specs.Blob.{Blob}
@@ -18,19 +18,20 @@ use Rattle.twkb_grammar.specs.Noting.{Notes}
 use Rattle.twkb_body.specs.JudgedParts.{PartIn}
 use Rattle.twkb_io.specs.Taps.{count_failure, failures_of}
 use Rattle.twkb_io.specs.declared.input.Input.{Input}
-use Rattle.twkb_io.specs.Inputs.{given, input_failures, input_tap, is_spent, rest_of}
+use Rattle.twkb_io.specs.declared.input.InFault.{InFault}
+use Rattle.twkb_io.specs.Inputs.{input_failures, input_tap, is_read, is_spent, rest_of}
 use Rattle.twkb_engine.specs.State.{allowance_of}
 use Rattle.twkb_engine.specs.Stops.{Stop, reason_of}
-use Rattle.twkb_engine.specs.Standing.{StandsAt, IsFed, HoldsSpans, RefusedIn, notes_at, offset_in}
+use Rattle.twkb_engine.specs.Standing.{StandsAt, FedBy, IsAnswer, IsFed, HoldsSpans, RefusedIn, notes_at, offset_in}
 use Rattle.twkb_engine.specs.declared.engine.Engine.{Engine}
 use Rattle.twkb_flat.specs.declared.stop.Stop.TheVariants as stop
-use Rattle.twkb_engine.proofs.Feeds.{count_is}
-use Rattle.twkb_blob.specs.Feeding.{FedPiece, Feeds, Goes, IsCutAt, Reads, ReadsBlob, ReadsNoBlob, Turns}
-use Rattle.twkb_blob.specs.Readers.{AreCutOff, Left, failed_by_read}
+use Rattle.twkb_blob.specs.Faults.{fault_of}
+use Rattle.twkb_blob.specs.Feeding.{EndsAt, Goes, IsCutAt, Reads, ReadsBlob, ReadsNoBlob, Turns}
+use Rattle.twkb_blob.specs.Readers.{AreCutOff, HasNone, Left, failed_by_read}
 use Rattle.twkb_blob.specs.declared.fault.BlobFault.{BlobFault}
 use Rattle.twkb_blob.specs.declared.fault.BlobFault.TheVariants as fault
 use Rattle.twkb_blob.proofs.Cuts.{grown}
-use Rattle.twkb_blob.proofs.Pieces.{known_after, left_join, none_from, part_after}
+use Rattle.twkb_blob.proofs.Pieces.{known_after, left_join, none_from, part_after, read_failed}
 
 -- the bytes end inside a blob
 pub halts_end : {R : Type 0} {read : Ghosts R} {a b : Input R read} (limits : Allowance) (start : ℕ)
@@ -58,16 +59,12 @@ module _ {R : Type 0} {read : Ghosts R} {a b : Input R read} {bytes : List ℕ}
             (append_assoc bs bytes rest) f.1,
         f.2,
       ))
-  halts_after (fault.Device why) (inl (more, last, cut, none)) =
-      inl (
-        bytes ++ more,
-        left_join left last,
-        subst (AreCutOff limits) (append_assoc bs bytes more)
-            cut,
-        none_from c why left live none,
-      )
-  halts_after (fault.Device why) (inr (is, ahead)) = inr
-      (is, omega (arith, ahead, left.counted, length-append bs bytes))
+  halts_after (fault.Device why) (more, last, cut, none) = (
+    bytes ++ more,
+    left_join left last,
+    subst (AreCutOff limits) (append_assoc bs bytes more) cut,
+    none_from c why left live none,
+  )
   halts_after fault.Spent h = absurd h
 
   blob_after : {S : Type 0} (holds : S → Notes → Type 0) (told known : Type 0) (e : Engine)
@@ -98,7 +95,7 @@ module _ {R : Type 0} {read : Ghosts R} {a b : Input R read} {bytes : List ℕ}
 module _ {S : Type 0} (holds : S → Notes → Type 0) {R : Type 0} {read : Ghosts R} (a : Input R read)
     (d e : Engine) (rs more : List Row) (told now : S) (piece : List ℕ)
     (starts : IfSome (rest_of a) (λ rest. StartsWith rest piece))
-    (few : length piece ≤ MAX_BYTES - given a) (bs : List ℕ) (s : StandsAt bs rs d) where
+    (bs : List ℕ) (s : StandsAt bs rs d) where
   in_rest : (why : Stop) (rest : List ℕ) → StartsWith rest piece
       → IsFed holds (holds told (notes_at s)) (allowance_of d) d.start bs piece (Err why) more e now
       → IsFed holds (holds told (notes_at s)) (allowance_of d) d.start bs rest (Err why) more e now
@@ -108,20 +105,19 @@ module _ {S : Type 0} (holds : S → Notes → Type 0) {R : Type 0} {read : Ghos
       (grown holds (holds told (notes_at s)) (allowance_of d) d.start bs piece
       (drop (length piece) rest) more e now (Err why) fed)
 
-  halts_in : (why : BlobFault) → FedPiece holds d rs told piece (Err why) e more now
-      → ReadsNoBlob (allowance_of d) d.start bs a a why
-  halts_in fault.Memory f = IfSome_then (rest_of a) starts (λ rest is. in_rest stop.Memory rest is (f bs s))
-  halts_in (fault.At offset why) f =
+  halts_in : {place : ℕ} (why : Stop) → place ≡ d.start + offset_in e
+      → FedBy holds d rs told piece (Err why) e more now
+      → ReadsNoBlob (allowance_of d) d.start bs a a (fault_of place why)
+  halts_in stop.Memory at f = IfSome_then (rest_of a) starts (λ rest is. in_rest stop.Memory rest is (f bs s))
+  halts_in (stop.Refused why) at f =
       IfSome_then (rest_of a) starts (λ rest is. let h : RefusedIn (allowance_of d) bs rest
-      (offset_in e) (reason_of why) = in_rest (stop.Refused why) rest is (f.0 bs s) in (
+      (offset_in e) (reason_of why) = in_rest (stop.Refused why) rest is (f bs s) in (
         offset_in e,
         subst (λ l. FirstFault (allowance_of d) l (offset_in e) (reason_of why))
             (append_assoc bs (take h.used rest) (drop h.used rest)
             ∙ ap (λ l. bs ++ l) (take-append-drop h.used rest)) (h.fault (drop h.used rest)),
-        f.1,
+        at,
       ))
-  halts_in (fault.Device why) f = inr (f.0, (let past = f.1 in omega (arith, past, few, a.within, count_is bs rs d s)))
-  halts_in fault.Spent f = absurd f
 
 module _ {S : Type 0} {holds : S → Notes → Type 0} {R : Type 0} {read : Ghosts R}
     {a b : Input R read} {d e : Engine} {rs mid : List Row} {told now : S} where
@@ -145,7 +141,7 @@ module _ {S : Type 0} {holds : S → Notes → Type 0} {R : Type 0} {read : Ghos
   -- bytes of a piece were fed
   pub turned : {piece : List ℕ} (used : ℕ) (ends : Bool) → Left a b (take used piece)
       → is_spent b ≡ false → input_tap b ≡ input_tap a
-      → Feeds holds d rs told piece (Ok (used, ends)) e mid now → Turns holds d rs told a b (Ok ends) e mid now
+      → IsAnswer holds d rs told piece (Ok (used, ends)) e mid now → Turns holds d rs told a b (Ok ends) e mid now
   turned {piece} used false left live tap f = record {
     bytes = take used piece;
     left = left;
@@ -169,19 +165,60 @@ module _ {S : Type 0} {holds : S → Notes → Type 0} {R : Type 0} {read : Ghos
     );
   }
 
+-- a stop of an engine is no failed read
+unread : (place : ℕ) (why : Stop) → failed_by_read {A = Bool} (Err (fault_of place why)) ≡ false
+unread place stop.Memory = refl
+unread place (stop.Refused why) = refl
+
 -- a piece was refused
 pub refused : {S : Type 0} {holds : S → Notes → Type 0} {R : Type 0} {read : Ghosts R}
     {a : Input R read} {d e : Engine} {rs more : List Row} {told now : S} {piece : List ℕ}
-    {why : BlobFault}
-    → IfSome (rest_of a) (λ rest. StartsWith rest piece) → length piece ≤ MAX_BYTES - given a
-    → failed_by_read {A = Bool} (Err why) ≡ false
-    → Feeds holds d rs told piece (Err why) e more now → Reads holds d rs told a a (Err why) e more now
-refused {holds = holds} {a = a} {d} {e} {rs} {more} {told} {now} {piece} {why} starts few unread f = record {
+    {place : ℕ} (why : Stop) → place ≡ d.start + offset_in e
+    → IfSome (rest_of a) (λ rest. StartsWith rest piece)
+    → IsAnswer holds d rs told piece (Err why) e more now
+    → Reads holds d rs told a a (Err (fault_of place why)) e more now
+refused {holds = holds} {a = a} {d} {e} {rs} {more} {told} {now} {piece} {place} why at starts f = record {
   same_tap = refl;
-  failures = ap (λ t. count_failure t (input_failures a)) (sym unread);
+  failures = ap (λ t. count_failure t (input_failures a)) (sym (unread place why));
   limits = f.limits;
-  blob = λ bs s. halts_in holds a d e rs more told now piece starts few bs s why f.fed;
+  blob = λ bs s. halts_in holds a d e rs more told now piece starts bs s why at f.fed;
 }
+
+-- an input gave no byte, or it ended
+module _ {S : Type 0} {holds : S → Notes → Type 0} {R : Type 0} {read : Ghosts R} {a b : Input R read}
+    {d : Engine} {rs : List Row} {told : S} (left : Left a b [])
+    (tap : (input_tap b).ghost_name ≡ (input_tap a).ghost_name) where
+  pub not_filled : (why : InFault) → input_failures b ≡ count_failure (is_read why) (input_failures a)
+      → ((bs : List ℕ) (rs : List Row) → StandsAt bs rs d → AreCutOff (allowance_of d) bs)
+      → HasNone why a b → Reads holds d rs told a b (Err (fault.Device why)) d rs told
+  not_filled why failures cut none = record {
+    same_tap = tap;
+    failures = failures ∙ ap (λ t. count_failure t (input_failures a)) (read_failed why);
+    limits = refl;
+    blob = λ bs s. (
+      [],
+      left,
+      subst (AreCutOff (allowance_of d)) (sym (append-nil bs)) (cut bs rs s),
+      none,
+    );
+  }
+
+  pub ended : {A : Type 0} (answer : Result A BlobFault) → input_failures b ≡ input_failures a
+      → failed_by_read answer ≡ false → IsAtEnd (rest_of b)
+      → ((bs : List ℕ) (rs : List Row) → StandsAt bs rs d → EndsAt (allowance_of d) d.start bs answer)
+      → Reads holds d rs told a b (result_and answer (Ok false)) d rs told
+  ended (Ok done) failures unread end ends = record {
+    same_tap = tap;
+    failures = failures;
+    limits = refl;
+    blob = λ bs s. ([], left, end, append-nil bs ∙ ends bs rs s);
+  }
+  ended (Err why) failures unread end ends = record {
+    same_tap = tap;
+    failures = failures ∙ ap (λ t. count_failure t (input_failures a)) (sym unread);
+    limits = refl;
+    blob = λ bs s. halts_end (allowance_of d) d.start bs why end left (ends bs rs s);
+  }
 
 -- a fill loses nothing
 pub filled : {S : Type 0} {holds : S → Notes → Type 0} {R : Type 0} {read : Ghosts R}

@@ -1,6 +1,6 @@
 -- Bytes that leave an input one piece after another, and what is known of those that are left.
 use Rattle.std.proofs.Common.{◌≡◌, ◌≢◌, ℕ, ◌+◌, ◌<◌, ◌≤◌, List, [], ◌∷◌, ◌++◌, length, length-append, take, refl}
-use Rattle.std.proofs.Common.{sym, ap, ◌∙◌, subst, append_assoc, true, false, Bool, nat_eq, Option, Some, None, Result}
+use Rattle.std.proofs.Common.{sym, ap, ◌∙◌, subst, append_assoc, true, Bool, nat_eq, Option, Some, None, Result}
 use Rattle.std.proofs.Common.{Err, arith}
 use Rattle.std.proofs.KnownBytes.{Consumes-kept, Consumes-nil, Consumes-trans}
 use Rattle.std.proofs.Math.Seq.{take-append-add}
@@ -45,13 +45,6 @@ none_in piece empty is on = nil_from_length piece (is_zero (length piece) (sym i
   where
     is_zero : (n : ℕ) → nat_eq n 0 ≡ true → n ≡ 0
     is_zero n same = grind (arith, common_steps)
-
--- and one with bytes
-pub some_in : (piece : List ℕ) (empty : Bool) → empty ≡ nat_eq (length piece) 0 → empty ≡ false → 0 < length piece
-some_in piece empty is off = is_some (length piece) (sym is ∙ off)
-  where
-    is_some : (n : ℕ) → nat_eq n 0 ≡ false → 0 < n
-    is_some n same = grind (arith, common_steps)
 
 -- whether a fault of an input is a failed read
 pub read_failed : (why : InFault) → is_read why ≡ failed_by_read {A = Bool} (Err (Device why))

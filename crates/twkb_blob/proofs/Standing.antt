@@ -1,7 +1,7 @@
 -- A session goes on, gives a geometry, refuses or ends.
 use Rattle.std.proofs.Common.{◌≡◌, ℕ, ◌+◌, ◌-◌, inl, inr, List, [], ◌∷◌, ◌++◌, length, length-append, take, refl}
-use Rattle.std.proofs.Common.{sym, ap, ◌∙◌, subst, append_assoc, append-nil, Bool, true, false, Option, Some, None}
-use Rattle.std.proofs.Common.{IfSome, Result, Ok, Err, arith}
+use Rattle.std.proofs.Common.{sym, ap, ◌∙◌, subst, append_assoc, append-nil, Bool, true, false, Some}
+use Rattle.std.proofs.Common.{Result, Ok, Err, arith}
 use Rattle.std.proofs.Math.Seq.{take-length}
 use Rattle.std.proofs.lemmas.List.{append_cancel_left, length-take-le}
 use Rattle.std.specs.Prelude.{if◌then◌else◌}
@@ -14,6 +14,7 @@ use Rattle.twkb_grammar.specs.Fault.{FirstFault, Reason, StreamFault}
 use Rattle.twkb_grammar.specs.Noting.{Notes}
 use Rattle.twkb_grammar.proofs.Streams.{behind_stream, stream-append}
 use Rattle.twkb_body.specs.JudgedParts.{PartIn}
+use Rattle.twkb_engine.specs.State.{allowance_of}
 use Rattle.twkb_engine.specs.Standing.{StandsAt, count_of}
 use Rattle.twkb_engine.proofs.Feeds.{count_is}
 use Rattle.twkb_engine.proofs.RootPoints.{blob_judged}
@@ -25,7 +26,7 @@ use Rattle.twkb_blob.specs.Sessions.{session_limits, session_rows}
 use Rattle.twkb_blob.specs.declared.session.Session.{Session}
 use Rattle.twkb_blob.specs.declared.fault.BlobFault.{BlobFault}
 use Rattle.twkb_blob.specs.declared.fault.BlobFault.TheVariants as fault
-use Rattle.twkb_blob.proofs.Trees.{TreeLaw, last_tree, tree_made, not_none}
+use Rattle.twkb_blob.proofs.Trees.{TreeLaw, last_tree, tree_made}
 
 -- after a stream, a stream of one geometry more has its blob
 pub blob_behind : (limits : Allowance) (bytes more : List ℕ) (gs : List Tree) (g : Tree)
@@ -66,8 +67,8 @@ module _ {bytes : List ℕ} {gs : List Tree} {old : Session} (s : Stands bytes g
   )
 
   -- where an engine stands whose form has the rows of no other geometry
-  begun_at : old.is_whole ≡ false → StandsAt s.rest (session_rows old) old.engine
-  begun_at opened = subst (λ (b : Bool). StandsAt s.rest (if b then [] else session_rows old) old.engine) opened s.begun
+  begun_at : {rs : List Row} → rs ≡ begun_rows old → StandsAt s.rest rs old.engine
+  begun_at same = subst (λ l. StandsAt s.rest l old.engine) (sym same) s.begun
 
   -- further bytes
   further : (more : List ℕ) → bytes ++ more ≡ s.front ++ (s.rest ++ more)
@@ -118,18 +119,18 @@ module _ {bytes : List ℕ} {gs : List Tree} {old : Session} (s : Stands bytes g
 
   -- ---- a piece was fed
 
-  module _ {S : Type 0} {holds : S → Notes → Type 0} {w v : S} {piece : List ℕ} (new : Session)
-      (opened : old.is_whole ≡ false) (limits : session_limits new ≡ own) where
-    pub fed_ok : {used : ℕ} (ends : Bool) → Feeds holds old.engine (session_rows old) w piece
+  module _ {S : Type 0} {holds : S → Notes → Type 0} {w v : S} {piece : List ℕ} {rs : List Row} (new : Session) where
+    pub fed_ok : {used : ℕ} (ends : Bool) → Feeds holds old.engine rs w piece
         (Ok (used, ends)) new.engine (session_rows new) v
-        → new.spent ≡ false → new.is_whole ≡ ends → (ends ≡ false → used ≡ length piece)
+        → new.spent ≡ false → new.is_whole ≡ ends → rs ≡ begun_rows old
         → FedFlat bytes gs piece (Ok (used, ends)) new
-    fed_ok {used} false f live is all =
-        let h = f.fed s.rest (begun_at opened) in
+    fed_ok {used} false f live is same =
+        let limits : session_limits new ≡ own = f.limits in
+        let h = f.fed s.rest (begun_at same) in
         let stood : StandsAt (s.rest ++ piece) (session_rows new) new.engine =
         subst (λ l. StandsAt (s.rest ++ l) (session_rows new) new.engine)
-        (ap (λ n. take n piece) (all refl) ∙ take-length piece) h.2 in (
-          all refl,
+        (ap (λ n. take n piece) (f.all refl) ∙ take-length piece) h.2 in (
+          f.all refl,
           record {
             front = s.front;
             rest = s.rest ++ piece;
@@ -141,7 +142,7 @@ module _ {bytes : List ℕ} {gs : List Tree} {old : Session} (s : Stands bytes g
               so_many,
               length-append bytes piece,
               length-append s.rest piece,
-              count_is s.rest (session_rows old) old.engine (begun_at opened),
+              count_is s.rest rs old.engine (begun_at same),
               count_is (s.rest ++ piece) (session_rows new) new.engine stood,
             ));
             blobs = subst (λ l. Stream l s.front gs) (sym limits) s.blobs;
@@ -151,8 +152,9 @@ module _ {bytes : List ℕ} {gs : List Tree} {old : Session} (s : Stands bytes g
             live = live;
           },
         )
-    fed_ok {used} true f live is all =
-        let h = f.fed s.rest (begun_at opened) in
+    fed_ok {used} true f live is same =
+        let limits : session_limits new ≡ own = f.limits in
+        let h = f.fed s.rest (begun_at same) in
         let m = h.0 in
         let piece_used : List ℕ = take used piece in
         let stream : Stream (session_limits new) (bytes ++ piece_used) (gs ++ m.geometry ∷ []) =
@@ -163,18 +165,18 @@ module _ {bytes : List ℕ} {gs : List Tree} {old : Session} (s : Stands bytes g
           arith,
           h.3,
           so_many,
-          count_is s.rest (session_rows old) old.engine (begun_at opened),
+          count_is s.rest rs old.engine (begun_at same),
           length-append bytes piece_used,
           length-take-le used piece m.within,
         ) in
         (m.geometry, (m.some, m.within, stream, between new stream start live is h.2), m.made)
 
     pub fed_err : (why : BlobFault) {e : Engine} {more : List Row}
-        → Feeds holds old.engine (session_rows old) w piece (Err why) e more v
-        → FedSession bytes gs piece (Err why) new
-    fed_err fault.Memory f = rw limits (part_at (f.fed s.rest (begun_at opened)))
-    fed_err (fault.At offset reason) f =
-        let h = f.fed.0 s.rest (begun_at opened) in
+        → Feeds holds old.engine rs w piece (Err why) e more v
+        → session_limits new ≡ own → rs ≡ begun_rows old → FedSession bytes gs piece (Err why) new
+    fed_err fault.Memory f limits same = rw limits (part_at (f.fed s.rest (begun_at same)))
+    fed_err (fault.At offset reason) f limits same =
+        let h = f.fed.0 s.rest (begun_at same) in
         rw limits (record {
           used = h.used;
           some = h.some;
@@ -182,10 +184,10 @@ module _ {bytes : List ℕ} {gs : List Tree} {old : Session} (s : Stands bytes g
           fault = λ more. fault_at (ap (λ l. (l ++ take h.used piece) ++ more) s.whole
               ∙ simp append_assoc) f.fed.1 (h.fault more);
         })
-    fed_err (fault.Device why) f =
+    fed_err (fault.Device why) f limits same =
         let h = f.fed in
         let taken : ℕ = old.engine.start + count_of old.engine in
-        let begun = cut_at (further (take (MAX_BYTES - taken) piece)) (h.2 s.rest (begun_at opened)) in (
+        let begun = cut_at (further (take (MAX_BYTES - taken) piece)) (h.2 s.rest (begun_at same)) in (
           h.0,
           rw limits (record {
             past = (let past = h.1 in omega (arith, past, so_many));
@@ -193,7 +195,7 @@ module _ {bytes : List ℕ} {gs : List Tree} {old : Session} (s : Stands bytes g
                 (sym so_many) begun;
           }),
         )
-    fed_err fault.Spent f = absurd f.fed
+    fed_err fault.Spent f limits same = absurd f.fed
 
   -- ---- a geometry's tree
 
@@ -211,15 +213,32 @@ module _ {bytes : List ℕ} {gs : List Tree} {old : Session} (s : Stands bytes g
         part = blob_judged own (s.rest ++ take used piece) g blob;
       }))
 
+-- what a session stands for, one of the same state does
+stands_too : {bytes : List ℕ} {gs : List Tree} {s : Session} (t : Session) → t.engine ≡ s.engine
+    → begun_rows t ≡ begun_rows s → t.spent ≡ s.spent → Stands bytes gs s → Stands bytes gs t
+stands_too {gs = gs} {s} t engine rs spent h = record {
+  front = h.front;
+  rest = h.rest;
+  whole = h.whole;
+  few = h.few;
+  blobs = subst (λ d. Stream (allowance_of d) h.front gs) (sym engine) h.blobs;
+  begun = subst (λ d. StandsAt h.rest (begun_rows t) d) (sym engine)
+      (subst (λ l. StandsAt h.rest l s.engine) (sym rs) h.begun);
+  start = ap (λ (d : Engine). d.start) engine ∙ h.start;
+  live = spent ∙ h.live;
+}
+
 -- the tree that is made of the rows is the geometry
-pub gave_found : TreeLaw → (bytes : List ℕ) (gs : List Tree) (piece : List ℕ) (new : Session)
-    (used : ℕ) (found : Option Tree) → FedFlat bytes gs piece (Ok (used, true)) new
-    → (found ≡ None → session_rows new ≡ []) → IfSome found (λ h. rows 0 h ≡ session_rows new)
-    → IfSome found (λ h. IsValid largest_limits h)
-    → FedSession bytes gs piece (Ok (used, found)) new
-gave_found law bytes gs piece new used None (g, fed, is) none made valid = absurd
-    (not_none (session_rows new) g is (none refl))
-gave_found law bytes gs piece new used (Some h) (g, fed, is) none made valid =
-    subst (λ t. FedSession bytes gs piece (Ok (used, Some t)) new)
-    (tree_made law (session_rows new) g h (last_tree (session_limits new)
-    (bytes ++ take used piece) gs g fed.2) is made valid) fed
+pub gave_tree : TreeLaw → (bytes : List ℕ) (gs : List Tree) (piece : List ℕ) (s t : Session) (used : ℕ)
+    (h : Tree) → t.engine ≡ s.engine → begun_rows t ≡ begun_rows s → t.spent ≡ s.spent
+    → FedFlat bytes gs piece (Ok (used, true)) s → rows 0 h ≡ session_rows s → IsValid largest_limits h
+    → FedSession bytes gs piece (Ok (used, Some h)) t
+gave_tree law bytes gs piece s t used h engine rs spent (g, fed, is) made valid =
+    subst (λ x. FedSession bytes gs piece (Ok (used, Some x)) t)
+    (tree_made law (session_rows s) g h (last_tree (session_limits s) (bytes ++ take used piece) gs g fed.2) is
+    made valid) (
+      fed.0,
+      fed.1,
+      subst (λ d. Stream (allowance_of d) (bytes ++ take used piece) (gs ++ g ∷ [])) (sym engine) fed.2,
+      stands_too t engine rs spent fed.3,
+    )

@@ -1,6 +1,6 @@
 -- What an engine answers that is fed a piece, or the held bytes of an input.
-use Rattle.std.specs.Prelude.{◌≡◌, ◌+◌, ◌-◌, ◌<◌, ◌⊎◌, take, ℕ, List, [], ◌++◌, length, Bool, true, false}
-use Rattle.std.specs.Prelude.{Result, Ok, Err, IfSome}
+use Rattle.std.specs.Prelude.{◌≡◌, ◌+◌, ◌-◌, ◌<◌, take, ℕ, List, [], ◌++◌, length, Bool, true, false}
+use Rattle.std.specs.Prelude.{◌≤◌, if◌then◌else◌, Result, Ok, Err, IfOk, IfSome}
 use Rattle.std.specs.Io.KnownBytes.{IsAtEnd}
 use Rattle.std.specs.declared.io.traits.Read.{Ghosts}
 use Rattle.twkb_io.specs.declared.TheConstants.{MAX_BYTES}
@@ -10,12 +10,12 @@ use Rattle.twkb_tree.specs.Limits.{Allowance}
 use Rattle.twkb_grammar.specs.Noting.{Notes}
 use Rattle.twkb_grammar.specs.Fault.{FirstFault}
 use Rattle.twkb_io.specs.Taps.{count_failure}
-use Rattle.twkb_io.specs.Inputs.{given, input_failures, input_tap, is_spent, rest_of}
+use Rattle.twkb_io.specs.Inputs.{input_failures, input_tap, is_spent, rest_of}
 use Rattle.twkb_io.specs.declared.input.Input.{Input}
 use Rattle.twkb_io.specs.declared.input.InFault.TheVariants.{TooLong}
 use Rattle.twkb_engine.specs.State.{allowance_of}
 use Rattle.twkb_engine.specs.Stops.{reason_of}
-use Rattle.twkb_engine.specs.Standing.{StandsAt, FedBy, HoldsSpans, notes_at, count_of, offset_in}
+use Rattle.twkb_engine.specs.Standing.{StandsAt, IsAlive, FedBy, HoldsSpans, notes_at, count_of, offset_in}
 use Rattle.twkb_engine.specs.declared.engine.Engine.{Engine}
 use Rattle.twkb_flat.specs.declared.stop.Stop.TheVariants as stop
 use Rattle.twkb_blob.specs.Readers.{AreCutOff, Left, HasNone, Makes, PartAhead, failed_by_read}
@@ -36,17 +36,18 @@ FedPiece holds d rs old piece (Err (fault.Device why)) e more new =
     (bs ++ take (MAX_BYTES - (d.start + count_of d)) piece))
 FedPiece holds d rs old piece (Err fault.Spent) e more new = ⊥
 
--- That is its answer, and its limits stay.
+-- That is its answer, and its limits stay; no read failed. All bytes are taken if no blob ends, no
+-- more than there are and no more than 2^62 of the stream; it can be fed on.
 pub record Feeds {S : Type 0} (holds : S → Notes → Type 0) (d : Engine) (rs : List Row) (old : S)
     (piece : List ℕ) (answer : Result (ℕ × Bool) BlobFault) (e : Engine) (more : List Row)
     (new : S) : Type 0 where
   pub limits : e.limits ≡ d.limits
   pub fed : FedPiece holds d rs old piece answer e more new
-
--- an answer to one byte
-abbrev pub with_one : Result Bool BlobFault → Result (ℕ × Bool) BlobFault
-with_one (Ok ends) = Ok (1, ends)
-with_one (Err why) = Err why
+  pub within : IfOk answer (λ fed. fed.0 ≤ length piece)
+  pub all : IfOk answer (λ fed. fed.1 ≡ false → fed.0 ≡ length piece)
+  pub few : IfOk answer (λ fed. e.start + count_of e ≤ MAX_BYTES)
+  pub alive : IfOk answer (λ fed. IsAlive (if fed.1 then [] else more) e)
+  pub unread : failed_by_read answer ≡ false
 
 -- Why the end of a stream is refused, after these bytes, which began at this offset.
 abbrev pub IsCutAt : Allowance → (start : ℕ) → List ℕ → BlobFault → Type 0
@@ -60,8 +61,7 @@ EndsAt limits start bs (Ok done) = bs ≡ []
 EndsAt limits start bs (Err why) = IsCutAt limits start bs why
 
 -- Why no blob of an input was read, after these bytes of it, which began at this offset: there was
--- no memory, or the known bytes have a first fault; or the input gave no byte after some; or the
--- stream has no room for what it holds, since more than the input gave out was taken.
+-- no memory, or the known bytes have a first fault; or the input gave no byte after some.
 abbrev pub ReadsNoBlob : Allowance → (start : ℕ) → List ℕ → {R : Type 0} {read : Ghosts R} → Input R read
     → Input R read → BlobFault → Type 0
 ReadsNoBlob limits start bs old new fault.Memory = PartAhead limits bs old
@@ -69,8 +69,7 @@ ReadsNoBlob limits start bs old new (fault.At offset reason) =
     IfSome (rest_of old) (λ rest. (within : ℕ) × FirstFault limits (bs ++ rest) within
     (reason_of reason) × (offset ≡ start + within))
 ReadsNoBlob limits start bs old new (fault.Device why) =
-    ((bytes : List ℕ) × Left old new bytes × AreCutOff limits (bs ++ bytes) × HasNone why old new)
-    ⊎ ((why ≡ TooLong) × (given old < start + length bs))
+    (bytes : List ℕ) × Left old new bytes × AreCutOff limits (bs ++ bytes) × HasNone why old new
 ReadsNoBlob limits start bs old new fault.Spent = ⊥
 
 -- What it answers that reads a blob of an input, after these bytes of it: some that left end the

@@ -10,7 +10,8 @@ use Rattle.twkb_grammar.specs.declared.span.Span.{Span}
 use Rattle.twkb_io.specs.declared.input.Input.{Input}
 use Rattle.twkb_io.specs.Inputs.{given}
 use Rattle.twkb_engine.specs.Standing.{HoldsSpans}
-use Rattle.twkb_blob.specs.Readers.{Makes, IfGoingOn, IsNext, PartAhead, ReadsNext, reader_input, reader_limits}
+use Rattle.twkb_engine.specs.declared.engine.Engine.{Engine}
+use Rattle.twkb_blob.specs.Readers.{Makes, IfGoingOn, IsAbreast, IsNext, PartAhead, ReadsNext, reader_input, reader_limits}
 use Rattle.twkb_blob.specs.declared.reader.Reader.{Reader}
 use Rattle.twkb_blob.specs.declared.fault.BlobFault.{BlobFault}
 use Rattle.twkb_blob.specs.declared.fault.BlobFault.TheVariants as fault
@@ -56,6 +57,18 @@ pub record ReadsInto {S : Type 0} (holds : S → Notes → Type 0) {R : Type 0} 
     (limits : Allowance) (old new : Input R read) (answer : Result Bool BlobFault) (rs : List Row)
     (spans : S) : Type 0 where
   pub is : IsInto holds limits old new answer rs spans
+
+-- What a call says that reads the next blob with an engine that keeps pace: what every call does, and
+-- of one that reads, its answer, the rows and the spans; exactly a geometry leaves rows; the engine
+-- keeps pace.
+pub record ReadsWith {S : Type 0} (holds : S → Notes → Type 0) {R : Type 0} {read : Ghosts R}
+    (old new : Reader R read) (answer : Result Bool BlobFault) (rs : List Row) (spans : S)
+    (d : Engine) : Type 0 where
+  pub shared : ReadsNext false old new answer
+  pub into : IfGoingOn old (ReadsInto holds (reader_limits old) (reader_input old) (reader_input new)
+      answer rs spans)
+  pub cleared : (answer ≡ Ok true) ⊎ (rs ≡ [])
+  pub abreast : IsAbreast new d
 
 -- What a call says that reads the next geometry into rows, and the spans of its headers into a list.
 pub record ReadsSpans {R : Type 0} {read : Ghosts R} (old new : Reader R read)

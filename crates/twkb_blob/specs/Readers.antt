@@ -45,6 +45,11 @@ ended_at state.Ready = false
 ended_at state.Ended = true
 ended_at state.Spent = false
 
+-- the state after a call that found no geometry
+abbrev pub stopped_at : Result Bool BlobFault → State
+stopped_at (Ok found) = state.Ended
+stopped_at (Err why) = state.Spent
+
 -- whether a call answered an error
 abbrev pub is_spent : {R : Type 0} {read : Ghosts R} → Reader R read → Bool
 is_spent r = spent_at r.state

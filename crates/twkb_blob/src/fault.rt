@@ -1,9 +1,14 @@
 //! Why a reader of blobs gave no geometry.
-ghost use Rattle.std.specs.Prelude.{◌≡◌};
+ghost use Rattle.std.specs.Prelude.{◌≡◌, ℕ, List, Err, false};
+ghost use Rattle.twkb_tree.specs.Rows.{Row};
+ghost use Rattle.twkb_engine.specs.State.{allowance_of};
+ghost use Rattle.twkb_engine.specs.Standing.{StandsAt};
+ghost use Rattle.twkb_blob.specs.Readers.{failed_by_read};
+ghost use Rattle.twkb_blob.specs.Feeding.{EndsAt};
 ghost use Rattle.twkb_blob.specs.Faults.{fault_of};
 
 use thiserror::Error;
-use twkb_engine::{BlobReason, Stop};
+use twkb_engine::{BlobReason, Engine, Stop};
 use twkb_io::InFault;
 
 /// Why a reader of blobs gave no geometry.
@@ -36,4 +41,21 @@ pub(crate) fn fault_at(offset: u64, stop: Stop) -> BlobFault
         Stop::Memory => BlobFault::Memory,
         Stop::Refused(reason) => BlobFault::At { offset, reason },
     }
+}
+
+// Judges the end of a stream: `Ok` if no blob is begun, else `Truncated` at the offset of the item
+// that is missing.
+pub(crate) fn at_end(engine: &Engine) -> Result<(), BlobFault>
+    ensures end { (bs : List ℕ) (rs : List Row) → StandsAt bs rs engine.now
+        → EndsAt (allowance_of engine.now) engine.now.start bs result }
+    ensures unread { failed_by_read result ≡ false }
+    ensures unspent { result ≡ Err BlobFault.Spent → ⊥ }
+{
+    if engine.is_between() {
+        return Ok(());
+    }
+    Err(BlobFault::At {
+        offset: engine.offset(),
+        reason: BlobReason::Truncated,
+    })
 }

@@ -3,9 +3,7 @@
 #![tactic(auto)]
 
 mod fault;
-mod input_blobs;
 pub mod laws;
-mod open_spans;
 mod reader;
 mod session;
 mod spans;

@@ -1,13 +1,8 @@
 //! The blobs of an input, one after another.
-ghost use Rattle.std.specs.Prelude.{◌≡◌, ◌<◌, ◌↔◌, ◌⊎◌, [], length, true, false, Ok, Err, None, IfOk, IfErr};
-ghost use Rattle.std.specs.Prelude.{OnOk, OnErr, is_err};
-ghost use Rattle.twkb_tree.specs.Rows.{rows};
-ghost use Rattle.twkb_tree.specs.Limits.{IsValid, largest_limits};
+ghost use Rattle.std.specs.Prelude.{◌≡◌, ◌↔◌, [], true, false, Err, None};
 ghost use Rattle.twkb_grammar.specs.Noting.{no_notes};
 
-use crate::fault::BlobFault;
-use crate::input_blobs::read_blob;
-use crate::open_spans::OpenSpans;
+use crate::fault::{BlobFault, at_end, fault_at};
 use crate::spans::{Located, Spans};
 use std::alloc::Global;
 use std::io::Read;
@@ -24,25 +19,6 @@ pub(crate) enum State {
     Spent,
 }
 
-impl State {
-    ghost use Rattle.twkb_blob.specs.Readers.{ended_at, spent_at};
-
-    // The state after a call that read and returned this: `Ready` after a blob, `Ended` at the end,
-    // `Spent` after an `Err`.
-    #[inline(always)]
-    fn after(found: Result<bool, BlobFault>) -> State
-        ensures spent { spent_at result ≡ is_err found }
-        ensures ended { found ≡ Ok false → ended_at result ≡ true }
-        ensures going_on { ¬ (found ≡ Ok false) → ended_at result ≡ false }
-    {
-        match found {
-            Ok(true) => State::Ready,
-            Ok(false) => State::Ended,
-            Err(_) => State::Spent,
-        }
-    }
-}
-
 /// The blobs of an input, one after another, each read as its bytes come.
 #[derive(Drop)]
 pub struct Reader<'a, R: Read> {
@@ -53,8 +29,8 @@ pub struct Reader<'a, R: Read> {
 
 impl<'a, R: Read> Reader<'a, R> {
     ghost use Rattle.twkb_blob.specs.Readers.{reader_input, reader_limits, is_spent, has_ended, IsNext};
-    ghost use Rattle.twkb_blob.specs.Readers.{IfGoingOn, IsAbreast, PartAhead, ReadsNext, ReadsRows};
-    ghost use Rattle.twkb_blob.specs.Located.{IsLocated, ReadsInto};
+    ghost use Rattle.twkb_blob.specs.Readers.{IsAbreast, PartAhead, ReadsNext, ReadsRows, stopped_at};
+    ghost use Rattle.twkb_blob.specs.Located.{IsLocated, ReadsWith};
 
     /// Makes a reader of what the input still has, which reads nothing yet. The limits are those of
     /// each geometry. Takes no memory.
@@ -90,7 +66,10 @@ impl<'a, R: Read> Reader<'a, R> {
         if !self.next_flat(alloc, &mut flat)? {
             return Ok(None);
         }
-        let geometry = self.tree_of(alloc, &flat)?;
+        let Ok(geometry) = flat.to_geometry(alloc) else {
+            self.state = State::Spent;
+            return Err(BlobFault::Memory);
+        };
         Ok(Some(geometry))
     }
 
@@ -117,13 +96,17 @@ impl<'a, R: Read> Reader<'a, R> {
         ensures spent { (result ≡ Err BlobFault.Spent) ↔ (is_spent self.old ≡ true) }
     {
         let mut flat = Flat::new(alloc);
-        let mut notes = OpenSpans::new(alloc);
+        let mut spans = Spans::new(alloc);
+        // no span is open
+        spans.notes.restart();
         let mut engine = Engine::new(alloc, self.limits, self.input.offset());
-        if !self.read_with(&mut engine, &mut flat, &mut notes)? {
+        if !self.read_with(&mut engine, &mut flat, &mut spans.notes)? {
             return Ok(None);
         }
-        let geometry = self.tree_of(alloc, &flat)?;
-        let spans = Spans { notes };
+        let Ok(geometry) = flat.to_geometry(alloc) else {
+            self.state = State::Spent;
+            return Err(BlobFault::Memory);
+        };
         Ok(Some(Located { geometry, spans }))
     }
 
@@ -139,11 +122,7 @@ impl<'a, R: Read> Reader<'a, R> {
     ) -> Result<bool, BlobFault>
         requires abreast { IsAbreast self.old engine.old }
         requires no_notes { S.holds spans.old no_notes }
-        ensures shared { ReadsNext false self.old self.new result }
-        ensures read { IfGoingOn self.old (ReadsInto S.holds (reader_limits self.old)
-            (reader_input self.old) (reader_input self.new) result flat.new spans.new) }
-        ensures cleared { (result ≡ Ok true) ⊎ (flat.new ≡ []) }
-        ensures abreast { IsAbreast self.new engine.new }
+        ensures { ReadsWith S.holds self.old self.new result flat.new spans.new engine.new }
     {
         flat.clear();
         match self.state {
@@ -151,32 +130,42 @@ impl<'a, R: Read> Reader<'a, R> {
             State::Ended => return Ok(false),
             State::Spent => return Err(BlobFault::Spent),
         }
-        let found = read_blob(&mut self.input, engine, flat, spans);
-        if let Ok(true) = found {
-            return found;
-        }
-        flat.clear();
-        self.state = State::after(found);
-        found
+        let stopped = loop {
+            // learnt: where the engine stands, the bytes end inside a blob, or there are none
+            let _learnt = engine.is_between();
+            if let Err(fault) = self.input.fill() {
+                break Err(BlobFault::Device(fault));
+            }
+            let piece = self.input.held();
+            if piece.is_empty() {
+                break at_end(engine).and(Ok(false));
+            }
+            let start = engine.start();
+            match engine.feed(flat, spans, piece) {
+                Ok((used, ends)) => {
+                    self.input.advance(used);
+                    if ends {
+                        return Ok(true);
+                    }
+                }
+                Err(stop) => break Err(fault_at(start + engine.bytes(), stop)),
+            }
+        };
+        self.stop(flat, stopped)
     }
 
-    // Builds the geometry of the rows of a blob that was read. Takes memory; if it is refused,
-    // returns `Memory`, and the reader is spent.
-    fn tree_of(&mut self, alloc: Global, flat: &Flat) -> Result<Geometry, BlobFault>
-        requires { 0 < length flat.now }
-        ensures rows { IfOk result (λ g. rows 0 g ≡ flat.now) }
-        ensures valid { IfOk result (λ g. IsValid largest_limits g) }
-        ensures memory { IfErr result (λ why. why ≡ BlobFault.Memory) }
-        ensures stays { OnOk result (self.new ≡ self.old) }
-        ensures spent { OnErr result (is_spent self.new ≡ true) }
-        ensures kept { (self.new.input ≡ self.old.input) × (self.new.limits ≡ self.old.limits) }
+    // Clears the form and returns `found`, with which reading stopped: the end, after which the
+    // reader has ended, or an error, after which it is spent.
+    fn stop(&mut self, flat: &mut Flat, found: Result<bool, BlobFault>) -> Result<bool, BlobFault>
+        ensures answer { result ≡ found }
+        ensures rows { flat.new ≡ [] }
+        ensures state { self.new ≡ record self.old { state = stopped_at found } }
     {
-        match flat.to_geometry(alloc) {
-            Ok(geometry) => Ok(geometry),
-            Err(_) => {
-                self.state = State::Spent;
-                Err(BlobFault::Memory)
-            }
-        }
+        flat.clear();
+        self.state = match found {
+            Ok(_) => State::Ended,
+            Err(_) => State::Spent,
+        };
+        found
     }
 }

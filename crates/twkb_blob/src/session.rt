@@ -1,20 +1,56 @@
 //! A stream of blobs that comes in pieces.
-ghost use Rattle.std.specs.Prelude.{◌≡◌, ◌<◌, ◌≤◌, ◌↔◌, ◌+◌, ◌∷◌, [], if◌then◌else◌, List, ℕ, true, false};
+ghost use Rattle.std.specs.Prelude.{◌≡◌, ◌≤◌, ◌↔◌, ◌+◌, [], if◌then◌else◌, List, ℕ, true, false};
 ghost use Rattle.std.specs.Prelude.{Ok, Err, None, is_err, length, IfOk, IfErr, IfSome};
 ghost use Rattle.twkb_io.specs.declared.TheConstants.{MAX_BYTES};
 ghost use Rattle.twkb_tree.specs.Tree.{Tree};
 ghost use Rattle.twkb_tree.specs.Rows.{rows};
-ghost use Rattle.twkb_tree.specs.Limits.{IsValid, largest_limits};
 ghost use Rattle.twkb_engine.specs.Standing.{IsAlive, count_of};
 ghost use Rattle.twkb_blob.specs.Readers.{failed_by_read};
+ghost use Rattle.twkb_blob.specs.Feeding.{Feeds};
 
-use crate::fault::BlobFault;
-use crate::input_blobs::{at_end, feed_one, feed_piece};
-use std::alloc::{AllocError, Global};
-use twkb_engine::{Engine, NoSpans};
+use crate::fault::{BlobFault, at_end, fault_at};
+use std::alloc::Global;
+use twkb_engine::{Engine, NoSpans, SpanNotes};
 use twkb_flat::{Flat, Rows};
-use twkb_io::MAX_BYTES;
+use twkb_io::{InFault, MAX_BYTES};
 use twkb_tree::{Geometry, Limits};
+
+// Feeds a piece of a stream to an engine, up to the end of a blob, or all of it if none ends; returns
+// how many bytes were taken, and whether a blob ends with them. A refusal states its offset in the
+// stream. If the piece goes past 2^62 bytes of the stream, and no blob ends and nothing is refused
+// up to there, the bytes up to there are fed, and it is `TooLong`. One byte needs no loop.
+#[inline(always)]
+fn feed_piece<S: SpanNotes>(
+    engine: &mut Engine,
+    flat: &mut Flat,
+    spans: &mut S,
+    piece: &[u8],
+) -> Result<(usize, bool), BlobFault>
+    requires few { engine.old.start + count_of engine.old ≤ MAX_BYTES }
+    requires alive { IsAlive flat.old engine.old }
+    ensures { Feeds S.holds engine.old flat.old spans.old piece.now result engine.new flat.new spans.new }
+{
+    let start = engine.start();
+    let taken = engine.offset() + engine.held() as u64;
+    if piece.len() == 1 && taken < MAX_BYTES {
+        match engine.take_byte(flat, spans, piece[0]) {
+            Ok(ends) => return Ok((1, ends)),
+            Err(stop) => return Err(fault_at(start + engine.bytes(), stop)),
+        }
+    }
+    let count = (MAX_BYTES - taken).min(piece.len() as u64) as usize;
+    match engine.feed(flat, spans, &piece[..count]) {
+        Ok((used, ends)) => {
+            if !ends && count < piece.len() {
+                // learnt: where the engine stands, the bytes end inside a blob, or there are none
+                let _learnt = engine.is_between();
+                return Err(BlobFault::Device(InFault::TooLong));
+            }
+            Ok((used, ends))
+        }
+        Err(stop) => Err(fault_at(start + engine.bytes(), stop)),
+    }
+}
 
 /// A stream of blobs that comes in pieces. It keeps its limits, the rows of the geometry that is
 /// read, as far as they came, and at most nine bytes of a number, and no other byte of the stream.
@@ -69,11 +105,10 @@ impl Session {
         ensures stays { is_spent self.new ≡ is_err result }
         ensures limits { session_limits self.new ≡ session_limits self.old }
     {
-        let used = match self.feed_flat(piece) {
-            Ok((used, true)) => used,
-            Ok((used, false)) => return Ok((used, None)),
-            Err(fault) => return Err(fault),
-        };
+        let (used, ends) = self.feed_flat(piece)?;
+        if !ends {
+            return Ok((used, None));
+        }
         self.give_tree(used)
     }
 
@@ -93,37 +128,16 @@ impl Session {
         ensures stays { is_spent self.new ≡ is_err result }
         ensures limits { session_limits self.new ≡ session_limits self.old }
     {
-        let Ok(found) = self.tree() else {
-            self.give_up();
+        // a geometry has rows: if a session stands for a stream there are some
+        if self.rows.flat.is_empty() {
+            return Ok((used, None));
+        }
+        let Ok(geometry) = self.rows.flat.to_geometry(self.alloc) else {
+            self.rows.flat.clear();
+            self.spent = true;
             return Err(BlobFault::Memory);
         };
-        // a geometry has rows: if a session stands for a stream there is a tree
-        Ok((used, found))
-    }
-
-    // Builds the geometry of the rows; `None` if there are no rows. Takes memory.
-    fn tree(&self) -> Result<Option<Geometry>, AllocError>
-        ensures rows { IfOk result (λ found. IfSome found (λ g. rows 0 g ≡ session_rows self.now)) }
-        ensures valid { IfOk result (λ found. IfSome found (λ g. IsValid largest_limits g)) }
-        ensures none { result ≡ Ok None → session_rows self.now ≡ [] }
-    {
-        if self.rows.flat.is_empty() {
-            return Ok(None);
-        }
-        match self.rows.flat.to_geometry(self.alloc) {
-            Ok(geometry) => Ok(Some(geometry)),
-            Err(refused) => Err(refused),
-        }
-    }
-
-    // Clears the rows, and makes the session spent: each further feed and `finish` return `Spent`.
-    fn give_up(&mut self)
-        ensures spent { self.new.spent ≡ true }
-        ensures engine { self.new.engine ≡ self.old.engine }
-        ensures rows { session_rows self.new ≡ [] }
-    {
-        self.rows.flat.clear();
-        self.spent = true;
+        Ok((used, Some(geometry)))
     }
 
     /// Takes bytes as `feed` does, and returns how many, and whether a geometry ends with them;
@@ -159,76 +173,18 @@ impl Session {
         if self.spent {
             return Err(BlobFault::Spent);
         }
-        self.begin();
-        if piece.len() == 1 && self.engine.offset() < MAX_BYTES - 16 {
-            // learnt: it holds at most nine bytes
-            let _learnt = self.engine.held();
-            return self.feed_byte(piece[0]);
+        if self.is_whole {
+            self.rows.flat.clear();
         }
-        self.feed_many(piece)
-    }
-
-    // Takes the bytes of a piece of any length up to the end of a geometry, or all of them if none
-    // ends there, and returns how many; `is_whole` then says whether a geometry ends with them.
-    // After a fault the session is spent.
-    #[inline(always)]
-    fn feed_many(&mut self, piece: &[u8]) -> Result<usize, BlobFault>
-        requires live { self.old.spent ≡ false }
-        requires begun { self.old.is_whole ≡ false }
-        ensures fed { (bytes : List ℕ) (gs : List Tree) → Stands bytes gs self.old
-            → FedFlat bytes gs piece.now (with_end self.new.is_whole result) self.new }
-        ensures within { IfOk result (λ used. used ≤ length piece.now) }
-        ensures kept { FeedsOn self.old self.new result }
-    {
-        // nothing is known of an engine that refused
-        self.spent = true;
         match feed_piece(&mut self.engine, &mut self.rows.flat, &mut NoSpans, piece) {
             Ok((used, ends)) => {
                 self.is_whole = ends;
-                self.spent = false;
                 Ok(used)
-            }
-            Err(fault) => Err(fault),
-        }
-    }
-
-    // Takes one byte of a stream that has room for it, and returns 1; `is_whole` then says whether
-    // a geometry ends with the byte. After a fault the session is spent. Unlike `feed_many` it
-    // needs no loop, and does not shorten the piece to what the stream has room for.
-    #[inline(always)]
-    fn feed_byte(&mut self, byte: u8) -> Result<usize, BlobFault>
-        requires live { self.old.spent ≡ false }
-        requires begun { self.old.is_whole ≡ false }
-        requires room { count_of self.old.engine + self.old.engine.start < MAX_BYTES }
-        ensures fed { (bytes : List ℕ) (gs : List Tree) → Stands bytes gs self.old
-            → FedFlat bytes gs (byte ∷ []) (with_end self.new.is_whole result) self.new }
-        ensures one { IfOk result (λ used. used ≡ 1) }
-        ensures kept { FeedsOn self.old self.new result }
-    {
-        match feed_one(&mut self.engine, &mut self.rows.flat, &mut NoSpans, byte) {
-            Ok(ends) => {
-                self.is_whole = ends;
-                Ok(1)
             }
             Err(fault) => {
                 self.spent = true;
                 Err(fault)
             }
-        }
-    }
-
-    // Clears the rows if they are still those of the last geometry; `is_whole` is false afterwards.
-    #[inline(always)]
-    fn begin(&mut self)
-        ensures stands { (bytes : List ℕ) (gs : List Tree) → Stands bytes gs self.old → Stands bytes gs self.new }
-        ensures open { self.new.is_whole ≡ false }
-        ensures engine { self.new.engine ≡ self.old.engine }
-        ensures spent { self.new.spent ≡ self.old.spent }
-        ensures rows { session_rows self.new ≡ begun_rows self.old }
-    {
-        if self.is_whole {
-            self.rows.flat.clear();
-            self.is_whole = false;
         }
     }
 

@@ -1,11 +1,12 @@
 //! Geometries with the place and the header of each.
-ghost use Rattle.std.specs.Prelude.{◌≡◌, ◌⊎◌, [], Ok, true};
+ghost use Rattle.std.specs.Prelude.{◌≡◌, []};
+ghost use Rattle.twkb_grammar.specs.Noting.{no_notes, changed_at};
+ghost use Rattle.twkb_blob.specs.Places.{measured};
 
-use crate::fault::BlobFault;
-use crate::open_spans::OpenSpans;
-use std::alloc::Global;
+use std::alloc::{AllocError, Global};
 use std::marker::Model;
-use twkb_grammar::Span;
+use twkb_engine::SpanNotes;
+use twkb_grammar::{Span, TypeByte};
 use twkb_tree::Geometry;
 
 /// The spans of a blob, in the order of its headers, and room for those of a further one. A
@@ -29,9 +30,7 @@ impl Spans {
     pub fn new(alloc: Global) -> Spans
         ensures { result ≡ [] }
     {
-        Spans {
-            notes: OpenSpans::new(alloc),
-        }
+        Spans::from_vec(Vec::new(alloc))
     }
 
     /// Forgets all spans, and keeps their room for others. Takes no memory.
@@ -45,8 +44,12 @@ impl Spans {
     pub fn from_vec(items: Vec<Span>) -> Spans
         ensures { result ≡ items.items }
     {
+        let begun = Vec::new(*items.allocator());
         Spans {
-            notes: OpenSpans::from_spans(items),
+            notes: OpenSpans {
+                spans: items,
+                begun,
+            },
         }
     }
 
@@ -54,14 +57,14 @@ impl Spans {
     pub fn into_vec(self) -> Vec<Span>
         ensures { result.items ≡ self }
     {
-        self.notes.into_spans()
+        self.notes.spans
     }
 
     /// The spans. Takes no memory.
     pub fn as_slice(&self) -> &[Span]
         ensures { result.now ≡ self.now }
     {
-        self.notes.spans()
+        self.notes.spans.as_slice()
     }
 }
 
@@ -74,13 +77,101 @@ pub struct Located {
     pub spans: Spans,
 }
 
-// Keeps the spans of a geometry that was read, and clears them after a false or an `Err`.
-pub(crate) fn keep_spans(found: Result<bool, BlobFault>, spans: &mut Spans)
-    ensures made { found ≡ Ok true → spans.new ≡ spans.old }
-    ensures cleared { (found ≡ Ok true) ⊎ (spans.new ≡ []) }
+// The spans so far, and the places of those whose geometries are begun and not ended, the innermost
+// last.
+#[derive(Debug, Drop)]
+pub(crate) struct OpenSpans {
+    spans: Vec<Span>,
+    begun: Vec<usize>,
+}
+
+impl Model for OpenSpans {
+    ghost use Rattle.std.specs.Prelude.{reverse};
+    ghost use Rattle.twkb_grammar.specs.Noting.{Notes};
+
+    ghost Value = { Notes };
+
+    ghost view = { λ o. record { spans = o.spans.items; begun = reverse o.begun.items } };
+}
+
+// Sets the metadata byte of the span at this place, if there is one.
+fn set_metadata(spans: &mut Vec<Span>, index: usize, metadata: u8)
+    ensures { spans.new.items ≡ changed_at index (λ s. record s { metadata = metadata }) spans.old.items }
 {
-    if let Ok(true) = found {
-        return;
+    if index < spans.len() {
+        spans[index].metadata = metadata;
     }
-    spans.clear();
+}
+
+// Sets length and points of the span at this place, if there is one. Its geometry ends at this
+// offset, after this many points of the blob; so far its `points` is how many of these came before
+// the geometry.
+fn set_end(spans: &mut Vec<Span>, index: usize, offset: u64, points: u64)
+    ensures { spans.new.items ≡ changed_at index (measured offset points) spans.old.items }
+{
+    if index < spans.len() {
+        let span = &mut spans[index];
+        span.length = offset.saturating_sub(span.offset);
+        span.points = points.saturating_sub(span.points);
+    }
+}
+
+impl OpenSpans {
+    // Forgets the spans and which of them are open, and keeps their memory for others.
+    pub(crate) fn restart(&mut self)
+        ensures { self.new ≡ no_notes }
+    {
+        self.spans.clear();
+        self.begun.clear();
+    }
+}
+
+impl SpanNotes for OpenSpans {
+    ghost use Rattle.std.specs.Prelude.{◌≡◌};
+
+    ghost holds = { λ o w. o ≡ w };
+
+    // Adds an open span; until it ends, its `points` is how many points of the blob came before its
+    // geometry. After an `Err` a span may be left that is not open.
+    #[inline(always)]
+    fn begin(&mut self, offset: u64, points: u64, byte: TypeByte) -> Result<(), AllocError> {
+        let level = self.begun.len().min(u32::MAX as usize) as u32;
+        let place = self.spans.len();
+        self.spans.push(Span {
+            level,
+            offset,
+            kind: byte.kind(),
+            precision: byte.precision(),
+            metadata: 0,
+            length: 0,
+            points,
+        })?;
+        self.begun.push(place)?;
+        Ok(())
+    }
+
+    // Sets the metadata byte of the innermost open span; changes nothing if none is open.
+    #[inline(always)]
+    fn set_metadata(&mut self, byte: u8) {
+        if let Some(place) = self.begun.last() {
+            let place = *place;
+            set_metadata(&mut self.spans, place, byte);
+        }
+    }
+
+    // Closes the innermost open span, and sets its length and its number of points; changes nothing
+    // if none is open.
+    #[inline(always)]
+    fn end(&mut self, offset: u64, points: u64) {
+        if let Some(place) = self.begun.pop() {
+            set_end(&mut self.spans, place, offset, points);
+        }
+    }
+
+    // Adds a span that is not open.
+    #[inline(always)]
+    fn put(&mut self, span: Span) -> Result<(), AllocError> {
+        self.spans.push(span)?;
+        Ok(())
+    }
 }

@@ -1,14 +1,11 @@
 //! The blobs of an input, one after another, through one engine and one form.
-ghost use Rattle.std.specs.Prelude.{◌≡◌, ◌≤◌, [], false};
+ghost use Rattle.std.specs.Prelude.{◌≡◌, [], false};
 ghost use Rattle.std.proofs.Props.{props};
-ghost use Rattle.twkb_engine.specs.Caps.{place_cap};
-ghost use Rattle.twkb_engine.specs.State.{allowance_of};
-ghost use Rattle.twkb_engine.specs.Standing.{StandsAt};
 ghost use Rattle.twkb_blob.specs.Readers.{IsAbreast};
 
 use crate::fault::BlobFault;
 use crate::reader::Reader;
-use crate::spans::{Spans, keep_spans};
+use crate::spans::Spans;
 use std::alloc::Global;
 use std::io::Read;
 use twkb_engine::{Engine, NoSpans};
@@ -35,19 +32,6 @@ impl StreamRoom {
                 flat: Flat::new(alloc),
             },
         }
-    }
-
-    // Replaces the engine by a new one, for a blob at this offset of a stream and with these
-    // limits, and forgets the rows, whose memory stays.
-    fn restart(&mut self, limits: Limits, start: u64)
-        requires room { start ≤ place_cap }
-        ensures stands { StandsAt [] [] self.new.engine }
-        ensures limits { allowance_of self.new.engine ≡ limits }
-        ensures start { self.new.engine.start ≡ start }
-        ensures rows { self.new.rows.flat ≡ [] }
-    {
-        self.engine = Engine::new(self.alloc, limits, start);
-        self.rows.flat.clear();
     }
 }
 
@@ -80,7 +64,8 @@ impl<'a, 'b, R: Read> StreamReader<'a, 'b, R> {
         ensures not_ended { has_ended (reader_in result) ≡ false }
         ensures rows { rows_in result ≡ [] }
     {
-        room.restart(limits, input.offset());
+        room.engine = Engine::new(room.alloc, limits, input.offset());
+        room.rows.flat.clear();
         StreamReader {
             reader: Reader::new(input, limits),
             room,
@@ -113,7 +98,10 @@ impl<'a, 'b, R: Read> StreamReader<'a, 'b, R> {
         let found = self
             .reader
             .read_with(&mut room.engine, &mut room.rows.flat, &mut spans.notes);
-        keep_spans(found, spans);
+        if let Ok(true) = found {
+            return found;
+        }
+        spans.clear();
         found
     }
 

@@ -1,4 +1,4 @@
-use Rattle.std.proofs.Common.{rules, sym, subst, ◌≡◌, Ok, true, []}
+use Rattle.std.proofs.Common.{rules, subst, ◌≡◌, Ok, true, []}
 use Rattle.twkb_tree.proofs.RootLaws.{one_geometry}
 use Rattle.twkb_blob.specs.Readers.{IsNextFlat, Makes, reader_input, reader_limits}
 use Rattle.twkb_blob.proofs.Answering.{made_ahead}
@@ -6,8 +6,8 @@ use Rattle.twkb_blob.proofs.Calls.{came}
 use Rattle.twkb_blob.proofs.Trees.{tree_made}
 use Rattle.twkb_blob.proofs.reader.Reader.next.Goals as goal
 
-pub returns-in_err-geometry-clause-memory : goal.returns-in_err-geometry-clause-memory
-returns-in_err-geometry-clause-memory g c = λ is.
+pub returns-in_default-clause-memory : goal.returns-in_default-clause-memory
+returns-in_default-clause-memory g c = λ is.
     let old = c.args.self.now in
     let read = c.next_flat in
     let found : read.result ≡ Ok true = search rules in
@@ -19,11 +19,9 @@ pub returns-clause-next : goal.returns-clause-next
 returns-clause-next g c = λ live going.
     let old = c.args.self.now in
     let read = c.next_flat in
-    let tree = c.in_ok-geometry in
     let found : read.result ≡ Ok true = search rules in
     let (h, makes, is) = subst (λ r. IsNextFlat (reader_limits old) (reader_input old)
     (reader_input read.new.self) r read.new.flat) found (read.ensures.next live going) in
-    subst (λ i. Makes (reader_limits old) [] (reader_input old) i tree.geometry) (sym c.tree_of.ensures.kept.0)
-    (subst (λ t. Makes (reader_limits old) [] (reader_input old) (reader_input read.new.self) t)
-    (tree_made one_geometry read.new.flat h tree.geometry makes.blob.valid.tree is tree.ensures.rows
-    tree.ensures.valid) makes)
+    subst (λ t. Makes (reader_limits old) [] (reader_input old) (reader_input read.new.self) t)
+    (tree_made one_geometry read.new.flat h c.in-Ok.geometry makes.blob.valid.tree is c.in-Ok.ensures.rows
+    c.in-Ok.ensures.valid) makes

@@ -1,8 +1,10 @@
-use Rattle.std.proofs.Common.{rules}
+use Rattle.std.proofs.Common.{arith, ap, rules}
+use Rattle.twkb_io.specs.Inputs.{given}
 use Rattle.twkb_blob.proofs.Abreast.{new_abreast}
 use Rattle.twkb_blob.proofs.stream_reader.StreamReader.new.Goals as goal
 
 pub invariant_of-result : goal.invariant_of-result
 invariant_of-result g c = record {
-  abreast = λ live going. new_abreast c.restart.ensures.stands (search rules) (search rules);
+  abreast = λ live going. new_abreast c.new.ensures.stands
+      (omega (arith, c.new.ensures.begins.start, c.offset.ensures.offset, ap given c.new-2.ensures.input)) (search rules);
 }

@@ -1,6 +1,14 @@
+use Rattle.std.proofs.Common.{◌≡◌, Ok, inl, inr, refl, rules, true}
 use Rattle.twkb_blob.proofs.Calls.{both, spans_read}
 use Rattle.twkb_blob.proofs.stream_reader.StreamReader.next_spans.Goals as goal
 
+pub returns-in-Ok-true : goal.returns-in-Ok-true
+returns-in-Ok-true g c = spans_read c.in-Ok-true.ensures.shared c.in-Ok-true.ensures.into (λ e. refl)
+    (inl (rw c.in-Ok-true.field-0-test refl))
+
 pub returns : goal.returns
-returns g c = spans_read c.read_with-found.ensures.shared c.read_with-found.ensures.read c.keep_spans.ensures.made
-    (both c.read_with-found.ensures.cleared c.keep_spans.ensures.cleared)
+returns g c =
+    let same : c.match-found.found ≡ c.read_with-found.result = search rules in
+    let other : c.read_with-found.result ≡ Ok true → ⊥ = search rules in
+    rw same (spans_read c.read_with-found.ensures.shared c.read_with-found.ensures.into (λ e. absurd (other e))
+    (both c.read_with-found.ensures.cleared (inr c.clear.ensures)))

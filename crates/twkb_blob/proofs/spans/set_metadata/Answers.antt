@@ -1,6 +1,6 @@
 use Rattle.std.proofs.Common.{refl, arith}
 use Rattle.twkb_blob.proofs.Changing.{changed_to, changed_past}
-use Rattle.twkb_blob.proofs.open_spans.set_metadata.Goals as goal
+use Rattle.twkb_blob.proofs.spans.set_metadata.Goals as goal
 
 pub returns-then-index-len : goal.returns-then-index-len
 returns-then-index-len c =
