@@ -37,9 +37,9 @@ none_noted rs d s =
     let none : 0 ≡ count_of d = count_is [] rs d s in
     noted_none [] rs d s (omega (arith, none)) (nil_from_length (held_in d) (omega (arith, none)))
 
-at_end : (known : Option (List ℕ)) → IfSome known (λ rest. rest ≡ []) → IsAtEnd known
-at_end None none = tt
-at_end (Some rest) none = none
+judge_end : (known : Option (List ℕ)) → IfSome known (λ rest. rest ≡ []) → IsAtEnd known
+judge_end None none = tt
+judge_end (Some rest) none = none
 
 -- a blob that left is a part of what was known
 blob_known : {limits : Allowance} {bs : List ℕ} {g : Tree} (a b : Option (List ℕ)) → Consumes a b bs
@@ -68,7 +68,7 @@ module _ {R : Type 0} {read : Ghosts R} (limits : Allowance) (a c : Input R read
       → ReadsBlob holds told limits (given a) [] a c answer e rs v → IsInto holds limits a c answer qs v
   answered holds told e rs qs v (Ok true) known kept h = (h.0, h.1, h.2 known, kept refl ∙ h.3)
   answered holds told e rs qs v (Ok false) known kept h = (
-    at_end (rest_of a) (Consumes-whole (rest_of a) (rest_of c) h.0 (λ rest. rest ≡ [])
+    judge_end (rest_of a) (Consumes-whole (rest_of a) (rest_of c) h.0 (λ rest. rest ≡ [])
         h.1.consumed h.2 h.3),
     subst (Left a c) h.3 h.1,
   )

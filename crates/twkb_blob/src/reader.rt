@@ -2,7 +2,7 @@
 ghost use Rattle.std.specs.Prelude.{◌≡◌, ◌↔◌, [], true, false, Err, None};
 ghost use Rattle.twkb_grammar.specs.Noting.{no_notes};
 
-use crate::fault::{BlobFault, at_end, fault_at};
+use crate::fault::{BlobFault, fault_at, judge_end};
 use crate::spans::{Located, Spans};
 use std::alloc::Global;
 use std::io::Read;
@@ -138,7 +138,7 @@ impl<'a, R: Read> Reader<'a, R> {
             }
             let piece = self.input.held();
             if piece.is_empty() {
-                break at_end(engine).and(Ok(false));
+                break judge_end(engine).and(Ok(false));
             }
             let start = engine.start();
             match engine.feed(flat, spans, piece) {

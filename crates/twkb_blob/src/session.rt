@@ -8,7 +8,7 @@ ghost use Rattle.twkb_engine.specs.Standing.{IsAlive, count_of};
 ghost use Rattle.twkb_blob.specs.Readers.{failed_by_read};
 ghost use Rattle.twkb_blob.specs.Feeding.{Feeds};
 
-use crate::fault::{BlobFault, at_end, fault_at};
+use crate::fault::{BlobFault, fault_at, judge_end};
 use std::alloc::Global;
 use twkb_engine::{Engine, NoSpans, SpanNotes};
 use twkb_flat::{Flat, Rows};
@@ -219,7 +219,7 @@ impl Session {
             return Err(BlobFault::Spent);
         }
         self.spent = true;
-        at_end(&self.engine)
+        judge_end(&self.engine)
     }
 
     /// The number of bytes held of a number whose last byte has not come, 0 to 9. Takes no memory.

@@ -21,5 +21,5 @@ pub use member_ids::MemberIds;
 pub use numbers::front_number;
 pub use optional_parts::OptionalParts;
 pub use points::front_point;
-pub use rows::{line_row, own_row, push_point, push_row, put_point, ring_list_row};
+pub use rows::{line_row, own_row, push_point_row, push_row, put_point, ring_list_row};
 pub use whole::{SIZED, Whole, whole_point};

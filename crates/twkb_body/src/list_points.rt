@@ -138,7 +138,7 @@ pub fn take_members(
     let mut used = 0;
     let mut position = from;
     let mut left = most;
-    while left > 0 && ids.has_first() {
+    while left > 0 && ids.has_needed_id() {
         let Some((to, count)) = front_point(position, &bytes[used..]) else {
             break;
         };

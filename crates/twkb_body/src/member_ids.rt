@@ -101,9 +101,9 @@ impl MemberIds {
         self.ids.reverse();
     }
 
-    // Whether members have no ids, or the open member has one.
+    // Whether the open member has the id that it needs: members have no ids, or one is left.
     #[inline(always)]
-    pub(crate) fn has_first(&self) -> bool
+    pub(crate) fn has_needed_id(&self) -> bool
         ensures { result ≡ true → is_some (first_id (ids_of self.now)) ≡ self.now.has_ids }
     {
         !self.has_ids || !self.ids.is_empty()

@@ -33,7 +33,7 @@ fn front_size(metadata: Metadata, bytes: &[u8]) -> Option<(Option<u64>, usize)>
 // How many bytes the box at the start of the bytes has; 0 if this metadata byte asks for none.
 // `None` if one of its four numbers is not complete or too long.
 #[inline(always)]
-fn front_box(metadata: Metadata, bytes: &[u8]) -> Option<usize>
+fn front_box_length(metadata: Metadata, bytes: &[u8]) -> Option<usize>
     ensures { IfSome result (λ used. BoxInFront metadata bytes.now used) }
 {
     if !metadata.has_box() {
@@ -60,7 +60,7 @@ pub fn front_parts(metadata: Metadata, bytes: &[u8]) -> Option<OptionalParts>
         return None;
     }
     let (size, from) = front_size(metadata, bytes)?;
-    let sides = front_box(metadata, &bytes[from..])?;
+    let sides = front_box_length(metadata, &bytes[from..])?;
     Some(OptionalParts {
         size,
         from,

@@ -21,7 +21,7 @@ fn short_step(number: u64) -> i64
 // The point at `dx` along x and `dy` along y from this one, both steps in the range of a
 // coordinate; `None` if that point is out of range.
 #[inline(always)]
-fn near_steps(from: Pt, dx: i64, dy: i64) -> Option<Pt>
+fn after_steps(from: Pt, dx: i64, dy: i64) -> Option<Pt>
     requires near_x { IsCoordinate dx }
     requires near_y { IsCoordinate dy }
     ensures { IfSome result (λ to. StepsTo from (zigzag_of dx) (zigzag_of dy) to) }
@@ -32,12 +32,12 @@ fn near_steps(from: Pt, dx: i64, dy: i64) -> Option<Pt>
 // The point after two steps from this one, along x and along y, each spelled by a number of five
 // bytes or fewer; `None` if that point is out of range.
 #[inline(always)]
-fn near(from: Pt, x: u64, y: u64) -> Option<Pt>
+fn after_short_steps(from: Pt, x: u64, y: u64) -> Option<Pt>
     requires x_small { x < 2 ^ 35 }
     requires y_small { y < 2 ^ 35 }
     ensures { IfSome result (λ to. StepsTo from x y to) }
 {
-    near_steps(from, short_step(x), short_step(y))
+    after_steps(from, short_step(x), short_step(y))
 }
 
 // The point at the start of the bytes, by its two steps from `from`, and how many bytes they have;
@@ -67,6 +67,6 @@ pub fn front_point(from: Pt, bytes: &[u8]) -> Option<(Pt, usize)>
     let Some((y, height)) = short_number(&bytes[width..]) else {
         return long_point(from, bytes);
     };
-    let to = near(from, x, y)?;
+    let to = after_short_steps(from, x, y)?;
     Some((to, width + height))
 }

@@ -29,7 +29,7 @@ pub fn push_row(flat: &mut Flat, row: Row) -> Result<(), AllocError>
 /// Appends a row with one point, which must be one that may follow the rows. Takes memory; an `Err`
 /// changes nothing.
 #[inline(never)]
-pub fn push_point(flat: &mut Flat, row: Row, point: Pt) -> Result<(), AllocError>
+pub fn push_point_row(flat: &mut Flat, row: Row, point: Pt) -> Result<(), AllocError>
     requires { Continues largest_limits flat.old (row_with row (point ∷ [])) }
     ensures pushed { OnOk result (flat.new ≡ flat.old ++ row_with row (point ∷ []) ∷ []) }
     ensures same { OnErr result (flat.new ≡ flat.old) }
@@ -56,8 +56,12 @@ pub fn put_point(
     ensures same { OnErr result (flat.new ≡ flat.old) }
 {
     match head.kind {
-        Kind::Point => push_point(flat, own_row(head), point),
-        Kind::MultiPoint => push_point(flat, part_row(head.depth + 1, Kind::Point, member), point),
+        Kind::Point => push_point_row(flat, own_row(head), point),
+        Kind::MultiPoint => push_point_row(
+            flat,
+            component_row(head.depth + 1, Kind::Point, member),
+            point,
+        ),
         _ => flat.add_point(point),
     }
 }
@@ -77,7 +81,7 @@ pub fn own_row(head: &Head) -> Row
 }
 
 // The row, without points, of a component, which has no precision of its own.
-fn part_row(depth: u32, kind: Kind, id: Option<i64>) -> Row
+fn component_row(depth: u32, kind: Kind, id: Option<i64>) -> Row
     ensures { row_with result [] ≡ plain_row depth kind id [] }
 {
     Row {
@@ -98,9 +102,9 @@ pub fn line_row(head: &Head, member: Option<i64>) -> Row
         (form_of head.now.kind) member 0 }
 {
     match head.kind {
-        Kind::Polygon => part_row(head.depth + 1, Kind::Ring, None),
-        Kind::MultiLinestring => part_row(head.depth + 1, Kind::Linestring, member),
-        Kind::MultiPolygon => part_row(head.depth + 2, Kind::Ring, None),
+        Kind::Polygon => component_row(head.depth + 1, Kind::Ring, None),
+        Kind::MultiLinestring => component_row(head.depth + 1, Kind::Linestring, member),
+        Kind::MultiPolygon => component_row(head.depth + 2, Kind::Ring, None),
         _ => own_row(head),
     }
 }
@@ -114,7 +118,7 @@ pub fn ring_list_row(head: &Head, member: Option<i64>) -> Row
         (form_of head.now.kind) member 1 }
 {
     match head.kind {
-        Kind::MultiPolygon => part_row(head.depth + 1, Kind::Polygon, member),
+        Kind::MultiPolygon => component_row(head.depth + 1, Kind::Polygon, member),
         _ => own_row(head),
     }
 }

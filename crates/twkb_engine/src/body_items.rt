@@ -68,7 +68,7 @@ impl Engine {
     }
 
     // Takes a y, and adds the point that it completes to the rows: at once if its list goes on, and
-    // else as `last_point` does. Returns whether the blob ends with it. Refused if it leads out of
+    // else as `put_last_point` does. Returns whether the blob ends with it. Refused if it leads out of
     // range, or if the size of a geometry that ends with it is not exact. The point takes memory.
     #[inline(always)]
     pub(crate) fn y<S: SpanNotes>(
@@ -97,14 +97,14 @@ impl Engine {
             return Ok(false);
         }
         self.points_left = 0;
-        self.last_point(flat, spans, position)
+        self.put_last_point(flat, spans, position)
     }
 
     // Goes past the last point of a list, or past a point that is a geometry or a member itself, as
-    // `end_value` does, and then adds the point to the rows. Returns whether the blob ends. Refused
+    // `end_list_or_point` does, and then adds the point to the rows. Returns whether the blob ends. Refused
     // if the size of a geometry that ends with it is not exact. The point takes memory.
     #[inline(never)]
-    pub(crate) fn last_point<S: SpanNotes>(
+    pub(crate) fn put_last_point<S: SpanNotes>(
         &mut self,
         flat: &mut Flat,
         spans: &mut S,
@@ -121,7 +121,7 @@ impl Engine {
         ensures kept { Keeps self.old self.new }
     {
         let member = self.ids.first();
-        let ends = self.end_value(spans)?;
+        let ends = self.end_list_or_point(spans)?;
         put_point(flat, &self.head, member, position)?;
         Ok(ends)
     }
@@ -153,7 +153,7 @@ impl Engine {
         self.points += count;
         let row = line_row(&self.head, self.ids.first());
         if count == 0 {
-            return self.put_empty(flat, spans, row);
+            return self.put_empty_list(flat, spans, row);
         }
         push_row(flat, row)?;
         self.points_left = count;
@@ -188,7 +188,7 @@ impl Engine {
         self.nodes += count;
         let row = ring_list_row(&self.head, self.ids.first());
         if count == 0 {
-            return self.put_empty(flat, spans, row);
+            return self.put_empty_list(flat, spans, row);
         }
         push_row(flat, row)?;
         self.rings_left = count - 1;
@@ -196,10 +196,10 @@ impl Engine {
         Ok(false)
     }
 
-    // Goes past an empty list, as `end_value` does, and then pushes its row. Returns whether the
+    // Goes past an empty list, as `end_list_or_point` does, and then pushes its row. Returns whether the
     // blob ends. Refused if the size of a geometry that ends with it is not exact. The row takes
     // memory.
-    fn put_empty<S: SpanNotes>(
+    fn put_empty_list<S: SpanNotes>(
         &mut self,
         flat: &mut Flat,
         spans: &mut S,
@@ -215,7 +215,7 @@ impl Engine {
         ensures placed { IsHere self.old → OnOk result (IsPlaced self.new.next self.new) }
         ensures kept { Keeps self.old self.new }
     {
-        let ends = self.end_value(spans)?;
+        let ends = self.end_list_or_point(spans)?;
         push_row(flat, row)?;
         Ok(ends)
     }
@@ -224,7 +224,7 @@ impl Engine {
     // ring or member, or past the end of the geometry as `end_geometry` does. Returns whether the
     // blob ends there; an `Err` is a size that is not exact. Takes no memory.
     #[inline(always)]
-    fn end_value<S: SpanNotes>(&mut self, spans: &mut S) -> Result<bool, Inexact>
+    fn end_list_or_point<S: SpanNotes>(&mut self, spans: &mut S) -> Result<bool, Inexact>
         requires last { self.old.points_left ≡ 0 }
         requires body { IsBodyItem self.old.next }
         ensures ended { (rs : List TableRow) → Lands (past_last self.old) Nothing self.old rs
@@ -242,7 +242,7 @@ impl Engine {
         Ok(false)
     }
 
-    // Goes past the end of a list of points that are all taken, and returns what `end_value` does.
+    // Goes past the end of a list of points that are all taken, and returns what `end_list_or_point` does.
     // Not inlined, so that its caller keeps its registers.
     #[inline(never)]
     pub(crate) fn end_points<S: SpanNotes>(&mut self, spans: &mut S) -> Result<bool, Inexact>
@@ -255,7 +255,7 @@ impl Engine {
         ensures placed { IsHere self.old → OnOk result (IsPlaced self.new.next self.new) }
         ensures kept { Keeps self.old self.new }
     {
-        self.end_value(spans)
+        self.end_list_or_point(spans)
     }
 
     // Whether no ring and no member is left after the open list or point, so that the body ends

@@ -120,7 +120,7 @@ impl Engine {
         if count == 0 {
             return self.end_empty(flat, spans);
         }
-        self.begin_counted(flat, count)?;
+        self.begin_ids_or_members(flat, count)?;
         Ok(false)
     }
 
@@ -128,7 +128,7 @@ impl Engine {
     // to the first id if they have ids, else to the first member as `begin_members` does. A row and
     // an open collection take memory.
     #[inline(always)]
-    fn begin_counted(&mut self, flat: &mut Flat, count: u64) -> Result<(), AllocError>
+    fn begin_ids_or_members(&mut self, flat: &mut Flat, count: u64) -> Result<(), AllocError>
         requires next { self.old.next ≡ next.MemberCount }
         requires some { 0 < count }
         requires row { bit self.old.head.metadata 2 ≡ false → Admits (own_row self.old) flat.old }

@@ -106,7 +106,7 @@ impl Engine {
         };
         self.bytes += used as u64;
         self.position = position;
-        Ok((used, self.last_point(flat, spans, position)?))
+        Ok((used, self.put_last_point(flat, spans, position)?))
     }
 
     // Takes points of the open list of points, and does not go past its end. Returns how many bytes

@@ -21,7 +21,7 @@ loop-left-init c = record {
 pub add_member-requires-clause-member : goal.add_member-requires-clause-member
 add_member-requires-clause-member c =
     subst (λ (b : Bool). EndsInMember c.args.depth b c.loop-left.flat)
-    (sym (c.has_first.ensures c.if-has_first.true) ∙ ap is_some (sym c.first.ensures))
+    (sym (c.has_needed_id.ensures c.if-has_needed_id.true) ∙ ap is_some (sym c.first.ensures))
     c.loop-left.invariant.member
 
 pub returns-in_err-add_member-clause-taken : goal.returns-in_err-add_member-clause-taken
@@ -39,7 +39,7 @@ loop-left-preserved c =
     let depth = c.args.depth in
     let rows = c.loop-left.flat in
     let some : 0 < c.loop-left.left = omega (arith, c.loop-left-test.true) in
-    let named = sym (c.has_first.ensures c.if-has_first.true) ∙ ap is_some (sym c.first.ensures) in
+    let named = sym (c.has_needed_id.ensures c.if-has_needed_id.true) ∙ ap is_some (sym c.first.ensures) in
     let more = member_added rows c.add_member.new.self depth c.first.result _
     c.in_ok-add_member.ensures.added (subst (λ (b : Bool). EndsInMember depth b rows) named
     c.loop-left.invariant.member) in

@@ -9,12 +9,12 @@ use Rattle.twkb_body.specs.Head.{form_of}
 use Rattle.twkb_tree.specs.declared.kind.Kind.{Kind}
 use Rattle.twkb_body.proofs.rows.put_point.Goals as goal
 
-pub push_point-requires-in-MultiPoint : goal.push_point-requires-in-MultiPoint
-push_point-requires-in-MultiPoint c =
+pub push_point_row-requires-in-MultiPoint : goal.push_point_row-requires-in-MultiPoint
+push_point_row-requires-in-MultiPoint c =
     let h = c.args.head.now in
     let deep : suc h.depth ≡ h.depth + 1 = omega arith in
     subst (λ (r : Row). Continues largest_limits c.args.flat.now (record r { points = c.args.point ∷ [] }))
-    (sym c.part_row.ensures)
+    (sym c.component_row.ensures)
     (subst (λ d. Continues largest_limits c.args.flat.now
     (plain_row d kinds.Point c.args.member (c.args.point ∷ []))) deep
     (subst (λ (f : Kind). Admits (point_change c.args.point h.depth h.id h.precision (form_of f)

@@ -106,11 +106,11 @@ returns g c =
       )
       | in_default+then-is_empty w ↦ rw (w.engine-is, w.flat-is, w.spans-is, w.stopped-is, w.and-stopped.ensures) (
         from c.fill.new.self _ d here.flat here.spans (ended (left_none fill.keeps fill.given)
-            fill.same_tap w.at_end.result w.in_default.ensures.failures w.at_end.ensures.unread
+            fill.same_tap w.judge_end.result w.in_default.ensures.failures w.judge_end.ensures.unread
             (w.in_default.ensures.ended (w.in_default.ensures.end (sym w.held-piece.ensures.held
             ∙ none_in w.held-piece.result.now w.is_empty.result w.is_empty.ensures w.if-is_empty.true))).1
-            w.at_end.ensures.end),
-        no_blob w.at_end.result,
+            w.judge_end.ensures.end),
+        no_blob w.judge_end.result,
       )
       | in_default+else-is_empty+in-Err-feed w ↦
           let live : input.is_spent c.fill.new.self ≡ false = search rules in

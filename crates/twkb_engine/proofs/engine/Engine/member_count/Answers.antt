@@ -24,16 +24,16 @@ returns-then-count-eq0-clause-taken g c =
     (ap (λ x. c.args.self.now.points + x) c.member_points-points.ensures)) refl refl
     c.end_empty.ensures.ended
 
-pub begin_counted-requires-clause-row : goal.begin_counted-requires-clause-row
-begin_counted-requires-clause-row g c = λ bare.
+pub begin_ids_or_members-requires-clause-row : goal.begin_ids_or_members-requires-clause-row
+begin_ids_or_members-requires-clause-row g c = λ bare.
     subst (λ b. Admits (if b then Nothing else own_row c.args.self.now) c.args.flat.now) bare
     (count_some c.requires (search rules) (omega (arith, c.if-count-eq0.false))).admits
 
-pub begin_counted-requires-clause-room : goal.begin_counted-requires-clause-room
-begin_counted-requires-clause-room g c = alive_room c.args.flat.now c.args.self.now c.requires.alive
+pub begin_ids_or_members-requires-clause-room : goal.begin_ids_or_members-requires-clause-room
+begin_ids_or_members-requires-clause-room g c = alive_room c.args.flat.now c.args.self.now c.requires.alive
 
-pub returns-in_err-begin_counted-clause-taken : goal.returns-in_err-begin_counted-clause-taken
-returns-in_err-begin_counted-clause-taken g c =
+pub returns-in_err-begin_ids_or_members-clause-taken : goal.returns-in_err-begin_ids_or_members-clause-taken
+returns-in_err-begin_ids_or_members-clause-taken g c =
     let some : 0 < c.args.count = omega (arith, c.if-count-eq0.false) in
     takes_none (count_some c.requires (search rules) some) _ _ _ c.from_residual.ensures.1
     (count_begins c.args.self.now some).pass
@@ -41,8 +41,8 @@ returns-in_err-begin_counted-clause-taken g c =
 pub returns-clause-taken : goal.returns-clause-taken
 returns-clause-taken g c =
     let d = c.args.self.now in
-    let b = c.in_ok-begin_counted.ensures in
-    let called = c.begin_counted.ensures in
+    let b = c.in_ok-begin_ids_or_members.ensures in
+    let called = c.begin_ids_or_members.ensures in
     takes_on (count_some c.requires (search rules) (omega (arith, c.if-count-eq0.false)))
     (ap Ok (sym b.step))
     (called.sums ∙ sums_as refl refl (count_nodes d c.args.count) (ap (λ x. d.points + x)
@@ -53,6 +53,6 @@ pub returns-clause-noted : goal.returns-clause-noted
 returns-clause-noted g c =
     let d = c.args.self.now in
     quiet_noted g.S.SpanNotes.holds (count_role d) c.args.count c.args.width d
-    c.begin_counted.new.self c.args.spans.now tt (open_after d c.begin_counted.new.self
-    c.in_ok-begin_counted.ensures.step (count_begins d (omega (arith, c.if-count-eq0.false)))
+    c.begin_ids_or_members.new.self c.args.spans.now tt (open_after d c.begin_ids_or_members.new.self
+    c.in_ok-begin_ids_or_members.ensures.step (count_begins d (omega (arith, c.if-count-eq0.false)))
     (ap (λ i. open_count (frames_of d.collections, stage_at i d)) c.requires.next))

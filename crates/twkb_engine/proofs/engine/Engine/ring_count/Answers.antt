@@ -4,8 +4,8 @@ use Rattle.twkb_engine.proofs.Counts.{rings_end, rings_begin}
 use Rattle.twkb_engine.proofs.Parts.{sums_as, add_zero}
 use Rattle.twkb_engine.proofs.engine.Engine.ring_count.Goals as goal
 
-pub put_empty-requires-clause-may : goal.put_empty-requires-clause-may
-put_empty-requires-clause-may g c =
+pub put_empty_list-requires-clause-may : goal.put_empty_list-requires-clause-may
+put_empty_list-requires-clause-may g c =
     (rings_end _ c.requires c.first.ensures refl (sym c.in_default.ensures)
     c.ring_list_row-row.ensures c.if-count-eq0.true).admits
 
@@ -14,7 +14,7 @@ returns-then-count-eq0-clause-taken g c =
     takes (rings_end _ c.requires c.first.ensures refl (sym c.in_default.ensures)
     c.ring_list_row-row.ensures
     c.if-count-eq0.true) _ _ _ _ (sums_as refl refl refl (add_zero _)) refl refl
-    c.put_empty.ensures.shut
+    c.put_empty_list.ensures.shut
 
 pub push_row-requires : goal.push_row-requires
 push_row-requires g c =

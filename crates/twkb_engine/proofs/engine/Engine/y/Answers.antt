@@ -23,8 +23,8 @@ returns-then-self-gt1-clause-taken g c =
     refl (sums_as refl at.moved (add_zero _) (add_zero _)) c.in_ok-add_point.ensures.added
     (record { limits = refl; start = refl })
 
-pub last_point-requires-clause-may : goal.last_point-requires-clause-may
-last_point-requires-clause-may g c =
+pub put_last_point-requires-clause-may : goal.put_last_point-requires-clause-may
+put_last_point-requires-clause-may g c =
     let at = c.in-Some.ensures in
     (y_last c.requires at.free at.moved (omega (arith, c.if-self-gt1.false))).admits
 
@@ -32,4 +32,4 @@ pub returns-clause-taken : goal.returns-clause-taken
 returns-clause-taken g c =
     let at = c.in-Some.ensures in
     takes (y_last c.requires at.free at.moved (omega (arith, c.if-self-gt1.false)))
-    _ _ _ _ (sums_as refl at.moved (add_zero _) (add_zero _)) refl refl c.last_point.ensures.shut
+    _ _ _ _ (sums_as refl at.moved (add_zero _) (add_zero _)) refl refl c.put_last_point.ensures.shut

@@ -1,6 +1,6 @@
 use Rattle.std.proofs.Common.{◌-◌, ◌≤◌}
 use Rattle.twkb_body.specs.OptionalParts.{SidesInFront}
-use Rattle.twkb_body.proofs.optional_parts.front_box.Given as goal
+use Rattle.twkb_body.proofs.optional_parts.front_box_length.Given as goal
 
 -- so many sides are complete
 abbrev pub invariant-loop-count : goal.invariant-loop-count

@@ -1,5 +1,5 @@
 use Rattle.twkb_engine.specs.Standing.{offset_in}
-use Rattle.twkb_blob.proofs.fault.at_end.Goals as goal
+use Rattle.twkb_blob.proofs.fault.judge_end.Goals as goal
 
 pub returns-then-is_between-clause-end : goal.returns-then-is_between-clause-end
 returns-then-is_between-clause-end c = λ bs rs s. rw c.if-is_between.true at (c.is_between.ensures.ended bs rs s)

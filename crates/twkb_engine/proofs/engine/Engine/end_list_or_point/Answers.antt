@@ -5,7 +5,7 @@ use Rattle.twkb_body.specs.Growing.{Nothing}
 use Rattle.twkb_engine.specs.Taking.{Lands, judged_as}
 use Rattle.twkb_engine.proofs.Ends.{none_ended}
 use Rattle.twkb_engine.proofs.Lists.{body_inside}
-use Rattle.twkb_engine.proofs.engine.Engine.end_value.Goals as goal
+use Rattle.twkb_engine.proofs.engine.Engine.end_list_or_point.Goals as goal
 
 pub end_geometry-requires-clause-inside : goal.end_geometry-requires-clause-inside
 end_geometry-requires-clause-inside g c = body_inside c.args.self.now.next c.requires.body
