@@ -1,10 +1,9 @@
 //! The three conversions in one call, over any reader and writer.
 ghost use Rattle.twkb_convert.specs.Conversions.{Converts};
 
+use crate::listed_stream::{show, unpack};
 use crate::packed_table::pack_styled;
 use crate::report::{ConvertFault, Report};
-use crate::shown_stream::show;
-use crate::unpacked_stream::unpack;
 use std::alloc::Global;
 use std::io::{Read, Write};
 use twkb_io::Tap;

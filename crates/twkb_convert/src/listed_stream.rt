@@ -1,4 +1,5 @@
-//! The listing of a stream of blobs: the text of each blob, sent before the reader is read again.
+//! Streams of blobs as tables, and as lines of their headers: the text of each blob is sent before
+//! the reader is read again.
 ghost use Rattle.std.specs.Prelude.{◌≡◌, IfOk, IfErr};
 ghost use Rattle.twkb_blob.specs.StreamReaders.{reader_in};
 ghost use Rattle.twkb_convert.specs.LocatedBlobs.{LocatedStream, geometries_of};
@@ -6,15 +7,67 @@ ghost use Rattle.twkb_convert.specs.Listings.{listing_text};
 ghost use Rattle.twkb_convert.specs.LastFlush.{IsFlushed};
 ghost use Rattle.twkb_convert.specs.BlobsListed.{IsFresh, Lists};
 ghost use Rattle.twkb_convert.specs.Listed.{Listed, StoppedListing};
+ghost use Rattle.twkb_convert.specs.Unpacked.{StoppedUnpacking, Unpacked};
+ghost use Rattle.twkb_convert.specs.Shown.{Shown, StoppedShowing};
 
-use crate::blob_text::BlobText;
+use crate::blob_text::{BlobText, HeaderLines, TableRows};
 use crate::last_flush::finish;
 use crate::report::{Cause, ConvertFault, Report};
 use std::alloc::Global;
 use std::io::{Read, Write};
-use twkb_blob::{StreamReader, StreamRoom};
+use twkb_blob::{Spans, StreamReader, StreamRoom};
 use twkb_io::{Input, Output, Sink, Tap};
 use twkb_tree::Limits;
+
+/// Writes the table of a stream of blobs: the header's line, then the rows of each blob, after it
+/// was read whole, before the reader is read again (blobs: TWKB; polylines: Encoded Polyline
+/// Algorithm Format; records: RFC 4180; the columns, and LF alone after each record: profile).
+/// Returns how many blobs and bytes were written, and with an `Err` why it stopped. Each geometry
+/// must keep the limits. A refused blob stops it, after the rows of the blobs before. The writer is
+/// flushed last, unless it failed or more than 2^62 bytes would be written. Takes memory for one
+/// geometry and its text.
+pub fn unpack<R: Read, W: Write>(
+    alloc: Global,
+    reader: &mut Tap<R>,
+    writer: &mut Tap<W>,
+    limits: Limits,
+) -> Result<Report, ConvertFault>
+    ensures ok { IfOk result (λ report. Unpacked limits R.remaining W.contents reader.old writer.old
+        report reader.new writer.new) }
+    ensures err { IfErr result (λ fault. StoppedUnpacking limits R.remaining W.contents reader.old
+        writer.old fault reader.new writer.new) }
+    ensures flushed { IsFlushed result writer.new }
+{
+    list_stream(&mut TableRows, alloc, reader, writer, limits)
+}
+
+/// Writes a line for each TWKB header of a stream of blobs, in order, with one space between its
+/// words and LF at its end: the number of collections that the geometry is in, the offset of its
+/// type byte in bytes from the stream's start, its kind, its precision, its metadata byte as two
+/// upper-case hexadecimal digits, the number of its bytes from the type byte to its end, and the
+/// number of its points, those of members included (headers: TWKB; the line: profile). The lines of
+/// a blob are written after it was read whole, before the reader is read again. Returns how many
+/// blobs and bytes were written, and with an `Err` why it stopped. Each geometry must keep the
+/// limits. A refused blob stops it, after the lines of the blobs before. The writer is flushed
+/// last, unless it failed or more than 2^62 bytes would be written. Takes memory for one geometry,
+/// its spans and their text.
+pub fn show<R: Read, W: Write>(
+    alloc: Global,
+    reader: &mut Tap<R>,
+    writer: &mut Tap<W>,
+    limits: Limits,
+) -> Result<Report, ConvertFault>
+    ensures ok { IfOk result (λ report. Shown limits R.remaining W.contents reader.old writer.old
+        report reader.new writer.new) }
+    ensures err { IfErr result (λ fault. StoppedShowing limits R.remaining W.contents reader.old
+        writer.old fault reader.new writer.new) }
+    ensures flushed { IsFlushed result writer.new }
+{
+    let mut lines = HeaderLines {
+        spans: Spans::new(alloc),
+    };
+    list_stream(&mut lines, alloc, reader, writer, limits)
+}
 
 // Writes the text of a stream of blobs: the text before the first blob, and then that of each blob
 // before the reader is read again. Returns how many blobs and bytes were written, and with an `Err`

@@ -1,13 +1,14 @@
 //! Packing a table into a stream.
 ghost use Rattle.std.specs.Prelude.{◌≡◌, ◌<◌, ◌^◌, IfOk, IfErr};
+ghost use Rattle.twkb_io.specs.Taps.{bytes_given, device_of};
 ghost use Rattle.twkb_grammar.specs.declared.style.Style.TheVariants.{Full};
 ghost use Rattle.twkb_convert.specs.LastFlush.{IsFlushedButForDevices};
 ghost use Rattle.twkb_convert.specs.Packed.{Packed, PackedWith, StoppedPacking};
+ghost use Rattle.twkb_convert.specs.ReaderEnd.{Drains};
 
 use crate::causes::after_reads;
 use crate::last_flush::finish;
-use crate::reader_end::drain;
-use crate::report::{ConvertFault, Report};
+use crate::report::{Cause, ConvertFault, Report};
 use crate::sent_geometries::{Room, Sent, send_table};
 use std::alloc::Global;
 use std::io::{Read, Write};
@@ -91,6 +92,27 @@ pub fn pack_counted<R: Read, W: Write>(
     let answer = after_reads(drained, reader.failures() != failures);
     let report = finish(&mut output, sent.geometries, answer)?;
     Ok(packed(report, sent.work))
+}
+
+// The number of bytes that one read asks for.
+const PIECE: usize = 64;
+
+// Reads a reader to its end, and drops the bytes, if all was sent; else returns why not, and reads
+// nothing. `ReadDevice` if a read fails; `TooLong` if 2^64 - 1 reads gave bytes and no end. Takes
+// no memory.
+fn drain<R: Read>(tap: &mut Tap<R>, sending: Result<(), Cause>) -> Result<(), Cause>
+    ensures { Drains (R.remaining (device_of tap.new)) (bytes_given tap.new) sending result }
+{
+    sending?;
+    let mut dropped = [0; PIECE];
+    for turn in 0..u64::MAX {
+        match tap.read(&mut dropped) {
+            Ok(0) => return Ok(()),
+            Ok(_) => {}
+            Err(_) => return Err(Cause::ReadDevice),
+        }
+    }
+    Err(Cause::TooLong)
 }
 
 // The answer if the whole table was sent: the report and the work. A function of its own, since its

@@ -1,6 +1,6 @@
 use Rattle.std.proofs.Common.{◌≤◌}
 use Rattle.twkb_io.specs.Taps.{bytes_given}
-use Rattle.twkb_convert.proofs.reader_end.drain.Given as goal
+use Rattle.twkb_convert.proofs.packed_table.drain.Given as goal
 
 -- each turn gave at least one byte
 abbrev pub invariant-loop-turn : goal.invariant-loop-turn
