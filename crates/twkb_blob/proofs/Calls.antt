@@ -1,5 +1,6 @@
 -- What follows from what every call of a reader says.
-use Rattle.std.proofs.Common.{◌≡◌, ◌⊎◌, inl, inr, ◌<◌, refl, Bool, Ok, Err, Result, true, false, List, [], length, is_err}
+use Rattle.std.proofs.Common.{◌≡◌, ◌⊎◌, inl, inr, ◌<◌, refl, Bool, Ok}
+use Rattle.std.proofs.Common.{Err, Result, true, false, List, [], length, is_err}
 use Rattle.std.specs.declared.io.traits.Read.{Ghosts}
 use Rattle.twkb_tree.specs.Rows.{Row}
 use Rattle.twkb_grammar.specs.Noting.{Notes}

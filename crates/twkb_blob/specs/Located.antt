@@ -11,7 +11,8 @@ use Rattle.twkb_io.specs.declared.input.Input.{Input}
 use Rattle.twkb_io.specs.Inputs.{given}
 use Rattle.twkb_engine.specs.Standing.{HoldsSpans}
 use Rattle.twkb_engine.specs.declared.engine.Engine.{Engine}
-use Rattle.twkb_blob.specs.Readers.{Makes, IfGoingOn, IsAbreast, IsNext, PartAhead, ReadsNext, reader_input, reader_limits}
+use Rattle.twkb_blob.specs.Readers.{Makes, IfGoingOn, IsAbreast, IsNext}
+use Rattle.twkb_blob.specs.Readers.{PartAhead, ReadsNext, reader_input, reader_limits}
 use Rattle.twkb_blob.specs.declared.reader.Reader.{Reader}
 use Rattle.twkb_blob.specs.declared.fault.BlobFault.{BlobFault}
 use Rattle.twkb_blob.specs.declared.fault.BlobFault.TheVariants as fault

@@ -2,7 +2,8 @@
 use Rattle.twkb_convert.proofs.Prelude.{◌≡◌, ◌⊎◌, ◌∙◌, ℕ, Bool, true, false, List, [], ◌++◌, Option, Some, None}
 use Rattle.twkb_convert.proofs.Prelude.{Result, Ok, Err, inl, inr, IfSome, length, ap, arith, refl, sym, subst}
 use Rattle.twkb_convert.proofs.Prelude.{append-nil, Appends, IsAtEnd, Ghosts, BeginsWith, Sent, count_failure}
-use Rattle.twkb_convert.proofs.Prelude.{device_of, failures_of, is_spent, output_failures, output_tap, sent_of, Tap, Output}
+use Rattle.twkb_convert.proofs.Prelude.{device_of, failures_of, is_spent, output_failures}
+use Rattle.twkb_convert.proofs.Prelude.{output_tap, sent_of, Tap, Output}
 use Rattle.twkb_convert.proofs.Prelude.{Allowance, Reader, Located, LocatedStream, geometries_of, listing_text, Layout}
 use Rattle.twkb_convert.proofs.Prelude.{IsDeviceCause, Cause, ConvertFault, Report, IfErr, IfOk}
 use Rattle.twkb_io.specs.Taps.{has_unflushed}

@@ -1,7 +1,8 @@
 -- From an output to the result that a conversion's caller sees.
 use Rattle.twkb_convert.proofs.Prelude.{◌≡◌, ◌∙◌, ◌<◌, ◌^◌, ◌++◌, ℕ, List, Bool, true, false, Option, Result, Ok, Err}
 use Rattle.twkb_convert.proofs.Prelude.{ap, arith, refl, subst, sym, inl, inr, length, append-nil, Appends, IsAtEnd}
-use Rattle.twkb_convert.proofs.Prelude.{bytes_given, count_failure, device_of, failures_of, is_spent, output_tap, sent_of, Tap}
+use Rattle.twkb_convert.proofs.Prelude.{bytes_given, count_failure, device_of, failures_of}
+use Rattle.twkb_convert.proofs.Prelude.{is_spent, output_tap, sent_of, Tap}
 use Rattle.twkb_convert.proofs.Prelude.{Output, Tree, Allowance, Work, canonical_stream, Style, Changes}
 use Rattle.twkb_convert.proofs.Prelude.{IsDeviceCause, Cause, ConvertFault, Report, ◌≢◌}
 use Rattle.std.specs.Prelude.{OnOk, not}

@@ -50,9 +50,10 @@ Ends style l told given work whole later front (Err cause.ReadDevice) = (later �
 Ends style l told given work whole later front (Err why) =
     ExplainsPackingCause style l told given why whole later front
 
--- The blobs of the first geometries of a table were sent, so many, and a prefix of the next blob.
+-- The blobs of the first `sent.geometries` geometries of a table were sent, and a prefix of the next blob.
 pub record SendsTable {W : Type 0} (style : Style) (l : Allowance) (contents : W → Option (List ℕ))
-    (told : Option (List ℕ)) (given : ℕ) (old new : Output W) (sent : Sent) (answer : Result (Unit {0}) Cause) : Type 0 where
+    (told : Option (List ℕ)) (given : ℕ) (old new : Output W) (sent : Sent) (answer : Result (Unit {0}) Cause)
+    : Type 0 where
   pub bytes : List ℕ
   pub part : FrontOfBlobs style l told bytes
   pub one : AtMostOneCut part.later part.rest

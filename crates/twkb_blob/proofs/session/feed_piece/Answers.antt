@@ -45,7 +45,8 @@ returns-else-not-ends g c =
     (λ off. elim c.else-not-ends.either [
       | inl h ↦ omega (
         arith,
-        all_used c.in-Ok-feed.used (length (take count c.args.piece.now)) c.in-Ok-feed.ends c.in-Ok-feed.ensures.all off,
+        all_used c.in-Ok-feed.used (length (take count c.args.piece.now)) c.in-Ok-feed.ends
+          c.in-Ok-feed.ensures.all off,
         h.1,
         c.min-count.ensures,
         cut,

@@ -1,4 +1,5 @@
-use Rattle.std.proofs.Common.{◌≡◌, ◌∙◌, Bool, Ok, Err, Result, true, false, ap, arith, inr, is_err, length, refl, rules, subst, sym}
+use Rattle.std.proofs.Common.{◌≡◌, ◌∙◌, Bool, Ok, Err, Result, true, false, ap}
+use Rattle.std.proofs.Common.{arith, inr, is_err, length, refl, rules, subst, sym}
 use Rattle.std.specs.Result.{result_and}
 use Rattle.twkb_io.specs.Inputs as input
 use Rattle.twkb_engine.specs.State.{allowance_of}

@@ -16,7 +16,8 @@ returns-in_err-put_last_point g c =
     same_stop c.from_residual.result c.from_residual.ensures.1 (λ y same. same)
     (point_fed c.args.flat.now c.args.self.now c.requires.next c.requires.last c.args.rest.now _ _
     c.in-Some.ensures g.S.SpanNotes.holds _ c.put_last_point.new.self c.put_last_point.new.flat c.args.spans.now
-    c.put_last_point.new.spans refl c.requires.alone (Err c.in_err-put_last_point.field-0.0) t.kept t.shut t.noted t.placed)
+    c.put_last_point.new.spans refl c.requires.alone (Err c.in_err-put_last_point.field-0.0)
+    t.kept t.shut t.noted t.placed)
 
 pub returns : goal.returns
 returns g c =
