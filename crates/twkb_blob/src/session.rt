@@ -15,10 +15,11 @@ use twkb_flat::{Flat, Rows};
 use twkb_io::{InFault, MAX_BYTES};
 use twkb_tree::{Geometry, Limits};
 
-// Feeds a piece of a stream to an engine, up to the end of a blob, or all of it if none ends; returns
-// how many bytes were taken, and whether a blob ends with them. A refusal states its offset in the
-// stream. If the piece goes past 2^62 bytes of the stream, and no blob ends and nothing is refused
-// up to there, the bytes up to there are fed, and it is `TooLong`. One byte needs no loop.
+// Feeds a piece of a stream to an engine, up to the end of a blob, or all of it if none ends;
+// returns how many bytes were taken, and whether a blob ends with them. Rows, spans and memory are
+// as with `Engine::feed`. An `Err` is want of memory, a refusal with its offset in the stream, or
+// `TooLong`: the piece goes past 2^62 bytes of the stream, and no blob ends and nothing is refused
+// in the bytes up to there, which are fed. One byte needs no loop.
 #[inline(always)]
 fn feed_piece<S: SpanNotes>(
     engine: &mut Engine,

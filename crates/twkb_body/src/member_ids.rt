@@ -101,7 +101,7 @@ impl MemberIds {
         self.ids.reverse();
     }
 
-    // Whether the open member has the id that it needs: members have no ids, or one is left.
+    // Whether the open member has the id that it needs: members have no ids, or an id is left.
     #[inline(always)]
     pub(crate) fn has_needed_id(&self) -> bool
         ensures { result ≡ true → is_some (first_id (ids_of self.now)) ≡ self.now.has_ids }

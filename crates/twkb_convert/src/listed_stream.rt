@@ -98,8 +98,9 @@ pub(crate) fn list_stream<R: Read, W: Write, T: BlobText>(
 }
 
 // Sends the text before the first blob, and then the text of each blob that a reader gives, each
-// in one put. Counts in `done` the blobs whose text was sent whole. An `Err` is the cause for which
-// it stopped. Takes memory as `read_next` does.
+// in one put. The text of a blob is made in `text`, in place of what that holds. Counts in `done`
+// the blobs whose text was sent whole. An `Err` is the cause for which it stopped. Takes memory as
+// `read_next` does.
 fn list_blobs<R: Read, W: Write, T: BlobText>(
     maker: &mut T,
     blobs: &mut StreamReader<'_, '_, R>,

@@ -121,10 +121,10 @@ impl Engine {
         Ok(false)
     }
 
-    // Takes a metadata byte, counts a point if it announces one, and goes to the first part that it
-    // asks for, or past the header as `begin_body` does; returns whether the blob ends with it.
-    // Refused if it announces a point too many, or if the size of a geometry that ends with it is
-    // not exact. The row of a geometry without a body takes memory.
+    // Takes a metadata byte, counts a point if it announces one, and goes to the first optional
+    // part that it asks for, or past the header as `begin_body` does; returns whether the blob ends
+    // with it. Refused if it announces a point too many, or if the size of a geometry that ends
+    // with it is not exact. The row of a geometry without a body takes memory.
     #[inline(always)]
     pub(crate) fn metadata_byte<S: SpanNotes>(
         &mut self,
