@@ -7,7 +7,7 @@ ghost use Rattle.twkb_num.specs.Block.{AreEnds};
 
 use crate::alphabet::Alphabet;
 use crate::block::few_ends;
-use crate::groups::Groups;
+use crate::groups::Numbered;
 use crate::places::two_in_front;
 use std::simd::{u8x16, u16x8, u32x4, u64x2};
 
@@ -25,7 +25,7 @@ pub struct Four {
 /// of at most four units. `None` proves nothing about the bytes: it is also the answer for fewer
 /// than sixteen, and for fewer than six from `start` on. Takes no memory.
 #[inline(always)]
-pub fn four_at<G: Groups>(bytes: &[u8], start: usize) -> Option<Four>
+pub fn four_at<G: Numbered>(bytes: &[u8], start: usize) -> Option<Four>
     ensures { IfSome result (SignedInFront G.unit_of G.ALPHABET.radix (drop start bytes.now)) }
 {
     if bytes.len() < WINDOW {
@@ -47,7 +47,7 @@ pub fn four_at<G: Groups>(bytes: &[u8], start: usize) -> Option<Four>
 /// these bytes (`varint_ends`, `character_ends`). `None` proves nothing about the bytes. Shifted
 /// by `used`, `ends` are those of the bytes after the four numbers. Takes no memory.
 #[inline(always)]
-pub fn four_by_ends<G: Groups>(bytes: &[u8], ends: u64) -> Option<Four>
+pub fn four_by_ends<G: Numbered>(bytes: &[u8], ends: u64) -> Option<Four>
     requires long { 16 ≤ length bytes.now }
     requires ends { AreEnds G.ALPHABET.base G.ALPHABET.radix bytes.now ends }
     ensures four { IfSome result (SignedInFront G.unit_of G.ALPHABET.radix bytes.now) }

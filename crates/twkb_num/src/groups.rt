@@ -23,11 +23,6 @@ pub trait Groups {
 
     ghost MAX_LEN: { ℕ };
 
-    /// How the units are numbered.
-    const ALPHABET: Alphabet;
-
-    ghost ALPHABET: { Alphabet };
-
     /// The unit for a group and a mark that says whether more follow.
     ghost unit_of: { ℕ → Bool → ℕ };
 
@@ -45,8 +40,17 @@ pub trait Groups {
         ensures { result ≡ group_of unit };
 
     ghost laws: { AlphabetLaws BITS MAX_LEN unit_of group_of };
+}
 
-    ghost numbered: { IsNumbered unit_of ALPHABET };
+/// An alphabet whose units have numbers one after the other, so that several of them can be read at
+/// once.
+pub trait Numbered: Groups {
+    /// How the units are numbered.
+    const ALPHABET: Alphabet;
+
+    ghost ALPHABET: { Alphabet };
+
+    ghost numbered: { IsNumbered Self.unit_of ALPHABET };
 }
 
 /// The bytes of varints: seven bits each, 128 added if more follow (TWKB specification; LEB128).
@@ -61,10 +65,6 @@ impl Groups for Leb128 {
     const MAX_LEN: usize = 10;
 
     ghost MAX_LEN = { 10 };
-
-    const ALPHABET: Alphabet = VARINTS;
-
-    ghost ALPHABET = { VARINTS };
 
     ghost unit_of = { leb_unit };
 
@@ -83,6 +83,12 @@ impl Groups for Leb128 {
     }
 
     ghost laws = { leb_laws };
+}
+
+impl Numbered for Leb128 {
+    const ALPHABET: Alphabet = VARINTS;
+
+    ghost ALPHABET = { VARINTS };
 
     ghost numbered = { leb_numbered };
 }
@@ -100,10 +106,6 @@ impl Groups for Five {
     const MAX_LEN: usize = 13;
 
     ghost MAX_LEN = { 13 };
-
-    const ALPHABET: Alphabet = POLYLINES;
-
-    ghost ALPHABET = { POLYLINES };
 
     ghost unit_of = { five_unit };
 
@@ -126,6 +128,12 @@ impl Groups for Five {
     }
 
     ghost laws = { five_laws };
+}
+
+impl Numbered for Five {
+    const ALPHABET: Alphabet = POLYLINES;
+
+    ghost ALPHABET = { POLYLINES };
 
     ghost numbered = { five_numbered };
 }

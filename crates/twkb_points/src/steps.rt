@@ -3,10 +3,10 @@ ghost use Rattle.std.specs.Prelude.{◌≡◌, ℕ, ℤ, List};
 ghost use Rattle.twkb_num.specs.Four.{SignedInFront};
 ghost use Rattle.twkb_points.specs.Steps.{TwoInFront, varint_step, character_step};
 
-use twkb_num::{Five, Four, Groups, Leb128};
+use twkb_num::{Five, Four, Leb128, Numbered};
 
 /// A code of points: how numbers are spelled, and which axis comes first.
-pub trait StepCode: Groups {
+pub trait StepCode: Numbered {
     /// The bytes of a step along x and y.
     ghost bytes_of: { ℤ → ℤ → List ℕ };
 

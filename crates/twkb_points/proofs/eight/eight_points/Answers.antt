@@ -29,15 +29,15 @@ two_by-requires-4-clause-near g c =
 pub two_by-requires-3-clause-ends : goal.two_by-requires-3-clause-ends
 two_by-requires-3-clause-ends g c =
     let two = c.in_ok-a.two in
-    ends_in_slice g.C.Groups.ALPHABET.base g.C.Groups.ALPHABET.radix c.args.bytes.now _ (two + c.in_ok-c.more)
-    (ends_behind g.C.Groups.ALPHABET.base g.C.Groups.ALPHABET.radix c.args.bytes.now c.args.ends two c.in_ok-c.more
+    ends_in_slice g.C.Numbered.ALPHABET.base g.C.Numbered.ALPHABET.radix c.args.bytes.now _ (two + c.in_ok-c.more)
+    (ends_behind g.C.Numbered.ALPHABET.base g.C.Numbered.ALPHABET.radix c.args.bytes.now c.args.ends two c.in_ok-c.more
     c.in_ok-c.ensures.rest)
 
 pub two_by-requires-4-clause-ends : goal.two_by-requires-4-clause-ends
 two_by-requires-4-clause-ends g c =
     let four = c.in_ok-a.two + c.in_ok-c.more in
-    ends_in_slice g.C.Groups.ALPHABET.base g.C.Groups.ALPHABET.radix c.args.bytes.now _ (four + c.in_ok-e.more)
-    (ends_behind g.C.Groups.ALPHABET.base g.C.Groups.ALPHABET.radix c.args.bytes.now c.args.ends four c.in_ok-e.more
+    ends_in_slice g.C.Numbered.ALPHABET.base g.C.Numbered.ALPHABET.radix c.args.bytes.now _ (four + c.in_ok-e.more)
+    (ends_behind g.C.Numbered.ALPHABET.base g.C.Numbered.ALPHABET.radix c.args.bytes.now c.args.ends four c.in_ok-e.more
     c.in_ok-e.ensures.rest)
 
 pub returns-clause-points : goal.returns-clause-points
@@ -49,5 +49,5 @@ returns-clause-points g c =
 
 pub returns-clause-rest : goal.returns-clause-rest
 returns-clause-rest g c =
-    ends_after g.C.Groups.ALPHABET.base g.C.Groups.ALPHABET.radix c.args.bytes.now _
+    ends_after g.C.Numbered.ALPHABET.base g.C.Numbered.ALPHABET.radix c.args.bytes.now _
     (c.in_ok-a.two + c.in_ok-c.more + c.in_ok-e.more) c.in_ok-g.more c.in_ok-g.ensures.rest
