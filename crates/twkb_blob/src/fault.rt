@@ -44,7 +44,7 @@ pub(crate) fn fault_at(offset: u64, stop: Stop) -> BlobFault
 }
 
 // Judges the end of a stream: `Ok` if no blob is begun, else `Truncated` at the offset of the item
-// that is missing.
+// that is cut or missing.
 pub(crate) fn judge_end(engine: &Engine) -> Result<(), BlobFault>
     ensures end { (bs : List ℕ) (rs : List Row) → StandsAt bs rs engine.now
         → EndsAt (allowance_of engine.now) engine.now.start bs result }

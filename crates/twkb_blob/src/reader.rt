@@ -110,9 +110,11 @@ impl<'a, R: Read> Reader<'a, R> {
         Ok(Some(Located { geometry, spans }))
     }
 
-    // Reads the next blob with an engine that keeps pace: replaces the rows of a form by its rows,
-    // notes its spans, and returns whether there was one. After a false and after an `Err` the form
-    // has no rows, and the reader has ended or is spent.
+    // Reads the next blob with an engine that stands where the blob begins, and then where the one
+    // after it does: replaces the rows of a form by its rows, notes its spans, and returns whether
+    // there was one. The blob leaves the input, and no further byte does. An `Err` is as with
+    // `next`. After a false and after an `Err` the form has no rows; after a false the reader has
+    // ended, and after an `Err` it is spent. Takes memory as `Engine::feed` does.
     #[inline(always)]
     pub(crate) fn read_with<S: SpanNotes>(
         &mut self,

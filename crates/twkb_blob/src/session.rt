@@ -92,9 +92,9 @@ impl Session {
     }
 
     /// Takes bytes of the piece up to the end of a geometry, else all of them; returns how many,
-    /// and the geometry if one ended. An `Err` is the first item that is refused, want of memory,
-    /// or `TooLong` if the piece goes past 2^62 bytes of the stream and up to there no geometry
-    /// ends and nothing is refused. After an `Err` each feed and `finish` return `Spent`. It takes
+    /// and the geometry if one ended. An `Err` is the first refusal of an item, want of memory, or
+    /// `TooLong` if the piece goes past 2^62 bytes of the stream and up to there no geometry ends
+    /// and nothing is refused. After an `Err` each feed and `finish` return `Spent`. It takes
     /// memory for what it keeps and for the geometry, and none for what a count announces before it
     /// comes.
     pub fn feed(&mut self, piece: &[u8]) -> Result<(usize, Option<Geometry>), BlobFault>
@@ -113,9 +113,11 @@ impl Session {
         self.give_tree(used)
     }
 
-    // Builds the geometry that ended with a feed of `used` bytes, and returns both. Takes memory;
-    // if it is refused, returns `Memory`, and the session is spent. A function of its own: if its
-    // variables were those of `feed`, they would be cleared in each call.
+    // Builds the geometry that ended with a feed of `used` bytes, and returns `used` and the
+    // geometry; `None` in its place if there are no rows, as never in a session that stands for a
+    // stream. Takes memory; if memory is refused, returns `Memory`, and the session is spent and
+    // has no rows. A function of its own: if its variables were those of `feed`, they would be
+    // cleared in each call.
     #[inline(always)]
     fn give_tree(&mut self, used: usize) -> Result<(usize, Option<Geometry>), BlobFault>
         requires live { self.old.spent ≡ false }

@@ -41,8 +41,8 @@ fn after_short_steps(from: Pt, x: u64, y: u64) -> Option<Pt>
 }
 
 // The point at the start of the bytes, by its two steps from `from`, and how many bytes they have;
-// `None` if one is not complete or too long, or if they lead out of range. It is called when
-// `short_number` does not suffice for one of them, which is rare.
+// `None` if the number of one is not complete or too long, or if they lead out of range. It is
+// called when `short_number` does not suffice for one of them, which is rare.
 #[cold]
 #[inline(never)]
 fn long_point(from: Pt, bytes: &[u8]) -> Option<(Pt, usize)>
@@ -56,7 +56,8 @@ fn long_point(from: Pt, bytes: &[u8]) -> Option<(Pt, usize)>
 }
 
 /// The point at the start of the bytes, by its two steps from `from`, and how many bytes they have;
-/// `None` if one is not complete or too long, or if they lead out of range. Takes no memory.
+/// `None` if the number of one is not complete, or is longer than ten bytes or above 2^64 - 1, or
+/// if they lead out of range. Takes no memory.
 #[inline(always)]
 pub fn front_point(from: Pt, bytes: &[u8]) -> Option<(Pt, usize)>
     ensures { IfSome result (λ front. PointInFront from bytes.now front.0 front.1) }

@@ -46,10 +46,10 @@ fn point_header(bytes: &[u8]) -> Option<(Option<u64>, usize)>
     Some((Some(u64::from(size)), SIZED))
 }
 
-/// The point at the start of the bytes with its header, which has a size of one byte or no optional
-/// part. `None` if the header is any other, if one of the point's two numbers is not complete or
-/// too long, or if they lead out of range. Whether the size is exact is not judged. Takes no
-/// memory.
+/// The point at the start of the bytes with its header. `None` if the header is not complete, is
+/// not that of a point, has a size of more than one byte, or has a metadata byte with any bit set
+/// but that of a size; if one of the point's two numbers is not complete or too long; or if they
+/// lead out of range. Whether the size is exact is not judged. Takes no memory.
 #[inline(always)]
 pub fn whole_point(bytes: &[u8]) -> Option<Whole>
     ensures { IfSome result (λ front. WholePoint bytes.now front.to front.used front.size) }

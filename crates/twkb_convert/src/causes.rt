@@ -70,8 +70,9 @@ impl From<AllocError> for Cause {
     }
 }
 
-// The answer to report, given whether a read failed. If one did, it is `ReadDevice`, unless a write
-// failed. If none did, `ReadDevice` becomes `Memory`. Any other answer stays.
+// The answer to report in place of `answer`, given whether a read failed. If a read failed, that is
+// `ReadDevice`, unless `answer` is `WriteDevice`, which stays. If none failed, `ReadDevice` becomes
+// `Memory`, and any other answer stays.
 pub(crate) fn after_reads(answer: Result<(), Cause>, has_read_failed: bool) -> Result<(), Cause>
     ensures { result ≡ after_reads has_read_failed answer }
 {

@@ -69,11 +69,12 @@ pub fn show<R: Read, W: Write>(
     list_stream(&mut lines, alloc, reader, writer, limits)
 }
 
-// Writes the text of a stream of blobs: the text before the first blob, and then that of each blob
-// before the reader is read again. Returns how many blobs and bytes were written, and with an `Err`
-// why it stopped; a refused blob stops it after the texts of the blobs before. The writer is
-// flushed last, unless it failed or more than 2^62 bytes would be written. Takes memory for one
-// geometry and its text.
+// Writes the text of a stream of blobs, as `maker` makes it: the text before the first blob, and
+// then that of each blob before the reader is read again. Returns how many blobs and bytes were
+// written, and with an `Err` why it stopped; a refused blob stops it after the texts of the blobs
+// before. Each geometry must keep the limits. The writer is flushed last, unless it failed or more
+// than 2^62 bytes would be written. Takes memory for one geometry and its text, and for what
+// `maker` keeps of it.
 pub(crate) fn list_stream<R: Read, W: Write, T: BlobText>(
     maker: &mut T,
     alloc: Global,

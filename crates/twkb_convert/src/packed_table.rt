@@ -42,9 +42,9 @@ pub fn pack<R: Read, W: Write>(
 /// written, and with an `Err` why it stopped. Each geometry must keep the limits. A refused record
 /// stops it; the geometry before that record is not written, since the record might have belonged
 /// to it. The writer is flushed last, unless it failed or more than 2^62 bytes would be written.
-/// Takes memory for one record and one geometry with its sizes. After the end that `csv` saw, the
-/// reader is read again until it gives no byte: wrap a reader that may go on after an end, such as
-/// a terminal, in `twkb_io::Ending`.
+/// Takes memory for one record and one geometry with its sizes. After the table's end, the reader
+/// is read again until it gives no byte: wrap a reader that may go on after an end, such as a
+/// terminal, in `twkb_io::Ending`.
 pub fn pack_styled<R: Read, W: Write>(
     alloc: Global,
     reader: &mut Tap<R>,

@@ -43,8 +43,9 @@ pub(crate) struct Sent {
 }
 
 // Sends the geometries of a table in a style, each when the row after it was accepted or the
-// table's end was reached, and adds them and their work to `sent`. An `Err` is the cause for which
-// it stopped: `TooLong` if 2^64 - 1 geometries were sent. Takes memory for one geometry.
+// table's end was reached, and adds them and their work to `sent`. An `Err` is a fault of the table
+// or of the output, want of memory, or `TooLong` after 2^64 - 1 geometries. Takes memory for one
+// record and one geometry with its sizes.
 pub(crate) fn send_table<R: Read, W: Write>(
     table: &mut TableReader<'_, R>,
     style: Style,
@@ -101,9 +102,10 @@ fn send_points<R: Read, W: Write>(
     Err(Cause::TooLong)
 }
 
-// Writes the canonical blob of the form in a room, in a style, and adds its work. Takes memory for
-// the sizes if they have too little room; if it is refused, the output took nothing. If the output
-// refuses, it took a prefix of the blob. After an `Err` some of the work may have been added.
+// Writes the canonical blob of the form in a room, in a style, and adds its work to `work`. Takes
+// memory for the sizes if they have too little room; if memory is refused, the output took nothing.
+// If the output refuses, it took a prefix of the blob. After an `Err` some of the work may have
+// been added.
 fn write_blob<W: Write>(
     style: Style,
     room: &mut Room,

@@ -19,8 +19,8 @@ pub(crate) fn put_lines(spans: &[Span], text: &mut Vec<u8>) -> Result<(), AllocE
     Ok(())
 }
 
-// Appends the line of a span; an `Err` leaves the text as it was. The seven words of the line and
-// their ends have at most 124 bytes.
+// Appends the line of a span. Takes memory; an `Err` leaves the text as it was. The seven words of
+// the line and their ends have at most 124 bytes.
 fn put_line(span: &Span, text: &mut Vec<u8>) -> Result<(), AllocError>
     ensures appended { OnOk result (text.new.items ≡ text.old.items ++ span_line span.now) }
 {
@@ -68,7 +68,7 @@ fn push_count(count: u64, end: u8, line: &mut Piece<128>)
     line.push(end);
 }
 
-// Appends a number as a decimal. Out of line, so that callers have no buffer in their frames.
+// Appends a number as a decimal. Out of line, so that callers have no buffer on their stack.
 #[inline(never)]
 fn push_number<I: Integer>(number: I, line: &mut Piece<128>)
     requires room { length line.old + I.MAX_STR_LEN ≤ 128 }

@@ -68,8 +68,9 @@ impl Engine {
     }
 
     // Takes a y, and adds the point that it completes to the rows: at once if its list goes on, and
-    // else as `put_last_point` does. Returns whether the blob ends with it. Refused if it leads out of
-    // range, or if the size of a geometry that ends with it is not exact. The point takes memory.
+    // else as `put_last_point` does. Returns whether the blob ends with it. Refused if it leads out
+    // of range, or if the size of a geometry that ends with it is not exact. The point takes
+    // memory.
     #[inline(always)]
     pub(crate) fn y<S: SpanNotes>(
         &mut self,
@@ -101,8 +102,8 @@ impl Engine {
     }
 
     // Goes past the last point of a list, or past a point that is a geometry or a member itself, as
-    // `end_list_or_point` does, and then adds the point to the rows. Returns whether the blob ends. Refused
-    // if the size of a geometry that ends with it is not exact. The point takes memory.
+    // `end_list_or_point` does, and then adds the point to the rows. Returns whether the blob ends.
+    // Refused if the size of a geometry that ends with it is not exact. The point takes memory.
     #[inline(never)]
     pub(crate) fn put_last_point<S: SpanNotes>(
         &mut self,
@@ -196,9 +197,9 @@ impl Engine {
         Ok(false)
     }
 
-    // Goes past an empty list, as `end_list_or_point` does, and then pushes its row. Returns whether the
-    // blob ends. Refused if the size of a geometry that ends with it is not exact. The row takes
-    // memory.
+    // Goes past an empty list, as `end_list_or_point` does, and then pushes its row. Returns
+    // whether the blob ends. Refused if the size of a geometry that ends with it is not exact. The
+    // row takes memory.
     fn put_empty_list<S: SpanNotes>(
         &mut self,
         flat: &mut Flat,
@@ -242,8 +243,8 @@ impl Engine {
         Ok(false)
     }
 
-    // Goes past the end of a list of points that are all taken, and returns what `end_list_or_point` does.
-    // Not inlined, so that its caller keeps its registers.
+    // Goes past the end of a list of points that are all taken, and returns what
+    // `end_list_or_point` does. Not inlined, so that its caller keeps its registers.
     #[inline(never)]
     pub(crate) fn end_points<S: SpanNotes>(&mut self, spans: &mut S) -> Result<bool, Inexact>
         requires last { self.old.points_left ≡ 0 }

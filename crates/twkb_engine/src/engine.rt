@@ -33,9 +33,8 @@ pub struct Engine {
     pub(crate) nodes: u64,
     pub(crate) points: u64,
     pub(crate) collections: OpenCollections,
-    // The geometry that is read: its header, its members' ids, the number of values after the open
-    // one in its lists of members and rings, and the number of points of the open list to come, 0 if
-    // none is open.
+    // The geometry that is read: its header, its members' ids, the number of members and of rings
+    // after the open one, and the number of points of the open list to come, 0 if none is open.
     pub(crate) head: Head,
     pub(crate) ids: MemberIds,
     pub(crate) members_left: u64,
@@ -86,8 +85,8 @@ impl Engine {
         }
     }
 
-    // Goes to the start of the next blob, which is where the one that was read ends. Forgets sums,
-    // position and open collections, and keeps their memory.
+    // Goes to the start of the next blob, which is where the one that was read ends. Forgets sums
+    // and position, and the open collections, whose memory it keeps.
     pub(crate) fn restart(&mut self)
         requires shut { are_shut self.old.points_left self.old.rings_left self.old.members_left ≡ true }
         ensures begins { BeginsAt (self.old.start + self.old.bytes) self.new }

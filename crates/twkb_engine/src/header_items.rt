@@ -59,8 +59,8 @@ impl Engine {
         spans.begin(self.offset(), self.points, byte)
     }
 
-    // Keeps the metadata byte, in the header and in the notes of spans, and the geometry's depth
-    // and id, which the open collections give. Sets `head.size` to `None`, and `head.from` to the
+    // Keeps the metadata byte, in `head` and in the notes of spans, and the geometry's depth and
+    // id, which the open collections give. Sets `head.size` to `None`, and `head.from` to the
     // number of the blob's bytes so far.
     #[inline(always)]
     pub(crate) fn set_metadata<S: SpanNotes>(&mut self, spans: &mut S, metadata: Metadata)

@@ -32,7 +32,7 @@ pub(crate) enum NextItem {
 }
 
 impl NextItem {
-    // Whether it is a byte, and no number.
+    // Whether the item is a byte, and no number.
     #[inline(always)]
     pub(crate) fn is_byte(self) -> bool
         ensures { IsTrue result ↔ IsByte self }
@@ -43,8 +43,8 @@ impl NextItem {
         )
     }
 
-    // The item after the header of a geometry of this kind that has a body: the first item of the
-    // body, or the count of its members.
+    // The item after the header of a geometry of this kind that has a body: the count of members of
+    // a multi-geometry or a collection, else the first item of the body.
     #[inline(always)]
     pub(crate) fn after_header(kind: Kind) -> NextItem
         ensures { result ≡ header_item kind }

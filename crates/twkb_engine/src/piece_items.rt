@@ -85,9 +85,9 @@ impl Engine {
     }
 
     // Takes a point that is a geometry or a member itself, and goes past what ends with it. Returns
-    // how many bytes were taken, and whether the blob ends with them; 0 bytes if the point is out
-    // of range or has a number that is cut or too long. Refused if the size of a geometry that ends
-    // with it is not exact. The point takes memory.
+    // how many bytes were taken, and whether the blob ends with them. Returns 0 bytes and changes
+    // nothing if the point is out of range or has a number that is cut or too long. Refused if the
+    // size of a geometry that ends with it is not exact. The point takes memory.
     #[inline(always)]
     fn take_point<S: SpanNotes>(
         &mut self,

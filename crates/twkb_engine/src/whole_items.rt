@@ -77,11 +77,11 @@ impl Engine {
         self.take_root_point(flat, spans, piece)
     }
 
-    // Takes a blob of a single point that is complete at the start of the piece, if its header has
-    // a size of one byte that is exact or no optional part, and the limits allow a point. It then
-    // replaces the rows of the form by the point's row, notes the span, goes to the next blob, and
-    // returns how many bytes the blob has. Otherwise it returns 0, and changes nothing. The row and
-    // the span take memory. Not inlined, so that its callers have more registers.
+    // Takes a blob of a single point that is complete at the start of the piece, if `exact_point`
+    // gives it and the limits allow a point. It then replaces the rows of the form by the point's
+    // row, notes the span, goes to the next blob, and returns how many bytes the blob has.
+    // Otherwise it returns 0, and changes nothing. The row and the span take memory. Not inlined,
+    // so that its callers have more registers.
     #[inline(never)]
     fn take_root_point<S: SpanNotes>(
         &mut self,

@@ -46,7 +46,7 @@ returns-else-not-ends g c =
       | inl h ↦ omega (
         arith,
         all_used c.in-Ok-feed.used (length (take count c.args.piece.now)) c.in-Ok-feed.ends
-          c.in-Ok-feed.ensures.all off,
+            c.in-Ok-feed.ensures.all off,
         h.1,
         c.min-count.ensures,
         cut,

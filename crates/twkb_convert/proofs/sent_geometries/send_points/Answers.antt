@@ -19,7 +19,7 @@ returns-in_err-found g c =
 pub returns-in_err-write_point : goal.returns-in_err-write_point
 returns-in_err-write_point g c =
     let p = err_from_is_err_and c.from_residual-in_err-write_point.result
-      c.from_residual-in_err-write_point.ensures.1 in
+    c.from_residual-in_err-write_point.ensures.1 in
     rw (p.1, p.2) (record {
       sends = λ l told given first s.
           let so = c.loop-sent.invariant.sends l told first s in

@@ -7,5 +7,5 @@ pub invariant_of-result : goal.invariant_of-result
 invariant_of-result g c = record {
   abreast = λ live going. new_abreast c.new.ensures.stands
       (omega (arith, c.new.ensures.begins.start, c.offset.ensures.offset, ap given c.new-2.ensures.input))
-        (search rules);
+      (search rules);
 }
