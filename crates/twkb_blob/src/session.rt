@@ -1,5 +1,5 @@
 //! A stream of blobs that comes in pieces.
-ghost use Rattle.std.specs.Prelude.{◌≡◌, ◌≤◌, ◌↔◌, ◌+◌, [], if◌then◌else◌, List, ℕ, true, false};
+ghost use Rattle.std.specs.Prelude.{◌≡◌, ◌<◌, ◌≤◌, ◌↔◌, ◌+◌, [], if◌then◌else◌, List, ℕ, true, false};
 ghost use Rattle.std.specs.Prelude.{Ok, Err, None, is_err, length, IfOk, IfErr, IfSome};
 ghost use Rattle.twkb_io.specs.declared.TheConstants.{MAX_BYTES};
 ghost use Rattle.twkb_tree.specs.Tree.{Tree};
@@ -15,11 +15,33 @@ use twkb_flat::{Flat, Rows};
 use twkb_io::{InFault, MAX_BYTES};
 use twkb_tree::{Geometry, Limits};
 
+// Feeds a byte of a stream that has room for it to an engine; returns 1, and whether a blob ends with
+// it. Rows, spans and memory are as with `Engine::feed`. An `Err` is want of memory, or a refusal
+// with its offset in the stream. Unlike `feed_piece` it needs no loop.
+#[inline(always)]
+fn feed_byte<S: SpanNotes>(
+    engine: &mut Engine,
+    flat: &mut Flat,
+    spans: &mut S,
+    piece: &[u8],
+) -> Result<(usize, bool), BlobFault>
+    requires one { length piece.now ≡ 1 }
+    requires room { engine.old.start + count_of engine.old < MAX_BYTES }
+    requires alive { IsAlive flat.old engine.old }
+    ensures { Feeds S.holds engine.old flat.old spans.old piece.now result engine.new flat.new spans.new }
+{
+    let began = engine.start();
+    match engine.take_byte(flat, spans, piece[0]) {
+        Ok(ends) => Ok((1, ends)),
+        Err(stop) => Err(fault_at(began + engine.bytes(), stop)),
+    }
+}
+
 // Feeds a piece of a stream to an engine, up to the end of a blob, or all of it if none ends;
 // returns how many bytes were taken, and whether a blob ends with them. Rows, spans and memory are
 // as with `Engine::feed`. An `Err` is want of memory, a refusal with its offset in the stream, or
 // `TooLong`: the piece goes past 2^62 bytes of the stream, and no blob ends and nothing is refused
-// in the bytes up to there, which are fed. One byte needs no loop.
+// in the bytes up to there, which are fed.
 #[inline(always)]
 fn feed_piece<S: SpanNotes>(
     engine: &mut Engine,
@@ -33,12 +55,6 @@ fn feed_piece<S: SpanNotes>(
 {
     let start = engine.start();
     let taken = engine.offset() + engine.held() as u64;
-    if piece.len() == 1 && taken < MAX_BYTES {
-        match engine.take_byte(flat, spans, piece[0]) {
-            Ok(ends) => return Ok((1, ends)),
-            Err(stop) => return Err(fault_at(start + engine.bytes(), stop)),
-        }
-    }
     let count = (MAX_BYTES - taken).min(piece.len() as u64) as usize;
     match engine.feed(flat, spans, &piece[..count]) {
         Ok((used, ends)) => {
@@ -97,6 +113,7 @@ impl Session {
     /// and nothing is refused. After an `Err` each feed and `finish` return `Spent`. It takes
     /// memory for what it keeps and for the geometry, and none for what a count announces before it
     /// comes.
+    #[inline(always)]
     pub fn feed(&mut self, piece: &[u8]) -> Result<(usize, Option<Geometry>), BlobFault>
         ensures fed { (bytes : List ℕ) (gs : List Tree) → Stands bytes gs self.old
             → FedSession bytes gs piece.now result self.new }
@@ -178,6 +195,20 @@ impl Session {
         }
         if self.is_whole {
             self.rows.flat.clear();
+        }
+        if piece.len() == 1 && self.engine.offset() < MAX_BYTES - 16 {
+            // learnt: it holds at most nine bytes
+            let _learnt = self.engine.held();
+            match feed_byte(&mut self.engine, &mut self.rows.flat, &mut NoSpans, piece) {
+                Ok((used, ends)) => {
+                    self.is_whole = ends;
+                    return Ok(used);
+                }
+                Err(fault) => {
+                    self.spent = true;
+                    return Err(fault);
+                }
+            }
         }
         match feed_piece(&mut self.engine, &mut self.rows.flat, &mut NoSpans, piece) {
             Ok((used, ends)) => {

@@ -1,35 +1,15 @@
-use Rattle.std.proofs.Common.{◌≡◌, length, take, arith, inl, inr, Ok, Err, refl, subst, sym}
+use Rattle.std.proofs.Common.{length, take, arith, inl, inr}
 use Rattle.std.proofs.lemmas.List.{length-take}
 use Rattle.twkb_engine.specs.State.{allowance_of}
-use Rattle.twkb_engine.specs.Standing.{FedBy, offset_in}
-use Rattle.twkb_blob.proofs.Cuts.{all_used, are_cut_off, cut_feeds, only_byte, stopped, too_far}
+use Rattle.twkb_engine.specs.Standing.{offset_in}
+use Rattle.twkb_blob.proofs.Cuts.{all_used, are_cut_off, cut_feeds, stopped, too_far}
 use Rattle.twkb_blob.proofs.session.feed_piece.Goals as goal
-
-pub returns-in-Ok : goal.returns-in-Ok
-returns-in-Ok g c =
-    let one : length c.args.piece.now ≡ 1 = omega arith in
-    cut_feeds 1 1 c.in-Ok.ends (record {
-      limits = c.take_byte.ensures.limits;
-      fed = subst (λ l. FedBy g.S.SpanNotes.holds c.args.engine.now c.args.flat.now c.args.spans.now l
-          (Ok (1, c.in-Ok.ends)) c.take_byte.new.self c.take_byte.new.flat c.take_byte.new.spans)
-          (sym (only_byte c.args.piece.now _ one refl)) c.in-Ok.ensures.fed;
-    }) c.requires.alive (omega arith) (λ off. sym one)
-
-pub returns-in-Err : goal.returns-in-Err
-returns-in-Err g c =
-    let one : length c.args.piece.now ≡ 1 = omega arith in
-    rw c.fault_at.ensures (stopped 1 c.in-Err.stop (record {
-      limits = c.take_byte.ensures.limits;
-      fed = subst (λ l. FedBy g.S.SpanNotes.holds c.args.engine.now c.args.flat.now c.args.spans.now l
-          (Err c.in-Err.stop) c.take_byte.new.self c.take_byte.new.flat c.take_byte.new.spans)
-          (sym (only_byte c.args.piece.now _ one refl)) c.in-Err.ensures.fed;
-    }) (omega (arith, c.start-start.ensures, c.bytes.ensures)))
 
 pub returns-then-count-piece : goal.returns-then-count-piece
 returns-then-count-piece g c =
     let e = c.feed.new.self in
-    too_far c.in-Ok-feed.used c.min-count.result c.in-Ok-feed.ends c.if-not-ends.true c.in-Ok-feed.ensures.all
-    c.in-Ok-feed.ensures.fed
+    too_far c.in-Ok.used c.min-count.result c.in-Ok.ends c.if-not-ends.true c.in-Ok.ensures.all
+    c.in-Ok.ensures.fed
     (omega (arith, c.min-count.ensures, c.requires.few, c.offset.ensures, c.held.ensures.held, c.if-count-piece.true))
     (omega (arith, c.if-count-piece.true)) c.feed.ensures.limits
     (λ bs rs s. are_cut_off (allowance_of e) bs (offset_in e) c.is_between-learnt.result
@@ -39,14 +19,13 @@ pub returns-else-not-ends : goal.returns-else-not-ends
 returns-else-not-ends g c =
     let count = c.min-count.result in
     let cut = length-take count c.args.piece.now in
-    cut_feeds count c.in-Ok-feed.used c.in-Ok-feed.ends
-    (record { limits = c.feed.ensures.limits; fed = c.in-Ok-feed.ensures.fed }) c.requires.alive
+    cut_feeds count c.in-Ok.used c.in-Ok.ends
+    (record { limits = c.feed.ensures.limits; fed = c.in-Ok.ensures.fed }) c.requires.alive
     (omega (arith, c.min-count.ensures, c.requires.few, c.offset.ensures, c.held.ensures.held))
     (λ off. elim c.else-not-ends.either [
       | inl h ↦ omega (
         arith,
-        all_used c.in-Ok-feed.used (length (take count c.args.piece.now)) c.in-Ok-feed.ends
-            c.in-Ok-feed.ensures.all off,
+        all_used c.in-Ok.used (length (take count c.args.piece.now)) c.in-Ok.ends c.in-Ok.ensures.all off,
         h.1,
         c.min-count.ensures,
         cut,
@@ -54,8 +33,8 @@ returns-else-not-ends g c =
       | inr on ↦ absurd (cc (on, off))
     ])
 
-pub returns-in-Err-feed : goal.returns-in-Err-feed
-returns-in-Err-feed g c =
-    rw c.fault_at-in-Err-feed.ensures (stopped c.min-count.result c.in-Err-feed.stop
-    (record { limits = c.feed.ensures.limits; fed = c.in-Err-feed.ensures.fed })
-    (omega (arith, c.start-start.ensures, c.bytes-in-Err-feed.ensures)))
+pub returns-in-Err : goal.returns-in-Err
+returns-in-Err g c =
+    rw c.fault_at.ensures (stopped c.min-count.result c.in-Err.stop
+    (record { limits = c.feed.ensures.limits; fed = c.in-Err.ensures.fed })
+    (omega (arith, c.start-start.ensures, c.bytes.ensures)))
