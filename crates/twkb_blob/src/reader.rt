@@ -52,8 +52,8 @@ impl<'a, R: Read> Reader<'a, R> {
     /// leaves the input, and no further byte does. An `Err` is want of memory, a fault of the
     /// input, as a failed read or more than 2^62 bytes, or the first fault of a blob that is
     /// refused or cut. After an `Err` each call returns `Spent`, and after the end each call
-    /// returns `None`; neither reads. It takes memory for what it keeps and for the geometry, and
-    /// none for what a count announces before it comes.
+    /// returns `None`; neither reads. It takes memory for the geometry, and anew in each call for
+    /// rows, points, ids and open collections, but none for what a count announces before it comes.
     pub fn next(&mut self, alloc: Global) -> Result<Option<Geometry>, BlobFault>
         ensures shared { ReadsNext None self.old self.new result }
         ensures next { is_spent self.old ≡ false → has_ended self.old ≡ false
@@ -110,11 +110,12 @@ impl<'a, R: Read> Reader<'a, R> {
         Ok(Some(Located { geometry, spans }))
     }
 
-    // Reads the next blob with an engine that stands where the blob begins, and then where the one
-    // after it does: replaces the rows of a form by its rows, notes its spans, and returns whether
-    // there was one. The blob leaves the input, and no further byte does. An `Err` is as with
-    // `next`. After a false and after an `Err` the form has no rows; after a false the reader has
-    // ended, and after an `Err` it is spent. Takes memory as `Engine::feed` does.
+    // Reads the next blob with an engine that stands where the blob begins, and returns whether
+    // there was one. If so, the blob left the input, and no further byte did; the rows of the form
+    // are replaced by those of the blob, its spans are noted, and the engine stands where the next
+    // blob begins. An `Err` is as with `next`. After a false and after an `Err` the form has no
+    // rows, and nothing is known of the spans; after a false the reader has ended, and after an
+    // `Err` it is spent. Takes memory as `Engine::feed` does.
     #[inline(always)]
     pub(crate) fn read_with<S: SpanNotes>(
         &mut self,

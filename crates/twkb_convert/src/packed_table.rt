@@ -116,7 +116,7 @@ fn drain<R: Read>(tap: &mut Tap<R>, sending: Result<(), Cause>) -> Result<(), Ca
 }
 
 // The answer if the whole table was sent: the report and the work. A function of its own, since its
-// contract lets the proof know that the counts of the work fit 64 bits.
+// contract lets the proof know that the counts of reads fit 64 bits.
 fn packed(report: Report, work: Work) -> (Report, Work)
     ensures is { result ≡ (report, work) }
     ensures fits { (work.point_reads < 2 ^ 64) × (work.node_reads < 2 ^ 64) }

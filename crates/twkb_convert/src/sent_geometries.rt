@@ -44,8 +44,9 @@ pub(crate) struct Sent {
 
 // Sends the geometries of a table in a style, each when the row after it was accepted or the
 // table's end was reached, and adds them and their work to `sent`. An `Err` is a fault of the table
-// or of the output, want of memory, or `TooLong` after 2^64 - 1 geometries. Takes memory for one
-// record and one geometry with its sizes.
+// or of the output, want of memory, or `TooLong` after 2^64 - 1 geometries; want of memory in `csv`
+// is `ReadDevice` here, which `after_reads` corrects. Takes memory for one record and one geometry
+// with its sizes.
 pub(crate) fn send_table<R: Read, W: Write>(
     table: &mut TableReader<'_, R>,
     style: Style,

@@ -63,7 +63,7 @@ impl Engine {
 
     // Takes the next item if it is complete at the start of the bytes and no byte of it is held,
     // else one byte of it. Returns how many bytes were taken, and whether the blob ends with them.
-    // An `Err` and memory are as with `feed`.
+    // Rows, spans, an `Err` and memory are as with `feed`.
     #[inline(always)]
     fn take_item<S: SpanNotes>(
         &mut self,
@@ -172,8 +172,8 @@ impl Engine {
     }
 
     // Takes the next bytes of a piece, one at least: many items at once, or else one item or one
-    // byte. Returns how many bytes were taken, and whether the blob ends with them. An `Err` and
-    // memory are as with `feed`.
+    // byte. Returns how many bytes were taken, and whether the blob ends with them. Rows, spans, an
+    // `Err` and memory are as with `feed`.
     #[inline(always)]
     fn take_some<S: SpanNotes>(
         &mut self,
