@@ -68,12 +68,12 @@ impl Spans {
     }
 }
 
-/// A geometry, with a span for itself and for each of its members, at any depth.
+/// A geometry, with a span for itself and for each geometry inside it, at any depth.
 #[derive(Debug, Drop)]
 pub struct Located {
     /// The geometry.
     pub geometry: Geometry,
-    /// Where it and its members are, and what their headers say.
+    /// Where it and the geometries inside it are, and what their headers say.
     pub spans: Spans,
 }
 

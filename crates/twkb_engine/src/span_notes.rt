@@ -26,8 +26,8 @@ pub trait SpanNotes {
     fn end(&mut self, offset: u64, points: u64)
         ensures { (w : Notes) → holds self.old w → holds self.new (note_end offset points w) };
 
-    /// Notes the only span of a complete blob, that of a geometry without members; nothing may be
-    /// noted before it. Takes memory; after an `Err` the notes may be incomplete.
+    /// Notes the only span of a complete blob, which has one header; nothing may be noted before
+    /// it. Takes memory; after an `Err` the notes may be incomplete.
     fn put(&mut self, span: Span) -> Result<(), AllocError>
         ensures { OnOk result (holds self.old no_notes → holds self.new (record { spans = span ∷ []; begun = [] })) };
 }
