@@ -37,8 +37,9 @@ pub(crate) trait BlobText {
 // The bytes that a text has room for at first.
 const FIRST_ROOM: usize = 128;
 
-// Empties a text, and reserves room for that of a small blob if it has less: a text that grew from
-// nothing would ask for memory several times. Takes memory; after an `Err` the text is empty.
+// Empties a text, and reserves room for `FIRST_ROOM` bytes if the text has less, enough for a small
+// blob: a text that grew from nothing would ask for memory several times. Takes memory; after an
+// `Err` the text is empty.
 #[inline(always)]
 fn make_room(text: &mut Vec<u8>) -> Result<(), AllocError>
     ensures empty { text.new.items ≡ [] }

@@ -22,10 +22,10 @@ use twkb_tree::Limits;
 /// Writes the table of a stream of blobs: the header's line, then the rows of each blob, after it
 /// was read whole, before the reader is read again (blobs: TWKB; polylines: Encoded Polyline
 /// Algorithm Format; records: RFC 4180; the columns, and LF alone after each record: profile).
-/// Returns how many blobs and bytes were written, and with an `Err` why it stopped. Each geometry
-/// must keep the limits. A refused blob stops it, after the rows of the blobs before. The writer is
-/// flushed last, unless it failed or more than 2^62 bytes would be written. Takes memory for one
-/// geometry and its text.
+/// Returns the number of blobs whose rows were all written and the number of bytes written, and
+/// with an `Err` why it stopped. Each geometry must keep the limits. A refused blob stops it, after
+/// the rows of the blobs before. The writer is flushed last, unless it failed or more than 2^62
+/// bytes would be written. Takes memory for one geometry and its text.
 pub fn unpack<R: Read, W: Write>(
     alloc: Global,
     reader: &mut Tap<R>,
@@ -46,11 +46,11 @@ pub fn unpack<R: Read, W: Write>(
 /// type byte in bytes from the stream's start, its kind, its precision, its metadata byte as two
 /// upper-case hexadecimal digits, the number of its bytes from the type byte to its end, and the
 /// number of its points, those of members included (headers: TWKB; the line: profile). The lines of
-/// a blob are written after it was read whole, before the reader is read again. Returns how many
-/// blobs and bytes were written, and with an `Err` why it stopped. Each geometry must keep the
-/// limits. A refused blob stops it, after the lines of the blobs before. The writer is flushed
-/// last, unless it failed or more than 2^62 bytes would be written. Takes memory for one geometry,
-/// its spans and their text.
+/// a blob are written after it was read whole, before the reader is read again. Returns the number
+/// of blobs whose lines were all written and the number of bytes written, and with an `Err` why it
+/// stopped. Each geometry must keep the limits. A refused blob stops it, after the lines of the
+/// blobs before. The writer is flushed last, unless it failed or more than 2^62 bytes would be
+/// written. Takes memory for one geometry, its spans and their text.
 pub fn show<R: Read, W: Write>(
     alloc: Global,
     reader: &mut Tap<R>,
@@ -70,11 +70,11 @@ pub fn show<R: Read, W: Write>(
 }
 
 // Writes the text of a stream of blobs, as `maker` makes it: the text before the first blob, and
-// then that of each blob before the reader is read again. Returns how many blobs and bytes were
-// written, and with an `Err` why it stopped; a refused blob stops it after the texts of the blobs
-// before. Each geometry must keep the limits. The writer is flushed last, unless it failed or more
-// than 2^62 bytes would be written. Takes memory for one geometry and its text, and for what
-// `maker` keeps of it.
+// then that of each blob before the reader is read again. Returns the number of blobs whose text
+// was written whole and the number of bytes written, and with an `Err` why it stopped; a refused
+// blob stops it after the texts of the blobs before. Each geometry must keep the limits. The writer
+// is flushed last, unless it failed or more than 2^62 bytes would be written. Takes memory for one
+// geometry and its text, and for what `maker` keeps of it.
 pub(crate) fn list_stream<R: Read, W: Write, T: BlobText>(
     maker: &mut T,
     alloc: Global,
