@@ -11,6 +11,14 @@ import re
 from reason_table import BUFFER, OTHERS, REPO, of_kind, own, text_of
 
 COMMAND, ARRAYS, C = "crates/twkb_command", "crates/twkb_arrays", "crates/twkb_c"
+
+# The statuses of causes that the command and the library for C have in common.
+CAUSES = [
+    (r"status_of \(cause\.Row \w+ \w+\) = #", "REFUSED"), (r"status_of \(cause\.Blob \w+ \w+\) = #", "REFUSED"),
+    (r"status_of cause\.ReadDevice = #", "DEVICE"), (r"status_of cause\.Memory = #", "MEMORY"),
+    (r"status_of cause\.TooLong = #", "REFUSED"), (r"status_of cause\.TooManyRecords = #", "REFUSED"),
+]
+
 # A file, or a folder of sources, with lines that have numbers, and the name of what each is the number of.
 LINES = {
     "docs/USING.md": [
@@ -33,10 +41,7 @@ LINES = {
         (r"\| `polytwkb: out of memory` \| # \|", "MEMORY"), (r"A word that is not UTF-8 .* status #\.", "ARGUMENTS"),
     ],
     f"{COMMAND}/specs": [
-        (r"status_of \(cause\.Row \w+ \w+\) = #", "REFUSED"), (r"status_of \(cause\.Blob \w+ \w+\) = #", "REFUSED"),
-        (r"status_of cause\.ReadDevice = #", "DEVICE"), (r"status_of cause\.WriteDevice = #", "DEVICE"),
-        (r"status_of cause\.Memory = #", "MEMORY"), (r"status_of cause\.TooLong = #", "REFUSED"),
-        (r"status_of cause\.TooManyRecords = #", "REFUSED"), (r"status_of_answer \(Ok report\) = #", "DONE"),
+        *CAUSES, (r"status_of cause\.WriteDevice = #", "DEVICE"), (r"status_of_answer \(Ok report\) = #", "DONE"),
         (r"  pub status_is : status ≡ #$", "MEMORY"), (r"Refuses told \(refusal\.Help .*\(status ≡ #\)", "DONE"),
         (r"Refuses told \(refusal\.Version .*\(status ≡ #\)", "DONE"), (r"Refuses told \(refusal\.Usage .*\(status ≡ #\)", "ARGUMENTS"),
         (r"  pub told : .* → \(status ≡ #\)", "DONE"), (r"  pub refused : .* → \(status ≡ #\)", "ARGUMENTS"),
@@ -46,10 +51,7 @@ LINES = {
         (r"    ensures other \{ .* → \(result ≡ #\)", "ARGUMENTS"),
     ],
     f"{BUFFER}/specs": [
-        (r"status_of \(cause\.Row \w+ \w+\) = #", "REFUSED"), (r"status_of \(cause\.Blob \w+ \w+\) = #", "REFUSED"),
-        (r"status_of cause\.ReadDevice = #", "DEVICE"), (r"status_of cause\.WriteDevice = #", "TOO_SMALL"),
-        (r"status_of cause\.Memory = #", "MEMORY"), (r"status_of cause\.TooLong = #", "REFUSED"),
-        (r"status_of cause\.TooManyRecords = #", "REFUSED"),
+        *CAUSES, (r"status_of cause\.WriteDevice = #", "TOO_SMALL"),
         (r"put_report count = record { status = #;", "DONE"), (r"  pub small : .* nothing_report # \(length whole\)", "TOO_SMALL"),
         (r"  pub report_is : report ≡ nothing_report # 0$", "MEMORY"), (r"  pub report_is : report ≡ record \(nothing_report # 0\)", "REFUSED"),
         (r"  pub report_is : .* { reason = #; place = report\.place }", "POLYLINE_RANGE"),
