@@ -76,6 +76,12 @@ piece_fed holds d e rs more old new piece count answer fed = λ bs s.
     subst (λ l. IsFed holds known (allowance_of d) d.start bs l answer more e new) (take-append-drop count piece)
     (grown holds known (allowance_of d) d.start bs (take count piece) (drop count piece) more e new answer (fed bs s))
 
+-- a piece of one byte
+only_byte : (piece : List ℕ) (byte : ℕ) → length piece ≡ 1 → byte ≡ get_or piece 0 0 → take 1 piece ≡ byte ∷ []
+only_byte [] byte one is = absurd (omega (arith, one))
+only_byte (x ∷ []) byte one is = ap (λ y. y ∷ []) (sym is)
+only_byte (x ∷ y ∷ xs) byte one is = absurd (omega (arith, one))
+
 module _ {S : Type 0} {holds : S → Notes → Type 0} {d e : Engine} {rs more : List Row} {old new : S}
     {piece : List ℕ} where
   -- bytes of it were used
@@ -146,13 +152,25 @@ module _ {S : Type 0} {holds : S → Notes → Type 0} {d e : Engine} {rs more :
     unread = refl;
   }
 
+  -- it is one byte, which was used
+  pub byte_feeds : {byte : ℕ} (ends : Bool) → e.limits ≡ d.limits → length piece ≡ 1 → byte ≡ get_or piece 0 0
+      → FedBy holds d rs old (byte ∷ []) (Ok (1, ends)) e more new → IsAlive rs d
+      → d.start + count_of d < MAX_BYTES → Feeds holds d rs old piece (Ok (1, ends)) e more new
+  byte_feeds {byte} ends limits one is fed alive room = cut_feeds 1 1 ends (record {
+    limits = limits;
+    fed = subst (λ l. FedBy holds d rs old l (Ok (1, ends)) e more new) (sym (only_byte piece byte one is)) fed;
+  }) alive (omega (arith, room)) (λ off. sym one)
+
+  -- it is one byte, at which the engine stopped
+  pub byte_stopped : {byte place : ℕ} (stop : Stop) → e.limits ≡ d.limits → length piece ≡ 1 → byte ≡ get_or piece 0 0
+      → FedBy holds d rs old (byte ∷ []) (Err stop) e more new
+      → place ≡ d.start + offset_in e → Feeds holds d rs old piece (Err (fault_of place stop)) e more new
+  byte_stopped {byte} stop limits one is fed at = stopped 1 stop (record {
+    limits = limits;
+    fed = subst (λ l. FedBy holds d rs old l (Err stop) e more new) (sym (only_byte piece byte one is)) fed;
+  }) at
+
 -- all bytes of it were used, if no blob ended
 pub all_used : (used many : ℕ) (ends : Bool) → TakesAll many (Ok (used, ends)) → ends ≡ false → used ≡ many
 all_used used many false all off = all
 all_used used many true all off = absurd cc
-
--- a piece of one byte
-pub only_byte : (piece : List ℕ) (byte : ℕ) → length piece ≡ 1 → byte ≡ get_or piece 0 0 → take 1 piece ≡ byte ∷ []
-only_byte [] byte one is = absurd (omega (arith, one))
-only_byte (x ∷ []) byte one is = ap (λ y. y ∷ []) (sym is)
-only_byte (x ∷ y ∷ xs) byte one is = absurd (omega (arith, one))

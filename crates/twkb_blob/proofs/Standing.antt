@@ -15,7 +15,7 @@ use Rattle.twkb_grammar.specs.Noting.{Notes}
 use Rattle.twkb_grammar.proofs.Streams.{behind_stream, stream-append}
 use Rattle.twkb_body.specs.JudgedParts.{PartIn}
 use Rattle.twkb_engine.specs.State.{allowance_of}
-use Rattle.twkb_engine.specs.Standing.{StandsAt, count_of}
+use Rattle.twkb_engine.specs.Standing.{StandsAt, IsAlive, count_of}
 use Rattle.twkb_engine.proofs.Feeds.{count_is}
 use Rattle.twkb_engine.proofs.RootPoints.{blob_judged}
 use Rattle.twkb_engine.specs.declared.engine.Engine.{Engine}
@@ -51,6 +51,10 @@ between {bytes} new stream start live closed begun = record {
   start = start;
   live = live;
 }
+
+-- some bytes lead to the engine of a session that is not spent, with the rows of the geometry that is read
+pub alive_with : {rs : List Row} (s : Session) → s.spent ≡ false → rs ≡ begun_rows s → IsAlive rs s.engine
+alive_with s live same = subst (λ l. IsAlive l s.engine) (sym same) (s.alive live)
 
 module _ {bytes : List ℕ} {gs : List Tree} {old : Session} (s : Stands bytes gs old) where
   abbrev own : Allowance
@@ -213,32 +217,11 @@ module _ {bytes : List ℕ} {gs : List Tree} {old : Session} (s : Stands bytes g
         part = blob_judged own (s.rest ++ take used piece) g blob;
       }))
 
--- what a session stands for, one of the same state does
-stands_too : {bytes : List ℕ} {gs : List Tree} {s : Session} (t : Session) → t.engine ≡ s.engine
-    → begun_rows t ≡ begun_rows s → t.spent ≡ s.spent → Stands bytes gs s → Stands bytes gs t
-stands_too {gs = gs} {s} t engine rs spent h = record {
-  front = h.front;
-  rest = h.rest;
-  whole = h.whole;
-  few = h.few;
-  blobs = subst (λ d. Stream (allowance_of d) h.front gs) (sym engine) h.blobs;
-  begun = subst (λ d. StandsAt h.rest (begun_rows t) d) (sym engine)
-      (subst (λ l. StandsAt h.rest l s.engine) (sym rs) h.begun);
-  start = ap (λ (d : Engine). d.start) engine ∙ h.start;
-  live = spent ∙ h.live;
-}
-
 -- the tree that is made of the rows is the geometry
-pub gave_tree : TreeLaw → (bytes : List ℕ) (gs : List Tree) (piece : List ℕ) (s t : Session) (used : ℕ)
-    (h : Tree) → t.engine ≡ s.engine → begun_rows t ≡ begun_rows s → t.spent ≡ s.spent
-    → FedFlat bytes gs piece (Ok (used, true)) s → rows 0 h ≡ session_rows s → IsValid largest_limits h
-    → FedSession bytes gs piece (Ok (used, Some h)) t
-gave_tree law bytes gs piece s t used h engine rs spent (g, fed, is) made valid =
-    subst (λ x. FedSession bytes gs piece (Ok (used, Some x)) t)
+pub gave_tree : TreeLaw → (bytes : List ℕ) (gs : List Tree) (piece : List ℕ) (s : Session) (used : ℕ)
+    (h : Tree) → FedFlat bytes gs piece (Ok (used, true)) s → rows 0 h ≡ session_rows s
+    → IsValid largest_limits h → FedSession bytes gs piece (Ok (used, Some h)) s
+gave_tree law bytes gs piece s used h (g, fed, is) made valid =
+    subst (λ x. FedSession bytes gs piece (Ok (used, Some x)) s)
     (tree_made law (session_rows s) g h (last_tree (session_limits s) (bytes ++ take used piece) gs g fed.2) is
-    made valid) (
-      fed.0,
-      fed.1,
-      subst (λ d. Stream (allowance_of d) (bytes ++ take used piece) (gs ++ g ∷ [])) (sym engine) fed.2,
-      stands_too t engine rs spent fed.3,
-    )
+    made valid) fed

@@ -6,7 +6,7 @@ use Rattle.std.specs.declared.io.traits.Read.{Ghosts}
 use Rattle.twkb_io.specs.declared.TheConstants.{MAX_BYTES}
 use Rattle.twkb_tree.specs.Tree.{Tree}
 use Rattle.twkb_tree.specs.Rows.{Row, rows}
-use Rattle.twkb_tree.specs.Limits.{Allowance}
+use Rattle.twkb_tree.specs.Limits.{Allowance, IsValid, largest_limits}
 use Rattle.twkb_grammar.specs.Blob.{Blob}
 use Rattle.twkb_grammar.specs.Fault.{FirstFault, Reason, Truncated}
 use Rattle.twkb_io.specs.Taps.{count_failure, device_of}
@@ -162,6 +162,11 @@ abbrev pub IsNextFlat : {R : Type 0} {read : Ghosts R} → Allowance → Input R
 IsNextFlat limits old new (Ok true) rs = (g : Tree) × Makes limits [] old new g × (rs ≡ rows 0 g)
 IsNextFlat limits old new (Ok false) rs = IsNext limits old new (Ok None)
 IsNextFlat limits old new (Err why) rs = IsNext limits old new (Err why)
+
+-- the geometry that has these rows, which keeps the largest limits; or no memory for it
+abbrev pub IsTreeOf : List Row → Result Tree BlobFault → Type 0
+IsTreeOf rs (Ok g) = (rows 0 g ≡ rs) × IsValid largest_limits g
+IsTreeOf rs (Err why) = why ≡ fault.Memory
 
 -- whether a call was answered by a failed read
 abbrev pub failed_by_read : {A : Type 0} → Result A BlobFault → Bool

@@ -54,8 +54,5 @@ pub(crate) fn judge_end(engine: &Engine) -> Result<(), BlobFault>
     if engine.is_between() {
         return Ok(());
     }
-    Err(BlobFault::At {
-        offset: engine.offset(),
-        reason: BlobReason::Truncated,
-    })
+    Err(fault_at(engine.offset(), Stop::Refused(BlobReason::Truncated)))
 }

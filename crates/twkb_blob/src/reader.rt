@@ -1,5 +1,5 @@
 //! The blobs of an input, one after another.
-ghost use Rattle.std.specs.Prelude.{◌≡◌, ◌↔◌, [], true, false, Err, None};
+ghost use Rattle.std.specs.Prelude.{◌≡◌, ◌<◌, ◌↔◌, [], true, false, Err, None, length, OnOk, OnErr};
 ghost use Rattle.twkb_grammar.specs.Noting.{no_notes};
 
 use crate::fault::{BlobFault, fault_at, judge_end};
@@ -29,7 +29,7 @@ pub struct Reader<'a, R: Read> {
 
 impl<'a, R: Read> Reader<'a, R> {
     ghost use Rattle.twkb_blob.specs.Readers.{reader_input, reader_limits, is_spent, has_ended, IsNext};
-    ghost use Rattle.twkb_blob.specs.Readers.{IsAbreast, PartAhead, ReadsNext, ReadsRows, stopped_at};
+    ghost use Rattle.twkb_blob.specs.Readers.{IsAbreast, IsTreeOf, PartAhead, ReadsNext, ReadsRows, stopped_at};
     ghost use Rattle.twkb_blob.specs.Located.{IsLocated, ReadsWith};
 
     /// Makes a reader of what the input still has, which reads nothing yet. The limits are those of
@@ -66,10 +66,7 @@ impl<'a, R: Read> Reader<'a, R> {
         if !self.next_flat(alloc, &mut flat)? {
             return Ok(None);
         }
-        let Ok(geometry) = flat.to_geometry(alloc) else {
-            self.state = State::Spent;
-            return Err(BlobFault::Memory);
-        };
+        let geometry = self.tree_of(alloc, &flat)?;
         Ok(Some(geometry))
     }
 
@@ -103,10 +100,7 @@ impl<'a, R: Read> Reader<'a, R> {
         if !self.read_with(&mut engine, &mut flat, &mut spans.notes)? {
             return Ok(None);
         }
-        let Ok(geometry) = flat.to_geometry(alloc) else {
-            self.state = State::Spent;
-            return Err(BlobFault::Memory);
-        };
+        let geometry = self.tree_of(alloc, &flat)?;
         Ok(Some(Located { geometry, spans }))
     }
 
@@ -155,6 +149,21 @@ impl<'a, R: Read> Reader<'a, R> {
             }
         };
         self.stop(flat, stopped)
+    }
+
+    // Builds the geometry of the rows of a blob that was read. Takes memory; if memory is refused,
+    // returns `Memory`, and the reader is spent.
+    fn tree_of(&mut self, alloc: Global, flat: &Flat) -> Result<Geometry, BlobFault>
+        requires some { 0 < length flat.now }
+        ensures tree { IsTreeOf flat.now result }
+        ensures kept { OnOk result (self.new ≡ self.old) }
+        ensures spent { OnErr result (self.new ≡ record self.old { state = stopped_at (Err BlobFault.Memory) }) }
+    {
+        let Ok(geometry) = flat.to_geometry(alloc) else {
+            self.state = State::Spent;
+            return Err(BlobFault::Memory);
+        };
+        Ok(geometry)
     }
 
     // Clears the form and returns `found`, with which reading stopped: the end, after which the

@@ -1,11 +1,11 @@
 //! A stream of blobs that comes in pieces.
 ghost use Rattle.std.specs.Prelude.{◌≡◌, ◌<◌, ◌≤◌, ◌↔◌, ◌+◌, [], if◌then◌else◌, List, ℕ, true, false};
-ghost use Rattle.std.specs.Prelude.{Ok, Err, None, is_err, length, IfOk, IfErr, IfSome};
+ghost use Rattle.std.specs.Prelude.{Err, None, is_err, length, IfOk, IfSome, OnOk};
 ghost use Rattle.twkb_io.specs.declared.TheConstants.{MAX_BYTES};
 ghost use Rattle.twkb_tree.specs.Tree.{Tree};
 ghost use Rattle.twkb_tree.specs.Rows.{rows};
 ghost use Rattle.twkb_engine.specs.Standing.{IsAlive, count_of};
-ghost use Rattle.twkb_blob.specs.Readers.{failed_by_read};
+ghost use Rattle.twkb_blob.specs.Readers.{failed_by_read, IsTreeOf};
 ghost use Rattle.twkb_blob.specs.Feeding.{Feeds};
 
 use crate::fault::{BlobFault, fault_at, judge_end};
@@ -14,29 +14,6 @@ use twkb_engine::{Engine, NoSpans, SpanNotes};
 use twkb_flat::{Flat, Rows};
 use twkb_io::{InFault, MAX_BYTES};
 use twkb_tree::{Geometry, Limits};
-
-// Fast path: feeds an engine a piece of one byte, before which fewer than 2^62 bytes of the stream
-// were fed. Returns 1, and whether a blob ends with the byte. Rows, spans and memory are as with
-// `Engine::feed`. An `Err` is want of memory, or a refusal with its offset in the stream. Unlike
-// `Engine::feed` it has no loop.
-#[inline(always)]
-fn feed_byte<S: SpanNotes>(
-    engine: &mut Engine,
-    flat: &mut Flat,
-    spans: &mut S,
-    piece: &[u8],
-) -> Result<(usize, bool), BlobFault>
-    requires one { length piece.now ≡ 1 }
-    requires room { engine.old.start + count_of engine.old < MAX_BYTES }
-    requires alive { IsAlive flat.old engine.old }
-    ensures { Feeds S.holds engine.old flat.old spans.old piece.now result engine.new flat.new spans.new }
-{
-    let began = engine.start();
-    match engine.take_byte(flat, spans, piece[0]) {
-        Ok(ends) => Ok((1, ends)),
-        Err(stop) => Err(fault_at(began + engine.bytes(), stop)),
-    }
-}
 
 // Feeds a piece of a stream to an engine, up to the end of a blob, or all of it if none ends;
 // returns how many bytes were taken, and whether a blob ends with them. Rows, spans and memory are
@@ -125,40 +102,31 @@ impl Session {
         ensures limits { session_limits self.new ≡ session_limits self.old }
     {
         let (used, ends) = self.feed_flat(piece)?;
-        if !ends {
+        // a geometry has rows: if a session stands for a stream there are some
+        if !ends || self.rows.flat.is_empty() {
             return Ok((used, None));
         }
-        self.give_tree(used)
+        Ok((used, Some(self.tree()?)))
     }
 
-    // Builds the geometry that ended with a feed of `used` bytes, and returns `used` and the
-    // geometry. If there are no rows it returns `None` in place of the geometry; after a feed with
-    // which a geometry ended there always are some. Takes memory; if memory is refused, returns
-    // `Memory`, and the session is spent and has no rows. A function of its own: if its variables
-    // were those of `feed`, they would be cleared in each call.
+    // Builds the geometry of the rows, of which there is one at least. Takes memory; if memory is
+    // refused, returns `Memory`, and the session is spent and has no rows. A function of its own: if
+    // its variables were those of `feed`, they would be cleared in each call.
     #[inline(always)]
-    fn give_tree(&mut self, used: usize) -> Result<(usize, Option<Geometry>), BlobFault>
+    fn tree(&mut self) -> Result<Geometry, BlobFault>
         requires live { self.old.spent ≡ false }
-        ensures fed { (bytes piece : List ℕ) (gs : List Tree) (was : Session) → Stands bytes gs was
-            → session_limits self.old ≡ session_limits was
-            → FedFlat bytes gs piece (Ok (used, true)) self.old
-            → FedSession bytes gs piece result self.new }
-        ensures rows { IfOk result (λ fed. IfSome fed.1 (λ g. rows 0 g ≡ session_rows self.new)) }
-        ensures so_far { IfOk result (λ fed. fed.1 ≡ None → session_rows self.new ≡ begun_rows self.new) }
-        ensures memory { IfErr result (λ fault. fault ≡ BlobFault.Memory) }
+        requires some { 0 < length (session_rows self.old) }
+        ensures tree { IsTreeOf (session_rows self.old) result }
+        ensures kept { OnOk result (self.new ≡ self.old) }
         ensures stays { is_spent self.new ≡ is_err result }
         ensures limits { session_limits self.new ≡ session_limits self.old }
     {
-        // a geometry has rows: if a session stands for a stream there are some
-        if self.rows.flat.is_empty() {
-            return Ok((used, None));
-        }
         let Ok(geometry) = self.rows.flat.to_geometry(self.alloc) else {
             self.rows.flat.clear();
             self.spent = true;
             return Err(BlobFault::Memory);
         };
-        Ok((used, Some(geometry)))
+        Ok(geometry)
     }
 
     /// Takes bytes as `feed` does, and returns how many, and whether a geometry ends with them;
@@ -175,10 +143,8 @@ impl Session {
         ensures stays { is_spent self.new ≡ is_err result }
         ensures limits { session_limits self.new ≡ session_limits self.old }
     {
-        match self.feed_apart(piece) {
-            Ok(used) => Ok((used, self.is_whole)),
-            Err(fault) => Err(fault),
-        }
+        let used = self.feed_apart(piece)?;
+        Ok((used, self.is_whole))
     }
 
     // Takes bytes as `feed_flat` does, and returns how many; `is_whole` then says whether a
@@ -197,18 +163,23 @@ impl Session {
         if self.is_whole {
             self.rows.flat.clear();
         }
-        // an end of its own: with one end for both ways a byte takes 3 in 100 more instructions
+        // fast path for a byte alone, with an end of its own: with one end for both ways a byte
+        // takes 3 in 100 more instructions
         if piece.len() == 1 && self.engine.offset() < MAX_BYTES - 16 {
+            let began = self.engine.start();
             // learnt: it holds at most nine bytes
             let _learnt = self.engine.held();
-            match feed_byte(&mut self.engine, &mut self.rows.flat, &mut NoSpans, piece) {
-                Ok((used, ends)) => {
+            match self
+                .engine
+                .take_byte(&mut self.rows.flat, &mut NoSpans, piece[0])
+            {
+                Ok(ends) => {
                     self.is_whole = ends;
-                    return Ok(used);
+                    return Ok(1);
                 }
-                Err(fault) => {
+                Err(stop) => {
                     self.spent = true;
-                    return Err(fault);
+                    return Err(fault_at(began + self.engine.bytes(), stop));
                 }
             }
         }

@@ -6,8 +6,8 @@ use Rattle.twkb_blob.proofs.Calls.{came}
 use Rattle.twkb_blob.proofs.Trees.{tree_made}
 use Rattle.twkb_blob.proofs.reader.Reader.next.Goals as goal
 
-pub returns-in_default-clause-memory : goal.returns-in_default-clause-memory
-returns-in_default-clause-memory g c = λ is.
+pub returns-in_err-geometry-clause-memory : goal.returns-in_err-geometry-clause-memory
+returns-in_err-geometry-clause-memory g c = λ is.
     let old = c.args.self.now in
     let read = c.next_flat in
     let found : read.result ≡ Ok true = search rules in
@@ -22,6 +22,7 @@ returns-clause-next g c = λ live going.
     let found : read.result ≡ Ok true = search rules in
     let (h, makes, is) = subst (λ r. IsNextFlat (reader_limits old) (reader_input old)
     (reader_input read.new.self) r read.new.flat) found (read.ensures.next live going) in
-    subst (λ t. Makes (reader_limits old) [] (reader_input old) (reader_input read.new.self) t)
-    (tree_made one_geometry read.new.flat h c.in-Ok.geometry makes.blob.valid.tree is c.in-Ok.ensures.rows
-    c.in-Ok.ensures.valid) makes
+    rw c.in_ok-geometry.ensures.kept (subst (λ t. Makes (reader_limits old) [] (reader_input old)
+    (reader_input read.new.self) t)
+    (tree_made one_geometry read.new.flat h c.in_ok-geometry.geometry makes.blob.valid.tree is
+    c.in_ok-geometry.ensures.tree.0 c.in_ok-geometry.ensures.tree.1) makes)
