@@ -17,6 +17,7 @@ pub mod HeaderParts
 pub mod Admitting
 pub mod Ranges
 pub mod Steps
+pub mod FrontNumbers
 pub mod InFront
 pub mod StepsInFront
 pub mod WholePoints

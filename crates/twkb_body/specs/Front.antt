@@ -4,13 +4,22 @@ use Rattle.twkb_num.specs.Varint.{IsVarint}
 use Rattle.twkb_num.specs.Zigzag.{unzigzag_of}
 use Rattle.twkb_points.specs.Point.{Point, point_at}
 use Rattle.twkb_grammar.specs.PlainReader.{in_range}
+use Rattle.twkb_grammar.specs.Fault.{IsCut, IsTooLong}
 use Rattle.twkb_body.specs.Reading.{Pair}
+use Rattle.twkb_body.specs.declared.numbers.FrontNumber.{FrontNumber}
+use Rattle.twkb_body.specs.declared.numbers.FrontNumber.TheVariants.{Complete, Cut, TooLong}
 
 -- the first `count` bytes spell this number
 pub record NumberInFront (bytes : List ℕ) (n count : ℕ) : Type 0 where
   pub some : 0 < count
   pub within : count ≤ length bytes
   pub spelled : IsVarint (take count bytes) n
+
+-- the number at the start of the bytes is complete, cut or too long, as the answer says
+abbrev pub IsFront : List ℕ → FrontNumber → Type 0
+IsFront bytes (Complete n count) = NumberInFront bytes n count
+IsFront bytes Cut = IsCut bytes
+IsFront bytes TooLong = IsTooLong bytes
 
 -- the first `count` bytes are the two numbers of a point
 pub record PointInFront (from : Point) (bytes : List ℕ) (to : Point) (count : ℕ) : Type 0 where

@@ -18,7 +18,7 @@ pub use head::Head;
 pub use header::{FrontHeader, front_header};
 pub use list_points::{Taken, take_members, take_row};
 pub use member_ids::MemberIds;
-pub use numbers::front_number;
+pub use numbers::{FrontNumber, front_number};
 pub use optional_parts::OptionalParts;
 pub use points::front_point;
 pub use rows::{line_row, own_row, push_point_row, push_row, put_point, ring_list_row};

@@ -4,7 +4,7 @@ ghost use Rattle.std.specs.Prelude.{OnErr, length};
 ghost use Rattle.twkb_tree.specs.Rows.{first_id, other_ids};
 ghost use Rattle.twkb_body.specs.Running.{IdsTaken, IdsStop};
 
-use crate::numbers::front_number;
+use crate::numbers::{FrontNumber, front_number};
 use std::alloc::{AllocError, Global};
 use twkb_num::unzigzag;
 
@@ -65,7 +65,7 @@ impl MemberIds {
         let mut used = 0;
         let mut left = most;
         while left > 0 {
-            let Some((number, width)) = front_number(&bytes[used..]) else {
+            let FrontNumber::Complete { number, width } = front_number(&bytes[used..]) else {
                 return Ok(used);
             };
             self.push(unzigzag(number))?;

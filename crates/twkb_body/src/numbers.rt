@@ -1,8 +1,19 @@
 //! Numbers that are complete at the start of bytes.
 ghost use Rattle.std.specs.Prelude.{◌<◌, ◌^◌, IfSome};
-ghost use Rattle.twkb_body.specs.Front.{NumberInFront};
+ghost use Rattle.twkb_body.specs.Front.{NumberInFront, IsFront};
 
 use twkb_num::{FIVE_BYTES, FOUR_BYTES, GOES_ON, Leb128, Partial, Step, THREE_BYTES, TWO_BYTES};
+
+/// The number at the start of some bytes, or why none is complete there (TWKB, varints; LEB128).
+#[derive(Clone, Copy, Debug)]
+pub enum FrontNumber {
+    /// The number, and how many bytes its varint has.
+    Complete { number: u64, width: usize },
+    /// The bytes end before the varint does.
+    Cut,
+    /// The varint breaks the profile: at most ten bytes, and a number below 2^64.
+    TooLong,
+}
 
 // Reads a number of five bytes or fewer at the start of the bytes, and returns it and how many
 // bytes it has; `None` if it is not complete or has more. Nearly all numbers take this path, since
@@ -39,34 +50,40 @@ pub(crate) fn short_number(bytes: &[u8]) -> Option<(u64, usize)>
     None
 }
 
-// Reads a number of any length at the start of the bytes, unit by unit, and returns it and how many
-// bytes it has. `None` if its varint is not complete, or is longer than ten bytes or above
-// 2^64 - 1. It is called when `short_number` does not suffice, which is rare.
+// Reads a number of any length at the start of the bytes, byte by byte. It is called when
+// `short_number` does not suffice, which is rare.
 #[cold]
 #[inline(never)]
-pub(crate) fn long_number(bytes: &[u8]) -> Option<(u64, usize)>
-    ensures { IfSome result (λ front. NumberInFront bytes.now front.0 front.1) }
+pub(crate) fn long_number(bytes: &[u8]) -> FrontNumber
+    ensures { IsFront bytes.now result }
 {
     twkb_num::laws::varints();
     let mut partial = Partial::<Leb128>::new();
     for (index, byte) in bytes.iter().enumerate() {
+        let _learnt = partial.len();
         match partial.step(*byte) {
             Step::More => {}
-            Step::Done { value, .. } => return Some((value, index + 1)),
-            Step::TooLong | Step::BadUnit => return None,
+            Step::Done { value, .. } => {
+                return FrontNumber::Complete {
+                    number: value,
+                    width: index + 1,
+                };
+            }
+            Step::TooLong => return FrontNumber::TooLong,
+            Step::BadUnit => return FrontNumber::TooLong,
         }
     }
-    None
+    let _learnt = partial.len();
+    FrontNumber::Cut
 }
 
-/// The number at the start of the bytes, and how many bytes it has; `None` if its varint is not
-/// complete, or is longer than ten bytes or above 2^64 - 1. Takes no memory.
+/// Reads the number at the start of the bytes. Takes no memory.
 #[inline(always)]
-pub fn front_number(bytes: &[u8]) -> Option<(u64, usize)>
-    ensures { IfSome result (λ front. NumberInFront bytes.now front.0 front.1) }
+pub fn front_number(bytes: &[u8]) -> FrontNumber
+    ensures { IsFront bytes.now result }
 {
-    if let Some(front) = short_number(bytes) {
-        return Some(front);
+    if let Some((number, width)) = short_number(bytes) {
+        return FrontNumber::Complete { number, width };
     }
     long_number(bytes)
 }

@@ -2,7 +2,7 @@
 ghost use Rattle.std.specs.Prelude.{IfSome};
 ghost use Rattle.twkb_body.specs.OptionalParts.{SizeInFront, BoxInFront, PartsInFront};
 
-use crate::numbers::front_number;
+use crate::numbers::{FrontNumber, front_number};
 use twkb_grammar::Metadata;
 
 // Sides of a box (TWKB, bounding box).
@@ -26,8 +26,10 @@ fn front_size(metadata: Metadata, bytes: &[u8]) -> Option<(Option<u64>, usize)>
     if !metadata.has_size() {
         return Some((None, 0));
     }
-    let (size, width) = front_number(bytes)?;
-    Some((Some(size), width))
+    let FrontNumber::Complete { number, width } = front_number(bytes) else {
+        return None;
+    };
+    Some((Some(number), width))
 }
 
 // How many bytes the box at the start of the bytes has; 0 if this metadata byte asks for none.
@@ -42,7 +44,9 @@ fn front_box_length(metadata: Metadata, bytes: &[u8]) -> Option<usize>
     let mut used = 0;
     let mut count = 0;
     while count < SIDES {
-        let (_, width) = front_number(&bytes[used..])?;
+        let FrontNumber::Complete { width, .. } = front_number(&bytes[used..]) else {
+            return None;
+        };
         used += width;
         count += 1;
     }

@@ -4,7 +4,7 @@ ghost use Rattle.twkb_num.specs.Zigzag.{zigzag_of};
 ghost use Rattle.twkb_points.specs.Point.{IsCoordinate};
 ghost use Rattle.twkb_body.specs.Front.{PointInFront, StepsTo};
 
-use crate::numbers::{long_number, short_number};
+use crate::numbers::{FrontNumber, long_number, short_number};
 use twkb_num::unzigzag;
 use twkb_points::Pt;
 
@@ -48,8 +48,16 @@ fn after_short_steps(from: Pt, x: u64, y: u64) -> Option<Pt>
 fn long_point(from: Pt, bytes: &[u8]) -> Option<(Pt, usize)>
     ensures { IfSome result (λ front. PointInFront from bytes.now front.0 front.1) }
 {
-    let (x, width) = long_number(bytes)?;
-    let (y, height) = long_number(&bytes[width..])?;
+    let FrontNumber::Complete { number: x, width } = long_number(bytes) else {
+        return None;
+    };
+    let FrontNumber::Complete {
+        number: y,
+        width: height,
+    } = long_number(&bytes[width..])
+    else {
+        return None;
+    };
     let beside = from.moved_x(unzigzag(x))?;
     let to = beside.moved_y(unzigzag(y))?;
     Some((to, width + height))

@@ -10,12 +10,14 @@ use Rattle.std.proofs.Props.{props}
 use Rattle.std.proofs.Math.Seq.{take-suc}
 use Rattle.twkb_tree.specs.Limits.{Allowance}
 use Rattle.twkb_tree.specs.Rows.{Row}
-use Rattle.twkb_grammar.specs.Fault.{FirstFault}
+use Rattle.twkb_grammar.specs.Fault.{FirstFault, IsTooLong}
 use Rattle.twkb_grammar.specs.Roles.{Role}
 use Rattle.twkb_grammar.specs.Blob.{Blob}
 use Rattle.twkb_grammar.specs.Noting.{Notes}
 use Rattle.twkb_body.specs.JudgedParts.{IsJudged}
+use Rattle.twkb_body.proofs.FrontNumbers.{long_in_ten}
 use Rattle.twkb_body.proofs.Pieces.{one_front, one_within}
+use Rattle.twkb_engine.specs.Fits.{IsByte}
 use Rattle.twkb_engine.specs.Notes.{NotesGo, notes_with}
 use Rattle.twkb_engine.specs.State.{IsNext, IsPlaced}
 use Rattle.twkb_engine.specs.Standing.{LeadsOn, TakesMany, StandsAt, IsReady, IsAnswer, FedBy, IsFed, HoldsSpans}
@@ -23,9 +25,10 @@ use Rattle.twkb_engine.specs.Standing.{SaysNext, StopsIn, with_used, notes_at, h
 use Rattle.twkb_engine.specs.Taking.{Takes, Keeps, Stays}
 use Rattle.twkb_engine.specs.Stops.{Stop, reason_of}
 use Rattle.twkb_flat.specs.declared.stop.Stop.TheVariants.{Memory, Refused}
+use Rattle.twkb_engine.specs.declared.blob_reason.BlobReason.TheVariants.{BadVarint}
 use Rattle.twkb_engine.specs.declared.engine.Engine.{Engine}
 use Rattle.twkb_engine.proofs.Steps.{next_role, all_whole}
-use Rattle.twkb_engine.proofs.Feeds.{item_fed, count_is, alive_left, used_within}
+use Rattle.twkb_engine.proofs.Feeds.{item_fed, count_is, alive_left, used_within, long_refused}
 
 -- ---- bytes before the piece
 
@@ -94,6 +97,18 @@ none_fed {holds = holds} {d = d} {rs = rs} {old = old} = record {
   fed = λ bs s. (let both = subst (λ l. (t : StandsAt l rs d) × (holds old (notes_at s) → holds old (notes_at t)))
       (sym (append-nil bs)) (s, λ known. known) in (omega arith, refl, both.0, both.1));
 }
+
+-- the next number is too long
+pub long_fed : {S : Type 0} {holds : S → Notes → Type 0} {d : Engine} {rs : List Row} {old : S}
+    {piece : List ℕ} → held_in d ≡ [] → (IsByte d.next → ⊥) → IsTooLong piece
+    → IsAnswer holds d rs old piece (Err (Refused BadVarint)) d rs old
+long_fed {d = d} {rs = rs} {piece = piece} none spelled long =
+    let ten = long_in_ten piece long in
+    record {
+      limits = refl;
+      fed = λ bs s. long_refused bs piece 10 rs d s spelled (omega arith) ten.0
+          (λ more. subst (λ l. IsTooLong (l ++ (take 10 piece ++ more))) (sym none) (ten.1 more));
+    }
 
 module _ {S : Type 0} {holds : S → Notes → Type 0} {d e : Engine} {rs more : List Row} {old new : S}
     {piece : List ℕ} where

@@ -5,10 +5,10 @@ use Rattle.std.proofs.Common.{arith, true, false, Bool}
 use Rattle.std.proofs.lemmas.List.{length-take-le}
 use Rattle.std.proofs.Math.Logic.{∥∥₁_elim, ∥∥₁_map}
 use Rattle.std.proofs.Props.{props}
-use Rattle.twkb_num.specs.Varint.{IsVarint, IsOpenVarint}
+use Rattle.twkb_num.specs.Varint.{IsVarint}
 use Rattle.twkb_tree.specs.Limits.{Allowance}
 use Rattle.twkb_tree.specs.Rows.{Row}
-use Rattle.twkb_grammar.specs.Fault.{FirstFault, Reason, BadVarint}
+use Rattle.twkb_grammar.specs.Fault.{FirstFault, IsTooLong, Reason, BadVarint}
 use Rattle.twkb_grammar.specs.Roles.{Role, Item}
 use Rattle.twkb_grammar.specs.PlainReader.{objection}
 use Rattle.twkb_grammar.specs.Machine.{Sums, added}
@@ -177,32 +177,24 @@ held_more bs u rs d e s more = ap (λ l. l ++ u ∷ []) s.whole
     ∙ (append_assoc s.front (held_in d) (u ∷ []) ∙ ap (λ l. s.front ++ l) (sym more))
 
 -- the bytes of a number after whole items
-pub held_bytes : (bs front held more : List ℕ) (u : ℕ) → bs ≡ front ++ held
-    → front ++ (held ++ u ∷ more) ≡ (bs ++ u ∷ []) ++ more
-held_bytes bs front held more u e = sym (ap (λ l. (l ++ u ∷ []) ++ more) e
-    ∙ append_assoc (front ++ held) (u ∷ []) more ∙ append_assoc front held (u ∷ more))
+pub held_bytes : (bs front held next more : List ℕ) → bs ≡ front ++ held
+    → front ++ (held ++ (next ++ more)) ≡ (bs ++ next) ++ more
+held_bytes bs front held next more e = sym (ap (λ l. (l ++ next) ++ more) e
+    ∙ append_assoc (front ++ held) next more ∙ append_assoc front held (next ++ more))
 
--- a byte after nine that go on
-pub long_refused : (bs : List ℕ) (u : ℕ) (rs : List Row) (d : Engine) → StandsAt bs rs d
-    → (IsByte d.next → ⊥) → IsOpenVarint (held_in d) → length (held_in d) ≡ 9 → 2 ≤ u
-    → RefusedIn (allowance_of d) bs (u ∷ []) (offset_in d) BadVarint
-long_refused bs u rs d s spelled begun nine above = record {
-  used = 1;
-  some = omega arith;
-  within = omega arith;
-  fault = λ more. (let r = next_role d in
-      subst (λ l. FirstFault d.limits l d.bytes BadVarint) (held_bytes bs s.front (held_in d) more u s.whole)
-      (outlined_long d.limits s.front (sums_of d) (outline_in d) rs (held_in d ++ u ∷ more) r.0
-      s.outlined r.1 (next_number d spelled)
-      (record {
-        nine = held_in d;
-        tenth = u;
-        more = more;
-        whole = refl;
-        length = nine;
-        go_on = begun.high;
-        above = above;
-      })));
+-- after the bytes that are held, so many of the piece make the number too long
+pub long_refused : (bs piece : List ℕ) (used : ℕ) (rs : List Row) (d : Engine) → StandsAt bs rs d
+    → (IsByte d.next → ⊥) → 0 < used → used ≤ length piece
+    → ((more : List ℕ) → IsTooLong (held_in d ++ (take used piece ++ more)))
+    → RefusedIn (allowance_of d) bs piece (offset_in d) BadVarint
+long_refused bs piece used rs d s spelled some within long = record {
+  used = used;
+  some = some;
+  within = within;
+  fault = λ more. (let r = next_role d in let next : List ℕ = take used piece in
+      subst (λ l. FirstFault d.limits l d.bytes BadVarint) (held_bytes bs s.front (held_in d) next more s.whole)
+      (outlined_long d.limits s.front (sums_of d) (outline_in d) rs (held_in d ++ (next ++ more)) r.0
+      s.outlined r.1 (next_number d spelled) (long more)));
 }
 
 -- the last byte of a number
@@ -221,7 +213,7 @@ number_fed holds bs rs more d b e old new u value width answer s q none spelled 
     (sym (ap (λ l. s.front ++ l) none ∙ append-nil s.front)) (inr none) in
     let r = next_role b in
     let at : t.front ++ whole ≡ bs ++ take 1 (u ∷ []) = ap (λ l. l ++ whole) front
-    ∙ (held_bytes bs s.front (held_in d) [] u s.whole ∙ append-nil (bs ++ u ∷ [])) in
+    ∙ (held_bytes bs s.front (held_in d) (u ∷ []) [] s.whole ∙ append-nil (bs ++ u ∷ [])) in
     let fed = item_fed holds bs rs more b e old new t.front t.outlined r.0 value whole (u ∷ []) 1
     r.1 (number_written b value whole v (λ byte. spelled (subst IsByte (ap (λ (g : Fields). g.next) q) byte)))
     (omega arith) (omega arith) at limits (held ∙ none)

@@ -7,7 +7,7 @@ use Rattle.twkb_tree.specs.Rows.{Row, rows}
 use Rattle.twkb_grammar.specs.Roles.{Role}
 use Rattle.twkb_grammar.specs.Reading.{Gives}
 use Rattle.twkb_grammar.specs.Blob.{Blob}
-use Rattle.twkb_grammar.specs.Fault.{FirstFault, Reason, Truncated}
+use Rattle.twkb_grammar.specs.Fault.{FirstFault, Reason, Truncated, IsCut, IsTooLong}
 use Rattle.twkb_grammar.specs.Noting.{Notes}
 use Rattle.twkb_grammar.specs.Spans.{spans_of_blob}
 use Rattle.twkb_body.specs.Reading.{Outlined}
@@ -16,6 +16,8 @@ use Rattle.twkb_engine.specs.State.{IsPlaced, IsNext, allowance_of, sums_of, out
 use Rattle.twkb_engine.specs.Fits.{IsByte}
 use Rattle.twkb_engine.specs.Caps.{place_cap}
 use Rattle.twkb_body.specs.JudgedParts.{PartIn}
+use Rattle.twkb_body.specs.declared.numbers.FrontNumber.{FrontNumber}
+use Rattle.twkb_body.specs.declared.numbers.FrontNumber.TheVariants.{Complete, Cut, TooLong}
 use Rattle.twkb_body.specs.Running.{ListRuns, ListStops}
 use Rattle.twkb_engine.specs.Taking.{Stays}
 use Rattle.twkb_engine.specs.Stops.{Stop, reason_of}
@@ -83,6 +85,12 @@ pub record SaysNext (d : Engine) (bytes : List ℕ) (n count : ℕ) : Type 0 whe
   pub within : count ≤ length bytes
   pub fits : IsByte d.next → (n < 256) × (count ≡ 1)
   pub gives : (r : Role) → IsNext r d → Gives r n (take count bytes)
+
+-- the next item at the start of the bytes is complete; or it is a number that is cut or too long
+abbrev pub IsFrontItem : Engine → List ℕ → FrontNumber → Type 0
+IsFrontItem d bytes (Complete n count) = SaysNext d bytes n count
+IsFrontItem d bytes Cut = (IsByte d.next → ⊥) × IsCut bytes
+IsFrontItem d bytes TooLong = (IsByte d.next → ⊥) × IsTooLong bytes
 
 -- this item comes next, with this number, in this number of bytes, for which there is room
 pub record ComesNext (item : NextItem) (rs : List Row) (d : Engine) (n width : ℕ) : Type 0 where

@@ -1,5 +1,5 @@
 //! The items of a piece of bytes, taken one at a time, byte by byte if need be, or many at once.
-ghost use Rattle.std.specs.Prelude.{◌≡◌, ◌+◌, ◌<◌, ◌≤◌, ◌∷◌, [], List, IfOk, IfSome, length};
+ghost use Rattle.std.specs.Prelude.{◌≡◌, ◌+◌, ◌<◌, ◌≤◌, ◌∷◌, [], List, IfOk, length};
 ghost use Rattle.twkb_engine.specs.Standing.{with_used};
 
 use crate::blob_reason::BlobReason;
@@ -8,7 +8,7 @@ use crate::next_item::NextItem;
 use crate::span_notes::SpanNotes;
 use crate::stop::Stop;
 use std::alloc::AllocError;
-use twkb_body::{front_number, front_point, take_members, take_row};
+use twkb_body::{FrontNumber, front_number, front_point, take_members, take_row};
 use twkb_flat::Flat;
 use twkb_num::Step;
 use twkb_tree::Kind;
@@ -16,7 +16,7 @@ use twkb_tree::Kind;
 impl Engine {
     ghost use Rattle.twkb_tree.specs.Rows.{Row};
     ghost use Rattle.twkb_engine.specs.Caps.{place_cap};
-    ghost use Rattle.twkb_engine.specs.Standing.{IsAhead, IsAlive, IsReady, IsAnswer, FedBy, SaysNext, TakesAll};
+    ghost use Rattle.twkb_engine.specs.Standing.{IsAhead, IsAlive, IsReady, IsAnswer, FedBy, IsFrontItem, TakesAll};
     ghost use Rattle.twkb_engine.specs.Standing.{TakesMany, TakesList, held_in, count_of};
     ghost use Rattle.twkb_engine.specs.declared.next_item.NextItem.TheVariants.{X, Id};
 
@@ -47,23 +47,27 @@ impl Engine {
         }
     }
 
-    // The number of the next item and how many bytes it has, if it is complete at the start of the
-    // bytes; `None` if it is cut or too long.
+    // Reads the next item at the start of the bytes. An item that is a byte is a number of one byte,
+    // always complete.
     #[inline(always)]
-    fn front_item(&self, rest: &[u8]) -> Option<(u64, usize)>
+    fn front_item(&self, rest: &[u8]) -> FrontNumber
         requires some { 0 < length rest.now }
         requires alone { held_in self.now ≡ [] }
-        ensures { IfSome result (λ item. SaysNext self.now rest.now item.0 item.1) }
+        ensures { IsFrontItem self.now rest.now result }
     {
         if self.next.is_byte() {
-            return Some((u64::from(rest[0]), 1));
+            return FrontNumber::Complete {
+                number: u64::from(rest[0]),
+                width: 1,
+            };
         }
         front_number(rest)
     }
 
-    // Takes the next item if it is complete at the start of the bytes and no byte of it is held,
-    // else one byte of it. Returns how many bytes were taken, and whether the blob ends with them.
-    // Rows, spans, an `Err` and memory are as with `feed`.
+    // Takes the next item if it is complete at the start of the bytes and no byte of it is held.
+    // Refuses a number that is too long, and takes one byte of any other item. Returns how many
+    // bytes were taken, and whether the blob ends with them. Rows, spans, an `Err` and memory are as
+    // with `feed`.
     #[inline(always)]
     fn take_item<S: SpanNotes>(
         &mut self,
@@ -77,8 +81,12 @@ impl Engine {
         ensures answer { IsAnswer S.holds self.old flat.old spans.old rest.now result self.new flat.new spans.new }
     {
         if self.held.len() == 0 {
-            if let Some((number, width)) = self.front_item(rest) {
-                return Ok((width, self.take(flat, spans, number, width as u64)?));
+            match self.front_item(rest) {
+                FrontNumber::Complete { number, width } => {
+                    return Ok((width, self.take(flat, spans, number, width as u64)?));
+                }
+                FrontNumber::TooLong => return Err(Stop::Refused(BlobReason::BadVarint)),
+                FrontNumber::Cut => {}
             }
         }
         Ok((1, self.take_byte(flat, spans, rest[0])?))

@@ -9,8 +9,8 @@ loop-count-init c = record { few = omega arith; sides = sides_none c.args.bytes.
 pub loop-count-preserved : goal.loop-count-preserved
 loop-count-preserved c = record {
   few = omega arith;
-  sides = sides_more c.loop-count.count c.args.bytes.now c.loop-count.used c.in_ok-width.field-0-0
-      c.in_ok-width.width c.loop-count.invariant.sides c.in_ok-width.ensures;
+  sides = sides_more c.loop-count.count c.args.bytes.now c.loop-count.used _
+      c.in-Complete.width c.loop-count.invariant.sides c.in-Complete.ensures;
 }
 
 pub returns : goal.returns

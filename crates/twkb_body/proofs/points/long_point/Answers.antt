@@ -13,9 +13,10 @@ returns c =
     let y_fits : SFits w64 c.unzigzag-2.result = search rules in
     let from = c.args.from in
     let beside = c.in_ok-beside.beside in
-    two_numbers from beside c.in_ok-to.to c.args.bytes.now c.in_ok-x.x c.in_ok-y.y c.in_ok-x.width
-    c.in_ok-y.height c.unzigzag.result c.unzigzag-2.result c.in_ok-x.ensures c.in_ok-y.ensures
-    c.unzigzag.ensures c.unzigzag-2.ensures
+    let x = c.in-Complete in
+    let y = c.in-Complete-long_number in
+    two_numbers from beside c.in_ok-to.to c.args.bytes.now x.x y.y x.width y.height
+    c.unzigzag.result c.unzigzag-2.result x.ensures y.ensures c.unzigzag.ensures c.unzigzag-2.ensures
     (subst (λ d. in_range (from.x +ℤ d) ≡ true) (to_z-of_z w64 c.unzigzag.result x_fits)
     (passes _ (c.in_ok-beside.ensures.range.0 refl)))
     (c.in_ok-beside.ensures.moved ∙ ap (λ d. point_at (from.x +ℤ d) from.y) (to_z-of_z w64 c.unzigzag.result x_fits))

@@ -1,7 +1,8 @@
 use Rattle.std.proofs.Common.{rules, ◌≡◌, ◌∙◌, ◌++◌, ◌∷◌, [], ap, refl, sym, subst, arith, inr, append-nil}
 use Rattle.std.proofs.Math.Logic.{∥∥₁_map}
-use Rattle.twkb_num.proofs.VarintLemmas.{varint_is, open_varint_is, too_long_is}
+use Rattle.twkb_num.proofs.VarintLemmas.{varint_is}
 use Rattle.twkb_grammar.specs.Reading.{Gives}
+use Rattle.twkb_body.proofs.FrontNumbers.{refused_is_long}
 use Rattle.twkb_engine.specs.Fits.{IsByte}
 use Rattle.twkb_engine.specs.Standing.{held_in}
 use Rattle.twkb_engine.proofs.Steps.{next_role, byte_written, all_whole, stands_else}
@@ -56,9 +57,7 @@ returns-in-More-clause-fed g c = λ bs s.
 
 pub returns-in-TooLong-clause-fed : goal.returns-in-TooLong-clause-fed
 returns-in-TooLong-clause-fed g c = λ bs s.
-    let d = c.args.self.now in
-    let begun = (open_varint_is (held_in d)).1 c.len.ensures.held in
-    let long = (too_long_is (held_in d) c.args.byte begun c.ranges.byte.fits).0 c.in-TooLong.ensures.answer in
-    long_refused bs c.args.byte c.args.flat.now d s
-    (λ b. not_both c.is_byte.result c.if-is_byte.false (c.is_byte.ensures.1 b)) begun
-    long.0 long.1
+    long_refused bs (c.args.byte ∷ []) 1 c.args.flat.now c.args.self.now s
+    (λ b. not_both c.is_byte.result c.if-is_byte.false (c.is_byte.ensures.1 b)) (omega arith) (omega arith)
+    (λ more. refused_is_long (held_in c.args.self.now) c.args.byte more c.len.ensures.held
+    c.ranges.byte.fits c.in-TooLong.ensures.answer)
