@@ -1,4 +1,4 @@
-//! Numbers that are complete at the start of bytes.
+//! Numbers at the start of bytes.
 ghost use Rattle.std.specs.Prelude.{◌<◌, ◌^◌, IfSome};
 ghost use Rattle.twkb_body.specs.Front.{NumberInFront, IsFront};
 
@@ -60,6 +60,7 @@ pub(crate) fn long_number(bytes: &[u8]) -> FrontNumber
     twkb_num::laws::varints();
     let mut partial = Partial::<Leb128>::new();
     for (index, byte) in bytes.iter().enumerate() {
+        // learnt: what it holds begins a number
         let _learnt = partial.len();
         match partial.step(*byte) {
             Step::More => {}
@@ -73,6 +74,7 @@ pub(crate) fn long_number(bytes: &[u8]) -> FrontNumber
             Step::BadUnit => return FrontNumber::TooLong,
         }
     }
+    // learnt: what it holds begins a number
     let _learnt = partial.len();
     FrontNumber::Cut
 }

@@ -4,7 +4,7 @@ use Rattle.std.proofs.Common.{◌≤◌, List, [], ◌∷◌, ◌++◌, length, 
 use Rattle.std.proofs.Common.{false, Bool}
 use Rattle.std.specs.Result.{IsErrAnd}
 use Rattle.std.proofs.lemmas.Result.{err_from_is_err_and}
-use Rattle.std.proofs.lemmas.List.{length-take-le, length-drop, take_rest, take-take}
+use Rattle.std.proofs.lemmas.List.{length-take-le, length-drop, nil_from_length, take_rest, take-take}
 use Rattle.std.proofs.Math.Logic.{∥∥₁_elim}
 use Rattle.std.proofs.Props.{props}
 use Rattle.std.proofs.Math.Seq.{take-suc}
@@ -97,6 +97,10 @@ none_fed {holds = holds} {d = d} {rs = rs} {old = old} = record {
   fed = λ bs s. (let both = subst (λ l. (t : StandsAt l rs d) × (holds old (notes_at s) → holds old (notes_at t)))
       (sym (append-nil bs)) (s, λ known. known) in (omega arith, refl, both.0, both.1));
 }
+
+-- no byte is held
+pub alone : (d : Engine) {held : ℕ} → held ≡ length (held_in d) → held ≤ 0 → held_in d ≡ []
+alone d count none = nil_from_length (held_in d) (omega (arith, count, none))
 
 -- the next number is too long
 pub long_fed : {S : Type 0} {holds : S → Notes → Type 0} {d : Engine} {rs : List Row} {old : S}

@@ -1,29 +1,22 @@
-use Rattle.std.proofs.Common.{◌≡◌, ℕ, [], length, Ok, Err, sym, ◌∙◌}
-use Rattle.std.proofs.lemmas.List.{nil_from_length}
-use Rattle.twkb_engine.specs.Standing.{held_in}
-use Rattle.twkb_engine.specs.declared.engine.Engine.{Engine}
-use Rattle.twkb_engine.proofs.Answering.{front_fed, first_fed, long_fed, same_stop}
+use Rattle.std.proofs.Common.{Ok, Err, arith}
+use Rattle.twkb_engine.proofs.Answering.{alone, front_fed, first_fed, long_fed, same_stop}
 use Rattle.twkb_engine.proofs.engine.Engine.take_item.Goals as goal
-
--- no byte is held
-alone : (d : Engine) {held : ℕ} → held ≡ length (held_in d) → held ≡ 0 → held_in d ≡ []
-alone d count none = nil_from_length (held_in d) (sym count ∙ none)
 
 pub returns-in_err-take-in-Complete-clause-answer : goal.returns-in_err-take-in-Complete-clause-answer
 returns-in_err-take-in-Complete-clause-answer g c =
     let t = c.in_err-take-in-Complete.ensures in
     same_stop c.from_residual.result c.from_residual.ensures.1 (λ y same. same)
-    (front_fed (Err c.in_err-take-in-Complete.field-0.0) (alone c.args.self.now c.len.ensures.count c.if-len-eq0.true)
+    (front_fed (Err c.in_err-take-in-Complete.field-0.0) (alone c.args.self.now c.len.ensures.count (omega (arith, c.if-len-eq0.true)))
     c.in-Complete.ensures t.kept t.taken t.noted t.placed)
 
 pub returns-in-Complete-clause-answer : goal.returns-in-Complete-clause-answer
 returns-in-Complete-clause-answer g c =
     let t = c.in_ok-take-in-Complete.ensures in
-    front_fed (Ok c.in_ok-take-in-Complete.field-0) (alone c.args.self.now c.len.ensures.count c.if-len-eq0.true)
+    front_fed (Ok c.in_ok-take-in-Complete.field-0) (alone c.args.self.now c.len.ensures.count (omega (arith, c.if-len-eq0.true)))
     c.in-Complete.ensures t.kept t.taken t.noted t.placed
 
 pub returns-in-TooLong-clause-answer : goal.returns-in-TooLong-clause-answer
-returns-in-TooLong-clause-answer g c = long_fed (alone c.args.self.now c.len.ensures.count c.if-len-eq0.true)
+returns-in-TooLong-clause-answer g c = long_fed (alone c.args.self.now c.len.ensures.count (omega (arith, c.if-len-eq0.true)))
     c.in-TooLong.ensures.0 c.in-TooLong.ensures.1
 
 pub returns-in_err-take_byte-clause-answer : goal.returns-in_err-take_byte-clause-answer

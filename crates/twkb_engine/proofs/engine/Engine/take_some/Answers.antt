@@ -1,13 +1,12 @@
 use Rattle.std.proofs.Common.{◌≡◌, ◌∙◌, ◌≤◌, ℕ, Bool, false, List, [], length, Ok, Err, refl, sym, ap, subst, arith}
 use Rattle.std.proofs.lemmas.Bool.{ne_eqb}
-use Rattle.std.proofs.lemmas.List.{nil_from_length}
 use Rattle.twkb_tree.specs.Rows.{Row}
 use Rattle.twkb_flat.specs.declared.stop.Stop.TheVariants.{Refused}
 use Rattle.twkb_grammar.specs.Noting.{Notes}
 use Rattle.twkb_engine.specs.Standing.{IsAnswer, held_in}
 use Rattle.twkb_engine.specs.declared.blob_reason.BlobReason.TheVariants.{SizeMismatch}
 use Rattle.twkb_engine.specs.declared.engine.Engine.{Engine}
-use Rattle.twkb_engine.proofs.Answering.{none_fed, led_fed, stops_fed, many_fed, many_stopped, same_stop, ready_still}
+use Rattle.twkb_engine.proofs.Answering.{alone, none_fed, led_fed, stops_fed, many_fed, many_stopped, same_stop, ready_still}
 use Rattle.twkb_engine.proofs.Answering.{answer_next}
 use Rattle.twkb_engine.proofs.Many.{list_stopped, list_goes_on}
 use Rattle.twkb_engine.proofs.Points.{line_fed}
@@ -31,10 +30,6 @@ named {holds = holds} {d = d} {e = e} {f = f} {rs = rs} {more = more} {last = la
     (subst (λ x. IsAnswer holds d rs old piece (Ok t) f x new) (sym rows)
     (subst (λ x. IsAnswer holds d rs old piece (Ok t) f last x) (sym spans)
     (subst (λ x. IsAnswer holds d rs old piece (Ok x) f last w) (sym taken) a)))
-
--- no byte is held
-alone : (d : Engine) {held : ℕ} → held ≡ length (held_in d) → held ≤ 0 → held_in d ≡ []
-alone d count none = nil_from_length (held_in d) (omega (arith, count, none))
 
 pub returns-in_err-take_header-in-TypeByte-clause-answer :
     goal.returns-in_err-take_header-in-TypeByte-clause-answer
