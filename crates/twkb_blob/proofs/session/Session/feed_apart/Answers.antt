@@ -28,7 +28,8 @@ invariant_of-self c =
       | then-self-2 w ↦ rw (w.self-is, w.if-self-2.true) w.clear.ensures
       | else-self-2 w ↦ rw (w.self-is, w.if-self-2.false) refl
     ]))
-    (omega (arith, c.offset.ensures, c.if-offset.true, c.held-learnt.ensures.held, c.held-learnt.ensures.few)) in
+    (let held = c.held-learnt.ensures in
+    omega (arith, c.offset.ensures, c.if-offset.true, held.held, held.few)) in
     record { taken_few = λ live. f.few; alive = λ live. f.alive }
 
 pub returns-in-Ok-clause-fed : goal.returns-in-Ok-clause-fed
@@ -40,7 +41,9 @@ returns-in-Ok-clause-fed c = λ bytes gs s.
       | then-self-2 w ↦ rw (w.self-is, w.if-self-2.true) w.clear.ensures
       | else-self-2 w ↦ rw (w.self-is, w.if-self-2.false) refl
     ]))
-    (omega (arith, c.offset.ensures, c.if-offset.true, c.held-learnt.ensures.held, c.held-learnt.ensures.few))) c.if-self.false refl
+    (let held = c.held-learnt.ensures in
+    omega (arith, c.offset.ensures, c.if-offset.true, held.held, held.few)))
+    c.if-self.false refl
     (elim c.if-self-2.branch [
       | then-self-2 w ↦ rw (w.self-is, w.if-self-2.true) w.clear.ensures
       | else-self-2 w ↦ rw (w.self-is, w.if-self-2.false) refl

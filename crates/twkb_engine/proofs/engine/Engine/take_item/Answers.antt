@@ -5,19 +5,20 @@ use Rattle.twkb_engine.proofs.engine.Engine.take_item.Goals as goal
 pub returns-in_err-take-in-Complete-clause-answer : goal.returns-in_err-take-in-Complete-clause-answer
 returns-in_err-take-in-Complete-clause-answer g c =
     let t = c.in_err-take-in-Complete.ensures in
+    let none = alone c.args.self.now c.len.ensures.count (omega (arith, c.if-len-eq0.true)) in
     same_stop c.from_residual.result c.from_residual.ensures.1 (λ y same. same)
-    (front_fed (Err c.in_err-take-in-Complete.field-0.0) (alone c.args.self.now c.len.ensures.count (omega (arith, c.if-len-eq0.true)))
-    c.in-Complete.ensures t.kept t.taken t.noted t.placed)
+    (front_fed (Err c.in_err-take-in-Complete.field-0.0) none c.in-Complete.ensures t.kept t.taken t.noted t.placed)
 
 pub returns-in-Complete-clause-answer : goal.returns-in-Complete-clause-answer
 returns-in-Complete-clause-answer g c =
     let t = c.in_ok-take-in-Complete.ensures in
-    front_fed (Ok c.in_ok-take-in-Complete.field-0) (alone c.args.self.now c.len.ensures.count (omega (arith, c.if-len-eq0.true)))
-    c.in-Complete.ensures t.kept t.taken t.noted t.placed
+    let none = alone c.args.self.now c.len.ensures.count (omega (arith, c.if-len-eq0.true)) in
+    front_fed (Ok c.in_ok-take-in-Complete.field-0) none c.in-Complete.ensures t.kept t.taken t.noted t.placed
 
 pub returns-in-TooLong-clause-answer : goal.returns-in-TooLong-clause-answer
-returns-in-TooLong-clause-answer g c = long_fed (alone c.args.self.now c.len.ensures.count (omega (arith, c.if-len-eq0.true)))
-    c.in-TooLong.ensures.0 c.in-TooLong.ensures.1
+returns-in-TooLong-clause-answer g c =
+    let none = alone c.args.self.now c.len.ensures.count (omega (arith, c.if-len-eq0.true)) in
+    long_fed none c.in-TooLong.ensures.0 c.in-TooLong.ensures.1
 
 pub returns-in_err-take_byte-clause-answer : goal.returns-in_err-take_byte-clause-answer
 returns-in_err-take_byte-clause-answer g c =

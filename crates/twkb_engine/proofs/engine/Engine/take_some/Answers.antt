@@ -6,8 +6,8 @@ use Rattle.twkb_grammar.specs.Noting.{Notes}
 use Rattle.twkb_engine.specs.Standing.{IsAnswer, held_in}
 use Rattle.twkb_engine.specs.declared.blob_reason.BlobReason.TheVariants.{SizeMismatch}
 use Rattle.twkb_engine.specs.declared.engine.Engine.{Engine}
-use Rattle.twkb_engine.proofs.Answering.{alone, none_fed, led_fed, stops_fed, many_fed, many_stopped, same_stop, ready_still}
-use Rattle.twkb_engine.proofs.Answering.{answer_next}
+use Rattle.twkb_engine.proofs.Answering.{none_fed, led_fed, stops_fed, many_fed, many_stopped, same_stop, ready_still}
+use Rattle.twkb_engine.proofs.Answering.{alone, answer_next}
 use Rattle.twkb_engine.proofs.Many.{list_stopped, list_goes_on}
 use Rattle.twkb_engine.proofs.Points.{line_fed}
 use Rattle.twkb_engine.proofs.engine.Engine.take_some.Given.{Over}
