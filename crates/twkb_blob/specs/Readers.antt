@@ -163,7 +163,7 @@ IsNextFlat limits old new (Ok true) rs = (g : Tree) × Makes limits [] old new g
 IsNextFlat limits old new (Ok false) rs = IsNext limits old new (Ok None)
 IsNextFlat limits old new (Err why) rs = IsNext limits old new (Err why)
 
--- the geometry that has these rows, which keeps the largest limits; or no memory for it
+-- the geometry that has these rows and keeps the largest limits; or no memory for it
 abbrev pub IsTreeOf : List Row → Result Tree BlobFault → Type 0
 IsTreeOf rs (Ok g) = (rows 0 g ≡ rs) × IsValid largest_limits g
 IsTreeOf rs (Err why) = why ≡ fault.Memory

@@ -50,7 +50,7 @@ impl<'a, R: Read> Reader<'a, R> {
 
     /// Reads the next geometry, or returns `None` at the input's end. The blob of the geometry
     /// leaves the input, and no further byte does. An `Err` is want of memory, a fault of the
-    /// input, as a failed read or more than 2^62 bytes, or the first fault of a blob that is
+    /// input, such as a failed read or more than 2^62 bytes, or the first fault of a blob that is
     /// refused or cut. After an `Err` each call returns `Spent`, and after the end each call
     /// returns `None`; neither reads. It takes memory for the geometry, and anew in each call for
     /// rows, points, ids and open collections, but none for what a count announces before it comes.
@@ -82,8 +82,7 @@ impl<'a, R: Read> Reader<'a, R> {
     }
 
     /// Reads the next geometry as `next` does, and returns it with the spans of its headers, whose
-    /// offsets count from where the input began. It takes memory as `next` does, and for one span
-    /// for each header.
+    /// offsets count from where the input began. It takes memory as `next` does, and for the spans.
     pub fn next_located(&mut self, alloc: Global) -> Result<Option<Located>, BlobFault>
         ensures shared { ReadsNext None self.old self.new result }
         ensures next { is_spent self.old ≡ false → has_ended self.old ≡ false

@@ -19,7 +19,7 @@ use twkb_tree::{Geometry, Limits};
 // returns how many bytes were taken, and whether a blob ends with them. Rows, spans and memory are
 // as with `Engine::feed`. An `Err` is want of memory, a refusal with its offset in the stream, or
 // `TooLong`: the piece goes past 2^62 bytes of the stream, and no blob ends and nothing is refused
-// in the bytes up to there, which are fed.
+// in the bytes up to there. After an `Err` the engine cannot be fed further.
 #[inline(always)]
 fn feed_piece<S: SpanNotes>(
     engine: &mut Engine,
@@ -110,8 +110,9 @@ impl Session {
     }
 
     // Builds the geometry of the rows, of which there is one at least. Takes memory; if memory is
-    // refused, returns `Memory`, and the session is spent and has no rows. A function of its own: if
-    // its variables were those of `feed`, they would be cleared in each call.
+    // refused, returns `Memory`, and the session is spent and has no rows. It is a function of its
+    // own, although it is inlined: if its code were written in `feed`, each call of `feed` would
+    // first clear the local variables of that code.
     #[inline(always)]
     fn tree(&mut self) -> Result<Geometry, BlobFault>
         requires live { self.old.spent ≡ false }
@@ -149,8 +150,9 @@ impl Session {
 
     // Takes bytes as `feed_flat` does, and returns how many; `is_whole` then says whether a
     // geometry ends with them. It is not inlined, and returns one number, which stays in a
-    // register. A piece of one byte has a step and an end of its own: with one end for both ways it
-    // takes 3 in 100 more instructions.
+    // register. A piece of one byte goes to `take_byte`, unless the stream is within 16 bytes of
+    // 2^62, and has a return of its own: with one return for both ways it takes 3 in 100 more
+    // instructions.
     #[inline(never)]
     fn feed_apart(&mut self, piece: &[u8]) -> Result<usize, BlobFault>
         ensures fed { (bytes : List ℕ) (gs : List Tree) → Stands bytes gs self.old

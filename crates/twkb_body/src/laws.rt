@@ -55,9 +55,11 @@ pub fn valid()
 
 /// What holds of a reader that keeps an outline and rows: at the start, after an item, if an item
 /// is refused, after the ends of geometries, at a blob's end, and if bytes are missing or a number
-/// is too long. The bytes read begin a blob, the rows are those of a valid geometry, and no more
-/// collections are open than the limits allow. A row that an item begins continues the rows before
-/// it, and a point that is added to an existing row goes into that of a line or ring.
+/// is too long. The bytes read begin a blob, and the sums count them. The rows are those of a valid
+/// geometry, or there are none. The open lists of a body, and the value that is expected in them,
+/// are those of its form. No more collections are open than the limits allow. A row that an item
+/// begins continues the rows before it, and a point that is added to an existing row goes into that
+/// of a line or ring.
 pub fn reading()
     ensures starts { (limits : Allowance) → IsAllowance limits → Outlined limits [] nothing ([], OnHeader) [] }
     ensures item { (limits : Allowance) (bytes : List ℕ) (e : Sums) (o : Outline) (rs : List Row)

@@ -11,7 +11,7 @@ pub enum FrontNumber {
     Complete { number: u64, width: usize },
     /// The bytes end before the varint does.
     Cut,
-    /// The varint breaks the profile: at most ten bytes, and a number below 2^64.
+    /// The varint has more than ten bytes, or its number is 2^64 or above (profile).
     TooLong,
 }
 

@@ -17,7 +17,7 @@ pub(crate) trait BlobText {
     // What is written before the first blob, and for each blob.
     ghost layout: { Layout };
 
-    // The text that is written before the first blob. Takes no memory.
+    // The text that is written before the first blob; it may be empty. Takes no memory.
     fn first_line() -> &'static [u8]
         ensures text { result.now ≡ layout.first };
 

@@ -69,11 +69,11 @@ pub(crate) fn send_table<R: Read, W: Write>(
     Err(Cause::TooLong)
 }
 
-// Fast path: sends the geometries that come next as long as they are known to be points that are
-// not empty, and adds them and their work to `sent`. An `Err` is as with `send_table`. Takes memory
-// as `TableReader::next_point` does. Out of line, and a loop of its own: inlined, it adds 1 in 100
-// to the instructions of other geometries; a call for each point adds 150 instructions to each
-// point.
+// Fast path: sends the geometries that come next, in a style, as long as they are known to be
+// points that are not empty, and adds them and their work to `sent`. An `Err` is as with
+// `send_table`. Takes memory as `TableReader::next_point` does. Out of line, and a loop of its own:
+// inlined, it adds 1 in 100 to the instructions of other geometries; a call for each point adds 150
+// instructions to each point.
 #[inline(never)]
 fn send_points<R: Read, W: Write>(
     table: &mut TableReader<'_, R>,

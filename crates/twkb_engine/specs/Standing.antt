@@ -86,7 +86,7 @@ pub record SaysNext (d : Engine) (bytes : List ℕ) (n count : ℕ) : Type 0 whe
   pub fits : IsByte d.next → (n < 256) × (count ≡ 1)
   pub gives : (r : Role) → IsNext r d → Gives r n (take count bytes)
 
--- the next item at the start of the bytes is complete; or it is a number that is cut or too long
+-- the next item at the start of the bytes is complete, or it is a number that is cut or too long, as the answer says
 abbrev pub IsFrontItem : Engine → List ℕ → FrontNumber → Type 0
 IsFrontItem d bytes (Complete n count) = SaysNext d bytes n count
 IsFrontItem d bytes Cut = (IsByte d.next → ⊥) × IsCut bytes

@@ -47,8 +47,8 @@ impl Engine {
         }
     }
 
-    // Reads the next item at the start of the bytes. An item that is a byte is a number of one byte,
-    // always complete.
+    // Reads the next item at the start of the bytes, and takes nothing. An item that is a byte is
+    // always complete; its value is returned as the number, with a width of 1.
     #[inline(always)]
     fn front_item(&self, rest: &[u8]) -> FrontNumber
         requires some { 0 < length rest.now }
