@@ -14,7 +14,6 @@ use Rattle.twkb_grammar.specs.Fault.{FirstFault, Reason, StreamFault}
 use Rattle.twkb_grammar.specs.Noting.{Notes}
 use Rattle.twkb_grammar.proofs.Streams.{behind_stream, stream-append}
 use Rattle.twkb_body.specs.JudgedParts.{PartIn}
-use Rattle.twkb_engine.specs.State.{allowance_of}
 use Rattle.twkb_engine.specs.Standing.{StandsAt, IsAlive, count_of}
 use Rattle.twkb_engine.proofs.Feeds.{count_is}
 use Rattle.twkb_engine.proofs.RootPoints.{blob_judged}
