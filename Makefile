@@ -1,6 +1,7 @@
 # make demo              the main job on an example: builds the command, and runs the first lines of README.md with it
 # make test              all tests: the gate, and then the parts named below on what it built
 # make check             the short round
+# make lint              linters over what is beside the crates, and what is too long in them; needs no kit
 # make build             the command into bin/
 # make dist              archive, Debian package and wheel for each processor (64-bit ARM if its compiler is there), and the
 #                        npm archive, into dist/
@@ -15,6 +16,8 @@
 # make arm64-test        these under qemu
 # make wasm              the library for browsers and Node into js/, with its JavaScript
 # make wasm-test         its tests in Node and in browsers, if they are installed
+# make databases         the extensions for SQLite and PostgreSQL into out/, if the headers of these are there
+# make databases-test    the extensions: vectors, random cases, refused growths, hostile values, in servers of their own
 # make lib-test          the examples in C, Python and Go (if installed) over it; in C under valgrind, if installed
 # make lib-bench         times of calls of the library and of the package for Python
 # make wheel             the package for Python with the shared library, into dist/
@@ -26,7 +29,7 @@
 # make fuzz-library      the library and the package for Python likewise: arrays of rows and points, checks of tables
 # make bench             times and memory, compared with a plain program; BENCH has words for bench/run.sh
 # make clean             removes what was built
-.PHONY: test check build lib static arm64 arm64-test wasm wasm-test lib-test lib-bench wheel python-test demo bench smoke completions-test docs-test recipes hostile fuzz fuzz-library dist dist-test install uninstall clean
+.PHONY: test check lint build lib databases databases-test static arm64 arm64-test wasm wasm-test lib-test lib-bench wheel python-test demo bench smoke completions-test docs-test recipes hostile fuzz fuzz-library dist dist-test install uninstall clean
 
 PREFIX ?= /usr/local
 DESTDIR ?=
@@ -54,6 +57,9 @@ test:
 check:
 	scripts/check.sh
 
+lint:
+	scripts/lint.sh
+
 build: bin/polytwkb
 
 bin/polytwkb: $(SOURCES)
@@ -75,6 +81,36 @@ out/libpolytwkb.a: $(SOURCES)
 	$(CC) -shared -o $*/$(REAL_NAME) -Wl,-soname,$(SONAME) -Wl,--version-script=include/polytwkb.map -Wl,--whole-archive $< -Wl,--no-whole-archive
 	ln -s $(REAL_NAME) $*/$(SONAME)
 	ln -s $(SONAME) $@
+
+# The extensions, each one file over the library's archive. In their folders are those of a version of the database.
+SQL_SOURCES := $(wildcard extensions/shared/*.h) include/polytwkb.h
+SQL_FLAGS := -O2 -Wall -Wextra -Werror -fPIC -shared -Iinclude -Iextensions/shared -Wl,-z,relro,-z,now
+PG_CONFIG ?= pg_config
+PG_MAJOR = $(shell $(PG_CONFIG) --version 2> /dev/null | sed 's/^PostgreSQL \([0-9]*\).*/\1/')
+SQLITE_EXTENSION := out/mod_polytwkb.so
+PG_EXTENSION = out/postgresql/$(PG_MAJOR)
+HAS_SQLITE = $(wildcard /usr/include/sqlite3ext.h)
+HAS_POSTGRESQL = $(wildcard $(shell $(PG_CONFIG) --includedir-server 2> /dev/null)/postgres.h)
+
+databases:
+	@if [ -n "$(HAS_SQLITE)" ]; then $(MAKE) -s $(SQLITE_EXTENSION); else echo "left out: SQLite, as libsqlite3-dev is not there"; fi
+	@if [ -n "$(HAS_POSTGRESQL)" ]; then $(MAKE) -s $(PG_EXTENSION)/polytwkb.so; else echo "left out: PostgreSQL, as postgresql-server-dev is not there"; fi
+
+out/mod_polytwkb.so: extensions/sqlite/mod_polytwkb.c extensions/sqlite/tables.h extensions/sqlite/mod_polytwkb.map $(SQL_SOURCES) out/libpolytwkb.a
+	$(CC) -std=c11 $(SQL_FLAGS) -Wl,--version-script=extensions/sqlite/mod_polytwkb.map -o $@ $< out/libpolytwkb.a
+	@echo "$@ is built"
+
+# With it what CREATE EXTENSION reads.
+out/postgresql/%/polytwkb.so: $(wildcard extensions/postgresql/polytwkb.*) $(SQL_SOURCES) out/libpolytwkb.a
+	rm -rf out/postgresql/$*
+	mkdir -p out/postgresql/$*
+	$(CC) -std=gnu11 $(SQL_FLAGS) -isystem "$$($(PG_CONFIG) --includedir-server)" -Wl,--version-script=extensions/postgresql/polytwkb.map -o $@ extensions/postgresql/polytwkb.c out/libpolytwkb.a
+	sed 's/@VERSION@/$(VERSION)/' extensions/postgresql/polytwkb.control.in > $(@D)/polytwkb.control
+	cp extensions/postgresql/polytwkb.sql $(@D)/polytwkb--$(VERSION).sql
+	@echo "$@ is built"
+
+databases-test: build lib databases
+	scripts/databases_test.sh $(if $(filter file,$(origin CASES)),20000,$(CASES)) $(SEED)
 
 # The program linked once more, with the C library in it: it runs on any Linux of its processor.
 static: out/static/polytwkb
@@ -141,6 +177,8 @@ out/times: bench/library/times.c include/polytwkb.h out/libpolytwkb.a
 lib-bench: out/times out/libpolytwkb.so
 	out/times
 	POLYTWKB_LIBRARY=out/libpolytwkb.so PYTHONPATH=python python3 -B bench/library/times.py
+	python=python3; $$python -c 'import numpy, shapely' 2> /dev/null || python=/usr/bin/python3; \
+	POLYTWKB_LIBRARY=out/libpolytwkb.so PYTHONPATH=python $$python -B -W ignore bench/library/columns.py
 
 lib-test: lib out/convert out/convert_shared out/arrays
 	grep -qx '#define POLYTWKB_VERSION "$(VERSION)"' include/polytwkb.h || { echo "the header is not of version $(VERSION)" >&2; exit 1; }
@@ -174,7 +212,7 @@ hostile: build bin/refuse.so bin/growths bin/tests_middle bin/tests_top
 	tests/hostile/each_failing.py bin/polytwkb bin/refuse.so
 	tests/hostile/sizes.py bin/polytwkb 64
 	tests/hostile/sizes.py bin/polytwkb 1024
-	tests/hostile/growths.py bin/growths bin/refuse.so
+	tests/hostile/growths.py bin/growths bin/refuse.so bin/polytwkb
 	tests/hostile/growths_of_tests.py bin/refuse.so bin/tests_middle bin/tests_top
 
 CASES ?= 100000
@@ -216,7 +254,7 @@ HEADER_FILE := $(INCLUDEDIR)/polytwkb.h
 # Pages that are installed, beside the folders of examples/ that they name. A link to what is not installed becomes its text.
 PAGES := USING RECIPES FORMATS
 EXAMPLES := $(notdir $(wildcard examples/*))
-LINKS_OUT := s!\[([^]]*)\]\((\.\./(README|python|js|crates|tests)|PERF)[^)]*\)!\1!g
+LINKS_OUT := s!\[([^]]*)\]\((\.\./(README|python|js|extensions|crates|tests)|PERF)[^)]*\)!\1!g
 
 # The program that is installed, and the folder of the libraries.
 PROGRAM ?= bin/polytwkb
@@ -246,7 +284,7 @@ uninstall:
 	rm -rf '$(DESTDIR)$(DOC_DIR)'
 
 # Built files for users without the kit.
-dist: build lib static wasm
+dist: build lib static wasm databases
 	scripts/dist.sh dist
 	@if command -v $(ARM64_CC) > /dev/null; then $(MAKE) -s arm64 && scripts/dist.sh dist arm64; else echo "left out of dist/: 64-bit ARM, as $(ARM64_CC) is not there"; fi
 

@@ -5,6 +5,8 @@ import subprocess
 import sys
 import time
 
+from quiet import BUSY, is_quiet
+
 HERE = os.path.dirname(os.path.abspath(__file__))
 TURNS = max(7, int(os.environ.get("TURNS", "11")))
 
@@ -27,24 +29,39 @@ def run(checkout, crate, words, given):
         return time.monotonic() - begun, done.stdout
 
 
-def main(old, new, seed="1"):
-    old, new = os.path.abspath(old), os.path.abspath(new)
+def by_turns(checkouts, name, crate, words, given):
+    """The seconds of each checkout's runs, which must have the same output."""
+    seconds = {checkout: [] for checkout in checkouts}
+    outputs = set()
+    for turn in range(TURNS):
+        for checkout in (checkouts, checkouts[::-1])[turn % 2]:
+            taken, output = run(checkout, crate, words, given)
+            seconds[checkout].append(taken)
+            outputs.add(output)
+        if len(outputs) > 1:
+            sys.exit(f"{name}: the outputs differ: {outputs}")
+    return [seconds[checkout] for checkout in checkouts]
+
+
+def main(busy, old, new, seed="1"):
+    checkouts = [os.path.abspath(old), os.path.abspath(new)]
+    disturbed = []
     print(f"| {'Workload':<10} | {'start, s':>8} | {'now, s':>8} | start over now |")
     print("|---|---|---|---|")
-    for name, crate, words, given in workloads(seed):
-        seconds = {old: [], new: []}
-        outputs = set()
-        for turn in range(TURNS):
-            for checkout in ((old, new), (new, old))[turn % 2]:
-                taken, output = run(checkout, crate, words, given)
-                seconds[checkout].append(taken)
-                outputs.add(output)
-            if len(outputs) > 1:
-                sys.exit(f"{name}: the outputs differ: {outputs}")
-        before, now = (statistics.median(seconds[it]) for it in (old, new))
-        print(f"| {name:<10} | {before:8.3f} | {now:8.3f} | {before / now:14.2f} |", flush=True)
+    for name, *job in workloads(seed):
+        seconds = by_turns(checkouts, name, *job)
+        before, now = map(statistics.median, seconds)
+        quiet = is_quiet(*seconds)
+        ratio = f"{before / now:.2f}" if quiet or busy else BUSY
+        print(f"| {name:<10} | {before:8.3f} | {now:8.3f} | {ratio:>14} |", flush=True)
+        if not quiet:
+            disturbed.append(name)
+    if disturbed:
+        print(f"the machine was busy: a median is over a tenth above the quickest run in {', '.join(disturbed)}", file=sys.stderr)
+    return 1 if disturbed and not busy else 0
 
 
-if len(sys.argv) not in (3, 4):
-    sys.exit("usage: bench/run OLD NEW [SEED]")
-main(*sys.argv[1:])
+GIVEN = [word for word in sys.argv[1:] if word != "--busy"]
+if len(GIVEN) not in (2, 3):
+    sys.exit("usage: bench/run [--busy] OLD NEW [SEED]")
+sys.exit(main("--busy" in sys.argv, *GIVEN))

@@ -12,6 +12,7 @@ import sys
 import zlib
 
 from picture import picture
+from quiet import BUSY, is_quiet
 
 CASES = {
     "points": "single points",
@@ -27,6 +28,9 @@ PROGRAMS = ("polytwkb", "plain")
 MEGABYTE = 1_000_000
 PIECE = 1 << 20
 
+# A command is timed so many times over until the machine was quiet meanwhile.
+TRIES = 3
+
 
 def parse_words():
     parser = argparse.ArgumentParser(prog="bench/run.sh", description="Measures polytwkb beside a plain program.")
@@ -34,6 +38,8 @@ def parse_words():
     parser.add_argument("--points", type=int, default=10_000_000, help="points of the long line (10000000)")
     parser.add_argument("--rounds", type=int, default=9, help="runs of each program, of which the best counts (9)")
     parser.add_argument("--cases", nargs="+", default=list(CASES), choices=list(CASES), help="only these tables")
+    busy = "print ratios and write pages though the machine was busy: some program's median time was over a tenth above its best"
+    parser.add_argument("--busy", action="store_true", help=busy)
     pages = "write the tables and the picture into docs/, and the lines on size and speed into README.md"
     parser.add_argument("--docs", action="store_true", help=pages)
     for word in ("polytwkb", "plain", "maker", "folder"):
@@ -125,9 +131,15 @@ class Table:
 
 
 def best(tables, word, rounds):
-    """The best seconds of each program on each of the tables; all run in turn, since the speed of a machine changes."""
-    runs = [[table.seconds(word) for table in tables] for _ in range(rounds)]
-    return [{name: min(run[place][name] for run in runs) for name in PROGRAMS} for place in range(len(tables))]
+    """The best seconds of each program on each of the tables, and whether the machine was quiet. All run in turn, since the speed of a
+    machine changes."""
+    for _ in range(TRIES):
+        runs = [[table.seconds(word) for table in tables] for _ in range(rounds)]
+        sides = [{name: [run[place][name] for run in runs] for name in PROGRAMS} for place in range(len(tables))]
+        quiet = is_quiet(*(seconds for side in sides for seconds in side.values()))
+        if quiet:
+            break
+    return [{name: min(seconds) for name, seconds in side.items()} for side in sides], quiet
 
 
 WKB_HEADERS = {"point": 5, "ring": 4}
@@ -160,17 +172,18 @@ def measure(options, case):
     half.check()
     rows = []
     for word in WORDS:
-        seconds, half_seconds = best([whole, half], word, options.rounds)
+        (seconds, half_seconds), quiet = best([whole, half], word, options.rounds)
         rows.append({
             "case": CASES[case].format(long=points_text(options.points)),
             "command": word,
+            "quiet": quiet,
             "seconds": seconds,
             "speed": {name: whole.length[word] / MEGABYTE / seconds[name] for name in PROGRAMS},
             "ratio": seconds["polytwkb"] / seconds["plain"],
             "peak": whole.peak(word),
             "growth": {name: seconds[name] / half_seconds[name] for name in PROGRAMS},
         })
-        print(line_of(rows[-1]), flush=True)
+        print(line_of(rows[-1], options.busy), flush=True)
     sizes = {"case": rows[0]["case"], **whole.sizes()}
     print(sizes_line(sizes), flush=True)
     whole.remove()
@@ -202,10 +215,13 @@ SIZES_HEAD = f"| MB of | {' | '.join(SIZES.values())} |\n|---|{'---|' * len(SIZE
 PICTURE = "![Time of polytwkb over that of the plain program, for each table and command](benchmark.svg)"
 
 
-def line_of(row):
+def line_of(row, busy):
+    """One line, which gives no ratios of a busy machine unless told to."""
     speed, peak, growth = row["speed"], row["peak"], row["growth"]
-    cells = [row["case"], row["command"], f"{speed['polytwkb']:.0f}", f"{speed['plain']:.0f}", f"{row['ratio']:.2f}"]
-    cells += [str(peak["polytwkb"]), str(peak["plain"]), f"{growth['polytwkb']:.2f}", f"{growth['plain']:.2f}"]
+    ratios = [row["ratio"], growth["polytwkb"], growth["plain"]]
+    ratio, *grown = [f"{each:.2f}" if row["quiet"] or busy else BUSY for each in ratios]
+    cells = [row["case"], row["command"], f"{speed['polytwkb']:.0f}", f"{speed['plain']:.0f}", ratio]
+    cells += [str(peak["polytwkb"]), str(peak["plain"]), *grown]
     return "| " + " | ".join(cells) + " |"
 
 
@@ -231,7 +247,7 @@ def speed_text(rows):
         peaks[row["case"]] = max(row["peak"]["polytwkb"], peaks.get(row["case"], 0))
     *usual, (most, case) = sorted((peak, case) for case, peak in peaks.items())
     memory = f"{usual[-1][0] / 1000:.1f} MB of memory; {case} takes {most / 1000:.0f} MB" if usual else f"{most / 1000:.0f} MB of memory"
-    return f"one core packs {pack} MB of table a second and unpacks {unpack}, in {memory}."
+    return f"one core packs {pack} MB of table in a second, and unpacks streams to {unpack} MB of table in a second. It takes {memory}."
 
 
 def size_text(sizes):
@@ -279,6 +295,11 @@ def main():
     print(f"{line}\n\n{HEAD}", flush=True)
     measured = [measure(options, case) for case in options.cases]
     rows, sizes = [row for own, _ in measured for row in own], [own for _, own in measured]
+    disturbed = [f"{row['command']} of {row['case']}" for row in rows if not row["quiet"]]
+    if disturbed:
+        line = f"{line} Other work was beside {', '.join(disturbed)}."
+        if not options.busy:
+            sys.exit(f"the machine was busy, and --busy would give ratios all the same: {', '.join(disturbed)}")
     with open(f"{options.folder}/users.json", "w", encoding="utf-8") as file:
         json.dump({"circumstances": line, "rows": rows, "sizes": sizes}, file, indent=1)
     with open(f"{options.folder}/users.svg", "w", encoding="utf-8") as file:

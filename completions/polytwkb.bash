@@ -2,6 +2,10 @@
 
 _polytwkb() {
   local word=$2 before=$3 command= words=
+  # after a redirection comes the name of a file
+  case $before in
+    *'<' | *'>' | '>|') compopt -o default; COMPREPLY=(); return ;;
+  esac
   [ "$COMP_CWORD" -gt 1 ] && command=${COMP_WORDS[1]}
 
   # bash cuts a word at an equals sign

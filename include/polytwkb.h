@@ -1,21 +1,36 @@
 /*
- * polytwkb: tables of encoded polylines to streams of TWKB blobs and back, from a buffer to a buffer.
+ * polytwkb: geometries as streams of TWKB blobs, as tables of encoded polylines, and as arrays of rows and points; from
+ * a buffer to a buffer.
  *
- * A conversion takes tables or blobs as bytes: points go in and come out as encoded polylines, inside a
- * table. polytwkb_encode and polytwkb_decode make a polyline of points, and points of a polyline. One call
- * converts a whole table or a whole stream, of any number of geometries. Give it many: a call has a price
- * of its own, most of all from another language.
+ *   polytwkb_pack, polytwkb_unpack    a table (CSV) to a stream of blobs, and back
+ *   polytwkb_write, polytwkb_read     arrays of rows and points to a stream of blobs, and back
+ *   polytwkb_show, polytwkb_measure   the headers of a stream; the size of an output
+ *   polytwkb_encode, polytwkb_decode  points to an encoded polyline, and back
+ *   polytwkb_round                    degrees to coordinates
  *
- * The library is proved: what each call writes, and what its report says, is the contract of its
- * function in crates/twkb_c. It keeps nothing between calls, opens no file and prints nothing. It
- * takes memory by malloc, realloc and free, for one geometry at a time, and gives all of it back.
- * Calls in several threads at once do not disturb one another if their outputs are apart. No call may
- * be made from a signal handler.
+ * One call converts a whole table, a whole stream or all rows, of any number of geometries. Give it many: a call has
+ * a price of its own, most of all from another language.
  *
- * Of the caller's side nothing is checked. A buffer has its length of bytes, at most 2^63 - 1. An
- * output does not overlap the input, and no one else reads or writes either while a call runs. In C and
- * C++ a pointer to a buffer of length 0 may be NULL. A binding that calls the symbols of the shared
- * library and does not read this header passes a pointer that is not NULL for such a buffer too.
+ * Coordinates. A coordinate is a whole number of units of 10^-precision, and the precision is that of its geometry,
+ * -8 to 7. If the units are of degrees, x is a longitude and y a latitude: at precision 5 the x of 13.3777 degrees is
+ * 1337770. polytwkb_round makes coordinates of degrees. A coordinate below 2^53 in size is, in degrees, (double)x / 1e5
+ * at precision 5, (double)x / 1e7 at precision 7, (double)x * 1e2 at precision -2.
+ *
+ * The library is proved: what each call writes, and what its report says, is the contract of its function in
+ * crates/twkb_c. It keeps nothing between calls, opens no file and prints nothing. It takes memory by malloc, realloc
+ * and free, for one geometry at a time, and gives all of it back. Calls in several threads at once do not disturb one
+ * another if their outputs are apart. No call may be made from a signal handler.
+ *
+ * Of the caller's side nothing is checked:
+ * - A length counts the items of a buffer: bytes, rows, points or numbers. All of them together have at most 2^63 - 1
+ *   bytes, so SIZE_MAX is the room of no buffer.
+ * - No output overlaps an input or another output. polytwkb_read has two outputs, and polytwkb_round does not round in
+ *   place.
+ * - Rows, points, doubles and 64-bit integers are aligned to 8 bytes.
+ * - While a call runs, no one else writes to its inputs, or reads or writes its outputs.
+ * - A call has 256 KiB of stack left. It takes some 120 kB at most.
+ * - A pointer to a buffer of length 0 may be NULL in C and C++. A binding that calls the symbols of the shared library
+ *   and does not read this header passes a pointer that is not NULL for such a buffer too.
  */
 #ifndef POLYTWKB_H
 #define POLYTWKB_H
@@ -33,13 +48,17 @@
 extern "C" {
 #endif
 
-/* The status of a call. 0, 1, 3 and 4 are those of the command. */
+/*
+ * The status of a call. 0, 1, 3 and 4 are those of the command. POLYTWKB_ARGUMENTS comes before any other. If the
+ * input is refused and the output is too small for what comes before that, polytwkb_encode and polytwkb_decode answer
+ * POLYTWKB_REFUSED, and all others POLYTWKB_TOO_SMALL.
+ */
 #define POLYTWKB_DONE 0u      /* all was converted */
 #define POLYTWKB_REFUSED 1u   /* the input is refused: reason and place say why and where */
-#define POLYTWKB_ARGUMENTS 2u /* a limit, the style, the conversion or the precision is out of range; nothing was done */
+#define POLYTWKB_ARGUMENTS 2u /* a limit, style, conversion or precision is out of range; nothing was done */
 #define POLYTWKB_DEVICE 3u    /* the input could not be read; this has never been seen with a buffer */
 #define POLYTWKB_MEMORY 4u    /* memory was refused */
-#define POLYTWKB_TOO_SMALL 5u /* the output is too small: needed is the size needed */
+#define POLYTWKB_TOO_SMALL 5u /* the output is too small: needed is the size needed; reason and place are 0 */
 
 /* Why a record of a table is refused: place is the record, counted from 1, which is the header. */
 #define POLYTWKB_BAD_HEADER 1u
@@ -82,7 +101,7 @@ extern "C" {
 #define POLYTWKB_TOO_LONG 61u         /* more than 2^62 bytes */
 #define POLYTWKB_TOO_MANY_RECORDS 62u /* 2^32 records */
 
-/* Why the points of polytwkb_write are refused: place is the row, counted from 0. */
+/* Why the points of polytwkb_write are refused: place is the row, from 0. Its other reasons are among 4 to 27. */
 #define POLYTWKB_POINTS_MISSING 71u /* the row has more points than are left in the list */
 #define POLYTWKB_POINTS_LEFT 72u    /* points are left after the last row: place is the number of rows */
 
@@ -101,23 +120,26 @@ extern "C" {
 /* The most that one geometry may have, its members included. */
 typedef struct polytwkb_limits {
     uint32_t nest;   /* collections that a geometry may be in, 0 to 32 */
-    uint32_t nodes;  /* rows, 1 to 2^20 */
+    uint32_t nodes;  /* rows, which are the nodes of a blob, 1 to 2^20 */
     uint32_t points; /* points, 0 to 2^24 */
 } polytwkb_limits;
 
 /* What a call did. */
 typedef struct polytwkb_report {
     uint32_t status;      /* POLYTWKB_DONE to POLYTWKB_TOO_SMALL */
-    uint32_t reason;      /* why the input is refused, 1 to 72; 0 if it is not */
-    uint64_t place;       /* the refused record, from 1, or the offset of the refused item, the refused point of
-                             polytwkb_encode, number of polytwkb_round or row of polytwkb_write, from 0; else 0 */
-    uint64_t text_offset; /* where the polyline of the refused record or of polytwkb_decode is refused, in bytes; else 0 */
-    uint64_t done;        /* geometries whose whole output is in the buffer */
-    uint64_t sent;        /* bytes at the start of the buffer: a prefix of the right output; of
-                             polytwkb_decode points, of polytwkb_round numbers */
-    uint64_t needed;      /* POLYTWKB_TOO_SMALL: bytes of the whole output, more than the buffer has, or 0
-                             if they are not known (no memory); else as many as sent. polytwkb_write says
-                             below what it counts */
+    uint32_t reason;      /* why the input is refused, 1 to 72; 0 with any other status */
+    uint64_t place;       /* what is refused: the record of a table, from 1; the offset of an item of a stream; the
+                             point of polytwkb_encode, the number of polytwkb_round or the row of polytwkb_write,
+                             from 0. With any other status 0 */
+    uint64_t text_offset; /* of a refused polyline, in a table or alone, the refused byte; of polytwkb_write, with
+                             POLYTWKB_POLYLINE_RANGE, the row's first point out of range, from 0; else 0 */
+    uint64_t done;        /* geometries whose whole output is in the buffer; 1 if polytwkb_encode, polytwkb_decode or
+                             polytwkb_round did all, else 0 */
+    uint64_t sent;        /* items at the start of the buffer that were written: bytes, of polytwkb_decode points, of
+                             polytwkb_round numbers. They are a prefix of the right output */
+    uint64_t needed;      /* POLYTWKB_TOO_SMALL: items of the whole output, more than the buffer has; 0 if they are not
+                             known, since memory was refused. With any other status as many as sent. The comments of
+                             polytwkb_measure and polytwkb_write say what theirs is */
 } polytwkb_report;
 
 /* Sixteen collections, 2^20 rows and 2^24 points. */
@@ -136,46 +158,60 @@ polytwkb_report polytwkb_show(const uint8_t *input, size_t input_length, uint8_t
                               polytwkb_limits limits);
 
 /*
- * Converts and keeps nothing of the output: sent is 0, and needed is the length of the whole output,
- * also of an input that is refused; 0 if it is not known. done and the rest are as the
- * conversion would report them. Only packing uses style, but it must be in range.
+ * Converts and keeps nothing of the output. sent is 0. needed is the length of the whole output, also of an input that
+ * is refused; it is 0 if that is not known, as with POLYTWKB_MEMORY. The rest of the report is that of the conversion
+ * into enough room. Only packing uses style, but it must be in range.
  */
 polytwkb_report polytwkb_measure(uint32_t conversion, const uint8_t *input, size_t input_length,
                                  polytwkb_limits limits, uint32_t style);
 
-/* A point of whole numbers: x is the longitude and y the latitude, if the points are on a globe. */
+/* A point, in units of 10^-precision: x is the longitude and y the latitude, if the units are of degrees. */
 typedef struct polytwkb_point {
     int64_t x; /* -2^62 to 2^62 - 1 */
     int64_t y; /* -2^62 to 2^62 - 1 */
 } polytwkb_point;
 
 /*
- * Writes the encoded polyline of points, which has y before x of each, into the room of a text. Status 0:
- * sent is the length of the text, and done is 1. 1: a point is out of range; reason is
- * POLYTWKB_POLYLINE_RANGE, and place the first such point, counted from 0. 4: memory was refused. 5: the
- * room is too small, and needed is the length of the text. But for 0 the room is as it was: no part of
- * the text is written. Takes memory for the points and the text.
+ * Writes the encoded polyline of points, which has y before x of each, into the room of a text.
+ * 0: sent is the length of the text, and done is 1.
+ * 1: a point is out of range, whatever the room is. reason is POLYTWKB_POLYLINE_RANGE, and place the first such point,
+ *    from 0.
+ * 4: memory was refused. needed is 0.
+ * 5: the room is too small. needed is the length of the text.
+ * With any status but 0 the room is as it was. Takes memory for the points and the text.
  */
 polytwkb_report polytwkb_encode(const polytwkb_point *points, size_t count, uint8_t *text, size_t room);
 
 /*
- * Writes the points of an encoded polyline, in the same way; lengths of the output are numbers of points.
- * Status 1: reason is POLYTWKB_POLYLINE_BAD_CHARACTER to POLYTWKB_POLYLINE_TOO_MANY (more than 2^32 - 1
- * points), and text_offset the byte of the text. Takes memory for the points, twice.
+ * Writes the points of an encoded polyline, in the same way; sent, needed and room are numbers of points.
+ * 1: the text is no polyline, whatever the room is. reason is POLYTWKB_POLYLINE_BAD_CHARACTER to
+ *    POLYTWKB_POLYLINE_TOO_MANY (more than 2^32 - 1 points), and text_offset the byte of the text.
+ * Takes memory for the points, twice.
  */
 polytwkb_report polytwkb_decode(const uint8_t *text, size_t length, polytwkb_point *points, size_t room);
 
 /*
  * Rounds numbers, such as degrees, to coordinates in units of 10^-precision; precision is -8 to 7. Each becomes the
- * whole number nearest to it times 10^precision, of two the one farther from 0, with no error of floating point on
- * the way: 0.15 is a little less than that as a double, and 1 at precision 1. Status 0: sent is count. 1: a number
+ * whole number nearest to it times 10^precision, of two the one farther from 0. Up to 10^14 units a double that is the
+ * nearest one to a half counts as that half: 0.15, which is a little less than that as a double, is 2 at precision 1.
+ * Status 2: there is no such precision, and nothing is written. 0: sent is count. 1: a number
  * is not finite, or its coordinate is outside -2^62 to 2^62 - 1; reason is POLYTWKB_POLYLINE_RANGE, place the first
  * such number, counted from 0, and sent as many: the coordinates before it are written. 5: the room is too small,
  * needed is count, and nothing is written. Places after those written stay as they were. Takes no memory.
  */
-polytwkb_report polytwkb_round(const double *numbers, size_t count, int8_t precision, int64_t *units, size_t room);
+polytwkb_report polytwkb_round(const double *numbers, size_t count, int32_t precision, int64_t *units, size_t room);
 
-/* Kinds of rows: the numbers of TWKB and WKB, and one for the rings of polygons. */
+/*
+ * Kinds of rows: the numbers of TWKB and WKB, and one for the rings of polygons. Rows of any kind but a ring are roots
+ * (depth 0) or members of a collection. Below a row, one deeper, stand:
+ *   below a polygon its rings, below a multipoint points, below a multilinestring linestrings, below a multipolygon
+ *   polygons, below a collection its members; below a point, a linestring and a ring nothing.
+ * Points: points, linestrings and rings have them. A point has one, or none if it is empty; below a multipoint it has
+ * one. Other kinds have none of their own.
+ * Precision: roots and members of collections have one, other rows POLYTWKB_NO_PRECISION; the points of a row without
+ * one are in the units of the nearest row above that has one.
+ * Ids: any row may have one but roots and rings; of the rows below one row all have ids, or none.
+ */
 #define POLYTWKB_KIND_POINT 1u
 #define POLYTWKB_KIND_LINESTRING 2u
 #define POLYTWKB_KIND_POLYGON 3u
@@ -189,8 +225,24 @@ polytwkb_report polytwkb_round(const double *numbers, size_t count, int8_t preci
 #define POLYTWKB_NO_PRECISION (-128)
 
 /*
- * A row of a table, with the number of its points in place of their polyline. The rows of a geometry are in
- * preorder, and the points of all rows are in one list, in the order of the rows. All 24 bytes have a meaning.
+ * A row of a table, with the number of its points in place of their polyline. The rows of a geometry are in preorder: a
+ * row, then the rows below it. The points of all rows are in one list, in the order of the rows. All 24 bytes have a
+ * meaning. A polygon with a hole, and a multipoint whose points have the ids 7 and -1, at precision 5:
+ *
+ *   polytwkb_row rows[] = {                 // id, points, depth, kind, has_id, precision
+ *       {0, 0, 0, POLYTWKB_KIND_POLYGON, 0, 5},
+ *       {0, 4, 1, POLYTWKB_KIND_RING, 0, POLYTWKB_NO_PRECISION},
+ *       {0, 4, 1, POLYTWKB_KIND_RING, 0, POLYTWKB_NO_PRECISION},
+ *       {0, 0, 0, POLYTWKB_KIND_MULTIPOINT, 0, 5},
+ *       {7, 1, 1, POLYTWKB_KIND_POINT, 1, POLYTWKB_NO_PRECISION},
+ *       {-1, 1, 1, POLYTWKB_KIND_POINT, 1, POLYTWKB_NO_PRECISION},
+ *   };
+ *   polytwkb_point points[] = {
+ *       {0, 0}, {900000, 0}, {0, 900000}, {0, 0},                     // the outer ring: from 0 to 9 degrees
+ *       {100000, 100000}, {200000, 100000}, {100000, 200000}, {100000, 100000}, // the hole: from 1 to 2 degrees
+ *       {1337770, 5251630},                                           // 13.3777 degrees east, 52.5163 degrees north
+ *       {-7404450, 4068920},
+ *   };
  */
 typedef struct polytwkb_row {
     int64_t id;       /* the id if has_id is 1, and 0 if it is 0 */
@@ -204,44 +256,70 @@ typedef struct polytwkb_row {
 /* What polytwkb_read did. */
 typedef struct polytwkb_counts {
     uint32_t status;        /* POLYTWKB_DONE, _REFUSED, _ARGUMENTS, _MEMORY or _TOO_SMALL */
-    uint32_t reason;        /* why the stream is refused, 41 to 49 or 61; 0 if it is not */
+    uint32_t reason;        /* why the stream is refused, 41 to 49 or 61; 0 with any other status */
     uint64_t place;         /* the offset of the refused item; else 0 */
     uint64_t done;          /* geometries in the arrays */
     uint64_t rows;          /* rows at the start of their array */
     uint64_t points;        /* points at the start of their array */
-    uint64_t needed_rows;   /* rows and points of all geometries that were read: for POLYTWKB_TOO_SMALL */
-    uint64_t needed_points; /* those that would do, and for 0 and 1 as many as rows and points */
+    uint64_t needed_rows;   /* rows of all geometries that were read, whether there was room for them or not */
+    uint64_t needed_points; /* points of all these geometries */
 } polytwkb_counts;
 
 /*
- * Reads a stream of blobs into an array of rows and one of points. Status 0: the arrays have all rows that
- * polytwkb_unpack prints, and their points. 1: they have those of the geometries before the refused blob; reason
- * and place are those of polytwkb_unpack. 5: an array is too small for a geometry: the arrays have the geometries
- * before it, nothing of it and of those after it, and the counts say how many rows and points would do; they are
- * those of the geometries before the refused blob if there is one further on. 4: memory was refused; the arrays
- * have the geometries before that for which there was room. Places after those written stay as they were.
+ * Reads a stream of blobs into an array of rows and one of points. They get whole geometries only, and places after
+ * those written stay as they were.
+ * 0: the arrays have all rows that polytwkb_unpack prints, and their points.
+ * 1: a blob is refused, and the arrays have the geometries before it. reason and place are those of polytwkb_unpack.
+ * 4: memory was refused. The arrays have the geometries before that for which there was room; the needed counts are
+ *    those of all geometries before that, and no more is known of the stream.
+ * 5: an array is too small for a geometry. The arrays have the geometries before it, and nothing of those after it.
+ *    needed_rows and needed_points say how much room would do. If a blob further on is refused, they count the
+ *    geometries before it, and a call with so much room answers 1.
  *
- * Arrays of length rows and length / 2 points always do. To count first, give rooms of 0. Takes memory for one
- * geometry.
+ * A stream has at most as many rows as bytes, and at most half as many points as bytes. To count first, give rooms of
+ * 0. Takes memory for one geometry.
  */
 polytwkb_counts polytwkb_read(const uint8_t *blobs, size_t length, polytwkb_row *rows, size_t row_room,
                               polytwkb_point *points, size_t point_room, polytwkb_limits limits);
 
 /*
- * Writes an array of rows and one of points as a stream of canonical blobs. Status 0: each row belongs to a
- * geometry, all points are those of the rows, and the output has the blobs of all geometries, as polytwkb_pack
- * writes them. 1: place is the first refused row, counted from 0, after the blobs of the complete geometries
- * before it; nothing is written of the geometry that it would belong to. reason is the one that the same row of a
- * table would have, but for POLYTWKB_BAD_ID: has_id is neither 0 nor 1, or it is 0 and id is not; and
- * POLYTWKB_POINTS_MISSING. Points that are left over are refused with POLYTWKB_POINTS_LEFT, and place is then
- * row_count; the last geometry is not written. 5: the output is too small for a blob: it has the blobs before it,
- * nothing of it and of those after it, and needed says how many bytes would do; they are those of the complete
- * geometries before the refused row if there is one further on. 4: memory was refused; the output has the blobs
- * before that for which there was room.
+ * Writes an array of rows and one of points as a stream of canonical blobs. The output gets whole blobs only, and bytes
+ * after those written stay as they were.
+ * 0: each row belongs to a geometry, all points are those of the rows, and the output has the blobs of all geometries,
+ *    as polytwkb_pack writes them.
+ * 1: a row is refused, or points are left over. The output has the blobs of the complete geometries before, and nothing
+ *    of the geometry that the row would belong to. If points are left over, the last geometry is not complete.
+ * 4: memory was refused. The output has the blobs before that for which there was room; needed counts those of all
+ *    complete geometries before that, and no more is known of the rows.
+ * 5: the output is too small for a blob. It has the blobs before it, and nothing of those after it. needed says how
+ *    much room would do. If a row further on is refused, it counts the blobs before that, and a call with so much room
+ *    answers 1.
+ * done is the number of blobs in the output, sent that of their bytes, and needed, with any status but 2, the number
+ * of bytes of the blobs of all complete geometries. To count first, give a room of 0.
  *
- * done is the number of blobs in the output, sent the number of its bytes that were written, and needed the number
- * of bytes of the blobs of all complete geometries. Bytes after those written stay as they were. To count first,
- * give a room of 0. Takes memory for one geometry and its blob.
+ * place is the first refused row, from 0, and reason the first of these that holds of it:
+ *   BAD_KIND             kind is no number from 1 to 8
+ *   BAD_ID               has_id is neither 0 nor 1, or it is 0 and id is not
+ *   POINTS_MISSING       fewer points are left in the list than the row has
+ *   BAD_PLACE            a row of this kind may not stand below the row above it (see the kinds), or the first row is
+ *                        no root, or depth is more than one below the row before
+ *   TOO_DEEP             the row above it is a collection in as many collections as the limit nest allows
+ *   TOO_MANY_ROWS        its geometry has as many rows before it as the limit nodes allows
+ *   ID_NOT_ALLOWED       a root or a ring has an id
+ *   MIXED_IDS            it has an id and the first row beside it has none, or the other way round
+ *   BAD_PRECISION        precision is neither -8 to 7 nor POLYTWKB_NO_PRECISION
+ *   PRECISION_MISSING, PRECISION_NOT_ALLOWED   see the kinds
+ *   POLYLINE_NOT_ALLOWED it has points, and its kind has none of its own
+ *   POLYLINE_RANGE       a coordinate is not in -2^62 to 2^62 - 1; text_offset is the first such point, from 0
+ *   POLYLINE_TOO_MANY    with its points the geometry has more than the limit points allows
+ *   POINT_COUNT          a point has more than one point, or below a multipoint none
+ * If no row is refused and points are left over, reason is POINTS_LEFT, and place is row_count.
+ *
+ * If has_id and the number of points are right, polytwkb_pack gives the row of a table with these values the same
+ * reason, but in two cases. A depth above 999 is BAD_DEPTH there. If points are out of range and too many, the reason
+ * there is the one that comes first in the text of the polyline; here it is POLYLINE_RANGE.
+ *
+ * Takes memory for one geometry and its blob.
  */
 polytwkb_report polytwkb_write(const polytwkb_row *rows, size_t row_count, const polytwkb_point *points,
                                size_t point_count, uint8_t *output, size_t output_length, polytwkb_limits limits,
@@ -307,7 +385,7 @@ static inline polytwkb_report polytwkb_decode_any(const uint8_t *text, size_t le
     return polytwkb_decode(polytwkb_input(text, length), length, room == 0 ? &none : points, room);
 }
 
-static inline polytwkb_report polytwkb_round_any(const double *numbers, size_t count, int8_t precision,
+static inline polytwkb_report polytwkb_round_any(const double *numbers, size_t count, int32_t precision,
                                                  int64_t *units, size_t room) {
     static const double none = 0;
     static int64_t no_unit;

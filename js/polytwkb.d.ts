@@ -15,8 +15,10 @@ export const version: string;
 export type Source = string | URL | Response | BufferSource | WebAssembly.Module;
 
 /**
- * Loads the module, by default polytwkb.wasm beside this file. Later calls do nothing. A module of another version is
- * refused at once. Needs WebAssembly with 128-bit SIMD: Chromium and Edge 91, Firefox 89, Safari 16.4, Node 20.
+ * Loads the module, by default polytwkb.wasm beside this file; a relative URL is that of the page or the worker, as for
+ * fetch, and in Node of the current folder. Later calls do nothing, but after a call that the end of the stack cut off
+ * one takes a new instance. A module of another version is refused at once. Needs WebAssembly with 128-bit SIMD:
+ * Chromium and Edge 91, Firefox 89, Safari 16.4, Node 20.
  */
 export function load(source?: Source | Promise<Source>): Promise<void>;
 
@@ -35,8 +37,9 @@ export class Limits {
     readonly points: number;
 }
 
-/** An input is refused. Its message is the line of the command, such as `byte 13: truncated`. */
+/** An input is refused. Its message is the line of the command, such as `byte 13: truncated`. No caller makes one. */
 export class Refused<Output = unknown> extends Error {
+    private constructor();
     readonly name: 'Refused';
     /** Why, as a number of include/polytwkb.h, such as 41. */
     readonly reason: number;
@@ -49,13 +52,21 @@ export class Refused<Output = unknown> extends Error {
      * from 0.
      */
     readonly place: number;
-    /** The byte of the refused polyline, in its record or alone; else 0. */
+    /** The byte of the refused polyline, in its record or alone; of arrays the row's first point out of range, from 0; else 0. */
     readonly textOffset: number;
     /** How many geometries came before, and are whole. */
     readonly done: number;
     /** What the call would have returned of these alone. */
     readonly output: Output;
+    /** What a worker can post: an error that is posted keeps its message alone. */
+    toJSON(): RefusedJSON<Output>;
+    /** The refusal that was posted. */
+    static fromJSON<Output>(posted: RefusedJSON<Output>): Refused<Output>;
 }
+
+/** A refusal as an object without methods. */
+export type RefusedJSON<Output = unknown> =
+    Pick<Refused<Output>, 'message' | 'reason' | 'text' | 'place' | 'textOffset' | 'done' | 'output'>;
 
 /** The engine gives no more memory. One call needs its input, its output and some more, at most 4 GB together. */
 export class OutOfMemory extends RangeError {
@@ -121,15 +132,19 @@ export interface Arrays<Coordinates extends Float64Array | BigInt64Array = Float
     hasIds: Uint8Array;
     /** The id; 0 if it has none. */
     ids: BigInt64Array;
-    /** Where its points begin, counted in points, and after the last row how many points there are. */
-    starts: Uint32Array;
-    /** x, y, x, y, .. of all points: degrees, or whole numbers. */
+    /** Where the points of each row begin in `xy`, counted in points, and last how many points there are. */
+    offsets: Uint32Array;
+    /** x, y, x, y, .. of all points: degrees, or whole units of 10^-precision degrees. */
     xy: Coordinates;
 }
 
-/** Reads a stream of blobs into arrays, in degrees; with `exact` in whole numbers. */
-export function read(blobs: Bytes, options?: Partial<Limits> & { exact?: false }): Arrays<Float64Array>;
-export function read(blobs: Bytes, options: Partial<Limits> & { exact: true }): Arrays<BigInt64Array>;
+/**
+ * Reads a stream of blobs into arrays: in degrees, each coordinate the number nearest to its units times 10^-precision,
+ * by the precision of the geometry that it is in; with `degrees: false` in whole units.
+ */
+export function read(blobs: Bytes, options?: Partial<Limits> & { degrees?: true }): Arrays<Float64Array>;
+export function read(blobs: Bytes, options: Partial<Limits> & { degrees: false }): Arrays<BigInt64Array>;
+export function read(blobs: Bytes, options: Partial<Limits> & { degrees: boolean }): Arrays;
 
 /** Arrays that are written. Without `hasIds` and `ids` no row has an id. */
 export type Writable = Omit<Arrays, 'hasIds' | 'ids'> & Partial<Pick<Arrays, 'hasIds' | 'ids'>>;
@@ -149,15 +164,15 @@ export type Point = [x: number, y: number];
 /**
  * The encoded polyline of points. Without a precision coordinates are whole numbers and pass unchanged; a BigInt64Array
  * has x, y, x, y, .. With a precision from -8 to 7 they are degrees, and each becomes the whole number nearest to it
- * times 10^precision, of two the one farther from 0, with no error of floating point on the way. Refused, at its point,
- * if a coordinate is outside -2^62 to 2^62 - 1.
+ * times 10^precision, of two the one farther from 0. Up to 10^14 units a number that is the nearest one to a half counts
+ * as that half: docs/FORMATS.md has the rule. Refused, at its point, if a coordinate is outside -2^62 to 2^62 - 1.
  */
 export function encode(points: Iterable<readonly [number | bigint, number | bigint]>, precision?: number): string;
 export function encode(points: BigInt64Array): string;
 
 /**
  * The points of an encoded polyline: whole numbers, or with a precision from -8 to 7 degrees, each the number nearest
- * to its whole number times 10^-precision. Without a precision, a coordinate that is no safe integer is a RangeError:
+ * to its whole number times 10^-precision. Without a precision, a coordinate below -2^53 or from 2^53 on is a RangeError:
  * decodeFlat has it.
  */
 export function decode(text: string | Bytes, precision?: number): Point[];
@@ -168,22 +183,60 @@ export function decodeFlat(text: string | Bytes): BigInt64Array;
 /** Ids of the members: whole numbers, and BigInt past 2^53. */
 export type Ids = (number | bigint)[];
 
-/** A geometry as GeoJSON has it; an empty point has no coordinates. */
-export type Shape<P> =
+/** A geometry as GeoJSON has it; an empty point has no coordinates. `Own` is what it has beside, its members too. */
+export type Shape<P, Own = unknown> = Own & (
     | { type: 'Point'; coordinates: P | [] }
     | { type: 'LineString'; coordinates: P[] }
     | { type: 'Polygon'; coordinates: P[][] }
-    | { type: 'MultiPoint'; coordinates: (P | [])[]; ids?: Ids }
+    | { type: 'MultiPoint'; coordinates: P[]; ids?: Ids }
     | { type: 'MultiLineString'; coordinates: P[][]; ids?: Ids }
     | { type: 'MultiPolygon'; coordinates: P[][][]; ids?: Ids }
-    | { type: 'GeometryCollection'; geometries: Shape<P>[]; ids?: Ids };
+    | { type: 'GeometryCollection'; geometries: Shape<P, Own>[]; ids?: Ids });
 
 /** In degrees: each coordinate is the number nearest to its whole number times 10^-precision. */
 export type Geometry = Shape<Point>;
 
-/** In whole numbers, with their decimals. */
-export type ExactGeometry = Shape<[x: bigint, y: bigint]> & { precision: number };
+/** In whole units, with their decimals. `JSON.stringify` takes no BigInt, of which ids past 2^53 are too. */
+export type UnitGeometry = Shape<[x: bigint, y: bigint], { precision: number }>;
 
-/** The geometries of a stream; with `exact` in whole numbers. */
-export function geometries(blobs: Bytes, options?: Partial<Limits> & { exact?: false }): Geometry[];
-export function geometries(blobs: Bytes, options: Partial<Limits> & { exact: true }): ExactGeometry[];
+/** A column of a database: each item is the bytes of one blob, or null. */
+export type Column = Iterable<Bytes | null | undefined>;
+
+type Raising = { errors?: 'raise' };
+type Collecting = { errors: 'collect' };
+
+/**
+ * The geometries of a stream in degrees, or with `degrees: false` in whole units; or those of a column, each at the
+ * place of its blob, and null at that of null. An item that is not exactly one blob is Refused, with the item in `done`
+ * and its byte in `place`; with `errors: 'collect'` it becomes null, and the refusals are returned too.
+ */
+export function geometries(blobs: Bytes, options?: Partial<Limits> & { degrees?: true } & Raising): Geometry[];
+export function geometries(blobs: Bytes, options: Partial<Limits> & { degrees: false } & Raising): UnitGeometry[];
+export function geometries(blobs: Column, options?: Partial<Limits> & { degrees?: true } & Raising): (Geometry | null)[];
+export function geometries(
+    blobs: Column, options: Partial<Limits> & { degrees: false } & Raising,
+): (UnitGeometry | null)[];
+export function geometries(
+    blobs: Column, options: Partial<Limits> & { degrees?: true } & Collecting,
+): { geometries: (Geometry | null)[]; refused: Refused<null>[] };
+export function geometries(
+    blobs: Column, options: Partial<Limits> & { degrees: false } & Collecting,
+): { geometries: (UnitGeometry | null)[]; refused: Refused<null>[] };
+
+/** What is packed: a geometry as GeoJSON has it, a Feature, or null. */
+export type Packable =
+    | { type: string; coordinates?: unknown; geometries?: unknown; geometry?: Packable; ids?: readonly (number | bigint | null)[] | null; precision?: number }
+    | null;
+
+/**
+ * Packs geometries to a stream of blobs with so many decimals, -8 to 7: the counterpart of `geometries`. They are a
+ * list, a FeatureCollection, or one geometry. Degrees are rounded as `encode` rounds them; coordinates that are BigInt
+ * are whole units. Without a precision each geometry has its own, as those in whole units have. `ids` of a geometry are
+ * those of its members; `ids: false` leaves them out. A height is a TypeError, and `heights: 'drop'` leaves it out.
+ * `offsets` say where the blob of each geometry begins, and last where the stream ends; null, and a Feature without a
+ * geometry, has no blob. Refused, at its geometry from 0, if one is against the rules of a table.
+ */
+export function packGeometries(
+    geometries: Iterable<Packable> | Exclude<Packable, null>, precision?: number,
+    options?: Partial<Limits> & { style?: 'full' | 'plain'; ids?: boolean; heights?: 'raise' | 'drop' },
+): { blobs: Uint8Array; offsets: Float64Array };

@@ -8,6 +8,7 @@ export { pack, show, split, unpack, unpackBytes } from './src/conversions.js';
 export { geometries } from './src/geometries.js';
 export { Limits } from './src/inputs.js';
 export { load, version } from './src/module.js';
+export { packGeometries } from './src/packing.js';
 export { decode, decodeFlat, encode } from './src/polylines.js';
 export { OutOfMemory, Refused } from './src/refused.js';
 export { stream } from './src/stream.js';

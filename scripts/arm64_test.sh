@@ -95,7 +95,7 @@ in_c() {
     compile shared examples/c/convert.c -L"$built" -lpolytwkb -Wl,-rpath,"$built" && arm "$work/shared"
 }
 growths() {
-  local wraps=(-Wl,--wrap=malloc -Wl,--wrap=realloc)
+  local wraps=("-Wl,--wrap=malloc" "-Wl,--wrap=realloc")
   compile growths tests/arm64/growths.c "$built/libpolytwkb.a" "${wraps[@]}" && arm "$work/growths" < examples/collection.csv > "$work/arm" &&
     cc -std=c11 -O1 -Iinclude -o "$work/growths_here" tests/arm64/growths.c out/libpolytwkb.a "${wraps[@]}" && "$work/growths_here" < examples/collection.csv | cmp - "$work/arm"
 }
@@ -110,7 +110,7 @@ of_library() {
 packed() { scripts/dist.sh "$work/dist" arm64 && scripts/dist.sh "$work/again" arm64 && cmp "$work/dist/SHA256SUMS" "$work/again/SHA256SUMS"; }
 
 # through COMMAND..: packs and unpacks the example.
-through() { "$@" pack < examples/collection.csv | "$@" unpack | cmp - examples/collection.csv; }
+through() { cmp <("$@" pack < examples/collection.csv | "$@" unpack) examples/collection.csv; }
 
 # A root of this processor with the C library and nothing else.
 c_root() {

@@ -3,7 +3,8 @@
 
     scripts/completions.py [--write] [--program PROGRAM]
 
-Status 1 if a file is not what is made of help. An option with a value has possible values in help, or a range.
+Status 1 if a file is not what is made of help. An option with a value has possible values in help, or a range in the
+place of the value.
 """
 import argparse
 import os
@@ -19,6 +20,10 @@ BASH = """\
 
 _polytwkb() {
   local word=$2 before=$3 command= words=
+  # after a redirection comes the name of a file
+  case $before in
+    *'<' | *'>' | '>|') compopt -o default; COMPREPLY=(); return ;;
+  esac
   [ "$COMP_CWORD" -gt 1 ] && command=${COMP_WORDS[1]}
 
   # bash cuts a word at an equals sign
@@ -98,10 +103,10 @@ def help_of(program, *words):
 def options_of(shown):
     """The options that a help text lists."""
     options = []
-    for short, long, value, rest in re.findall(r"^ +(?:(-\w), )?(--[a-z-]+)( <\w+>)? {2,}(.*)$", shown, re.M):
+    for short, long, value, rest in re.findall(r"^ +(?:(-\w), )?(--[a-z-]+)(?: <([^>]+)>)? {2,}(.*)$", shown, re.M):
         names = re.search(r"\[possible values: (.*)\]", rest)
-        span = re.search(r", (\d+) to (\d+)", rest) if value and not names else None
-        means = re.sub(r" [\[(].*", "", rest[: span.start()] if span else rest)
+        span = re.fullmatch(r"(\d+) to (\d+)", value)
+        means = re.sub(r" [\[(].*", "", rest)
         least, most = map(int, span.groups()) if span else (0, 0)
         options.append(Option(short, long, means, least, most, names.group(1).split(", ") if names else []))
     return options

@@ -1,6 +1,7 @@
 #!/usr/bin/env bash
 # Compares the completions with what scripts/completions.py makes of the built program's help, the words that bash offers
-# and the manual page with those that help names, and checks the syntax of the files for shells that are installed.
+# and the manual page with those that help names, types lines with a tab into bash on a terminal, and checks the syntax
+# of the files for shells that are installed.
 # Status 1 if anything differs.
 # shellcheck source=scripts/checks.bash
 source "$(dirname "$0")/checks.bash"
@@ -33,7 +34,8 @@ values_of_help() { # COMMAND OPTION
   line=$("$program" "$1" --help | grep -- "^ *$2 <")
   case $line in
     *'possible values: '*) sed 's/.*possible values: \(.*\)\].*/\1/; s/,//g' <<< "$line" | tr ' ' '\n' ;;
-    *) seq $(sed 's/.* \([0-9]*\) to \([0-9]*\) .*/\1 \2/' <<< "$line") ;;
+    *)
+      [[ $line =~ \<([0-9]+)" to "([0-9]+)\> ]] && seq "${BASH_REMATCH[1]}" "${BASH_REMATCH[2]}" ;;
   esac
 }
 
@@ -60,6 +62,38 @@ for command in $(commands_of_help); do
   done
 done
 
+# ---- names of files after a redirection, and words beside it, as bash completes them on a terminal
+
+# The names are prefixes of one another, and one has a blank.
+mkdir "$work/files"
+touch "$work/files/"{table.csv,tablex.csv,tablexyz.csv,'two words.csv'}
+typed=(
+  'polytwkb pack < tab' 'polytwkb pack < table'
+  'polytwkb pack < tablexy' 'polytwkb pack < tablexyz.csv '
+  'polytwkb pack <tablexy' 'polytwkb pack <tablexyz.csv '
+  'polytwkb pack < two' 'polytwkb pack < two\ words.csv '
+  'polytwkb pack < table.csv > tablexy' 'polytwkb pack < table.csv > tablexyz.csv '
+  'polytwkb show 2> tablexy' 'polytwkb show 2> tablexyz.csv '
+  'polytwkb unpack >> tablexy' 'polytwkb unpack >> tablexyz.csv '
+  'polytwkb pack < table.csv --sty' 'polytwkb pack < table.csv --style '
+  'polytwkb pack --style=f' 'polytwkb pack --style=full '
+)
+if python3 -c 'import pty' 2> "$work/none"; then
+  lines=() expected=
+  for ((place = 0; place < ${#typed[@]}; place += 2)); do
+    lines+=("${typed[place]}") expected+="${typed[place + 1]}"$'\n'
+  done
+  here=$PWD
+  found=$(cd "$work/files" && "$here/scripts/typed_in_bash.py" "$here/completions/polytwkb.bash" "${lines[@]}"; echo .)
+  if [ "$found" = "$expected." ]; then
+    passed "bash on a terminal: ${#lines[@]} lines with a tab, names of files after < and > too"
+  else
+    failed "bash on a terminal: $(diff <(echo "$expected.") <(echo "$found") | grep '^[<>]' | head -n 4 | tr '\n' ' ')"
+  fi
+else
+  skip "bash on a terminal: python3 is not there"
+fi
+
 # ---- the page: each word of the command line, and each text of a run's end; scripts/reasons.py makes those of reasons
 
 page=$(sed 's/\\-/-/g; s/^\.[A-Z]* *//; s/[" ]*$//' man/polytwkb.1)
@@ -82,7 +116,8 @@ fi
 # ---- the syntax
 
 for check in "bash -n completions/polytwkb.bash" "zsh -n completions/_polytwkb" "fish --no-execute completions/polytwkb.fish"; do
-  if is_there "${check%% *}"; then report "$check" $check; else skip "${check%% *} is not there"; fi
+  read -ra words <<< "$check"
+  if is_there "${words[0]}"; then report "$check" "${words[@]}"; else skip "${check%% *} is not there"; fi
 done
 
 passed_all

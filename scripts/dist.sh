@@ -1,6 +1,7 @@
 #!/usr/bin/env bash
 # Packs the files of `make install` into an archive and a package for Debian, the package for Python into a wheel, and
-# that for JavaScript into an archive of npm, with their sums, for users without the kit:
+# that for JavaScript into an archive of npm, with their sums, for users without the kit. The extensions of databases that
+# `make databases` built become packages for Debian, of this machine's processor alone:
 #
 #   scripts/dist.sh FOLDER            of this machine's processor
 #   scripts/dist.sh FOLDER arm64      of what `make arm64` built
@@ -45,7 +46,7 @@ address=/@HOMEPAGE@/d
 [ -z "${HOMEPAGE:-}" ] || address="s|@HOMEPAGE@|$HOMEPAGE|"
 filled() {
   sed -e "s|@VERSION@|$version|" -e "s|@MACHINE@|$machine|" -e "s|@DEBIAN@|$debian|" -e "s|@PROCESSOR@|$processor|" \
-    -e "s|@LIBC@|$libc|" -e "s|@LIBRARY_LIBC@|$library_libc|" -e "s|@SIZE@|${size:-}|" -e "$address" "$1"
+    -e "s|@LIBC@|$libc|" -e "s|@LIBRARY_LIBC@|$library_libc|" -e "s|@SIZE@|${size:-}|" -e "s|@MAJOR@|${major:-}|" -e "$address" "$1"
 }
 packed() { # FOLDER NAME FILE: an archive, the same for the same files
   tar -c -C "$1" --sort=name --format=gnu --mtime="@$SOURCE_DATE_EPOCH" --owner=0 --group=0 --numeric-owner "$2" |
@@ -70,8 +71,8 @@ npm_archive() {
   packed "$work/npm" package "$folder/polytwkb-$version.tgz"
 }
 
-changelog() {
-  printf 'polytwkb (%s) unstable; urgency=medium\n\n  * Changes are listed in the CHANGELOG.md of the sources.\n\n' "$version"
+changelog() { # PACKAGE
+  printf '%s (%s) unstable; urgency=medium\n\n  * Changes are listed in the CHANGELOG.md of the sources.\n\n' "$1" "$version"
   printf ' -- %s  %s\n' "$(sed -n 's/^Maintainer: //p' packaging/control.in)" "$(date -u -R -d "@$SOURCE_DATE_EPOCH")"
 }
 
@@ -82,32 +83,67 @@ shlibs() {
   [[ $soname != *.so.* ]] || echo "${soname%%.so.*} ${soname#*.so.} polytwkb (>= $version)"
 }
 
+# debian_package TREE NAME CONTROL: packs a tree, with its control file, a list of changes and sums.
+debian_package() {
+  local tree=$1 name=$2 control=$3 size
+  local documents=$tree/usr/share/doc/$name
+  changelog "$name" | gzip -9n | install -D -m 644 /dev/stdin "$documents/changelog.gz"
+  size=$(find "$tree" -path "$tree/DEBIAN" -prune -o -type f -printf '%s\n' | awk '{ size += int(($1 + 1023) / 1024) } END { print size }')
+  mkdir -p "$tree/DEBIAN"
+  filled "$control" > "$tree/DEBIAN/control"
+  (cd "$tree" && find usr -type f -print0 | sort -z | xargs -0 md5sum) > "$tree/DEBIAN/md5sums"
+  dated "$tree"
+  dpkg-deb --root-owner-group -Zxz --build "$tree" "$folder/${name}_${version}_$debian.deb" > /dev/null
+}
+
 package() {
-  local tree=$work/package size
+  local tree=$work/package
   local documents=$tree/usr/share/doc/polytwkb
   make -s install PROGRAM=$program LIBRARIES=$built DESTDIR="$tree" PREFIX=/usr LIBDIR="/usr/lib/$machine-linux-gnu" ZSHDIR=/usr/share/zsh/vendor-completions
   find "$tree/usr/lib" -type f -exec chmod 644 {} +
   gzip -9n "$tree/usr/share/man/man1/polytwkb.1"
   mv "$documents/LICENSE" "$documents/copyright"
-  changelog | gzip -9n > "$documents/changelog.gz"
   install -D -m 644 packaging/lintian-overrides "$tree/usr/share/lintian/overrides/polytwkb"
-  size=$(find "$tree" -type f -printf '%s\n' | awk '{ size += int(($1 + 1023) / 1024) } END { print size }')
   mkdir "$tree/DEBIAN"
-  filled packaging/control.in > "$tree/DEBIAN/control"
-  (cd "$tree" && find usr -type f -print0 | sort -z | xargs -0 md5sum) > "$tree/DEBIAN/md5sums"
   shlibs > "$tree/DEBIAN/shlibs"
   [ -s "$tree/DEBIAN/shlibs" ] || rm "$tree/DEBIAN/shlibs"
   echo "activate-noawait ldconfig" > "$tree/DEBIAN/triggers"
-  dated "$tree"
-  dpkg-deb --root-owner-group -Zxz --build "$tree" "$folder/polytwkb_${version}_$debian.deb" > /dev/null
+  debian_package "$tree" polytwkb packaging/control.in
+}
+
+# extension FOLDER PACKAGE CONTROL README LIBRARY [FILE..]: the package of an extension, whose library goes below FOLDER, and
+# whose other files go where CREATE EXTENSION looks for them. The library is stripped.
+extension() {
+  local place=$1 name=$2 control=$3 page=$4 library=$5 tree=$work/$2
+  shift 5
+  libc=$(newest "$library")
+  install -D -m 644 "$library" "$tree/$place/$(basename "$library")"
+  strip --strip-unneeded "$tree/$place/$(basename "$library")"
+  [ $# -eq 0 ] || install -D -m 644 -t "$tree/usr/share/postgresql/$major/extension" "$@"
+  install -D -m 644 LICENSE "$tree/usr/share/doc/$name/copyright"
+  sed -E 's!\[([^]]*)\]\(\.\./[^)]*\)!\1!g' "$page" | install -D -m 644 /dev/stdin "$tree/usr/share/doc/$name/README.md"
+  debian_package "$tree" "$name" "$control"
+}
+
+extensions() {
+  local major='' made
+  install -D -m 644 packaging/sqlite.lintian-overrides "$work/polytwkb-sqlite/usr/share/lintian/overrides/polytwkb-sqlite"
+  [ ! -e out/mod_polytwkb.so ] ||
+    extension usr/lib/$machine-linux-gnu polytwkb-sqlite packaging/sqlite.control.in extensions/sqlite/README.md out/mod_polytwkb.so
+  for made in out/postgresql/*; do
+    major=${made##*/}
+    [ ! -e "$made/polytwkb.so" ] ||
+      extension "usr/lib/postgresql/$major/lib" "postgresql-$major-polytwkb" packaging/postgresql.control.in extensions/postgresql/README.md \
+        "$made"/polytwkb{.so,.control,--*.sql}
+  done
 }
 
 mkdir -p "$folder"
-rm -f "$folder"/polytwkb-*-"$machine"-linux.tar.gz "$folder"/polytwkb_*_"$debian".deb "$folder"/polytwkb-*_"$machine".whl "$folder/SHA256SUMS"
+rm -f "$folder"/polytwkb-*-"$machine"-linux.tar.gz "$folder"/polytwkb_*_"$debian".deb "$folder"/*-polytwkb_*_"$debian".deb "$folder"/polytwkb-sqlite_*_"$debian".deb "$folder"/polytwkb-*_"$machine".whl "$folder/SHA256SUMS"
 archive
 package
 scripts/wheel.py "$folder" $built/libpolytwkb.so > /dev/null
-# one for all processors
-[ "${2:-}" = arm64 ] || npm_archive
+# one for all processors, and those that are built for this one alone
+[ "${2:-}" = arm64 ] || { npm_archive; extensions; }
 (cd "$folder" && find . -type f | sed 's|^\./||' | sort | xargs sha256sum > "$work/sums" && mv "$work/sums" SHA256SUMS)
 cat "$folder/SHA256SUMS"

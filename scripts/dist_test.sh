@@ -14,7 +14,8 @@ archive=$(echo dist/polytwkb-*-"$machine"-linux.tar.gz)
 package=$(echo dist/polytwkb_*_"$debian".deb)
 wheel=$(echo dist/polytwkb-*"$machine".whl)
 installed=
-trap '[ -z "$installed" ] || dpkg --purge polytwkb > /dev/null 2>&1; rm -rf "$work"' EXIT
+# shellcheck disable=SC2086 # words
+trap '[ -z "$installed" ] || dpkg --purge $installed > /dev/null 2>&1; rm -rf "$work"' EXIT
 
 # ---- roots with the C library and nothing else
 
@@ -85,8 +86,8 @@ calls() {
 # stand_alone DOCUMENTS BIN: the recipes that need nothing but Python, from there; no link of a page leads to nothing.
 stand_alone() {
   local recipe page target
-  for recipe in cut_stream stops geojson; do
-    PATH=$2:$PATH "$1/recipes/$recipe.sh" > "$work/recipe" 2>&1 && ! grep '^skipped' "$work/recipe" || { cat "$work/recipe"; return 1; }
+  for recipe in cut_stream stops geojson columns twkb_info; do
+    { PATH=$2:$PATH "$1/recipes/$recipe.sh" > "$work/recipe" 2>&1 && ! grep '^skipped' "$work/recipe"; } || { cat "$work/recipe"; return 1; }
   done
   for page in USING RECIPES FORMATS; do
     while read -r target; do
@@ -111,7 +112,7 @@ made_again() {
 }
 # the address of the sources, in each if there is one, and else in none
 addresses() {
-  dpkg-deb -f "$1"/*_"$debian".deb Homepage
+  dpkg-deb -f "$1"/polytwkb_*_"$debian".deb Homepage
   tar -xzOf "$1"/polytwkb-*-"$machine"-linux.tar.gz --wildcards '*/README' | sed -n 's/^Sources: //p'
   python3 -c 'import sys, zipfile; file = zipfile.ZipFile(sys.argv[1]); print(file.read(next(name for name in file.namelist() if name.endswith("/METADATA"))).decode())' \
     "$1"/*"$machine".whl | sed -n 's/^Project-URL: Source, //p'
@@ -120,9 +121,16 @@ addressed() {
   HOMEPAGE=https://example.org/polytwkb scripts/dist.sh "$work/addressed" &&
     diff <(addresses "$work/addressed") <(yes https://example.org/polytwkb | head -n 3) && { [ -n "${HOMEPAGE:-}" ] || [ -z "$(addresses dist)" ]; }
 }
+addressed_too() {
+  local file
+  for file in "$work"/addressed/{polytwkb-sqlite_,postgresql-*-polytwkb_}*.deb; do
+    [ ! -e "$file" ] || [ "$(dpkg-deb -f "$file" Homepage)" = https://example.org/polytwkb ] || return 1
+  done
+}
 report "the sums" sums
 report "made again, the same bytes" made_again
 report "the address of the sources" addressed
+report "the address of the sources, in the extensions" addressed_too
 [ -n "$enter" ] || skip "roots: this user can't enter one, so what is in them is run from outside"
 is_there pkg-config || skip "pkg-config is not there"
 
@@ -146,7 +154,7 @@ taken_away() {
     (cd "$folder" && eval "$line") > "$work/line" 2>&1 || true
     [ -e "$place/bin/polytwkb" ] || [[ $line == *find* ]] || { cat "$work/line"; return 1; }
   done
-  rm -rf "$place/etc"
+  rm -rf "${place:?}/etc"
   (cd "$place" && find . | sort) | diff "$work/before" -
 }
 report "archive: what its README shows" as_shown
@@ -159,16 +167,18 @@ alone() {
 }
 report "archive: the command runs where nothing else is" alone
 
-by_dpkg() {
+by_dpkg() { # ROOT [PACKAGE]
   empty_root "$1" && mkdir -p "$1/var/lib/dpkg/info" "$1/var/lib/dpkg/updates" && touch "$1/var/lib/dpkg/status" &&
-    fakeroot_if_needed dpkg --root="$1" --log=/dev/null --path-include='*' --force-not-root --force-depends --install "$package"
+    fakeroot_if_needed dpkg --root="$1" --log=/dev/null --path-include='*' --force-not-root --force-depends --install "${2:-$package}"
 }
 fakeroot_if_needed() { if [ "$(id -u)" -eq 0 ] || ! is_there fakeroot; then "$@"; else fakeroot "$@"; fi; }
-removed() {
-  fakeroot_if_needed dpkg --root="$1" --log=/dev/null --force-not-root --purge polytwkb && [ -z "$(find "$1/usr" -name '*polytwkb*')" ]
+removed() { # ROOT [PACKAGE]
+  fakeroot_if_needed dpkg --root="$1" --log=/dev/null --force-not-root --purge "${2:-polytwkb}" && [ -z "$(find "$1/usr" -name '*polytwkb*')" ]
 }
 # no fault, and no override by an old name
-lints() { lintian --pedantic --fail-on error,warning "$package" > "$work/lint" 2>&1 && ! grep renamed-tag "$work/lint" || { cat "$work/lint"; return 1; }; }
+lints() { # [PACKAGE]
+  { lintian --pedantic --fail-on error,warning "${1:-$package}" > "$work/lint" 2>&1 && ! grep renamed-tag "$work/lint"; } || { cat "$work/lint"; return 1; }
+}
 report "package: is installed" by_dpkg "$work/package"
 used "package" "$work/package" /usr /usr/lib/x86_64-linux-gnu bin/polytwkb
 report "package: is removed" removed "$work/package"
@@ -178,11 +188,65 @@ else
   skip "lintian is not there"
 fi
 
+# ---- the extensions of databases
+
+sqlite_package=$(echo dist/polytwkb-sqlite_*_"$debian".deb)
+postgresql_package=$(echo dist/postgresql-*-polytwkb_*_"$debian".deb)
+major=${postgresql_package#dist/postgresql-}
+major=${major%%-*}
+
+# programs ROOT PROGRAM..: puts programs into a root, with the libraries that they need.
+programs() {
+  local root=$1 program file
+  shift
+  for program in "$@"; do
+    install -D "$(realpath "$program")" "$root$program"
+    libraries_of "$program" | while read -r file; do [ -e "$root$file" ] || install -D "$(realpath "$file")" "$root$file"; done
+  done
+}
+in_sqlite() {
+  programs "$1" "$(command -v sqlite3)" || return 1
+  diff - <(inside "$1" "$(command -v sqlite3)" -cmd '.load mod_polytwkb' :memory: "SELECT twkb_fault(x'01020204'), * FROM twkb_rows(twkb_pack('point', 0, 'AC'))") \
+    <<< 'byte 4: truncated|0|point||0|AC'
+}
+# A server for one user, which takes statements from standard input. It does not run as root, so its data belong to nobody.
+in_postgresql() {
+  local root=$1 bin=/usr/lib/postgresql/$major/bin
+  mkdir -p "$root"/{data,dev,etc,tmp,usr/{lib,share}/postgresql} && chmod 777 "$root"/{data,tmp} && chown nobody "$root/data"
+  cp -a --no-clobber /usr/lib/postgresql/"$major" "$root/usr/lib/postgresql/" && cp -a --no-clobber /usr/share/postgresql/"$major" "$root/usr/share/postgresql/"
+  [ ! -d /usr/share/zoneinfo ] || cp -a /usr/share/zoneinfo "$root/usr/share/"
+  programs "$root" "$bin/postgres" "$bin/initdb" /bin/sh && grep nobody /etc/passwd > "$root/etc/passwd"
+  mknod -m 666 "$root/dev/null" c 1 3 && mknod -m 666 "$root/dev/urandom" c 1 9
+  chroot --userspec=nobody "$root" "$bin/initdb" -D /data -A trust -E UTF8 --locale=C --no-sync -c dynamic_shared_memory_type=mmap > "$work/initdb" 2>&1 ||
+    chroot --userspec=nobody "$root" "$bin/initdb" -D /data -A trust -E UTF8 --locale=C --no-sync > "$work/initdb" 2>&1 || { tail "$work/initdb"; return 1; }
+  chroot --userspec=nobody "$root" "$bin/postgres" --single -D /data -c dynamic_shared_memory_type=mmap postgres > "$work/single" 2>&1 << 'END'
+CREATE EXTENSION polytwkb
+SELECT twkb_fault('\x01020204'), r.* FROM twkb_rows(twkb_pack('point', 0, 'AC')) AS r
+END
+  { grep 'twkb_fault = "byte 4: truncated"' "$work/single" && grep 'polyline = "AC"' "$work/single"; } || { tail "$work/single"; return 1; }
+}
+extension() { # NAME PACKAGE CHECK
+  report "$1: is installed" by_dpkg "$work/$1" "$2"
+  if [ "$3" = in_postgresql ] && [ "$(id -u)" -ne 0 ]; then skip "$1: to use it in a root needs root"; else report "$1: is used" "$3" "$work/$1"; fi
+  report "$1: is removed" removed "$work/$1" "$(dpkg-deb -f "$2" Package)"
+  if is_there lintian; then report "$1: lintian" lints "$2"; fi
+}
+if [ ! -e "$sqlite_package" ]; then skip "SQLite: no package is made"; elif ! is_there sqlite3; then skip "SQLite: sqlite3 is not there"; else
+  extension SQLite "$sqlite_package" in_sqlite
+fi
+if [ ! -e "$postgresql_package" ]; then skip "PostgreSQL: no package is made"; elif [ ! -e "/usr/lib/postgresql/$major/bin/postgres" ]; then skip "PostgreSQL: the server is not there"; else
+  extension PostgreSQL "$postgresql_package" in_postgresql
+fi
+
 # Installs the package into a fresh environment, by the line that both READMEs show, and uses it there outside the repository.
 by_pip() {
   local line
-  line=$(grep -o 'python3 -m venv env[^`]*' README.md) && grep -qxF "    $line" python/README.md || { echo "the READMEs do not show one line"; return 1; }
+  { line=$(grep -o 'python3 -m venv env[^`]*' README.md) && grep -qxF "    $line" python/README.md; } || { echo "the READMEs do not show one line"; return 1; }
   mkdir "$1" && cp "$wheel" "$1" && (cd "$1" && export PIP_DISABLE_PIP_VERSION_CHECK=1 && eval "$line")
+}
+# The same from the sources, over the library that is built.
+by_sources() {
+  mkdir "$1" && python3 -m venv "$1/env" && PIP_DISABLE_PIP_VERSION_CHECK=1 "$1/env/bin/pip" install -q --no-index .
 }
 in_python() {
   (cd "$1" && env -u PYTHONPATH -u POLYTWKB_LIBRARY env/bin/python - "$work/stops.csv" "$work/stops.twkb") << 'END'
@@ -207,9 +271,12 @@ if python3 -c 'import ensurepip, venv' 2> /dev/null; then
   report "wheel: is installed by pip" by_pip "$work/wheel"
   report "wheel: it packs, unpacks and encodes" in_python "$work/wheel"
   for way in "env/bin/polytwkb" "env/bin/python -m polytwkb"; do
-    report "wheel: its command packs, shows and unpacks, as ${way#env/bin/}" converts env -u PYTHONPATH -u POLYTWKB_LIBRARY "$work/wheel/"$way
+    read -ra words <<< "$way"
+    report "wheel: its command packs, shows and unpacks, as ${way#env/bin/}" converts env -u PYTHONPATH -u POLYTWKB_LIBRARY "$work/wheel/${words[0]}" "${words[@]:1}"
   done
   report "wheel: its command refuses as the program does" refuses env -u PYTHONPATH -u POLYTWKB_LIBRARY "$work/wheel/env/bin/polytwkb"
+  report "sources: are installed by pip" by_sources "$work/sources"
+  report "sources: the package packs, unpacks and encodes" in_python "$work/sources"
   report "wheel: is removed" "$work/wheel/env/bin/pip" uninstall -q -y polytwkb
 else
   skip "wheel: venv of python3 is not there"
@@ -251,6 +318,7 @@ system_calls() {
   cc -std=c11 -o "$work/system" examples/c/convert.c "${words[@]}" && "$work/system"
 }
 gone() { local file; while read -r file; do [ -d "$file" ] || [ ! -e "$file" ] || { echo "$file"; return 1; }; done < "$work/files"; }
+recipe_of_server() { { NO_OWN_EXTENSION=yes BLOBS=10000 examples/recipes/postgres_extension.sh > "$work/recipe" 2>&1 && ! grep '^skipped' "$work/recipe"; } || { tail -n 5 "$work/recipe"; return 1; }; }
 if [ "${SYSTEM:-yes}" = no ]; then
   skip "apt-get: not tried, as SYSTEM=no asks"
 elif [ "$(id -u)" -ne 0 ] || ! apt-get -qq check > /dev/null 2>&1; then
@@ -258,7 +326,7 @@ elif [ "$(id -u)" -ne 0 ] || ! apt-get -qq check > /dev/null 2>&1; then
 elif dpkg-query -W polytwkb > /dev/null 2>&1 || [ -e /usr/bin/polytwkb ]; then
   skip "apt-get: this machine has a polytwkb"
 else
-  installed=yes
+  installed="polytwkb polytwkb-sqlite postgresql-$major-polytwkb"
   report "apt-get: installs" apt install "./$package"
   dpkg-query -L polytwkb > "$work/files" 2> /dev/null
   report "apt-get: it packs, shows and unpacks" converts /usr/bin/polytwkb
@@ -266,6 +334,16 @@ else
   is_there pkg-config && report "apt-get: so does a program in C" system_calls
   report "apt-get: removes" apt purge polytwkb
   report "apt-get: nothing is left" gone
+  if [ -e "$sqlite_package" ] && is_there sqlite3; then
+    report "apt-get: installs the extension of SQLite" apt install "./$sqlite_package"
+    report "apt-get: a shell loads it" sqlite3 -bail -cmd '.load mod_polytwkb' :memory: 'SELECT twkb_fault(NULL)'
+    report "apt-get: removes it" apt purge polytwkb-sqlite
+  fi
+  if [ -e "$postgresql_package" ] && dpkg-query -W "postgresql-$major" > /dev/null 2>&1; then
+    report "apt-get: installs the extension of PostgreSQL" apt install "./$postgresql_package"
+    report "apt-get: a server of this machine uses it" recipe_of_server
+    report "apt-get: removes it" apt purge "postgresql-$major-polytwkb"
+  fi
   installed=
 fi
 passed_all

@@ -1,9 +1,8 @@
 #!/usr/bin/env python3
 """Runs the commands that documents show, and compares their output with the output shown. Compares the callers
 in the READMEs of crates with the files of the crate `examples`, which the gate proves. Then checks the links of
-pages and what README.md says to type (scripts/pages.py), the tables of promises (scripts/promises.py), numbers,
-names and texts of reasons (scripts/reasons.py), what is said of each command (scripts/new_command.py), the counts in
-docs/DECISIONS.md (scripts/statistics.py), and imports of sources (scripts/unused_imports.py).
+pages, what README.md says to type and which definitions docs/FORMATS.md names (scripts/pages.py), the tables of
+promises (scripts/promises.py), and numbers, names and texts of reasons (scripts/reasons.py).
 
     scripts/docs_test.py [FILE ..]
     scripts/docs_test.py --pages      all but the commands, for which a program is needed
@@ -22,8 +21,8 @@ An indented line of docs/RECIPES.md is what a user types on files of his own. It
 demonstration in examples/recipes, which runs it. Each command there, which a line with four blanks begins, must end
 with a status other than 0 in an empty folder, without `pipefail`.
 
-The line of `awk` for a CSV of one's own is the same in README.md and in docs/USING.md. What it makes of files that it is
-not for, `pack` must refuse by `bad header`.
+The line for a CSV of one's own is the same in README.md and in docs/USING.md. What it makes of files that it is not
+for, `pack` must refuse.
 
 If a line of a crate's README ends with a link to a file of crates/examples/src and a colon, a block fenced with
 ```rust follows, which must be that file, word for word. Each file there, except lib.rt and tests.rt, must be
@@ -39,21 +38,19 @@ import subprocess
 import sys
 import tempfile
 
-import new_command
 import pages
 import promises
 import reasons
-import statistics
-import unused_imports
 
 REPO = os.path.abspath(os.path.join(os.path.dirname(__file__), ".."))
 FILES = ["README.md", "docs/USING.md", "docs/RECIPES.md", "crates/polytwkb/README.md"]
 EXAMPLES = os.path.join(REPO, "crates", "examples", "src")
 RECIPES = os.path.join(REPO, "examples", "recipes")
-AWK = re.compile(r"^awk -F,.*? routes\.csv > table\.csv$", re.S | re.M)
-OWN_FILE = "route_id,name,polyline\n12,Bern,yop}Gysml@lAxTfChSgKhK\n14,,\n"
-# Commands that make files of it that the line of awk is not for.
-WRONG_FILES = ["sed 1d", "tr , ';'", "gzip -nc", r"tr '\n' '\r'", "cut -d , -f 1,2", "iconv -t UTF-16", "true"]
+OWN_LINE = re.compile(r"^(python3 \S*/column_to_table\.py .* < routes\.csv > routes\.table) &&$", re.M)
+OWN_FILE = "route_id,polyline,name\n12,yop}Gysml@lAxTfChSgKhK,Bern\n14,,\n"
+# Commands that make other files of it: those that the line is for, and those that it is not for.
+RIGHT_FILES = ["cat", r"tr '\n' '\r'", r"sed 's/$/\r/; 1s/^/\xef\xbb\xbf/'", "cut -d , -f 1,2"]
+WRONG_FILES = ["sed 1d", "tr , ';'", "gzip -nc", "cut -d , -f 1,3", "iconv -t UTF-16", "sed 's/^14,/14,NULL/'", "true"]
 CALLER = re.compile(r"\(\.\./examples/src/([a-z_]+\.rt)\):$")
 MARK = "--- end of the command ---"
 SECONDS = 300
@@ -131,6 +128,8 @@ def printed_by(commands):
         script = os.path.join(folder, "session.sh")
         work = os.path.join(folder, "work")
         os.mkdir(work)
+        # README.md is typed at the top of the repository
+        os.symlink(os.path.join(REPO, "examples"), os.path.join(work, "examples"))
         with open(script, "w", encoding="utf-8") as file:
             file.write(script_of(commands))
         environment = dict(os.environ, REPO=REPO, RECIPES=RECIPES, LC_ALL="C.UTF-8")
@@ -255,26 +254,27 @@ def commands_on_nothing():
 
 
 def wrong_files():
-    """How many faults the line of awk in README.md and docs/USING.md has, each reported on standard output."""
-    lines = {line for page in ("README.md", "docs/USING.md") for line in AWK.findall(pages.text_of(page))}
-    faults = [] if len(lines) == 1 else [f"{len(lines)} lines of awk in README.md and docs/USING.md"]
+    """How many faults the line for a CSV in README.md and docs/USING.md has, each reported on standard output."""
+    lines = {line for page in ("README.md", "docs/USING.md") for line in OWN_LINE.findall(pages.text_of(page))}
+    faults = [] if len(lines) == 1 else [f"{len(lines)} lines for a CSV in README.md and docs/USING.md"]
     line = min(lines, default="false")
-    for command in ["cat", *WRONG_FILES]:
+    for command in RIGHT_FILES + WRONG_FILES:
         made = f"printf '{OWN_FILE}' | {command} > routes.csv"
-        run = in_new_folder(f"{made}\n{line}\npolytwkb pack < table.csv > routes.twkb")
-        said = "" if command == "cat" else "polytwkb: record 1: bad header\n"
-        if run.returncode != bool(said) or not run.stderr.endswith(said):
-            faults.append(f"awk after {command}: status {run.returncode}, {run.stderr}")
+        run = in_new_folder(f"{made}\n{line}\npolytwkb pack < routes.table > routes.twkb")
+        right = command in RIGHT_FILES
+        said = "" if right else ": not five fields\n"
+        if run.returncode != (not right) or not run.stderr.endswith(said) or run.stderr.startswith("polytwkb"):
+            faults.append(f"the line for a CSV after {command}: status {run.returncode}, {run.stderr}")
     print("".join(fault + "\n" for fault in faults), end="")
     mark = "FAIL" if faults else "ok  "
-    print(f"{mark}  README.md: {len(WRONG_FILES)} wrong files through awk, {len(faults)} faults")
+    count = len(RIGHT_FILES + WRONG_FILES)
+    print(f"{mark}  README.md: {count} files through the line for a CSV, {len(faults)} faults")
     return len(faults)
 
 
 def page_faults():
-    """How many faults pages and imports have that can be found without a program, each reported on standard output."""
-    faults = caller_differences() + lines_not_run() + pages.main([]) + promises.main([]) + reasons.main() + new_command.main()
-    return faults + statistics.main(["--check"]) + unused_imports.main()
+    """How many faults pages have that can be found without a program, each reported on standard output."""
+    return caller_differences() + lines_not_run() + pages.main() + promises.main([]) + reasons.main()
 
 
 def main():

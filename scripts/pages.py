@@ -1,17 +1,16 @@
 #!/usr/bin/env python3
 """Checks of pages that need no program: the targets of their links, what README.md says to type, marks that a merge
-left, and of some pages the number of words.
+left, and the definitions that docs/FORMATS.md names.
 
     scripts/pages.py            reports faults; status 1 if there are any
-    scripts/pages.py --counts   the number of words of each page that has a limit, and the limit
-
-Words are counted as `wc -w` does: what is between blanks, in text, tables, code, pictures and comments alike. The
-tables of promises in docs/PROOFS.md, which scripts/promises.py puts between its marks, are not counted.
 
 The first block of README.md is the lines that do all the set-up: `make demo` and `make test`. Each `make TARGET` there
 is a target of the Makefile, and beside each of the two the page names the script that it calls.
 
 A link to a file of this repository is checked: the file must exist, and so must the heading after '#'.
+
+In docs/FORMATS.md each word between backquotes in a column "Said by" must be a definition, a field or a case of
+crates/*/specs/; the first word, of the one crate that the text above the tables names, unless the cell names another.
 """
 import glob
 import os
@@ -19,17 +18,10 @@ import re
 import sys
 
 REPO = os.path.abspath(os.path.join(os.path.dirname(__file__), ".."))
-# Pages for reference. One for users is as long as they need.
-LIMITS = {
-    "docs/FORMATS.md": 6000,
-    "docs/DECISIONS.md": 5500,
-    "docs/PROOFS.md": 4000,
-    "docs/PERF.md": 2500,
-    "CONTRIBUTING.md": 2000,
-}
 SET_UP = ["demo", "test"]
 
-PROMISES = re.compile(r"<!-- promises: begin -->.*?<!-- promises: end -->", re.S)
+DEFINED = re.compile(r"(?<![\w.])(\w+) :(?= |$)|\b(?:record|data) (?:pub )?(\w+)", re.M)
+BELOW = re.compile(r"names in the tables below are those of `crates/(\w+)/specs/`")
 FENCED = re.compile(r"^\s*```.*?^\s*```", re.S | re.M)
 LINK = re.compile(r"\[[^\]]*\]\(([^)\s]+)\)")
 HEADING = re.compile(r"^#+ +(.*)$", re.M)
@@ -48,18 +40,6 @@ def pages():
     patterns = ("*.md", "docs/*.md", "*/README.md", "*/*/README.md")
     found = [path for pattern in patterns for path in glob.glob(os.path.join(REPO, pattern))]
     return sorted({os.path.relpath(path, REPO) for path in found})
-
-
-def words_of(page):
-    """How many words of a page are counted."""
-    return len(PROMISES.sub(" ", text_of(page)).split())
-
-
-def long_pages():
-    """The pages that have too many words."""
-    for page, limit in LIMITS.items():
-        if words_of(page) > limit:
-            yield f"{page}: {words_of(page)} words, {limit} at most"
 
 
 def anchors_of(page):
@@ -107,17 +87,41 @@ def merge_marks():
                 yield f"{page}:{number}: a mark of a merge"
 
 
-def main(words):
-    if "--counts" in words:
-        for page, limit in LIMITS.items():
-            print(f"{words_of(page):6} of {limit:5}  {page}")
-        return 0
-    wrong = [*long_pages(), *lost_links(), *front_faults(), *merge_marks()]
+def said_by():
+    """The words in the column "Said by" of docs/FORMATS.md, each with the number of its line and the crate meant, if one is."""
+    inside, crate = False, "*"
+    for number, line in enumerate(text_of("docs/FORMATS.md").split("\n"), 1):
+        crate = "*" if line.startswith("## ") else (BELOW.findall(line) or [crate])[0]
+        cells = [cell.strip() for cell in re.split(r"(?<!\\)\|", line)[1:-1]]
+        inside = bool(cells) and (inside or cells[-1] == "Said by")
+        for span in re.findall(r"`([^`]*)`", cells[-1]) if inside else ():
+            words = [word for word in re.findall(r"[A-Za-z]\w*", span) if not word.startswith("twkb_")]
+            meant = "*" if "`twkb_" in cells[-1] else crate
+            yield from ((number, word, "*" if place else meant) for place, word in enumerate(words))
+
+
+def defined_in(crate):
+    """The definitions, fields and cases of the specs/ of a crate, or of all for '*'."""
+    paths = glob.glob(os.path.join(REPO, "crates", crate, "specs", "*.antt"))
+    return {word for path in paths for words in DEFINED.findall(text_of(path)) for word in words if word}
+
+
+def lost_definitions():
+    """The words of docs/FORMATS.md that should be definitions, and are none."""
+    said = list(said_by())
+    known = {crate: defined_in(crate) for crate in {crate for _, _, crate in said}}
+    for number, word, crate in said:
+        if word not in known[crate]:
+            yield f"docs/FORMATS.md:{number}: crates/{crate}/specs/ defines no {word}"
+
+
+def main():
+    wrong = [*lost_links(), *front_faults(), *merge_marks(), *lost_definitions()]
     for fault in wrong:
         print(fault)
-    print(f"{'FAIL' if wrong else 'ok  '}  {len(pages())} pages: links, set-up, words and marks, {len(wrong)} faults")
+    print(f"{'FAIL' if wrong else 'ok  '}  {len(pages())} pages: links, set-up, marks and definitions, {len(wrong)} faults")
     return len(wrong)
 
 
 if __name__ == "__main__":
-    sys.exit(1 if main(sys.argv[1:]) else 0)
+    sys.exit(1 if main() else 0)

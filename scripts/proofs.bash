@@ -113,7 +113,7 @@ over() {
   if [ -d "$own/incremental" ]; then
     rm -rf "$kept"
     mkdir -p "$(dirname "$kept")"
-    mv "$own/incremental" "$kept.$$" && mv -T "$kept.$$" "$kept" 2> /dev/null || rm -rf "$kept.$$"
+    { mv "$own/incremental" "$kept.$$" && mv -T "$kept.$$" "$kept" 2> /dev/null; } || rm -rf "$kept.$$"
   fi
   [ $status -eq 0 ] || [ "$3" = run ] || cat "$1.log"
   return $status

@@ -174,6 +174,27 @@ done
 ends 1 "" "a full disk behind standard error changes no status" refused_to_full_disk
 ends 0 "" "help to a full disk has status 0" help_to_full_disk
 
+# from_open_pipe COMMAND FILE: gives a command the bytes of a file, from a pipe that stays open after them.
+from_open_pipe() {
+  local answer
+  rm -f "$work/pipe"
+  mkfifo "$work/pipe"
+  exec 4<> "$work/pipe"
+  cat "$2" >&4
+  timeout 20 "$program" "$1" < "$work/pipe" 4>&-
+  answer=$?
+  exec 4>&-
+  return "$answer"
+}
+printf '%s\n0,point,,0,AC\n0,pont,,0,\n' "$header" > "$work/refused.csv"
+printf '\001\010\001' > "$work/refused.twkb"
+ends 1 "polytwkb: record 3: unknown kind" "pack from a pipe that stays open ends at a refused row" \
+  from_open_pipe pack "$work/refused.csv"
+for command in $readers; do
+  ends 1 "polytwkb: byte 2: extra dimensions" "$command from a pipe that stays open ends at a refused byte" \
+    from_open_pipe "$command" "$work/refused.twkb"
+done
+
 # ---- inputs without end
 
 all_of_yes() { yes 2> /dev/null | timeout 300 "$program" "$1"; }

@@ -11,7 +11,7 @@ cd "$(dirname "$0")/.." || exit 1
 source scripts/kit.bash
 exec < /dev/null
 unset MAKEFLAGS MAKELEVEL
-parts="smoke completions fuzz library machines documents dist hostile arm64 javascript"
+parts="lint smoke completions fuzz library databases machines documents dist hostile arm64 javascript"
 work=$(mktemp -d)
 trap 'rm -rf "$work"' EXIT
 
@@ -28,11 +28,15 @@ cc gcc
 pkg-config pkg-config
 dpkg-deb dpkg
 lintian lintian
+shellcheck shellcheck
+pyflakes3 pyflakes3
+mypy mypy
 valgrind valgrind
 /usr/share/python-wheels python3-venv
 zsh zsh
 fish fish
 sqlite3 sqlite3
+/usr/include/sqlite3ext.h libsqlite3-dev
 jq jq
 xxd xxd
 parallel parallel
@@ -46,9 +50,11 @@ tsc node-typescript
 /usr/lib/python3/dist-packages/polyline python3-polyline
 /usr/lib/python3/dist-packages/numpy python3-numpy
 /usr/lib/python3/dist-packages/shapely python3-shapely
+/usr/lib/python3/dist-packages/geopandas python3-geopandas
 /usr/lib/python3/dist-packages/distributed python3-distributed
 pv pv
 /usr/share/postgresql/*/extension/postgis.control postgresql-postgis
+/usr/include/postgresql/15/server/postgres.h postgresql-server-dev-15
 ogr2ogr gdal-bin
 go golang-go
 aarch64-linux-gnu-gcc gcc-aarch64-linux-gnu
@@ -61,12 +67,13 @@ END
 # Each package by itself, so that one that a mirror lacks does not stop the others. The server that PostgreSQL's package
 # brings is not started: recipes start one of their own.
 install_lacking() {
-  local package packages policy=/usr/sbin/policy-rc.d apt=(apt-get -y -q -o DPkg::Lock::Timeout=300 -o Acquire::http::Timeout=20)
+  local package packages apt=(apt-get -y -q -o DPkg::Lock::Timeout=300 -o Acquire::http::Timeout=20)
   packages=$(lacking)
   if [ -z "$packages" ] || [ "${SYSTEM:-yes}" = no ] || [ "$(id -u)" -ne 0 ] || ! command -v apt-get > /dev/null; then return; fi
   export DEBIAN_FRONTEND=noninteractive
+  policy=/usr/sbin/policy-rc.d # not local: the trap outlives the function
   if [ ! -e "$policy" ]; then
-    trap "rm -f $policy" EXIT
+    trap 'rm -f "$policy"' EXIT
     install -m 755 /dev/stdin "$policy" <<< $'#!/bin/sh\nexit 101'
   fi
   timeout 120 "${apt[@]}" update
@@ -106,6 +113,7 @@ lacks() {
   return 1
 }
 
+lint() { scripts/lint.sh; }
 smoke() { MEGABYTES=${MEGABYTES:-50} scripts/smoke.sh; }
 completions() { scripts/completions_test.sh; }
 fuzz() {
@@ -131,6 +139,10 @@ machines() {
   done
 }
 javascript() { lacks JavaScript make cc node || make -s wasm-test CASES="${CASES:-20000}" SEED="$seed"; }
+databases() {
+  lacks "SQLite and PostgreSQL" make cc && return
+  make -s databases-test CASES="${CASES:-20000}" SEED="$seed"
+}
 dist() { lacks dist make cc dpkg-deb || make -s dist-test; }
 arm64() {
   lacks "64-bit ARM" make cc aarch64-linux-gnu-gcc qemu-aarch64-static && return
@@ -194,14 +206,14 @@ if [ $status -eq 0 ]; then
   seed=$(date -u +%Y%m%d)
   echo "fuzz: seed $seed"
   make -s bin/refuse.so > /dev/null 2>&1
-  lane smoke completions &
+  lane smoke completions lint &
   lane fuzz &
   lane hostile &
   # Of what several parts would build at the same time, first what needs nothing of the others.
   if command -v aarch64-linux-gnu-gcc > /dev/null; then programs_for_arm64 > "$work/arm64_programs.log" 2>&1 & fi
-  make -s lib static wasm > "$work/build.log" 2>&1 || tail -n 20 "$work/build.log"
+  make -s lib static wasm databases > "$work/build.log" 2>&1 || tail -n 20 "$work/build.log"
   lane documents machines library &
-  lane javascript &
+  lane javascript databases &
   if command -v aarch64-linux-gnu-gcc > /dev/null; then
     # begins with what was checked for the library of this processor
     mkdir -p out/arm64

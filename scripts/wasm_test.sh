@@ -58,6 +58,24 @@ bundled() {
     --asset-names='[name]' --alias:polytwkb="$PWD/js/polytwkb.js" --alias:polytwkb-module="$PWD/js/polytwkb.wasm" &&
     node "$work/bundle/bundled.js"
 }
+# The oldest engines that README and declarations name know the syntax: esbuild has nothing to rewrite for them. That they
+# know the calls is shown by the types of ES2020, over which `make lint` checks the sources.
+engines() {
+  local target
+  for target in esnext chrome91,firefox89,safari16.4,node20; do
+    esbuild js/polytwkb.js --bundle --format=esm --platform=neutral --external:node:fs/promises --log-level=error \
+      --target="$target" --outfile="$work/engines/$target.js" || return 1
+  done
+  cmp "$work/engines/"*.js && grep -q 'Node from 20, Chromium and Edge from 91, Firefox from 89 and Safari from 16.4' js/README.md &&
+    grep -q 'Chromium and Edge 91, Firefox 89, Safari 16.4, Node 20' js/polytwkb.d.ts && echo "nothing is newer"
+}
+# What a caller of CommonJS reads.
+required() {
+  local said
+  mkdir -p "$work/required/node_modules" && ln -s "$PWD/js" "$work/required/node_modules/polytwkb" &&
+    said=$(cd "$work/required" && node -e 'try { require("polytwkb").load.call; console.log("it is there") } catch (fault) { console.log(fault.message) }') || return 1
+  [[ $said == "it is there" || $said == "polytwkb is an ES module: use import, or await import('polytwkb')" ]] && echo "$said"
+}
 typed() {
   tsc --noEmit --strict --target es2022 --module es2022 --moduleResolution node --lib es2022,dom js/tests/types.ts &&
     echo "strict"
@@ -77,7 +95,13 @@ result "memory: the same with 20 pages" node --wasm-max-mem-pages=20 js/tests/he
 result "memory: each growth refused" node js/tests/growth.mjs js/polytwkb.wasm
 result "memory: the package with little" node --wasm-max-mem-pages=3 js/tests/little.mjs "$work/cases"
 result "memory: 300 MB" node js/tests/large.mjs 300
-if is_there esbuild; then result "bundle: by esbuild" bundled; else skip "bundle: esbuild is not there"; fi
+if is_there esbuild; then
+  result "bundle: by esbuild" bundled
+  result "engines: the syntax that the package asks for" engines
+else
+  skip "bundle, engines: esbuild is not there"
+fi
+result "a program that requires it" required
 if is_there tsc; then result "types: by tsc" typed; else skip "types: tsc is not there"; fi
 in_browser chromium
 in_browser firefox-esr

@@ -2,6 +2,7 @@
 """Packs the package python/polytwkb and the shared library into a wheel, with no tool but this Python:
 
     scripts/wheel.py FOLDER [LIBRARY]
+    pip install .                          by pyproject.toml, once `make lib` has made the library
 
 The same build gives the same bytes: names are sorted, and each time is the first of the day of the version in
 CHANGELOG.md, in UTC. HOMEPAGE, if it is set, is the address of the sources.
@@ -59,7 +60,10 @@ def tags_of(tag):
     return "".join(f"Tag: {language}-{interface}-{platform}\n" for platform in platforms.split("."))
 
 
-def main(folder, library_file=os.path.join(REPO, "out", "libpolytwkb.so")):
+def written(folder, library_file=os.path.join(REPO, "out", "libpolytwkb.so")):
+    """Writes the wheel into a folder, and returns its name."""
+    if not os.path.exists(library_file):
+        sys.exit(f"wheel.py: {library_file} is not there; 'make lib' makes it")
     number, library = version(), bytes_of(library_file)
     day, tag, facts = day_of(number), tag_of(library), f"polytwkb-{number}.dist-info"
     files = {f"polytwkb/{name}": bytes_of(os.path.join(PACKAGE, name)) for name in os.listdir(PACKAGE) if name.endswith((".py", ".typed"))}
@@ -79,13 +83,19 @@ def main(folder, library_file=os.path.join(REPO, "out", "libpolytwkb.so")):
         record += f"{name},sha256={sum_of},{len(files[name])}\n"
     files[f"{facts}/RECORD"] = (record + f"{facts}/RECORD,,\n").encode()
     os.makedirs(folder, exist_ok=True)
-    path = os.path.join(folder, f"polytwkb-{number}-{tag}.whl")
-    with zipfile.ZipFile(path, "w") as wheel:
+    name_of_wheel = f"polytwkb-{number}-{tag}.whl"
+    with zipfile.ZipFile(os.path.join(folder, name_of_wheel), "w") as wheel:
         for name in sorted(files, key=lambda name: (name.startswith(facts), name)):
             entry = zipfile.ZipInfo(name, day)
             entry.create_system, entry.external_attr, entry.compress_type = 3, 0o100644 << 16, zipfile.ZIP_DEFLATED
             wheel.writestr(entry, files[name], compresslevel=9)
-    print(path)
+    return name_of_wheel
 
 
-main(*sys.argv[1:])
+def build_wheel(wheel_directory, config_settings=None, metadata_directory=None):
+    """What pip calls (PEP 517)."""
+    return written(wheel_directory)
+
+
+if __name__ == "__main__":
+    print(os.path.join(sys.argv[1], written(*sys.argv[1:])))

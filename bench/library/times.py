@@ -92,9 +92,9 @@ def compare_arrays(chance):
     print(f"arrays: {len(stream) / 1e6:.1f} MB, {count} points")
     told("read", {
         "the library into used memory": lambda: read(*memories), "into new memory": lambda: read(memory_of(24 * LONG), memory_of(16 * count)),
-        "the package": lambda: polytwkb.read(stream),
+        "the package": lambda: polytwkb.read(stream, degrees=False), "in degrees": lambda: polytwkb.read(stream),
     }, count)
-    told("read otherwise", {"the package": lambda: polytwkb.read(stream), "by table and decode_flat": lambda: read_by_text(stream)}, count, 3)
+    told("read otherwise", {"the package": lambda: polytwkb.read(stream, degrees=False), "by table and decode_flat": lambda: read_by_text(stream)}, count, 3)
     compare_others(stream, lines[: LONG // 10])
     compare_writing("lines", stream)
     corners = walk(chance, LONG)
@@ -113,11 +113,11 @@ def write_by_text(kinds, precisions, counts, points):
 
 def compare_writing(name, stream):
     """Writing arrays: the package, the library into memory that is new and that was used before, and by way of a table."""
-    rows, points = polytwkb.read(stream)
+    rows, points = polytwkb.read(stream, degrees=False)
     records, flat, room = rows.records.tobytes(), points.tobytes(), len(stream)
     used, numbers = memory_of(room), array("q", flat)
     ctypes.memset(address_of(used), 0, room)
-    columns = rows.kind.tolist(), rows.precision.tolist(), rows.points.tolist()
+    columns = rows.kind.tolist(), rows.precision.tolist(), rows.counts.tolist()
 
     def written(memory):
         assert library.polytwkb_write(records, len(rows), flat, len(points), address_of(memory), room, LIMITS, 0).status == 0

@@ -103,6 +103,11 @@ static void each_refusal(void) {
     check(left.status == POLYTWKB_REFUSED && left.reason == POLYTWKB_POINTS_LEFT && left.place == ROWS - 1, "a point too many");
     check(left.done == 0 && left.sent == 0, "no blob of the last geometry");
     polytwkb_limits limits = polytwkb_standard_limits();
+    polytwkb_row line = {0, 3, 0, POLYTWKB_KIND_LINESTRING, 0, 0};
+    polytwkb_point far[] = {{1, 1}, {0, -INT64_C(0x4000000000000000)}, {0, INT64_C(0x4000000000000000)}};
+    polytwkb_report outside = polytwkb_write(&line, 1, far, 3, NULL, 0, limits, POLYTWKB_FULL);
+    check(outside.status == POLYTWKB_REFUSED && outside.reason == POLYTWKB_POLYLINE_RANGE, "a point out of range");
+    check(outside.place == 0 && outside.text_offset == 2, "the third point, not the least one");
     polytwkb_report below = polytwkb_write(rows + 1, 1, points, 1, NULL, 0, limits, POLYTWKB_FULL);
     check(below.status == POLYTWKB_REFUSED && below.reason == POLYTWKB_BAD_PLACE && below.place == 0, "a row without a parent");
     check(polytwkb_write(NULL, 0, NULL, 0, NULL, 0, limits, POLYTWKB_FULL).status == POLYTWKB_DONE, "no rows, no points");
@@ -111,11 +116,43 @@ static void each_refusal(void) {
     check(polytwkb_write(NULL, 0, NULL, 0, NULL, 0, limits, POLYTWKB_FULL).status == POLYTWKB_ARGUMENTS, "a limit out of range");
 }
 
+// The polygon with a hole and the multipoint with ids of the header's comment on rows, and their blobs, worked by hand from TWKB.
+static void header_example(void) {
+    static const polytwkb_row example_rows[] = {
+        {0, 0, 0, POLYTWKB_KIND_POLYGON, 0, 5},
+        {0, 4, 1, POLYTWKB_KIND_RING, 0, POLYTWKB_NO_PRECISION},
+        {0, 4, 1, POLYTWKB_KIND_RING, 0, POLYTWKB_NO_PRECISION},
+        {0, 0, 0, POLYTWKB_KIND_MULTIPOINT, 0, 5},
+        {7, 1, 1, POLYTWKB_KIND_POINT, 1, POLYTWKB_NO_PRECISION},
+        {-1, 1, 1, POLYTWKB_KIND_POINT, 1, POLYTWKB_NO_PRECISION},
+    };
+    static const polytwkb_point example_points[] = {
+        {0, 0}, {900000, 0}, {0, 900000}, {0, 0},
+        {100000, 100000}, {200000, 100000}, {100000, 200000}, {100000, 100000},
+        {1337770, 5251630}, {-7404450, 4068920},
+    };
+    static const uint8_t example_blobs[] = {
+        0xa3, 0x00, 0x02, 0x04, 0x00, 0x00, 0xc0, 0xee, 0x6d, 0x00, 0xbf, 0xee, 0x6d, 0xc0, 0xee, 0x6d, 0x00, 0xbf, 0xee, 0x6d, 0x04,
+        0xc0, 0x9a, 0x0c, 0xc0, 0x9a, 0x0c, 0xc0, 0x9a, 0x0c, 0x00, 0xbf, 0x9a, 0x0c, 0xc0, 0x9a, 0x0c, 0x00, 0xbf, 0x9a, 0x0c,
+        0xa4, 0x04, 0x02, 0x0e, 0x01, 0xd4, 0xa6, 0xa3, 0x01, 0xdc, 0x88, 0x81, 0x05, 0x97, 0x95, 0xab, 0x08, 0xeb, 0xaf, 0x90, 0x01,
+    };
+    uint8_t output[sizeof example_blobs];
+    polytwkb_report report = polytwkb_write(example_rows, 6, example_points, 10, output, sizeof output, polytwkb_standard_limits(), POLYTWKB_PLAIN);
+    check(report.status == POLYTWKB_DONE && report.done == 2 && report.sent == sizeof output, "the header's example is written");
+    check(memcmp(output, example_blobs, sizeof output) == 0, "the blobs of the header's example");
+    polytwkb_row to_rows[6];
+    polytwkb_point to_points[10];
+    polytwkb_counts counts = polytwkb_read(output, sizeof output, to_rows, 6, to_points, 10, polytwkb_standard_limits());
+    check(counts.status == POLYTWKB_DONE && memcmp(to_rows, example_rows, sizeof to_rows) == 0, "and is read back");
+    check(memcmp(to_points, example_points, sizeof to_points) == 0, "with its points");
+}
+
 int main(void) {
     check(sizeof(polytwkb_row) == 24 && sizeof(polytwkb_counts) == 56, "the layouts");
     each_room();
     each_output();
     each_refusal();
+    header_example();
 
     polytwkb_counts cut = read_into(sizeof blobs - 1, ROWS, POINTS);
     check(cut.status == POLYTWKB_REFUSED && cut.reason == POLYTWKB_BLOB_TRUNCATED && cut.place == sizeof blobs - 1, "a cut blob");

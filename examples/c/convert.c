@@ -157,8 +157,8 @@ static void polylines(void) {
 
 // Into each room from none to one more than is needed, all numbers are rounded, halves away from 0, or none is.
 static void degrees(void) {
-    static const double numbers[] = {7.44781, -0.000005, 0.25}, endless[] = {1.5, -2.5, HUGE_VAL, 0.0};
-    static const int64_t units[] = {744781, -1, 25000};
+    static const double numbers[] = {7.44781, -0.000005, 0.015915}, endless[] = {1.5, -2.5, HUGE_VAL, 0.0};
+    static const int64_t units[] = {744781, -1, 1592};
     for (size_t room = 0; room <= 4; room++) {
         uint8_t *made = guarded(room * sizeof *units);
         polytwkb_report report = polytwkb_round(numbers, 3, 5, (int64_t *)(void *)made, room);
@@ -172,6 +172,7 @@ static void degrees(void) {
     check(refused.status == POLYTWKB_REFUSED && refused.reason == POLYTWKB_POLYLINE_RANGE && refused.place == 2 && refused.sent == 2, "an infinity");
     check(made[0] == 2 && made[1] == -3 && made[2] == 7 && made[3] == 7, "the units before it");
     check(polytwkb_round(numbers, 3, 8, made, 4).status == POLYTWKB_ARGUMENTS && made[0] == 2, "a precision out of range");
+    check(polytwkb_round(numbers, 3, 256 + 5, made, 4).status == POLYTWKB_ARGUMENTS && made[0] == 2, "a precision of nine bits");
     check(polytwkb_round(NULL, 0, -8, NULL, 0).status == POLYTWKB_DONE, "no numbers");
 }
 

@@ -18,3 +18,18 @@ polytwkb unpack < my.twkb | python3 $RECIPES/table_to_column.py geometry my.rest
 cat my.table
 cat my.rest
 cmp again.csv my.csv
+
+# As a spreadsheet writes it: a mark at the start, semicolons, and a word in place of what is missing.
+printf '\xef\xbb\xbfid;line;name\n12;yop}Gysml@lAxTfChSgKhK;Bern, Bahnhof\n14;NULL;\n' > sheet.csv
+python3 $RECIPES/column_to_table.py --delimiter ';' --null NULL line 5 sheet.rest < sheet.csv > sheet.table
+polytwkb pack < sheet.table | polytwkb unpack |
+    python3 $RECIPES/table_to_column.py --delimiter ';' line sheet.rest | tee again.csv
+head -c 3 sheet.csv | cat - again.csv | sed 's/;;$/;NULL;/' | cmp - sheet.csv
+
+# Without --null, NULL would be a line of two points near (0, 0), so it is refused, and by pack too.
+if python3 $RECIPES/column_to_table.py --delimiter ';' line 5 sheet.rest < sheet.csv 2> fault.txt |
+    polytwkb pack > refused.twkb 2> packed.txt
+then
+    exit 1
+fi
+cat fault.txt packed.txt

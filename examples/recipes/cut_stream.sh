@@ -15,6 +15,6 @@ TABLE
 
 mkdir blobs && python3 $RECIPES/cut_stream.py my.twkb blobs
 cat blobs/* | cmp - my.twkb
-(cd blobs && wc -c *)
+(cd blobs && wc -c -- *)
 python3 $RECIPES/cut_stream.py my.twkb > my.hex
 cat my.hex

@@ -75,6 +75,8 @@ class Values:
 
     def features(self):
         """Takes an object: the features of a FeatureCollection one by one, or else the object itself."""
+        if self.next() == "[":
+            raise Fault("an array in place of a FeatureCollection; jq -c '.[]' makes lines of one")
         whole, streamed = {}, False
         for _ in self.items("{", "}"):
             if self.next() != '"':

@@ -24,6 +24,9 @@ python3 $RECIPES/geojson_to_table.py 6 < again.geojsonl | cmp - my.csv
 python3 $RECIPES/geojson_to_table.py --rest my.rest 6 < my.geojson | polytwkb pack > my.twkb
 polytwkb unpack < my.twkb | python3 $RECIPES/table_to_geojson.py --rest my.rest > again.geojsonl
 grep '"stop"' again.geojsonl
+polytwkb unpack < my.twkb | python3 $RECIPES/table_to_geojson.py --rest my.rest --collection > again.geojson
+head -n 2 again.geojson
+python3 $RECIPES/geojson_to_table.py 6 < again.geojson | cmp - my.csv
 
 # Polylines alone, a line for each feature: halfway is away from zero, and a geometry of parts has none of its own.
 python3 $RECIPES/geojson_to_table.py 5 < my.geojson > my.table &&
@@ -46,3 +49,4 @@ refused '{"type": "Feature", "properties": {}, "geometry": {"type": "Point", "co
 refused '{"type": "FeatureCollection", "features": [{"type": "Feature", "properties": {}, "geometry": null}]}'
 refused '{"type": "LineString", "coordinates": [[7.4, 46.9], [null, null]]}'
 refused '{"type": "Topology", "objects": {}}'
+refused '[{"type": "Point", "coordinates": [7.4, 46.9]}]'

@@ -1,6 +1,7 @@
 #!/usr/bin/env bash
 # Routes with whole numbers as keys to one multilinestring, whose members have the keys as ids, and back.
 source "$(dirname "$0")/common.bash"
+need python3
 
 cat > my.csv <<'END'
 route_id,polyline
@@ -9,15 +10,12 @@ route_id,polyline
 9007199254740993,
 END
 
-awk -F, '{ sub(/\r$/, "") }
-    NR == 1 && $NF !~ /^"?polyline"?$/ { print "the last column is not polyline" > "/dev/stderr"; exit 1 }
-    NR == 1 { print "depth,kind,id,precision,polyline"; print "0,multilinestring,,5,"; next }
-    NF { print "1,linestring," $1 ",," $NF }' my.csv | polytwkb pack > my.twkb
-polytwkb unpack < my.twkb > my.table && awk -F, '$1 == 1 { print $3 "," $5 }' my.table > again.csv
+python3 $RECIPES/column_to_table.py --ids route_id polyline 5 my.rest < my.csv | polytwkb pack > my.twkb
+polytwkb unpack < my.twkb > my.table && python3 $RECIPES/table_to_column.py polyline my.rest < my.table > again.csv
 
 polytwkb show < my.twkb
-cat again.csv
-tail -n +2 my.csv | cmp - again.csv
+cat my.table
+cmp my.csv again.csv
 
 # Each member as a geometry of its own, and its id as a line of a file of keys.
 awk -F, -v OFS=, 'NR == 1 { print; next } $1 == 0 { precision = $4; next }

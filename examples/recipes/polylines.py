@@ -1,13 +1,15 @@
 """Points to encoded polylines and back, and decimal numbers to whole numbers of units of a precision."""
 import re
-from decimal import ROUND_HALF_UP, Context, Decimal
+from fractions import Fraction
 from itertools import accumulate
+from math import floor
 from operator import sub
 
 NUMBER = re.compile("[_-~]*[?-^]")
 # A float of fewer units than this is off by less than 10^-5, which counts only near a half.
 LARGE = 2.0**32
-EXACT = Context(prec=100)
+# Up to so many units a float that is the nearest one to a half counts as that half.
+SHORT = 10.0**14
 # The characters of five bits of a number, least first: those that go on, and those that end it.
 GO_ON, END = ([chr(63 + more + bits) for bits in range(32)] for more in (32, 0))
 # Three characters that go on, and the texts of numbers of up to three.
@@ -41,16 +43,24 @@ TEXTS = Texts((step, text) for text, step in STEPS.items())
 
 
 def exact_units(number, precision):
-    """The same of one number, by its decimal digits."""
-    rounded = Decimal(repr(number)).quantize(Decimal((0, (1,), -precision)), ROUND_HALF_UP, EXACT)
-    return int(rounded.scaleb(precision, EXACT))
+    """The same of one number, also next to a half."""
+    times, over = 10 ** max(precision, 0), 10 ** max(-precision, 0)
+    size = abs(number)
+    if isinstance(number, float) and size * times / over < SHORT:
+        # One of the two is 1, so each float is rounded once: the half becomes the float nearest to it.
+        whole = floor(size * times / over)
+        units = whole + ((whole + 0.5) * over / times <= size)
+    else:
+        units = floor(Fraction(size) * times / over + Fraction(1, 2))
+    return units if number > 0 else -units
 
 
 def units_of(numbers, precision):
     """For each int or float the nearest whole number of units of 10^-precision; halfway, the one farther from 0.
 
-    A float counts as the shortest decimal number that reads as it, so one of up to 15 digits as it was written. Raises
-    TypeError, ValueError or ArithmeticError if one is no number, or none that is finite.
+    A float that is the nearest one to a half counts as that half, up to 10^14 units: so a decimal number of up to 15
+    digits counts as it was written. docs/FORMATS.md has the rule. Raises TypeError, ValueError or ArithmeticError if
+    one is no number, or none that is finite.
     """
     scale, units = 10.0**precision, []
     for number in numbers:
@@ -87,3 +97,11 @@ def numbers_of(text):
     """
     steps = list(map(STEPS.__getitem__, NUMBER.findall(text)))
     return accumulate(steps[1::2]), accumulate(steps[::2])
+
+
+def decimal_text(number, precision):
+    """The decimal number of a whole number of units of 10^-precision, with as many decimals."""
+    if precision <= 0:
+        return str(number * 10**-precision)
+    digits = f"{abs(number):0{precision + 1}}"
+    return f"{'-' if number < 0 else ''}{digits[:-precision]}.{digits[-precision:]}"

@@ -34,6 +34,13 @@ differ=$(psql -At -c "SELECT count(*) FROM my_table FULL JOIN again USING (id)
     WHERE ST_AsEWKT(my_table.geom, 5) IS DISTINCT FROM ST_AsEWKT(again.geom, 5)")
 [ "$differ" = 0 ]
 
+# The keys are a column of a CSV.
+printf 'route_id,polyline,name\n12,yop}Gysml@lAxT,"Bern, Bahnhof"\n14,cip}Guill@\\E,\n' > routes.csv
+python3 $RECIPES/column_to_table.py polyline 5 routes.rest < routes.csv | polytwkb pack > routes.twkb
+psql -c 'TRUNCATE my_blobs'
+python3 $RECIPES/stream_to_copy.py --column route_id routes.twkb routes.rest | psql -c 'COPY my_blobs FROM STDIN (FORMAT binary)'
+psql -At -c "SELECT string_agg(key, ' ' ORDER BY key::int) FROM my_blobs"
+
 # Keys that are not one for each blob, and a stream that is refused, load no row.
 psql -c 'TRUNCATE my_blobs'
 tail -n +2 my.keys > fewer.keys

@@ -9,16 +9,14 @@ TABLE = """depth,kind,id,precision,polyline
 blobs = polytwkb.pack(TABLE)
 print(f"{len(blobs)} bytes: {blobs.hex()}")
 
-rows, points = polytwkb.read(blobs)
-table = numpy.frombuffer(rows.records, rows.dtype)
-print(table[["kind", "points", "precision"]])
-degrees = numpy.asarray(polytwkb.in_degrees(points, 5))
-lines = numpy.split(degrees, numpy.cumsum(table["points"])[:-1])
+rows, points = map(numpy.asarray, polytwkb.read(blobs))
+print(rows[["kind", "counts", "precision"]])
+lines = numpy.split(points, numpy.cumsum(rows["counts"])[:-1])
 for line in lines:
     print(line.shape, line.min(axis=0), line.max(axis=0))
 
-columns = {"kind": polytwkb.Kind.LINESTRING, "points": [len(line) for line in lines], "precision": 5}
-written = polytwkb.write(columns, polytwkb.in_units(numpy.concatenate(lines), 5))
+columns = {"kind": polytwkb.Kind.LINESTRING, "counts": [len(line) for line in lines], "precision": 5}
+written = polytwkb.write(columns, numpy.concatenate(lines))
 print("back:", "the same bytes" if written == blobs else "other bytes")
 
 try:

@@ -14,6 +14,10 @@ printf '%s\n' 101 102 27 104 > my.keys
 polytwkb unpack < my.twkb > my.csv || true
 sed -n "$(($(polytwkb show < my.twkb 2> /dev/null | grep -c '^0 ') + 1)) p" my.keys
 
+# Or the record of a .rest, which has a header.
+{ echo key,name; sed 's/$/,a name/' my.keys; } > my.rest
+sed -n "$(($(polytwkb show < my.twkb 2> /dev/null | grep -c '^0 ') + 2)) p" my.rest
+
 cat > my.csv <<'END'
 depth,kind,id,precision,polyline
 0,point,,5,yop}Gysml@

@@ -40,7 +40,7 @@ jq -r '.routes[]?.geometry | values | input_filename' osrm/*.json > osrm.keys
 polytwkb unpack < osrm.twkb | tail -n +2 | paste osrm.keys -
 for service in osrm valhalla graphhopper google; do
     polytwkb unpack < $service.twkb | python3 $RECIPES/table_to_geojson.py | sed -n 1p
-done
+done | uniq -c | sed 's/^ *//'
 
 echo "four points with heights:"
 echo '{"paths": [{"points": "yop}Gysml@gohBlAxTnPfChS~HgKhK{J"}]}' > graphhopper/1.json

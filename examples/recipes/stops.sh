@@ -17,6 +17,11 @@ polytwkb pack < stops.csv > stops.twkb
 cat stops.csv
 polytwkb unpack < stops.twkb | python3 $RECIPES/table_to_geojson.py | paste stops.keys -
 
+# The other columns beside it, and the same stops again, with as many decimals as the precision.
+python3 $RECIPES/stops_to_table.py --rest stops.rest 6 stops.keys < stops.txt | polytwkb pack > stops.twkb
+polytwkb unpack < stops.twkb | python3 $RECIPES/table_to_stops.py stops.rest > again.txt
+cat again.txt
+
 cat > places.csv <<'PLACES'
 name,lon,lat,note
 "Bern, Bahnhof",7.447812,46.947966,
@@ -26,4 +31,4 @@ head -n 2 stops.csv | cmp - places.table
 
 sed 's/46.946905,/north,/' stops.txt > refused.txt
 python3 $RECIPES/stops_to_table.py 5 refused.keys < refused.txt 2> fault.txt |
-    polytwkb pack 2>&1 > refused.twkb || cat fault.txt
+    { polytwkb pack > refused.twkb; } 2>&1 || cat fault.txt

@@ -1,10 +1,12 @@
 #!/usr/bin/env python3
 """Points with latitude and longitude to a table of points, and their keys to a file beside it, a line for each point.
 
-    stops_to_table.py [--columns KEY LATITUDE LONGITUDE] PRECISION KEYS < STOPS > TABLE
+    stops_to_table.py [--columns KEY LATITUDE LONGITUDE] [--rest FILE] [--delimiter CHARACTER] [--null TEXT]
+        PRECISION KEYS < STOPS > TABLE
 
 STOPS is CSV with a header; without --columns its columns are those of stops.txt in GTFS: stop_id, stop_lat, stop_lon.
 Coordinates are rounded to PRECISION decimals; halfway, away from zero. A stop without coordinates is an empty point.
+With --rest FILE the same CSV without latitudes and longitudes goes to FILE, for table_to_stops.py.
 """
 import sys
 
@@ -26,20 +28,23 @@ def row_of(latitude, longitude, precision):
 def main():
     words = tables.words_of(
         __doc__,
-        ("--columns", {"nargs": 3, "metavar": ("KEY", "LATITUDE", "LONGITUDE"),
-                       "default": ["stop_id", "stop_lat", "stop_lon"], "help": "the columns to read"}),
+        tables.DELIMITER,
+        tables.NULL,
+        tables.STOPS_COLUMNS,
+        tables.REST,
         tables.PRECISION,
         ("keys", {"metavar": "KEYS", "help": "the file for the keys"}),
     )
-    records = tables.input_records()
+    records = tables.input_records(words.delimiter)
     sys.stdout.write(tables.HEADER)
     header, places = tables.columns_of(records, *words.columns)
-    with open(words.keys, "w", encoding="utf-8") as keys:
+    with open(words.keys, "w", encoding="utf-8") as keys, tables.Rest(words, header, places[1:]) as rest:
 
         def put(record):
-            key, latitude, longitude = (record[place].strip() for place in places)
+            key, latitude, longitude = (tables.value_of(record[place].strip(), words.null) for place in places)
             keys.write(tables.key_line(key))
             sys.stdout.write(row_of(latitude, longitude, words.precision))
+            rest.put(record)
 
         tables.for_records(records, len(header), put)
 

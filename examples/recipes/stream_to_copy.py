@@ -1,11 +1,13 @@
 #!/usr/bin/env python3
 """Blobs of a stream and their keys to rows that PostgreSQL reads by COPY in binary: a key as text, and a blob as bytea.
 
-    stream_to_copy.py STREAM [KEYS] > COPY
+    stream_to_copy.py [--column NAME [--delimiter CHARACTER]] STREAM [KEYS] > COPY
 
-KEYS has a line for each blob; without it a key is the number of the blob, from 1. If the stream is refused, or there
-are more or fewer keys than blobs, the last row has no fields, so that PostgreSQL refuses all of them.
+KEYS has a line for each blob; with --column it is CSV with a header, such as the REST of column_to_table.py, and a key
+is the field in the column NAME. Without KEYS a key is the number of the blob, from 1. If the stream is refused, or
+there are more or fewer keys than blobs, the last row has no fields, so that PostgreSQL refuses all of them.
 """
+import csv
 import itertools
 import struct
 import sys
@@ -16,10 +18,15 @@ import tables
 from blobs import blobs_of
 
 
-def keys_of(path):
-    """The lines of a file of keys as UTF-8, or the numbers from 1."""
+def keys_of(path, column, delimiter):
+    """The lines of a file of keys, or the fields of a column of CSV, as UTF-8; or the numbers from 1."""
     if path is None:
         yield from (str(number).encode() for number in itertools.count(1))
+    elif column is not None:
+        with open(path, encoding="utf-8-sig", newline="") as file:
+            records = csv.reader(file, delimiter=delimiter)
+            _, (place,) = tables.columns_of(records, column)
+            yield from (record[place].encode() for record in records if record)
     else:
         with open(path, "rb") as file:
             yield from (line.rstrip(b"\r\n") for line in file)
@@ -28,10 +35,14 @@ def keys_of(path):
 def main():
     words = tables.words_of(
         __doc__,
+        ("--column", {"metavar": "NAME", "help": "the column of KEYS, which is CSV"}),
+        tables.DELIMITER,
         ("stream", {"metavar": "STREAM", "help": "the file of a stream"}),
         ("keys", {"metavar": "KEYS", "nargs": "?", "help": "the file with the keys"}),
     )
-    write, keys, count = sys.stdout.buffer.write, keys_of(words.keys), 0
+    if words.column is not None and words.keys is None:
+        raise tables.Fault("--column needs the file KEYS")
+    write, keys, count = sys.stdout.buffer.write, keys_of(words.keys, words.column, words.delimiter), 0
     write(b"PGCOPY\n\xff\r\n\0" + struct.pack(">ii", 0, 0))
     for count, (_, blob) in enumerate(blobs_of(words.stream), 1):
         key = next(keys, None)

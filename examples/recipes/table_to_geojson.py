@@ -1,12 +1,12 @@
 #!/usr/bin/env python3
 """A table to GeoJSON, a line for each geometry.
 
-    table_to_geojson.py [--rest FILE] < TABLE > LINES
+    table_to_geojson.py [--rest FILE] [--collection] < TABLE > LINES
 
-With the FILE of `geojson_to_table.py --rest` each line is the feature again. Ids of parts are in a member "ids" of the
-geometry. It is for coordinates up to 2^53, since numbers are exact up to there.
+With the FILE of `geojson_to_table.py --rest` each line is the feature again. With --collection the output is one
+FeatureCollection, as map clients and QGIS read it. Ids of parts are in a member "ids" of the geometry. It is for
+coordinates up to 2^53, since numbers are exact up to there.
 """
-import csv
 import itertools
 import sys
 from collections import deque
@@ -52,11 +52,8 @@ def shape(rows, precision):
 
 def shapes():
     """The geometries of the table, one by one."""
-    table = csv.reader(sys.stdin)
-    if ",".join(next(table, [])) + "\n" != tables.HEADER:
-        raise tables.Fault(f"no table: the first line of one is {tables.HEADER.strip()}")
     rows = deque()
-    for row in itertools.chain(table, [["0"]]):
+    for row in itertools.chain(tables.table_rows(), [["0"]]):
         if row[0] == "0" and rows:
             yield shape(rows, 0)[0]
         rows.append(row)
@@ -70,9 +67,33 @@ def features(file):
         yield f'{line.rstrip()[:-1]},"geometry":{geometry}}}'
 
 
+def bare_features():
+    """The geometries as features without properties."""
+    for geometry in shapes():
+        yield f'{{"type":"Feature","properties":{{}},"geometry":{geometry}}}'
+
+
+def write_collection(lines):
+    """Writes features as one collection, a line for each. If one is refused, the end is missing, so it is no JSON."""
+    sys.stdout.write('{"type":"FeatureCollection","features":[')
+    for number, line in enumerate(lines):
+        sys.stdout.write((",\n" if number else "\n") + line)
+    sys.stdout.write("\n]}\n")
+
+
 def main():
-    words = tables.words_of(__doc__, ("--rest", {"metavar": "FILE", "help": "all else of the features, line by line"}))
-    for line in features(open(words.rest, encoding="utf-8")) if words.rest else shapes():
+    words = tables.words_of(
+        __doc__,
+        ("--rest", {"metavar": "FILE", "help": "all else of the features, line by line"}),
+        ("--collection", {"action": "store_true", "help": "write one FeatureCollection"}),
+    )
+    if words.rest:
+        lines = features(open(words.rest, encoding="utf-8"))
+    else:
+        lines = bare_features() if words.collection else shapes()
+    if words.collection:
+        return write_collection(lines)
+    for line in lines:
         sys.stdout.write(line + "\n")
 
 

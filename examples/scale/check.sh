@@ -57,7 +57,7 @@ as_pack table.csv --style thin
 if "$here/pack_in_parts.sh" missing.csv parts.twkb 2> parts.txt || ! grep -q 'missing.csv: No such file' parts.txt; then
     fail "pack_in_parts.sh missing.csv: $(cat parts.txt)"
 fi
-echo "refused in parts as in one run, $(ls tables | wc -l) tables"
+echo "refused in parts as in one run, $(find tables -type f | wc -l) tables"
 
 # A stream that is cut, and one with a wrong size: the script's status and its text are those of 'polytwkb unpack'.
 polytwkb pack < table.csv > whole.twkb
@@ -71,10 +71,10 @@ for file in streams/*; do
     rm -f parts.csv
     polytwkb unpack < "$file" > /dev/null 2> whole.txt || whole=$?
     "$here/unpack_in_parts.sh" "$file" parts.csv "$jobs" 50k 2> parts.txt || parts=$?
-    [ "$parts" = "$whole" ] && [ "$whole" = 1 ] && cmp parts.txt whole.txt || fail "unpack_in_parts.sh $file: $(cat parts.txt)"
+    { [ "$parts" = "$whole" ] && [ "$whole" = 1 ] && cmp parts.txt whole.txt; } || fail "unpack_in_parts.sh $file: $(cat parts.txt)"
     [ ! -e parts.csv ] || fail "unpack_in_parts.sh $file: a table is left"
 done
-echo "refused in parts as in one run, $(ls streams | wc -l) streams"
+echo "refused in parts as in one run, $(find streams -type f | wc -l) streams"
 
 # The line leaves no stream of a table with a part that is refused.
 rm -f all.twkb

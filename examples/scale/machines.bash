@@ -88,7 +88,7 @@ check_refused() {
     local one=0 parts=0
     polytwkb "$1" < "$2" > /dev/null 2> one.txt || one=$?
     in_parts "$1" "$2" refused.out 300000 2> parts.txt || parts=$?
-    [ "$one" = 1 ] && [ "$parts" = 1 ] || fail "$1 $2: status $parts, and $one of one run"
+    { [ "$one" = 1 ] && [ "$parts" = 1 ]; } || fail "$1 $2: status $parts, and $one of one run"
     cmp parts.txt one.txt || fail "$1 $2: $(cat parts.txt)"
     [ -z "$(compgen -G 'refused.out*')" ] || fail "$1 $2: an output is left"
 }
@@ -115,7 +115,7 @@ check_all_refused() {
     done
     for file in refused/*.csv; do check_refused pack "$file"; done
     for file in refused/*.twkb; do check_refused unpack "$file"; done
-    echo "refused as in one run: $(ls refused | wc -l) inputs"
+    echo "refused as in one run: $(find refused -type f | wc -l) inputs"
 }
 
 # check_all START MEGABYTES: all of these, over two workers that START starts, and two new ones when one was lost.

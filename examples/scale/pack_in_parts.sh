@@ -12,6 +12,7 @@
 # With HOSTS so many jobs run on each of these, by ssh. They have polytwkb on the path, and find the
 # table by the same name. If one is lost, the others pack its parts again.
 set -euo pipefail
+case ${1-} in -h | --help) sed -n '2,/^set /{/^#/s/^# \{0,1\}//p}' "$0"; exit ;; esac
 here=$(cd "$(dirname "$0")" && pwd)
 
 own=()

@@ -46,8 +46,8 @@ CONFIG
 
 # start_host: one by a new name, on a port that is free.
 start_host() {
-    local port name tried
-    for tried in 1 2 3 4 5 6 7 8 9; do
+    local port name
+    for _ in 1 2 3 4 5 6 7 8 9; do
         port=$((20000 + RANDOM % 10000)) name=host$count
         begin "$(command -v sshd)" -D -e -f sshd_config -p "$port"
         printf 'Match originalhost %s\n  Port %d\n' "$name" "$port" >> ssh_config

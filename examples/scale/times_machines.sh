@@ -27,7 +27,7 @@ row() {
 busy=$(top -b -n 2 -d 1 | awk '/^top/ { round++ } round == 2 && /^ *[0-9]/ && $9 > 20 { print $12 }')
 make_tables "${1:-200}"
 echo "$(stat -c %s table.csv) bytes, $(stat -c %s whole.twkb) packed, on $(nproc) cores;" \
-    "busy before:" ${busy:-nothing}
+    "busy before: ${busy:-nothing}"
 row "one run" one
 (
     source "$here/dask.bash"

@@ -9,6 +9,7 @@
 # written if the status is 0, and else left as it was. Needs GNU parallel, python3, and polytwkb on the
 # path. HOSTS are as for pack_in_parts.sh.
 set -euo pipefail
+case ${1-} in -h | --help) sed -n '2,/^set /{/^#/s/^# \{0,1\}//p}' "$0"; exit ;; esac
 here=$(cd "$(dirname "$0")" && pwd)
 stream=${1:?a stream} table=${2:?a table} jobs=${3:-100%} bytes=${4:-10M}
 source "$here/parts.bash"

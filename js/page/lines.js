@@ -17,6 +17,7 @@ export class Lines {
     /** Begins anew with so many lines. */
     reset(count) {
         this.count = count;
+        this.box.classList.toggle('empty', count === 0);
         this.space.style.height = `${Math.min(count * HEIGHT, TALLEST)}px`;
         this.clear();
         this.box.scrollTop = 0;

@@ -55,9 +55,11 @@ async function open(bytes) {
         return;
     }
     chosen = null;
+    opened.wrongLine = opened.fault?.isRecord ? lineOfRecord(opened.fault.place) : -1;
     lists.headers.reset(opened.headers.offset.length);
     lists.table.reset(opened.lines.length);
     lists.bytes.reset(Math.floor(opened.bytes.length / WIDTH) + 1);
+    at('picture').classList.toggle('empty', opened.sizes.points === 0);
     tellSizes();
     tellKinds();
     picture.mark(null);
@@ -80,16 +82,17 @@ function tellFault() {
 
 function showFault() {
     const { fault } = opened;
-    if (fault.isRecord) lists.table.show(lineOfRecord(fault.place));
+    if (fault.isRecord) lists.table.show(opened.wrongLine);
     else lists.bytes.show(Math.floor(fault.place / WIDTH));
 }
 
-/** The line of a record, from 1: blank lines are no records. */
+/** The line of a record, from 1: blank lines are no records. It looks at each line, so it is asked once a table. */
 function lineOfRecord(record) {
-    const { table: bytes, lines } = opened, isBlank = line => /^[\r\n]*$/.test(textOf(bytes, lines, line));
+    const { table: bytes, lines } = opened, isEnd = byte => byte === 10 || byte === 13;
     let line = 0;
     for (let seen = 0; line < lines.length; line++) {
-        if (!isBlank(line) && ++seen === record) break;
+        const end = line + 1 < lines.length ? lines[line + 1] : bytes.length;
+        if (!bytes.subarray(lines[line], end).every(isEnd) && ++seen === record) break;
     }
     return Math.min(line, lines.length - 1);
 }
@@ -129,9 +132,9 @@ function drawHeader(header, element) {
 }
 
 function drawRow(line, element) {
-    const { table: bytes, lines, fault } = opened;
+    const { table: bytes, lines, wrongLine } = opened;
     element.textContent = textOf(bytes, lines, line).trimEnd();
-    element.classList.toggle('wrong', fault?.isRecord === true && line === lineOfRecord(fault.place));
+    element.classList.toggle('wrong', line === wrongLine);
     element.classList.toggle('chosen', chosen !== null && line >= opened.rows[chosen] && line < rowAfter(chosen));
 }
 

@@ -92,16 +92,21 @@ export class Picture {
         this.again = true;
         if (this.busy) return;
         this.busy = true;
-        while (this.again) {
-            this.again = false;
-            const view = { ...this.view, ...this.size };
-            const [all, marked] = await Promise.all([
-                this.ask('picture', view), this.chosen ? this.ask('chosen', view, ...this.chosen) : null,
-            ]);
-            this.put(all, marked);
+        try {
+            while (this.again) await this.drawOnce();
+        } finally {
+            this.busy = false;
         }
-        this.busy = false;
         this.svg.dispatchEvent(new Event('drawn'));
+    }
+
+    async drawOnce() {
+        this.again = false;
+        const view = { ...this.view, ...this.size };
+        const [all, marked] = await Promise.all([
+            this.ask('picture', view), this.chosen ? this.ask('chosen', view, ...this.chosen) : null,
+        ]);
+        this.put(all, marked);
     }
 
     put({ areas, lines, dots, small }, marked) {

@@ -1,6 +1,6 @@
 /** The geometries of a stream as typed arrays, a row for each row of its table. */
-import { bytesOf, checkObject, kindOf, limitsOf } from './inputs.js';
-import { POINT, answered, called, countsAt, memory, padded, reasonText, roomFor } from './module.js';
+import { bytesOf, degreesOf, limitsAmong, limitsOf } from './inputs.js';
+import { POINT, answered, called, countsAt, memory, padded, reasonText, roomFor, tryRoom } from './module.js';
 import { Status } from './reasons.js';
 import { OutOfMemory, Refused, whereOf } from './refused.js';
 import { numberAt, scaleOf } from './rounding.js';
@@ -14,7 +14,11 @@ const LARGE = 2 ** 24;
 /** Rows and points in the module's memory. */
 class Found {
     constructor(rowsAt, rows, pointsAt, points) {
-        Object.assign(this, { row: rowsAt / 4, rows, point: pointsAt / 4, points, words: new Int32Array(memory()) });
+        this.row = rowsAt / 4;
+        this.rows = rows;
+        this.point = pointsAt / 4;
+        this.points = points;
+        this.words = new Int32Array(memory());
     }
 
     depth(row) { return this.words[this.row + ROW_WORDS * row + 4]; }
@@ -34,17 +38,23 @@ class Found {
     }
 }
 
-/** A first guess at rows and points of a stream: for a large one none, since to count first takes less than memory. */
+const NONE = { rows: 0, points: 0 };
+
+/** A first guess at rows and points of a stream: for a large one none, since to count first takes less memory. */
 function roomsOf({ length }) {
-    return length < LARGE ? { rows: (length >> 2) + 64, points: (length >> 1) + 8 } : { rows: 0, points: 0 };
+    return length < LARGE ? { rows: (length >> 2) + 64, points: (length >> 1) + 8 } : NONE;
 }
+
+const sizeOf = (input, rooms) => padded(input.length) + rooms.points * POINT + rooms.rows * ROW;
 
 /** Reads a stream into rows and points; with more room, as much as the module names, if that was too small. */
 function readInto(wasm, input, most) {
     let rooms = roomsOf(input), isPut = false;
+    // a guess for which there is no memory may be far more than is needed, so then they are counted first
+    if (!tryRoom(sizeOf(input, rooms))) rooms = NONE;
     for (;;) {
         const points = padded(input.length), rows = points + rooms.points * POINT;
-        const base = roomFor(rows + rooms.rows * ROW);
+        const base = roomFor(sizeOf(input, rooms));
         if (!isPut) input.put(base);
         isPut = true;
         const given = [base, input.length, base + rows, rooms.rows, base + points, rooms.points, ...most];
@@ -70,31 +80,27 @@ export function found(blobs, limits, result) {
     });
 }
 
-/** Whether whole numbers are asked for. */
-export function exactOf(options) {
-    checkObject(options, 'options');
-    const { exact = false } = options;
-    if (typeof exact !== 'boolean') throw new TypeError(`exact is true or false, not ${kindOf(exact)}`);
-    return exact;
-}
-
 /** The coordinates of all points in degrees, each by the precision of the geometry that it is in. */
-function degreesOf(rows) {
-    const xy = new Float64Array(2 * rows.points);
+function allDegrees(rows) {
+    const xy = new Float64Array(2 * rows.points), { words } = rows;
     let scale = null, word = rows.point, place = 0;
     for (let row = 0; row < rows.rows; row++) {
         const precision = rows.precision(row);
         if (precision !== NO_PRECISION) scale = scaleOf(precision);
-        const end = place + 2 * rows.count(row);
-        for (; place < end; word += 2) xy[place++] = numberAt(rows.words, word, scale);
+        const { above, below } = scale, end = place + 2 * rows.count(row);
+        for (; place < end; word += 2) {
+            // most numbers have 32 bits; of above and below one is 1
+            const low = words[word];
+            xy[place++] = words[word + 1] === low >> 31 ? (low * above) / below : numberAt(words, word, scale);
+        }
     }
     return xy;
 }
 
-function arraysOf(rows, exact) {
+function arraysOf(rows, degrees) {
     const count = rows.rows, arrays = {
         depths: new Uint8Array(count), kinds: new Uint8Array(count), precisions: new Int8Array(count),
-        hasIds: new Uint8Array(count), ids: new BigInt64Array(count), starts: new Uint32Array(count + 1), xy: null,
+        hasIds: new Uint8Array(count), ids: new BigInt64Array(count), offsets: new Uint32Array(count + 1), xy: null,
     };
     const ids = new BigInt64Array(memory(), 4 * rows.row, (ROW / 8) * count);
     for (let row = 0; row < count; row++) {
@@ -103,13 +109,13 @@ function arraysOf(rows, exact) {
         arrays.precisions[row] = rows.precision(row);
         arrays.hasIds[row] = rows.hasId(row);
         arrays.ids[row] = ids[(ROW / 8) * row];
-        arrays.starts[row + 1] = arrays.starts[row] + rows.count(row);
+        arrays.offsets[row + 1] = arrays.offsets[row] + rows.count(row);
     }
-    arrays.xy = exact ? new BigInt64Array(memory(), 4 * rows.point, 2 * rows.points).slice() : degreesOf(rows);
+    arrays.xy = degrees ? allDegrees(rows) : new BigInt64Array(memory(), 4 * rows.point, 2 * rows.points).slice();
     return arrays;
 }
 
 export function read(blobs, options = {}) {
-    const exact = exactOf(options);
-    return found(blobs, options, rows => arraysOf(rows, exact));
+    const limits = limitsAmong(options, 'degrees'), degrees = degreesOf(options);
+    return found(blobs, limits, rows => arraysOf(rows, degrees));
 }

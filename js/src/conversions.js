@@ -5,7 +5,7 @@ import { Status } from './reasons.js';
 import { Refused, whereOf } from './refused.js';
 
 const LARGE = 2 ** 24;
-const [LINE_FEED, SPACE, MINUS, ZERO, NINE] = [...'\n -09'].map(character => character.charCodeAt());
+const [LINE_FEED, SPACE, MINUS, ZERO, NINE] = [...'\n -09'].map(character => character.charCodeAt(0));
 const LETTER = 55; // from an upper-case letter to the value that it has in hexadecimal
 
 const decoder = new TextDecoder();

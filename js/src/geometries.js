@@ -1,5 +1,7 @@
 /** Geometries for maps, in the form of GeoJSON. */
-import { NO_PRECISION, POINT_WORDS, ROW_WORDS, exactOf, found } from './arrays.js';
+import { NO_PRECISION, POINT_WORDS, ROW_WORDS, found } from './arrays.js';
+import { collectsOf, column, isList } from './column.js';
+import { degreesOf, limitsAmong } from './inputs.js';
 import { exactPointsAt, numberAt, pointsAt, scaleOf } from './rounding.js';
 
 const TYPES = [
@@ -10,9 +12,15 @@ const HAS_POINTS = [false, true, true, false, false, false, false, false, true];
 
 /** The lists that members are put into, by depth, and what they are put under. */
 class Tree {
-    constructor(rows, exact) {
-        Object.assign(this, { rows, exact, found: [], above: [], lists: [] });
-        Object.assign(this, { word: rows.point, precision: 0, scale: null });
+    constructor(rows, degrees) {
+        this.rows = rows;
+        this.degrees = degrees;
+        this.found = [];
+        this.above = [];
+        this.lists = [];
+        this.word = rows.point;
+        this.precision = 0;
+        this.scale = null;
     }
 
     /** The coordinates of a row: its points, or the list that its members are put into. */
@@ -20,14 +28,14 @@ class Tree {
         if (!HAS_POINTS[kind] || count === 0) return [];
         const { rows: { words }, word, scale } = this;
         this.word += POINT_WORDS * count;
-        if (this.exact) return kind === POINT ? exactPointsAt(words, word, 1)[0] : exactPointsAt(words, word, count);
+        if (!this.degrees) return kind === POINT ? exactPointsAt(words, word, 1)[0] : exactPointsAt(words, word, count);
         if (kind === POINT) return [numberAt(words, word, scale), numberAt(words, word + 2, scale)];
         return pointsAt(words, word, count, scale);
     }
 
     geometry(type, coordinates) {
         const geometry = type === TYPES[COLLECTION] ? { type, geometries: coordinates } : { type, coordinates };
-        if (this.exact) geometry.precision = this.precision;
+        if (!this.degrees) geometry.precision = this.precision;
         return geometry;
     }
 
@@ -49,13 +57,16 @@ class Tree {
     }
 }
 
-function geometriesOf(rows, exact) {
-    const tree = new Tree(rows, exact);
+function geometriesOf(rows, degrees) {
+    const tree = new Tree(rows, degrees);
     for (let row = 0; row < rows.rows; row++) tree.put(row);
     return tree.found;
 }
 
 export function geometries(blobs, options = {}) {
-    const exact = exactOf(options);
-    return found(blobs, options, rows => geometriesOf(rows, exact));
+    const limits = limitsAmong(options, 'degrees', 'errors'), degrees = degreesOf(options), collects = collectsOf(options);
+    const read = bytes => found(bytes, limits, rows => geometriesOf(rows, degrees));
+    if (isList(blobs)) return column(blobs, limits, read, collects);
+    if (collects) throw new TypeError('errors are collected of a list of blobs, and not of a stream');
+    return read(blobs);
 }

@@ -1,47 +1,70 @@
 /** What callers pass: bytes, texts, limits, styles and precisions, checked. */
+import { kindOf } from './kinds.js';
 import { bytesAt } from './module.js';
 
 const RANGES = { nest: [0, 32], nodes: [1, 2 ** 20], points: [0, 2 ** 24] };
-const STYLES = { full: 0, plain: 1 };
+const LIMITS = Object.keys(RANGES);
+const STYLES = new Map([['full', 0], ['plain', 1]]);
 const SHORT = 64; // over so few bytes a loop of our own is faster than an encoder
 
 const encoder = new TextEncoder();
-
-/** The word for what was given. */
-export function kindOf(given) {
-    if (given === null) return 'null';
-    return typeof given === 'object' ? given.constructor?.name ?? 'object' : typeof given;
-}
 
 export function checkObject(given, what) {
     if (given === null || typeof given !== 'object') throw new TypeError(`${what} are an object, not ${kindOf(given)}`);
 }
 
+/** Options, of which all but limits have these names. One of another name would do nothing, so it is refused. */
+export function checkOptions(given, ...names) {
+    if (given instanceof Limits) return;
+    checkObject(given, 'options');
+    const unknown = Object.keys(given).find(name => !LIMITS.includes(name) && !names.includes(name));
+    if (unknown !== undefined) throw new TypeError(`there is no option ${unknown}: ${[...names, ...LIMITS].join(', ')}`);
+}
+
+/** Whether degrees are asked for, and not whole units. */
+export function degreesOf({ degrees = true }) {
+    if (typeof degrees !== 'boolean') throw new TypeError(`degrees is true or false, not ${kindOf(degrees)}`);
+    return degrees;
+}
+
 /** The most that one geometry may have, its members included. */
 export class Limits {
+    /** @param {{ nest?: number, nodes?: number, points?: number }} limits */
     constructor(limits = {}) {
-        checkObject(limits, 'limits');
+        checkOptions(limits);
         const { nest = 16, nodes = 2 ** 20, points = 2 ** 24 } = limits;
-        for (const [name, limit] of Object.entries({ nest, nodes, points })) {
-            if (!Number.isInteger(limit)) throw new TypeError(`${name} is a whole number, not ${limit}`);
-            const [least, most] = RANGES[name];
-            if (limit < least || limit > most) throw new RangeError(`${name}: from ${least} to ${most}, not ${limit}`);
-            this[name] = limit;
-        }
+        this.nest = limit('nest', nest);
+        this.nodes = limit('nodes', nodes);
+        this.points = limit('points', points);
         Object.freeze(this);
     }
 }
 
-/** The limits as arguments of the module. */
+function limit(name, given) {
+    if (!Number.isInteger(given)) throw new TypeError(`${name} is a whole number, not ${given}`);
+    const [least, most] = RANGES[name];
+    if (given < least || given > most) throw new RangeError(`${name}: from ${least} to ${most}, not ${given}`);
+    return given;
+}
+
+/** Limits as arguments of the module. */
 export function limitsOf(limits) {
     const { nest, nodes, points } = limits instanceof Limits ? limits : new Limits(limits);
     return [nest, nodes, points];
 }
 
+/** The limits among options, of which others have these names. */
+export function limitsAmong(options, ...names) {
+    checkOptions(options, ...names);
+    const { nest, nodes, points } = options;
+    return new Limits({ nest, nodes, points });
+}
+
 export function styleOf(style) {
     if (typeof style !== 'string') throw new TypeError(`a style is a string, not ${kindOf(style)}`);
-    if (!Object.hasOwn(STYLES, style)) throw new RangeError(`a style is 'full' or 'plain', not '${style}'`);
-    return STYLES[style];
+    const number = STYLES.get(style);
+    if (number === undefined) throw new RangeError(`a style is 'full' or 'plain', not '${style}'`);
+    return number;
 }
 
 export function precisionOf(precision) {
@@ -52,10 +75,12 @@ export function precisionOf(precision) {
 
 const isShared = given => globalThis.SharedArrayBuffer !== undefined && given instanceof SharedArrayBuffer;
 
+export const isBuffer = given => ArrayBuffer.isView(given) || given instanceof ArrayBuffer || isShared(given);
+
 /** Bytes, as a view of them. */
 export function viewOf(given, what) {
     if (ArrayBuffer.isView(given)) return new Uint8Array(given.buffer, given.byteOffset, given.byteLength);
-    if (given instanceof ArrayBuffer || isShared(given)) return new Uint8Array(given);
+    if (isBuffer(given)) return new Uint8Array(given);
     throw new TypeError(`${what}, not ${kindOf(given)}`);
 }
 

@@ -1,4 +1,5 @@
 /** The module of WebAssembly: loaded, called, and its memory. */
+import { kindOf } from './kinds.js';
 import { Status } from './reasons.js';
 import { OutOfMemory } from './refused.js';
 
@@ -12,7 +13,9 @@ const KEPT = 128 * 2 ** 20;
 const REACHED = 2 ** 32 - 2 ** 20;
 const TEXT_ROOM = 32;
 
+/** @type {WebAssembly.Module} */
 let compiled = null;
+/** @type {any} */
 let wasm = null;
 // The module is at work. If that is so between two calls, it was left without an answer: the stack of the engine
 // ended inside it. That leaves the module's own stack lowered, so the next call takes a new instance. (At once there
@@ -34,23 +37,33 @@ export async function load(source) {
 }
 
 async function fileOf(url) {
+    // @ts-ignore there are no types of Node here
     const { readFile } = await import(/* webpackIgnore: true */ /* @vite-ignore */ 'node:fs/promises');
     try {
         return await readFile(url);
     } catch (cause) {
-        throw new Error(`polytwkb: ${url.pathname} cannot be read (in a clone, make wasm makes it)`, { cause });
+        throw new Error(`polytwkb: ${url.pathname} cannot be read (in a clone, make wasm makes it): ${cause.message}`);
     }
+}
+
+const isNode = () => Boolean(globalThis.process?.versions?.node);
+
+/** What a relative URL is relative to: the page or the worker, as for `fetch`; in Node the current folder. */
+function baseOf() {
+    const here = globalThis.document?.baseURI ?? globalThis.location?.href;
+    return here ?? (isNode() ? new URL(`file://${globalThis.process.cwd()}/`) : undefined);
 }
 
 async function compiledOf(source) {
     if (source instanceof WebAssembly.Module) return source;
     if (source instanceof ArrayBuffer || ArrayBuffer.isView(source)) return WebAssembly.compile(source);
     if (typeof source === 'string' || source instanceof URL) {
-        const url = new URL(source, import.meta.url);
-        if (url.protocol === 'file:' && globalThis.process?.versions?.node) {
-            return WebAssembly.compile(await fileOf(url));
-        }
+        const url = new URL(source, baseOf());
+        if (url.protocol === 'file:' && isNode()) return WebAssembly.compile(await fileOf(url));
         source = await fetch(url);
+    }
+    if (typeof source?.arrayBuffer !== 'function') {
+        throw new TypeError(`a module is a URL, a response, bytes or compiled, not ${kindOf(source)}`);
     }
     if (!source.ok) throw new Error(`polytwkb: ${source.url}: status ${source.status}`);
     if (source.headers.get('Content-Type') === 'application/wasm') return WebAssembly.compileStreaming(source);
@@ -60,10 +73,7 @@ async function compiledOf(source) {
 /** Runs a call, in which no code of the caller's runs. */
 export function called(work) {
     if (!wasm) throw new Error('polytwkb: wait for load() first');
-    if (inside) {
-        wasm = new WebAssembly.Instance(compiled).exports;
-        inside = false;
-    }
+    if (inside && !renew()) throw new RangeError('polytwkb: the stack ended in an earlier call: wait for load() again');
     try {
         return work(wasm);
     } finally {
@@ -71,12 +81,23 @@ export function called(work) {
     }
 }
 
+/** Takes a new instance, and answers whether it is there at once. Chromium before 115 makes none on a page at once. */
 function renew() {
     try {
         wasm = new WebAssembly.Instance(compiled).exports;
+        inside = false;
+        return true;
     } catch {
-        // an engine that makes none so large at once: this one goes on
+        renewLater(wasm);
+        return false;
     }
+}
+
+async function renewLater(old) {
+    const fresh = await WebAssembly.instantiate(compiled).catch(() => null);
+    if (!fresh || wasm !== old) return;
+    wasm = fresh.exports;
+    inside = false;
 }
 
 /** Where the report of a conversion is. */
@@ -108,7 +129,10 @@ function textAt(at) {
 
 export const reasonText = reason => textAt(wasm.reason_text(reason));
 
-/** Reads the numbers of 32 and of 64 bits of a struct of include/polytwkb.h. */
+/**
+ * Reads the numbers of 32 and of 64 bits of a struct of include/polytwkb.h.
+ * @returns {any}
+ */
 function fieldsAt(at, longs) {
     const view = new DataView(wasm.memory.buffer, at, 8 + 8 * longs.length);
     const fields = { status: view.getUint32(0, true), reason: view.getUint32(4, true) };
@@ -121,7 +145,7 @@ function fieldsAt(at, longs) {
 const REPORT = ['place', 'textOffset', 'done', 'sent', 'needed'];
 const COUNTS = ['place', 'done', 'rows', 'points', 'neededRows', 'neededPoints'];
 
-const reportAt = at => fieldsAt(at, REPORT);
+export const reportAt = at => fieldsAt(at, REPORT);
 
 /** What a reading into arrays reports. */
 export const countsAt = at => fieldsAt(at, COUNTS);
@@ -134,7 +158,12 @@ export const padded = size => Math.ceil(size / POINT) * POINT;
  */
 export function filled(input, room, unit, call) {
     const output = padded(input.length);
-    let at = roomFor(output + room * unit);
+    let at = tryRoom(output + room * unit);
+    if (!at) {
+        // the first guess may be far more than is needed: what is needed is counted first
+        room = 0;
+        at = roomFor(output);
+    }
     input.put(at);
     for (;;) {
         const report = reportAt(answered(() => call(at, at + output, room)));

@@ -1,6 +1,7 @@
 /** Lists of points to encoded polylines and back. */
 import { spelled } from './conversions.js';
-import { bytesOf, kindOf, precisionOf, textOf } from './inputs.js';
+import { bytesOf, precisionOf, textOf } from './inputs.js';
+import { kindOf } from './kinds.js';
 import { POINT, called, filled, memory, reasonText } from './module.js';
 import { Reason, Status } from './reasons.js';
 import { Refused } from './refused.js';

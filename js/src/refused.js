@@ -7,7 +7,23 @@ const CODES = Object.fromEntries(Object.entries(Reason).map(([code, reason]) => 
 export class Refused extends Error {
     constructor(reason, text, where, { place, textOffset = 0, done = 0 }, output) {
         super(where ? `${where}: ${text}` : text);
-        Object.assign(this, { reason, code: CODES[reason], text, place, textOffset, done, output });
+        this.reason = reason;
+        this.code = CODES[reason];
+        this.text = text;
+        this.place = place;
+        this.textOffset = textOffset;
+        this.done = done;
+        this.output = output;
+    }
+
+    /** What a worker can post, since an error that is posted keeps its message alone. `fromJSON` takes it. */
+    toJSON() {
+        const { message, reason, text, place, textOffset, done, output } = this;
+        return { message, reason, text, place, textOffset, done, output };
+    }
+
+    static fromJSON({ message, reason, text, place, textOffset, done, output }) {
+        return Object.assign(new Refused(reason, text, '', { place, textOffset, done }, output), { message });
     }
 }
 Refused.prototype.name = 'Refused';
@@ -17,7 +33,7 @@ export class OutOfMemory extends RangeError {}
 OutOfMemory.prototype.name = 'OutOfMemory';
 
 /** Where the report of a conversion says that its input is refused, as the command words it. */
-export function whereOf({ reason, place, textOffset }) {
+export function whereOf({ reason, place, textOffset = 0 }) {
     if (reason >= First.WHOLE) return '';
     if (reason >= First.BLOB) return `byte ${place}`;
     return reason >= First.POLYLINE ? `record ${place}: polyline at ${textOffset}` : `record ${place}`;

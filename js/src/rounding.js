@@ -1,8 +1,9 @@
-/** Numbers of JavaScript to and from the whole numbers of a precision, with no error of floating point on the way. */
-import { kindOf } from './inputs.js';
+/** Numbers of JavaScript to and from the whole numbers of a precision. */
+import { kindOf } from './kinds.js';
 
 export const LONG = 2 ** 32;
 const NEAR = 2 ** 21; // the high half of 2^53
+const SHORT = 1e14; // up to so many units a number that is the nearest one to a half counts as that half
 
 /** The two halves of a whole number as 64 bits have it, the low one first; null if they have it not. */
 export function halves(number) {
@@ -21,17 +22,17 @@ export function whole(number) {
     throw new TypeError(`a coordinate is a whole number if no precision is given, not ${number}: give a precision`);
 }
 
-/** The whole number nearest to a number of degrees in units of 10^-precision; of two the one farther from 0. */
+/** The coordinate that a number of degrees is rounded to, in units of 10^-precision: docs/FORMATS.md has the rule. */
 export function scaled(number, precision) {
     if (typeof number === 'bigint') return exactly(number, 1n, precision);
     if (typeof number !== 'number') throw new TypeError(`a coordinate is a number, not ${kindOf(number)}`);
     if (!Number.isFinite(number)) throw new RangeError(`a coordinate is a finite number, not ${number}`);
-    const size = Math.abs(number), scale = scaleOf(precision), near = (size * scale.below) / scale.above;
-    const below = Math.floor(near), part = near - below;
-    // near is within near * 2^-53 of the exact product, so far from a half it is on the right side
-    if (near < 2 ** 50 && Math.abs(part - 0.5) > near * 2 ** -52) {
-        const nearest = below + (part > 0.5);
-        return number < 0 ? -nearest : nearest;
+    const size = Math.abs(number), { above: times, below: over } = scaleOf(precision), near = (size * over) / times;
+    if (near < SHORT) {
+        // One of the two factors is 1, so each number is rounded once: near may be the whole number next to the exact
+        // size but is never below its whole part, and the half becomes the number nearest to it.
+        const whole = Math.floor(near), units = ((whole + 0.5) * times) / over <= size ? whole + 1 : whole;
+        return number < 0 ? -units : units;
     }
     let above = size, under = 1n;
     while (!Number.isInteger(above)) {

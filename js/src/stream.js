@@ -1,12 +1,13 @@
 /** A stream of blobs whose bytes come in pieces, as those of `fetch` do. */
 import { shown } from './conversions.js';
-import { Limits, kindOf, viewOf } from './inputs.js';
+import { Limits, viewOf } from './inputs.js';
+import { kindOf } from './kinds.js';
 import { Reason } from './reasons.js';
 import { Refused, whereOf } from './refused.js';
 
 // Fewer bytes of a blob are looked at each time that some come; more, when they are twice as many.
 const OFTEN = 2 ** 16;
-const [LINE_FEED, SPACE, ZERO] = [...'\n 0'].map(character => character.charCodeAt());
+const [LINE_FEED, SPACE, ZERO] = [...'\n 0'].map(character => character.charCodeAt(0));
 const [SIZE, EXTENDED] = [2, 8]; // bits of the metadata byte
 const HEADER = 13; // the most bytes of type, metadata, extended byte and size
 
@@ -61,7 +62,12 @@ function lengthOf(bytes) {
 /** The bytes that have come and are no whole blob yet. */
 class Held {
     constructor(limits) {
-        Object.assign(this, { limits, bytes: new Uint8Array(OFTEN), length: 0, offset: 0, done: 0, due: 1 });
+        this.limits = limits;
+        this.bytes = new Uint8Array(OFTEN);
+        this.length = 0;
+        this.offset = 0; // of its first byte in the stream
+        this.done = 0;
+        this.due = 1;
     }
 
     add(piece) {

@@ -17,11 +17,11 @@ const COLLECTION = table(
 );
 
 /** Arrays as the rows of a table, with points for the polyline. */
-function rowsOf({ depths, kinds, precisions, hasIds, ids, starts, xy }) {
+function rowsOf({ depths, kinds, precisions, hasIds, ids, offsets, xy }) {
     return Array.from(depths, (depth, row) => {
         const id = hasIds[row] ? String(ids[row]) : '';
         const precision = precisions[row] === NO_PRECISION ? '' : precisions[row];
-        return [depth, KINDS[kinds[row]], id, precision, xy.slice(2 * starts[row], 2 * starts[row + 1])];
+        return [depth, KINDS[kinds[row]], id, precision, xy.slice(2 * offsets[row], 2 * offsets[row + 1])];
     });
 }
 
@@ -42,16 +42,16 @@ function* streams() {
 test('arrays and rows of the table say the same', () => {
     let count = 0;
     for (const [stream, limits] of streams()) {
-        assert.deepEqual(rowsOf(read(stream, { ...limits, exact: true })), rowsOfText(unpack(stream, limits)));
+        assert.deepEqual(rowsOf(read(stream, { ...limits, degrees: false })), rowsOfText(unpack(stream, limits)));
         count++;
     }
     assert.ok(count > 80);
 });
 
 test('degrees are those of geometries', () => {
-    const { xy, starts, precisions } = read(pack(COLLECTION));
+    const { xy, offsets, precisions } = read(pack(COLLECTION));
     assert.deepEqual([...xy], [7.44781, 46.94797, 10, 10, 50, 50, 2, 1]);
-    assert.deepEqual([...starts], [0, 0, 0, 1, 3, 4]);
+    assert.deepEqual([...offsets], [0, 0, 0, 1, 3, 4]);
     assert.deepEqual([...precisions], [5, 5, NO_PRECISION, -1, 0]);
 });
 
@@ -68,6 +68,6 @@ test('a cut stream is refused after its arrays', () => {
 
 test('wrong options', () => {
     assert.throws(() => read('text'), TypeError);
-    assert.throws(() => read(new Uint8Array(0), { exact: 'yes' }), TypeError);
+    assert.throws(() => read(new Uint8Array(0), { degrees: 'yes' }), TypeError);
     assert.throws(() => read(new Uint8Array(0), null), TypeError);
 });

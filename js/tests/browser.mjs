@@ -12,7 +12,7 @@ import { fileURLToPath } from 'node:url';
 import * as polytwkb from '../polytwkb.js';
 
 const [cases, folder, ...browsers] = process.argv.slice(2);
-const SECONDS = 90;
+const SECONDS = 240;
 const TOP = fileURLToPath(new URL('..', import.meta.url));
 const KINDS = { '.html': 'text/html', '.js': 'text/javascript', '.wasm': 'application/wasm', '.css': 'text/css' };
 const POINT = Buffer.from([1, 2, 2, 4, 2]);
@@ -88,7 +88,7 @@ async function shown(browser, url, picture) {
     const timer = setTimeout(() => child.kill('SIGKILL'), SECONDS * 1000);
     const status = await new Promise(resolve => child.on('exit', resolve).on('error', fault => resolve(fault.message)));
     clearTimeout(timer);
-    rmSync(profile, { recursive: true, force: true, maxRetries: 5, retryDelay: 500 });
+    rmSync(profile, { recursive: true, force: true, maxRetries: 40, retryDelay: 500 });
     return status;
 }
 

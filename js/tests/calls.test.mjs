@@ -21,7 +21,7 @@ test('wrong types', () => {
         [pack, null], [pack, 7], [pack, ['a']], [pack], [pack, '', 0], [pack, '', null], [pack, '', 'full', 16],
         [pack, '', 'full', null], [pack, '', 'full', { nest: 1.5 }], [pack, '', 'full', { nest: '1' }],
         [unpack, ''], [unpack, null], [unpack, POINT, '16'], [show, 7], [split, ''], [geometries, 'x'],
-        [geometries, POINT, null], [geometries, POINT, { exact: 1 }], [decode, null], [decode, 7], [decode, '', 1.5],
+        [geometries, POINT, null], [geometries, POINT, { degrees: 1 }], [decode, null], [decode, 7], [decode, '', 1.5],
         [decode, '', '5'], [decode, '', null], [encode, null], [encode, 'AA'], [encode, POINT], [encode, [1, 2]],
         [encode, [[1]]], [encode, [[1, 2, 3]]], [encode, [[1.5, 2]]], [encode, [['1', 2]]], [encode, [['1', 2]], 5],
         [encode, [[null, 2]], 5], [encode, [[NaN, 1]]], [encode, new Float64Array(2)], [encode, BigInt64Array.of(1n)],
@@ -111,26 +111,44 @@ test('degrees', () => {
     assert.equal(encode(new Set(GOOGLE), 5), TEXT);
     for (const [number, precision, expected] of [
         [0.5, 0, 1], [-0.5, 0, -1], [1.5, 0, 2], [2.5, 0, 3], [15, -1, 2], [-14, -1, -1], [-15, -1, -2], [25n, -1, 3],
-        [-0, 5, 0], [0.000005, 5, 1], [2.5e-8, 7, 0], [1e-300, 7, 0], [7.000005, 5, 700000], [3n, 2, 300],
+        [-0, 5, 0], [0.000005, 5, 1], [2.5e-8, 7, 0], [1e-300, 7, 0], [7.000005, 5, 700001], [3n, 2, 300],
     ]) assert.deepEqual(decode(encode([[number, 0]], precision)), [[expected, 0]], `${number} at ${precision}`);
 });
 
-// The same rounding by the digits of the number itself, which toFixed gives up to 100 places.
+// The same rounding by the digits of the number itself, which toFixed gives up to 100 places. A half is read from its
+// decimal digits, as the number nearest to them.
 function nearestOf(number, precision) {
-    const [before, after] = Math.abs(number).toFixed(60).split('.');
-    const digits = BigInt(before + after), unit = 10n ** BigInt(60 - precision);
-    const nearest = (2n * digits + unit) / (2n * unit);
+    const [before, after] = Math.abs(number).toFixed(100).split('.');
+    const digits = BigInt(before + after), unit = 10n ** BigInt(100 - precision), whole = digits / unit;
+    const counts = whole < 10n ** 14n && Number(`${whole}5e${-precision - 1}`) === Math.abs(number);
+    const nearest = whole + BigInt(counts || 2n * (digits % unit) >= unit);
     return number < 0 ? -nearest : nearest;
 }
+
+/** The numbers next to a number. */
+function beside(number, step) {
+    const bits = new BigInt64Array(Float64Array.of(number).buffer);
+    bits[0] += BigInt(step);
+    return new Float64Array(bits.buffer)[0];
+}
+
+test('a number that is the nearest one to a half counts as that half', () => {
+    for (const [number, precision, unit] of [
+        [0.15, 1, 2n], [-0.15, 1, -2n], [0.35, 1, 4n], [beside(0.15, -1), 1, 1n], [0.015915, 5, 1592n], [1.005, 2, 101n],
+        [2 ** 53, 0, 2n ** 53n], [99999999999999.5, 0, 10n ** 14n], [0.49999999999999994, 0, 0n],
+    ]) assert.equal(decodeFlat(encode([[number, 0]], precision))[0], unit, `${number} at ${precision}`);
+});
 
 test('rounding is exact', () => {
     let state = 7;
     const random = () => (state = (state * 1103515245 + 12345) % 2 ** 31) / 2 ** 31;
-    for (let round = 0; round < 20000; round++) {
+    for (let round = 0; round < 100000; round++) {
         const precision = Math.floor(random() * 16) - 8, unit = 10 ** -precision;
         let number = (random() - 0.5) * 10 ** Math.floor(random() * 10);
-        if (round % 2) number = (Math.floor(number / unit) + 0.5) * unit; // near a half
-        if (number !== 0 && Math.abs(number) < 1e-3) number = Math.fround(number); // at most 60 places
+        if (round % 4) number = Number(`${Math.floor(random() * 10 ** Math.floor(random() * 15))}5e${-precision - 1}`);
+        if (round % 4 > 1) number = beside(number, Math.floor(random() * 5) - 2);
+        if (Math.abs(number) > 1e20 || Math.abs(number) / unit > 2 ** 61) continue;
+        if (Math.abs(number) < 2 ** -48) number = 0; // so it has at most 100 places
         const [got] = decodeFlat(encode([[number, 0]], precision));
         assert.equal(got, nearestOf(number, precision), `${number} at ${precision}`);
     }

@@ -63,12 +63,12 @@ const lineOf = ({ level, offset, kind, precision, metadata, length, points }) =>
     `${[level, offset, kind, precision, metadataOf(metadata), length, points].join(' ')}\n`;
 
 /** Arrays of the package as the bytes of points and rows. */
-export function bytesOfArrays({ depths, kinds, precisions, hasIds, ids, starts, xy }) {
+export function bytesOfArrays({ depths, kinds, precisions, hasIds, ids, offsets, xy }) {
     const start = 8 * xy.length, bytes = new Uint8Array(start + ROW * depths.length), view = viewOf(bytes);
     new BigInt64Array(bytes.buffer, 0, xy.length).set(xy);
     for (let row = 0, at = start; row < depths.length; row++, at += ROW) {
         view.setBigInt64(at, ids[row], true);
-        view.setUint32(at + 8, starts[row + 1] - starts[row], true);
+        view.setUint32(at + 8, offsets[row + 1] - offsets[row], true);
         view.setUint32(at + 16, depths[row], true);
         view.setUint16(at + 20, kinds[row], true);
         bytes[at + 22] = hasIds[row];
@@ -82,12 +82,12 @@ function arraysOfBytes(source, points) {
     const view = viewOf(source), first = POINT * points, count = (source.length - first) / ROW;
     const arrays = {
         depths: new Uint8Array(count), kinds: new Uint8Array(count), precisions: new Int8Array(count),
-        hasIds: new Uint8Array(count), ids: new BigInt64Array(count), starts: new Uint32Array(count + 1),
+        hasIds: new Uint8Array(count), ids: new BigInt64Array(count), offsets: new Uint32Array(count + 1),
         xy: new BigInt64Array(new Uint8Array(source.subarray(0, first)).buffer),
     };
     for (let row = 0, at = first, start = 0; row < count; row++, at += ROW) {
         arrays.ids[row] = view.getBigInt64(at, true);
-        arrays.starts[row + 1] = start += view.getUint32(at + 8, true);
+        arrays.offsets[row + 1] = start += view.getUint32(at + 8, true);
         if (start >= 2 ** 32) return null;
         arrays.depths[row] = view.getUint32(at + 16, true);
         arrays.kinds[row] = view.getUint16(at + 20, true);
@@ -108,7 +108,7 @@ function calling(polytwkb, { call, style, limits: [nest, nodes, points], rooms, 
         [() => polytwkb.show(source, limits), headers => headers.map(lineOf).join('')],
         [() => polytwkb.encode(new BigInt64Array(new Uint8Array(source).buffer)), text => text],
         [() => polytwkb.decodeFlat(source), numbers => latin(new Uint8Array(numbers.buffer))],
-        [() => polytwkb.read(source, { ...limits, exact: true }), found => latin(bytesOfArrays(found))],
+        [() => polytwkb.read(source, { ...limits, degrees: false }), found => latin(bytesOfArrays(found))],
         [() => polytwkb.write(arrays, { ...limits, style: form }), latin],
     ][call];
 }

@@ -74,7 +74,7 @@ const exactly = text => {
 
 test('exact geometries and rows say the same', () => {
     for (const [stream, limits] of streams()) {
-        const found = polytwkb.geometries(stream, { ...limits, exact: true });
+        const found = polytwkb.geometries(stream, { ...limits, degrees: false });
         const rows = found.flatMap(geometry => [...rowsOf(geometry)]);
         assert.deepEqual(rows, rowsOfText(linesOf(stream, limits), exactly));
         const roots = polytwkb.show(stream, limits).filter(({ level }) => level === 0);
@@ -86,7 +86,7 @@ test('numbers of any size', () => {
     const most = 2n ** 62n - 1n, id = 2n ** 60n;
     const text = polytwkb.encode([[most, -(2n ** 62n)]]);
     const stream = polytwkb.pack(table(`0,collection,,0,/1,point,${id},7,${text}/1,point,-5,-3,${text}/`));
-    const [geometry] = polytwkb.geometries(stream), [exact] = polytwkb.geometries(stream, { exact: true });
+    const [geometry] = polytwkb.geometries(stream), [exact] = polytwkb.geometries(stream, { degrees: false });
     assert.deepEqual(geometry.ids, [id, -5]);
     assert.deepEqual(geometry.geometries[0].coordinates, [461168601842.7388, -461168601842.7388]);
     assert.deepEqual(geometry.geometries[1].coordinates, [4.611686018427388e21, -4.611686018427388e21]);

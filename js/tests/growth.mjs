@@ -77,7 +77,7 @@ const line = polytwkb.encode(Array.from({ length: 40000 }, (_, place) => [place 
 const parts = '1,point,,5,_p~iF~ps|U\n1,multipoint,,5,\n2,point,,,AC\n'.repeat(3000);
 const table = Buffer.from(`${HEADER}0,point,,0,AC\n0,linestring,,5,${line}\n0,collection,,5,\n${parts}`);
 const blobs = Buffer.from(polytwkb.pack(table)), lines = Buffer.from(polytwkb.show(blobs).map(lineOf).join(''));
-const found = polytwkb.read(blobs, { exact: true }), { xy } = found, arrays = Buffer.from(bytesOfArrays(found));
+const found = polytwkb.read(blobs, { degrees: false }), { xy } = found, arrays = Buffer.from(bytesOfArrays(found));
 const counts = [
     refusals(bytes, 'pack', table, blobs, converting(0)),
     refusals(bytes, 'unpack', blobs, table, converting()),

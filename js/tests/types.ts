@@ -1,7 +1,7 @@
 // What callers in TypeScript write; the declarations take it, and refuse what is marked.
 import {
-    Arrays, Geometry, Header, Limits, OutOfMemory, Point, Refused, decode, decodeFlat, encode, geometries, load, pack,
-    read, show, split, stream, unpack, unpackBytes, version, write,
+    Arrays, Geometry, Header, Limits, OutOfMemory, Point, Refused, UnitGeometry, decode, decodeFlat, encode, geometries,
+    load, pack, packGeometries, read, show, split, stream, unpack, unpackBytes, version, write,
 } from '../polytwkb.js';
 
 async function all(response: Response, file: ArrayBuffer): Promise<void> {
@@ -18,13 +18,18 @@ async function all(response: Response, file: ArrayBuffer): Promise<void> {
         if (geometry.type === 'Polygon') geometry.coordinates[0][0][0].toFixed();
         if (geometry.type === 'GeometryCollection') geometry.geometries[0].type.length.toFixed();
     }
-    const exact: bigint | undefined = geometries(blobs, { exact: true }).map(it => it.precision && 1n)[0] || undefined;
-    const degrees: Float64Array = read(blobs).xy, whole: Arrays<BigInt64Array> = read(blobs, { exact: true });
-    degrees.fill(whole.starts[0]);
-    const { depths, kinds, precisions, starts, xy } = whole, lines = { depths, kinds, precisions, starts, xy };
+    const exact: bigint | undefined = geometries(blobs, { degrees: false }).map(it => it.precision && 1n)[0] || undefined;
+    const degrees: Float64Array = read(blobs).xy, whole: Arrays<BigInt64Array> = read(blobs, { degrees: false });
+    degrees.fill(whole.offsets[0]);
+    const { depths, kinds, precisions, offsets, xy } = whole, lines = { depths, kinds, precisions, offsets, xy };
     unpack(write(whole, { style: 'plain', nest: 2 })) + unpack(write(read(blobs))) + unpack(write(lines));
     for await (const part of stream(response)) split(part);
     for await (const part of stream(fetch('shapes.twkb'), { nest: 2 })) unpack(part);
+    const column: (Geometry | null)[] = geometries([blobs, null]), units: UnitGeometry[] = geometries(blobs, { degrees: false });
+    const { geometries: some, refused } = geometries([blobs], { errors: 'collect' }), flag: boolean = some.length > 1;
+    const packed: Float64Array = packGeometries(column, 5, { heights: 'drop' }).offsets;
+    split(packGeometries(units).blobs).length + refused[0].place + packed.length + read(blobs, { degrees: flag }).xy.length;
+    for (const unit of units) if (unit.type === 'GeometryCollection') unit.geometries[0].precision.toFixed();
     try {
         pack(again);
     } catch (fault) {
@@ -37,6 +42,10 @@ async function all(response: Response, file: ArrayBuffer): Promise<void> {
     unpack('text');
     // @ts-expect-error an array of numbers is no typed array
     write({ ...whole, kinds: [1] });
+    // @ts-expect-error no such option
+    read(blobs, { exact: true });
+    // @ts-expect-error no caller makes a refusal
+    new Refused('x');
     // @ts-expect-error a BigInt64Array has whole numbers
     encode(flat, 5);
 }

@@ -16,17 +16,17 @@ const COLLECTION = table(
 
 /** The arrays of linestrings of whole numbers or degrees, each a list x, y, x, y, .. */
 function linesOf(lines, precision, type = BigInt64Array) {
-    const count = lines.length, starts = new Uint32Array(count + 1);
-    for (const [row, line] of lines.entries()) starts[row + 1] = starts[row] + line.length / 2;
+    const count = lines.length, offsets = new Uint32Array(count + 1);
+    for (const [row, line] of lines.entries()) offsets[row + 1] = offsets[row] + line.length / 2;
     return {
-        depths: new Uint8Array(count), kinds: new Uint8Array(count).fill(LINE), starts, xy: type.from(lines.flat()),
+        depths: new Uint8Array(count), kinds: new Uint8Array(count).fill(LINE), offsets, xy: type.from(lines.flat()),
         precisions: new Int8Array(count).fill(precision),
     };
 }
 
 test('what was read is written, and what PostGIS wrote becomes canonical', () => {
     for (const { hex: blob, full = blob, plain = blob } of postgis) {
-        const arrays = read(bytes(blob), { exact: true });
+        const arrays = read(bytes(blob), { degrees: false });
         assert.equal(hex(write(arrays)), full.toLowerCase());
         assert.equal(hex(write(arrays, { style: 'plain' })), plain.toLowerCase());
     }
@@ -37,7 +37,7 @@ test('what was packed, read and written is the same again', () => {
     for (const { given, limits, expected } of within('tables', 'full')) {
         if (expected[1]) continue;
         const stream = pack(table(given), 'full', limits);
-        assert.deepEqual(write(read(stream, { ...limits, exact: true }), limits), stream);
+        assert.deepEqual(write(read(stream, { ...limits, degrees: false }), limits), stream);
         count++;
     }
     assert.ok(count > 30, count);
@@ -64,17 +64,17 @@ test('degrees are rounded as encode rounds them', () => {
 });
 
 test('a refusal has its row, and the blobs before it', () => {
-    const stream = pack(COLLECTION), [first] = split(stream), arrays = read(stream, { exact: true });
-    const { kinds, precisions, hasIds, starts, xy } = arrays;
+    const stream = pack(COLLECTION), [first] = split(stream), arrays = read(stream, { degrees: false });
+    const { kinds, precisions, hasIds, offsets, xy } = arrays;
     const changed = (column, place, value) => column.with(place, value);
     for (const [change, message, code, place, done] of [
         [{ kinds: changed(kinds, 4, 9) }, 'row 4: unknown kind', 'BAD_KIND', 4, 1],
         [{ kinds: changed(kinds, 3, MULTIPOINT) }, 'row 3: polyline not allowed', 'POLYLINE_NOT_ALLOWED', 3, 0],
         [{ xy: xy.slice(0, -2) }, 'row 4: points missing', 'POINTS_MISSING', 4, 1],
-        [{ starts: changed(starts, 5, 2 ** 32 - 1) }, 'row 4: points missing', 'POINTS_MISSING', 4, 1],
+        [{ offsets: changed(offsets, 5, 2 ** 32 - 1) }, 'row 4: points missing', 'POINTS_MISSING', 4, 1],
         [{ xy: BigInt64Array.of(...xy, 1n, 1n) }, 'points left over', 'POINTS_LEFT', 5, 1],
-        [{ xy: changed(xy, 6, 2n ** 62n) }, 'row 4: coordinate out of range', 'POLYLINE_RANGE', 4, 1],
-        [{ xy: Float64Array.from(xy, Number).fill(1e30, 6) }, 'row 4: coordinate out of range', 'POLYLINE_RANGE', 4, 1],
+        [{ xy: changed(xy, 6, 2n ** 62n) }, 'row 4: point 0: coordinate out of range', 'POLYLINE_RANGE', 4, 1],
+        [{ xy: Float64Array.from(xy, Number).fill(1e30, 6) }, 'row 4: point 0: coordinate out of range', 'POLYLINE_RANGE', 4, 1],
         [{ precisions: changed(precisions, 4, NO_PRECISION) }, 'row 4: precision missing', 'PRECISION_MISSING', 4, 1],
         [{ hasIds: changed(hasIds, 4, 2) }, 'row 4: bad id', 'BAD_ID', 4, 1],
     ]) {
@@ -94,13 +94,13 @@ test('wrong arrays', () => {
     for (const given of [
         null, undefined, 7, 'text', [], new Uint8Array(3), { ...right, kinds: [2] }, { ...right, kinds: undefined },
         { ...right, depths: Uint16Array.of(0) }, { ...right, precisions: Uint8Array.of(0) }, { ...right, xy: [1, 1] },
-        { ...right, starts: [0, 1] }, { ...right, ids: Int32Array.of(0) }, { ...right, ids: null },
+        { ...right, offsets: [0, 1] }, { ...right, ids: Int32Array.of(0) }, { ...right, ids: null },
         { ...right, xy: new Float32Array(2) },
     ]) assert.throws(() => write(given), TypeError);
     for (const change of [
         { depths: new Uint8Array(2) }, { kinds: new Uint8Array(0) }, { ids: new BigInt64Array(2) },
-        { hasIds: new Uint8Array(0) }, { starts: Uint32Array.of(0) }, { starts: Uint32Array.of(1, 1) },
-        { starts: Uint32Array.of(0, 1, 1) }, { xy: xy.slice(1) }, { xy: Float64Array.of(NaN, 1) },
+        { hasIds: new Uint8Array(0) }, { offsets: Uint32Array.of(0) }, { offsets: Uint32Array.of(1, 1) },
+        { offsets: Uint32Array.of(0, 1, 1) }, { xy: xy.slice(1) }, { xy: Float64Array.of(NaN, 1) },
         { xy: Float64Array.of(1, Infinity) },
     ]) {
         const isRange = fault => fault instanceof RangeError && !(fault instanceof OutOfMemory);
@@ -109,7 +109,7 @@ test('wrong arrays', () => {
     const kind = kinds[0];
     assert.throws(() => write({ ...right, kinds: Uint8Array.of(kind, kind), depths: new Uint8Array(2) }), RangeError);
     const two = linesOf([[1n, 1n], [2n, 2n]], 0);
-    assert.throws(() => write({ ...two, starts: Uint32Array.of(0, 2, 1) }), RangeError);
+    assert.throws(() => write({ ...two, offsets: Uint32Array.of(0, 2, 1) }), RangeError);
     assert.throws(() => write(right, null), TypeError);
     assert.throws(() => write(right, { style: 5 }), TypeError);
     assert.throws(() => write(right, { style: 'Full' }), RangeError);

@@ -28,6 +28,7 @@ struct report *polytwkb_unpack(struct report *, const byte *, u64, byte *, u64, 
 struct report *polytwkb_show(struct report *, const byte *, u64, byte *, u64, struct limits *);
 struct report *polytwkb_encode(struct report *, const byte *, u64, byte *, u64);
 struct report *polytwkb_decode(struct report *, const byte *, u64, byte *, u64);
+struct report *polytwkb_round(struct report *, const double *, u64, int, long *, u64);
 struct report *polytwkb_write(struct report *, const byte *, u64, const byte *, u64, byte *, u64, struct limits *, u32);
 struct counts *polytwkb_read(struct counts *, const byte *, u64, byte *, u64, byte *, u64, struct limits *);
 u64 polytwkb_reason_text(u32, byte *, u64);
@@ -62,6 +63,11 @@ u32 encode(u32 points, u32 count, u32 output, u32 room) {
 
 u32 decode(u32 input, u32 length, u32 points, u32 room) {
     return NUMBER(polytwkb_decode(&report, AT(input), length, AT(points), room));
+}
+
+/* Named so because `round` is a function of C that clang knows. */
+u32 round_numbers(u32 numbers, u32 count, int precision, u32 units, u32 room) {
+    return NUMBER(polytwkb_round(&report, (const double *)AT(numbers), count, precision, (long *)AT(units), room));
 }
 
 u32 write(u32 rows, u32 row_count, u32 points, u32 point_count, u32 output, u32 room, u32 nest, u32 nodes, u32 most,

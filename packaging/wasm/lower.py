@@ -124,8 +124,8 @@ def data(content):
 
 def code(content, parameters_of, check):
     written = []
-    for parameters, (groups, body) in zip(parameters_of, bodies(content)):
-        function = Code(groups, parameters, check)
+    for own, (groups, body) in zip(parameters_of, bodies(content)):
+        function = Code(groups, own, check)
         for instruction in instructions(body):
             function.add(*instruction)
         written.append(function.written())

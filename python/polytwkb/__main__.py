@@ -2,22 +2,25 @@
 
 Unlike the program it holds input and output in memory, and words that it refuses have the texts of argparse.
 """
+from __future__ import annotations
+
 import argparse
 import os
 import signal
 import sys
+from typing import Any, Callable, Dict, List, Optional, Tuple
 
-from . import Limits, Refused, __version__, pack, show, unpack
+from . import Header, Limits, Refused, __version__, pack, show, unpack
 from ._reasons import Status
 
 
-def lines_of(headers):
+def lines_of(headers: List[Header]) -> bytes:
     """The lines of `show`."""
     return "".join(f"{h.level} {h.offset} {h.kind} {h.precision} {h.metadata:02X} {h.length} {h.points}\n" for h in headers).encode()
 
 
 # Each command: what it does, its call, and the bytes of what that returns.
-COMMANDS = {
+COMMANDS: Dict[str, Tuple[str, Callable[..., Any], Callable[[Any], bytes]]] = {
     "pack": (
         "Reads a table and writes a stream of blobs, one for each geometry",
         lambda given, words, limits: pack(given, words.style, limits),
@@ -38,7 +41,7 @@ NEST = "how many collections a geometry may be in, 0 to 32 (16)"
 STYLE = "full: blobs with sizes and boxes; plain: without (full)"
 
 
-def parser():
+def parser() -> argparse.ArgumentParser:
     words = argparse.ArgumentParser(
         prog="polytwkb", allow_abbrev=False, description="Converts between CSV tables of encoded polylines and streams of TWKB blobs.",
         epilog="Each command reads standard input and writes standard output: polytwkb pack < places.csv > places.twkb",
@@ -53,7 +56,7 @@ def parser():
     return words
 
 
-def converted(words, given):
+def converted(words: argparse.Namespace, given: bytes) -> Tuple[bytes, Optional[str]]:
     """The bytes that a conversion writes, and the line of its refusal, or None."""
     _, call, bytes_of = COMMANDS[words.command]
     try:
@@ -62,7 +65,7 @@ def converted(words, given):
         return bytes_of(refused.output), str(refused)
 
 
-def read():
+def read() -> Optional[bytes]:
     """All of standard input, or None if it fails."""
     try:
         with open(0, "rb", buffering=0, closefd=False) as source:
@@ -71,7 +74,7 @@ def read():
         return None
 
 
-def write(output):
+def write(output: bytes) -> bool:
     """Whether standard output took all bytes."""
     rest = memoryview(output)
     try:
@@ -82,19 +85,20 @@ def write(output):
     return True
 
 
-def run(words):
+def run(words: argparse.Namespace) -> Tuple[int, Optional[str]]:
     """Converts standard input to standard output: the exit status, and the line of a failure."""
     given = read()
     if given is None:
         # as the program, which writes a table's first line before it reads
-        output, status, line = unpack(b"").encode() if words.command == "unpack" else b"", Status.DEVICE, "read failed"
+        output, status = unpack(b"").encode() if words.command == "unpack" else b"", Status.DEVICE
+        line: Optional[str] = "read failed"
     else:
         output, line = converted(words, given)
         status = Status.REFUSED if line else Status.DONE
     return (status, line) if write(output) else (Status.DEVICE, "write failed")
 
 
-def main():
+def main() -> int:
     signal.signal(signal.SIGINT, signal.SIG_DFL)
     words = parser().parse_args()
     try:

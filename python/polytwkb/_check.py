@@ -1,14 +1,17 @@
 """All refusals of a table or of a list of blobs, geometry by geometry."""
+from __future__ import annotations
+
 import ctypes
 import re
-from typing import Iterable, List, Optional, Union
+from typing import Any, Iterable, List, Optional, Union
 
 from ._conversions import Buffer, Limits, _bytes, _limits, table_bytes
-from ._library import library
-from ._reasons import First, Reason, Status
+from ._library import CLimits, library
+from ._lists import fault_of
+from ._reasons import First, Status
 from ._refused import Refused, of_report
 
-_PACK, _UNPACK, _FULL = 0, 1, 0
+_PACK, _FULL = 0, 0
 _HEADER = b"depth,kind,id,precision,polyline\n"
 _FIELD = rb'(?:"[^"]*(?:""[^"]*)*(?:"[^,\r\n]*)?|[^,\r\n]*)'
 # A record after line ends, and whether its first field is 0, which may be quoted in three ways. An empty line is no record.
@@ -18,10 +21,10 @@ _RECORD = re.compile(rb'[\r\n]*(?:((?:0|"0"|""0|"0\Z)(?=[,\r\n]|\Z))|(?=[^\r\n])
 class _Records:
     """The records of a table, one after the other: the number of the last that was looked at, and how many geometries began up to it."""
 
-    def __init__(self, table):
+    def __init__(self, table: bytes) -> None:
         self.table, self.offset, self.number, self.geometries = table, 3 if table.startswith(b"\xef\xbb\xbf") else 0, 0, 0
 
-    def next(self):
+    def next(self) -> Union[int, bool, None]:
         """Goes to the next record: where it begins, if it begins a geometry; None if it is within one, False after the last."""
         record = _RECORD.match(self.table, self.offset)
         if not record:
@@ -33,34 +36,35 @@ class _Records:
         self.geometries += 1
         return record.start(1)
 
-    def go_to(self, number):
+    def go_to(self, number: int) -> None:
         """Goes to the record with this number."""
         while self.number < number and self.next() is not False:
             pass
 
-    def next_geometry(self):
+    def next_geometry(self) -> Union[int, bool]:
         """Goes to the next record of depth 0, and returns where it begins; False if there is none."""
-        start = None
+        start: Union[int, bool, None] = None
         while start is None:
             start = self.next()
         return start
 
 
-def _measured(conversion, address, length, limits):
-    report = library.polytwkb_measure(conversion, address, length, limits, _FULL)
+def _measured(address: Any, length: int, limits: CLimits) -> Any:
+    report = library.polytwkb_measure(_PACK, address, length, limits, _FULL)
     if report.status not in (Status.DONE, Status.REFUSED):
         raise MemoryError("out of memory")
     return report
 
 
-def _of_table(given, limits):
+def _of_table(given: bytes, limits: CLimits) -> List[Refused]:
     """The refusals of a table. After one, the table goes on at the next row of depth 0, with the header before it."""
     table = bytearray(given)
-    memory = ctypes.c_char.from_buffer(table) if table else None
-    address, start, before = ctypes.addressof(memory) if table else given, 0, 0
-    refusals, records = [], _Records(given)
+    memory = (ctypes.c_char * len(table)).from_buffer(table)
+    address, start, before = ctypes.addressof(memory), 0, 0
+    refusals: List[Refused] = []
+    records = _Records(given)
     while True:
-        report = _measured(_PACK, address + start if table else given, len(table) - start, limits)
+        report = _measured(address + start, len(table) - start, limits)
         if report.status == Status.DONE:
             return refusals
         if report.reason < First.WHOLE:
@@ -75,30 +79,24 @@ def _of_table(given, limits):
         table[start:found] = _HEADER
 
 
-def _of_blobs(blobs, limits):
-    refusals = []
-    for place, blob in enumerate(blobs):
-        given = _bytes(blob, f"blob {place} is bytes")
-        report = _measured(_UNPACK, given, len(given), limits)
-        if report.status == Status.REFUSED:
-            refusals.append(Refused(report.reason, f"blob {place}: byte {report.place}", report.place, 0, place, None))
-        elif not given:
-            refusals.append(Refused(Reason.BLOB_TRUNCATED, f"blob {place}: byte 0", 0, 0, place, None))
-    return refusals
+def _of_blobs(blobs: Iterable[Any], limits: CLimits) -> List[Refused]:
+    given = ((place, _bytes(blob, f"blob {place} is bytes")) for place, blob in enumerate(blobs) if blob is not None)
+    faults = (fault_of(place, blob, limits) for place, blob in given)
+    return [fault for fault in faults if fault]
 
 
-def check(given: Union[str, Buffer, Iterable[Buffer]], limits: Optional[Limits] = None) -> List[Refused]:
+def check(given: Union[str, Buffer, Iterable[Optional[Buffer]]], limits: Optional[Limits] = None) -> List[Refused]:
     """Why a table (str or bytes) or a list of blobs is refused: the first refusal of each geometry, and an empty list if all are accepted.
 
-    After a refused record of a table, its geometry is passed over to the next row whose depth is 0. Of a list, each blob is looked at by
-    itself. `place` of a refusal is the record of the table or the byte of the blob, `done` the number of the geometry or of the blob, from
-    0, and `output` is None. A table without its header has that refusal alone.
+    After a refused record of a table, its geometry is passed over to the next row whose depth is 0. Of a list, each item is looked at by
+    itself: it is one blob, as for `geometries`, or None, which passes. `place` of a refusal is the record of the table or the byte of the
+    item, `done` the number of the geometry or of the item, from 0, and `output` is None. A table without its header has that refusal alone.
     """
-    limits = _limits(limits)
+    most = _limits(limits)
     if isinstance(given, (str, bytes, bytearray, memoryview)):
-        return _of_table(table_bytes(given), limits)
+        return _of_table(table_bytes(given), most)
     try:
         blobs = iter(given)
     except TypeError:
         raise TypeError(f"a table is a str or bytes, and blobs are a list of bytes, not {type(given).__name__}") from None
-    return _of_blobs(blobs, limits)
+    return _of_blobs(blobs, most)

@@ -1,12 +1,18 @@
 """Tables to streams, and streams to tables, headers and blobs."""
+from __future__ import annotations
+
+import mmap
 import operator
-from typing import List, NamedTuple, Optional, Union
+from array import array
+from typing import Any, Callable, List, NamedTuple, Optional, TypeVar, Union
 
 from ._library import CLimits, filled, library, some_bytes
+from ._offsets import Packed, ends_of
 from ._reasons import Status
 from ._refused import of_report
 
-Buffer = Union[bytes, bytearray, memoryview]
+Buffer = Union[bytes, bytearray, memoryview, "array[Any]", mmap.mmap]
+_Result = TypeVar("_Result")
 
 
 class Limits(NamedTuple):
@@ -39,11 +45,11 @@ class Header(NamedTuple):
     """Points of its geometry."""
 
 
-_RANGES = Limits((0, 32), (1, 1 << 20), (0, 1 << 24))
+_RANGES = ((0, 32), (1, 1 << 20), (0, 1 << 24))
 _STYLES = {"full": 0, "plain": 1}
 
 
-def _limits(limits):
+def _limits(limits: Optional[Limits]) -> CLimits:
     """The limits as C has them: ctypes would cut a number that is too large."""
     if limits is None:
         limits = Limits()
@@ -56,7 +62,7 @@ def _limits(limits):
     return CLimits(*numbers)
 
 
-def _bytes(given, what):
+def _bytes(given: Any, what: str) -> bytes:
     """The bytes of a buffer. Those of one that can change are copied, since the library runs beside other threads."""
     if isinstance(given, bytes):
         return given
@@ -66,7 +72,7 @@ def _bytes(given, what):
         raise TypeError(f"{what}, not {type(given).__name__}") from None
 
 
-def style_of(style):
+def style_of(style: str) -> int:
     """The number of a style."""
     if not isinstance(style, str):
         raise TypeError(f"a style is a str, not {type(style).__name__}")
@@ -75,25 +81,27 @@ def style_of(style):
     return _STYLES[style]
 
 
-def table_bytes(table):
+def table_bytes(table: Union[str, Buffer]) -> bytes:
     """The bytes of a table."""
     return table.encode("utf-8", "surrogatepass") if isinstance(table, str) else _bytes(table, "a table is a str or bytes")
 
 
-def _converted(call, given, room, result, limits, *more):
+def _converted(
+    call: Callable[..., Any], given: bytes, room: int, result: Callable[[memoryview], _Result], limits: Optional[Limits], *more: int
+) -> _Result:
     """What `result` makes of the bytes that a conversion writes."""
     report, output = filled(call, given, len(given), room, some_bytes, _limits(limits), *more)
-    output = memoryview(output)[: report.sent]
+    found = result(memoryview(output)[: report.sent])
     if report.status == Status.REFUSED:
-        raise of_report(report, result(output))
-    return result(output)
+        raise of_report(report, found)
+    return found
 
 
-def _text(output):
+def _text(output: memoryview) -> str:
     return str(output, "ascii")
 
 
-def _headers(output):
+def _headers(output: memoryview) -> List[Header]:
     headers = []
     for line in _text(output).splitlines():
         level, offset, kind, precision, metadata, length, points = line.split(" ")
@@ -106,9 +114,8 @@ def pack(table: Union[str, Buffer], style: str = "full", limits: Optional[Limits
 
     Raises Refused at the first record that is wrong; its `output` has the blobs of the geometries before.
     """
-    style = style_of(style)
-    given = table_bytes(table)
-    return _converted(library.polytwkb_pack, given, len(given) + 64, bytes, limits, style)
+    number, given = style_of(style), table_bytes(table)
+    return _converted(library.polytwkb_pack, given, len(given) + 64, bytes, limits, number)
 
 
 def unpack(blobs: Buffer, limits: Optional[Limits] = None) -> str:
@@ -130,13 +137,16 @@ def show(blobs: Buffer, limits: Optional[Limits] = None) -> List[Header]:
 
 
 def split(blobs: Buffer, limits: Optional[Limits] = None) -> List[bytes]:
-    """The blobs of a stream, each as bytes of its own.
+    """The blobs of a stream, each as bytes of its own. Those of a `Packed` are found without reading them.
 
     Raises Refused at the first item that is wrong; its `output` has the blobs before.
     """
+    if isinstance(blobs, Packed) and limits is None:
+        return [blob for blob in blobs.blobs if blob is not None]
     given = _bytes(blobs, "a stream of blobs is bytes")
 
-    def result(output):
-        return [given[header.offset : header.offset + header.length] for header in _headers(output) if header.level == 0]
+    def result(lines: memoryview) -> List[bytes]:
+        ends = ends_of(lines)
+        return [given[start:end] for start, end in zip([0, *ends], ends)]
 
     return _converted(library.polytwkb_show, given, 2 * len(given) + 64, result, limits)

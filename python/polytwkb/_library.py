@@ -1,12 +1,17 @@
 """The shared library, found and loaded, and its calls as include/polytwkb.h declares them."""
+from __future__ import annotations
+
 import ctypes
 import os
+from typing import Any, Callable, Dict, List, Tuple, TypeVar
 
 from ._reasons import Status
 
 VERSION = "0.1.0"
 
 TEXT_ROOM = 32
+
+_Buffer = TypeVar("_Buffer")
 
 
 class CLimits(ctypes.Structure):
@@ -25,7 +30,7 @@ class Counts(ctypes.Structure):
     ]
 
 
-def _path():
+def _path() -> str:
     """The file that POLYTWKB_LIBRARY names, else the one beside this module, else the one that the system finds."""
     named = os.environ.get("POLYTWKB_LIBRARY")
     if named:
@@ -34,13 +39,13 @@ def _path():
     return beside if os.path.exists(beside) else f"libpolytwkb.so.{VERSION.split('.')[0]}"
 
 
-def _text(call, *reason):
+def _text(call: Callable[..., Any], *reason: int) -> str:
     text = ctypes.create_string_buffer(TEXT_ROOM)
     call(*reason, text, TEXT_ROOM)
     return text.value.decode("ascii")
 
 
-def _loaded(path):
+def _loaded(path: str) -> Any:
     """The library in a file, which has to be of the version of this package."""
     library = ctypes.CDLL(path)
     version = library.polytwkb_version
@@ -51,12 +56,12 @@ def _loaded(path):
         raise ImportError(f"polytwkb {VERSION} needs the library {VERSION}, and {path} is {found}")
     library.polytwkb_reason_text.argtypes, library.polytwkb_reason_text.restype = [ctypes.c_uint32, *room], ctypes.c_size_t
     buffers = [ctypes.c_char_p, ctypes.c_size_t, ctypes.c_void_p, ctypes.c_size_t]
-    calls = {"pack": [CLimits, ctypes.c_uint32], "unpack": [CLimits], "show": [CLimits], "encode": [], "decode": []}
+    calls: Dict[str, List[Any]] = {"pack": [CLimits, ctypes.c_uint32], "unpack": [CLimits], "show": [CLimits], "encode": [], "decode": []}
     for name, more in calls.items():
         call = getattr(library, "polytwkb_" + name)
         call.argtypes, call.restype = buffers + more, Report
     library.polytwkb_encode.argtypes = [ctypes.c_void_p, *buffers[1:]]
-    library.polytwkb_round.argtypes, library.polytwkb_round.restype = [ctypes.c_void_p, ctypes.c_size_t, ctypes.c_int8, *buffers[2:]], Report
+    library.polytwkb_round.argtypes, library.polytwkb_round.restype = [ctypes.c_void_p, ctypes.c_size_t, ctypes.c_int32, *buffers[2:]], Report
     measure = library.polytwkb_measure
     measure.argtypes, measure.restype = [ctypes.c_uint32, ctypes.c_void_p, ctypes.c_size_t, CLimits, ctypes.c_uint32], Report
     arrays = [ctypes.c_void_p, ctypes.c_size_t] * 2
@@ -71,9 +76,9 @@ except (OSError, AttributeError) as fault:
     raise ImportError(f"polytwkb {VERSION} finds no library of its version: {fault}") from None
 
 
-
-def _in_place(name):
-    """The same call while no other thread of Python runs, so that it may read a buffer that could change meanwhile."""
+def _in_place(name: str) -> Any:
+    """The same call while no other thread runs code of Python. It may read a buffer that Python code of another thread
+    would change. What runs without the interpreter's lock, as loops of numpy do, is not kept from it."""
     call = getattr(ctypes.PyDLL(library._name), name)
     call.argtypes, call.restype = getattr(library, name).argtypes, Report
     return call
@@ -82,22 +87,24 @@ def _in_place(name):
 encode_in_place, write_in_place = _in_place("polytwkb_encode"), _in_place("polytwkb_write")
 
 
-def reason_text(reason):
+def reason_text(reason: int) -> str:
     """What a reason means, as the command says it."""
     return _text(library.polytwkb_reason_text, reason)
 
 
-def some_bytes(count):
+def some_bytes(count: int) -> bytearray:
     """A buffer of so many bytes, and of one where that is 0: the library takes the address of each buffer."""
     return bytearray(max(count, 1))
 
 
-def filled(call, given, count, room, made, *more):
+def filled(
+    call: Callable[..., Any], given: Any, count: int, room: int, made: Callable[[int], _Buffer], *more: Any
+) -> Tuple[Any, _Buffer]:
     """Calls the library with so many items of input and with room for so many items of output, in a buffer that `made` makes; with more
     room, as much as the library names, if that was too small. Returns the report and the buffer."""
     while True:
         output = made(room)
-        start = ctypes.c_char.from_buffer(output)
+        start = ctypes.c_char.from_buffer(output)  # type: ignore[arg-type]
         report = call(given, count, ctypes.addressof(start), room, *more)
         del start
         if report.status in (Status.DONE, Status.REFUSED):

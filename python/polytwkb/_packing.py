@@ -1,18 +1,22 @@
 """Mappings of the geo interface as streams of blobs."""
+from __future__ import annotations
+
 from array import array
 from bisect import bisect
 from collections.abc import Mapping
-from typing import Any, Iterable, Optional, Union
+from typing import Any, Iterable, List, Optional, Tuple, Union
 
-from ._arrays import NO_PRECISION, Kind
 from ._conversions import Limits
 from ._geometries import NAMES, PARTS
+from ._offsets import Packed
 from ._points import clipped, listed, placed, unit
-from ._refused import Refused
 from ._rounding import power, rounded
-from ._writing import rows_of, write
+from ._rows import NO_PRECISION, Kind, Rows
+from ._shapes import are_shapes, pack_shapes
+from ._write_geometries import item_of, write_units
+from ._writing import rows_of
 
-_KINDS = {**{name: kind for kind, name in NAMES.items()}, "LinearRing": Kind.LINESTRING}
+_KINDS = {**{name: Kind(kind) for kind, name in NAMES.items()}, "LinearRing": Kind.LINESTRING}
 _MOST_NEST = 32
 # Coordinates that are rounded at once.
 _PIECE = 1 << 13
@@ -22,7 +26,7 @@ class _DeepEnough(Exception):
     """A row is in so many collections that no limit takes it."""
 
 
-def _interface_of(given):
+def _interface_of(given: Any) -> Any:
     """The mapping of an object, if it has one. Shapely before 2 has none of an empty point, nor of what has one in it."""
     kind = getattr(given, "geom_type", None)
     if kind == "Point" and given.is_empty:
@@ -32,7 +36,7 @@ def _interface_of(given):
     return getattr(given, "__geo_interface__", given)
 
 
-def _mapping_of(given):
+def _mapping_of(given: Any) -> Mapping[str, Any]:
     """The mapping of an object with a geo interface."""
     if type(given) is not dict and not isinstance(given, Mapping):
         given = _interface_of(given)
@@ -41,24 +45,34 @@ def _mapping_of(given):
     return given
 
 
-def mapping_of(given):
+def mapping_of(given: Any) -> Mapping[str, Any]:
     """The same, or the geometry of a feature."""
     mapping = _mapping_of(given)
     return _mapping_of(mapping.get("geometry")) if mapping.get("type") == "Feature" else mapping
 
 
-def _geometries_of(given):
+def _top_of(given: Any) -> Optional[Mapping[str, Any]]:
+    """The mapping of an item of a list; None if it is None, or a feature whose geometry is."""
+    mapping = None if given is None else _mapping_of(given)
+    if mapping is None or mapping.get("type") != "Feature":
+        return mapping
+    return None if mapping.get("geometry", ()) is None else _mapping_of(mapping.get("geometry"))
+
+
+def _geometries_of(given: Any) -> List[Any]:
     """The geometries of a column of GeoPandas, of a mapping, of an object with a geo interface, or of a list."""
-    column = None if isinstance(given, Mapping) else getattr(given, "geometry", None)
-    if hasattr(column, "__iter__"):
-        return column
-    if isinstance(given, Mapping) or hasattr(given, "geom_type") or hasattr(given, "__geo_interface__"):
-        given = mapping_of(given)
-        return _field(given, "features") if given.get("type") == "FeatureCollection" else [given]
-    return _items(given, "geometries")
+    column: Any = None if isinstance(given, Mapping) else getattr(given, "geometry", None)
+    if hasattr(column, "to_numpy"):
+        return list(column.to_numpy())
+    if hasattr(given, "geom_type"):
+        return [given]
+    if isinstance(given, Mapping) or hasattr(given, "__geo_interface__"):
+        given = _mapping_of(given)
+        return list(_field(given, "features")) if given.get("type") == "FeatureCollection" else [given]
+    return list(_items(given, "geometries"))
 
 
-def _items(found, what):
+def _items(found: Any, what: str) -> Any:
     """The items of a list, or of a view."""
     if isinstance(found, memoryview):
         return listed(found)
@@ -67,20 +81,22 @@ def _items(found, what):
     return found
 
 
-def _field(mapping, name):
+def _field(mapping: Mapping[str, Any], name: str) -> Any:
     return _items(mapping.get(name), f"{name} of a {mapping.get('type')}")
 
 
-def _kind_of(mapping):
+def _kind_of(mapping: Mapping[str, Any]) -> Kind:
     name = mapping.get("type")
     if not isinstance(name, str) or name not in _KINDS:
         raise ValueError(f"a geometry has no type {name!r}")
     return _KINDS[name]
 
 
-def _pairs(points):
-    """The coordinates of pairs, flat."""
+def _pairs(points: Any, drop: bool) -> List[Any]:
+    """The coordinates of pairs, flat; without those after the second if they are dropped."""
     try:
+        if drop:
+            return [number for x, y, *_ in points for number in (x, y)]
         return [number for x, y in points for number in (x, y)]
     except (TypeError, ValueError):
         raise TypeError("points are pairs of numbers: x and y, and no height") from None
@@ -89,19 +105,22 @@ def _pairs(points):
 class _Gathered:
     """Rows of geometries that are added one after the other, and the coordinates of all points."""
 
-    def __init__(self, precision, with_ids):
-        self.precision, self.with_ids = precision, with_ids
-        self.rows, self.numbers, self.starts = [], [], []
+    def __init__(self, precision: int, with_ids: bool, drop: bool) -> None:
+        self.precision, self.with_ids, self.drop = precision, with_ids, drop
+        self.rows: List[Tuple[Kind, int, int, int, Optional[int]]] = []
+        self.numbers: List[Any] = []
+        self.starts: List[int] = []
+        self.missing: List[int] = []
 
-    def put(self, kind, depth, identifier, precision, points=()):
+    def put(self, kind: Kind, depth: int, identifier: Optional[int], precision: int, points: Any = ()) -> None:
         """A row with its points."""
-        numbers = _pairs(points)
+        numbers = _pairs(points, self.drop)
         self.numbers += numbers
         self.rows.append((kind, depth, len(numbers) // 2, precision, identifier))
         if depth > _MOST_NEST:
             raise _DeepEnough
 
-    def members(self, mapping, name):
+    def members(self, mapping: Mapping[str, Any], name: str) -> Iterable[Tuple[Any, Optional[int]]]:
         """The members of a geometry, each with its id."""
         members = _field(mapping, name)
         ids = mapping.get("ids") if self.with_ids else None
@@ -116,7 +135,7 @@ class _Gathered:
             raise ValueError("ids are whole numbers of 64 bits") from None
         return zip(members, ids)
 
-    def add(self, mapping, depth=0, identifier=None):
+    def add(self, mapping: Mapping[str, Any], depth: int = 0, identifier: Optional[int] = None) -> None:
         """A geometry with its members."""
         kind = _kind_of(mapping)
         if kind == Kind.COLLECTION:
@@ -129,12 +148,12 @@ class _Gathered:
         else:
             self.add_points(kind, _field(mapping, "coordinates"), depth, identifier, self.precision)
 
-    def add_points(self, kind, points, depth, identifier, precision):
+    def add_points(self, kind: Kind, points: Any, depth: int, identifier: Optional[int], precision: int) -> None:
         """A row of a kind that has points; the coordinates of a point are not in a list."""
         points = list(_items(points, "coordinates"))
         self.put(kind, depth, identifier, precision, [points] if points and kind == Kind.POINT else points)
 
-    def add_parts(self, kind, parts, depth):
+    def add_parts(self, kind: Kind, parts: Iterable[Tuple[Any, Optional[int]]], depth: int) -> None:
         """The parts of a geometry, from their coordinates."""
         for points, identifier in parts:
             if kind in PARTS:
@@ -143,21 +162,26 @@ class _Gathered:
             else:
                 self.add_points(kind, points, depth, identifier, NO_PRECISION)
 
-    def add_all(self, geometries):
-        for number, given in enumerate(geometries):
-            self.starts.append(len(self.numbers))
+    def add_all(self, geometries: List[Any]) -> None:
+        for place, given in enumerate(geometries):
             try:
-                self.add(mapping_of(given))
-            except (TypeError, ValueError) as fault:
-                raise placed(fault, f"geometry {number}") from None
+                mapping = _top_of(given)
+                if mapping is None:
+                    self.missing.append(place)
+                else:
+                    self.starts.append(len(self.numbers))
+                    self.add(mapping)
+            except (TypeError, ValueError, IndexError) as fault:
+                raise placed(fault, f"geometry {place}") from None
             except _DeepEnough:
                 return
 
-    def columns(self):
+    def columns(self) -> Rows:
         """All rows in columns."""
-        return dict(zip(("kind", "depth", "points", "precision", "id"), zip(*self.rows))) if self.rows else {"kind": 0, "points": []}
+        names = ("kind", "depth", "counts", "precision", "id")
+        return rows_of(dict(zip(names, zip(*self.rows))) if self.rows else {"kind": 0, "counts": []})
 
-    def units(self):
+    def units(self) -> array[int]:
         """The coordinates of all points, rounded."""
         units = array("q")
         for start in range(0, len(self.numbers), _PIECE):
@@ -167,26 +191,44 @@ class _Gathered:
             units.frombytes(memoryview(some).cast("B"))
         return units
 
-    def unit(self, place):
+    def unit(self, place: int) -> int:
         """One coordinate, rounded."""
         try:
             return clipped(unit(self.numbers[place], self.precision))
         except (TypeError, ValueError) as fault:
-            raise placed(fault, f"geometry {bisect(self.starts, place) - 1}") from None
+            raise placed(fault, f"geometry {item_of(bisect(self.starts, place) - 1, self.missing)}") from None
 
 
-def pack_geometries(geometries: Union[Any, Iterable[Any]], precision: int, style: str = "full", ids: bool = True, limits: Optional[Limits] = None) -> bytes:
-    """Packs geometries to a stream of blobs, with so many decimals, -8 to 7: the counterpart of `geometries`. `split` makes single blobs of it.
+def _drops(heights: str) -> bool:
+    """Whether heights are dropped."""
+    if not isinstance(heights, str):
+        raise TypeError(f"heights is a str, not {type(heights).__name__}")
+    if heights not in ("raise", "drop"):
+        raise ValueError(f"heights is 'raise' or 'drop', not {heights!r}")
+    return heights == "drop"
 
-    Geometries are a list of mappings of the geo interface, or of objects with one, as those of Shapely; a column or a frame of GeoPandas;
-    or one geometry. Coordinates are rounded as `encode` rounds them, and points have no height. ``ids`` of a mapping are those of its
-    parts; with ``ids=False`` they are left out.
 
-    Raises Refused, with the geometry from 0 as its place, if one is against the rules of a table; its `output` has the blobs before.
+def pack_geometries(
+    geometries: Union[Any, Iterable[Any]], precision: int, style: str = "full", ids: bool = True, limits: Optional[Limits] = None,
+    heights: str = "raise",
+) -> Packed:
+    """Packs geometries to a stream of blobs, with so many decimals, -8 to 7: the counterpart of `geometries` and `shapes`.
+    The stream is bytes; ``blobs`` of it is the list of single blobs (`Packed`).
+
+    Geometries are a list of mappings of the geo interface, or of objects with one, as those of Shapely; a column or a frame
+    of GeoPandas; or one geometry. In a list None, and a feature whose geometry is None, has no blob: ``blobs`` has None at
+    its place. Coordinates are degrees, and are rounded as `encode` rounds them. ``ids`` of a mapping are those of its parts;
+    with ``ids=False`` they are left out. A LinearRing is packed as a linestring. A reference system is not kept.
+
+    Points have no height: a third number raises TypeError, and with ``heights="drop"`` it is left out.
+
+    Raises Refused, with the geometry from 0 as its place, if one is against the rules of a table; its `output` has the
+    blobs before. Raises ValueError for a coordinate that is not finite and for an unknown type, TypeError for what is no
+    geometry; each names the geometry.
     """
-    gathered = _Gathered(power(precision), ids)
-    gathered.add_all(_geometries_of(geometries))
-    try:
-        return write(rows_of(gathered.columns()), gathered.units(), style, limits)
-    except Refused as refused:
-        raise Refused(refused.reason, f"geometry {refused.done}", refused.done, 0, refused.done, refused.output) from None
+    decimals, drop, items = power(precision), _drops(heights), _geometries_of(geometries)
+    if are_shapes(items):
+        return pack_shapes(items, decimals, style, limits, drop)
+    gathered = _Gathered(decimals, ids, drop)
+    gathered.add_all(items)
+    return write_units(gathered.columns(), gathered.units(), gathered.missing, style, limits)

@@ -1,4 +1,8 @@
 """Why an input is refused."""
+from __future__ import annotations
+
+from typing import Any, Tuple
+
 from ._library import reason_text
 from ._reasons import First, Reason
 
@@ -8,26 +12,31 @@ _NAMES = {number: name for name, number in vars(Reason).items() if not name.star
 class Refused(Exception):
     """An input is refused: `str()` is the line of the command, such as ``byte 13: truncated``.
 
-    * ``reason``: the number, as include/polytwkb.h has it; ``name``: its name there, such as ``"BLOB_TRUNCATED"``;
+    * ``reason``: the number, as include/polytwkb.h has it; ``code``: its name there, such as ``"BLOB_TRUNCATED"``;
     * ``text``: what it means, such as ``"truncated"``;
     * ``place``: the record of a table, from 1; the byte of a stream or of the text of a polyline, the row of arrays, the geometry or the
       point of a list, from 0;
-    * ``text_offset``: the byte of the refused polyline, in its record or alone; else 0;
+    * ``text_offset``: the byte of the refused polyline, in its record or alone; of arrays the row's first point out of range, from 0; else 0;
     * ``done``: how many geometries came before, and are whole;
     * ``output``: what the call would have returned of these alone.
+
+    It can be pickled, as what the call returns can be.
     """
 
-    def __init__(self, reason, where, place, text_offset, done, output):
-        super().__init__(reason, where, place, text_offset, done, output)
+    def __init__(self, reason: int, where: str, place: int, text_offset: int, done: int, output: Any) -> None:
+        super().__init__(reason, where, place, text_offset, done)
         self.reason, self.place, self.text_offset, self.done, self.output = reason, place, text_offset, done, output
-        self.name, self.text = _NAMES[reason], reason_text(reason)
+        self.code, self.text = _NAMES[reason], reason_text(reason)
         self._where = where
 
-    def __str__(self):
+    def __reduce__(self) -> Tuple[Any, ...]:
+        return Refused, (self.reason, self._where, self.place, self.text_offset, self.done, self.output)
+
+    def __str__(self) -> str:
         return f"{self._where}: {self.text}" if self._where else self.text
 
 
-def of_report(report, output):
+def of_report(report: Any, output: Any) -> Refused:
     """The refusal that the report of a conversion tells."""
     if report.reason >= First.WHOLE:
         where = ""

@@ -1,20 +1,27 @@
 """Decimal degrees to whole units of 10^-precision: the one place where the package rounds.
 
-A coordinate becomes the whole number nearest to it times 10^precision, of two the one farther from 0, with no error of floating point on
-the way. One number is rounded by fractions. Floats are rounded by the library, many at once.
+A coordinate becomes the whole number nearest to it times 10^precision, of two the one farther from 0. Up to 10^14 units a float that is the
+nearest one to a half counts as that half; docs/FORMATS.md has the rule. Floats are rounded by the library, many at once. One number is
+rounded by fractions: an int, a Decimal or a Fraction counts as what it is, so that only an exact half is one.
 """
+from __future__ import annotations
+
+import math
 import operator
 from array import array
 from decimal import Decimal
+from numbers import Rational
+from typing import Any, Optional
 
 from ._library import library
+from ._memory import address_of
 from ._reasons import Status
 
 # Floats have all whole numbers below this.
 _WHOLE = 1 << 53
 
 
-def power(precision):
+def power(precision: int) -> int:
     """A precision that is in range."""
     precision = operator.index(precision)
     if not -8 <= precision <= 7:
@@ -22,31 +29,33 @@ def power(precision):
     return precision
 
 
-def _near(number):
+def _near(number: Any) -> Any:
     """The number, but one that is far out of range or next to 0 in place of a Decimal whose fraction would have millions of digits."""
     if not isinstance(number, Decimal) or not number.is_finite() or abs(number.adjusted()) < 100:
         return number
     return Decimal(0) if not number or number.adjusted() < 0 else Decimal("1e99").copy_sign(number)
 
 
-def nearest(number, precision):
-    """The whole number nearest to this many units of 10^-precision, of two the one farther from 0: exact, by fractions."""
+def nearest(number: Any, precision: int) -> int:
+    """The whole number nearest to this many units of 10^-precision, of two the one farther from 0, by fractions."""
     number = _near(number)
     try:
         above, below = number.as_integer_ratio()
+        is_float = not isinstance(number, (Rational, Decimal))
     except (AttributeError, TypeError):
-        above, below = operator.index(number), 1
+        above, below, is_float = operator.index(number), 1, False
     except (OverflowError, ValueError):
         raise ValueError(f"a coordinate is a finite number, not {number}") from None
-    if precision >= 0:
-        above *= 10**precision
-    else:
-        below *= 10**-precision
-    units = (2 * abs(above) + below) // (2 * below)
+    factor, divisor = 10 ** max(precision, 0), 10 ** max(-precision, 0)
+    size, below = abs(above) * factor, below * divisor
+    units: int = (2 * size + below) // (2 * below)
+    # the quotient of two ints is the float nearest to it
+    if is_float and size < 10**14 * below and (2 * units + 1) * divisor / (2 * factor) == abs(number):
+        units += 1
     return units if above >= 0 else -units
 
 
-def _floats_of(numbers):
+def _floats_of(numbers: Any) -> Optional[array[float]]:
     """An array of the floats that are equal to the numbers of a list; None if there are others, or if they are not looked for."""
     others = set(map(type, numbers)) - {float}
     if not all(kind is int or issubclass(kind, float) and kind.__module__ == "numpy" for kind in others):
@@ -58,7 +67,7 @@ def _floats_of(numbers):
     return floats if int not in others or -_WHOLE < min(floats) and max(floats) < _WHOLE else None
 
 
-def rounded(numbers, precision):
+def rounded(numbers: Any, precision: int) -> Optional[array[int]]:
     """The units of a list of numbers or a view of floats, or None if they have to be rounded one by one: there is none, one is no float, or
     one has no unit in range."""
     if isinstance(numbers, list):
@@ -70,3 +79,25 @@ def rounded(numbers, precision):
     units = array("q", bytes(8 * len(floats)))
     report = library.polytwkb_round(floats.buffer_info()[0], len(floats), precision, units.buffer_info()[0], len(units))
     return units if report.status == Status.DONE else None
+
+
+class NotFinite(ValueError):
+    """A float that is not finite, with its place among others."""
+
+    def __init__(self, place: int, number: float) -> None:
+        super().__init__(f"a coordinate is a finite number, not {number}")
+        self.place = place
+
+
+def round_floats(numbers: memoryview, precision: int, units: memoryview) -> None:
+    """Puts the units of floats. In place of one that has no unit it puts a number that is out of range."""
+    done, count = 0, len(numbers)
+    while done < count:
+        given, put = (address_of(view) + 8 * done for view in (numbers, units))
+        report = library.polytwkb_round(given, count - done, precision, put, count - done)
+        done += report.sent
+        if report.status == Status.REFUSED:
+            if not math.isfinite(numbers[done]):
+                raise NotFinite(done, numbers[done])
+            units[done] = 1 << 62 if numbers[done] > 0 else -(1 << 62) - 1
+            done += 1

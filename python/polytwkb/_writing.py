@@ -1,33 +1,42 @@
 """Rows and points in arrays as streams of blobs."""
-import ctypes
+from __future__ import annotations
+
+import operator
 import re
 from array import array
 from collections.abc import Mapping
+from itertools import accumulate
 from numbers import Integral
-from typing import Optional, Union
+from typing import Any, Dict, Optional, Sequence, Tuple, Union
 
-from ._arrays import NO_PRECISION, ROW, Rows
+from ._columns import POINT
 from ._conversions import Buffer, Limits, _limits, style_of
-from ._library import library, write_in_place
-from ._memory import address_of, memory_of
-from ._points import POINT, Points, clipped_of, view_of, whole_view
+from ._degrees import to_units
+from ._library import CLimits, library, write_in_place
+from ._memory import Memory, address_of, borrowed, copied, memory_of
+from ._points import PointsLike, clipped, floats_view, pieces_of_pairs, placed, unit, view_of, whole_view
 from ._reasons import Reason, Status
 from ._refused import Refused
+from ._rounding import NotFinite
+from ._rows import NO_PRECISION, ROW, Rows
 
 # The most bytes that a row and a point have in a blob: a header of 2, a size and a count of 10 each, a box of 40 and an id of 10; two numbers.
 _MOST_OF_ROW, _MOST_OF_POINT = 72, 20
-_FORMAT = re.compile(r"T\{[=<]?[ql]:id:[=<]?[QL]:points:[=<]?I:depth:[=<]?H:kind:[=<]?\?:has_id:[=<]?b:precision:\}")
-CODES = {"id": "q", "points": "Q", "depth": "I", "kind": "H", "has_id": "B", "precision": "b"}
+_FORMAT = re.compile(r"T\{[=<]?[ql]:id:[=<]?[QL]:counts:[=<]?I:depth:[=<]?H:kind:[=<]?\?:has_id:[=<]?b:precision:\}")
+CODES = {"id": "q", "counts": "Q", "depth": "I", "kind": "H", "has_id": "B", "precision": "b"}
 _LEFT_OUT = {"depth": 0, "precision": NO_PRECISION, "id": 0, "has_id": 0}
 # Formats of buffers that have the items of another code.
 _SAME = {"l": "q", "L": "Q", "?": "B"}
 
+Column = Union[int, Sequence[Any], Buffer, "array[Any]", Any]
+RowsLike = Union[Rows, Buffer, "Mapping[str, Column]", Any]
 
-def _numbers(name, values):
+
+def _numbers(name: str, values: Any) -> array[int]:
     """The numbers of a column in an array."""
     view, code = view_of(values), CODES[name]
     form = view.format.lstrip("@=<") if view is not None and view.ndim == 1 else ""
-    if _SAME.get(form, form) == code:
+    if view is not None and _SAME.get(form, form) == code:
         return array(code, view.tobytes())
     try:
         return array(code, values if view is None else view.tolist())
@@ -37,7 +46,7 @@ def _numbers(name, values):
         raise TypeError(f"the column {name!r} is a list or a buffer of whole numbers") from None
 
 
-def _with_ids(columns):
+def _with_ids(columns: Dict[str, Any]) -> Dict[str, Any]:
     """The columns with one that says which rows have an id."""
     ids = columns.get("id")
     if ids is None or "has_id" in columns:
@@ -48,95 +57,146 @@ def _with_ids(columns):
     return {**columns, "id": [0 if number is None else number for number in ids], "has_id": [int(number is not None) for number in ids]}
 
 
-def rows_of(columns):
+def rows_of(columns: Mapping[str, Any]) -> Rows:
     """Rows of their columns by name, each of which has the numbers of all rows, or one number for all."""
     unknown = set(columns) - set(CODES)
-    if unknown or not {"kind", "points"} <= set(columns):
-        raise TypeError(f"rows have a kind and points, and may have {', '.join(_LEFT_OUT)}: not the columns {', '.join(map(str, columns))}")
-    columns = _with_ids(columns)
-    numbers = {name: _numbers(name, values) for name, values in columns.items() if name == "points" or not isinstance(values, Integral)}
-    count = len(numbers["points"])
+    if unknown or not {"kind", "counts"} <= set(columns):
+        raise TypeError(f"rows have a kind and counts, and may have {', '.join(_LEFT_OUT)}: not the columns {', '.join(map(str, columns))}")
+    columns = _with_ids(dict(columns))
+    numbers = {name: _numbers(name, values) for name, values in columns.items() if name == "counts" or not isinstance(values, Integral)}
+    count = len(numbers["counts"])
     records = memoryview(bytearray(ROW * max(count, 1)))
     for name, (code, first, step) in Rows.places.items():
         if name not in numbers:
             numbers[name] = _numbers(name, (columns.get(name, _LEFT_OUT.get(name)),)) * count
         if len(numbers[name]) != count:
-            raise ValueError(f"the columns 'points' and {name!r} have {count} and {len(numbers[name])} rows")
+            raise ValueError(f"the columns 'counts' and {name!r} have {count} and {len(numbers[name])} rows")
         if count:
             records.cast(code)[first : first + step * count : step] = memoryview(numbers[name]).cast("B").cast(code)
     return Rows(records, count)
 
 
-def _records(rows):
-    """The bytes of rows, as a view."""
+def _own_rows(rows: Any) -> Rows:
+    """The rows that are given, in memory of their own."""
     if isinstance(rows, Rows):
-        return rows.records
+        return Rows(copied(rows.records))
     view = view_of(rows)
     if view is None:
         if not isinstance(rows, Mapping):
             raise TypeError(f"rows are polytwkb.Rows, an array of Rows.dtype, or columns by name, not {type(rows).__name__}")
-        return rows_of(rows).records
+        return rows_of(rows)
     if not (view.itemsize == 1 and view.format in ("B", "b", "c") or view.itemsize == ROW and _FORMAT.fullmatch(view.format)):
         raise TypeError(f"an array of rows is one of Rows.dtype, not of items of format {view.format!r}")
     if view.ndim != 1 or view.nbytes % ROW:
         raise ValueError(f"an array of rows has one dimension, and {ROW} bytes for each row")
-    return _contiguous(view, "rows")
+    return Rows(copied(_contiguous(view, "rows")))
 
 
-def _contiguous(view, what):
+def _contiguous(view: memoryview, what: str) -> memoryview:
     if not view.c_contiguous:
         raise ValueError(f"{what} lie one after the other in memory: numpy.ascontiguousarray makes them so")
     return view
 
 
-def _coordinates(points):
-    """The coordinates of points, as a view."""
-    view = whole_view(points)
-    return memoryview(clipped_of(points)) if view is None else _contiguous(view, "points")
+def _row_of(rows: Rows, place: int) -> int:
+    """The row that has a point."""
+    return next((row for row, end in enumerate(accumulate(rows.counts)) if place < end), len(rows))
 
 
-def _given(view):
-    """What the library reads: the bytes where they are, or a copy of those that cannot be borrowed."""
-    return view.tobytes() if view.readonly or not view.nbytes else ctypes.byref(ctypes.c_char.from_buffer(view))
-
-
-def _written(records, coordinates, room, limits, style):
-    """One writing into memory for so many bytes. Other threads run meanwhile, if none of them can change what is read."""
-    memory = memory_of(max(room, 1))
-    rows, points = _given(records), _given(coordinates)
-    call = library.polytwkb_write if isinstance(rows, bytes) and isinstance(points, bytes) else write_in_place
-    counts = records.nbytes // ROW, coordinates.nbytes // POINT
-    return call(rows, counts[0], points, counts[1], address_of(memory), room, limits, style), memory
-
-
-def _report(records, coordinates, limits, style):
-    """The report of a writing, and its bytes."""
-    room = _MOST_OF_ROW * (records.nbytes // ROW) + _MOST_OF_POINT * (coordinates.nbytes // POINT)
+def _rounded(rows: Rows, degrees: array[float]) -> memoryview:
+    """The units of floats."""
     try:
-        report, memory = _written(records, coordinates, room, limits, style)
+        return memoryview(to_units(rows, memoryview(degrees)))
+    except NotFinite as fault:
+        place = fault.place // 2
+        raise ValueError(f"row {_row_of(rows, place)}: point {place}: {fault}") from None
+
+
+def _precisions(rows: Rows) -> Any:
+    """For each point in turn, the precision of its geometry; None if that is none, or if there is no more row."""
+    precision = None
+    for own, count in zip(rows.precision, rows.counts):
+        precision = own if own != NO_PRECISION else precision
+        valid = precision is not None and -8 <= precision <= 7
+        for _ in range(count):
+            yield precision if valid else None
+    while True:
+        yield None
+
+
+def _of_pairs(rows: Rows, points: Any) -> memoryview:
+    """The units of pairs of whole numbers; or of pairs of degrees, if one of them is no whole number."""
+    if isinstance(points, str) or not hasattr(points, "__iter__"):
+        raise TypeError(f"points are pairs of numbers, not {type(points).__name__}")
+    numbers = [number for piece in pieces_of_pairs(points) for number in piece]
+    try:
+        return memoryview(array("q", map(operator.index, numbers)))
+    except (TypeError, OverflowError):
+        pass
+    kinds = set(map(type, numbers))
+    if kinds == {float}:
+        return _rounded(rows, array("d", numbers))
+    units, are_whole = array("q"), all(issubclass(kind, Integral) for kind in kinds)
+    for place, (pair, precision) in enumerate(zip(zip(numbers[::2], numbers[1::2]), _precisions(rows))):
+        precision = None if are_whole else 0 if precision is None else precision
+        try:
+            units.extend([clipped(unit(number, precision)) for number in pair])
+        except (TypeError, ValueError) as fault:
+            raise placed(fault, f"row {_row_of(rows, place)}: point {place}") from None
+    return memoryview(units)
+
+
+def _coordinates(rows: Rows, points: Any) -> memoryview:
+    """The units of points, as a view."""
+    floats = floats_view(points)
+    if floats is not None:
+        return _rounded(rows, array("d", floats.tobytes() if floats.format == "d" else floats))
+    view = whole_view(points, "of 64 or 32 bits they are degrees")
+    return _of_pairs(rows, points) if view is None else _contiguous(view, "points")
+
+
+def _written(rows: Rows, coordinates: memoryview, room: int, limits: CLimits, style: int) -> Tuple[Any, Memory]:
+    """One writing into memory for so many bytes. Other threads run meanwhile if points are copied."""
+    memory, points, records = memory_of(max(room, 1)), borrowed(coordinates), rows.records
+    call = library.polytwkb_write if isinstance(points, bytes) else write_in_place
+    given = records.tobytes() if records.readonly or not len(rows) else address_of(records)
+    return call(given, len(rows), points, coordinates.nbytes // POINT, address_of(memory), room, limits, style), memory
+
+
+def _report(rows: Rows, coordinates: memoryview, limits: CLimits, style: int) -> Tuple[Any, bytes]:
+    """The report of a writing, and its bytes."""
+    room = _MOST_OF_ROW * len(rows) + _MOST_OF_POINT * (coordinates.nbytes // POINT)
+    try:
+        report, memory = _written(rows, coordinates, room, limits, style)
     except MemoryError:
-        report, _ = _written(records, coordinates, 0, limits, style)
-        report, memory = _written(records, coordinates, report.needed, limits, style)
+        report, _ = _written(rows, coordinates, 0, limits, style)
+        report, memory = _written(rows, coordinates, report.needed, limits, style)
     if report.status not in (Status.DONE, Status.REFUSED):
         raise MemoryError("out of memory")
     return report, memoryview(memory)[: report.sent].tobytes()
 
 
-def write(rows: Union[Rows, Buffer, Mapping], points: Points, style: str = "full", limits: Optional[Limits] = None) -> bytes:
+def write(rows: RowsLike, points: PointsLike, style: str = "full", limits: Optional[Limits] = None) -> bytes:
     """Writes rows and their points to a stream of blobs: with sizes and boxes, or ``"plain"``, without either. What `read` gave becomes the
-    canonical stream of the same geometries.
+    canonical stream of the same geometries. `Packed` of the stream has single blobs and their places.
 
     Rows are `Rows`, an array of numpy of `Rows.dtype`, or a mapping of their columns by name, each a list or a buffer of whole numbers, or
-    one number for all rows: ``kind`` and ``points``; ``depth``, 0 if it is left out; ``precision``, `NO_PRECISION` if it is left out;
-    ``id``, in a list None for none, and ``has_id``. Points are those of all rows in their order: a buffer of signed 64-bit integers, flat or
-    of two columns, or pairs of whole numbers. Arrays are contiguous, except columns.
+    one number for all rows: ``kind`` and ``counts``; ``depth``, 0 if it is left out; ``precision``, `NO_PRECISION` if it is left out;
+    ``id``, in a list None for none, and ``has_id``.
+
+    Points are those of all rows in their order, flat or of shape (n, 2). Signed 64-bit integers are units of 10^-precision, and a buffer
+    of them is contiguous. Floats (float64, float32) are degrees, and each is rounded, as `encode` rounds it, by the precision of the
+    geometry that its row is in. Pairs are units if all are whole numbers, else degrees. Rows are copied, and so are floats; integers in a
+    buffer that can be written are read in place: no one may write to them meanwhile, no loop of numpy and no other process either.
 
     Raises Refused, with the row from 0 as its place, at the first row that is wrong, or if points are left over; its `output` has the
-    blobs of the complete geometries before.
+    blobs of the complete geometries before. Raises ValueError for a coordinate that is not finite, an array that is not contiguous,
+    columns of other lengths; TypeError for other types, other shapes and masked arrays.
     """
-    style, limits = style_of(style), _limits(limits)
-    report, output = _report(_records(rows), _coordinates(points), limits, style)
+    number, most = style_of(style), _limits(limits)
+    own = _own_rows(rows)
+    report, output = _report(own, _coordinates(own, points), most, number)
     if report.status == Status.REFUSED:
         where = "" if report.reason == Reason.POINTS_LEFT else f"row {report.place}"
-        raise Refused(report.reason, where, report.place, 0, report.done, output)
+        raise Refused(report.reason, where, report.place, report.text_offset, report.done, output)
     return output

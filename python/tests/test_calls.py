@@ -102,7 +102,7 @@ class Points(unittest.TestCase):
                 with self.subTest(points=points), self.assertRaises(polytwkb.Refused) as caught:
                     polytwkb.encode(points)
                 self.assertEqual(str(caught.exception), "point 1: coordinate out of range")
-                self.assertEqual((caught.exception.name, caught.exception.place, caught.exception.output), ("POLYLINE_RANGE", 1, ""))
+                self.assertEqual((caught.exception.code, caught.exception.place, caught.exception.output), ("POLYLINE_RANGE", 1, ""))
         for refused in ([(4611686018427387903.5, 0)], 5), (array("q", [0, 1 << 62]),):
             with self.assertRaises(polytwkb.Refused) as caught:
                 polytwkb.encode(*refused)

@@ -14,7 +14,7 @@ def found(given, **options):
     """Line, number of the geometry and name of each refusal."""
     refusals = polytwkb.check(given, **options)
     assert all(refused.output is None for refused in refusals)
-    return [(str(refused), refused.done, refused.name) for refused in refusals]
+    return [(str(refused), refused.done, refused.code) for refused in refusals]
 
 
 class Tables(unittest.TestCase):
@@ -82,23 +82,24 @@ class Tables(unittest.TestCase):
 class Blobs(unittest.TestCase):
     def test_each_blob_is_looked_at_by_itself(self):
         right = bytes.fromhex("0102020402")
-        blobs = [right, right[:-1], right + right, b"", bytearray(b"\x08"), memoryview(right), right + b"\x01"]
+        blobs = [right, right[:-1], right + right, b"", bytearray(b"\x08"), memoryview(right), right + b"\x01", None]
         self.assertEqual(found(blobs), [
             ("blob 1: byte 4: truncated", 1, "BLOB_TRUNCATED"),
+            ("blob 2: byte 5: size mismatch", 2, "BLOB_SIZE_MISMATCH"),
             ("blob 3: byte 0: truncated", 3, "BLOB_TRUNCATED"),
             ("blob 4: byte 0: unknown type", 4, "BLOB_BAD_TYPE"),
-            ("blob 6: byte 6: truncated", 6, "BLOB_TRUNCATED"),
+            ("blob 6: byte 5: size mismatch", 6, "BLOB_SIZE_MISMATCH"),
         ])
         self.assertEqual((found([]), found(iter([right]))), ([], []))
         self.assertEqual(found([vector["hex"] for vector in ()]), [])
         self.assertEqual(found(bytes.fromhex(vector["hex"]) for vector in vectors.postgis()), [])
 
     def test_wrong_types(self):
-        for given in (None, 7, [None], ["0102"], [7], {"a": b""}):
+        for given in (None, 7, ["0102"], [7], {"a": b""}):
             with self.subTest(given=given), self.assertRaises(TypeError):
                 polytwkb.check(given)
-        with self.assertRaisesRegex(TypeError, "blob 1 is bytes, not NoneType"):
-            polytwkb.check([b"\x01", None])
+        with self.assertRaisesRegex(TypeError, "blob 1 is bytes, not int"):
+            polytwkb.check([b"\x01", 7])
 
 
 class Records(unittest.TestCase):

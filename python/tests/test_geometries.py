@@ -49,6 +49,7 @@ class Mappings(unittest.TestCase):
         blob = polytwkb.pack(vectors.table_of("0,point,,0,CA/"))
         for blobs, place, done in [
             ([blob, blob[:-1], b"\x01"], len(blob) - 1, 1), ([blob, b"\x08"], 0, 1), ([blob[:-1], blob[-1:] + blob], len(blob) - 1, 0),
+            ([blob, b""], 0, 1), ([blob + blob], len(blob), 0), ([b"", blob + blob], 0, 0), ([None, blob, blob + b"\x01"], len(blob), 2),
         ]:
             with self.subTest(blobs=blobs), self.assertRaises(polytwkb.Refused) as caught:
                 polytwkb.geometries(blobs)
@@ -56,8 +57,7 @@ class Mappings(unittest.TestCase):
             self.assertEqual((refused.place, refused.done, len(refused.output)), (place, done, done))
             self.assertTrue(str(refused).startswith(f"blob {done}: byte {place}: "))
         for blobs, raised in [
-            ([blob, b""], ValueError), ([blob + blob], ValueError), ([b"", blob + blob], ValueError), ([None], TypeError), (["01"], TypeError),
-            (7, TypeError), ("01", TypeError),
+            ([blob, "01"], TypeError), ([7], TypeError), (["01"], TypeError), (7, TypeError), ("01", TypeError),
         ]:
             with self.subTest(blobs=blobs), self.assertRaises(raised):
                 polytwkb.geometries(blobs)

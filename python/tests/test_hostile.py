@@ -4,7 +4,6 @@
 """
 import os
 import random
-import resource
 import subprocess
 import sys
 import time
@@ -22,12 +21,20 @@ except ImportError:
 CASES = int(os.environ.get("CASES", "20000"))
 SEED = int(os.environ.get("SEED", time.strftime("%Y%m%d", time.gmtime())))
 ALLOWED = (polytwkb.Refused, TypeError, ValueError, MemoryError)
+
+
+def all_of_stream(*given):
+    """All that `stream` gives."""
+    return list(polytwkb.stream(*given))
+
+
 CALLS = (
     polytwkb.pack, polytwkb.unpack, polytwkb.show, polytwkb.split, polytwkb.encode, polytwkb.decode, polytwkb.decode_flat, polytwkb.check,
     polytwkb.read, polytwkb.geometries, polytwkb.in_units, polytwkb.in_degrees, polytwkb.write, polytwkb.write, polytwkb.pack_geometries,
+    all_of_stream, *([polytwkb.ragged, polytwkb.pack_ragged] if numpy else []),
 )
 # How many arguments a call takes at least, where that is not one.
-ARGUMENTS = {"in_units": 2, "in_degrees": 2, "pack_geometries": 2}
+ARGUMENTS = {"in_units": 2, "in_degrees": 2, "pack_geometries": 2, "pack_ragged": 2}
 BLOBS = [bytes.fromhex(vector["hex"]) for vector in vectors.postgis()]
 TABLES = ["".join(row + "\n" for row in vector["rows"]) for vector in vectors.postgis()]
 TEXTS = [text for text, _, _ in vectors.polylines()]
@@ -80,7 +87,7 @@ def value(chance):
     if kind == 8:
         return buffer(chance)
     if kind == 9:
-        return [changed(chance, blob) for blob in chance.choices(BLOBS, k=chance.randrange(4))]
+        return [chance.choice([blob, blob, changed(chance, blob), None]) for blob in chance.choices(BLOBS, k=chance.randrange(4))]
     return chance.choice([None, 7, "", b"", [], {}, object(), "\ud800", "\x00", "ä", array("d", [1, 2]), memoryview(b"12345678")[::3], range(3)])
 
 
@@ -94,7 +101,7 @@ def column(chance, count):
 def rows(chance):
     """Rows in each form: as bytes, in columns, those that were read, with some of their bytes changed."""
     found = polytwkb.read(b"".join(chance.choices(BLOBS, k=chance.randrange(4)))).rows
-    names = ["kind", "points", "depth", "precision", "id", "has_id"]
+    names = ["kind", "counts", "depth", "precision", "id", "has_id"]
     if chance.randrange(2):
         records = changed(chance, found.records)
         return chance.choice([bytes, bytearray, memoryview])(records[: chance.choice([len(records), len(records) // 24 * 24])])
@@ -115,12 +122,25 @@ def mapping(chance, depth=0):
     return chance.choice([made, made, [made, made], members])
 
 
+def ragged_column(chance):
+    """A column of coordinates and offsets, mostly as it should be."""
+    coordinates = numpy.array([[number(chance) or 0.0 for _ in "xy"] for _ in range(4)], dtype=object)
+    coordinates = chance.choice([numpy.arange(8.0).reshape(4, 2), buffer(chance), coordinates])
+    offsets = [sorted(chance.choices([0, 1, 2, 3, 4, 5, -1], [9, 9, 9, 9, 9, 1, 1], k=chance.randrange(1, 5))) for _ in range(chance.choice([1, 1, 2, 3]))]
+    return chance.choice([0, 1, 3, 4, 5, 6, 7, None]), coordinates, chance.choice([(), offsets, offsets, offsets, value(chance)])
+
+
 def arguments(chance, call):
     """What a call is given."""
     given = [value(chance)]
+    if call.__name__ == "pack_ragged" and chance.randrange(4):
+        given = [ragged_column(chance)]
+    if call in (polytwkb.write, polytwkb.encode, polytwkb.in_units) and numpy and chance.randrange(8) == 0:
+        given = [numpy.ma.masked_equal(numpy.array([[1, 2], [3, 4]], chance.choice(["i8", "f8"])), 3)]
     if call is polytwkb.write and chance.randrange(4):
         count = chance.randrange(6)
-        points = chance.choice([[tuple(chance.choices([0, 1, 5, 1 << 62, 1 << 64], [9, 9, 9, 1, 1], k=2)) for _ in range(count)], array("q", [1, 2] * count)])
+        points = [tuple(chance.choices([0, 1, 5, 1 << 62, 1 << 64], [9, 9, 9, 1, 1], k=2)) for _ in range(count)]
+        points = chance.choice([points, [(x + 0.5, y) for x, y in points], array("q", [1, 2] * count), array("d", [1, 2.5] * count)])
         given = [rows(chance), chance.choice([points, points, points, buffer(chance), value(chance)])]
     elif call is polytwkb.write:
         given.append(value(chance))
@@ -140,11 +160,11 @@ def one(chance):
     try:
         answer = call(*given)
     except polytwkb.Refused as refused:
-        assert str(refused) and refused.name and refused.text and refused.place >= 0
+        assert str(refused) and refused.code and refused.text and refused.place >= 0
     except ALLOWED:
         pass
     else:
-        assert type(answer) in (bytes, str, list, array, memoryview, polytwkb.Arrays)
+        assert type(answer) in (bytes, str, list, array, polytwkb.Points, polytwkb.Packed, polytwkb.Ragged, polytwkb.Arrays)
 
 
 class Hostile(unittest.TestCase):

@@ -1,15 +1,17 @@
 """`pack_geometries`: mappings of the geo interface, objects of Shapely and columns of GeoPandas, if these are there, to streams."""
 import unittest
 from decimal import Decimal
+from unittest import mock
 
 import polytwkb
 import vectors
+from polytwkb._packing import _interface_of
 from test_geometries import RIGHT, SHAPES
 
 try:
     import shapely
-    from shapely import wkt
-    from shapely.geometry import shape
+    from shapely import wkb, wkt
+    from shapely.geometry import LineString, shape
 except ImportError:
     shapely = None
 try:
@@ -18,13 +20,13 @@ except ImportError:
     geopandas = None
 
 WRONG = [
-    (None, TypeError), (7, TypeError), ("Point", TypeError), ({"type": "Point"}, TypeError), ({"type": "Point", "coordinates": (1,)}, TypeError),
+    (7, TypeError), ("Point", TypeError), ({"type": "Point"}, TypeError), ({"type": "Point", "coordinates": (1,)}, TypeError),
     ({"type": "Point", "coordinates": (1, 2, 3)}, TypeError), ({"type": "Point", "coordinates": ("1", 2)}, TypeError),
     ({"type": "Point", "coordinates": (None, 2)}, TypeError),
     ({"type": "LineString", "coordinates": (1, 2)}, TypeError), ({"type": "LineString", "coordinates": "ab"}, TypeError),
     ({"type": "Polygon", "coordinates": [1]}, TypeError),
     ({"type": "GeometryCollection", "coordinates": []}, TypeError), ({"type": "GeometryCollection", "geometries": [5]}, TypeError),
-    ({"type": "Feature", "geometry": None}, TypeError), ({"type": "MultiPoint", "coordinates": [(1, 2)], "ids": 5}, TypeError),
+    ({"type": "Feature"}, TypeError), ({"type": "GeometryCollection", "geometries": [None]}, TypeError), ({"type": "MultiPoint", "coordinates": [(1, 2)], "ids": 5}, TypeError),
     ({}, ValueError), ({"type": "point"}, ValueError), ({"type": ["Point"]}, ValueError), ({"type": "Point", "coordinates": (float("nan"), 2)}, ValueError),
     ({"type": "MultiPoint", "coordinates": [(1, 2)], "ids": []}, ValueError), ({"type": "MultiPoint", "coordinates": [(1, 2)], "ids": ["7"]}, ValueError),
     ({"type": "MultiPoint", "coordinates": [(1, 2)], "ids": [1 << 63]}, ValueError),
@@ -62,6 +64,34 @@ class Mappings(unittest.TestCase):
 
         self.assertEqual(polytwkb.pack_geometries(Place(), 0), table_of("0,point,,0,CA/"))
         self.assertEqual(polytwkb.pack_geometries([Place(), RIGHT], 0), table_of("0,point,,0,CA/0,point,,0,CA/"))
+
+    def test_a_list_with_gaps(self):
+        nothing = {"type": "Feature", "geometry": None}
+        point = table_of("0,point,,0,CA/")
+        for given, blobs in [
+            ([None, RIGHT, None, None, RIGHT], [None, point, None, None, point]), ([RIGHT, nothing], [point, None]), ([None], [None]), ([], []),
+            ({"type": "FeatureCollection", "features": [nothing, {"type": "Feature", "geometry": RIGHT}]}, [None, point]), (nothing, [None]),
+        ]:
+            packed = polytwkb.pack_geometries(given, 0)
+            self.assertEqual((packed.blobs, packed), (blobs, b"".join(filter(None, blobs))))
+            self.assertEqual(packed.offsets.tolist(), [len(b"".join(filter(None, blobs[:place]))) for place in range(len(blobs) + 1)])
+            self.assertEqual(polytwkb.split(packed), list(filter(None, blobs)))
+            self.assertEqual(polytwkb.geometries(packed.blobs), [blob and RIGHT for blob in blobs])
+        with self.assertRaises(polytwkb.Refused) as caught:
+            polytwkb.pack_geometries([None, RIGHT, None, {"type": "Point", "coordinates": (1 << 62, 0)}], 0)
+        refused = caught.exception
+        self.assertEqual((str(refused), refused.done, refused.output.blobs), ("geometry 3: coordinate out of range", 3, [None, point, None]))
+        with self.assertRaisesRegex(ValueError, "^geometry 2: a coordinate is a finite number"):
+            polytwkb.pack_geometries([None, RIGHT, {"type": "Point", "coordinates": (0, float("nan"))}], 0)
+
+    def test_heights_are_dropped_if_asked(self):
+        for given, rows in [
+            ({"type": "Point", "coordinates": (2, 1, 7)}, "0,point,,0,AC/"), ({"type": "Point", "coordinates": ()}, "0,point,,0,/"),
+            ({"type": "LineString", "coordinates": [(1, 1, 9), (5, 5), (5, 5, 1, 2)]}, "0,linestring,,0,AAGG??/"),
+        ]:
+            self.assertEqual(polytwkb.pack_geometries([None, given], 0, heights="drop"), table_of(rows))
+        with self.assertRaisesRegex(TypeError, "^geometry 0: points are pairs of numbers"):
+            polytwkb.pack_geometries({"type": "Point", "coordinates": (2,)}, 0, heights="drop")
 
     def test_ids_are_left_out(self):
         given = {"type": "GeometryCollection", "geometries": [{"type": "MultiPoint", "coordinates": [(2, 1)], "ids": [9]}], "ids": [3]}
@@ -101,11 +131,12 @@ class Mappings(unittest.TestCase):
                 polytwkb.pack_geometries([RIGHT, given], 5)
         for given in [
             (None, 5), (7, 5), ("ab", 5), (b"ab", 5), (RIGHT, None), (RIGHT, 1.5), (RIGHT, 5, 0), (RIGHT, 5, "full", True, 5),
+            (RIGHT, 5, "full", True, None, None),
             ({"type": "FeatureCollection"}, 5),
         ]:
             with self.subTest(given=given), self.assertRaises(TypeError):
                 polytwkb.pack_geometries(*given)
-        for given in [(RIGHT, 8), (RIGHT, -9), (RIGHT, 5, "Full"), ({"type": "Line"}, 5)]:
+        for given in [(RIGHT, 8), (RIGHT, -9), (RIGHT, 5, "Full"), ({"type": "Line"}, 5), (RIGHT, 5, "full", True, None, "Drop")]:
             with self.subTest(given=given), self.assertRaises(ValueError):
                 polytwkb.pack_geometries(*given)
 
@@ -132,8 +163,52 @@ class Shapely(unittest.TestCase):
         self.assertEqual(polytwkb.pack_geometries(shapes, 5), table_of("".join(rows for _, rows in WKT)))
 
     def test_heights_are_not_dropped(self):
-        with self.assertRaisesRegex(TypeError, "geometry 0: .* no height"):
-            polytwkb.pack_geometries([wkt.loads("LINESTRING Z (1 2 3, 4 5 6)")], 5)
+        line, flat = wkt.loads("LINESTRING Z (1 2 3, 4 5 6)"), wkt.loads("LINESTRING (1 2, 4 5)")
+        for given in ([None, flat, line], [None, RIGHT, line]):
+            with self.assertRaisesRegex(TypeError, "geometry 2: .* no height"):
+                polytwkb.pack_geometries(given, 5)
+        for given in ([line], [line, RIGHT]):
+            wanted = [flat, RIGHT][: len(given)]
+            self.assertEqual(polytwkb.pack_geometries(given, 5, heights="drop"), polytwkb.pack_geometries(wanted, 5))
+        self.assertEqual(polytwkb.pack_geometries([line, wkt.loads("POINT EMPTY")], 5, heights="drop").blobs[1], table_of("0,point,,5,/"))
+
+    def test_shapes_go_as_mappings_do(self):
+        """By way of WKB and by way of mappings, with gaps."""
+        shapes = [None, *[wkt.loads(text) for text, _ in WKT], None]
+        for chosen in (shapes, shapes[1:3], shapes[3:4], [shapes[3], None, shapes[3]], [shapes[1]] * 3, [shapes[2], shapes[1]]):
+            packed = polytwkb.pack_geometries(chosen, 5)
+            mappings = [shape and _interface_of(shape) for shape in chosen]
+            self.assertEqual(packed.blobs, polytwkb.pack_geometries(mappings, 5).blobs)
+            found = polytwkb.shapes(packed.blobs)
+            self.assertEqual([made and made.wkt for made in found], [made and made.wkt for made in chosen])
+        deep = wkt.loads("GEOMETRYCOLLECTION (" * 34 + "POINT (1 2)" + ")" * 34)
+        with self.assertRaisesRegex(polytwkb.Refused, "^geometry 1: nested too deep"):
+            polytwkb.pack_geometries([shapes[1], deep, shapes[1]], 5)
+        with self.assertRaisesRegex(ValueError, "^geometry 2: a coordinate is a finite number, not nan"):
+            polytwkb.pack_geometries([shapes[1], None, LineString([(0, 1), (float("nan"), 2)])], 5)
+        with self.assertRaisesRegex(polytwkb.Refused, "^geometry 1: coordinate out of range"):
+            polytwkb.pack_geometries([None, LineString([(0, 1), (1e15, 2)])], 5)
+
+    def test_shapely_2_is_given_whole_lists(self):
+        """The calls of Shapely 2 that are needed, over those of the version that is there."""
+
+        def to_wkb(given, output_dimension, byte_order):
+            return [wkb.dumps(one, output_dimension=output_dimension, big_endian=not byte_order) for one in given]
+
+        shapes = [None, wkt.loads("POINT Z EMPTY"), *[wkt.loads(text) for text, _ in WKT]]
+        wanted = polytwkb.pack_geometries(shapes, 5)
+        with mock.patch.multiple(shapely, create=True, from_wkb=lambda given: list(map(wkb.loads, given)), to_wkb=to_wkb):
+            packed = polytwkb.pack_geometries(shapes, 5)
+            found = polytwkb.shapes(packed.blobs)
+        self.assertEqual((packed.blobs, [one.wkt for one in found[2:]]), (wanted.blobs, [one.wkt for one in shapes[2:]]))
+
+    def test_shapes_that_shapely_does_not_take(self):
+        blobs = [table_of(rows) for rows in ("0,point,,5,AC/", "0,linestring,,5,AC/", "0,linestring,,5,AAGG/")]
+        with self.assertRaisesRegex(ValueError, "^blob 2: Shapely does not take this geometry"):
+            polytwkb.shapes([None, *blobs])
+        made, faults = polytwkb.shapes([blobs[0], blobs[1], b"", None, blobs[2]], errors="collect")
+        self.assertEqual([made and made.geom_type for made in made], ["Point", None, None, None, "LineString"])
+        self.assertEqual([str(fault).split(":")[0] for fault in faults], ["blob 1", "blob 2"])
 
     def test_the_blobs_of_postgis(self):
         """Shapes of the text that PostGIS printed: those that Shapely has, of one precision and without ids."""
@@ -159,10 +234,15 @@ class GeoPandas(unittest.TestCase):
         frame = geopandas.GeoDataFrame({"name": range(len(chosen))}, geometry=column.values)
         for given in (column, frame, frame.geometry, list(column)):
             self.assertEqual(polytwkb.pack_geometries(given, 5), wanted)
-        frame["blob"] = polytwkb.split(polytwkb.pack_geometries(frame, 5))
+        frame["blob"] = polytwkb.pack_geometries(frame, 5).blobs
         self.assertEqual(polytwkb.geometries(frame["blob"]), polytwkb.geometries(wanted))
-        with self.assertRaisesRegex(TypeError, "^geometry 1: .*NoneType"):
-            polytwkb.pack_geometries(geopandas.GeoSeries([wkt.loads("POINT (1 2)"), None]), 5)
+
+    def test_the_index_and_gaps_are_kept(self):
+        frame = geopandas.GeoDataFrame(geometry=[wkt.loads("POINT (1 2)"), None, wkt.loads("POINT (3 4)"), wkt.loads("POINT (5 6)")])[::-2]
+        frame["blob"] = polytwkb.pack_geometries(frame.geometry, 5).blobs
+        frame["back"] = geopandas.GeoSeries(polytwkb.shapes(frame["blob"]), index=frame.index)
+        self.assertEqual((list(frame.index), list(frame["blob"].isna())), ([3, 1], [False, True]))
+        self.assertTrue(frame["back"].iloc[0].equals(frame.geometry.iloc[0]) and frame["back"].iloc[1] is None)
 
 
 if __name__ == "__main__":

@@ -1,4 +1,4 @@
-"""Coordinates are rounded as by exact decimals, half away from zero: halves, the floats beside halves, and a million random numbers."""
+"""Coordinates are rounded as by decimals, half away from zero: halves, the floats beside halves, and a million random numbers."""
 import decimal
 import math
 import os
@@ -13,6 +13,8 @@ from fractions import Fraction
 from unittest import mock
 
 import polytwkb
+import vectors
+from polytwkb._rounding import nearest
 
 try:
     import numpy
@@ -24,9 +26,13 @@ SEED = int(os.environ.get("SEED", time.strftime("%Y%m%d", time.gmtime())))
 PRECISIONS = range(-8, 8)
 
 
-def exact(number, precision):
-    """The whole number nearest to a number times 10^precision, by the module decimal."""
-    return int(Decimal(number).scaleb(precision).to_integral_value(decimal.ROUND_HALF_UP))
+def expected_of(number, precision):
+    """The whole number nearest to a float times 10^precision, by the module decimal: the float as the shortest decimal number that reads as
+    it, up to 10^14 units. It is the rule of docs/FORMATS.md in other words: so far each decimal number of a digit more has a float of its own."""
+    exact = Decimal(number).scaleb(precision)
+    if abs(exact) < 10**14:
+        exact = Decimal(repr(number)).scaleb(precision)
+    return int(exact.to_integral_value(decimal.ROUND_HALF_UP))
 
 
 def beside(number):
@@ -60,13 +66,13 @@ def random_numbers(chance, count, precision):
 
 class Rounding(unittest.TestCase):
     def alike(self, numbers, precision):
-        """The numbers are rounded exactly in each form that takes them."""
+        """The numbers are rounded so in each form that takes them."""
         numbers = numbers + numbers[: len(numbers) % 2]
         with decimal.localcontext() as context:
             context.prec = 1200
-            expected = [exact(number, precision) for number in numbers]
+            expected = [expected_of(number, precision) for number in numbers]
         for form in [array("d", numbers), list(zip(numbers[::2], numbers[1::2]))] + ([numpy.array(numbers).reshape(-1, 2)] if numpy else []):
-            found = polytwkb.in_units(form, precision).cast("B").cast("q").tolist()
+            found = polytwkb.in_units(form, precision).flat.tolist()
             if found != expected:
                 place = next(place for place, pair in enumerate(zip(found, expected)) if pair[0] != pair[1])
                 self.fail(f"seed {SEED}: {numbers[place]!r} at precision {precision} is {found[place]}, not {expected[place]}")
@@ -77,6 +83,35 @@ class Rounding(unittest.TestCase):
             self.alike(numbers, precision)
             for place in range(0, 40, 2):
                 self.alike(numbers[place : place + 2], precision)
+
+    def test_decimal_numbers_of_up_to_15_digits(self):
+        """Half of them end in 5, and each counts as it was written, one by one too."""
+        chance = random.Random(SEED)
+        for precision in PRECISIONS:
+            texts = []
+            while len(texts) < CASES // 8 // len(PRECISIONS):
+                digits = str(chance.randrange(1, 10 ** chance.randint(1, 15)))[:-1] + chance.choice("5555567890")
+                texts.append(f"{chance.choice(('', '-'))}{digits}e{chance.choice((-precision - 1, -precision - 1, chance.randint(-12, 6)))}")
+            texts = [text for text in texts if abs(Decimal(text).scaleb(precision)) < 10**14]
+            self.alike(list(map(float, texts)), precision)
+            written = [int(Decimal(text).scaleb(precision).to_integral_value(decimal.ROUND_HALF_UP)) for text in texts]
+            self.assertEqual([nearest(float(text), precision) for text in texts], written)
+
+    def test_postgis_rounds_a_product_and_has_other_units_for_some(self):
+        for row in vectors.roundings():
+            with self.subTest(row=row):
+                number, precision, unit = float(row["number"]), row["precision"], row["unit"]
+                self.assertEqual(polytwkb.in_units([(number, 0)], precision).tolist(), [[unit, 0]])
+                self.assertEqual(nearest(number, precision), unit)
+                polyline = polytwkb.unpack(bytes.fromhex(row["hex"])).rstrip("\n").rpartition(",")[2]
+                self.assertEqual(polytwkb.decode(polyline), [(row.get("postgis", unit), 0)])
+
+    def test_an_exact_number_is_a_half_only_if_it_is_one(self):
+        for number, unit in [
+            (0.15, 2), (Decimal("0.15"), 2), (Fraction("0.15"), 2), (Decimal(0.15), 1), (Fraction(0.15), 1),
+            (0.35, 4), (Decimal("0.34999999999999999999"), 3), (1.005e13, 1005 * 10**11), (0.1499999999999999, 1),
+        ]:
+            self.assertEqual(polytwkb.in_units([(number, -number)], 1).tolist(), [[unit, -unit]], repr(number))
 
     def test_random_numbers(self):
         chance = random.Random(SEED)
@@ -93,7 +128,7 @@ class Rounding(unittest.TestCase):
             for number in (sys.float_info.max, -sys.float_info.max, 1.01 * 2.0**62 / scale, 1.01 * -(2.0**62) / scale):
                 with self.assertRaises(polytwkb.Refused) as caught:
                     polytwkb.in_units(array("d", [0, 0, 0, number]), precision)
-                self.assertEqual((caught.exception.place, caught.exception.name), (1, "POLYLINE_RANGE"))
+                self.assertEqual((caught.exception.place, caught.exception.code), (1, "POLYLINE_RANGE"))
         self.assertEqual(polytwkb.in_units([(2.0**62 - 512, -(2.0**62))], 0).tolist(), [[(1 << 62) - 512, -(1 << 62)]])
         with self.assertRaises(polytwkb.Refused):
             polytwkb.in_units([(0.0, 2.0**62)], 0)
@@ -168,10 +203,10 @@ class Rounding(unittest.TestCase):
             expected = [float(Fraction(number) / Fraction(10) ** precision) for number in numbers]
             small = [place for place, number in enumerate(numbers) if abs(number) < 1 << 50]
             for module in [None, numpy] if numpy else [None]:
-                with mock.patch("polytwkb._points.numpy_of", lambda: module):
-                    self.assertEqual(polytwkb.in_degrees(array("q", numbers), precision).cast("B").cast("d").tolist(), expected)
+                with mock.patch("polytwkb._degrees.numpy_of", lambda: module):
+                    self.assertEqual(polytwkb.in_degrees(array("q", numbers), precision).flat.tolist(), expected)
                     few = [numbers[place] for place in small[: len(small) // 2 * 2]]
-                    found = polytwkb.in_degrees(array("q", few), precision).cast("B").cast("d").tolist()
+                    found = polytwkb.in_degrees(array("q", few), precision).flat.tolist()
                     self.assertEqual(found, [expected[place] for place in small[: len(few)]])
 
     @unittest.skipUnless(numpy, "numpy is not there")
@@ -180,7 +215,7 @@ class Rounding(unittest.TestCase):
         for view, kind in ((units, numpy.int64), (polytwkb.in_degrees(units, 5), numpy.float64)):
             found = numpy.asarray(view)
             self.assertEqual((found.dtype, found.shape), (numpy.dtype(kind), (1, 2)))
-            self.assertEqual(found.__array_interface__["data"][0], numpy.frombuffer(view, kind).__array_interface__["data"][0])
+            self.assertEqual(found.__array_interface__["data"][0], numpy.asarray(view.flat).__array_interface__["data"][0])
         rows = numpy.arange(12.0).reshape(3, 4)
         self.assertEqual(polytwkb.encode(rows[:, 1:3], 0), polytwkb.encode([(1, 2), (5, 6), (9, 10)]))
         self.assertEqual(polytwkb.encode(rows[:, 1:3].astype(numpy.int64), 0), polytwkb.encode([(1, 2), (5, 6), (9, 10)]))

@@ -51,7 +51,7 @@ class Runs(unittest.TestCase):
         with self.assertRaises(polytwkb.Refused) as caught:
             polytwkb.pack(vectors.table_of("0,point,,0,AC/0,point,,0,AA/0,pont,,0,/"))
         refused = caught.exception
-        self.assertEqual((refused.reason, refused.name, refused.text), (4, "BAD_KIND", "unknown kind"))
+        self.assertEqual((refused.reason, refused.code, refused.text), (4, "BAD_KIND", "unknown kind"))
         self.assertEqual((refused.place, refused.text_offset), (4, 0))
         self.assertEqual(refused.done, len(polytwkb.split(refused.output)))
 

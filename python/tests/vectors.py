@@ -51,7 +51,16 @@ def polylines():
         yield bytes.fromhex(text) if word == "polyline_of_bytes" else text.encode(), list(zip(numbers[::2], numbers[1::2])), refusal
 
 
+def lines_of(name):
+    with open(os.path.join(REPO, "tests", "postgis", name), encoding="utf-8") as source:
+        return [json.loads(line) for line in source]
+
+
 def postgis():
     """The blobs that PostGIS wrote."""
-    with open(os.path.join(REPO, "tests", "postgis", "blobs.jsonl"), encoding="utf-8") as source:
-        return [json.loads(line) for line in source]
+    return lines_of("blobs.jsonl")
+
+
+def roundings():
+    """Numbers at a half, and the blobs that PostGIS makes of them."""
+    return lines_of("rounding.jsonl")

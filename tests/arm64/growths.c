@@ -29,13 +29,13 @@ void *__wrap_realloc(void *block, size_t size) {
 }
 
 // A call of the library, with its name and its input.
-typedef struct call {
+typedef struct library_call {
     const char *name;
     const uint8_t *input;
     size_t length;
-} call;
+} library_call;
 
-static polytwkb_report run(size_t number, const call *call) {
+static polytwkb_report run(size_t number, const library_call *call) {
     polytwkb_limits limits = polytwkb_standard_limits();
     memset(output, 0xA5, sizeof output);
     switch (number) {
@@ -61,7 +61,7 @@ static uint64_t digest(const uint8_t *bytes, size_t length) {
     return sum;
 }
 
-static void print(const call *call, long number, const char *others, polytwkb_report report) {
+static void print(const library_call *call, long number, const char *others, polytwkb_report report) {
     printf("%s, growth %ld%s: status %u, reason %u, place %llu, text_offset %llu, done %llu, sent %llu, needed %llu, output %016llx\n",
            call->name, number, others, report.status, report.reason, (unsigned long long)report.place,
            (unsigned long long)report.text_offset, (unsigned long long)report.done, (unsigned long long)report.sent,
@@ -72,7 +72,7 @@ int main(void) {
     size_t length = fread(table, 1, ROOM, stdin);
     polytwkb_report packed = polytwkb_pack(table, length, blobs, ROOM, polytwkb_standard_limits(), POLYTWKB_FULL);
     if (packed.status != POLYTWKB_DONE) return 1;
-    const call calls[] = {
+    const library_call calls[] = {
         {"pack", table, length},         {"pack plain", table, length},   {"unpack", blobs, packed.sent},
         {"show", blobs, packed.sent},    {"measure pack", table, length}, {"measure unpack", blobs, packed.sent},
     };

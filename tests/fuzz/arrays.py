@@ -103,6 +103,14 @@ def named_by(rows, points, nest):
     return (geometries[:-1] if is_open else geometries), fault
 
 
+def index_outside(rows, points, fault):
+    """The first point out of range of the row that is refused for that, counted from 0; else 0."""
+    if not fault or fault[1] != "coordinate out of range":
+        return 0
+    own = points[sum(row[1] for row in rows[: fault[0]]) :]
+    return next(index for index, point in enumerate(own) if not all(LEAST <= number <= MOST for number in point))
+
+
 # Values of each field of a row for slips.
 FIELDS = {
     0: (0, 1, -1, 7, 2**63 - 1, -(2**63)), 1: (0, 1, 1, 2, 3, 2**32, 2**63, 2**64 - 1), 2: (0, 0, 1, 1, 2, 3, 9, 2**32 - 1),

@@ -20,7 +20,7 @@ from fuzzing import MOST_FOUND, report, words_of
 from geometry import NEST, Geometry
 from run_command import Command
 from slips import announced, any_bytes, stream_slip, table_slip
-from table import HEADER_LINE, named_by, records_of, rows_text, table_text
+from table import HEADER_LINE, named_by, rows_text, table_text
 from trees import free, nested, some_tree
 
 SECONDS_TO_SHORTEN = 20

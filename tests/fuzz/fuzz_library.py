@@ -1,6 +1,7 @@
 #!/usr/bin/env python3
 """Compares calls of the library and of the package for Python with the second implementation: rows and points in arrays are read from random
-streams, and written as streams, by the library into rooms of all sizes, doubles are rounded, and random shapes are packed and tables checked.
+streams, and written as streams, by the library into rooms of all sizes, doubles are rounded, random shapes are packed and tables checked, and
+degrees of rows, columns of one kind and lists with gaps go through the package.
 
 fuzz_library.py [--cases N] [--seed S] [--only CASE] LIBRARY
 
@@ -14,12 +15,14 @@ import sys
 import time
 
 HERE = os.path.dirname(os.path.abspath(__file__))
-sys.path[:0] = [HERE, os.path.join(HERE, "../../python"), os.path.join(HERE, "../../scripts")]
+sys.path[:0] = [HERE, *(os.path.join(HERE, "../..", folder) for folder in ("python", "scripts", "examples/recipes"))]
 
 import blob
+import polylines
 import reasons
 import table
-from arrays import arrays_of, bytes_of_points, bytes_of_rows, named_by, some_arrays
+from arrays import arrays_of, bytes_of_points, bytes_of_rows, index_outside, named_by, some_arrays
+from columns import Columns
 from fuzz import some_stream, some_table
 from fuzzing import MOST_FOUND, report, words_of
 from geometry import NODES, POINTS, mapping_of, with_precision
@@ -93,7 +96,7 @@ class Library:
         """The report, and the units that were written."""
         units, size = self.guarded(8 * room), ctypes.c_size_t
         given = struct.pack(f"<{len(numbers)}d", *numbers)
-        report = self.library.polytwkb_round(given, size(len(numbers)), ctypes.c_int8(precision), units, size(room))
+        report = self.library.polytwkb_round(given, size(len(numbers)), ctypes.c_int32(precision), units, size(room))
         used = 8 * report.sent
         assert units.raw[used:] == bytes([GUARD]) * (len(units) - used), "what was not written has changed"
         return fields_of(report), list(struct.unpack(f"<{report.sent}q", units.raw[:used]))
@@ -107,6 +110,12 @@ def some_limits(chance):
     table.NODES = blob.NODES = nodes
     table.POINTS = blob.POINTS = points
     return nest, nodes, points
+
+
+def standard_limits():
+    table.NODES = blob.NODES = NODES
+    table.POINTS = blob.POINTS = POINTS
+    return 16, NODES, POINTS
 
 
 def refusal_of(number, text):
@@ -134,7 +143,7 @@ def refusals_of(text, nest):
     return refusals
 
 
-class Comparing:
+class Comparing(Columns):
     def __init__(self, path):
         self.library, self.ends = Library(path), {}
 
@@ -166,11 +175,25 @@ class Comparing:
         rows, points = (b"".join(bytes_of(pair[column]) for pair in arrays) for column, bytes_of in ((0, bytes_of_rows), (1, bytes_of_points)))
         refused = None
         try:
-            found = polytwkb.read(stream, polytwkb.Limits(*limits))
+            found = polytwkb.read(stream, polytwkb.Limits(*limits), degrees=False)
         except polytwkb.Refused as caught:
             refused, found = caught, caught.output
         assert (bytes(found.rows.records), found.points.tobytes()) == (rows, points), f"the package reads {stream.hex()} otherwise"
         assert (refused and (refused.place, refused.text)) == fault, f"the package refuses {stream.hex()} otherwise: {refused}"
+        self.stream_by_package(stream, limits, found.offsets.tolist(), fault)
+
+    @staticmethod
+    def stream_by_package(stream, limits, offsets, fault):
+        """The stream in pieces gives its blobs up to the fault, and where each of them is is known."""
+        size, found, refused = 1 + len(stream) // 3, [], None
+        try:
+            for blobs in polytwkb.stream((stream[place : place + size] for place in range(0, len(stream), size)), polytwkb.Limits(*limits)):
+                found.append(blobs)
+        except polytwkb.Refused as caught:
+            refused = caught
+        assert (b"".join(found), refused and (refused.place, refused.text)) == (stream[: offsets[-1]], fault), f"in pieces {stream.hex()} is read otherwise"
+        lengths = [end - start for start, end in zip(offsets, offsets[1:])]
+        assert lengths == [len(blob) for part in found for blob in polytwkb.split(part, polytwkb.Limits(*limits))], f"the places in {stream.hex()} are others"
 
     def write(self, chance, limits):
         """Arrays are written as the second implementation writes them, into any room."""
@@ -188,14 +211,15 @@ class Comparing:
         place, reason = (fault[0], REASONS[fault[1]]) if status == 1 else (0, 0)
         output = b"".join(blobs[:done])
         given = bytes_of_rows(rows), bytes_of_points(points)
-        wanted = (status, reason, place, 0, done, len(output), needed), output
+        index = index_outside(rows, points, fault) if status == 1 else 0
+        wanted = (status, reason, place, index, done, len(output), needed), output
         found = self.library.write(*given, room, limits, style)
         assert found == wanted, f"write {rows} and {points} into {room}, limits {limits}, style {style}: {found}, not {wanted}"
         self.met("write " + ("room too small" if status == 5 else fault[1] if fault else "ok"))
         self.write_by_package(chance, rows, points, limits, style, b"".join(blobs), fault and (*fault, len(blobs)))
 
     def write_by_package(self, chance, rows, points, limits, style, output, fault):
-        columns = dict(zip(("id", "points", "depth", "kind", "has_id", "precision"), map(list, zip(*rows)))) if rows else {"kind": [], "points": []}
+        columns = dict(zip(("id", "counts", "depth", "kind", "has_id", "precision"), map(list, zip(*rows)))) if rows else {"kind": [], "counts": []}
         form = chance.choice((bytes_of_rows(rows), polytwkb.Rows(bytearray(bytes_of_rows(rows))), columns))
         refused = None
         try:
@@ -204,10 +228,13 @@ class Comparing:
             refused, found = caught, caught.output
         assert found == output, f"the package writes {rows} and {points} otherwise"
         assert (refused and (refused.place, refused.text, refused.done)) == fault, f"the package refuses {rows} and {points} otherwise: {refused}"
+        assert not refused or refused.text_offset == index_outside(rows, points, fault), f"the package names another point: {refused.text_offset}"
 
     def round(self, chance, limits):
-        """Doubles are rounded as fractions round them, up to the first that has no coordinate, into any room."""
-        precision = chance.choice((5, 7, chance.randint(-8, 7), chance.randint(-8, 7), chance.choice((-9, 8, -128, 127))))
+        """Doubles are rounded as fractions round them, up to the first that has no coordinate, into any room. The package's own rounding of one
+        number and that of the recipes are the same."""
+        out_of_range = chance.choice((-9, 8, -128, 127, 261, -251, (1 << 31) - 1, -(1 << 31)))
+        precision = chance.choice((5, 7, chance.randint(-8, 7), chance.randint(-8, 7), out_of_range))
         numbers = [some_double(chance, max(-8, min(precision, 7))) for _ in range(chance.choice((0, 1, 1, 2, 5)))]
         room = max(len(numbers) + chance.choice((0, 0, 0, 1, -1, 5)), 0)
         units = []
@@ -223,6 +250,9 @@ class Comparing:
         found = self.library.round(numbers, precision, room)
         assert found == wanted, f"round {numbers} at {precision} into {room}: {found}, not {wanted}"
         self.met(f"round {('ok', 'refused', 'no precision', '', '', 'room too small')[status]}")
+        if status < 2:
+            others = [nearest(number, precision) for number in numbers[: len(units)]], polylines.units_of(numbers[: len(units)], precision)
+            assert others == (units, units), f"round {numbers} at {precision}: the package and the recipes have {others}, not {units}"
 
     def shapes(self, chance, limits):
         """Mappings of the geo interface are packed as the second implementation packs them."""
@@ -253,7 +283,9 @@ class Comparing:
     def compare(self, seed, number):
         chance = random.Random(f"{seed}:{number}")
         limits = some_limits(chance)
-        chance.choice((self.read, self.read, self.write, self.write, self.round, self.shapes, self.check))(chance, limits)
+        limited = self.read, self.read, self.write, self.write, self.round, self.shapes, self.check
+        call = chance.choice((*limited, self.degrees, self.ragged, self.ragged, self.listed))
+        call(chance, limits if call in limited else standard_limits())
 
 
 def main():
@@ -261,10 +293,12 @@ def main():
     words.add_argument("library")
     given = words.parse_args()
     os.environ["POLYTWKB_LIBRARY"] = path = os.path.abspath(given.library)
-    global polytwkb
+    global nearest, polytwkb
     import polytwkb
+    from polytwkb._rounding import nearest
 
     comparing, found, start = Comparing(path), 0, time.monotonic()
+    comparing.package = polytwkb
     for number in range(given.cases) if given.only is None else [given.only]:
         try:
             comparing.compare(given.seed, number)

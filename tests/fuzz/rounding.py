@@ -8,10 +8,15 @@ EDGES += [math.inf, -math.inf, math.nan]
 
 
 def unit_of(number, precision):
-    """The whole number nearest to a number times 10^precision, of two the one farther from 0; None if it is no coordinate."""
+    """The coordinate of a double by the rule of docs/FORMATS.md; None if there is none."""
     if not math.isfinite(number):
         return None
-    size = math.floor(abs(Fraction(number)) * Fraction(10) ** precision + Fraction(1, 2))
+    exact = abs(Fraction(number)) * Fraction(10) ** precision
+    size = math.floor(exact)
+    half = (size + Fraction(1, 2)) / Fraction(10) ** precision
+    # the quotient of whole numbers is the double nearest to it
+    if 2 * (exact - size) >= 1 or exact < 10**14 and half.numerator / half.denominator == abs(number):
+        size += 1
     unit = -size if number < 0 else size
     return unit if -(1 << 62) <= unit < 1 << 62 else None
 

@@ -1,7 +1,7 @@
 """Tables: records of a text, the geometries that they name or their fault, and the table of geometries."""
 import re
 
-from geometry import DOUBLE, KINDS, NODES, POINTS, SINGLE, Geometry, points_of
+from geometry import DOUBLE, KINDS, NODES, POINTS, Geometry
 from polyline import decode, encode
 
 HEADER = [b"depth", b"kind", b"id", b"precision", b"polyline"]

@@ -1,6 +1,6 @@
 """Random trees, and their blobs with every freedom that the format leaves to a writer."""
 from blob import BOX, EMPTY, EXTENDED, IDS, PRECISIONS, SIZE, varint
-from geometry import DOUBLE, KINDS, LEAST, MOST, Geometry, differences, points_of, zigzag
+from geometry import KINDS, LEAST, MOST, Geometry, differences, points_of, zigzag
 
 EDGES = [0, 1, -1, 2, 15, 16, 31, 32, 63, 64, -64, -65, 8191, 8192, 2**31, -(2**31) - 1, 2**53, 2**60]
 ID_EDGES = [0, 1, -1, 63, 64, 2**31, 2**53, 2**63 - 1, -(2**63)]

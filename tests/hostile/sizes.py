@@ -5,7 +5,8 @@ sizes.py PROGRAM [MEGABYTES]
 
 Each run takes less than ten seconds of a processor and ends, with status 0, or with status 1 or 4 and one line on standard error; all that is written
 is compared. Where memory decides, both answers are right. The limit is on addresses (as `ulimit -v`), 64 MB where none is
-given.
+given. An input that announces much and has little gets 4 MB more than a point needs: less than its points, rows or ids would
+take.
 """
 import os
 import resource
@@ -22,6 +23,7 @@ PATIENCE = 600  # seconds by the clock, after which a run is taken for one that 
 MILLION = 1000000
 ENDLESS = 100000  # pieces of a megabyte; none of the runs reads so many
 TIMES = 10000
+SPARE = 4096  # kB
 
 
 def written(pipe, pieces):
@@ -108,16 +110,21 @@ def canonical_nest(depth):
     return blob
 
 
+def announcing(command):
+    """Name, input and the answer that is right, for `unpack` or `show` of 12 bytes that announce far more."""
+    first = HEADER_LINE if command == "unpack" else b""
+    cut = refusal("byte 12: truncated", first)
+    yield "2^24 points announced", bytes.fromhex("02 00 80 80 80 08") + bytes(6), cut
+    yield "2^20 - 1 rings announced", bytes.fromhex("03 00 FF FF 3F") + bytes(7), cut
+    yield "2^20 - 1 members announced", bytes.fromhex("07 00 FF FF 3F 01 10 01 10 01 10 01"), cut
+    yield "2^20 - 1 lines announced", bytes.fromhex("05 00 FF FF 3F") + bytes(7), cut
+    yield "2^20 - 1 ids announced", bytes.fromhex("07 04 FF FF 3F") + bytes(7), cut
+
+
 def streams(command):
     """Name, input in pieces, and the answers that are right, for `unpack` or `show`."""
     first = HEADER_LINE if command == "unpack" else b""
-    announced = bytes.fromhex("02 00 80 80 80 08") + bytes(6)
-    yield "2^24 points announced in 12 bytes", [announced], [refusal("byte 12: truncated", first)]
     yield "2^24 + 1 points", [bytes.fromhex("02 00 81 80 80 08")], [refusal("byte 2: too many points", first)]
-    rings = bytes.fromhex("03 00 FF FF 3F") + bytes(7)
-    yield "2^20 - 1 rings announced in 12 bytes", [rings], [refusal("byte 12: truncated", first)]
-    members = bytes.fromhex("07 00 FF FF 3F 01 10 01 10 01 10 01")
-    yield "2^20 - 1 members announced in 12 bytes", [members], [refusal("byte 12: truncated", first)]
     size = b"\x01\x02" + b"\x80" * 9 + b"\x01\x04\x02"
     yield "a size of 2^63", [size], [refusal("byte 14: size mismatch", first)]
     deep = [nest(32) * 100] * 100
@@ -149,16 +156,19 @@ def tables():
     yield "100 MB of blank lines, and a header", blank + [header], [done(b"")]
 
 
-def cases():
+def cases(limit, little):
+    """Name, words, input in pieces, the answers that are right, and the limit in bytes."""
     for command in ("unpack", "show"):
+        for name, announced, answer in announcing(command):
+            yield name, [command], [announced], [answer], little
         for name, pieces, answers in streams(command):
-            yield name, [command], pieces, answers
+            yield name, [command], pieces, answers, limit
         deep = HEADER_LINE + nest_rows(32) * TIMES if command == "unpack" else nest_lines(32, TIMES)
-        yield "10,000 times 32 collections", [command, "--max-nest", "32"], [nest(32) * 100] * (TIMES // 100), [done(deep)]
+        yield "10,000 times 32 collections", [command, "--max-nest", "32"], [nest(32) * 100] * (TIMES // 100), [done(deep)], limit
     for name, pieces, answers in tables():
-        yield name, ["pack"], pieces, answers
+        yield name, ["pack"], pieces, answers, limit
     rows, blobs = [HEADER_LINE] + [nest_rows(32)] * TIMES, canonical_nest(32) * TIMES
-    yield "10,000 times 32 collections", ["pack", "--max-nest", "32"], rows, [done(blobs)]
+    yield "10,000 times 32 collections", ["pack", "--max-nest", "32"], rows, [done(blobs)], limit
 
 
 def least_memory(program):
@@ -174,10 +184,11 @@ def least_memory(program):
 def main():
     program = os.path.abspath(sys.argv[1])
     megabytes = int(sys.argv[2]) if len(sys.argv) > 2 else 64
-    print(f"sizes: a point is packed with {least_memory(program)} kB; the limit is {megabytes} MB", flush=True)
+    least = least_memory(program)
+    print(f"sizes: a point is packed with {least} kB; the limit is {megabytes} MB", flush=True)
     wrong = 0
-    for name, words, pieces, answers in cases():
-        status, output, errors, seconds = run(program, words, pieces, megabytes << 20)
+    for name, words, pieces, answers, limit in cases(megabytes << 20, (least + SPARE) << 10):
+        status, output, errors, seconds = run(program, words, pieces, limit)
         is_right = (status, output, errors) in answers and seconds < SECONDS
         wrong += not is_right
         told = f"{words[0]}: {name}: status {status}, {seconds:.1f} s, {len(output)} bytes, {errors[:200]!r}"

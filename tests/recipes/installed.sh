@@ -24,7 +24,7 @@ runs() {
         exit 1
     fi
 }
-for recipe in $recipes/*.sh; do runs bash "$recipe"; done
-if [ -e $recipes/__pycache__ ]; then echo "the recipes write beside themselves"; exit 1; fi
+for recipe in "$recipes"/*.sh; do runs bash "$recipe"; done
+if [ -e "$recipes/__pycache__" ]; then echo "the recipes write beside themselves"; exit 1; fi
 PATH=$folder/archive/bin:$PATH runs ../copy/examples/scale/check.sh
 echo "with an installed program: the same"

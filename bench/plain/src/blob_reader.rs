@@ -41,14 +41,22 @@ pub struct BlobReader<R> {
 
 impl<R: Read> BlobReader<R> {
     pub fn new(device: R) -> BlobReader<R> {
-        BlobReader { input: Input::new(device), ids: Vec::new(), position: Point::default(), rows: 0, points: 0 }
+        BlobReader {
+            input: Input::new(device),
+            ids: Vec::new(),
+            position: Point::default(),
+            rows: 0,
+            points: 0,
+        }
     }
 
     /// Whether there was one more blob, of which the listener was told.
     pub fn next(&mut self, listener: &mut impl Listener) -> Result<bool, Fault> {
         self.rows = 1;
         self.points = 0;
-        let Some(type_byte) = self.input.byte()? else { return Ok(false) };
+        let Some(type_byte) = self.input.byte()? else {
+            return Ok(false);
+        };
         self.geometry(0, None, type_byte, listener)?;
         Ok(true)
     }
@@ -59,26 +67,52 @@ impl<R: Read> BlobReader<R> {
     }
 
     /// Reads what stands behind the type byte of a geometry.
-    fn geometry(&mut self, level: usize, id: Option<i64>, type_byte: u8, listener: &mut impl Listener) -> Result<(), Fault> {
+    fn geometry(
+        &mut self,
+        level: usize,
+        id: Option<i64>,
+        type_byte: u8,
+        listener: &mut impl Listener,
+    ) -> Result<(), Fault> {
         let (offset, points_before) = (self.input.offset() - 1, self.points);
-        let Some(kind) = Kind::from_type(type_byte) else { return self.refused("unknown type") };
+        let Some(kind) = Kind::from_type(type_byte) else {
+            return self.refused("unknown type");
+        };
         let precision = unzigzag(u64::from(type_byte >> 4)) as i8;
         let metadata = self.input.needed_byte()?;
         if metadata & IS_EXTENDED != 0 && self.input.needed_byte()? & DIMENSIONS != 0 {
             return self.refused("extra dimensions");
         }
-        let size = if metadata & HAS_SIZE != 0 { Some(self.input.varint()?) } else { None };
+        let size = if metadata & HAS_SIZE != 0 {
+            Some(self.input.varint()?)
+        } else {
+            None
+        };
         let sized_from = self.input.offset();
         if metadata & HAS_BOX != 0 {
             for _ in 0..4 {
                 self.input.varint()?;
             }
         }
-        let header = Header { level, offset, kind, precision, metadata };
+        let header = Header {
+            level,
+            offset,
+            kind,
+            precision,
+            metadata,
+        };
         let place = listener.begin(&header);
         self.position = Point::default();
         if metadata & IS_EMPTY != 0 {
-            listener.row(&Label { depth: level, kind, id, precision: Some(precision) }, 0);
+            listener.row(
+                &Label {
+                    depth: level,
+                    kind,
+                    id,
+                    precision: Some(precision),
+                },
+                0,
+            );
         } else {
             self.body(&header, id, listener)?;
         }
@@ -90,8 +124,18 @@ impl<R: Read> BlobReader<R> {
         Ok(())
     }
 
-    fn body(&mut self, header: &Header, id: Option<i64>, listener: &mut impl Listener) -> Result<(), Fault> {
-        let label = Label { depth: header.level, kind: header.kind, id, precision: Some(header.precision) };
+    fn body(
+        &mut self,
+        header: &Header,
+        id: Option<i64>,
+        listener: &mut impl Listener,
+    ) -> Result<(), Fault> {
+        let label = Label {
+            depth: header.level,
+            kind: header.kind,
+            id,
+            precision: Some(header.precision),
+        };
         match header.kind {
             Kind::Point | Kind::LineString | Kind::Polygon => self.part(&label, listener),
             _ => {
@@ -125,14 +169,24 @@ impl<R: Read> BlobReader<R> {
             }
         }
         for member in 0..count as usize {
-            let id = if has_ids { Some(self.ids[first_id + member]) } else { None };
+            let id = if has_ids {
+                Some(self.ids[first_id + member])
+            } else {
+                None
+            };
             self.member(header.kind, header.level + 1, id, listener)?;
         }
         self.ids.truncate(first_id);
         Ok(())
     }
 
-    fn member(&mut self, parent: Kind, depth: usize, id: Option<i64>, listener: &mut impl Listener) -> Result<(), Fault> {
+    fn member(
+        &mut self,
+        parent: Kind,
+        depth: usize,
+        id: Option<i64>,
+        listener: &mut impl Listener,
+    ) -> Result<(), Fault> {
         let kind = match parent {
             Kind::MultiPoint => Kind::Point,
             Kind::MultiLineString => Kind::LineString,
@@ -142,7 +196,15 @@ impl<R: Read> BlobReader<R> {
                 return self.geometry(depth, id, type_byte, listener);
             }
         };
-        self.part(&Label { depth, kind, id, precision: None }, listener)
+        self.part(
+            &Label {
+                depth,
+                kind,
+                id,
+                precision: None,
+            },
+            listener,
+        )
     }
 
     /// Reads a point, a line or a polygon.
@@ -163,13 +225,27 @@ impl<R: Read> BlobReader<R> {
     fn rings(&mut self, depth: usize, listener: &mut impl Listener) -> Result<(), Fault> {
         for _ in 0..self.row_count()? {
             let count = self.input.varint()?;
-            self.list(&Label { depth, kind: Kind::Ring, id: None, precision: None }, count, listener)?;
+            self.list(
+                &Label {
+                    depth,
+                    kind: Kind::Ring,
+                    id: None,
+                    precision: None,
+                },
+                count,
+                listener,
+            )?;
         }
         Ok(())
     }
 
     /// Reads a row with points of its own.
-    fn list(&mut self, label: &Label, count: u64, listener: &mut impl Listener) -> Result<(), Fault> {
+    fn list(
+        &mut self,
+        label: &Label,
+        count: u64,
+        listener: &mut impl Listener,
+    ) -> Result<(), Fault> {
         self.points = self.points.saturating_add(count);
         if self.points > MOST_POINTS {
             return self.refused("too many points");
@@ -179,7 +255,9 @@ impl<R: Read> BlobReader<R> {
         for _ in 0..count {
             let x = self.input.signed_varint()?;
             let y = self.input.signed_varint()?;
-            let Some(point) = position.moved(x, y) else { return self.refused("coordinate out of range") };
+            let Some(point) = position.moved(x, y) else {
+                return self.refused("coordinate out of range");
+            };
             listener.point(point);
             position = point;
         }

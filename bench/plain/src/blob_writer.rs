@@ -11,7 +11,16 @@ struct Bounds {
 }
 
 impl Bounds {
-    const NONE: Bounds = Bounds { least: Point { x: i64::MAX, y: i64::MAX }, greatest: Point { x: i64::MIN, y: i64::MIN } };
+    const NONE: Bounds = Bounds {
+        least: Point {
+            x: i64::MAX,
+            y: i64::MAX,
+        },
+        greatest: Point {
+            x: i64::MIN,
+            y: i64::MIN,
+        },
+    };
 
     fn has_points(&self) -> bool {
         self.least.x <= self.greatest.x
@@ -19,8 +28,14 @@ impl Bounds {
 
     #[inline]
     fn take_in(&mut self, least: Point, greatest: Point) {
-        self.least = Point { x: self.least.x.min(least.x), y: self.least.y.min(least.y) };
-        self.greatest = Point { x: self.greatest.x.max(greatest.x), y: self.greatest.y.max(greatest.y) };
+        self.least = Point {
+            x: self.least.x.min(least.x),
+            y: self.least.y.min(least.y),
+        };
+        self.greatest = Point {
+            x: self.greatest.x.max(greatest.x),
+            y: self.greatest.y.max(greatest.y),
+        };
     }
 
     /// The numbers of a box in a blob.
@@ -58,7 +73,11 @@ fn put_geometry(geometry: &Geometry, place: usize, to: &mut Vec<u8>) -> Written 
 }
 
 fn is_empty(row: &Row) -> bool {
-    if row.label.kind.has_points() { row.first == row.last } else { row.children == 0 }
+    if row.label.kind.has_points() {
+        row.first == row.last
+    } else {
+        row.children == 0
+    }
 }
 
 fn has_ids(geometry: &Geometry, place: usize) -> bool {
@@ -95,7 +114,9 @@ fn put_count(geometry: &Geometry, place: usize, to: &mut Vec<u8>) {
     let row = &geometry.rows[place];
     put_varint(to, row.children);
     if has_ids(geometry, place) {
-        let below = geometry.rows[place + 1..].iter().take_while(|other| other.label.depth > row.label.depth);
+        let below = geometry.rows[place + 1..]
+            .iter()
+            .take_while(|other| other.label.depth > row.label.depth);
         for child in below.filter(|other| other.label.depth == row.label.depth + 1) {
             put_varint(to, zigzag(child.label.id.unwrap_or(0)));
         }
@@ -105,15 +126,22 @@ fn put_count(geometry: &Geometry, place: usize, to: &mut Vec<u8>) {
 /// Appends the body of a collection.
 fn put_members(geometry: &Geometry, place: usize, to: &mut Vec<u8>) -> Written {
     let row = &geometry.rows[place];
-    let mut written = Written { behind: place + 1, bounds: Bounds::NONE, is_even: true };
+    let mut written = Written {
+        behind: place + 1,
+        bounds: Bounds::NONE,
+        is_even: true,
+    };
     if row.children == 0 {
         return written;
     }
     put_count(geometry, place, to);
     for _ in 0..row.children {
         let member = put_geometry(geometry, written.behind, to);
-        written.is_even &= member.is_even && geometry.rows[written.behind].label.precision == row.label.precision;
-        written.bounds.take_in(member.bounds.least, member.bounds.greatest);
+        written.is_even &=
+            member.is_even && geometry.rows[written.behind].label.precision == row.label.precision;
+        written
+            .bounds
+            .take_in(member.bounds.least, member.bounds.greatest);
         written.behind = member.behind;
     }
     written
@@ -122,12 +150,20 @@ fn put_members(geometry: &Geometry, place: usize, to: &mut Vec<u8>) -> Written {
 /// Appends the body of a geometry that is no collection: its rows, one after another.
 fn put_parts(geometry: &Geometry, place: usize, to: &mut Vec<u8>) -> Written {
     let root = &geometry.rows[place];
-    let mut written = Written { behind: place + 1, bounds: Bounds::NONE, is_even: true };
+    let mut written = Written {
+        behind: place + 1,
+        bounds: Bounds::NONE,
+        is_even: true,
+    };
     if is_empty(root) {
         return written;
     }
     let mut before = put_part(geometry, place, Point::default(), &mut written.bounds, to);
-    while geometry.rows.get(written.behind).is_some_and(|row| row.label.depth > root.label.depth) {
+    while geometry
+        .rows
+        .get(written.behind)
+        .is_some_and(|row| row.label.depth > root.label.depth)
+    {
         before = put_part(geometry, written.behind, before, &mut written.bounds, to);
         written.behind += 1;
     }
@@ -135,7 +171,13 @@ fn put_parts(geometry: &Geometry, place: usize, to: &mut Vec<u8>) -> Written {
 }
 
 /// Appends the count of one row, ids and points; `before` is the point before them, the answer the last of them.
-fn put_part(geometry: &Geometry, place: usize, before: Point, bounds: &mut Bounds, to: &mut Vec<u8>) -> Point {
+fn put_part(
+    geometry: &Geometry,
+    place: usize,
+    before: Point,
+    bounds: &mut Bounds,
+    to: &mut Vec<u8>,
+) -> Point {
     let row = &geometry.rows[place];
     let points = geometry.points_of(row);
     match row.label.kind {

@@ -20,7 +20,14 @@ pub struct Input<R> {
 
 impl<R: Read> Input<R> {
     pub fn new(device: R) -> Input<R> {
-        Input { device, buffer: vec![0; ROOM], at: 0, end: 0, taken_before: 0, has_ended: false }
+        Input {
+            device,
+            buffer: vec![0; ROOM],
+            at: 0,
+            end: 0,
+            taken_before: 0,
+            has_ended: false,
+        }
     }
 
     /// How many bytes were taken.

@@ -29,7 +29,12 @@ impl Listener for Filling {
 
     fn row(&mut self, label: &Label, points: u64) {
         let first = self.0.points.len();
-        self.0.rows.push(Row { label: *label, children: 0, first, last: first + points as usize });
+        self.0.rows.push(Row {
+            label: *label,
+            children: 0,
+            first,
+            last: first + points as usize,
+        });
     }
 
     #[inline]
@@ -50,7 +55,11 @@ struct Spans(Vec<Span>);
 
 impl Listener for Spans {
     fn begin(&mut self, header: &Header) -> usize {
-        self.0.push(Span { header: *header, length: 0, points: 0 });
+        self.0.push(Span {
+            header: *header,
+            length: 0,
+            points: 0,
+        });
         self.0.len() - 1
     }
 
@@ -76,7 +85,12 @@ fn put_line(span: &Span, to: &mut Vec<u8>) {
     to.push(b' ');
     put_signed_decimal(to, header.precision.into());
     let (high, low) = (header.metadata >> 4, header.metadata & 0x0F);
-    to.extend_from_slice(&[b' ', DIGITS[usize::from(high)], DIGITS[usize::from(low)], b' ']);
+    to.extend_from_slice(&[
+        b' ',
+        DIGITS[usize::from(high)],
+        DIGITS[usize::from(low)],
+        b' ',
+    ]);
     put_decimal(to, span.length);
     to.push(b' ');
     put_decimal(to, span.points);
@@ -126,7 +140,9 @@ fn run(word: &str) -> Result<(), Fault> {
         "unpack" => unpack(input, &mut output),
         "show" => show(input, &mut output),
         _ => {
-            output.held.extend_from_slice(Records::<File>::READ_BY.as_bytes());
+            output
+                .held
+                .extend_from_slice(Records::<File>::READ_BY.as_bytes());
             output.held.push(b'\n');
             Ok(())
         }

@@ -39,7 +39,10 @@ struct Numbers(u64);
 
 impl Numbers {
     fn next(&mut self) -> u64 {
-        self.0 = self.0.wrapping_mul(6364136223846793005).wrapping_add(1442695040888963407);
+        self.0 = self
+            .0
+            .wrapping_mul(6364136223846793005)
+            .wrapping_add(1442695040888963407);
         self.0 >> 33
     }
 
@@ -152,7 +155,15 @@ impl Maker {
     }
 }
 
-const CASES: [&str; 7] = ["points", "quoted_points", "lines", "multipolygons", "collections", "multipoints", "long_line"];
+const CASES: [&str; 7] = [
+    "points",
+    "quoted_points",
+    "lines",
+    "multipolygons",
+    "collections",
+    "multipoints",
+    "long_line",
+];
 
 fn main() -> ExitCode {
     let words: Vec<String> = env::args().skip(1).collect();
@@ -165,7 +176,11 @@ fn main() -> ExitCode {
         return ExitCode::from(2);
     };
     let made = File::create(path).and_then(|file| {
-        let mut maker = Maker { numbers: Numbers(SEED), output: Output::new(file), written: 0 };
+        let mut maker = Maker {
+            numbers: Numbers(SEED),
+            output: Output::new(file),
+            written: 0,
+        };
         maker.put_table(case, size)
     });
     match made {

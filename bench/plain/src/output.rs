@@ -11,7 +11,10 @@ pub struct Output<W> {
 
 impl<W: Write> Output<W> {
     pub fn new(device: W) -> Output<W> {
-        Output { device, held: Vec::with_capacity(ROOM + ROOM / 4) }
+        Output {
+            device,
+            held: Vec::with_capacity(ROOM + ROOM / 4),
+        }
     }
 
     /// Sends what is held, where it is enough for a write.

@@ -20,13 +20,22 @@ mod by_csv {
 
         pub fn new(device: R) -> Records<R> {
             let mut builder = csv::ReaderBuilder::new();
-            let reader = builder.has_headers(false).flexible(true).buffer_capacity(1 << 16).from_reader(device);
-            Records { reader, record: csv::ByteRecord::new() }
+            let reader = builder
+                .has_headers(false)
+                .flexible(true)
+                .buffer_capacity(1 << 16)
+                .from_reader(device);
+            Records {
+                reader,
+                record: csv::ByteRecord::new(),
+            }
         }
 
         /// Whether there was one more record, which is held now.
         pub fn advance(&mut self) -> io::Result<bool> {
-            self.reader.read_byte_record(&mut self.record).map_err(io::Error::from)
+            self.reader
+                .read_byte_record(&mut self.record)
+                .map_err(io::Error::from)
         }
 
         /// How many fields the record has that is held.

@@ -49,7 +49,12 @@ impl<R: Read> TableReader<R> {
         if !has_header || (0..HEADER.len()).any(|place| records.field(place) != HEADER[place]) {
             return Err(Fault::Record(1, "bad header"));
         }
-        Ok(TableReader { records, number: 1, is_waiting: false, open: Vec::new() })
+        Ok(TableReader {
+            records,
+            number: 1,
+            is_waiting: false,
+            open: Vec::new(),
+        })
     }
 
     /// Whether there was one more geometry, which stands in `geometry` now.
@@ -61,12 +66,14 @@ impl<R: Read> TableReader<R> {
         }
         self.is_waiting = false;
         loop {
-            let depth = decimal(self.records.field(0)).ok_or(Fault::Record(self.number, "bad depth"))?;
+            let depth =
+                decimal(self.records.field(0)).ok_or(Fault::Record(self.number, "bad depth"))?;
             if depth == 0 && !geometry.rows.is_empty() {
                 self.is_waiting = true;
                 return Ok(true);
             }
-            self.add_row(depth as usize, geometry).map_err(|reason| Fault::Record(self.number, reason))?;
+            self.add_row(depth as usize, geometry)
+                .map_err(|reason| Fault::Record(self.number, reason))?;
             if !self.advance()? {
                 return Ok(true);
             }
@@ -92,7 +99,11 @@ impl<R: Read> TableReader<R> {
         }
         self.check_place(depth, kind, id, geometry)?;
         if precision.is_some() != self.is_whole(geometry) {
-            return Err(if precision.is_some() { "precision not allowed" } else { "precision missing" });
+            return Err(if precision.is_some() {
+                "precision not allowed"
+            } else {
+                "precision missing"
+            });
         }
         let polyline = self.records.field(4);
         let first = geometry.points.len();
@@ -106,23 +117,44 @@ impl<R: Read> TableReader<R> {
         if last as u64 > MOST_POINTS {
             return Err("too many points");
         }
-        let is_member = self.open.last().is_some_and(|&parent| geometry.rows[parent].label.kind == Kind::MultiPoint);
+        let is_member = self
+            .open
+            .last()
+            .is_some_and(|&parent| geometry.rows[parent].label.kind == Kind::MultiPoint);
         if kind == Kind::Point && (last - first > 1 || is_member && last == first) {
             return Err("wrong number of points");
         }
         self.open.push(geometry.rows.len());
         let precision = precision.map(|precision| precision as i8);
-        geometry.rows.push(Row { label: Label { depth, kind, id, precision }, children: 0, first, last });
+        geometry.rows.push(Row {
+            label: Label {
+                depth,
+                kind,
+                id,
+                precision,
+            },
+            children: 0,
+            first,
+            last,
+        });
         Ok(())
     }
 
     /// Whether the next row is a geometry of its own: a root, or a member of a collection.
     fn is_whole(&self, geometry: &Geometry) -> bool {
-        self.open.last().is_none_or(|&parent| geometry.rows[parent].label.kind == Kind::Collection)
+        self.open
+            .last()
+            .is_none_or(|&parent| geometry.rows[parent].label.kind == Kind::Collection)
     }
 
     /// Closes the rows that this one ends, and counts it in its parent.
-    fn check_place(&mut self, depth: usize, kind: Kind, id: Option<i64>, geometry: &mut Geometry) -> Result<(), &'static str> {
+    fn check_place(
+        &mut self,
+        depth: usize,
+        kind: Kind,
+        id: Option<i64>,
+        geometry: &mut Geometry,
+    ) -> Result<(), &'static str> {
         if depth > self.open.len() || depth == 0 && kind == Kind::Ring {
             return Err("kind not allowed there");
         }
@@ -131,7 +163,11 @@ impl<R: Read> TableReader<R> {
             return Err("too many rows in one geometry");
         }
         let Some(&place) = self.open.last() else {
-            return if id.is_some() { Err("id not allowed") } else { Ok(()) };
+            return if id.is_some() {
+                Err("id not allowed")
+            } else {
+                Ok(())
+            };
         };
         let parent = geometry.rows[place];
         if !parent.label.kind.may_hold(kind) {

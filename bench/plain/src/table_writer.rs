@@ -8,7 +8,9 @@ use std::io::{self, Write};
 const POINTS_AT_ONCE: usize = 1024;
 
 pub fn put_header<W: Write>(output: &mut Output<W>) {
-    output.held.extend_from_slice(b"depth,kind,id,precision,polyline\n");
+    output
+        .held
+        .extend_from_slice(b"depth,kind,id,precision,polyline\n");
 }
 
 /// Appends the rows of a geometry.
@@ -16,7 +18,9 @@ pub fn put_rows<W: Write>(geometry: &Geometry, output: &mut Output<W>) -> io::Re
     for row in &geometry.rows {
         put_decimal(&mut output.held, row.label.depth as u64);
         output.held.push(b',');
-        output.held.extend_from_slice(row.label.kind.word().as_bytes());
+        output
+            .held
+            .extend_from_slice(row.label.kind.word().as_bytes());
         output.held.push(b',');
         if let Some(id) = row.label.id {
             put_signed_decimal(&mut output.held, id);

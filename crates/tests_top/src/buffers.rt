@@ -138,8 +138,13 @@ fn points_become_a_polyline_and_it_the_points(rt: HostRuntime) {
 }
 
 // The bits of a double, a precision, and its coordinate, by Python's `struct` and `decimal`.
-const ROUNDED: [(u64, i8, i64); 12] = [
-    (0x3fc3333333333333, 1, 1), // 0.15, which is a little less than that
+const ROUNDED: [(u64, i32, i64); 17] = [
+    (0x3fc3333333333333, 1, 2), // 0.15, which is a little less than that
+    (0x3fc3333333333332, 1, 1), // the double before it
+    (0x3f904c059210385c, 5, 1592), // 0.015915
+    (0x4340000000000000, 0, 9_007_199_254_740_992), // 2^53, also the nearest to 2^53 + 1/2
+    (0x4360000000000042, -3, 36_028_797_018_965), // nearest to 36028797018964500, as the next one is
+    (0x43600000000000bf, -3, 36_028_797_018_965), // and to 36028797018965500, but it is odd
     (0x3fd0000000000000, 1, 3), // 0.25
     (0xbfd0000000000000, 1, -3), // -0.25
     (0x4004000000000000, 0, 3), // 2.5

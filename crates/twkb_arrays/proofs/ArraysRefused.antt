@@ -74,9 +74,9 @@ one_arrays l gs hs in_rows in_points cap a b =
 
 -- no arrays of geometries have points that are left over
 pub none_left : (l : Allowance) (gs hs : List Tree) (in_rows : List BufferRow) (in_points : List BufferPoint)
-    (place number : ℕ) → IsAllowance l → AreArrays l gs in_rows in_points
-    → ArePointsLeft l hs in_rows in_points place number → ⊥
-none_left l gs hs in_rows in_points place number cap a b =
+    (place number index : ℕ) → IsAllowance l → AreArrays l gs in_rows in_points
+    → ArePointsLeft l hs in_rows in_points place number index → ⊥
+none_left l gs hs in_rows in_points place number index cap a b =
     let w = begins_read l gs hs b.begun in_rows [] b.front_points b.left cap a.valid b.read
     (sym a.rows_are ∙ sym (append-nil in_rows)) (sym a.points_are ∙ b.points_are) in
     let none : b.left ≡ [] = w.points_are
@@ -107,9 +107,9 @@ no_refusal l gs rs more r why valid is refuses =
 
 -- no arrays of geometries have a row that is refused
 pub none_refused : (l : Allowance) (gs hs : List Tree) (in_rows : List BufferRow) (in_points : List BufferPoint)
-    (place number : ℕ) → IsAllowance l → AreArrays l gs in_rows in_points
-    → IsRefusedRow l hs in_rows in_points place number → ⊥
-none_refused l gs hs in_rows in_points place number cap a b =
+    (place number index : ℕ) → IsAllowance l → AreArrays l gs in_rows in_points
+    → IsRefusedRow l hs in_rows in_points place number index → ⊥
+none_refused l gs hs in_rows in_points place number index cap a b =
     let w = begins_read l gs hs b.begun b.front_rows (b.row ∷ b.more) b.front_points b.ahead cap a.valid b.read
     (sym a.rows_are ∙ b.rows_are) (sym a.points_are ∙ b.points_are) in
     by_rest l gs hs b.begun b.front_rows b.row b.more b.ahead number w.rest a.valid

@@ -1,6 +1,6 @@
 -- The reason of the first test of a row that fails.
 use Rattle.std.proofs.Common.{◌≡◌, ◌∙◌, ◌<◌, ◌^◌, ℕ, Bool, true, false, List, [], ◌∷◌, ◌++◌, Option, Some}
-use Rattle.std.proofs.Common.{None, refl, sym, subst, bit_or, inl, inr, arith, length, lit<, slice_index_or}
+use Rattle.std.proofs.Common.{None, ap, ◌+◌, refl, sym, subst, bit_or, inl, inr, arith, length, lit<, slice_index_or}
 use Rattle.std.specs.Prelude.{◌↔◌, ◌||◌, MatchOption, nat_lt, if◌then◌else◌}
 use Rattle.std.specs.Simd.Lanes.{zip2}
 use Rattle.std.proofs.lemmas.Bool.{cases_Bool}
@@ -21,7 +21,7 @@ use Rattle.twkb_tree.proofs.RowRanges.{are_in_range-true, points_in_range}
 use Rattle.twkb_table.specs.RowRules.{first_reason, kind_checks}
 use Rattle.twkb_table.specs.declared.reason.RowReason.{RowReason}
 use Rattle.twkb_buffer.specs.declared.point.BufferPoint.{BufferPoint}
-use Rattle.twkb_arrays.specs.JudgedRow.{AreBelow}
+use Rattle.twkb_arrays.specs.JudgedRow.{AreBelow, in_range_front}
 use Rattle.twkb_arrays.specs.RowTests.{IsFirstButRange, IsReasonOf, checks_there, number_checks, range_refusal}
 use Rattle.twkb_arrays.specs.Rows.{point_of, points_of}
 
@@ -249,3 +249,30 @@ decided own left [] all none = absurd (omega (arith, all.two))
 decided own left (x ∷ []) all none = absurd (omega (arith, all.two))
 decided own left (x ∷ y ∷ []) all none = decided_by own left x y all none
 decided own left (x ∷ y ∷ z ∷ more) all none = absurd (omega (arith, all.two))
+
+-- ---- the first point out of range
+
+-- one more point is in range
+pub front_more : (own left after : List BufferPoint) (c : BufferPoint) (n : ℕ)
+    → in_range_front own ≡ n + in_range_front left → left ≡ c ∷ after → are_in_range (points_of (c ∷ [])) ≡ true
+    → in_range_front own ≡ (n + 1) + in_range_front after
+front_more own left after c n so_far next is_in =
+    let more : in_range_front left ≡ in_range_front after + 1 = ap in_range_front next
+    ∙ ap (λ (b : Bool). if b then in_range_front after + 1 else 0) is_in in
+    omega (arith, so_far, more)
+
+-- the next point is out of range
+pub front_ends : (own left after : List BufferPoint) (c : BufferPoint) (n : ℕ)
+    → in_range_front own ≡ n + in_range_front left → left ≡ c ∷ after → are_in_range (points_of (c ∷ [])) ≡ false
+    → n ≡ in_range_front own
+front_ends own left after c n so_far next is_out =
+    let none : in_range_front left ≡ 0 = ap in_range_front next
+    ∙ ap (λ (b : Bool). if b then in_range_front after + 1 else 0) is_out in
+    omega (arith, so_far, none)
+
+-- no point is left
+pub front_all : (own left : List BufferPoint) (n : ℕ) → in_range_front own ≡ n + in_range_front left → left ≡ []
+    → n ≡ in_range_front own
+front_all own left n so_far none =
+    let zero : in_range_front left ≡ 0 = ap in_range_front none in
+    omega (arith, so_far, zero)

@@ -9,7 +9,9 @@ pub mod ReadingLemmas
 pub mod RoomLemmas
 pub mod RootLemmas
 pub mod RowLemmas
+pub mod SampleLemmas
 pub mod SendingLemmas
+pub mod TableReasons
 pub mod TakingLemmas
 pub mod WritingEnds
 pub mod WritingLaws

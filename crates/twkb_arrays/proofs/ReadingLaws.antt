@@ -8,12 +8,22 @@ use Rattle.twkb_tree.specs.Tree.{Tree}
 use Rattle.twkb_tree.specs.Limits.{Allowance}
 use Rattle.twkb_tree.specs.Rows.{rows_of}
 use Rattle.twkb_grammar.specs.Blob.{Stream}
-use Rattle.twkb_grammar.proofs.Streams.{no_stream, one_stream}
+use Rattle.twkb_grammar.specs.Fault.{StreamFault}
+use Rattle.twkb_grammar.specs.Fault as grammar
+use Rattle.twkb_grammar.proofs.Streams.{no_stream, one_stream, one_stream_fault}
 use Rattle.twkb_engine.specs.Stops.{reason_of}
+use Rattle.twkb_engine.specs.declared.blob_reason.BlobReason.{BlobReason}
+use Rattle.twkb_engine.specs.declared.blob_reason.BlobReason.TheVariants as blob
 use Rattle.twkb_blob.specs.declared.fault.BlobFault.{BlobFault}
 use Rattle.twkb_blob.specs.declared.fault.BlobFault.TheVariants as fault
 use Rattle.twkb_convert.specs.Outputs.{table_text}
-use Rattle.twkb_buffer.specs.Slices.{UnpackedSlice}
+use Rattle.twkb_convert.specs.declared.report.Cause.{Cause}
+use Rattle.twkb_convert.specs.declared.report.Cause.TheVariants as cause
+use Rattle.twkb_buffer.specs.Calls.{IsRefusal}
+use Rattle.twkb_buffer.specs.Numbers.{blob_number_of}
+use Rattle.twkb_buffer.specs.Reports.{Tells}
+use Rattle.twkb_buffer.specs.Slices.{UnpackedFront, UnpackedSlice}
+use Rattle.twkb_buffer.specs.declared.report.BufferReport.{BufferReport}
 use Rattle.twkb_buffer.specs.declared.point.BufferPoint.{BufferPoint}
 use Rattle.twkb_arrays.specs.FilledArrays.{EndsReading, ReadsArrays, outcome_of}
 use Rattle.twkb_arrays.specs.SameRows.{AreSameRows}
@@ -79,3 +89,71 @@ rows_of_text l bytes old_rows new_rows old_points new_points counts text done re
       rows_are = read.filled.rows_are;
       points_are = read.filled.points_are;
     }
+
+-- the number of a reason of the grammar
+fault_number : grammar.Reason → ℕ
+fault_number grammar.Truncated = 41
+fault_number grammar.BadType = 42
+fault_number grammar.ExtraDimensions = 43
+fault_number grammar.BadVarint = 44
+fault_number grammar.TooDeep = 45
+fault_number grammar.TooManyNodes = 46
+fault_number grammar.TooManyPoints = 47
+fault_number grammar.CoordinateRange = 48
+fault_number grammar.SizeMismatch = 49
+
+-- a reason has the number of the grammar's
+number_is : (r : BlobReason) → blob_number_of r ≡ fault_number (reason_of r)
+unfolding fault_number
+number_is blob.Truncated = refl
+number_is blob.BadType = refl
+number_is blob.ExtraDimensions = refl
+number_is blob.BadVarint = refl
+number_is blob.TooDeep = refl
+number_is blob.TooManyNodes = refl
+number_is blob.TooManyPoints = refl
+number_is blob.CoordinateRange = refl
+number_is blob.SizeMismatch = refl
+
+-- a stream has one fault, whose reason and place a refusal states
+by_fault : (l : Allowance) (bytes : List ℕ) (gs hs : List Tree) (full : Bool)
+    (answer : Result (Unit {0}) BlobFault) (offset : ℕ) (r : BlobReason) → (outcome_of full answer).0 ≡ 1
+    → EndsReading l bytes gs answer → length bytes ≤ MAX_BYTES → StreamFault l bytes hs offset (reason_of r)
+    → ((outcome_of full answer).1 ≡ blob_number_of r) × ((outcome_of full answer).2 ≡ offset)
+by_fault l bytes gs hs false (Ok done) offset r e ends few f = absurd (omega (arith, e))
+by_fault l bytes gs hs true (Ok done) offset r e ends few f = absurd (omega (arith, e))
+by_fault l bytes gs hs full (Err fault.Memory) offset r e ends few f = absurd (omega (arith, e))
+by_fault l bytes gs hs full (Err fault.Spent) offset r e ends few f = absurd (omega (arith, e))
+by_fault l bytes gs hs false (Err (fault.Device why)) offset r e ends few f =
+    let long = ends.0 in
+    absurd (omega (arith, long, few))
+by_fault l bytes gs hs true (Err (fault.Device why)) offset r e ends few f = absurd (omega (arith, e))
+by_fault l bytes gs hs false (Err (fault.At place q)) offset r e ends few f =
+    let one = one_stream_fault l bytes gs hs place offset (reason_of q) (reason_of r) ends f in
+    (number_is q ∙ ap fault_number one.2 ∙ sym (number_is r), one.1)
+by_fault l bytes gs hs true (Err (fault.At place q)) offset r e ends few f = absurd (omega (arith, e))
+
+pub refused_alike : (l : Allowance) (bytes : List ℕ) (old_rows new_rows : List BufferRow)
+    (old_points new_points : List BufferPoint) (counts : BufferCounts) (text : List ℕ) (done : ℕ) (why : Cause)
+    (report : BufferReport) → ReadsArrays l bytes old_rows old_points new_rows new_points counts
+    → counts.status ≡ 1 → length bytes ≤ MAX_BYTES → UnpackedFront l bytes text done why → IsRefusal why
+    → Tells report why → (counts.reason ≡ report.reason) × (counts.place ≡ report.place)
+refused_alike l bytes old_rows new_rows old_points new_points counts text done (cause.Blob offset r) report read one
+    few front refused tells =
+    let same = by_fault l bytes (read.given ++ read.later) front.part.whole (are_more read.later) read.answer offset r
+    (sym read.counted.status_is ∙ one) read.ended few front.explains.2 in (
+      read.counted.reason_is ∙ same.0 ∙ sym tells.reason,
+      read.counted.place_is ∙ same.1 ∙ sym tells.place,
+    )
+refused_alike l bytes old_rows new_rows old_points new_points counts text done (cause.Row number r) report read one
+    few front refused tells = absurd front.explains
+refused_alike l bytes old_rows new_rows old_points new_points counts text done cause.ReadDevice report read one few
+    front refused tells = absurd refused
+refused_alike l bytes old_rows new_rows old_points new_points counts text done cause.WriteDevice report read one few
+    front refused tells = absurd refused
+refused_alike l bytes old_rows new_rows old_points new_points counts text done cause.Memory report read one few front
+    refused tells = absurd refused
+refused_alike l bytes old_rows new_rows old_points new_points counts text done cause.TooLong report read one few
+    front refused tells = absurd refused
+refused_alike l bytes old_rows new_rows old_points new_points counts text done cause.TooManyRecords report read one
+    few front refused tells = absurd refused

@@ -28,7 +28,7 @@ stops_writing : (l : Allowance) (style : Style) (start : List ℕ) (in_rows fron
     (in_points front_points ahead : List BufferPoint) (place : ℕ) (out : List ℕ) (writer : Writer) (why : Stop ℕ)
     → StopsAtRow l style start front_rows front_points rows_ahead ahead out writer why
     → in_rows ≡ front_rows ++ rows_ahead → in_points ≡ front_points ++ ahead → place ≡ length front_rows
-    → StopsWriting l style start in_rows in_points out writer (stopped_at place why)
+    → StopsWriting l style start in_rows in_points out writer (stopped_at place ahead why)
 stops_writing l style start in_rows front_rows rows_ahead in_points front_points ahead place out writer stop.Memory s
     rows_are points_are place_is = (
       s.given,
@@ -64,6 +64,7 @@ stops_writing l style start in_rows front_rows rows_ahead in_points front_points
         first = s.stops.1;
         refused = s.stops.2;
         place_is = place_is;
+        index_is = refl;
       }),
     )
 
@@ -73,7 +74,7 @@ pub row_stops : (l : Allowance) (style : Style) (start : List ℕ) (in_rows : Li
     (answer : Stop RefusedAt)
     → StopsAtRow l style start (take i in_rows) (take used in_points) (rest_of in_rows i) (rest_of in_points used) out
     writer why
-    → i < length in_rows → answer ≡ stopped_at i why
+    → i < length in_rows → answer ≡ stopped_at i (rest_of in_points used) why
     → StopsWriting l style start in_rows in_points out writer answer
 row_stops l style start in_rows in_points i used out writer why answer s within answer_is =
     subst (λ (f : Stop RefusedAt). StopsWriting l style start in_rows in_points out writer f) (sym answer_is)
@@ -114,7 +115,7 @@ pub points_left_over : (l : Allowance) (style : Style) (start : List ℕ) (in_ro
     → (writer.open_geometry ≡ [] → in_rows ≡ [])
     → (given later : List Tree) × HasSent style start given later out writer.sent
     × EndsWriting {A = Unit {0}} l (given ++ later) in_rows in_points
-    (Err (stop.Refused (record { place = length in_rows; number = 72 })))
+    (Err (stop.Refused (record { place = length in_rows; number = 72; index = 0 })))
 points_left_over l style start in_rows in_points used out writer w some last = (
   w.given,
   w.later,
@@ -129,6 +130,7 @@ points_left_over l style start in_rows in_points used out writer w some last = (
     some = omega (arith, length-drop used in_points, some);
     place_is = refl;
     number_is = refl;
+    index_is = refl;
   }),
 )
 

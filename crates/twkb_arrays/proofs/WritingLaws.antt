@@ -43,9 +43,9 @@ by_answer l gs hs in_rows in_points true (Ok done) status is ends cap a = inr
     (one_arrays l gs hs in_rows in_points cap a ends, λ e. omega (arith, is, e))
 by_answer l gs hs in_rows in_points full (Err stop.Memory) status is ends cap a = inl is
 by_answer l gs hs in_rows in_points full (Err (stop.Refused at)) status is (inl row) cap a =
-    absurd (none_refused l gs hs in_rows in_points at.place at.number cap a row)
+    absurd (none_refused l gs hs in_rows in_points at.place at.number at.index cap a row)
 by_answer l gs hs in_rows in_points full (Err (stop.Refused at)) status is (inr left) cap a =
-    absurd (none_left l gs hs in_rows in_points at.place at.number cap a left)
+    absurd (none_left l gs hs in_rows in_points at.place at.number at.index cap a left)
 
 pub all_written_as : (l : Allowance) (style : Style) (in_rows : List BufferRow) (in_points : List BufferPoint)
     (old new : List ℕ) (report : BufferReport) (gs : List Tree)
@@ -81,13 +81,13 @@ never_arguments l style in_rows in_points old new report wrote two =
     not_two (are_more wrote.later) wrote.answer (sym wrote.reported.status_is ∙ two)
 
 -- what a call that succeeded wrote
-record Wrote (l : Allowance) (style : Style) (in_rows : List BufferRow) (in_points : List BufferPoint)
+pub record Wrote (l : Allowance) (style : Style) (in_rows : List BufferRow) (in_points : List BufferPoint)
     (bytes : List ℕ) : Type 0 where
-  gs : List Tree
-  are : AreArrays l gs in_rows in_points
-  bytes_are : bytes ≡ canonical_stream style gs
+  pub gs : List Tree
+  pub are : AreArrays l gs in_rows in_points
+  pub bytes_are : bytes ≡ canonical_stream style gs
 
-all_wrote : (l : Allowance) (style : Style) (in_rows : List BufferRow) (in_points : List BufferPoint)
+pub all_wrote : (l : Allowance) (style : Style) (in_rows : List BufferRow) (in_points : List BufferPoint)
     (old new : List ℕ) (report : BufferReport) → WritesArrays l style in_rows in_points old new report
     → report.status ≡ 0 → Wrote l style in_rows in_points (take report.sent new)
 all_wrote l style in_rows in_points old new report w zero =
@@ -186,7 +186,7 @@ read_back l given old new counts cap trip =
     ]
 
 -- the geometries of a stream are valid
-stream_valid : (l : Allowance) (bytes : List ℕ) (gs : List Tree) → Stream l bytes gs → AreValid l gs
+pub stream_valid : (l : Allowance) (bytes : List ℕ) (gs : List Tree) → Stream l bytes gs → AreValid l gs
 stream_valid l bytes [] s = tt
 stream_valid l bytes (g ∷ gs) s = (s.3.valid, stream_valid l s.1 gs s.4)
 

@@ -1,15 +1,15 @@
 -- The row of a geometry that a row of an array stands for, and the reason to refuse it (profile).
-use Rattle.std.specs.Prelude.{◌≡◌, ℕ, ◌<◌, ◌≤◌, ◌==◌, ◌⊎◌, ℤ, pos, negsuc, List, length, take, reverse}
+use Rattle.std.specs.Prelude.{◌≡◌, ℕ, ◌+◌, ◌<◌, ◌≤◌, ◌==◌, ◌⊎◌, ℤ, pos, negsuc, List, length, take, reverse}
 use Rattle.std.specs.Prelude.{Option, Some, None, Bool, false, if◌then◌else◌, ⊤, [], ◌∷◌, ◌^◌}
 use Rattle.twkb_tree.specs.declared.kind.Kind.{Kind}
 use Rattle.twkb_tree.specs.Accepted.{Accepts}
 use Rattle.twkb_tree.specs.Limits.{Allowance}
-use Rattle.twkb_tree.specs.Refusal.{Refusal, refusal}
+use Rattle.twkb_tree.specs.Refusal.{CoordinateRange, Refusal, are_in_range, refusal}
 use Rattle.twkb_tree.specs.Rows.{Row}
 use Rattle.twkb_table.specs.RowRules.{rule_reason}
 use Rattle.twkb_buffer.specs.Numbers.{row_number_of}
 use Rattle.twkb_buffer.specs.declared.point.BufferPoint.{BufferPoint}
-use Rattle.twkb_arrays.specs.Rows.{kind_number, points_of}
+use Rattle.twkb_arrays.specs.Rows.{kind_number, point_of, points_of}
 use Rattle.twkb_arrays.specs.declared.row.BufferRow.{BufferRow}
 
 -- the id of a row, if it has one
@@ -59,6 +59,16 @@ RefusedAfter l rs row ahead number =
     ⊎ ((row.points ≤ length ahead)
     × ((why : Refusal) × (refusal l rs (row_from_c k row (take row.points ahead)) ≡ Some why)
     × (number ≡ refusal_number why))))))))
+
+-- how many points in range a list begins with
+abbrev pub in_range_front : List BufferPoint → ℕ
+in_range_front [] = 0
+in_range_front (p ∷ ps) = if are_in_range (point_of p ∷ []) then in_range_front ps + 1 else 0
+
+-- the index of the first point out of range in a row that is refused for the reason with this number,
+-- given the points from its first one on; 0 if the reason is another
+abbrev pub index_outside : ℕ → List BufferPoint → ℕ
+index_outside number ahead = if number == refusal_number CoordinateRange then in_range_front ahead else 0
 
 -- after these rows of one geometry the row, with its points of those ahead, is this row of a geometry,
 -- and may come next

@@ -8,6 +8,7 @@ pub mod Rooms
 pub mod RowTests
 pub mod Rows
 pub mod SameRows
+pub mod Samples
 pub mod SentBlobs
 pub mod Status
 pub mod TakenGeometries

@@ -1,5 +1,5 @@
 -- The effect of a call that writes arrays as a stream.
-use Rattle.std.specs.Prelude.{◌≡◌, ℕ, ◌<◌, List, [], ◌∷◌, ◌++◌, length, Bool, ◌⊎◌, Result, Ok, Err, ⊤}
+use Rattle.std.specs.Prelude.{◌≡◌, ℕ, ◌<◌, List, [], ◌∷◌, ◌++◌, length, Bool, ◌⊎◌, Result, Ok, Err, ⊤, if◌then◌else◌}
 use Rattle.twkb_tree.specs.Tree.{Tree, saturated}
 use Rattle.twkb_tree.specs.Limits.{Allowance}
 use Rattle.twkb_tree.specs.Rows.{Row, rows_of, row_points}
@@ -11,7 +11,7 @@ use Rattle.twkb_grammar.specs.declared.style.Style.{Style}
 use Rattle.twkb_buffer.specs.Polylines.{coordinates_of}
 use Rattle.twkb_buffer.specs.declared.point.BufferPoint.{BufferPoint}
 use Rattle.twkb_buffer.specs.declared.report.BufferReport.{BufferReport}
-use Rattle.twkb_arrays.specs.JudgedRow.{RefusedAfter}
+use Rattle.twkb_arrays.specs.JudgedRow.{RefusedAfter, index_outside}
 use Rattle.twkb_arrays.specs.Rooms.{StopsBefore, are_more}
 use Rattle.twkb_arrays.specs.Rows.{array_points, array_rows, rows_in_c}
 use Rattle.twkb_arrays.specs.SentBlobs.{HasSent, IsStreamIn, LacksBytes}
@@ -49,10 +49,10 @@ pub record BeginArrays (l : Allowance) (gs : List Tree) (in_rows : List BufferRo
   pub read : AreRead l gs begun front_rows front_points
 
 -- After the rows of complete geometries and of the open one comes a row that is refused, at this
--- place and for the reason with this number. No geometry is open if it is a root, and only then, but
--- for the first row.
+-- place and for the reason with this number; if one of its points is out of range, the first such
+-- point is at this index. No geometry is open if it is a root, and only then, but for the first row.
 pub record IsRefusedRow (l : Allowance) (gs : List Tree) (in_rows : List BufferRow)
-    (in_points : List BufferPoint) (place number : ℕ) : Type 0 where
+    (in_points : List BufferPoint) (place number index : ℕ) : Type 0 where
   pub begun : List Row
   pub front_rows : List BufferRow
   pub row : BufferRow
@@ -66,11 +66,12 @@ pub record IsRefusedRow (l : Allowance) (gs : List Tree) (in_rows : List BufferR
   pub first : begun ≡ [] → (row.depth ≡ 0) ⊎ (front_rows ≡ [])
   pub refused : RefusedAfter l begun row ahead number
   pub place_is : place ≡ length front_rows
+  pub index_is : index ≡ index_outside number ahead
 
 -- All rows are those of complete geometries and of the open one, which is the last, and points are
 -- left over. The place is the number of rows.
 pub record ArePointsLeft (l : Allowance) (gs : List Tree) (in_rows : List BufferRow)
-    (in_points : List BufferPoint) (place number : ℕ) : Type 0 where
+    (in_points : List BufferPoint) (place number index : ℕ) : Type 0 where
   pub begun : List Row
   pub front_points : List BufferPoint
   pub left : List BufferPoint
@@ -80,6 +81,7 @@ pub record ArePointsLeft (l : Allowance) (gs : List Tree) (in_rows : List Buffer
   pub some : 0 < length left
   pub place_is : place ≡ length in_rows
   pub number_is : number ≡ 72
+  pub index_is : index ≡ 0
 
 -- How the writing of arrays ended, after these complete geometries: the arrays are theirs; or a row
 -- after them is refused, or the points that are left over; or memory was refused.
@@ -87,7 +89,8 @@ abbrev pub EndsWriting : {A : Type 0} → Allowance → List Tree → List Buffe
     → Result A (Stop RefusedAt) → Type 0
 EndsWriting l gs in_rows in_points (Ok done) = AreArrays l gs in_rows in_points
 EndsWriting l gs in_rows in_points (Err (stop.Refused at)) =
-    IsRefusedRow l gs in_rows in_points at.place at.number ⊎ ArePointsLeft l gs in_rows in_points at.place at.number
+    IsRefusedRow l gs in_rows in_points at.place at.number at.index
+    ⊎ ArePointsLeft l gs in_rows in_points at.place at.number at.index
 EndsWriting l gs in_rows in_points (Err stop.Memory) = BeginArrays l gs in_rows in_points
 
 -- ---- the state between two rows
@@ -123,10 +126,11 @@ pub record StopsAtRow (l : Allowance) (style : Style) (start : List ℕ) (in_row
   pub sent : HasSent style start given later in_output writer.sent
   pub stops : StopsRow l in_rows begun row ahead why
 
--- why arrays are not written past the row at a place
-abbrev pub stopped_at : ℕ → Stop ℕ → Stop RefusedAt
-stopped_at place stop.Memory = stop.Memory
-stopped_at place (stop.Refused number) = stop.Refused (record { place = place; number = number })
+-- why arrays are not written past the row at a place, given the points from its first one on
+abbrev pub stopped_at : ℕ → List BufferPoint → Stop ℕ → Stop RefusedAt
+stopped_at place ahead stop.Memory = stop.Memory
+stopped_at place ahead (stop.Refused number) =
+    stop.Refused (record { place = place; number = number; index = index_outside number ahead })
 
 -- The writing of arrays stopped after complete geometries of which the first were written.
 abbrev pub StopsWriting : Allowance → Style → List ℕ → List BufferRow → List BufferPoint → List ℕ → Writer
@@ -144,6 +148,13 @@ write_outcome_of full (Ok done) = unless_full full (0, 0, 0)
 write_outcome_of full (Err stop.Memory) = (4, 0, 0)
 write_outcome_of full (Err (stop.Refused at)) = unless_full full (1, at.number, at.place)
 
+-- the index of the point for which a row was refused, of a writing that ended like this, given whether
+-- there was too little room for a blob
+abbrev pub write_index_of : {A : Type 0} → Bool → Result A (Stop RefusedAt) → ℕ
+write_index_of full (Ok done) = 0
+write_index_of full (Err stop.Memory) = 0
+write_index_of full (Err (stop.Refused at)) = if full then 0 else at.index
+
 -- What the report of a call states: how it ended, the blobs in the output with their bytes, and
 -- the bytes of the blobs of all complete geometries.
 pub record ReportsAs {A : Type 0} (style : Style) (given later : List Tree) (answer : Result A (Stop RefusedAt))
@@ -151,7 +162,7 @@ pub record ReportsAs {A : Type 0} (style : Style) (given later : List Tree) (ans
   pub status_is : report.status ≡ (write_outcome_of (are_more later) answer).0
   pub reason_is : report.reason ≡ (write_outcome_of (are_more later) answer).1
   pub place_is : report.place ≡ (write_outcome_of (are_more later) answer).2
-  pub text_offset_is : report.text_offset ≡ 0
+  pub text_offset_is : report.text_offset ≡ write_index_of (are_more later) answer
   pub done_is : report.done ≡ length given
   pub sent_is : report.sent ≡ length (canonical_stream style given)
   pub needed_is : report.needed ≡ saturated (length (canonical_stream style (given ++ later)))

@@ -14,11 +14,12 @@ ghost use Rattle.twkb_table.specs.RowRules.{first_reason};
 ghost use Rattle.twkb_buffer.specs.Numbers.{row_number_of};
 ghost use Rattle.twkb_buffer.specs.declared.point.BufferPoint.{BufferPoint as InPoint};
 ghost use Rattle.twkb_arrays.specs.Rows.{kind_number, point_of, points_of};
-ghost use Rattle.twkb_arrays.specs.JudgedRow.{AreBelow, HasRightId, row_from_c};
+ghost use Rattle.twkb_arrays.specs.JudgedRow.{AreBelow, HasRightId, in_range_front, index_outside, row_from_c};
 ghost use Rattle.twkb_arrays.specs.RowTests.{IsFirstButRange, checks_there, number_checks};
 
 use crate::row::{BufferRow, NO_PRECISION};
 use std::simd::u64x2;
+use std::slice::from_ref;
 use twkb_buffer::{BufferPoint, row_number};
 use twkb_convert::{PolyReason, RowReason};
 use twkb_flat::{Row, Stop};
@@ -165,6 +166,32 @@ pub(crate) fn are_in_range(own: &[BufferPoint]) -> bool
     }
     let [x, y] = joined.to_array();
     x | y < 1 << 63
+}
+
+// How many points in range a list begins with.
+fn in_range_front(points: &[BufferPoint]) -> usize
+    ensures { result ≡ in_range_front points.now }
+{
+    let mut count = 0;
+    for point in points {
+        if !are_in_range(from_ref(point)) {
+            return count;
+        }
+        count += 1;
+    }
+    count
+}
+
+// The index of the first point out of range in a row that is refused for the reason with this number,
+// given the points from its first one on; 0 if the reason is another.
+pub(crate) fn index_outside(number: u32, ahead: &[BufferPoint]) -> usize
+    ensures { result ≡ index_outside number ahead.now }
+{
+    if number == row_number(OUT_OF_RANGE) {
+        in_range_front(ahead)
+    } else {
+        0
+    }
 }
 
 // Whether a row of this kind may have these points of its own.

@@ -1,12 +1,20 @@
 //! Laws of streams that are read into arrays and written from them, each stated as the contract of an
 //! empty function.
-ghost use Rattle.std.specs.Prelude.{◌≡◌, ◌≢◌, ◌≤◌, ◌⊎◌, ℕ, List, ◌++◌, length, take};
+ghost use Rattle.std.specs.Prelude.{◌≡◌, ◌≢◌, ◌≤◌, ◌⊎◌, ℕ, List, ◌++◌, IfSome, Some, length, reverse, take};
 ghost use Rattle.twkb_io.specs.declared.TheConstants.{MAX_BYTES};
-ghost use Rattle.twkb_tree.specs.Tree.{Tree};
+ghost use Rattle.twkb_tree.specs.Tree.{IsId, Tree};
 ghost use Rattle.twkb_tree.specs.Limits.{Allowance, IsAllowance};
+ghost use Rattle.twkb_tree.specs.Refusal.{CoordinateRange, Refusal, TooManyPoints, refusal};
+ghost use Rattle.twkb_tree.specs.Rows.{Row as TableRow};
+ghost use Rattle.twkb_table.specs.Judged.{Judged, Refused, Verdict};
+ghost use Rattle.twkb_table.specs.Record.{record_of};
+ghost use Rattle.twkb_table.specs.RowRules.{rule_reason};
 ghost use Rattle.twkb_grammar.specs.Blob.{Stream};
 ghost use Rattle.twkb_grammar.specs.declared.style.Style.{Style};
-ghost use Rattle.twkb_buffer.specs.Slices.{UnpackedSlice};
+ghost use Rattle.twkb_convert.specs.declared.report.Cause.{Cause};
+ghost use Rattle.twkb_buffer.specs.Calls.{IsRefusal};
+ghost use Rattle.twkb_buffer.specs.Reports.{Tells};
+ghost use Rattle.twkb_buffer.specs.Slices.{UnpackedFront, UnpackedSlice};
 ghost use Rattle.twkb_buffer.specs.declared.point.BufferPoint.{BufferPoint as InPoint};
 ghost use Rattle.twkb_buffer.specs.declared.report.BufferReport.{BufferReport as InReport};
 ghost use Rattle.twkb_arrays.specs.declared.row.BufferRow.{BufferRow as InRow};
@@ -26,6 +34,16 @@ pub fn one_answer()
         → (counts.status ≡ 4) ⊎ ((read.given ++ read.later ≡ gs) × (counts.status ≢ 1)) }
 {}
 
+/// If a call refuses at most 2^62 bytes, and `unpack` refuses them, both give the same reason and place.
+pub fn one_refusal()
+    ensures { (l : Allowance) (bytes : List ℕ) (old_rows new_rows : List InRow)
+        (old_points new_points : List InPoint) (counts : InCounts) (text : List ℕ) (done : ℕ)
+        (why : Cause) (report : InReport)
+        → ReadsArrays l bytes old_rows old_points new_rows new_points counts → counts.status ≡ 1
+        → length bytes ≤ MAX_BYTES → UnpackedFront l bytes text done why → IsRefusal why
+        → Tells report why → (counts.reason ≡ report.reason) × (counts.place ≡ report.place) }
+{}
+
 /// The rows that a whole stream has in arrays are the rows of the table to which it is unpacked.
 pub fn same_rows()
     ensures { (l : Allowance) (bytes : List ℕ) (old_rows new_rows : List InRow)
@@ -33,6 +51,15 @@ pub fn same_rows()
         → ReadsArrays l bytes old_rows old_points new_rows new_points counts → counts.status ≡ 0
         → UnpackedSlice l bytes text done
         → AreSameRows text old_rows old_points new_rows new_points }
+{}
+
+/// A row that is refused after others is refused as a record of a table too, and for the same reason, if
+/// its depth, id and precision fit a record, and its points are neither out of range nor too many.
+pub fn one_reason()
+    ensures { (l : Allowance) (rs : List TableRow) (r : TableRow) (why : Refusal) (v : Verdict)
+        → r.depth ≤ 999 → IfSome r.id IsId → IfSome r.precision IsId
+        → why ≢ CoordinateRange → why ≢ TooManyPoints → refusal l rs r ≡ Some why
+        → Judged l (reverse rs) (record_of r) v → v ≡ Refused (rule_reason why) }
 {}
 
 /// If arrays are those of valid geometries, the geometries that a call writes or counts are these,

@@ -10,6 +10,7 @@ pub mod laws;
 mod lone_row;
 mod own_points;
 mod row;
+pub mod samples;
 mod sent_blobs;
 mod status;
 mod taken_geometries;

@@ -10,10 +10,11 @@ ghost use Rattle.twkb_arrays.specs.declared.row.BufferRow.{BufferRow as InRow};
 ghost use Rattle.twkb_arrays.specs.LoneRow.{BeginWithRoot};
 ghost use Rattle.twkb_arrays.specs.SentBlobs.{HasSent, IsSentWithin};
 ghost use Rattle.twkb_arrays.specs.WrittenArrays.{EndsWriting, IsWriting, ReportsAs, StopsAtRow, StopsWriting};
-ghost use Rattle.twkb_arrays.specs.WrittenArrays.{WritesArrays, stopped_at, write_outcome_of};
+ghost use Rattle.twkb_arrays.specs.WrittenArrays.{WritesArrays, stopped_at, write_index_of, write_outcome_of};
 
 use crate::appended_row::push_judged;
 use crate::blob_room::BlobRoom;
+use crate::judged_row::index_outside;
 use crate::lone_row::make_first;
 use crate::row::BufferRow;
 use crate::sent_blobs::{Sent, send_blob};
@@ -28,11 +29,12 @@ use twkb_writer::Style;
 const POINTS_LEFT: u32 = 72;
 
 // The row at this place is refused for the reason with this number, or the points after the last
-// row are.
+// row are. The index is that of the row's first point out of range, if that is the reason, and else 0.
 #[derive(Clone, Copy)]
 pub(crate) struct RefusedAt {
     place: u64,
     number: u32,
+    index: u64,
 }
 
 // The form of the open geometry, whose rows are being read, and the blobs of the geometries before
@@ -171,7 +173,7 @@ impl Writer {
         for at in 0..rows.len() {
             match self.write_row(limits, style, &rows[at..], &points[used..], output) {
                 Ok(count) => used += count,
-                Err(stop) => return Err(at_row(at, stop)),
+                Err(stop) => return Err(at_row(at, &points[used..], stop)),
             }
         }
         Ok(used)
@@ -199,6 +201,7 @@ impl Writer {
             return Err(Stop::Refused(RefusedAt {
                 place: rows.len() as u64,
                 number: POINTS_LEFT,
+                index: 0,
             }));
         }
         match self.end_geometry(style, output) {
@@ -208,15 +211,17 @@ impl Writer {
     }
 }
 
-// Why arrays were not written past the row at a place.
-fn at_row(place: usize, stop: Stop<u32>) -> Stop<RefusedAt>
-    ensures { result ≡ stopped_at place stop }
+// Why arrays were not written past the row at a place, given the points from its first one on.
+#[cold]
+fn at_row(place: usize, ahead: &[BufferPoint], stop: Stop<u32>) -> Stop<RefusedAt>
+    ensures { result ≡ stopped_at place ahead.now stop }
 {
     match stop {
         Stop::Memory => Stop::Memory,
         Stop::Refused(number) => Stop::Refused(RefusedAt {
             place: place as u64,
             number,
+            index: index_outside(number, ahead) as u64,
         }),
     }
 }
@@ -232,6 +237,17 @@ fn outcome(full: bool, answer: Result<(), Stop<RefusedAt>>) -> (u32, u32, u64)
     }
 }
 
+// The index of the point for which a row was refused, of a writing that ended like this.
+fn refused_index(full: bool, answer: Result<(), Stop<RefusedAt>>) -> u64
+    ensures { result ≡ write_index_of full answer }
+{
+    match answer {
+        Ok(()) => 0,
+        Err(Stop::Memory) => 0,
+        Err(Stop::Refused(at)) => { if full { 0 } else { at.index } }
+    }
+}
+
 // The report of a writing that ended like this.
 fn reported(sent: &Sent, answer: Result<(), Stop<RefusedAt>>) -> BufferReport
     ensures { (style : InStyle) (start output : List ℕ) (given later : List Tree)
@@ -243,7 +259,7 @@ fn reported(sent: &Sent, answer: Result<(), Stop<RefusedAt>>) -> BufferReport
         status,
         reason,
         place,
-        text_offset: 0,
+        text_offset: refused_index(sent.full, answer),
         done: sent.done,
         sent: sent.bytes as u64,
         needed: sent.needed,

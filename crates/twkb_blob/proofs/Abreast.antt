@@ -1,5 +1,6 @@
 -- An engine that keeps pace with a reader.
-use Rattle.std.proofs.Common.{◌≡◌, List, [], sym, ◌∙◌, subst, Bool, true, Result, Ok, arith}
+use Rattle.std.proofs.Common.{◌≡◌, ◌+◌, ◌≤◌, List, [], sym, ap, ◌∙◌, subst, Bool, true, false, is_err}
+use Rattle.std.proofs.Common.{Result, Ok, arith}
 use Rattle.std.proofs.Math.Logic.{∥∥₁_elim}
 use Rattle.std.proofs.Props.{props}
 use Rattle.std.proofs.lemmas.List.{nil_from_length}
@@ -7,6 +8,7 @@ use Rattle.std.specs.declared.io.traits.Read.{Ghosts}
 use Rattle.twkb_tree.specs.Limits.{Allowance}
 use Rattle.twkb_tree.specs.Rows.{Row}
 use Rattle.twkb_grammar.specs.Noting.{Notes, no_notes}
+use Rattle.twkb_io.specs.declared.TheConstants.{MAX_BYTES}
 use Rattle.twkb_io.specs.declared.input.Input.{Input}
 use Rattle.twkb_io.specs.Inputs.{given}
 use Rattle.twkb_engine.specs.State.{allowance_of}
@@ -17,8 +19,9 @@ use Rattle.twkb_engine.proofs.Feeds.{count_is}
 use Rattle.twkb_engine.proofs.RootPoints.{begins}
 use Rattle.twkb_engine.proofs.Steps.{stands_begun}
 use Rattle.twkb_blob.specs.Feeding.{Reads}
-use Rattle.twkb_blob.specs.Located.{ReadsInto}
-use Rattle.twkb_blob.specs.Readers.{IsAtBlob}
+use Rattle.twkb_blob.specs.Located.{ReadsInto, ReadsWith}
+use Rattle.twkb_blob.specs.Readers.{IsAtBlob, reader_input, reader_limits}
+use Rattle.twkb_blob.specs.declared.reader.Reader.{Reader}
 use Rattle.twkb_blob.specs.declared.fault.BlobFault.{BlobFault}
 use Rattle.twkb_blob.proofs.Answering.{read_next}
 
@@ -56,3 +59,15 @@ module _ {R : Type 0} {read : Ghosts R} {limits : Allowance} {a c : Input R read
       let (g, made, told, rows, stands, start) = run.blob []
       (subst (λ l. StandsAt [] l d) (sym cleared) (begun d k.alive k.none)) in
       new_abreast stands (omega (arith, start, made.left.counted, k.start)) (run.limits ∙ k.same_limits ∙ sym same)
+
+-- it took no byte more than the input may give
+pub few_taken : {R : Type 0} {read : Ghosts R} {limits : Allowance} {a : Input R read} {d : Engine}
+    → IsAtBlob limits a d → d.start + count_of d ≤ MAX_BYTES
+few_taken {a = a} k = let few = a.within in omega (arith, few, k.start, k.none)
+
+-- after a blob was read, the engine is where the next one begins
+pub past_blob : {R : Type 0} {read : Ghosts R} {old new : Reader R read} {S : Type 0} {holds : S → Notes → Type 0}
+    {more : List Row} {v : S} {e : Engine} (answer : Result Bool BlobFault) → answer ≡ Ok true
+    → ReadsWith holds old new answer more v e → IsAtBlob (reader_limits new) (reader_input new) e
+past_blob answer found r = r.abreast (r.shared.stays ∙ ap is_err found)
+    (r.shared.going_on (λ end. let both : Ok true ≡ Ok false = sym found ∙ end in cc))

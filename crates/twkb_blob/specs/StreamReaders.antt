@@ -11,4 +11,4 @@ reader_in s = s.reader
 
 -- the rows of the geometry that it read last
 abbrev pub rows_in : {R : Type 0} {read : Ghosts R} → StreamReader R read → List Row
-rows_in s = s.room.now.rows.flat
+rows_in s = s.room.now.session.rows.flat

@@ -4,12 +4,17 @@ ghost use Rattle.std.specs.Prelude.{Err, None, is_err, length, IfOk, IfSome, OnO
 ghost use Rattle.twkb_io.specs.declared.TheConstants.{MAX_BYTES};
 ghost use Rattle.twkb_tree.specs.Tree.{Tree};
 ghost use Rattle.twkb_tree.specs.Rows.{rows};
-ghost use Rattle.twkb_engine.specs.Standing.{IsAlive, count_of};
-ghost use Rattle.twkb_blob.specs.Readers.{failed_by_read, IsTreeOf};
+ghost use Rattle.twkb_grammar.specs.Noting.{no_notes};
+ghost use Rattle.twkb_engine.specs.Standing.{IsAlive, StandsAt, count_of};
+ghost use Rattle.twkb_engine.specs.Taking.{BeginsAt};
+ghost use Rattle.twkb_blob.specs.Readers.{failed_by_read, IsAbreast, IsTreeOf};
+ghost use Rattle.twkb_blob.specs.Located.{ReadsWith};
 ghost use Rattle.twkb_blob.specs.Feeding.{Feeds};
 
 use crate::fault::{BlobFault, fault_at, judge_end};
+use crate::reader::Reader;
 use std::alloc::Global;
+use std::io::Read;
 use twkb_engine::{Engine, NoSpans, SpanNotes};
 use twkb_flat::{Flat, Rows};
 use twkb_io::{InFault, MAX_BYTES};
@@ -192,6 +197,43 @@ impl Session {
                 Err(fault)
             }
         }
+    }
+
+    // Makes it the session of the rest of a stream, which begins at this offset, and forgets its
+    // rows, whose memory it keeps. Takes no memory.
+    pub(crate) fn restart(&mut self, limits: Limits, start: u64)
+        requires few { start ≤ MAX_BYTES }
+        ensures stands { StandsAt [] [] self.new.engine }
+        ensures begins { BeginsAt start self.new.engine }
+        ensures limits { session_limits self.new ≡ limits }
+        ensures rows { session_rows self.new ≡ [] }
+    {
+        self.engine = Engine::new(self.alloc, limits, start);
+        self.rows.flat.clear();
+        self.is_whole = false;
+        self.spent = false;
+    }
+
+    // Is fed what the input of a reader gives, up to the end of a blob, and returns whether one
+    // ended, as `read_with` of that reader does. At the end of the input, which `read_with` judges
+    // as `finish` does, and after an `Err` it is finished. Takes memory as `Engine::feed` does.
+    #[inline(always)]
+    pub(crate) fn feed_from<R: Read, S: SpanNotes>(
+        &mut self,
+        reader: &mut Reader<'_, R>,
+        spans: &mut S,
+    ) -> Result<bool, BlobFault>
+        requires abreast { IsAbreast reader.old self.old.engine }
+        requires no_notes { S.holds spans.old no_notes }
+        ensures { ReadsWith S.holds reader.old reader.new result (session_rows self.new) spans.new self.new.engine }
+    {
+        let found = reader.read_with(&mut self.engine, &mut self.rows.flat, spans);
+        if let Ok(true) = found {
+            self.is_whole = true;
+            return found;
+        }
+        self.spent = true;
+        found
     }
 
     /// The rows of the geometry that the last feed completed, if it completed one; else the rows so

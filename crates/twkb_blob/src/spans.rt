@@ -137,7 +137,8 @@ impl SpanNotes for OpenSpans {
     fn begin(&mut self, offset: u64, points: u64, byte: TypeByte) -> Result<(), AllocError> {
         let level = self.begun.len().min(u32::MAX as usize) as u32;
         let place = self.spans.len();
-        self.spans.push(Span {
+        self.spans.reserve(1)?;
+        self.spans.push_reserved(Span {
             level,
             offset,
             kind: byte.kind(),
@@ -145,8 +146,9 @@ impl SpanNotes for OpenSpans {
             metadata: 0,
             length: 0,
             points,
-        })?;
-        self.begun.push(place)?;
+        });
+        self.begun.reserve(1)?;
+        self.begun.push_reserved(place);
         Ok(())
     }
 
@@ -171,7 +173,8 @@ impl SpanNotes for OpenSpans {
     // Adds a span that is not open.
     #[inline(always)]
     fn put(&mut self, span: Span) -> Result<(), AllocError> {
-        self.spans.push(span)?;
+        self.spans.reserve(1)?;
+        self.spans.push_reserved(span);
         Ok(())
     }
 }

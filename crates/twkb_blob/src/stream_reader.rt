@@ -1,15 +1,16 @@
-//! The blobs of an input, one after another, through one engine and one form.
+//! The blobs of an input, one after another, through one session.
 ghost use Rattle.std.specs.Prelude.{◌≡◌, [], false};
 ghost use Rattle.std.proofs.Props.{props};
 ghost use Rattle.twkb_blob.specs.Readers.{IsAbreast};
 
 use crate::fault::BlobFault;
 use crate::reader::Reader;
+use crate::session::Session;
 use crate::spans::Spans;
 use std::alloc::Global;
 use std::io::Read;
-use twkb_engine::{Engine, NoSpans};
-use twkb_flat::{Flat, Rows};
+use twkb_engine::NoSpans;
+use twkb_flat::Rows;
 use twkb_io::Input;
 use twkb_tree::Limits;
 
@@ -17,32 +18,26 @@ use twkb_tree::Limits;
 /// stream to the next it keeps the memory of rows and points.
 #[derive(Drop)]
 pub struct StreamRoom {
-    alloc: Global,
-    engine: Engine,
-    rows: Rows,
+    session: Session,
 }
 
 impl StreamRoom {
     /// Makes room that has not grown yet. Takes no memory.
     pub fn new(alloc: Global) -> StreamRoom {
         StreamRoom {
-            alloc,
-            engine: Engine::new(alloc, Limits::standard(), 0),
-            rows: Rows {
-                flat: Flat::new(alloc),
-            },
+            session: Session::new(alloc, Limits::standard()),
         }
     }
 }
 
-/// The blobs of an input, one after another, read into borrowed room, which keeps the rows of the
-/// last one. It is the quickest way through a whole stream; a `Reader` gives a geometry, or rows in
-/// a form of the caller's.
+/// The blobs of an input, one after another, read into borrowed room, whose session is fed the bytes
+/// that the input holds, and keeps the rows of the last one. It is the quickest way through a whole
+/// stream; a `Reader` gives a geometry, or rows in a form of the caller's.
 #[derive(Drop)]
 pub struct StreamReader<'a, 'b, R: Read> {
     reader: Reader<'a, R>,
     room: &'b mut StreamRoom,
-    ghost abreast: { IsAbreast reader room.now.engine } by { Prim.hlevel props },
+    ghost abreast: { IsAbreast reader room.now.session.engine } by { Prim.hlevel props },
 }
 
 impl<'a, 'b, R: Read> StreamReader<'a, 'b, R> {
@@ -64,8 +59,7 @@ impl<'a, 'b, R: Read> StreamReader<'a, 'b, R> {
         ensures not_ended { has_ended (reader_in result) ≡ false }
         ensures rows { rows_in result ≡ [] }
     {
-        room.engine = Engine::new(room.alloc, limits, input.offset());
-        room.rows.flat.clear();
+        room.session.restart(limits, input.offset());
         StreamReader {
             reader: Reader::new(input, limits),
             room,
@@ -81,9 +75,7 @@ impl<'a, 'b, R: Read> StreamReader<'a, 'b, R> {
     pub fn next(&mut self) -> Result<bool, BlobFault>
         ensures { ReadsRows (reader_in self.old) (reader_in self.new) result (rows_in self.new) }
     {
-        let room = &mut *self.room;
-        self.reader
-            .read_with(&mut room.engine, &mut room.rows.flat, &mut NoSpans)
+        self.room.session.feed_from(&mut self.reader, &mut NoSpans)
     }
 
     /// Reads the next geometry as `next` does, and replaces what the list holds by the spans of its
@@ -94,10 +86,10 @@ impl<'a, 'b, R: Read> StreamReader<'a, 'b, R> {
         ensures { ReadsSpans (reader_in self.old) (reader_in self.new) result (rows_in self.new) spans.new }
     {
         spans.notes.restart();
-        let room = &mut *self.room;
         let found = self
-            .reader
-            .read_with(&mut room.engine, &mut room.rows.flat, &mut spans.notes);
+            .room
+            .session
+            .feed_from(&mut self.reader, &mut spans.notes);
         if let Ok(true) = found {
             return found;
         }
@@ -110,6 +102,6 @@ impl<'a, 'b, R: Read> StreamReader<'a, 'b, R> {
     pub fn rows(&self) -> &Rows
         ensures { result.now.flat ≡ rows_in self.now }
     {
-        &self.room.rows
+        self.room.session.rows()
     }
 }

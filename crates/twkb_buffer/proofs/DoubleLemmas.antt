@@ -20,7 +20,8 @@ same_size q x l =
     ∙ sym (mul_assoc q (2 ^ x) (2 ^ (suc l - suc x)))
 
 -- a value as another fraction
-rescaled : (x : Float) (sign : Bool) (a c b d : ℕ) → 0 < c → b * c ≡ a * d → HasValue x sign a c → HasValue x sign b d
+pub rescaled : (x : Float) (sign : Bool) (a c b d : ℕ)
+    → 0 < c → b * c ≡ a * d → HasValue x sign a c → HasValue x sign b d
 rescaled nan sign a c b d some same value = value
 rescaled (inf t) sign a c b d some same value = value
 rescaled (fin t m e) sign a c b d some same value = (

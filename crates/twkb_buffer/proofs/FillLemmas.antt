@@ -5,13 +5,14 @@ use Rattle.std.proofs.Common.{length-take-le}
 use Rattle.twkb_convert.specs.declared.report.ConvertFault.{ConvertFault}
 use Rattle.twkb_convert.specs.declared.report.Report.{Report}
 use Rattle.twkb_table.proofs.FieldLemmas.{head_same, tail_same}
-use Rattle.twkb_buffer.specs.Calls.{Answers, Ends, Fills, Stops}
+use Rattle.twkb_buffer.specs.Calls.{Answers, Ends, Fills, Stops, sent_of}
 use Rattle.twkb_buffer.specs.Fillers.{buffer_of, filled_of, held}
 use Rattle.twkb_buffer.specs.declared.filler.Filler.{Filler}
 
 -- The writer keeps its borrow, and these bytes are the start of the borrowed slice.
 pub record Filled (old new : Filler) (bytes : List ℕ) : Type 0 where
   pub same_borrow : (buffer_of new).ghost_name ≡ (buffer_of old).ghost_name
+  pub count : filled_of new ≡ length bytes
   pub within : length bytes ≤ length (buffer_of new).now
   pub front : take (length bytes) (buffer_of new).now ≡ bytes
 
@@ -30,6 +31,7 @@ filled old new bytes none appends =
     (buffer_of new).now new.within) ∙ ap length front in
     record {
       same_borrow = head_same _ name _ bytes all;
+      count = count;
       within = subst (λ n. n ≤ length (buffer_of new).now) count new.within;
       front = ap (λ n. take n (buffer_of new).now) (sym count) ∙ front;
     }
@@ -42,6 +44,12 @@ moved_back borrowed started ended given bytes first last none appends =
     let added : Appends (held borrowed) (held ended) bytes =
     subst (λ (f : Filler). Appends (held f) (held ended) bytes) first appends in
     filled borrowed given bytes none (subst (λ (f : Filler). Appends (held borrowed) (held f) bytes) (sym last) added)
+
+-- an answer counts the bytes written
+pub sent_is : (Ended : Ends) (Halted : Stops) (answer : Result Report ConvertFault) (bytes : List ℕ)
+    → Answers Ended Halted bytes answer → sent_of answer ≡ length bytes
+sent_is Ended Halted (Ok report) bytes agrees = agrees.1
+sent_is Ended Halted (Err fault) bytes agrees = agrees.1
 
 -- the start of a slice is the bytes written
 pub fills : (Ended : Ends) (Halted : Stops) (answer : Result Report ConvertFault)

@@ -14,15 +14,15 @@ within : (n d : ℕ) → 0 < d → (n / d * d ≤ n) × (n < n / d * d + d)
 within n d some = omega (arith, div-add-mod' n d, mod_below n d some)
 
 -- a fraction less than a half
-pub IsNearest-zero : (above below : ℕ) → 2 * above < below → IsNearest above below 0
-IsNearest-zero above below small = record {
+pub IsNearest-zero : (above below less : ℕ) → 2 * above < below → less ≤ 1 → IsNearest above below less 0
+IsNearest-zero above below less small few = record {
   at_most_half_over = omega arith;
   less_than_half_under = omega arith;
 }
 
 -- a fraction whose number above is cut to a multiple of a divisor of the number below
 pub IsNearest-cut : (above cut half : ℕ) → 0 < cut → 0 < half
-    → IsNearest above (2 * (half * cut)) ((above / cut + half) / (2 * half))
+    → IsNearest above (2 * (half * cut)) 0 ((above / cut + half) / (2 * half))
 IsNearest-cut above cut half some more =
     let whole = (above / cut + half) / (2 * half) in
     let parts = within above cut some in
@@ -34,43 +34,63 @@ IsNearest-cut above cut half some more =
       less_than_half_under = omega (arith, high, parts.1);
     }
 
+-- of two the smaller, if half the number below is whole: that of one part less
+pub IsNearest-less : (above half less whole : ℕ) → less ≤ 1 → less ≤ above
+    → IsNearest (above - less) (2 * half) 0 whole → IsNearest above (2 * half) less whole
+IsNearest-less above half less whole few some near = record {
+  at_most_half_over = omega (arith, near.at_most_half_over);
+  less_than_half_under = omega (arith, near.less_than_half_under);
+}
+
 -- some whole units more
-pub IsNearest-more : (above below whole more : ℕ) → IsNearest above below whole
-    → IsNearest (more * below + above) below (more + whole)
-IsNearest-more above below whole more near = record {
+pub IsNearest-more : (above below less whole more : ℕ) → IsNearest above below less whole
+    → IsNearest (more * below + above) below less (more + whole)
+IsNearest-more above below less whole more near = record {
   at_most_half_over = omega (arith, near.at_most_half_over);
   less_than_half_under = omega (arith, near.less_than_half_under);
 }
 
 -- a fraction that is at least a whole number is nearest to none below that
-pub nearest_from : (above below least whole : ℕ) → least * below ≤ above → IsNearest above below whole → least ≤ whole
-nearest_from above below least whole large near = elim (cases_lt whole least) [
+pub nearest_from : (above below less least whole : ℕ) → 0 < below → less ≤ 1 → least * below ≤ above
+    → IsNearest above below less whole → least ≤ whole
+nearest_from above below less least whole some few large near = elim (cases_lt whole least) [
   | inl fewer ↦
       let up : below * (whole + 1) ≤ below * least = mul-le-mul_left below (omega arith) in
       absurd (omega (arith, up, near.less_than_half_under))
   | inr most ↦ most
 ]
 
--- of two nearest numbers the one is not above the other
-not_above : (above below one other : ℕ) → IsNearest above below one → IsNearest above below other → one ≤ other
-not_above above below one other a b = elim (cases_lt other one) [
-  | inl fewer ↦
-      let up : below * (other + 1) ≤ below * one = mul-le-mul_left below (omega arith) in
-      absurd (omega (arith, up, a.at_most_half_over, b.less_than_half_under))
-  | inr most ↦ most
+-- the halves below the nearest number are those that the fraction reaches
+pub half_before : (above below less size whole : ℕ) → IsNearest above below less size → whole < size
+    → (2 * whole + 1) * below + less ≤ 2 * above
+half_before above below less size whole near fewer =
+    let up : below * (whole + 1) ≤ below * size = mul-le-mul_left below (omega arith) in
+    omega (arith, up, near.at_most_half_over)
+
+pub before_half : (above below less size whole : ℕ) → IsNearest above below less size
+    → (2 * whole + 1) * below + less ≤ 2 * above → whole < size
+before_half above below less size whole near half = elim (cases_lt whole size) [
+  | inl fewer ↦ fewer
+  | inr most ↦
+      let up : below * size ≤ below * whole = mul-le-mul_left below most in
+      absurd (omega (arith, up, near.less_than_half_under, half))
 ]
 
--- only one whole number is nearest
-pub IsNearest-one : (above below one other : ℕ) → IsNearest above below one → IsNearest above below other → one ≡ other
-IsNearest-one above below one other a b =
-    omega (arith, not_above above below one other a b, not_above above below other one b a)
+-- some number is the nearest
+pub nearest_some : (above below less : ℕ) → 0 < below → less ≤ 1
+    → IsNearest above below less ((2 * above + below - less) / (2 * below))
+nearest_some above below less some few =
+    let parts = within (2 * above + below - less) (2 * below) (omega arith) in record {
+      at_most_half_over = omega (arith, parts.0);
+      less_than_half_under = omega (arith, parts.1);
+    }
 
 -- a product by parts of one factor, over the weight of the upper part
-product_of_parts : (number factor cut : ℕ) → 0 < cut
-    → number / cut * factor + number % cut * factor / cut ≡ number * factor / cut
-product_of_parts number factor cut some =
-    let low = number % cut * factor in
-    let parts : number * factor ≡ (number / cut * factor + low / cut) * cut + low % cut
+product_of_parts : (number factor less cut : ℕ) → 0 < cut → less ≤ number % cut * factor
+    → number / cut * factor + (number % cut * factor - less) / cut ≡ (number * factor - less) / cut
+product_of_parts number factor less cut some fits =
+    let low = number % cut * factor - less in
+    let parts : number * factor - less ≡ (number / cut * factor + low / cut) * cut + low % cut
     = let whole : factor * number ≡ factor * (number / cut * cut + number % cut)
     = ap (λ (n : ℕ). factor * n) (sym (div-add-mod' number cut)) in
     omega (arith, whole, div-add-mod' low cut) in
@@ -81,24 +101,42 @@ product_of_parts number factor cut some =
 doubled : (k : ℕ) → 2 ^ (k + 1) ≡ 2 * 2 ^ k
 doubled k = omega (arith, pow-add 2 k 1)
 
+-- an odd number has low bits
+pub low_bits : (number factor less : ℕ) → 0 < factor → less ≤ number % 2 → less ≤ number % 2 ^ 27 * factor
+low_bits number factor less some odd =
+    let product : number % 2 ^ 27 * 1 ≤ number % 2 ^ 27 * factor = mul-le-mul_left (number % 2 ^ 27) some in
+    omega (arith, product)
+
 -- the product over a power of two, by its upper part
-pub small_product : (number factor places less k : ℕ) → places ≡ k + 28 → less ≡ k
-    → IsNearest (number * factor) (2 ^ places)
-    (((number / 2 ^ 27 * factor + number % 2 ^ 27 * factor / 2 ^ 27) / 2 ^ less + 1) / 2)
-small_product number factor places less k places_are less_is =
-    rw (places_are, less_is, product_of_parts number factor (2 ^ 27) (omega arith), shr-shr (number * factor) 27 k)
-    (subst (λ (below : ℕ). IsNearest (number * factor) below ((number * factor / 2 ^ (27 + k) + 1) / 2))
-    (omega (arith, pow-add 2 k 28, pow-add 2 27 k))
-    (IsNearest-cut (number * factor) (2 ^ (27 + k)) 1 (pow_pos (27 + k)) (omega arith)))
+pub small_product : (number factor places less last k : ℕ) → 0 < factor → less ≤ number % 2 → places ≡ k + 28 → last ≡ k
+    → IsNearest (number * factor) (2 ^ places) less
+    (((number / 2 ^ 27 * factor + (number % 2 ^ 27 * factor - less) / 2 ^ 27) / 2 ^ last + 1) / 2)
+small_product number factor places less last k some odd places_are last_is =
+    let fits = low_bits number factor less some odd in
+    let product : number * 1 ≤ number * factor = mul-le-mul_left number some in
+    let below : 2 * (1 * 2 ^ (27 + k)) ≡ 2 ^ (k + 28) = omega (arith, pow-add 2 k 28, pow-add 2 27 k) in
+    rw (
+      places_are,
+      last_is,
+      product_of_parts number factor less (2 ^ 27) (omega arith) fits,
+      shr-shr (number * factor - less) 27 k,
+    )
+    (subst (λ (below : ℕ). IsNearest (number * factor) below less
+    (((number * factor - less) / 2 ^ (27 + k) + 1) / 2)) below
+    (IsNearest-less (number * factor) (1 * 2 ^ (27 + k)) less _ (omega arith) (omega (arith, product))
+    (IsNearest-cut (number * factor - less) (2 ^ (27 + k)) 1 (pow_pos (27 + k)) (omega arith))))
 
 -- the quotient by a power of two and a divisor
-pub small_quotient : (number divisor places less k : ℕ) → 0 < divisor → places ≡ k + 1 → less ≡ k
-    → IsNearest number (2 ^ places * divisor) ((number / 2 ^ less + divisor) / (2 * divisor))
-small_quotient number divisor places less k some places_are less_is =
-    rw (places_are, less_is)
-    (subst (λ (below : ℕ). IsNearest number below ((number / 2 ^ k + divisor) / (2 * divisor)))
-    (omega (arith, doubled k, ap (λ (n : ℕ). n * divisor) (doubled k)))
-    (IsNearest-cut number (2 ^ k) divisor (pow_pos k) some))
+pub small_quotient : (number divisor places less last k : ℕ)
+    → 0 < divisor → less ≤ number % 2 → places ≡ k + 1 → last ≡ k
+    → IsNearest number (2 ^ places * divisor) less (((number - less) / 2 ^ last + divisor) / (2 * divisor))
+small_quotient number divisor places less last k some odd places_are last_is =
+    let below : 2 * (divisor * 2 ^ k) ≡ 2 ^ (k + 1) * divisor
+    = omega (arith, doubled k, ap (λ (n : ℕ). n * divisor) (doubled k)) in
+    rw (places_are, last_is)
+    (subst (λ (below : ℕ). IsNearest number below less (((number - less) / 2 ^ k + divisor) / (2 * divisor))) below
+    (IsNearest-less number (divisor * 2 ^ k) less _ (omega arith) (omega arith)
+    (IsNearest-cut (number - less) (2 ^ k) divisor (pow_pos k) some)))
 
 -- a product by parts of one factor
 split_product : (number factor below : ℕ)
@@ -109,18 +147,20 @@ split_product number factor below =
     omega (arith, whole)
 
 -- a product over a number, by the whole quotient of one factor and by what is left of it
-pub IsNearest-product : (number factor below whole part : ℕ) → whole ≡ number / below * factor
-    → IsNearest (number % below * factor) below part → IsNearest (number * factor) below (whole + part)
-IsNearest-product number factor below whole part whole_is near =
+pub IsNearest-product : (number factor below less whole part : ℕ) → whole ≡ number / below * factor
+    → IsNearest (number % below * factor) below less part → IsNearest (number * factor) below less (whole + part)
+IsNearest-product number factor below less whole part whole_is near =
     rw whole_is
-    (subst (λ (above : ℕ). IsNearest above below (number / below * factor + part)) (split_product number factor below)
-    (IsNearest-more (number % below * factor) below part (number / below * factor) near))
+    (subst (λ (above : ℕ). IsNearest above below less (number / below * factor + part))
+    (split_product number factor below)
+    (IsNearest-more (number % below * factor) below less part (number / below * factor) near))
 
 -- that quotient is beyond the coordinates
-pub far_product : (number factor below : ℕ) → (number / below * factor ≤ COORDINATE_BOUND → ⊥)
-    → (whole : ℕ) → IsNearest (number * factor) below whole → COORDINATE_BOUND < whole
-far_product number factor below beyond whole near =
-    let least = nearest_from (number * factor) below (number / below * factor) whole
+pub far_product : (number factor below less : ℕ) → 0 < below → less ≤ 1
+    → (number / below * factor ≤ COORDINATE_BOUND → ⊥)
+    → (whole : ℕ) → IsNearest (number * factor) below less whole → COORDINATE_BOUND < whole
+far_product number factor below less some few beyond whole near =
+    let least = nearest_from (number * factor) below less (number / below * factor) whole some few
     (omega (arith, split_product number factor below)) near in
     elim (cases_lt COORDINATE_BOUND whole) [
       | inl far ↦ far
@@ -132,51 +172,55 @@ power_more : (i j : ℕ) → i ≤ j → 2 ^ i ≤ 2 ^ j
 power_more i j more = pow-le-pow_right {n = 2} (omega arith) {i = i} {j = j} more
 
 -- the same fraction in other words
-FindsNearest-same : (above below other_above other_below : ℕ) (found : Option ℕ) → above ≡ other_above
-    → below ≡ other_below → FindsNearest above below found → FindsNearest other_above other_below found
-FindsNearest-same above below other_above other_below found a b finds =
-    subst (λ (n : ℕ). FindsNearest n other_below found) a (subst (λ (n : ℕ). FindsNearest above n found) b finds)
+FindsNearest-same : (above below other_above other_below less : ℕ) (found : Option ℕ) → above ≡ other_above
+    → below ≡ other_below → FindsNearest above below less found → FindsNearest other_above other_below less found
+FindsNearest-same above below other_above other_below less found a b finds =
+    subst (λ (n : ℕ). FindsNearest n other_below less found) a
+    (subst (λ (n : ℕ). FindsNearest above n less found) b finds)
 
 -- a product over so large a power of two that it is less than a half
-pub tiny_product : (number factor exponent : ℕ) → number < 2 ^ 53 → factor ≤ 10 ^ 7 → exponent + 80 < 1075
-    → IsNearest (number * 2 ^ (exponent - 1075) * factor) (2 ^ (1075 - exponent) * 1) 0
-tiny_product number factor exponent number_fits factor_fits small =
+pub tiny_product : (number factor exponent less : ℕ) → number < 2 ^ 54 → factor ≤ 10 ^ 7 → exponent + 80 < 1075
+    → less ≤ 1 → IsNearest (number * 2 ^ (exponent - 1075) * factor) (2 ^ (1075 - exponent) * 1) less 0
+tiny_product number factor exponent less number_fits factor_fits small few =
     let none : exponent - 1075 ≡ 0 = omega arith in
-    let product = mul-le number factor (2 ^ 53) (10 ^ 7) (omega arith) factor_fits in
+    let product = mul-le number factor (2 ^ 54) (10 ^ 7) (omega arith) factor_fits in
     let power : 2 ^ 81 ≤ 2 ^ (1075 - exponent) = power_more 81 (1075 - exponent) (omega arith) in
-    rw none (IsNearest-zero (number * 1 * factor) (2 ^ (1075 - exponent) * 1) (omega (arith, product, power)))
+    rw none (IsNearest-zero (number * 1 * factor) (2 ^ (1075 - exponent) * 1) less (omega (arith, product, power)) few)
 
 -- a quotient by so large a power of two that it is less than a half
-pub tiny_quotient : (number divisor exponent : ℕ) → number < 2 ^ 53 → 0 < divisor → exponent + 64 < 1075
-    → IsNearest (number * 2 ^ (exponent - 1075) * 1) (2 ^ (1075 - exponent) * divisor) 0
-tiny_quotient number divisor exponent number_fits some small =
+pub tiny_quotient : (number divisor exponent less : ℕ) → number < 2 ^ 54 → 0 < divisor → exponent + 64 < 1075
+    → less ≤ 1 → IsNearest (number * 2 ^ (exponent - 1075) * 1) (2 ^ (1075 - exponent) * divisor) less 0
+tiny_quotient number divisor exponent less number_fits some small few =
     let none : exponent - 1075 ≡ 0 = omega arith in
     let power : 2 ^ 65 ≤ 2 ^ (1075 - exponent) = power_more 65 (1075 - exponent) (omega arith) in
     let below : 2 ^ 65 * 1 ≤ 2 ^ (1075 - exponent) * divisor
     = mul-le (2 ^ 65) 1 (2 ^ (1075 - exponent)) divisor power some in
-    rw none (IsNearest-zero (number * 1 * 1) (2 ^ (1075 - exponent) * divisor) (omega (arith, below)))
+    rw none (IsNearest-zero (number * 1 * 1) (2 ^ (1075 - exponent) * divisor) less (omega (arith, below)) few)
 
 -- a number that is beyond the coordinates before it is multiplied by a factor
-pub beyond_product : (number factor exponent : ℕ) → 2 ^ 52 ≤ number → 0 < factor → 1085 < exponent → (whole : ℕ)
-    → IsNearest (number * 2 ^ (exponent - 1075) * factor) (2 ^ (1075 - exponent) * 1) whole → COORDINATE_BOUND < whole
-beyond_product number factor exponent leading some large whole near =
+pub beyond_product : (number factor exponent less : ℕ) → 2 ^ 52 ≤ number → 0 < factor → 1085 < exponent → less ≤ 1
+    → (whole : ℕ) → IsNearest (number * 2 ^ (exponent - 1075) * factor) (2 ^ (1075 - exponent) * 1) less whole
+    → COORDINATE_BOUND < whole
+beyond_product number factor exponent less leading some large few whole near =
     let none : 1075 - exponent ≡ 0 = omega arith in
     let power : 2 ^ 11 ≤ 2 ^ (exponent - 1075) = power_more 11 (exponent - 1075) (omega arith) in
     let product = mul-le (2 ^ 52) (2 ^ 11) number (2 ^ (exponent - 1075)) leading power in
     let above = mul-le (2 ^ 63) 1 (number * 2 ^ (exponent - 1075)) factor product some in
-    let least = nearest_from (number * 2 ^ (exponent - 1075) * factor) 1 (COORDINATE_BOUND + 1) whole
-    (omega (arith, above)) (rw none at near) in
+    let least = nearest_from (number * 2 ^ (exponent - 1075) * factor) 1 less (COORDINATE_BOUND + 1) whole
+    (omega arith) few (omega (arith, above)) (rw none at near) in
     omega (arith, least)
 
 -- a number that is beyond the coordinates after it is divided
-pub beyond_quotient : (number divisor exponent : ℕ) → 2 ^ 52 ≤ number → divisor ≤ 10 ^ 8 → 1111 < exponent → (whole : ℕ)
-    → IsNearest (number * 2 ^ (exponent - 1075) * 1) (2 ^ (1075 - exponent) * divisor) whole → COORDINATE_BOUND < whole
-beyond_quotient number divisor exponent leading few large whole near =
+pub beyond_quotient : (number divisor exponent less : ℕ) → 2 ^ 52 ≤ number → 0 < divisor → divisor ≤ 10 ^ 8
+    → 1111 < exponent → less ≤ 1
+    → (whole : ℕ) → IsNearest (number * 2 ^ (exponent - 1075) * 1) (2 ^ (1075 - exponent) * divisor) less whole
+    → COORDINATE_BOUND < whole
+beyond_quotient number divisor exponent less leading some small large few whole near =
     let none : 1075 - exponent ≡ 0 = omega arith in
     let power : 2 ^ 37 ≤ 2 ^ (exponent - 1075) = power_more 37 (exponent - 1075) (omega arith) in
     let product = mul-le (2 ^ 52) (2 ^ 37) number (2 ^ (exponent - 1075)) leading power in
-    let least = nearest_from (number * 2 ^ (exponent - 1075) * 1) (1 * divisor) (COORDINATE_BOUND + 1) whole
-    (omega (arith, product)) (rw none at near) in
+    let least = nearest_from (number * 2 ^ (exponent - 1075) * 1) (1 * divisor) less (COORDINATE_BOUND + 1) whole
+    (omega arith) few (omega (arith, product)) (rw none at near) in
     omega (arith, least)
 
 -- a power of two up to 2^27
@@ -194,12 +238,12 @@ scaled_fits places divisor few small =
     rw (one_shl places 64 (omega arith)) (omega (arith, product))
 
 -- a whole number times a factor
-pub FindsNearest-whole : (number factor exponent : ℕ) (found : Option ℕ) → factor ≤ 10 ^ 7 → 1075 ≤ exponent
-    → exponent ≤ 1085 → FindsNearest (number * (factor * 2 ^ (exponent - 1075) % 2 ^ 64)) 1 found
-    → FindsNearest (number * 2 ^ (exponent - 1075) * factor) (2 ^ (1075 - exponent) * 1) found
-FindsNearest-whole number factor exponent found fits some few finds =
+pub FindsNearest-whole : (number factor exponent less : ℕ) (found : Option ℕ) → factor ≤ 10 ^ 7 → 1075 ≤ exponent
+    → exponent ≤ 1085 → FindsNearest (number * (factor * 2 ^ (exponent - 1075) % 2 ^ 64)) 1 less found
+    → FindsNearest (number * 2 ^ (exponent - 1075) * factor) (2 ^ (1075 - exponent) * 1) less found
+FindsNearest-whole number factor exponent less found fits some few finds =
     let none : 1075 - exponent ≡ 0 = omega arith in
     let shifted = shl_whole factor 24 (exponent - 1075) 64 (omega arith) (omega arith) in
     let product : number * (factor * 2 ^ (exponent - 1075) % 2 ^ 64) ≡ number * 2 ^ (exponent - 1075) * factor
     = ap (λ (n : ℕ). number * n) shifted ∙ omega arith in
-    FindsNearest-same _ 1 _ (2 ^ (1075 - exponent) * 1) found product (rw none refl) finds
+    FindsNearest-same _ 1 _ (2 ^ (1075 - exponent) * 1) less found product (rw none refl) finds

@@ -1,6 +1,5 @@
 -- The length of the whole output, as an answer counts it.
-use Rattle.std.specs.Prelude.{IfSome}
-use Rattle.std.proofs.Common.{◌≡◌, ◌∙◌, ℕ, List, [], ◌++◌, length, Option, Some, None, Result, Ok, Err, ap, sym}
+use Rattle.std.proofs.Common.{◌≡◌, ◌∙◌, ℕ, List, [], ◌++◌, length, Some, Result, Ok, Err, ap, sym}
 use Rattle.std.proofs.Common.{subst, inl, inr}
 use Rattle.std.proofs.lemmas.List.{append-nil}
 use Rattle.twkb_tree.specs.Limits.{Allowance}
@@ -16,7 +15,7 @@ use Rattle.twkb_convert.specs.declared.report.ConvertFault.{ConvertFault}
 use Rattle.twkb_convert.specs.declared.report.Report.{Report}
 use Rattle.twkb_convert.proofs.RefusedLemmas.{refused_output}
 use Rattle.twkb_convert.proofs.RoundTrips.{one_records}
-use Rattle.twkb_buffer.specs.Calls.{Answers, Counts, IsRefusal, refused_length, whole_length_of}
+use Rattle.twkb_buffer.specs.Calls.{Answers, IsRefusal, refused_length, whole_length_of}
 use Rattle.twkb_buffer.specs.Conversions.{Finished, HasLength, Stopped}
 use Rattle.twkb_buffer.specs.Lengths.{PacksTo, ShowsTo, UnpacksTo}
 use Rattle.twkb_buffer.specs.Slices.{PackedFront, PackedSlice, ShownFront, ShownSlice, UnpackedFront, UnpackedSlice}
@@ -141,10 +140,3 @@ whole_length what l input written (Ok report) n agrees told =
 whole_length what l input written (Err fault) n agrees told =
     let refused = is_refused fault.cause fault.sent n told in
     refused_length_is what l input written fault.done n fault.cause agrees.0 refused.0 (refused.1 ∙ agrees.1)
-
-pub length_known : (what : Conversion) (l : Allowance) (input : List ℕ)
-    (answer : Result Report ConvertFault) (found : Option ℕ)
-    → Counts (Finished what l input) (Stopped what l input) answer
-    → found ≡ whole_length_of answer → IfSome found (HasLength what l input)
-length_known what l input answer None counts told = tt
-length_known what l input answer (Some n) counts told = whole_length what l input counts.0 answer n counts.1 (sym told)

@@ -5,5 +5,7 @@ pub mod MeasureLemmas
 pub mod TextLemmas
 pub mod PolylineLemmas
 pub mod FractionLemmas
+pub mod NearestDoubles
+pub mod HalfLemmas
 pub mod RoundingLemmas
 pub mod DoubleLemmas

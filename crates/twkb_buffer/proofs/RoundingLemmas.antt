@@ -8,9 +8,8 @@ use Rattle.std.specs.Prelude.{Option, None, Some, SomeIff}
 use Rattle.std.proofs.Math.Nat.{one-le-pow, pow-le-pow_right}
 use Rattle.twkb_points.specs.Point.{IsCoordinate}
 use Rattle.twkb_buffer.specs.Binary64.{IsFinite, with_sign}
-use Rattle.twkb_buffer.specs.Fractions.{IsNearest}
-use Rattle.twkb_buffer.specs.RoundedNumbers.{FindsUnit, IsUnit, RoundsFront, above, below}
-use Rattle.twkb_buffer.proofs.FractionLemmas.{IsNearest-one}
+use Rattle.twkb_buffer.specs.RoundedNumbers.{FindsUnit, IsSize, IsUnit, RoundsFront}
+use Rattle.twkb_buffer.proofs.HalfLemmas.{IsSize-one}
 
 -- a power of ten with few zeros
 pub ten_fits : (n most power : ℕ) → n ≤ most → power ≡ 10 ^ n → (0 < power) × (power ≤ 10 ^ most)
@@ -21,20 +20,26 @@ ten_fits n most power few is =
 
 -- the size that was found, with its sign, is the only one
 pub FindsUnit-size : (factor divisor number size : ℕ) (found : Option ℤ) → IsFinite number
-    → IsNearest (above factor number) (below divisor number) size
+    → IsSize factor divisor number size
     → SomeIff found (IsCoordinate (with_sign number size)) (with_sign number size)
     → FindsUnit factor divisor number found
-FindsUnit-size factor divisor number size (Some unit) finite near told = record {
+FindsUnit-size factor divisor number size (Some unit) finite size_is told = record {
   finite = finite;
   size = size;
-  nearest = near;
+  size_is = size_is;
   unit_is = told.1;
   in_range = subst IsCoordinate (sym told.1) told.0;
 }
-FindsUnit-size factor divisor number size None finite near told = λ unit is.
-    let same : is.size ≡ size
-    = IsNearest-one (above factor number) (below divisor number) is.size size is.nearest near in
+FindsUnit-size factor divisor number size None finite size_is told = λ unit is.
+    let same : is.size ≡ size = IsSize-one factor divisor number is.size size is.size_is size_is in
     told (subst (λ (n : ℕ). IsCoordinate (with_sign number n)) same (subst IsCoordinate is.unit_is is.in_range))
+
+-- and so is its unit
+pub IsUnit-one : (factor divisor number : ℕ) (one other : ℤ) → IsUnit factor divisor number one
+    → IsUnit factor divisor number other → one ≡ other
+IsUnit-one factor divisor number one other a b =
+    a.unit_is ∙ ap (with_sign number) (IsSize-one factor divisor number a.size b.size a.size_is b.size_is)
+    ∙ sym b.unit_is
 
 -- the first numbers are rounded
 pub record RoundsBefore (factor divisor : ℕ) (numbers : List ℕ) (old new : List ℤ) (count : ℕ) : Type 0 where

@@ -65,17 +65,6 @@ abbrev pub count_of : Option ℕ → ℕ
 count_of None = 0
 count_of (Some n) = n
 
--- A call filled the start of a slice as its report states. If the slice is too small, the report
--- gives the length of the whole output, and the slice is full; or it gives 0.
-pub record FillsSlice (Ended : Ends) (Halted : Stops) (HasLength : ℕ → Type 0) (slice : List ℕ)
-    (report : BufferReport) : Type 0 where
-  pub fits : report.sent ≤ length slice
-  pub finished : report.status ≡ 0 → Ended (take report.sent slice) report.done
-  pub stopped : report.status ≢ 0 → (why : Cause) × Tells report why × Halted (take report.sent slice) report.done why
-  pub full : report.status ≡ 5 → report.needed ≢ 0 → report.sent ≡ length slice
-  pub needed : report.status ≡ 5 → report.needed ≢ 0 → (length slice < report.needed) × HasLength report.needed
-  pub no_more : report.status ≢ 5 → report.needed ≡ report.sent
-
 -- the report states what the answer does, except that nothing was sent, and that the whole length
 -- is needed
 abbrev pub MeasuresBy : Result Report ConvertFault → BufferReport → Type 0
@@ -93,3 +82,17 @@ pub record Measures (Ended : Ends) (Halted : Stops) (HasLength : ℕ → Type 0)
   pub stopped : report.status ≢ 0 → (why : Cause) × (written : List ℕ) × Tells report why
       × Halted written report.done why × (IsRefusal why → report.needed ≡ length written)
   pub needed : report.needed ≢ 0 → HasLength report.needed
+
+-- A call filled the start of a slice as its report states. If the slice is too small, the report
+-- gives the length of the whole output, and the slice is full; or it gives 0. If the slice is full,
+-- it is the length that a call gives which only measures, if that is more than the slice has.
+pub record FillsSlice (Ended : Ends) (Halted : Stops) (HasLength : ℕ → Type 0) (slice : List ℕ)
+    (report : BufferReport) : Type 0 where
+  pub fits : report.sent ≤ length slice
+  pub finished : report.status ≡ 0 → Ended (take report.sent slice) report.done
+  pub stopped : report.status ≢ 0 → (why : Cause) × Tells report why × Halted (take report.sent slice) report.done why
+  pub full : report.status ≡ 5 → report.needed ≢ 0 → report.sent ≡ length slice
+  pub needed : report.status ≡ 5 → report.needed ≢ 0 → (length slice < report.needed) × HasLength report.needed
+  pub no_more : report.status ≢ 5 → report.needed ≡ report.sent
+  pub measured : report.status ≡ 5 → report.sent ≡ length slice → (whole : BufferReport)
+      × Measures Ended Halted HasLength whole × (length slice < whole.needed → report.needed ≡ whole.needed)

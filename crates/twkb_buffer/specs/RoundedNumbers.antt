@@ -1,11 +1,13 @@
 -- Numbers as coordinates: each the whole number of units nearest to it, of two the one farther
--- from 0 (profile).
-use Rattle.std.specs.Prelude.{◌≡◌, ℕ, ℤ, ◌-◌, ◌*◌, ◌^◌, ◌≤◌, Option, None, Some, List, length}
-use Rattle.std.specs.Prelude.{take, drop, slice_get, cond, nat_eq}
+-- from 0. Up to 10^14 units a double that is the nearest one to a half counts as that half (profile).
+use Rattle.std.specs.Prelude.{◌≡◌, ◌⊎◌, ◌↔◌, ℕ, ℤ, ◌+◌, ◌-◌, ◌*◌, ◌^◌, ◌<◌, ◌≤◌, Option, None, Some, List, length}
+use Rattle.std.specs.Prelude.{take, drop, slice_get, cond, nat_eq, nat_le}
+use Rattle.std.specs.Float.{binary64}
+use Rattle.std.specs.Float.Ieee.{of_bits, round}
 use Rattle.std.specs.List.{AllZip}
 use Rattle.twkb_points.specs.Point.{IsCoordinate}
+use Rattle.twkb_points.specs.declared.point.TheConstants.{COORDINATE_BOUND}
 use Rattle.twkb_buffer.specs.Binary64.{IsFinite, exponent, significand, with_sign}
-use Rattle.twkb_buffer.specs.Fractions.{IsNearest}
 use Rattle.twkb_buffer.specs.Scales.{divisor_at, factor_at}
 use Rattle.twkb_buffer.specs.declared.report.BufferReport.{BufferReport}
 
@@ -17,11 +19,48 @@ above factor number = significand number * 2 ^ (exponent number - 1075) * factor
 abbrev pub below : ℕ → ℕ → ℕ
 below divisor number = 2 ^ (1075 - exponent number) * divisor
 
+-- the same two numbers for the point halfway to the double with the next greater size
+abbrev pub above_halfway : ℕ → ℕ → ℕ
+above_halfway factor number = (2 * significand number + 1) * 2 ^ (exponent number - 1 - 1075) * factor
+
+abbrev pub below_halfway : ℕ → ℕ → ℕ
+below_halfway divisor number = 2 ^ (1075 - (exponent number - 1)) * divisor
+
+-- The exact size is a whole number of units and a half, or more.
+abbrev pub HasHalf : ℕ → ℕ → ℕ → ℕ → Type 0
+HasHalf factor divisor number whole = (2 * whole + 1) * below divisor number ≤ 2 * above factor number
+
+-- The exact size is less than 10^15 tenths of a unit: so far each whole number of tenths has a double
+-- of its own.
+abbrev pub IsShort : ℕ → ℕ → ℕ → Type 0
+IsShort factor divisor number = 10 * above factor number < 10 ^ 15 * below divisor number
+
+-- Of all doubles the number is the nearest to a whole number of units and a half (IEEE 754-2019,
+-- 4.3.1: of two the even one).
+abbrev pub IsNearestToHalf : ℕ → ℕ → ℕ → ℕ → Type 0
+IsNearestToHalf factor divisor number whole =
+    of_bits binary64 number ≡ round binary64 (nat_le (2 ^ 63) number) ((2 * whole + 1) * divisor) (2 * factor)
+
+-- The number has that half, or counts as it.
+abbrev pub ReachesHalf : ℕ → ℕ → ℕ → ℕ → Type 0
+ReachesHalf factor divisor number whole =
+    HasHalf factor divisor number whole
+    ⊎ (IsShort factor divisor number × IsNearestToHalf factor divisor number whole)
+
+-- The size in whole units: how many of 1/2, 3/2, 5/2 and so on the number reaches.
+abbrev pub IsSize : ℕ → ℕ → ℕ → ℕ → Type 0
+IsSize factor divisor number size = (whole : ℕ) → whole < size ↔ ReachesHalf factor divisor number whole
+
+-- the size in whole units, or that it is beyond all coordinates
+abbrev pub FindsSize : ℕ → ℕ → ℕ → Option ℕ → Type 0
+FindsSize factor divisor number (Some size) = IsSize factor divisor number size
+FindsSize factor divisor number None = (size : ℕ) → IsSize factor divisor number size → COORDINATE_BOUND < size
+
 -- The coordinate is the number times the factor, over the divisor, rounded.
 pub record IsUnit (factor divisor number : ℕ) (unit : ℤ) : Type 0 where
   pub finite : IsFinite number
   pub size : ℕ
-  pub nearest : IsNearest (above factor number) (below divisor number) size
+  pub size_is : IsSize factor divisor number size
   pub unit_is : unit ≡ with_sign number size
   pub in_range : IsCoordinate unit
 

@@ -1,11 +1,11 @@
 //! Conversions from a slice into a slice.
-ghost use Rattle.std.specs.Prelude.{◌≡◌, ◌≢◌, ◌<◌, Some};
-ghost use Rattle.twkb_buffer.specs.Calls.{Fills};
+ghost use Rattle.std.specs.Prelude.{◌≡◌, ◌≢◌, ◌↔◌, ◌<◌, length, true};
+ghost use Rattle.twkb_buffer.specs.Calls.{Fills, sent_of};
 ghost use Rattle.twkb_buffer.specs.Conversions.{FillsOutput, Finished, Stopped};
 ghost use Rattle.twkb_buffer.specs.Fillers.{buffer_of, filled_of};
 
 use crate::filler::Filler;
-use crate::lengths::output_length;
+use crate::lengths::measure;
 use crate::reason_numbers::TOO_SMALL;
 use crate::report::{BufferReport, finished, stopped};
 use std::alloc::Global;
@@ -22,6 +22,7 @@ fn run_into(
     limits: Limits,
 ) -> Result<Report, ConvertFault>
     requires { filled_of filler.old ≡ 0 }
+    ensures filled { filled_of filler.new ≡ sent_of result }
     ensures same_borrow { (buffer_of filler.new).ghost_name ≡ (buffer_of filler.old).ghost_name }
     ensures fills { Fills (Finished what limits input.now) (Stopped what limits input.now)
         (buffer_of filler.new).now result }
@@ -33,36 +34,39 @@ fn run_into(
     answer
 }
 
-// Converts a slice into another, as far as there is room.
+// Converts a slice into another, as far as there is room; also returns whether the other is full then.
 fn fill_front(
     alloc: Global,
     what: Conversion,
     input: &[u8],
     output: &mut [u8],
     limits: Limits,
-) -> Result<Report, ConvertFault>
-    ensures { Fills (Finished what limits input.now) (Stopped what limits input.now) output.new result }
+) -> (Result<Report, ConvertFault>, bool)
+    ensures fills { Fills (Finished what limits input.now) (Stopped what limits input.now) output.new result.0 }
+    ensures full { (result.1 ≡ true) ↔ (sent_of result.0 ≡ length output.new) }
 {
     let mut filler = Filler::new(output);
-    run_into(alloc, what, input, &mut filler, limits)
+    let answer = run_into(alloc, what, input, &mut filler, limits);
+    (answer, filler.is_full())
 }
 
-// Sets `needed` to the length of the whole output if the room is full and that length is known
-// and more, else to 0.
-fn with_needed(report: BufferReport, whole: Option<u64>, room: usize) -> BufferReport
+// Sets `needed` to the length of the whole output if the slice is full and that length is more than
+// its room, else to 0. A length that is not known is 0.
+fn with_needed(report: BufferReport, whole: u64, is_full: bool, room: usize) -> BufferReport
     ensures same { result ≡ record report { needed = result.needed } }
-    ensures full { result.needed ≢ 0 → report.sent ≡ room }
-    ensures needed { result.needed ≢ 0 → (room < result.needed) × (whole ≡ Some result.needed) }
+    ensures only { result.needed ≢ 0 → (is_full ≡ true) × (room < result.needed) × (result.needed ≡ whole) }
+    ensures known { is_full ≡ true → room < whole → result.needed ≡ whole }
 {
-    let needed = match whole {
-        Some(length) if report.sent == room as u64 && length > room as u64 => length,
-        _ => 0,
+    let needed = if is_full && whole > room as u64 {
+        whole
+    } else {
+        0
     };
     BufferReport { needed, ..report }
 }
 
-/// Converts a slice into another, as far as there is room. If there is too little, it converts
-/// once more to report the size needed. Takes memory for one geometry.
+/// Converts a slice into another, as far as there is room. If there is too little, it measures the
+/// conversion to report the size needed. Takes memory for one geometry.
 pub fn fill(
     alloc: Global,
     what: Conversion,
@@ -73,7 +77,8 @@ pub fn fill(
     ensures { FillsOutput what limits input.now output.new result }
 {
     let room = output.len();
-    let fault = match fill_front(alloc, what, input, output, limits) {
+    let (answer, is_full) = fill_front(alloc, what, input, output, limits);
+    let fault = match answer {
         Ok(report) => return finished(report),
         Err(fault) => fault,
     };
@@ -81,5 +86,6 @@ pub fn fill(
     if report.status != TOO_SMALL {
         return report;
     }
-    with_needed(report, output_length(alloc, what, input, limits), room)
+    let whole = measure(alloc, what, input, limits);
+    with_needed(report, whole.needed, is_full, room)
 }

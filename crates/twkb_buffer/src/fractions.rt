@@ -1,38 +1,39 @@
 //! Whole numbers nearest to fractions.
-ghost use Rattle.std.specs.Prelude.{◌+◌, ◌-◌, ◌*◌, ◌^◌, ◌<◌, ◌≤◌, SomeIff};
+ghost use Rattle.std.specs.Prelude.{◌+◌, ◌-◌, ◌*◌, ◌%◌, ◌^◌, ◌<◌, ◌≤◌, SomeIff};
 ghost use Rattle.twkb_points.specs.declared.point.TheConstants.{COORDINATE_BOUND};
 ghost use Rattle.twkb_buffer.specs.Fractions.{FindsNearest, IsNearest};
 
 use twkb_points::COORDINATE_BOUND;
 
-// The exponent of a number whose significand counts whole ones.
+// The exponent of a number that counts whole ones.
 const WHOLE: u64 = 1075;
 
-// The low bits of a significand, which are multiplied apart from the others: a product with all of
-// them may have 77 bits.
+// The low bits of a number, which are multiplied apart from the others: a product with all of them
+// may have 78 bits.
 const LOW_BITS: u64 = 27;
 
 // A product over a power of two of more places than these is less than a half.
 const MOST_PLACES: u64 = 80;
 
-// A significand over a power of two of more places than these is less than a half.
+// A number over a power of two of more places than these is less than a half.
 const MOST_QUOTIENT_PLACES: u64 = 64;
 
-// A significand with a leading bit that is multiplied by a greater power of two is beyond all
+// A number with the leading bit of a significand that is multiplied by a greater power of two is beyond all
 // coordinates.
 const GREATEST_POWER: u64 = 10;
 
 // Likewise if it is then divided.
 const GREATEST_QUOTIENT_POWER: u64 = 36;
 
-// The whole number nearest to a fraction.
-fn rounded_quotient(above: u64, below: u64) -> u64
+// The whole number nearest to a fraction; of two the smaller if `less` is 1.
+fn rounded_quotient(above: u64, below: u64, less: u64) -> u64
     requires positive { 0 < below }
     requires below { below ≤ 2 ^ 27 }
     requires fits { 2 * above + below < 2 ^ 64 }
-    ensures { IsNearest above below result }
+    requires less { less ≤ 1 }
+    ensures { IsNearest above below less result }
 {
-    (2 * above + below) / (2 * below)
+    (2 * above + below - less) / (2 * below)
 }
 
 // The product, if it is not beyond the coordinates. A division tests it: WebAssembly has no product
@@ -49,83 +50,90 @@ fn product(one: u64, other: u64) -> Option<u64>
 }
 
 // The whole number nearest to a number times a factor over a divisor, one of which is small.
-fn large(number: u64, factor: u64, divisor: u64) -> Option<u64>
+fn large(number: u64, factor: u64, divisor: u64, less: u64) -> Option<u64>
     requires some { 0 < factor }
     requires positive { 0 < divisor }
     requires divisor { divisor ≤ 2 ^ 27 }
     requires small { divisor * factor + divisor ≤ 2 ^ 63 }
-    ensures { FindsNearest (number * factor) divisor result }
+    requires less { less ≤ 1 }
+    ensures { FindsNearest (number * factor) divisor less result }
 {
     let Some(whole) = product(number / divisor, factor) else {
         return None;
     };
-    Some(whole + rounded_quotient((number % divisor) * factor, divisor))
+    Some(whole + rounded_quotient((number % divisor) * factor, divisor, less))
 }
 
 // The whole number nearest to a product over a power of two above 2^27.
-fn small_product(number: u64, factor: u64, places: u64) -> u64
-    requires number { number < 2 ^ 53 }
+fn small_product(number: u64, factor: u64, places: u64, less: u64) -> u64
+    requires number { number < 2 ^ 54 }
+    requires positive { 0 < factor }
     requires factor { factor ≤ 10 ^ 7 }
     requires some { 28 ≤ places }
     requires few { places ≤ 80 }
-    ensures { IsNearest (number * factor) (2 ^ places) result }
+    requires less { less ≤ number % 2 }
+    ensures { IsNearest (number * factor) (2 ^ places) less result }
 {
-    let low = (number % (1 << LOW_BITS)) * factor;
+    let low = (number % (1 << LOW_BITS)) * factor - less;
     let high = (number >> LOW_BITS) * factor + (low >> LOW_BITS);
     ((high >> (places - LOW_BITS - 1)) + 1) >> 1
 }
 
 // The whole number nearest to a number over a power of two and a divisor.
-fn small_quotient(number: u64, divisor: u64, places: u64) -> u64
-    requires number { number < 2 ^ 53 }
+fn small_quotient(number: u64, divisor: u64, places: u64, less: u64) -> u64
+    requires number { number < 2 ^ 54 }
     requires positive { 0 < divisor }
     requires divisor { divisor ≤ 10 ^ 8 }
     requires some { 0 < places }
     requires few { places ≤ 64 }
-    ensures { IsNearest number (2 ^ places * divisor) result }
+    requires less { less ≤ number % 2 }
+    ensures { IsNearest number (2 ^ places * divisor) less result }
 {
-    ((number >> (places - 1)) + divisor) / (2 * divisor)
+    (((number - less) >> (places - 1)) + divisor) / (2 * divisor)
 }
 
-// The whole number nearest to a number times a power of two and a factor.
-pub(crate) fn multiplied(number: u64, exponent: u64, factor: u64) -> Option<u64>
-    requires number { number < 2 ^ 53 }
+// The whole number nearest to a number times a power of two and a factor; if it is odd and `less` is
+// 1, of two the smaller.
+pub(crate) fn multiplied(number: u64, exponent: u64, factor: u64, less: u64) -> Option<u64>
+    requires number { number < 2 ^ 54 }
     requires leading { 1 < exponent → 2 ^ 52 ≤ number }
     requires positive { 0 < factor }
     requires factor { factor ≤ 10 ^ 7 }
-    ensures { FindsNearest (number * 2 ^ (exponent - 1075) * factor) (2 ^ (1075 - exponent) * 1) result }
+    requires less { less ≤ number % 2 }
+    ensures { FindsNearest (number * 2 ^ (exponent - 1075) * factor) (2 ^ (1075 - exponent) * 1) less result }
 {
     if exponent < WHOLE - MOST_PLACES {
         return Some(0);
     }
     if exponent < WHOLE - LOW_BITS {
-        return Some(small_product(number, factor, WHOLE - exponent));
+        return Some(small_product(number, factor, WHOLE - exponent, less));
     }
     if exponent < WHOLE {
-        return large(number, factor, 1 << (WHOLE - exponent));
+        return large(number, factor, 1 << (WHOLE - exponent), less);
     }
     if exponent > WHOLE + GREATEST_POWER {
         return None;
     }
-    large(number, factor << (exponent - WHOLE), 1)
+    large(number, factor << (exponent - WHOLE), 1, less)
 }
 
-// The whole number nearest to a number times a power of two over a divisor.
-pub(crate) fn divided(number: u64, exponent: u64, divisor: u64) -> Option<u64>
-    requires number { number < 2 ^ 53 }
+// The whole number nearest to a number times a power of two over a divisor, in the same way.
+pub(crate) fn divided(number: u64, exponent: u64, divisor: u64, less: u64) -> Option<u64>
+    requires number { number < 2 ^ 54 }
     requires leading { 1 < exponent → 2 ^ 52 ≤ number }
     requires positive { 0 < divisor }
     requires divisor { divisor ≤ 10 ^ 8 }
-    ensures { FindsNearest (number * 2 ^ (exponent - 1075) * 1) (2 ^ (1075 - exponent) * divisor) result }
+    requires less { less ≤ number % 2 }
+    ensures { FindsNearest (number * 2 ^ (exponent - 1075) * 1) (2 ^ (1075 - exponent) * divisor) less result }
 {
     if exponent < WHOLE - MOST_QUOTIENT_PLACES {
         return Some(0);
     }
     if exponent < WHOLE {
-        return Some(small_quotient(number, divisor, WHOLE - exponent));
+        return Some(small_quotient(number, divisor, WHOLE - exponent, less));
     }
     if exponent > WHOLE + GREATEST_QUOTIENT_POWER {
         return None;
     }
-    large(number, 1 << (exponent - WHOLE), divisor)
+    large(number, 1 << (exponent - WHOLE), divisor, less)
 }

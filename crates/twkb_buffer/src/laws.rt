@@ -4,7 +4,7 @@ ghost use Rattle.std.specs.Float.{binary64, fin};
 ghost use Rattle.std.specs.Float.Ieee.{of_bits};
 ghost use lib.Ieee.Exact.{HasValue};
 ghost use Rattle.twkb_buffer.specs.Binary64.{IsFinite, exponent, significand};
-ghost use Rattle.twkb_buffer.specs.Fractions.{IsNearest};
+ghost use Rattle.twkb_buffer.specs.RoundedNumbers.{IsUnit};
 
 /// The parts of a finite number's bits are the sign and the size of the double with these bits, and
 /// no other bits are those of a finite double.
@@ -15,7 +15,8 @@ pub fn a_double_has_its_parts()
         → of_bits binary64 bits ≢ fin sign m e }
 {}
 
-/// Only one whole number is nearest to a fraction.
-pub fn one_nearest()
-    ensures { (above below m n : ℕ) → IsNearest above below m → IsNearest above below n → m ≡ n }
+/// A number is rounded to only one coordinate.
+pub fn one_unit()
+    ensures { (factor divisor number : ℕ) (m n : ℤ) → IsUnit factor divisor number m
+        → IsUnit factor divisor number n → m ≡ n }
 {}

@@ -1,7 +1,7 @@
 //! The length of a conversion's output.
-ghost use Rattle.std.specs.Prelude.{◌≡◌, IfSome};
+ghost use Rattle.std.specs.Prelude.{◌≡◌};
 ghost use Rattle.twkb_buffer.specs.Calls.{Counts, MeasuresBy, whole_length_of};
-ghost use Rattle.twkb_buffer.specs.Conversions.{Finished, HasLength, MeasuresOutput, Stopped};
+ghost use Rattle.twkb_buffer.specs.Conversions.{Finished, MeasuresOutput, Stopped};
 
 use crate::report::{BufferReport, finished, stopped};
 use std::alloc::Global;
@@ -49,18 +49,6 @@ fn measured(answer: Result<Report, ConvertFault>) -> BufferReport
         needed,
         ..report
     }
-}
-
-// The length of a conversion's whole output, if it is known. Writes nothing.
-pub(crate) fn output_length(
-    alloc: Global,
-    what: Conversion,
-    input: &[u8],
-    limits: Limits,
-) -> Option<u64>
-    ensures { IfSome result (HasLength what limits input.now) }
-{
-    whole_length(count_output(alloc, what, input, limits))
 }
 
 /// Reports what a conversion would write, without writing it: `needed` is the length of its whole

@@ -1,9 +1,11 @@
 //! Numbers as coordinates in an array.
-ghost use Rattle.std.specs.Prelude.{◌≡◌, ◌<◌, ◌≤◌, length};
+ghost use Rattle.std.specs.Prelude.{◌≡◌, ◌-◌, ◌*◌, ◌%◌, ◌^◌, ◌<◌, ◌≤◌, length};
 ghost use Rattle.twkb_tree.specs.Tree.{IsPrecision};
+ghost use Rattle.twkb_buffer.specs.Binary64.{IsFinite, exponent, significand};
 ghost use Rattle.twkb_buffer.specs.Fractions.{FindsNearest};
 ghost use Rattle.twkb_buffer.specs.Polylines.{nothing_report};
-ghost use Rattle.twkb_buffer.specs.RoundedNumbers.{FindsUnit, Rounds, RoundsFront, above, below, rounded_report};
+ghost use Rattle.twkb_buffer.specs.RoundedNumbers.{FindsSize, FindsUnit, Rounds, RoundsFront};
+ghost use Rattle.twkb_buffer.specs.RoundedNumbers.{above, above_halfway, below, below_halfway, rounded_report};
 ghost use Rattle.twkb_buffer.specs.Scales.{IsScale, divisor_of, factor_of};
 
 use crate::binary64::{NOT_FINITE, exponent, exponent_field, significand, with_sign};
@@ -14,17 +16,62 @@ use crate::report::BufferReport;
 use crate::scale::{Scale, scale_of};
 use twkb_polyline::PolyReason;
 
-// The size of a number in units; `None` if it is beyond all coordinates.
-fn size_of(number: u64, scale: Scale) -> Option<u64>
+// A double of fewer units than these that is the nearest to a half counts as that half.
+const SHORT: u64 = 100_000_000_000_000;
+
+// The whole number of units nearest to a number times a power of two.
+fn nearest(number: u64, exponent: u64, scale: Scale, less: u64) -> Option<u64>
+    requires scale { IsScale scale }
+    requires number { number < 2 ^ 54 }
+    requires leading { 1 < exponent → 2 ^ 52 ≤ number }
+    requires less { less ≤ number % 2 }
+    ensures { FindsNearest (number * 2 ^ (exponent - 1075) * factor_of scale)
+        (2 ^ (1075 - exponent) * divisor_of scale) less result }
+{
+    match scale {
+        Scale::Times(factor) => multiplied(number, exponent, factor, less),
+        Scale::Over(divisor) => divided(number, exponent, divisor, less),
+    }
+}
+
+// The size of a number that is beyond those whose halves count. Out of line: few numbers are.
+#[inline(never)]
+fn exact_size(number: u64, scale: Scale) -> Option<u64>
     requires { IsScale scale }
-    ensures { FindsNearest (above (factor_of scale) number) (below (divisor_of scale) number) result }
+    ensures { FindsNearest (above (factor_of scale) number) (below (divisor_of scale) number) 0 result }
+{
+    nearest(significand(number), exponent(number), scale, 0)
+}
+
+// The size of the point halfway to the next double: to each half up to there no double is nearer than
+// the number, and if the half is there, of the two doubles the even one counts.
+fn halfway_size(number: u64, scale: Scale) -> Option<u64>
+    requires { IsScale scale }
+    ensures { FindsNearest (above_halfway (factor_of scale) number) (below_halfway (divisor_of scale) number)
+        (significand number % 2) result }
 {
     let significand = significand(number);
-    let exponent = exponent(number);
-    match scale {
-        Scale::Times(factor) => multiplied(significand, exponent, factor),
-        Scale::Over(divisor) => divided(significand, exponent, divisor),
+    nearest(
+        2 * significand + 1,
+        exponent(number) - 1,
+        scale,
+        significand % 2,
+    )
+}
+
+// The size of a number in units; `None` if it is beyond all coordinates.
+fn size_of(number: u64, scale: Scale) -> Option<u64>
+    requires scale { IsScale scale }
+    requires finite { IsFinite number }
+    ensures { FindsSize (factor_of scale) (divisor_of scale) number result }
+{
+    let Some(size) = halfway_size(number, scale) else {
+        return exact_size(number, scale);
+    };
+    if size > SHORT {
+        return exact_size(number, scale);
     }
+    Some(size)
 }
 
 // The coordinate that a number is rounded to; `None` if there is none.
@@ -76,10 +123,10 @@ fn rounded(all: usize, count: usize) -> BufferReport
 }
 
 /// Rounds numbers, given by the bits of each, to whole numbers of units of 10^-precision: the
-/// nearest, of two the one farther from 0. A refusal's place is that of the first number that is
-/// not finite, or whose unit is out of range, counted from 0; the units before it are written.
-/// Takes no memory.
-pub fn round_numbers(numbers: &[u64], precision: i8, units: &mut [i64]) -> BufferReport
+/// nearest, of two the one farther from 0. Up to 10^14 units a number that is the double nearest to a
+/// half counts as that half. A refusal's place is that of the first number that is not finite, or
+/// whose unit is out of range, counted from 0; the units before it are written. Takes no memory.
+pub fn round_numbers(numbers: &[u64], precision: i32, units: &mut [i64]) -> BufferReport
     ensures rounds { IsPrecision precision → length numbers.now ≤ length units.old
         → Rounds precision numbers.now units.old units.new result }
     ensures small { IsPrecision precision → length units.old < length numbers.now

@@ -13,16 +13,16 @@ pub(crate) enum Scale {
 }
 
 // The scale that turns numbers into units of 10^-precision; `None` if there is no such precision.
-pub(crate) fn scale_of(precision: i8) -> Option<Scale>
+pub(crate) fn scale_of(precision: i32) -> Option<Scale>
     ensures range { IsNone result ↔ ¬ IsPrecision precision }
     ensures factor { IfSome result (λ scale. factor_of scale ≡ factor_at precision) }
     ensures divisor { IfSome result (λ scale. divisor_of scale ≡ divisor_at precision) }
     ensures scale { IfSome result IsScale }
 {
-    if precision < LEAST_PRECISION || GREATEST_PRECISION < precision {
+    if precision < i32::from(LEAST_PRECISION) || i32::from(GREATEST_PRECISION) < precision {
         return None;
     }
-    let power = 10u64.pow(u32::from(precision.unsigned_abs()));
+    let power = 10u64.pow(precision.unsigned_abs());
     if precision < 0 {
         Some(Scale::Over(power))
     } else {

@@ -147,7 +147,7 @@ pub extern "C" fn polytwkb_decode(
 
 /// Rounds numbers of 64 bits to coordinates of a precision. Takes no memory.
 #[unsafe(no_mangle)]
-pub extern "C" fn polytwkb_round(numbers: &[u64], precision: i8, units: &mut [i64]) -> BufferReport
+pub extern "C" fn polytwkb_round(numbers: &[u64], precision: i32, units: &mut [i64]) -> BufferReport
     ensures rounds { IsPrecision precision → length numbers.now ≤ length units.old
         → Rounds precision numbers.now units.old units.new result }
     ensures small { IsPrecision precision → length units.old < length numbers.now

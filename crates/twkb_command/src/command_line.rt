@@ -18,7 +18,7 @@ fn max_nest_option<'a>(alloc: Global) -> Arg<'a>
 {
     let nest = Arg::new(alloc, "max-nest")
         .long("max-nest")
-        .value_name("N")
+        .value_name(help::NEST)
         .value_parser(value_parser!(u32).range(0..=i64::from(NEST_CAP)));
     described(nest, help::MAX_NEST)
 }
@@ -84,6 +84,7 @@ fn described_command<'a>(alloc: Global) -> Command<'a>
 {
     Command::new(alloc, "polytwkb")
         .about(help::PROGRAM)
+        .override_usage(help::CALL_PROGRAM)
         .after_long_help(help::MORE)
 }
 

@@ -4,31 +4,42 @@
 pub(crate) const PROGRAM: &str =
     "Converts between CSV tables of encoded polylines and streams of TWKB blobs";
 
+// The usage of the program.
+pub(crate) const CALL_PROGRAM: &str = "polytwkb pack|unpack|show [OPTIONS] < INPUT > OUTPUT";
+
 // What `pack` does.
 pub(crate) const PACK: &str = "Reads a table and writes a stream of blobs, one for each geometry";
 
-// The usage of `pack`, which takes no file names.
-pub(crate) const CALL_PACK: &str = "polytwkb pack [OPTIONS] < TABLE > STREAM";
+// The usage of `pack`. People give file names as words, so it says how files are named.
+pub(crate) const CALL_PACK: &str = "polytwkb pack [OPTIONS] < TABLE > STREAM
+
+  tip: a file is read with '<' and written with '>'";
 
 // What `unpack` does.
 pub(crate) const UNPACK: &str = "Reads a stream of blobs and writes a table, the header line first";
 
 // The usage of `unpack`.
-pub(crate) const CALL_UNPACK: &str = "polytwkb unpack [OPTIONS] < STREAM > TABLE";
+pub(crate) const CALL_UNPACK: &str = "polytwkb unpack [OPTIONS] < STREAM > TABLE
+
+  tip: a file is read with '<' and written with '>'";
 
 // What `show` does.
 pub(crate) const SHOW: &str =
     "Reads a stream of blobs and writes a line for each TWKB header in it";
 
 // The usage of `show`.
-pub(crate) const CALL_SHOW: &str = "polytwkb show [OPTIONS] < STREAM > LINES";
+pub(crate) const CALL_SHOW: &str = "polytwkb show [OPTIONS] < STREAM > LINES
+
+  tip: a file is read with '<' and written with '>'";
 
 // The end of a subcommand's help.
 pub(crate) const ELSEWHERE: &str = "'polytwkb --help' describes tables, streams and exit statuses.";
 
+// The value of `--max-nest`, which the text of a refused number shows beside the range as `clap` writes it.
+pub(crate) const NEST: &str = "0 to 32";
+
 // The meaning of `--max-nest`.
-pub(crate) const MAX_NEST: &str =
-    "How many collections a geometry may be in, 0 to 32 [default: 16]";
+pub(crate) const MAX_NEST: &str = "How many collections a geometry may be in [default: 16]";
 
 // The meaning of `--style`.
 pub(crate) const STYLE: &str = "full: blobs with sizes and boxes; plain: without [default: full]";
@@ -40,10 +51,11 @@ pub(crate) const MORE: &str = "Each command reads standard input and writes stan
   polytwkb show < places.twkb
   polytwkb unpack < places.twkb
 
+Without '<' a command reads what is typed, up to Ctrl-D at the start of a line.
 'polytwkb <COMMAND> --help' lists the options of a command.
 
-Table: CSV with the header line below, then a row for each geometry, followed by
-the rows of its parts.
+Table: CSV with the header line below (any other is refused: 'bad header'), then
+a row for each geometry, followed by the rows of its parts.
 
   depth,kind,id,precision,polyline
   0,collection,,5,
@@ -67,6 +79,7 @@ Lines of show: level, offset, kind, precision, metadata byte, length, points.
 
   level      how many collections the geometry is in
   offset     the byte at which it begins, from 0
+  metadata   hexadecimal: 01 box + 02 size + 04 ids + 08 extended + 10 empty
   length     its bytes, header and parts included
   points     its points, those of its parts included
 
@@ -75,5 +88,5 @@ Exit status:
   0  all was converted
   1  the input was refused: standard error names the record or byte, and why
   2  the command line was refused
-  3  reading or writing failed
+  3  reading or writing failed, or the reader of the output ended, as head does
   4  out of memory";

@@ -1,5 +1,5 @@
 //! Packing a table into a stream.
-ghost use Rattle.std.specs.Prelude.{◌≡◌, ◌<◌, ◌^◌, IfOk, IfErr};
+ghost use Rattle.std.specs.Prelude.{◌≡◌, ◌<◌, ◌^◌, true, is_err, IfOk, IfErr};
 ghost use Rattle.twkb_io.specs.Taps.{bytes_given, device_of};
 ghost use Rattle.twkb_grammar.specs.declared.style.Style.TheVariants.{Full};
 ghost use Rattle.twkb_convert.specs.LastFlush.{IsFlushedButForDevices};
@@ -101,7 +101,8 @@ const PIECE: usize = 64;
 // nothing. `ReadDevice` if a read fails; `TooLong` if 2^64 - 1 reads gave bytes and no end. Takes
 // no memory.
 fn drain<R: Read>(tap: &mut Tap<R>, sending: Result<(), Cause>) -> Result<(), Cause>
-    ensures { Drains (R.remaining (device_of tap.new)) (bytes_given tap.new) sending result }
+    ensures drains { Drains (R.remaining (device_of tap.new)) (bytes_given tap.new) sending result }
+    ensures unread { is_err sending ≡ true → tap.new ≡ tap.old }
 {
     sending?;
     let mut dropped = [0; PIECE];

@@ -64,6 +64,7 @@ impl Cursor {
 
     /// Moves the cursor by `dx` and `dy` and returns the point reached. If a coordinate would
     /// leave -2^62 to 2^62 - 1, the answer is `None` and the cursor stays. Takes no memory.
+    #[inline(always)]
     pub fn add(&mut self, dx: i64, dy: i64) -> Option<Pt>
         ensures range { IsSome result ↔ IsInRange (moved_by self.old dx dy) }
         ensures point { IfSome result (λ p. p ≡ moved_by self.old dx dy) }

@@ -94,6 +94,7 @@ impl Pt {
     }
 
     // The point at `dx` and `dy` from this one; `None` if a coordinate would leave its range.
+    #[inline(always)]
     pub(crate) fn moved(self, dx: i64, dy: i64) -> Option<Pt>
         ensures range { IsSome result ↔ IsInRange (moved_by self dx dy) }
         ensures value { IfSome result (λ p. p ≡ moved_by self dx dy) }

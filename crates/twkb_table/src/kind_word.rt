@@ -54,7 +54,9 @@ fn only_kind(field: &[u8], kind: Kind) -> Option<Kind>
 
 // Whether two words of as many bytes are equal, compared as words of memory: by the first and the
 // last four bytes, or eight bytes if they have as many.
-#[inline(always)]
+// Not `inline(always)`: with it, what is inlined in `judge` passes the size from which the kit
+// drops that word from `judge` without a message.
+#[inline]
 fn is_word(field: &[u8], word: &[u8]) -> bool
     requires same_length { length field.now ≡ length word.now }
     requires long { 4 ≤ length word.now }

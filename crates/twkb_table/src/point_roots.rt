@@ -1,6 +1,6 @@
 //! Roots that are points, given without a flat form.
 ghost use Rattle.std.specs.Prelude.{◌≡◌, ◌↔◌, ◌≢◌, [], ◌∷◌, None, Ok, Err};
-ghost use Rattle.std.specs.Prelude.{true, is_err, OnOk, IfOk, IfErr, IfSome, IsTrue};
+ghost use Rattle.std.specs.Prelude.{true, false, is_err, OnOk, IfOk, IfErr, IfSome, IsTrue};
 
 use crate::numbered_records::{fault_at, next_record};
 use crate::table_fault::TableFault;
@@ -37,6 +37,7 @@ impl<'a, R: Read> TableReader<'a, R> {
             (λ point. Gives R.remaining self.old (point_row point.0 point.1 ∷ []) self.new)) }
         ensures fault { IfErr result (λ fault. Faults R.remaining self.old fault) }
         ensures some { HasPoint self.old → result ≢ Ok None }
+        ensures other { is_spent self.old ≡ false → (HasPoint self.old → ⊥) → result ≡ Ok None }
 
         // what stays
         ensures none { result ≡ Ok None → self.new ≡ self.old }

@@ -15,7 +15,9 @@ impl State {
     /// How many of these bytes only join a field in this state.
     fn run_len(self, bytes: &[u8]) -> usize {
         let run = match self {
-            State::Plain => bytes.iter().position(|byte| matches!(byte, b',' | b'\n' | b'\r')),
+            State::Plain => bytes
+                .iter()
+                .position(|byte| matches!(byte, b',' | b'\n' | b'\r')),
             State::Quoted => bytes.iter().position(|&byte| byte == b'"'),
             _ => Some(0),
         };
@@ -86,7 +88,10 @@ impl<R: Read> Records<R> {
     pub const READ_BY: &'static str = "a loop";
 
     pub fn new(device: R) -> Records<R> {
-        Records { device: BufReader::with_capacity(1 << 16, device), fields: Fields::default() }
+        Records {
+            device: BufReader::with_capacity(1 << 16, device),
+            fields: Fields::default(),
+        }
     }
 
     /// Whether there was one more record, which is held now.
@@ -116,7 +121,11 @@ impl<R: Read> Records<R> {
 
     /// A field of the record that is held, counted from 0.
     pub fn field(&self, place: usize) -> &[u8] {
-        let begin = if place == 0 { 0 } else { self.fields.ends[place - 1] };
+        let begin = if place == 0 {
+            0
+        } else {
+            self.fields.ends[place - 1]
+        };
         &self.fields.text[begin..self.fields.ends[place]]
     }
 }

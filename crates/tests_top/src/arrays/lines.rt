@@ -84,11 +84,11 @@ const LINES: [Writing; 8] = [
         points: &[
             BufferPoint { x: 1, y: 1 },
             BufferPoint { x: 1, y: 1 },
-            BufferPoint { x: 1, y: 1 },
             BufferPoint {
                 x: 1,
                 y: -(1 << 62) - 1,
             },
+            BufferPoint { x: 1, y: 1 },
             BufferPoint { x: 1, y: 1 },
             BufferPoint { x: 1, y: 1 },
         ],

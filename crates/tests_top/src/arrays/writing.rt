@@ -166,10 +166,14 @@ const WRITINGS: [Writing; 12] = [
     },
     Writing {
         name: "a coordinate out of range",
-        rows: &[(0, 2, 1, None, 0), (0, 2, 1, None, 0)],
+        rows: &[(0, 2, 1, None, 0), (0, 2, 2, None, 0)],
         row_count: 2,
-        points: &[BufferPoint { x: 1, y: 1 }, BufferPoint { x: 1 << 62, y: 1 }],
-        point_count: 2,
+        points: &[
+            BufferPoint { x: 1, y: 1 },
+            BufferPoint { x: 1, y: 1 },
+            BufferPoint { x: 1 << 62, y: 1 },
+        ],
+        point_count: 3,
         room: 24,
         ends: (1, 26, 1),
         given: (1, 5, 5),
@@ -182,7 +186,8 @@ fn report_of(writing: &Writing) -> BufferReport {
         status: writing.ends.0,
         reason: writing.ends.1,
         place: writing.ends.2,
-        text_offset: 0,
+        // the one point that is out of range is its row's second
+        text_offset: u64::from(writing.ends.1 == 26),
         done: writing.given.0,
         sent: writing.given.1,
         needed: writing.given.2,

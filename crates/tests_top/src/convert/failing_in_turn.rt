@@ -176,3 +176,22 @@ fn a_refused_growth_is_want_of_memory_behind_a_front_of_the_output(rt: HostRunti
         assert!(rt; are_told, "{}", worked.name);
     }
 }
+
+// Whether a refused growth of the writer, a `Vec` without room, is a failed write after a prefix of
+// the output, and any other want of memory.
+fn growth_of_the_writer_is_told(alloc: Global, worked: &Worked) -> bool {
+    let found = run(alloc, worked, SOUND);
+    is_whole_or_lacks(worked, &found)
+        || is_told(
+            worked,
+            &found,
+            found.written.len(),
+            Some(Cause::WriteDevice),
+        )
+}
+
+#[test]
+fn a_refused_growth_of_the_writer_is_a_failed_write(rt: HostRuntime) {
+    let is_told = growth_of_the_writer_is_told(rt.alloc(), &WORKED[0]);
+    assert!(rt; is_told);
+}

@@ -1,4 +1,5 @@
-//! What a conversion reads before it writes: no byte more than the first output needs.
+//! What a conversion reads before it writes, and before it refuses: no byte more than the first
+//! output needs, or than the refused row or item has.
 use super::runs::carried;
 use crate::devices::{Failing, SOUND};
 use std::alloc::Global;
@@ -83,5 +84,55 @@ fn output_is_written_before_more_is_read_than_it_needs(rt: HostRuntime) {
     for asked in &ASKED {
         let is_right = reads_no_more(rt.alloc(), asked);
         assert!(rt; is_right, "{} bytes written", asked.taken);
+    }
+}
+
+// A conversion, an input that goes on after its refused row or item, and the number of bytes up to
+// the end of that.
+#[derive(Clone, Copy)]
+struct Refused {
+    what: Conversion,
+    input: &'static [u8],
+    read: u64,
+}
+
+// A point and a blob with more than two dimensions, and a blob after them.
+const REFUSED_STREAM: &[u8] = b"\x01\x02\x02\x04\x02\x01\x08\x01\x01\x00\x04\x02";
+
+const REFUSED: [Refused; 4] = [
+    Refused {
+        what: Conversion::Pack(Style::Full),
+        input: b"depth,kind,id,precision,polyline\n0,point,,0,AC\n0,pont,,0,\n0,point,,0,AA\n",
+        read: 58,
+    },
+    Refused {
+        what: Conversion::Pack(Style::Full),
+        input: b"depth,kind,id,precision\n0,point,,0,AC\n",
+        read: 24,
+    },
+    Refused {
+        what: Conversion::Unpack,
+        input: REFUSED_STREAM,
+        read: 8,
+    },
+    Refused {
+        what: Conversion::Show,
+        input: REFUSED_STREAM,
+        read: 8,
+    },
+];
+
+// Whether a conversion read this many bytes when it refused its input, from a reader that gives one
+// byte a read.
+fn reads_to_the_refusal(alloc: Global, refused: &Refused) -> bool {
+    let found = carried(alloc, refused.what, refused.input, SOUND, Vec::new(alloc));
+    found.account.stopped.is_some() && found.read == refused.read
+}
+
+#[test]
+fn nothing_is_read_after_a_refused_row_or_item(rt: HostRuntime) {
+    for refused in &REFUSED {
+        let is_right = reads_to_the_refusal(rt.alloc(), refused);
+        assert!(rt; is_right, "{} bytes", refused.read);
     }
 }

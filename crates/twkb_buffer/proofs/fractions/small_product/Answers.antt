@@ -4,5 +4,5 @@ use Rattle.twkb_buffer.proofs.fractions.small_product.Goals as goal
 
 pub returns : goal.returns
 returns c =
-    small_product c.args.number c.args.factor c.args.places (c.args.places - 27 - 1) (c.args.places - 28)
-    (omega arith) (omega arith)
+    small_product c.args.number c.args.factor c.args.places c.args.less (c.args.places - 27 - 1) (c.args.places - 28)
+    c.requires.positive c.requires.less (omega arith) (omega arith)

@@ -4,5 +4,5 @@ use Rattle.twkb_buffer.proofs.fractions.small_quotient.Goals as goal
 
 pub returns : goal.returns
 returns c =
-    small_quotient c.args.number c.args.divisor c.args.places (c.args.places - 1) (c.args.places - 1)
-    c.requires.positive (omega arith) refl
+    small_quotient c.args.number c.args.divisor c.args.places c.args.less (c.args.places - 1) (c.args.places - 1)
+    c.requires.positive c.requires.less (omega arith) refl

@@ -5,7 +5,7 @@ use Rattle.twkb_blob.proofs.stream_reader.StreamReader.new.Goals as goal
 
 pub invariant_of-result : goal.invariant_of-result
 invariant_of-result g c = record {
-  abreast = λ live going. new_abreast c.new.ensures.stands
-      (omega (arith, c.new.ensures.begins.start, c.offset.ensures.offset, ap given c.new-2.ensures.input))
+  abreast = λ live going. new_abreast c.restart.ensures.stands
+      (omega (arith, c.restart.ensures.begins.start, c.offset.ensures.offset, ap given c.new.ensures.input))
       (search rules);
 }

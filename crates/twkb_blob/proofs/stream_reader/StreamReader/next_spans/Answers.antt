@@ -8,7 +8,7 @@ returns-in-Ok-true g c = spans_read c.in-Ok-true.ensures.shared c.in-Ok-true.ens
 
 pub returns : goal.returns
 returns g c =
-    let same : c.match-found.found ≡ c.read_with-found.result = search rules in
-    let other : c.read_with-found.result ≡ Ok true → ⊥ = search rules in
-    rw same (spans_read c.read_with-found.ensures.shared c.read_with-found.ensures.into (λ e. absurd (other e))
-    (both c.read_with-found.ensures.cleared (inr c.clear.ensures)))
+    let same : c.match-found.found ≡ c.feed_from-found.result = search rules in
+    let other : c.feed_from-found.result ≡ Ok true → ⊥ = search rules in
+    rw same (spans_read c.feed_from-found.ensures.shared c.feed_from-found.ensures.into (λ e. absurd (other e))
+    (both c.feed_from-found.ensures.cleared (inr c.clear.ensures)))

@@ -1,0 +1,5 @@
+use Rattle.twkb_arrays.proofs.SampleLemmas.{sample_read}
+use Rattle.twkb_arrays.proofs.samples.read.Goals as goal
+
+pub returns : goal.returns
+returns c = sample_read

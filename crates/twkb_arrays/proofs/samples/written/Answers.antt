@@ -1,0 +1,5 @@
+use Rattle.twkb_arrays.proofs.SampleLemmas.{sample_written}
+use Rattle.twkb_arrays.proofs.samples.written.Goals as goal
+
+pub returns : goal.returns
+returns c = sample_written

@@ -1,0 +1,37 @@
+//! Samples of the definitions, checked by computation: bytes, rows and points worked by hand from TWKB.
+ghost use Rattle.std.specs.Prelude.{◌≡◌, ℕ, List, ◌++◌, drop, take};
+ghost use Rattle.twkb_grammar.specs.Blob.{Stream};
+ghost use Rattle.twkb_grammar.specs.Samples.{standard};
+ghost use Rattle.twkb_grammar.specs.Written.{canonical_stream};
+ghost use Rattle.twkb_grammar.specs.declared.style.Style.TheVariants.{Full};
+ghost use Rattle.twkb_buffer.specs.declared.point.BufferPoint.{BufferPoint as InPoint};
+ghost use Rattle.twkb_buffer.specs.declared.report.BufferReport.{BufferReport as InReport};
+ghost use Rattle.twkb_arrays.specs.declared.row.BufferRow.{BufferRow as InRow};
+ghost use Rattle.twkb_arrays.specs.declared.filled_arrays.BufferCounts.{BufferCounts as InCounts};
+ghost use Rattle.twkb_arrays.specs.FilledArrays.{ReadsArrays};
+ghost use Rattle.twkb_arrays.specs.Rows.{array_points, array_rows};
+ghost use Rattle.twkb_arrays.specs.Samples.{each_kind, each_kind_points, each_kind_rows, each_kind_stream};
+ghost use Rattle.twkb_arrays.specs.WrittenArrays.{WritesArrays};
+
+/// A geometry of each kind in bytes, and in arrays of rows and points.
+pub fn each_kind()
+    ensures rows { array_rows each_kind ≡ each_kind_rows }
+    ensures points { array_points each_kind ≡ each_kind_points }
+    ensures bytes { canonical_stream Full each_kind ≡ each_kind_stream }
+    ensures stream { Stream standard each_kind_stream each_kind }
+{}
+
+/// A call that reads these bytes with status 0 gives these rows and points.
+pub fn read()
+    ensures { (old_rows new_rows : List InRow) (old_points new_points : List InPoint) (counts : InCounts)
+        → ReadsArrays standard each_kind_stream old_rows old_points new_rows new_points counts
+        → counts.status ≡ 0 → (new_rows ≡ each_kind_rows ++ drop 19 old_rows)
+        × (new_points ≡ each_kind_points ++ drop 16 old_points) }
+{}
+
+/// A call that writes these rows and points with status 0 gives these bytes.
+pub fn written()
+    ensures { (old new : List ℕ) (report : InReport)
+        → WritesArrays standard Full each_kind_rows each_kind_points old new report
+        → report.status ≡ 0 → take report.sent new ≡ each_kind_stream }
+{}

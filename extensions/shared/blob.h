@@ -1,0 +1,237 @@
+/*
+ * What both databases do with a blob: whether a value is exactly one, its rows and points, its headers, and the texts
+ * of faults. Each database includes this and gives the four functions that are declared first. All else is calls of the
+ * library.
+ */
+#ifndef POLYTWKB_BLOB_H
+#define POLYTWKB_BLOB_H
+
+#include <stdbool.h>
+#include <stdio.h>
+#include <string.h>
+
+#include "polytwkb.h"
+
+/* Memory of the database. `twkb_take` and `twkb_grown` give NULL or do not return if there is none. */
+static void *twkb_take(size_t size);
+static void *twkb_grown(void *memory, size_t size);
+static void twkb_give_back(void *memory);
+
+/* Called between pieces of work that take long, so that a statement can be cancelled there. */
+static void twkb_pause(void);
+
+/* How a call ended. */
+typedef enum { TWKB_DONE, TWKB_REFUSED, TWKB_NO_MEMORY } twkb_end;
+
+/* A fault as text, such as "byte 4: coordinate out of range". */
+typedef struct {
+    char text[96];
+} twkb_fault_text;
+
+static const char twkb_bytes_after[] = "bytes after the blob";
+
+/* Words of kinds, by their numbers. */
+static const char *const twkb_kinds[] = {
+    "", "point", "linestring", "polygon", "multipoint", "multilinestring", "multipolygon", "collection", "ring",
+};
+
+/* The number of a kind, 0 if the word is none. */
+static uint16_t twkb_kind_of(const char *word, size_t length) {
+    for (uint16_t kind = POLYTWKB_KIND_POINT; kind <= POLYTWKB_KIND_RING; kind++) {
+        if (strlen(twkb_kinds[kind]) == length && memcmp(twkb_kinds[kind], word, length) == 0) return kind;
+    }
+    return 0;
+}
+
+/* Whether rows of a kind have points of their own. */
+static bool twkb_has_points(uint16_t kind) {
+    return kind == POLYTWKB_KIND_POINT || kind == POLYTWKB_KIND_LINESTRING || kind == POLYTWKB_KIND_RING;
+}
+
+static twkb_end twkb_refuse_byte(uint64_t place, uint32_t reason, twkb_fault_text *fault) {
+    char words[POLYTWKB_TEXT_ROOM];
+    polytwkb_reason_text(reason, words, sizeof words);
+    snprintf(fault->text, sizeof fault->text, "byte %llu: %s", (unsigned long long)place, words);
+    return TWKB_REFUSED;
+}
+
+/* A header of TWKB, from a line of `polytwkb_show`. */
+typedef struct {
+    const char *kind;
+    size_t kind_length;
+    int64_t level, offset, precision, metadata, length, points;
+} twkb_header;
+
+/* Takes a whole number and the character after it. */
+static int64_t twkb_number(const char **at, int base) {
+    bool is_negative = **at == '-';
+    int64_t number = 0;
+    for (*at += is_negative; **at != ' ' && **at != '\n'; ++*at) {
+        number = number * base + (**at <= '9' ? **at - '0' : **at - 'A' + 10);
+    }
+    ++*at;
+    return is_negative ? -number : number;
+}
+
+/* Takes a line of `polytwkb_show`, which has the form of docs/FORMATS.md. */
+static const char *twkb_take_header(const char *at, twkb_header *header) {
+    header->level = twkb_number(&at, 10);
+    header->offset = twkb_number(&at, 10);
+    header->kind = at;
+    header->kind_length = strcspn(at, " ");
+    at += header->kind_length + 1;
+    header->precision = twkb_number(&at, 10);
+    header->metadata = twkb_number(&at, 16);
+    header->length = twkb_number(&at, 10);
+    header->points = twkb_number(&at, 10);
+    return at;
+}
+
+/* Refuses a value that begins with a blob and goes on: the place is the first byte after the blob. */
+static twkb_end twkb_refuse_bytes_after(const uint8_t *blob, size_t length, twkb_fault_text *fault) {
+    /* a line has fewer than 80 characters, and an output that is too small is full */
+    char line[80];
+    twkb_header header;
+    polytwkb_report report =
+        polytwkb_show(blob, length, (uint8_t *)line, sizeof line, polytwkb_standard_limits());
+    if (report.status == POLYTWKB_MEMORY || (report.status == POLYTWKB_TOO_SMALL && report.needed == 0)) {
+        return TWKB_NO_MEMORY;
+    }
+    twkb_take_header(line, &header);
+    snprintf(fault->text, sizeof fault->text, "byte %lld: %s", (long long)header.length, twkb_bytes_after);
+    return TWKB_REFUSED;
+}
+
+/* Whether a value is exactly one blob, by how a call over all its bytes ended. */
+static twkb_end twkb_one_blob(const uint8_t *blob, size_t length, uint32_t status, uint32_t reason, uint64_t place,
+                              uint64_t done, twkb_fault_text *fault) {
+    if (status == POLYTWKB_MEMORY || (status == POLYTWKB_TOO_SMALL && done == 0)) return TWKB_NO_MEMORY;
+    if (done == 0 && status == POLYTWKB_DONE) return twkb_refuse_byte(0, POLYTWKB_BLOB_TRUNCATED, fault);
+    if (done == 0) return twkb_refuse_byte(place, reason, fault);
+    if (done == 1 && status == POLYTWKB_DONE) return TWKB_DONE;
+    return twkb_refuse_bytes_after(blob, length, fault);
+}
+
+/* Refuses a long value that begins with a shorter blob, by prefixes of it: what comes after the blob is not read. */
+static twkb_end twkb_check_prefixes(const uint8_t *blob, size_t length, twkb_fault_text *fault) {
+    for (size_t prefix = 1 << 16; prefix < length; prefix *= 8) {
+        polytwkb_report report =
+            polytwkb_measure(POLYTWKB_SHOW, blob, prefix, polytwkb_standard_limits(), POLYTWKB_FULL);
+        if (report.status == POLYTWKB_MEMORY) return TWKB_NO_MEMORY;
+        if (report.done > 0) return twkb_refuse_bytes_after(blob, prefix, fault);
+        twkb_pause();
+    }
+    return TWKB_DONE;
+}
+
+/* The rows and points of a blob, in one block of memory. */
+typedef struct {
+    void *block;
+    polytwkb_row *rows;
+    polytwkb_point *points;
+    uint64_t row_count, point_count;
+} twkb_arrays;
+
+/* Blobs up to this length are read into arrays that always do; those of longer ones are counted first. */
+#define TWKB_SHORT 4096
+
+/* Takes memory for rows and points. What one blob may have always does, however many blobs the value has. */
+static bool twkb_take_arrays(twkb_arrays *found, uint64_t *row_room, uint64_t *point_room) {
+    polytwkb_limits limits = polytwkb_standard_limits();
+    if (*row_room > limits.nodes) *row_room = limits.nodes;
+    if (*point_room > limits.points) *point_room = limits.points;
+    found->block = twkb_take(*row_room * sizeof(polytwkb_row) + *point_room * sizeof(polytwkb_point) + 1);
+    found->rows = found->block;
+    found->points = (polytwkb_point *)(found->rows + *row_room);
+    return found->block != NULL;
+}
+
+/* Reads a value that is exactly one blob. On any other end there is no block to give back. */
+static twkb_end twkb_read(const uint8_t *blob, size_t length, twkb_arrays *found, twkb_fault_text *fault) {
+    polytwkb_limits limits = polytwkb_standard_limits();
+    uint64_t row_room = length, point_room = length / 2;
+    polytwkb_counts counts;
+    twkb_end end = twkb_check_prefixes(blob, length, fault);
+    found->block = NULL;
+    if (end != TWKB_DONE) return end;
+    if (length > TWKB_SHORT) {
+        counts = polytwkb_read(blob, length, NULL, 0, NULL, 0, limits);
+        if (counts.status == POLYTWKB_MEMORY) return TWKB_NO_MEMORY;
+        row_room = counts.needed_rows, point_room = counts.needed_points;
+        twkb_pause();
+    }
+    if (!twkb_take_arrays(found, &row_room, &point_room)) return TWKB_NO_MEMORY;
+    counts = polytwkb_read(blob, length, found->rows, row_room, found->points, point_room, limits);
+    found->row_count = counts.rows, found->point_count = counts.points;
+    end = twkb_one_blob(blob, length, counts.status, counts.reason, counts.place, counts.done, fault);
+    if (end != TWKB_DONE) {
+        twkb_give_back(found->block);
+        found->block = NULL;
+    }
+    return end;
+}
+
+/* Whether a value is exactly one blob. To read a short one takes less time than to measure its headers. */
+static twkb_end twkb_check(const uint8_t *blob, size_t length, twkb_fault_text *fault) {
+    if (length <= TWKB_SHORT) {
+        twkb_arrays found;
+        twkb_end read = twkb_read(blob, length, &found, fault);
+        if (read == TWKB_DONE) twkb_give_back(found.block);
+        return read;
+    }
+    twkb_end end = twkb_check_prefixes(blob, length, fault);
+    if (end != TWKB_DONE) return end;
+    polytwkb_report report =
+        polytwkb_measure(POLYTWKB_SHOW, blob, length, polytwkb_standard_limits(), POLYTWKB_FULL);
+    return twkb_one_blob(blob, length, report.status, report.reason, report.place, report.done, fault);
+}
+
+/* Memory for a text that the library writes: `front` bytes that are the database's, and then the text. */
+typedef struct {
+    uint8_t *memory;
+    size_t front, room, length;
+} twkb_output;
+
+/* Makes room for a text; what was there is lost. */
+static bool twkb_make_room(twkb_output *output, size_t room) {
+    if (output->memory && output->room >= room) return true;
+    if (output->memory) twkb_give_back(output->memory);
+    output->room = room;
+    output->memory = twkb_take(output->front + room + 1);
+    return output->memory != NULL;
+}
+
+/* A first guess at the length of a polyline: a number has at most 13 characters, and few have more than six. */
+static size_t twkb_polyline_guess(uint64_t count) { return count <= 64 ? 26 * count : 26 + 12 * count; }
+
+/* Writes the polyline of points. Points of a blob are in range, so none is refused. */
+static twkb_end twkb_put_polyline(const polytwkb_point *points, uint64_t count, twkb_output *output) {
+    size_t room = twkb_polyline_guess(count);
+    for (;;) {
+        if (!twkb_make_room(output, room)) return TWKB_NO_MEMORY;
+        polytwkb_report report = polytwkb_encode(points, count, output->memory + output->front, output->room);
+        output->length = report.sent;
+        if (report.status != POLYTWKB_TOO_SMALL) return report.status == POLYTWKB_DONE ? TWKB_DONE : TWKB_NO_MEMORY;
+        room = report.needed;
+    }
+}
+
+/* Writes the lines of the headers of a value that is exactly one blob. */
+static twkb_end twkb_put_headers(const uint8_t *blob, size_t length, twkb_output *output, twkb_fault_text *fault) {
+    size_t room = 2 * (length < TWKB_SHORT ? length : TWKB_SHORT) + 80;
+    twkb_end end = length > TWKB_SHORT ? twkb_check(blob, length, fault) : TWKB_DONE;
+    if (end != TWKB_DONE) return end;
+    for (;;) {
+        if (!twkb_make_room(output, room)) return TWKB_NO_MEMORY;
+        polytwkb_report report = polytwkb_show(blob, length, output->memory + output->front, output->room,
+                                               polytwkb_standard_limits());
+        output->length = report.sent;
+        if (report.status != POLYTWKB_TOO_SMALL) {
+            return twkb_one_blob(blob, length, report.status, report.reason, report.place, report.done, fault);
+        }
+        if (report.needed == 0) return TWKB_NO_MEMORY;
+        room = report.needed;
+    }
+}
+
+#endif

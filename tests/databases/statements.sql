@@ -1,0 +1,24 @@
+.load out/mod_polytwkb
+SELECT twkb_fault(x'0102020402');
+SELECT twkb_fault(x'01020204');
+SELECT twkb_fault(x'010202040201');
+SELECT twkb_fault('text'), twkb_fault(NULL), twkb_fault(7);
+SELECT * FROM twkb_rows(x'07070f02000200020e010102020202021200');
+SELECT * FROM twkb_show(x'07070f02000200020e010102020202021200');
+SELECT * FROM twkb_rows(x'07070f02000200020e0101020202020212');
+SELECT * FROM twkb_show(x'0102020402011200');
+SELECT * FROM twkb_rows(NULL);
+SELECT depth FROM twkb_rows;
+SELECT twkb_geojson(x'07070f02000200020e010102020202021200');
+SELECT twkb_geojson(x'00');
+SELECT twkb_polyline(x'a20323e7ce870ca8aa4ca0fcd50380813a03bfa4bb0ba0fcd503ef9309c0ed1ab79643c0931f');
+SELECT hex(twkb_pack('linestring', 5, '_p~iF~ps|U_ulLnnqC_mqNvxq`@'));
+SELECT twkb_pack('linestring', 5, '_p~iF~ps|U_ulLnnqC_mqNvxq`');
+SELECT hex(twkb_pack(depth, kind, id, precision, polyline)) FROM twkb_rows(x'06070d02000200020608020102020000');
+SELECT hex(twkb_pack(depth, kind, id, precision, polyline, 'plain')) FROM twkb_rows(x'06070d02000200020608020102020000');
+SELECT twkb_pack(depth, kind, id, precision, polyline, 'none') FROM twkb_rows(x'0102020402');
+SELECT twkb_pack(depth, kind, id, 9, polyline) FROM twkb_rows(x'0102020402');
+SELECT twkb_pack(depth, kind, id, precision, polyline) FROM (SELECT * FROM twkb_rows(x'0102020402') UNION ALL SELECT * FROM twkb_rows(x'011200'));
+SELECT twkb_pack(0, 'point', NULL, 0, '') FROM (SELECT 1 WHERE 0);
+SELECT twkb_polyline(twkb_pack('linestring', 0, replace(hex(zeroblob(4000)), '0', 'AC'))) = replace(hex(zeroblob(4000)), '0', 'AC');
+SELECT count(*) FROM twkb_rows(x'0102020402') a, twkb_show(x'0102020402') b, twkb_rows(x'011200') c;
