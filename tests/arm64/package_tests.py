@@ -13,7 +13,9 @@ def without_little_memory(suite):
     return unittest.TestSuite([] if "little_memory" in suite.id() else [suite])
 
 
-if platform.machine() != "aarch64" or "/wheel/" not in polytwkb.__file__:
-    sys.exit(f"{platform.machine()}, {polytwkb.__file__}")
-ran = unittest.TextTestRunner().run(without_little_memory(unittest.defaultTestLoader.discover(".")))
-sys.exit(not ran.wasSuccessful())
+# Processes that a test starts read this file too, and run no tests.
+if __name__ == "__main__":
+    if platform.machine() != "aarch64" or "/wheel/" not in polytwkb.__file__:
+        sys.exit(f"{platform.machine()}, {polytwkb.__file__}")
+    ran = unittest.TextTestRunner().run(without_little_memory(unittest.defaultTestLoader.discover(".")))
+    sys.exit(not ran.wasSuccessful())
