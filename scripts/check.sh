@@ -1,7 +1,7 @@
 #!/usr/bin/env bash
 # The short round: one proof of each crate, the stored run of the command, the tests and `vectors` run without a
-# proof, and the smoke test of the program. Wrong bodies and the proofs of test crates are left to `make test`.
-# The proofs are those of `rt ci`, over a copy without wrong bodies. If the kit keeps what has passed, neither
+# proof, and the smoke test of the program. Mutants and the proofs of test crates are left to `make test`.
+# The proofs are those of `rt ci`, over a copy without mutants. If the kit keeps what has passed, neither
 # round proves again what the other has proved on this machine.
 set -euo pipefail
 cd "$(dirname "$0")/.."

@@ -1,4 +1,4 @@
-# Proofs by `rt ci` over a copy of the crates without wrong bodies, side by side. With a kit that keeps proofs, a
+# Proofs by `rt ci` over a copy of the crates without mutants, side by side. With a kit that keeps proofs, a
 # round takes what another round or the gate has proved on this machine. Sourced by scripts that work in their own
 # folder, which `cleared` removes at their end.
 
