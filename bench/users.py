@@ -254,7 +254,7 @@ def size_text(sizes):
     """One sentence on the size of lines."""
     lines = next((each for each in sizes if each["case"] == CASES["lines"]), sizes[0])
     table, full, wkb = (f"{lines[name] / MEGABYTE:.1f}" for name in ("table", "full", "wkb"))
-    return f"a table of {table} MB with lines of 1000 points is a stream of {full} MB, and {wkb} MB of WKB."
+    return f"a table of {table} MB with lines of 1000 points becomes a stream of {full} MB, or {wkb} MB of WKB."
 
 
 def growth_line(rows):
