@@ -247,14 +247,14 @@ def speed_text(rows):
         peaks[row["case"]] = max(row["peak"]["polytwkb"], peaks.get(row["case"], 0))
     *usual, (most, case) = sorted((peak, case) for case, peak in peaks.items())
     memory = f"{usual[-1][0] / 1000:.1f} MB of memory; {case} takes {most / 1000:.0f} MB" if usual else f"{most / 1000:.0f} MB of memory"
-    return f"one core packs {pack} MB of table in a second, and unpacks streams to {unpack} MB of table in a second. It takes {memory}."
+    return f"in a second one core packs {pack} MB of table, or unpacks a stream and writes {unpack} MB of table. A run takes {memory}."
 
 
 def size_text(sizes):
     """One sentence on the size of lines."""
     lines = next((each for each in sizes if each["case"] == CASES["lines"]), sizes[0])
     table, full, wkb = (f"{lines[name] / MEGABYTE:.1f}" for name in ("table", "full", "wkb"))
-    return f"a table of {table} MB, lines of 1000 points, is a stream of {full} MB; the same lines take {wkb} MB as WKB."
+    return f"a table of {table} MB with lines of 1000 points becomes a stream of {full} MB, or {wkb} MB of WKB."
 
 
 def growth_line(rows):
