@@ -246,7 +246,7 @@ def speed_text(rows):
     for row in rows:
         peaks[row["case"]] = max(row["peak"]["polytwkb"], peaks.get(row["case"], 0))
     *usual, (most, case) = sorted((peak, case) for case, peak in peaks.items())
-    memory = f"{usual[-1][0] / 1000:.1f} MB of memory; {case} takes {most / 1000:.0f} MB" if usual else f"{most / 1000:.0f} MB of memory"
+    memory = f"{usual[-1][0] / 1000:.1f} MB of memory, however large the file is, but {case} takes {most / 1000:.0f} MB" if usual else f"{most / 1000:.0f} MB of memory"
     return f"in a second one core packs {pack} MB of table, or unpacks a stream and writes {unpack} MB of table. A run takes {memory}."
 
 
