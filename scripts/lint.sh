@@ -6,7 +6,7 @@ source "$(dirname "$0")/checks.bash"
 
 # files PATTERN..: prints the files of the repository, and new ones, with these endings.
 files() { git ls-files --cached --others --exclude-standard -- "$@" | sort -u; }
-mapfile -t python < <(files '*.py')
+mapfile -t python < <({ files '*.py'; files | xargs grep -lIE '^#!.*\bpython3\b' --; } | sort -u)
 mapfile -t scripts < <(files | xargs grep -lIE '^#!.*\bbash\b' --)
 # what is compiled for this processor; packaging/wasm has a compiler and warnings of its own
 mapfile -t c < <(files '*.c' ':!packaging/wasm' ':!tests/arm64/under_qemu.c' ':!extensions/postgresql')
