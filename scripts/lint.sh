@@ -8,8 +8,13 @@ source "$(dirname "$0")/checks.bash"
 files() { git ls-files --cached --others --exclude-standard -- "$@" | sort -u; }
 mapfile -t python < <({ files '*.py'; files | xargs grep -lIE '^#!.*\bpython3\b' --; } | sort -u)
 mapfile -t scripts < <(files | xargs grep -lIE '^#!.*\bbash\b' --)
-# what is compiled for this processor; packaging/wasm has a compiler and warnings of its own
-mapfile -t c < <(files '*.c' ':!packaging/wasm' ':!tests/arm64/under_qemu.c' ':!extensions/postgresql')
+# What is compiled for this processor, if the headers of databases are there; packaging/wasm has a compiler and warnings of
+# its own.
+server=$(pg_config --includedir-server 2> "$work/none")
+without=(':!packaging/wasm')
+[ -e /usr/include/sqlite3ext.h ] || { skip "C: SQLite: libsqlite3-dev is not there"; without+=(':!extensions/sqlite' ':!tests/databases'); }
+[ -e "$server/postgres.h" ] || { skip "C: PostgreSQL: postgresql-server-dev is not there"; without+=(':!extensions/postgresql'); }
+mapfile -t c < <(files '*.c' "${without[@]}")
 # The page of recipes has $RECIPES without quotes, and its demonstrations run these lines as they are.
 mapfile -t recipes < <(printf '%s\n' "${scripts[@]}" | grep '^examples/recipes/')
 mapfile -t other_scripts < <(printf '%s\n' "${scripts[@]}" | grep -v '^examples/recipes/')
@@ -19,7 +24,8 @@ warnings() {
   local file
   for file in "${c[@]}"; do
     cc -std=gnu11 -fsyntax-only -Werror -Wall -Wextra -Wpedantic -Wshadow -Wconversion -Wwrite-strings \
-      -Wstrict-prototypes -Wvla -Wundef -Iinclude -Iextensions/shared "$file" || return 1
+      -Wstrict-prototypes -Wvla -Wundef -Iinclude -Iextensions/shared -isystem "${server:-/nonexistent}" \
+      -DSECONDS=1 -DMEGABYTES=1 -DWRITTEN=1 -DROOT='"/"' -DPROGRAM='"/"' "$file" || return 1
   done
 }
 typed_js() { tsc --noEmit --allowJs --checkJs --target es2020 --module esnext --moduleResolution node --lib es2020,dom "${shown[@]}"; }
