@@ -27,7 +27,7 @@
 # make hostile           the built program with little memory, failing devices and hostile inputs
 # make fuzz              the program compared with a second implementation, on random inputs (CASES, SEED, PROCESSES)
 # make fuzz-library      the library and the package for Python likewise: arrays of rows and points, checks of tables
-# make bench             times and memory, compared with a plain program; BENCH has words for bench/run.sh
+# make bench             times and memory, compared with a plain program; BENCH has words for bench/beside_plain.sh
 # make clean             removes what was built
 .PHONY: test check lint build lib databases databases-test static arm64 arm64-test wasm wasm-test lib-test lib-bench wheel python-test demo bench smoke completions-test docs-test recipes hostile fuzz fuzz-library dist dist-test install uninstall clean
 
@@ -200,7 +200,7 @@ demo:
 	@scripts/demo.sh
 
 bench: build
-	bench/run.sh $(BENCH)
+	bench/beside_plain.sh $(BENCH)
 
 smoke: build
 	scripts/smoke.sh

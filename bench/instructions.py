@@ -1,6 +1,6 @@
 #!/usr/bin/env python3
 """Counts the instructions of both programs by `valgrind --tool=callgrind` on small tables, and names the functions that hold most of
-them, with their instructions a row, or a point where a row has many. Steadier than times where other work runs. See run.sh."""
+them, with their instructions a row, or a point where a row has many. Steadier than times where other work runs. See beside_plain.sh."""
 import os
 import re
 import subprocess

@@ -1,5 +1,5 @@
 #!/usr/bin/env python3
-"""Measures the three commands beside the plain program of bench/plain. See run.sh, which builds both."""
+"""Measures the three commands beside the plain program of bench/plain. See beside_plain.sh, which builds both."""
 import argparse
 import csv
 import datetime
@@ -33,7 +33,7 @@ TRIES = 3
 
 
 def parse_words():
-    parser = argparse.ArgumentParser(prog="bench/run.sh", description="Measures polytwkb beside a plain program.")
+    parser = argparse.ArgumentParser(prog="bench/beside_plain.sh", description="Measures polytwkb beside a plain program.")
     parser.add_argument("--megabytes", type=float, default=40, help="size of each table but that of the long line (40)")
     parser.add_argument("--points", type=int, default=10_000_000, help="points of the long line (10000000)")
     parser.add_argument("--rounds", type=int, default=9, help="runs of each program, of which the best counts (9)")

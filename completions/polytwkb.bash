@@ -1,4 +1,4 @@
-# Completion of polytwkb for bash. Made by scripts/completions.py.
+# Completion of polytwkb for bash. scripts/completions.py compares it with help.
 
 _polytwkb() {
   local word=$2 before=$3 command= words=

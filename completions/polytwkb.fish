@@ -1,4 +1,4 @@
-# Completion of polytwkb for fish. Made by scripts/completions.py.
+# Completion of polytwkb for fish. scripts/completions.py compares it with help.
 
 complete -c polytwkb -f
 

@@ -15,12 +15,10 @@ trap 'cleared "$work"' EXIT
 # What the gate linked the program of, if it has just built it; else it is built as there, and `object` names it.
 object=${PROVED:-/nowhere}/crates/polytwkb/out/polytwkb.o
 built() {
-  local line status=0
-  line=$(grep '^polytwkb:' "$repository/crates.txt")
-  # shellcheck disable=SC2086 # names of crates
-  libraries "$work/copy" ${line#*:}
-  tar -c -C "$repository" --exclude=out --exclude=must-fail crates/polytwkb | tar -x -C "$work/copy"
-  echo "$line" >> "$work/copy/crates.txt"
+  local status=0
+  # shellcheck disable=SC2046 # names of crates
+  libraries "$work/copy" $(uses polytwkb)
+  add_crate "$work/copy" polytwkb
   # without a word the program ends with status 2, which says that it was built
   over "$work/copy" polytwkb run < /dev/null || status=$?
   object=$work/copy/crates/polytwkb/out/polytwkb.o

@@ -150,8 +150,8 @@ by_pip() {
 of_packages() {
   report "archive, package and wheel, twice the same bytes" packed
   report "the package in a root of its processor" by_dpkg
-  if is_there lintian; then report "the package: lintian" lintian --allow-root --fail-on error,warning "$work"/dist/polytwkb_*_arm64.deb; fi
-  if is_there pkg-config; then report "the archive, with no C library" by_archive; else skip "archive: pkg-config is not there"; fi
+  needing lintian "the package: lintian" lintian --allow-root --fail-on error,warning "$work"/dist/polytwkb_*_arm64.deb
+  needing pkg-config "the archive, with no C library" by_archive
   if ! is_there debootstrap || [ "$(id -u)" -ne 0 ]; then
     skip "wheel: debootstrap is not there, or this is not root"
   else

@@ -13,11 +13,10 @@ file=$(realpath -m "$2")
 work=$(mktemp -d)
 trap 'cleared "$work"' EXIT
 
-if line=$(grep "^$crate staticlib:" "$repository/crates.txt"); then
-  # shellcheck disable=SC2086 # names of crates
-  libraries "$work/copy" ${line#*:}
-  tar -c -C "$repository" --exclude=out "crates/$crate" | tar -x -C "$work/copy"
-  echo "$line" >> "$work/copy/crates.txt"
+if grep -q "^$crate staticlib:" "$repository/crates.txt"; then
+  # shellcheck disable=SC2046 # names of crates
+  libraries "$work/copy" $(uses "$crate")
+  add_crate "$work/copy" "$crate"
   if [ -n "${3:-}" ]; then
     "$repository/packaging/wasm/keep_module.sh" "$work/toolchain" "$3"
     export KIT_TOOLCHAIN=$work/toolchain

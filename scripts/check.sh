@@ -34,9 +34,7 @@ prove "$work/copy" || { echo "check: a proof or a stored run failed"; exit 1; }
 grep '^rt: ok' "$work/copy.log"
 wait $tests_run || { cat "$work/tests.log"; echo "check: a test failed"; exit 1; }
 grep '^tests: ' "$work/tests.log"
-if command -v python3 > /dev/null; then
-  python3 tests/vectors/make.py --check
-fi
+python3 tests/vectors/make.py --check
 install -D "$work/copy/crates/polytwkb/out/polytwkb" bin/polytwkb
 MEGABYTES=${MEGABYTES:-20} scripts/smoke.sh
 echo "check: passed"

@@ -18,6 +18,20 @@ report() {
     failed "$name: $(tail -c 700 "$said" | tr '\n' '/')"
   fi
 }
+# told NAME COMMAND..: the same, with the last line that the command says, or the end of its output below it if it fails.
+told() {
+  local name=$1 said
+  shift
+  said=$(mktemp "$work/said.XXXXXX")
+  if "$@" > "$said" 2>&1; then
+    passed "$name: $(tail -n 1 "$said")"
+  else
+    failed "$name"
+    tail -n 40 "$said"
+  fi
+}
+# needing TOOL NAME COMMAND..: reports a check, or that the tool is not there.
+needing() { if is_there "$1"; then report "${@:2}"; else skip "$2: $1 is not there"; fi; }
 passed() { echo "ok    $about$1"; }
 failed() {
   touch "$work/failed"

@@ -1,12 +1,12 @@
 #!/usr/bin/env python3
-"""Makes the completions for bash, zsh and fish from the built program's help, or compares them with it:
+"""Compares the completions for bash, zsh and fish with the built program's help: each must have the lines that follow
+from help, and no others of their form. Status 1 if one differs; the lines that it lacks, or has too many, are printed.
 
-    scripts/completions.py [--write] [--program PROGRAM]
+    scripts/completions.py [PROGRAM]
 
-Status 1 if a file is not what is made of help. An option with a value has possible values in help, or a range in the
-place of the value.
+An option with a value has possible values in help, or a range in the place of the value.
 """
-import argparse
+import difflib
 import os
 import re
 import subprocess
@@ -14,69 +14,12 @@ import sys
 from typing import NamedTuple
 
 REPO = os.path.abspath(os.path.join(os.path.dirname(__file__), ".."))
-
-BASH = """\
-# Completion of polytwkb for bash. Made by scripts/completions.py.
-
-_polytwkb() {
-  local word=$2 before=$3 command= words=
-  # after a redirection comes the name of a file
-  case $before in
-    *'<' | *'>' | '>|') compopt -o default; COMPREPLY=(); return ;;
-  esac
-  [ "$COMP_CWORD" -gt 1 ] && command=${COMP_WORDS[1]}
-
-  # bash cuts a word at an equals sign
-  if [ "$word" = = ]; then
-    word=
-    before=${COMP_WORDS[COMP_CWORD - 1]}
-  elif [ "$before" = = ]; then
-    before=${COMP_WORDS[COMP_CWORD - 2]}
-  fi
-
-  case $command,$before in
-%s
-  esac
-  COMPREPLY=($(compgen -W "$words" -- "$word"))
+# The lines of each file that follow from help.
+FORMS = {
+    "polytwkb.bash": r" +\w*,\S+\) words=.*",
+    "_polytwkb": r"  '\w+:.*'|      \w+\)| +'.*\[.*\].*",
+    "polytwkb.fish": r"complete -c polytwkb -n .*",
 }
-
-complete -F _polytwkb polytwkb
-"""
-
-ZSH = """\
-#compdef polytwkb
-# Completion of polytwkb for zsh. Made by scripts/completions.py.
-
-local state line
-local -a commands
-commands=(
-%s
-)
-
-_arguments -C \\
-%s
-  '1:command:->command' \\
-  '*::words:->words'
-
-case $state in
-  command)
-    _describe command commands
-    ;;
-  words)
-    case $line[1] in
-%s
-    esac
-    ;;
-esac
-"""
-
-FISH = """\
-# Completion of polytwkb for fish. Made by scripts/completions.py.
-
-complete -c polytwkb -f
-
-%s
-"""
 
 
 class Option(NamedTuple):
@@ -85,15 +28,11 @@ class Option(NamedTuple):
     short: str
     long: str
     means: str
-    least: int
-    most: int
-    names: list
+    span: str
+    names: str
 
-
-class Command(NamedTuple):
-    name: str
-    does: str
-    options: list
+    def forms(self):
+        return " ".join(form for form in (self.long, self.short) if form)
 
 
 def help_of(program, *words):
@@ -102,91 +41,61 @@ def help_of(program, *words):
 
 def options_of(shown):
     """The options that a help text lists."""
-    options = []
     for short, long, value, rest in re.findall(r"^ +(?:(-\w), )?(--[a-z-]+)(?: <([^>]+)>)? {2,}(.*)$", shown, re.M):
         names = re.search(r"\[possible values: (.*)\]", rest)
-        span = re.fullmatch(r"(\d+) to (\d+)", value)
-        means = re.sub(r" [\[(].*", "", rest)
-        least, most = map(int, span.groups()) if span else (0, 0)
-        options.append(Option(short, long, means, least, most, names.group(1).split(", ") if names else []))
-    return options
+        span = ("%s %s" % tuple(value.split(" to "))) if " to " in value else ""
+        yield Option(short, long, re.sub(r" [\[(].*", "", rest), span, names.group(1).replace(", ", " ") if names else "")
 
 
-def commands_of(program):
-    """The program, with its options, and after it each command."""
+def bash(command, options):
+    for option in options:
+        words = "$(echo {%s..%s})" % tuple(option.span.split()) if option.span else option.names
+        if words:
+            yield f'    {command},{option.long}) words="{words}" ;;'
+    yield f"    {command},*) words='{' '.join(option.forms() for option in options)}' ;;"
+
+
+def zsh(command, options):
+    """The words of `_arguments`; those of the program are indented less than those of a command."""
+    yield from [f"      {command})"] if command else []
+    for place, option in enumerate(options):
+        words, end = option.names, " \\" if not command or place + 1 < len(options) else ""
+        if option.span:
+            first, last = map(int, option.span.split())
+            words = " ".join(map(str, range(first, last + 1)))
+        line = f"'{option.long}=[{option.means}]:{option.long[2:]}:({words})'" if words else f"'(- *)'{{{option.short},{option.long}}}'[{option.means}]'"
+        yield f"{' ' * (10 if command else 2)}{line}{end}"
+
+
+def fish(command, options):
+    when = f"'__fish_seen_subcommand_from {command}'" if command else "__fish_use_subcommand"
+    for option in options:
+        words = f"(seq {option.span})" if option.span else option.names
+        short, given = f" -s {option.short[1:]}" if option.short else "", f" -x -a '{words}'" if words else ""
+        yield f"complete -c polytwkb -n {when}{short} -l {option.long[2:]}{given} -d '{option.means}'"
+
+
+def main(program=os.path.join(REPO, "bin/polytwkb")):
     shown = help_of(program)
-    listed = re.search(r"^Commands:\n((?:  .*\n)+)", shown, re.M).group(1)
-    commands = [Command(name, does, options_of(help_of(program, name))) for name, does in re.findall(r"^  (\w+) +(.*)$", listed, re.M)]
-    return [Command("", "", options_of(shown)), *commands]
-
-
-def forms(options):
-    return [form for option in options for form in (option.long, option.short) if form]
-
-
-def bash(program, commands):
-    lines = []
-    for command in commands:
-        for option in command.options:
-            words = "$(echo {%d..%d})" % (option.least, option.most) if option.most else " ".join(option.names)
-            if words:
-                lines.append(f'    {command.name},{option.long}) words="{words}" ;;')
-        lines.append(f"    {command.name},*) words='{' '.join(forms(command.options))}' ;;")
-    first = " ".join([*[command.name for command in commands], *forms(program.options)])
-    return BASH % "\n".join([*lines, f"    ,*) words='{first}' ;;"])
-
-
-def zsh_option(option):
-    """The words of `_arguments` for an option."""
-    if not option.names and not option.most:
-        return "'(- *)'{%s}'[%s]'" % (",".join(form for form in (option.short, option.long) if form), option.means)
-    words = option.names or map(str, range(option.least, option.most + 1))
-    return f"'{option.long}=[{option.means}]:{option.long[2:]}:({' '.join(words)})'"
-
-
-def zsh(program, commands):
-    names = [f"  '{command.name}:{command.does}'" for command in commands]
-    own = [f"  {zsh_option(option)} \\" for option in program.options]
-    cases = []
-    for command in commands:
-        options = " \\\n".join(f"          {zsh_option(option)}" for option in command.options)
-        cases.append(f"      {command.name})\n        _arguments \\\n{options}\n        ;;")
-    return ZSH % ("\n".join(names), "\n".join(own), "\n".join(cases))
-
-
-def fish_option(when, option):
-    line = f"complete -c polytwkb -n {when}" + (f" -s {option.short[1:]}" if option.short else "") + f" -l {option.long[2:]}"
-    if option.names or option.most:
-        line += " -x -a '%s'" % (f"(seq {option.least} {option.most})" if option.most else " ".join(option.names))
-    return f"{line} -d '{option.means}'"
-
-
-def fish(program, commands):
-    first = [f"complete -c polytwkb -n __fish_use_subcommand -a {command.name} -d '{command.does}'" for command in commands]
-    parts = [[*first, *[fish_option("__fish_use_subcommand", option) for option in program.options]]]
-    for command in commands:
-        parts.append([fish_option(f"'__fish_seen_subcommand_from {command.name}'", option) for option in command.options])
-    return FISH % "\n\n".join("\n".join(part) for part in parts)
-
-
-def main():
-    parser = argparse.ArgumentParser(description="Makes or compares the completions.")
-    parser.add_argument("--write", action="store_true", help="write the files")
-    parser.add_argument("--program", default=os.path.join(REPO, "bin/polytwkb"))
-    words = parser.parse_args()
-    program, *commands = commands_of(words.program)
+    does = dict(re.findall(r"^  (\w+) +(.*)$", re.search(r"^Commands:\n((?:  .*\n)+)", shown, re.M).group(1), re.M))
+    own = list(options_of(shown))
+    options = {command: list(options_of(help_of(program, command))) for command in does}
+    first = " ".join([*does, *(option.forms() for option in own)])
+    wanted = {
+        "polytwkb.bash": [*(line for pair in options.items() for line in bash(*pair)), f"    ,*) words='{first}' ;;"],
+        "_polytwkb": [f"  '{name}:{text}'" for name, text in does.items()] + [line for pair in [("", own), *options.items()] for line in zsh(*pair)],
+        "polytwkb.fish": [f"complete -c polytwkb -n __fish_use_subcommand -a {name} -d '{text}'" for name, text in does.items()]
+        + [line for pair in [("", own), *options.items()] for line in fish(*pair)],
+    }
     wrong = 0
-    for file, made in (("polytwkb.bash", bash), ("_polytwkb", zsh), ("polytwkb.fish", fish)):
-        path = os.path.join(REPO, "completions", file)
-        if words.write:
-            with open(path, "w", encoding="utf-8") as opened:
-                opened.write(made(program, commands))
-        with open(path, encoding="utf-8") as opened:
-            same = opened.read() == made(program, commands)
-        wrong += not same
-        print(f"ok    completions/{file} is made of help" if same else f"FAIL  completions/{file}: 'scripts/completions.py --write' makes another")
+    for file, lines in wanted.items():
+        with open(os.path.join(REPO, "completions", file), encoding="utf-8") as opened:
+            found = [line for line in opened.read().split("\n") if re.fullmatch(FORMS[file], line)]
+        wrong += found != lines
+        print(f"{'ok  ' if found == lines else 'FAIL'}  completions/{file}: {len(lines)} lines that follow from help")
+        print("".join(f"    {line}\n" for line in difflib.unified_diff(found, lines, "found", "from help", n=0, lineterm="")), end="")
     return 1 if wrong else 0
 
 
 if __name__ == "__main__":
-    sys.exit(main())
+    sys.exit(main(*sys.argv[1:]))

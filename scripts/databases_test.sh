@@ -12,19 +12,6 @@ seed=${2:-$(date -u +%Y%m%d)}
 tests=tests/databases
 export PYTHONDONTWRITEBYTECODE=1
 
-# result NAME COMMAND..: prints the line of a check, with the last line that the command says, or all if it fails.
-result() {
-  local name=$1 said
-  shift
-  said=$(mktemp "$work/said.XXXXXX")
-  if "$@" > "$said" 2>&1; then
-    passed "$name: $(tail -n 1 "$said")"
-  else
-    failed "$name"
-    tail -n 40 "$said"
-  fi
-}
-
 # A Python whose sqlite3 loads extensions.
 loads() { "$1" -c 'import sqlite3; sqlite3.connect(":memory:").enable_load_extension(True)' 2> /dev/null; }
 python=
@@ -42,19 +29,19 @@ in_sqlite() {
   about="SQLite: "
   [ -e out/mod_polytwkb.so ] || { skip "libsqlite3-dev is not there"; return; }
   if [ -n "$python" ]; then
-    result "cases, types and tables" "$python" $tests/in_sqlite.py out/mod_polytwkb.so "$work/cases" "$work/geojson"
+    told "cases, types and tables" "$python" $tests/in_sqlite.py out/mod_polytwkb.so "$work/cases" "$work/geojson"
     if [ ! -e js/polytwkb.wasm ] || ! is_there node; then
       skip "GeoJSON as in JavaScript: node or js/polytwkb.wasm is not there"
     else
-      result "GeoJSON as in JavaScript" node $tests/geojson.mjs "$work/geojson"
+      told "GeoJSON as in JavaScript" node $tests/geojson.mjs "$work/geojson"
     fi
-    result "the largest and hostile values" "$python" $tests/hostile.py out/mod_polytwkb.so
+    told "the largest and hostile values" "$python" $tests/hostile.py out/mod_polytwkb.so
   else
     skip "no python3 is there whose sqlite3 loads extensions"
   fi
-  result "each growth refused" growths
+  told "each growth refused" growths
   if is_there valgrind && is_there sqlite3; then
-    result "memory, by valgrind" under_valgrind
+    told "memory, by valgrind" under_valgrind
   else
     skip "memory: valgrind or sqlite3 is not there"
   fi
@@ -70,7 +57,7 @@ in_postgresql() {
   esac
 }
 
-result "cases" python3 $tests/cases.py "$work/cases" "$cases" "$seed"
+told "cases" python3 $tests/cases.py "$work/cases" "$cases" "$seed"
 in_sqlite &
 in_postgresql
 wait

@@ -24,11 +24,7 @@ enter=
 for way in chroot "unshare -r chroot"; do
   [ -n "$enter" ] || ! $way / true 2> /dev/null || enter=$way
 done
-inside() {
-  local root=$1 program=$2
-  shift 2
-  if [ -n "$enter" ]; then $enter "$root" "$program" "$@"; else "$root$program" "$@"; fi
-}
+inside() { if [ -n "$enter" ]; then $enter "$@"; else "$1$2" "${@:3}"; fi; }
 libraries_of() { ldd "$1" | grep -o '/[^ ]*'; }
 empty_root() {
   local file
@@ -112,25 +108,22 @@ made_again() {
 }
 # the address of the sources, in each if there is one, and else in none
 addresses() {
-  dpkg-deb -f "$1"/polytwkb_*_"$debian".deb Homepage
+  local file
+  for file in "$1"/*_"$debian".deb; do dpkg-deb -f "$file" Homepage; done
   tar -xzOf "$1"/polytwkb-*-"$machine"-linux.tar.gz --wildcards '*/README' | sed -n 's/^Sources: //p'
   python3 -c 'import sys, zipfile; file = zipfile.ZipFile(sys.argv[1]); print(file.read(next(name for name in file.namelist() if name.endswith("/METADATA"))).decode())' \
     "$1"/*"$machine".whl | sed -n 's/^Project-URL: Source, //p'
 }
 addressed() {
-  HOMEPAGE=https://example.org/polytwkb scripts/dist.sh "$work/addressed" &&
-    diff <(addresses "$work/addressed") <(yes https://example.org/polytwkb | head -n 3) && { [ -n "${HOMEPAGE:-}" ] || [ -z "$(addresses dist)" ]; }
-}
-addressed_too() {
-  local file
-  for file in "$work"/addressed/{polytwkb-sqlite_,postgresql-*-polytwkb_}*.deb; do
-    [ ! -e "$file" ] || [ "$(dpkg-deb -f "$file" Homepage)" = https://example.org/polytwkb ] || return 1
-  done
+  local files
+  HOMEPAGE=https://example.org/polytwkb scripts/dist.sh "$work/addressed" || return 1
+  # each package, the archive and the wheel
+  files=("$work"/addressed/*.deb)
+  diff <(addresses "$work/addressed") <(yes https://example.org/polytwkb | head -n $((${#files[@]} + 2))) && { [ -n "${HOMEPAGE:-}" ] || [ -z "$(addresses dist)" ]; }
 }
 report "the sums" sums
 report "made again, the same bytes" made_again
 report "the address of the sources" addressed
-report "the address of the sources, in the extensions" addressed_too
 [ -n "$enter" ] || skip "roots: this user can't enter one, so what is in them is run from outside"
 is_there pkg-config || skip "pkg-config is not there"
 
@@ -146,15 +139,14 @@ taken_away() {
   local folder line place=$work/local
   folder=$(echo "$work"/shown/*)
   # what Debian has there, and a file of another
-  mkdir -p "$place"/{bin,include,lib,share/man/man1} && touch "$place/share/man/man1/other.1"
+  mkdir -p "$place"/{bin,etc,include,lib,share/man/man1} && touch "$place/share/man/man1/other.1" "$place/etc/ld.so.conf"
   (cd "$place" && find . | sort) > "$work/before"
   for line in '^  cp -r' '^  find bin'; do
     line=$(grep "$line" "$folder/README" | sed "s|/usr/local|$place|g; s|ldconfig|ldconfig -r $place -X|")
-    mkdir -p "$place/etc" && touch "$place/etc/ld.so.conf"
-    (cd "$folder" && eval "$line") > "$work/line" 2>&1 || true
-    [ -e "$place/bin/polytwkb" ] || [[ $line == *find* ]] || { cat "$work/line"; return 1; }
+    (cd "$folder" && eval "$line") || true
+    [ -e "$place/bin/polytwkb" ] || [[ $line == *find* ]] || return 1
   done
-  rm -rf "${place:?}/etc"
+  rm -f "$place/etc/ld.so.cache"
   (cd "$place" && find . | sort) | diff "$work/before" -
 }
 report "archive: what its README shows" as_shown
@@ -182,11 +174,7 @@ lints() { # [PACKAGE]
 report "package: is installed" by_dpkg "$work/package"
 used "package" "$work/package" /usr /usr/lib/x86_64-linux-gnu bin/polytwkb
 report "package: is removed" removed "$work/package"
-if is_there lintian; then
-  report "package: lintian" lints
-else
-  skip "lintian is not there"
-fi
+needing lintian "package: lintian" lints
 
 # ---- the extensions of databases
 
@@ -229,13 +217,13 @@ extension() { # NAME PACKAGE CHECK
   report "$1: is installed" by_dpkg "$work/$1" "$2"
   if [ "$3" = in_postgresql ] && [ "$(id -u)" -ne 0 ]; then skip "$1: to use it in a root needs root"; else report "$1: is used" "$3" "$work/$1"; fi
   report "$1: is removed" removed "$work/$1" "$(dpkg-deb -f "$2" Package)"
-  if is_there lintian; then report "$1: lintian" lints "$2"; fi
+  needing lintian "$1: lintian" lints "$2"
 }
-if [ ! -e "$sqlite_package" ]; then skip "SQLite: no package is made"; elif ! is_there sqlite3; then skip "SQLite: sqlite3 is not there"; else
-  extension SQLite "$sqlite_package" in_sqlite
-fi
-if [ ! -e "$postgresql_package" ]; then skip "PostgreSQL: no package is made"; elif [ ! -e "/usr/lib/postgresql/$major/bin/postgres" ]; then skip "PostgreSQL: the server is not there"; else
+if [ -e "$sqlite_package" ] && is_there sqlite3; then extension SQLite "$sqlite_package" in_sqlite; else skip "SQLite: sqlite3 is not there, or no package is made"; fi
+if [ -e "$postgresql_package" ] && [ -e "/usr/lib/postgresql/$major/bin/postgres" ]; then
   extension PostgreSQL "$postgresql_package" in_postgresql
+else
+  skip "PostgreSQL: the server is not there, or no package is made"
 fi
 
 # Installs the package into a fresh environment, by the line that both READMEs show, and uses it there outside the repository.
@@ -317,7 +305,6 @@ system_calls() {
   read -ra words <<< "$(pkg-config --cflags --libs polytwkb)"
   cc -std=c11 -o "$work/system" examples/c/convert.c "${words[@]}" && "$work/system"
 }
-gone() { local file; while read -r file; do [ -d "$file" ] || [ ! -e "$file" ] || { echo "$file"; return 1; }; done < "$work/files"; }
 recipe_of_server() { { NO_OWN_EXTENSION=yes BLOBS=10000 examples/recipes/postgres_extension.sh > "$work/recipe" 2>&1 && ! grep '^skipped' "$work/recipe"; } || { tail -n 5 "$work/recipe"; return 1; }; }
 if [ "${SYSTEM:-yes}" = no ]; then
   skip "apt-get: not tried, as SYSTEM=no asks"
@@ -328,12 +315,10 @@ elif dpkg-query -W polytwkb > /dev/null 2>&1 || [ -e /usr/bin/polytwkb ]; then
 else
   installed="polytwkb polytwkb-sqlite postgresql-$major-polytwkb"
   report "apt-get: installs" apt install "./$package"
-  dpkg-query -L polytwkb > "$work/files" 2> /dev/null
   report "apt-get: it packs, shows and unpacks" converts /usr/bin/polytwkb
   report "apt-get: pages and recipes" stand_alone /usr/share/doc/polytwkb /usr/bin
   is_there pkg-config && report "apt-get: so does a program in C" system_calls
   report "apt-get: removes" apt purge polytwkb
-  report "apt-get: nothing is left" gone
   if [ -e "$sqlite_package" ] && is_there sqlite3; then
     report "apt-get: installs the extension of SQLite" apt install "./$sqlite_package"
     report "apt-get: a shell loads it" sqlite3 -bail -cmd '.load mod_polytwkb' :memory: 'SELECT twkb_fault(NULL)'

@@ -12,30 +12,18 @@ import sys
 import termios
 
 SECONDS = 300
-BEHIND = b"typed behind\n"
+AFTER = b"typed after\n"
 
 
-def silent_terminal():
-    """Both ends of a terminal that does not echo."""
+def main(text, *words):
     ours, theirs = os.openpty()
+    # no echo
     modes = termios.tcgetattr(theirs)
     modes[3] &= ~termios.ECHO
     termios.tcsetattr(theirs, termios.TCSANOW, modes)
-    return ours, theirs
-
-
-def what_is_left(terminal):
-    """The bytes that the next reader of the terminal would get."""
-    ready, _, _ = select.select([terminal], [], [], 10)
-    return os.read(terminal, 100) if ready else b""
-
-
-def main():
-    text, words = sys.argv[1], sys.argv[2:]
-    ours, theirs = silent_terminal()
     program = subprocess.Popen(words, stdin=theirs, stdout=subprocess.PIPE)
     with open(text, "rb") as file:
-        os.write(ours, file.read() + b"\x04" + BEHIND)
+        os.write(ours, file.read() + b"\x04" + AFTER)
     try:
         output, _ = program.communicate(timeout=SECONDS)
     except subprocess.TimeoutExpired:
@@ -43,9 +31,10 @@ def main():
         sys.exit("it waits for a second end of input")
     if program.returncode != 0:
         sys.exit(f"status {program.returncode}")
-    if what_is_left(theirs) != BEHIND:
-        sys.exit("what was typed behind the end is gone")
+    # what the next reader of the terminal gets
+    if not select.select([theirs], [], [], 10)[0] or os.read(theirs, 100) != AFTER:
+        sys.exit("what was typed after the end is gone")
     sys.stdout.buffer.write(output)
 
 
-main()
+main(*sys.argv[1:])

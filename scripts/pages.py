@@ -1,6 +1,6 @@
 #!/usr/bin/env python3
-"""Checks of pages that need no program: the targets of their links, what README.md says to type, marks that a merge
-left, and the definitions that docs/FORMATS.md names.
+"""Checks of pages that need no program: the targets of their links, what README.md says to type, and the definitions
+that docs/FORMATS.md names.
 
     scripts/pages.py            reports faults; status 1 if there are any
 
@@ -25,7 +25,6 @@ BELOW = re.compile(r"names in the tables below are those of `crates/(\w+)/specs/
 FENCED = re.compile(r"^\s*```.*?^\s*```", re.S | re.M)
 LINK = re.compile(r"\[[^\]]*\]\(([^)\s]+)\)")
 HEADING = re.compile(r"^#+ +(.*)$", re.M)
-MERGE = re.compile(r"^(<{7}|>{7}|={7}$)")
 SHOWN = re.compile(r"(?:^    |`)make ([a-z-]+)", re.M)
 TARGET = re.compile(r"^([a-z-]+):", re.M)
 
@@ -33,6 +32,13 @@ TARGET = re.compile(r"^([a-z-]+):", re.M)
 def text_of(page):
     with open(os.path.join(REPO, page), encoding="utf-8") as file:
         return file.read()
+
+
+def report(name, faults):
+    """Prints the faults of a check, a line each, and its own line; returns how many there are."""
+    print("".join(f"{fault}\n" for fault in faults), end="")
+    print(f"{'FAIL' if faults else 'ok  '}  {name}, {len(faults)} faults")
+    return len(faults)
 
 
 def pages():
@@ -79,14 +85,6 @@ def front_faults():
             yield f"README.md: {script} is not named, or no program"
 
 
-def merge_marks():
-    """The lines of pages that are marks of a merge."""
-    for page in pages():
-        for number, line in enumerate(text_of(page).split("\n"), 1):
-            if MERGE.match(line):
-                yield f"{page}:{number}: a mark of a merge"
-
-
 def said_by():
     """The words in the column "Said by" of docs/FORMATS.md, each with the number of its line and the crate meant, if one is."""
     inside, crate = False, "*"
@@ -116,11 +114,8 @@ def lost_definitions():
 
 
 def main():
-    wrong = [*lost_links(), *front_faults(), *merge_marks(), *lost_definitions()]
-    for fault in wrong:
-        print(fault)
-    print(f"{'FAIL' if wrong else 'ok  '}  {len(pages())} pages: links, set-up, marks and definitions, {len(wrong)} faults")
-    return len(wrong)
+    faults = [*lost_links(), *front_faults(), *lost_definitions()]
+    return report(f"{len(pages())} pages: links, set-up and definitions", faults)
 
 
 if __name__ == "__main__":

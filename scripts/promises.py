@@ -19,9 +19,10 @@ import os
 import re
 import sys
 
-REPO = os.path.abspath(os.path.join(os.path.dirname(__file__), ".."))
-DOCUMENT = os.path.join(REPO, "docs", "PROOFS.md")
-BEGIN, END = "<!-- promises: begin -->", "<!-- promises: end -->"
+from pages import REPO, report, text_of
+
+DOCUMENT = "docs/PROOFS.md"
+MADE = re.compile(r"(?<=<!-- promises: begin -->\n).*(?=\n<!-- promises: end -->)", re.S)
 HEAD = ["Promise", "Clause", "Edits"]
 
 BLOCK = re.compile(r"(pub )?(?:unsafe )?(trait|impl)\b(.*)")
@@ -32,17 +33,9 @@ KIND = r"(?:(?:abbrev|unfoldable|record|data|inline|mutual)\s+)*"
 DEFINITION = re.compile(rf"^\s*{KIND}pub\s+{KIND}([A-Za-z_][\w-]*)", re.M)
 
 
-def crates():
-    """The crates, in the order of crates.txt."""
-    with open(os.path.join(REPO, "crates.txt"), encoding="utf-8") as file:
-        return [line.split(":")[0].split()[0] for line in file if ":" in line and not line.startswith("#")]
-
-
-def texts_of(crate, folder, ending):
-    """The texts of the files of a folder of a crate."""
-    for path in glob.glob(os.path.join(REPO, "crates", crate, folder, "**", "*" + ending), recursive=True):
-        with open(path, encoding="utf-8") as file:
-            yield file.read()
+def texts_of(crate, files):
+    """The texts of files of a crate."""
+    return map(text_of, glob.glob(os.path.join(REPO, "crates", crate, files), recursive=True))
 
 
 def clauses_in(text):
@@ -65,8 +58,8 @@ def clauses_in(text):
 
 def citable(crate):
     """What a row of a crate may cite."""
-    written = set().union(*map(clauses_in, texts_of(crate, "src", ".rt")))
-    return written.union(*map(DEFINITION.findall, texts_of(crate, "specs", ".antt")))
+    written = set().union(*map(clauses_in, texts_of(crate, "src/**/*.rt")))
+    return written.union(*map(DEFINITION.findall, texts_of(crate, "specs/**/*.antt")))
 
 
 def edits_of(crate):
@@ -82,10 +75,8 @@ def cells_of(line):
 
 def rows_of(crate):
     """The rows of the tables of promises in a crate's README: the line's number, promise, clause and edits of each."""
-    with open(os.path.join(REPO, "crates", crate, "README.md"), encoding="utf-8") as file:
-        lines = file.read().split("\n")
     rows, inside = [], False
-    for number, line in enumerate(lines, 1):
+    for number, line in enumerate(text_of(f"crates/{crate}/README.md").split("\n"), 1):
         if not line.startswith("|"):
             inside = False
         elif cells_of(line) in (HEAD, HEAD[:2]):
@@ -131,22 +122,18 @@ def tables(rows):
 
 
 def main(words):
-    rows = {crate: rows_of(crate) for crate in crates()}
-    wrong = [fault for crate, own in rows.items() for fault in faults_of(crate, own)]
-    with open(DOCUMENT, encoding="utf-8") as file:
-        text = file.read()
-    before, rest = text.split(BEGIN)
-    made = f"{before}{BEGIN}\n{tables(rows)}\n{END}{rest.split(END)[1]}"
+    # in the order of crates.txt
+    rows = {crate: rows_of(crate) for crate in re.findall(r"^(\w+)[ :]", text_of("crates.txt"), re.M)}
+    faults = [fault for crate, own in rows.items() for fault in faults_of(crate, own)]
+    text = text_of(DOCUMENT)
+    made = MADE.sub(lambda _: tables(rows), text)
     if "--docs" in words:
-        with open(DOCUMENT, "w", encoding="utf-8") as file:
+        with open(os.path.join(REPO, DOCUMENT), "w", encoding="utf-8") as file:
             file.write(made)
     elif made != text:
-        wrong.append("docs/PROOFS.md: the tables of promises are stale; scripts/promises.py --docs makes them anew")
-    for fault in wrong:
-        print(fault)
+        faults.append("docs/PROOFS.md: the tables of promises are stale; scripts/promises.py --docs makes them anew")
     promises, edits = sum(map(len, rows.values())), sum(len(edits_of(crate)) for crate in rows)
-    print(f"{'FAIL' if wrong else 'ok  '}  docs/PROOFS.md: {promises} promises, {edits} edits, {len(wrong)} faults")
-    return len(wrong)
+    return report(f"docs/PROOFS.md: {promises} promises, {edits} edits", faults)
 
 
 if __name__ == "__main__":

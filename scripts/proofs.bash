@@ -35,33 +35,24 @@ copy_crates() {
   tar -c -C "$repository" --exclude=out --exclude=must-fail HANDLES "${names[@]}" | tar -x -C "$copy"
 }
 
-# keeps_proofs: whether the kit keeps what a run of `rt ci` has passed, for runs over other copies too, in a
-# folder of this user next to the kit. Such a kit accepts names of crates.
+# keeps_proofs: whether this user may write where the kit keeps what a run of `rt ci` has passed, for other copies too.
 keeps_proofs() {
   local beside
   beside=$(dirname "$(dirname "$(rt doc)")")
-  [[ $(rt help 2>&1) == *"rt ci NAME"* ]] && { [ -O "$beside/rattle-kept" ] || [ -w "$beside" ]; }
+  [ -O "$beside/rattle-kept" ] || [ -w "$beside" ]
 }
 
-# shown COUNT: passes the lines of `rt ci` on to a log, and reports how many of COUNT crates are proved after
-# which time, at each crate and at least once a minute.
+# shown COUNT: passes the lines of `rt ci` on to a log, and reports at each crate how many of COUNT are proved after which
+# time.
 shown() {
-  local line status proved=0
-  while { status=0; IFS= read -r -t 60 line || status=$?; [ "$status" -ne 1 ]; }; do
-    if [ "$status" -ne 0 ]; then
-      # no whole line came for a minute
-      printf '%s' "$line"
-      told "$proved of $1 crates proved, the next are in work"
-      continue
-    fi
+  local line proved=0
+  while IFS= read -r line; do
     printf '%s\n' "$line"
-    if [[ $line =~ ^rt:\ ([a-z_]+)\ (proved$|is\ kept) ]]; then
-      proved=$((proved + 1))
-      told "$proved of $1 crates proved: ${BASH_REMATCH[1]}"
-    fi
+    [[ $line =~ ^rt:\ ([a-z_]+)\ (proved$|is\ kept) ]] || continue
+    proved=$((proved + 1))
+    printf '%3d:%02d  %d of %d crates proved: %s\n' $((SECONDS / 60)) $((SECONDS % 60)) $proved "$1" "${BASH_REMATCH[1]}" >&3
   done
 }
-told() { printf '%3d:%02d  %s\n' $((SECONDS / 60)) $((SECONDS % 60)) "$1" >&3; }
 
 # prove COPY: runs `rt ci` over the copy, which leaves the libraries and programs in its crates/*/out. If it
 # fails, all its output is shown.
@@ -71,8 +62,7 @@ prove() {
     # Nearly all crates wait for the engine, and it waits for a chain of others. A separate run comes first and
     # gives each of these more processors than they would have among all crates; the other run takes what it has
     # proved.
-    copy_crates "$copy-engine" twkb_engine
-    (cd "$copy-engine" && exec rt ci) > "$copy-engine.log" 2>&1 &
+    (cd "$copy" && exec rt ci twkb_engine) > "$copy-engine.log" 2>&1 &
     engine=$!
     sleep 5
   fi
@@ -100,6 +90,15 @@ take() {
     # by links if both are on one disk: `rt` never writes into a library
     cp -al "$PROVED/crates/$name/out/rlib" "$1/crates/$name/out/" 2> /dev/null || cp -a --remove-destination "$PROVED/crates/$name/out/rlib" "$1/crates/$name/out/"
   done
+}
+
+# uses CRATE: prints the crates that a crate uses.
+uses() { sed -n "s/^$1\( staticlib\)\?: *//p" "$repository/crates.txt"; }
+
+# add_crate COPY CRATE: copies one more crate over these libraries.
+add_crate() {
+  grep "^$2[ :]" "$repository/crates.txt" >> "$1/crates.txt"
+  tar -c -C "$repository" --exclude=out --exclude=must-fail "crates/$2" | tar -x -C "$1"
 }
 
 # over COPY CRATE VERB: runs `rt lib` or `rt run` of one more crate over these libraries. What it checks stays in out/checked, so

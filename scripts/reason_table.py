@@ -1,9 +1,9 @@
 """The table of reasons and statuses, scripts/reasons.txt, for the scripts that make places of it and compare others with it."""
-import os
 import re
 from typing import NamedTuple
 
-REPO = os.path.abspath(os.path.join(os.path.dirname(__file__), ".."))
+from pages import text_of
+
 BUFFER = "crates/twkb_buffer"
 # the names that rules of rows and the command have for a reason or a status, where these are others
 OTHERS = {
@@ -25,11 +25,6 @@ class Row(NamedTuple):
         """The line with these words in it."""
         where, _, place = self.said.get("formats", "").partition(" | ")
         return line.format(**self._asdict(), **self.said, where=where, place=place)
-
-
-def text_of(file):
-    with open(os.path.join(REPO, file), encoding="utf-8") as opened:
-        return opened.read()
 
 
 def table():

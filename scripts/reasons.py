@@ -6,7 +6,6 @@
 Without --write each place that differs is reported: one that lacks a reason, has one too many, or has another number,
 name or text. What is compared and not made is in scripts/reason_numbers.py, the table's form in scripts/reason_table.py.
 """
-import argparse
 import difflib
 import os
 import re
@@ -15,7 +14,8 @@ import textwrap
 from typing import NamedTuple
 
 import reason_numbers
-from reason_table import BUFFER, OTHERS, REPO, of_kind, own, table, text_of
+from pages import REPO, report, text_of
+from reason_table import BUFFER, OTHERS, of_kind, own, table
 
 # the type of each kind of reason in the code, the name that definitions use for it, and the function of its number
 TYPES = {"row": "RowReason", "polyline": "PolyReason", "blob": "BlobReason"}
@@ -241,17 +241,12 @@ def difference(wanted, found):
 def compare(rows):
     """Reports each place that differs, and returns how many do."""
     compared = [*made(rows), *reason_numbers.compared(rows)]
-    wrong = [place for place in compared if place[1] != place[2]]
-    for place, wanted, found in wrong:
-        print(f"FAIL  {place}: {difference(wanted, found)}")
-    print(f"{'FAIL' if wrong else 'ok  '}  scripts/reasons.txt: {len(compared)} comparisons, {len(wrong)} differ")
-    return len(wrong)
+    faults = [f"{place}: {difference(wanted, found)}" for place, wanted, found in compared if wanted != found]
+    return report(f"scripts/reasons.txt: {len(compared)} comparisons", faults)
 
 
 def main(words=()):
-    parser = argparse.ArgumentParser(description="Makes or compares what is said of reasons in many places.")
-    parser.add_argument("--write", action="store_true", help="write the places that are made from the table")
-    if parser.parse_args(words).write:
+    if "--write" in words:
         print(f"{write(table())} places written")
     return compare(table())
 

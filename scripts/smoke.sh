@@ -1,6 +1,6 @@
 #!/usr/bin/env bash
-# The built program with real files and pipes: one line for each check; status 1 where one failed. MEGABYTES is
-# the size of the large table, 200 by default. The checks on a terminal need python3, and are skipped without it.
+# The built program with real files and pipes: one line for each check; status 1 if one failed. MEGABYTES is the size of
+# the large table, 200 by default.
 # shellcheck source=scripts/checks.bash
 source "$(dirname "$0")/checks.bash"
 
@@ -8,75 +8,44 @@ program=$PWD/bin/polytwkb
 megabytes=${MEGABYTES:-200}
 peak_allowed=16384 # kB
 header=depth,kind,id,precision,polyline
-for tool in "$program" awk cmp od perl timeout; do
+for tool in "$program" awk cmp od perl python3 timeout; do
   is_there "$tool" || { echo "smoke: $tool is not there" >&2; exit 1; }
 done
 # the commands, and those of them that read a stream
-commands=$("$program" -h | sed -n '/^Commands:/,/^$/s/^  \([a-z]*\) .*/\1/p')
-readers=${commands/pack/}
+mapfile -t commands < <("$program" -h | sed -n '/^Commands:/,/^$/s/^  \([a-z]*\) .*/\1/p')
+mapfile -t readers < <(printf '%s\n' "${commands[@]}" | grep -vx pack)
 
-# result NAME [FAULT]: prints the line of a check, which passed if no fault is given.
-result() {
-  if [ -z "${2:-}" ]; then passed "$1"; else failed "$1: $2"; fi
-}
-
-# ends STATUS LINE NAME COMMAND..: checks the command's status, and that standard error is this line and nothing else.
+# ends STATUS OUT ERR NAME COMMAND..: checks the command's status, and what it prints to each device: a file with this
+# path, this line or nothing, or `some` or `any` text.
 ends() {
-  local status=$1 line=$2 name=$3 answer
-  shift 3
+  local status=$1 out=$2 err=$3 name=$4 answer
+  shift 4
   "$@" > "$work/out" 2> "$work/err"
   answer=$?
   if [ "$answer" -ne "$status" ]; then
-    result "$name" "status $answer in place of $status"
-  elif ! printf '%s' "${line:+$line$'\n'}" | cmp -s - "$work/err"; then
-    result "$name" "standard error is $(head -c 200 "$work/err" | tr '\n' '/')"
+    failed "$name: status $answer in place of $status; standard error is $(shown "$work/err")"
+  elif ! is_printed "$out" "$work/out"; then
+    failed "$name: standard output is $(shown "$work/out")"
+  elif ! is_printed "$err" "$work/err"; then
+    failed "$name: standard error is $(shown "$work/err")"
   else
-    result "$name"
+    passed "$name"
   fi
+}
+shown() { head -c 200 "$1" | cat -v | tr '\n' '/'; }
+is_printed() {
+  case $1 in
+    any) ;;
+    some) [ -s "$2" ] ;;
+    /*) cmp -s "$1" "$2" ;;
+    *) printf '%s' "${1:+$1$'\n'}" | cmp -s - "$2" ;;
+  esac
 }
 
-# same FILE NAME COMMAND..: checks that the command succeeds and writes these bytes.
-same() {
-  local file=$1 name=$2
-  shift 2
-  if ! "$@" > "$work/out" 2> "$work/err"; then
-    result "$name" "it failed: $(head -c 200 "$work/err" | tr '\n' '/')"
-  elif ! cmp -s "$file" "$work/out"; then
-    result "$name" "other bytes"
-  else
-    result "$name"
-  fi
-}
-
-# refuses_words NAME WORD..: checks for status 2, a text on standard error, and nothing on standard output.
-refuses_words() {
-  local name=$1 answer
-  shift
-  "$program" "$@" < "$work/point.csv" > "$work/out" 2> "$work/err"
-  answer=$?
-  if [ "$answer" -ne 2 ]; then
-    result "$name" "status $answer in place of 2"
-  elif [ -s "$work/out" ]; then
-    result "$name" "something on standard output"
-  elif [ ! -s "$work/err" ]; then
-    result "$name" "nothing on standard error"
-  else
-    result "$name"
-  fi
-}
-
-# prints NAME WORD..: checks for status 0, a text on standard output, and nothing on standard error.
-prints() {
-  local name=$1 answer
-  shift
-  "$program" "$@" < /dev/null > "$work/out" 2> "$work/err"
-  answer=$?
-  if [ "$answer" -ne 0 ] || [ ! -s "$work/out" ] || [ -s "$work/err" ]; then
-    result "$name" "status $answer, $(wc -c < "$work/out") bytes out, $(wc -c < "$work/err") bytes of errors"
-  else
-    result "$name"
-  fi
-}
+# A refused input and a failing device, of which standard error has this line, and a run that prints a file.
+refused() { ends 1 any "$@"; }
+fails() { ends 3 any "$@"; }
+same() { ends 0 "$1" any "${@:2}"; }
 
 # repeated COUNT FILE: prints the file COUNT times.
 repeated() {
@@ -112,11 +81,12 @@ function spelled(number, text, unit) {
 
 # ---- round trips
 
+collection=$PWD/examples/collection.csv
 through() { "$program" pack "${@:2}" < "$1" | "$program" unpack; }
 back() { "$program" unpack < "$1" | "$program" pack; }
 
-same examples/collection.csv "examples/collection.csv is packed and unpacked" through examples/collection.csv
-same examples/collection.csv "so it is with --style plain" through examples/collection.csv --style plain
+same "$collection" "examples/collection.csv is packed and unpacked" through "$collection"
+same "$collection" "so it is with --style plain" through "$collection" --style plain
 same "$work/point.twkb" "a blob is unpacked and packed" back "$work/point.twkb"
 same "$work/rows.csv" "1 MB of points is packed and unpacked" through "$work/rows.csv"
 
@@ -146,7 +116,7 @@ blobs_of_others() {
   done 3< crates/vectors/stdout
   [ "$count" -gt 0 ] || echo "no blobs"
 }
-result "the blobs of crates/vectors are shown, unpacked and packed" "$(blobs_of_others 2>&1 | head -n 1)"
+ends 0 "" "" "the blobs of crates/vectors are shown, unpacked and packed" blobs_of_others
 
 # ---- devices that fail
 
@@ -160,19 +130,19 @@ help_to_full_disk() { "$program" --help > /dev/full; }
 from_directory() { "$program" "$1" < .; }
 from_no_input() { "$program" "$1" <&-; }
 
-for command in $commands; do
+for command in "${commands[@]}"; do
   small=$work/point.twkb
   large=$work/rows.twkb
   if [ "$command" = pack ]; then small=$work/point.csv large=$work/rows.csv; fi
-  ends 3 "$write_fault" "$command to a full disk, a few bytes" to_full_disk "$command" "$small"
-  ends 3 "$write_fault" "$command to a full disk, many bytes" to_full_disk "$command" "$large"
-  ends 3 "$write_fault" "$command to a closed pipe" to_closed_pipe "$command" "$large"
-  ends 3 "$read_fault" "$command from a directory" from_directory "$command"
-  ends 3 "$read_fault" "$command without an input" from_no_input "$command"
-  ends 3 "$write_fault" "$command without an output" to_no_output "$command" "$small"
+  fails "$write_fault" "$command to a full disk, a few bytes" to_full_disk "$command" "$small"
+  fails "$write_fault" "$command to a full disk, many bytes" to_full_disk "$command" "$large"
+  fails "$write_fault" "$command to a closed pipe" to_closed_pipe "$command" "$large"
+  fails "$read_fault" "$command from a directory" from_directory "$command"
+  fails "$read_fault" "$command without an input" from_no_input "$command"
+  fails "$write_fault" "$command without an output" to_no_output "$command" "$small"
 done
-ends 1 "" "a full disk behind standard error changes no status" refused_to_full_disk
-ends 0 "" "help to a full disk has status 0" help_to_full_disk
+refused "" "standard error on a full disk changes no status" refused_to_full_disk
+ends 0 "" "" "help to a full disk has status 0" help_to_full_disk
 
 # from_open_pipe COMMAND FILE: gives a command the bytes of a file, from a pipe that stays open after them.
 from_open_pipe() {
@@ -188,10 +158,10 @@ from_open_pipe() {
 }
 printf '%s\n0,point,,0,AC\n0,pont,,0,\n' "$header" > "$work/refused.csv"
 printf '\001\010\001' > "$work/refused.twkb"
-ends 1 "polytwkb: record 3: unknown kind" "pack from a pipe that stays open ends at a refused row" \
+refused "polytwkb: record 3: unknown kind" "pack from a pipe that stays open ends at a refused row" \
   from_open_pipe pack "$work/refused.csv"
-for command in $readers; do
-  ends 1 "polytwkb: byte 2: extra dimensions" "$command from a pipe that stays open ends at a refused byte" \
+for command in "${readers[@]}"; do
+  refused "polytwkb: byte 2: extra dimensions" "$command from a pipe that stays open ends at a refused byte" \
     from_open_pipe "$command" "$work/refused.twkb"
 done
 
@@ -203,13 +173,13 @@ table_without_end() { { echo "$header"; yes 0,point,,0,AC 2> /dev/null; } | time
 no_table="polytwkb: record 1: bad header"
 no_blob="polytwkb: byte 0: unknown type"
 
-ends 1 "$no_table" "pack of a text without end" all_of_yes pack
-ends 1 "$no_table" "pack of a text without end, cut" front_of_yes pack
-for command in $readers; do
-  ends 1 "$no_blob" "$command of a text without end" all_of_yes "$command"
-  ends 1 "$no_blob" "$command of a text without end, cut" front_of_yes "$command"
+refused "$no_table" "pack of a text without end" all_of_yes pack
+refused "$no_table" "pack of a text without end, cut" front_of_yes pack
+for command in "${readers[@]}"; do
+  refused "$no_blob" "$command of a text without end" all_of_yes "$command"
+  refused "$no_blob" "$command of a text without end, cut" front_of_yes "$command"
 done
-ends 3 "$write_fault" "pack of a table without end, its output cut" table_without_end
+fails "$write_fault" "pack of a table without end, its output cut" table_without_end
 yes 0102020402 | head -n 200000 | from_hex > "$work/expected"
 same "$work/expected" "and what was written before is right" cat "$work/front"
 
@@ -220,34 +190,27 @@ empty_table() { "$program" pack < /dev/null; }
 cut_polyline() { printf '%s\n0,point,,0,AC\n0,point,,0,A_\n' "$header" | "$program" pack; }
 cut_blob() { printf '\001\002\002\004\002\001\002' | "$program" "$1"; }
 
-ends 1 "$no_table" "a table without its header" without_header
-ends 1 "$no_table" "an empty table" empty_table
-ends 1 "polytwkb: record 3: polyline at 1: number cut short" "a polyline that is cut" cut_polyline
-ends 1 "polytwkb: byte 7: truncated" "unpack of a blob that is cut" cut_blob unpack
-ends 1 "polytwkb: byte 7: truncated" "show of a blob that is cut" cut_blob show
+refused "$no_table" "a table without its header" without_header
+refused "$no_table" "an empty table" empty_table
+refused "polytwkb: record 3: polyline at 1: number cut short" "a polyline that is cut" cut_polyline
+refused "polytwkb: byte 7: truncated" "unpack of a blob that is cut" cut_blob unpack
+refused "polytwkb: byte 7: truncated" "show of a blob that is cut" cut_blob show
 
 # ---- words
 
-ends 2 "polytwkb: a word is not UTF-8" "a word that is not UTF-8" "$program" $'\xff'
-ends 2 "polytwkb: a word is not UTF-8" "an option that is not UTF-8" "$program" pack --style $'\xff'
-refuses_words "no subcommand"
-refuses_words "an unknown subcommand" repack
-refuses_words "no subcommand help" help
-refuses_words "an unknown option" --verbose
-refuses_words "an unknown option of pack" pack --verbose
-refuses_words "an option without its number" pack --max-nest
-refuses_words "--max-nest 33" pack --max-nest 33
-refuses_words "--max-nest -1" unpack --max-nest -1
-refuses_words "--style thin" pack --style thin
-refuses_words "--style of unpack" unpack --style plain
-refuses_words "a file's name" pack examples/collection.csv
-prints "--help" --help
-prints "-h" -h
-prints "--version" --version
-prints "-V" -V
-for command in $commands; do prints "$command --help" "$command" --help; done
-version_line() { [ "$("$program" --version)" = "polytwkb $(sed -n 's/^pub const VERSION: &str = "\(.*\)";$/\1/p' crates/twkb_convert/src/version.rt)" ]; }
-ends 0 "" "--version is the version of the source" version_line
+ends 2 "" "polytwkb: a word is not UTF-8" "a word that is not UTF-8" "$program" $'\xff'
+ends 2 "" "polytwkb: a word is not UTF-8" "an option that is not UTF-8" "$program" pack --style $'\xff'
+for words in "" repack help --verbose "pack --verbose" "pack --max-nest" "pack --max-nest 33" "unpack --max-nest -1" \
+  "pack --style thin" "unpack --style plain" "pack examples/collection.csv"; do
+  read -ra list <<< "$words"
+  ends 2 "" some "refused: polytwkb $words" "$program" "${list[@]}" < "$work/point.csv"
+done
+for words in --help -h -V "${commands[@]/%/ --help}"; do
+  read -ra list <<< "$words"
+  ends 0 some "" "printed: polytwkb $words" "$program" "${list[@]}" < /dev/null
+done
+version=$(sed -n 's/^pub const VERSION: &str = "\(.*\)";$/\1/p' crates/twkb_convert/src/version.rt)
+ends 0 "polytwkb $version" "" "--version is the version of the source" "$program" --version
 
 # ---- a large table: the output is that of its parts, joined, and memory stays flat
 
@@ -276,31 +239,23 @@ measured() {
 flat() { # NAME: checks that the measured peak is small enough
   local peak
   peak=$(cat "$work/peak")
-  if [ "$peak" -gt 0 ] && [ "$peak" -lt "$peak_allowed" ]; then
-    result "$1: $peak kB"
-  else
-    result "$1" "$peak kB"
-  fi
+  if [ "$peak" -gt 0 ] && [ "$peak" -lt "$peak_allowed" ]; then passed "$1: $peak kB"; else failed "$1: $peak kB"; fi
 }
 
 pack_large() { large_table | measured pack | cmp -s - <(large_stream); }
 unpack_large() { large_stream | measured unpack | cmp -s - <(large_table); }
-ends 0 "" "pack of a table of $megabytes MB" pack_large
+ends 0 any "" "pack of a table of $megabytes MB" pack_large
 flat "its peak memory"
-ends 0 "" "unpack to a table of $megabytes MB" unpack_large
+ends 0 any "" "unpack to a table of $megabytes MB" unpack_large
 flat "its peak memory"
 
 # ---- a terminal
 
-if is_there python3; then
-  same "$work/point.twkb" "pack on a terminal: one end is enough, and what is typed behind it stays" \
-    scripts/on_terminal.py "$work/point.csv" "$program" pack
-  echo "$header" > "$work/expected"
-  : > "$work/empty"
-  same "$work/expected" "unpack on a terminal: the same" scripts/on_terminal.py "$work/empty" "$program" unpack
-  same "$work/empty" "show on a terminal: the same" scripts/on_terminal.py "$work/empty" "$program" show
-else
-  skip "the checks on a terminal need python3"
-fi
+same "$work/point.twkb" "pack on a terminal: one end is enough, and what is typed after it stays" \
+  scripts/on_terminal.py "$work/point.csv" "$program" pack
+echo "$header" > "$work/expected"
+: > "$work/empty"
+same "$work/expected" "unpack on a terminal: the same" scripts/on_terminal.py "$work/empty" "$program" unpack
+same "$work/empty" "show on a terminal: the same" scripts/on_terminal.py "$work/empty" "$program" show
 
 passed_all

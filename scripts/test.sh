@@ -15,35 +15,22 @@ parts="lint smoke completions fuzz library databases machines documents dist hos
 work=$(mktemp -d)
 trap 'rm -rf "$work"' EXIT
 
-# The tools that the parts need, and the package that brings each. A name with * stands for any file of that form.
-# There is no sshd among them, which would let others in.
+# The packages of the tools that the parts need and that are not there. Most have the tool's name; for the others the list
+# has a tool or a file, with * for any text. There is no sshd among them, which would let others in.
 lacking() {
   local tool package
+  for tool in make pkg-config lintian shellcheck pyflakes3 mypy valgrind zsh fish sqlite3 jq xxd parallel pv chromium firefox-esr esbuild debootstrap; do
+    command -v "$tool" > /dev/null || echo "$tool"
+  done
   while read -r tool package; do
     compgen -G "$tool" > /dev/null || command -v "$tool" > /dev/null || echo "$package"
   done << 'END'
-make make
 cc gcc
 /usr/include/stdio.h libc6-dev
-pkg-config pkg-config
 dpkg-deb dpkg
-lintian lintian
-shellcheck shellcheck
-pyflakes3 pyflakes3
-mypy mypy
-valgrind valgrind
 /usr/share/python-wheels python3-venv
-zsh zsh
-fish fish
-sqlite3 sqlite3
 /usr/include/sqlite3ext.h libsqlite3-dev
-jq jq
-xxd xxd
-parallel parallel
 node nodejs
-chromium chromium
-firefox-esr firefox-esr
-esbuild esbuild
 wasm-validate wabt
 tsc node-typescript
 /usr/share/javascript/leaflet libjs-leaflet
@@ -52,7 +39,6 @@ tsc node-typescript
 /usr/lib/python3/dist-packages/shapely python3-shapely
 /usr/lib/python3/dist-packages/geopandas python3-geopandas
 /usr/lib/python3/dist-packages/distributed python3-distributed
-pv pv
 /usr/share/postgresql/*/extension/postgis.control postgresql-postgis
 /usr/include/postgresql/15/server/postgres.h postgresql-server-dev-15
 ogr2ogr gdal-bin
@@ -60,7 +46,6 @@ go golang-go
 aarch64-linux-gnu-gcc gcc-aarch64-linux-gnu
 /usr/aarch64-linux-gnu/include/stdio.h libc6-dev-arm64-cross
 qemu-aarch64-static qemu-user-static
-debootstrap debootstrap
 END
 }
 
@@ -117,8 +102,7 @@ lint() { scripts/lint.sh; }
 smoke() { MEGABYTES=${MEGABYTES:-50} scripts/smoke.sh; }
 completions() { scripts/completions_test.sh; }
 fuzz() {
-  local cases=${CASES:-20000}
-  if lacks "reading in pieces" make cc; then tests/fuzz/fuzz.py --cases "$cases" --seed "$seed"; else make -s fuzz CASES="$cases" SEED="$seed"; fi
+  if lacks "reading in pieces" make cc; then tests/fuzz/fuzz.py --cases "$cases" --seed "$seed"; else make -s fuzz "${random[@]}"; fi
 }
 hostile() {
   if lacks "calls that fail in turn" make cc; then tests/hostile/sizes.py bin/polytwkb; else make -s hostile; fi
@@ -138,11 +122,8 @@ machines() {
     fi
   done
 }
-javascript() { lacks JavaScript make cc node || make -s wasm-test CASES="${CASES:-20000}" SEED="$seed"; }
-databases() {
-  lacks "SQLite and PostgreSQL" make cc && return
-  make -s databases-test CASES="${CASES:-20000}" SEED="$seed"
-}
+javascript() { lacks JavaScript make cc node || make -s wasm-test "${random[@]}"; }
+databases() { lacks "SQLite and PostgreSQL" make cc || make -s databases-test "${random[@]}"; }
 dist() { lacks dist make cc dpkg-deb || make -s dist-test; }
 arm64() {
   lacks "64-bit ARM" make cc aarch64-linux-gnu-gcc qemu-aarch64-static && return
@@ -158,7 +139,7 @@ library() {
   if command -v go > /dev/null; then echo "ok    the library in Go"; fi
   make -s python-test || return 1
   echo "ok    the package for Python"
-  make -s fuzz-library CASES="${CASES:-20000}" SEED="$seed" || return 1
+  make -s fuzz-library "${random[@]}" || return 1
   lacks "memory of the library" valgrind || return 0
 }
 
@@ -184,10 +165,7 @@ part() {
 }
 
 # lane NAME..: runs parts one after the other.
-lane() {
-  local name
-  for name in "$@"; do part "$name"; done
-}
+lane() { for name in "$@"; do part "$name"; done; }
 
 # programs_for_arm64: makes the command, and then vectors, which the tests alone need, and whose proof is long. Who needs
 # one of them too waits for its lock, so that it is made once.
@@ -203,7 +181,8 @@ status=$?
 wait
 if [ $status -eq 0 ]; then
   [ -z "$(lacking)" ] || echo "not there: $(lacking | tr '\n' ' ')(see what is skipped below)"
-  seed=$(date -u +%Y%m%d)
+  cases=${CASES:-20000} seed=$(date -u +%Y%m%d)
+  random=(CASES="$cases" SEED="$seed")
   echo "fuzz: seed $seed"
   make -s bin/refuse.so > /dev/null 2>&1
   lane smoke completions lint &

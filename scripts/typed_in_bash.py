@@ -1,9 +1,6 @@
 #!/usr/bin/env python3
-"""Types lines into bash on a terminal, each with a tab at its end, and prints what each line is then.
-
-    scripts/typed_in_bash.py COMPLETION LINE ..
-
-COMPLETION is a script for bash, which is read first. The folder is the current one. Status 1 if bash does not answer.
+"""Types lines into bash on a terminal, each with a tab at its end, and compares what each line is then: commands, values
+after an equals sign, and names of files after a redirection. Status 1 if one differs, or if bash does not answer.
 """
 import fcntl
 import os
@@ -12,12 +9,22 @@ import re
 import select
 import struct
 import sys
+import tempfile
 import termios
 import time
 
+COMPLETION = os.path.abspath(os.path.join(os.path.dirname(__file__), "..", "completions", "polytwkb.bash"))
 SECONDS = 60
 # bash prints the line between these marks.
 MARK = "@@"
+# The names are prefixes of one another, and one has a blank.
+FILES = ["table.csv", "tablex.csv", "tablexyz.csv", "two words.csv"]
+# Each line, and what the tab adds to it.
+TYPED = {
+    "polytwkb pack < tab": "le", "polytwkb pack < tablexy": "z.csv ", "polytwkb pack <tablexy": "z.csv ", "polytwkb pack < two": r"\ words.csv ",
+    "polytwkb pack < table.csv > tablexy": "z.csv ", "polytwkb show 2> tablexy": "z.csv ", "polytwkb unpack >> tablexy": "z.csv ",
+    "polytwkb pack < table.csv --sty": "le ", "polytwkb pack --style=f": "ull ",
+}
 
 
 def read_until(terminal, text):
@@ -39,19 +46,25 @@ def completed(terminal, line):
 
 
 def main():
-    child, terminal = pty.fork()
-    if child == 0:
-        os.environ.update(PS1="$ ", TERM="dumb", INPUTRC="/dev/null", HISTFILE="")
-        os.execvp("bash", ["bash", "--norc", "--noprofile", "-i"])
-    # a long line is not cut
-    fcntl.ioctl(terminal, termios.TIOCSWINSZ, struct.pack("HHHH", 50, 500, 0, 0))
-    os.write(terminal, f"bind 'set enable-bracketed-paste off'; source {sys.argv[1]}; echo rea''dy\r".encode())
-    read_until(terminal, "ready\r\n")
-    for line in sys.argv[2:]:
-        print(completed(terminal, line))
-    os.write(terminal, b"exit\r")
-    os.close(terminal)
-    os.waitpid(child, 0)
+    with tempfile.TemporaryDirectory() as folder:
+        for name in FILES:
+            open(os.path.join(folder, name), "w", encoding="utf-8").close()
+        child, terminal = pty.fork()
+        if child == 0:
+            os.chdir(folder)
+            os.environ.update(PS1="$ ", TERM="dumb", INPUTRC="/dev/null", HISTFILE="")
+            os.execvp("bash", ["bash", "--norc", "--noprofile", "-i"])
+        # a long line is not cut
+        fcntl.ioctl(terminal, termios.TIOCSWINSZ, struct.pack("HHHH", 50, 500, 0, 0))
+        os.write(terminal, f"bind 'set enable-bracketed-paste off'; source {COMPLETION}; echo rea''dy\r".encode())
+        read_until(terminal, "ready\r\n")
+        found = [completed(terminal, line) for line in TYPED]
+        os.write(terminal, b"exit\r")
+        os.close(terminal)
+        os.waitpid(child, 0)
+    wrong = [line for line, (typed, added) in zip(found, TYPED.items()) if line != typed + added]
+    print("".join(f"the tab makes {line!r}\n" for line in wrong), end="")
+    return 1 if wrong else 0
 
 
-main()
+sys.exit(main())

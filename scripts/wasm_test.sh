@@ -11,18 +11,6 @@ cases=${1:-20000}
 seed=${2:-$(date -u +%Y%m%d)}
 export PYTHONDONTWRITEBYTECODE=1 REPO=$PWD
 
-# result NAME COMMAND..: prints the line of a check, with the last line that the command says, or all if it fails.
-result() {
-  local name=$1
-  shift
-  if "$@" > "$work/said" 2>&1; then
-    passed "$name: $(tail -n 1 "$work/said")"
-  else
-    failed "$name"
-    tail -n 40 "$work/said"
-  fi
-}
-
 # Each test of Node's runner as a line.
 node_tests() {
   node --test --test-reporter=tap js/tests/*.test.mjs > "$work/tap"
@@ -37,7 +25,7 @@ made_again() {
   packaging/wasm/build.sh out/libpolytwkb.bc "$work" all && cmp js/polytwkb.wasm "$work/polytwkb.wasm" &&
     echo "$(wc -c < js/polytwkb.wasm) bytes, $(gzip -9 < js/polytwkb.wasm | wc -c) compressed"
 }
-valid() { wasm-validate "$work/polytwkb.wasm" && wasm-validate "$work/plain.wasm" && echo "valid"; }
+valid() { wasm-validate "$work/polytwkb.wasm" && wasm-validate "$work/plain.wasm"; }
 fuzz() {
   # older versions need a flag for a memory of 64 bits, which newer ones refuse
   local wide=--experimental-wasm-memory64
@@ -67,7 +55,7 @@ engines() {
       --target="$target" --outfile="$work/engines/$target.js" || return 1
   done
   cmp "$work/engines/"*.js && grep -q 'Node from 20, Chromium and Edge from 91, Firefox from 89 and Safari from 16.4' js/README.md &&
-    grep -q 'Chromium and Edge 91, Firefox 89, Safari 16.4, Node 20' js/polytwkb.d.ts && echo "nothing is newer"
+    grep -q 'Chromium and Edge 91, Firefox 89, Safari 16.4, Node 20' js/polytwkb.d.ts
 }
 # What a caller of CommonJS reads.
 required() {
@@ -76,33 +64,26 @@ required() {
     said=$(cd "$work/required" && node -e 'try { require("polytwkb").load.call; console.log("it is there") } catch (fault) { console.log(fault.message) }') || return 1
   [[ $said == "it is there" || $said == "polytwkb is an ES module: use import, or await import('polytwkb')" ]] && echo "$said"
 }
-typed() {
-  tsc --noEmit --strict --target es2022 --module es2022 --moduleResolution node --lib es2022,dom js/tests/types.ts &&
-    echo "strict"
-}
+typed() { tsc --noEmit --strict --target es2022 --module es2022 --moduleResolution node --lib es2022,dom js/tests/types.ts; }
 
 if ! is_there node || [ "$(node -p 'process.versions.node.split(".")[0]')" -lt 20 ]; then
   skip "JavaScript: node 20 is not there"
   exit 0
 fi
-result "module: made again, the same bytes" made_again
-result "module: the steps that make it" packaging/wasm/steps_test.py
-if is_there wasm-validate; then result "module: wabt takes it" valid; else skip "module: wasm-validate is not there"; fi
+told "module: made again, the same bytes" made_again
+told "module: the steps that make it" packaging/wasm/steps_test.py
+needing wasm-validate "module: wabt takes it" valid
 node_tests
-result "module and package: random calls as the native library, seed $seed" fuzz
-result "memory: the heap beside a model" node js/tests/heap.mjs "$work/heap.wasm"
-result "memory: the same with 20 pages" node --wasm-max-mem-pages=20 js/tests/heap.mjs "$work/heap.wasm"
-result "memory: each growth refused" node js/tests/growth.mjs js/polytwkb.wasm
-result "memory: the package with little" node --wasm-max-mem-pages=3 js/tests/little.mjs "$work/cases"
-result "memory: 300 MB" node js/tests/large.mjs 300
-if is_there esbuild; then
-  result "bundle: by esbuild" bundled
-  result "engines: the syntax that the package asks for" engines
-else
-  skip "bundle, engines: esbuild is not there"
-fi
-result "a program that requires it" required
-if is_there tsc; then result "types: by tsc" typed; else skip "types: tsc is not there"; fi
+told "module and package: random calls as the native library, seed $seed" fuzz
+told "memory: the heap beside a model" node js/tests/heap.mjs "$work/heap.wasm"
+told "memory: the same with 20 pages" node --wasm-max-mem-pages=20 js/tests/heap.mjs "$work/heap.wasm"
+told "memory: each growth refused" node js/tests/growth.mjs js/polytwkb.wasm
+told "memory: the package with little" node --wasm-max-mem-pages=3 js/tests/little.mjs "$work/cases"
+told "memory: 300 MB" node js/tests/large.mjs 300
+needing esbuild "bundle: by esbuild" bundled
+needing esbuild "engines: the syntax that the package asks for" engines
+told "a program that requires it" required
+needing tsc "types: by tsc" typed
 in_browser chromium
 in_browser firefox-esr
 passed_all

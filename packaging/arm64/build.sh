@@ -40,8 +40,7 @@ shims() {
 
 # proved CRATE VERB: proves and builds a crate for the target, over the libraries in $work/copy.
 proved() {
-  grep "^$1[ :]" "$repository/crates.txt" >> "$work/copy/crates.txt"
-  tar -c -C "$repository" --exclude=out --exclude=must-fail "crates/$1" | tar -x -C "$work/copy"
+  add_crate "$work/copy" "$1"
   over "$work/copy" "$1" "$2"
   grep -q "^logic=proved .* target=$KIT_TARGET " "$work/copy.log" || { cat "$work/copy.log"; echo "$1 is not proved for $KIT_TARGET" >&2; return 1; }
 }
@@ -67,7 +66,7 @@ mkdir -p "$folder"
 # whole at once, since other crates may be built beside these
 install -m 644 "$work/shims.a" "$folder/shims.a.$$" && mv "$folder/shims.a.$$" "$folder/shims.a"
 # the crates that these use
-for crate in "${@:2}"; do below+=" $(sed -n "s/^$crate\( staticlib\)\?: *//p" "$repository/crates.txt")"; done
+for crate in "${@:2}"; do below+=" $(uses "$crate")"; done
 # shellcheck disable=SC2086 # names of crates
 libraries "$work/copy" $below
 export KIT_TARGET=aarch64-unknown-linux-gnu KIT_TOOLCHAIN=$work/tools KIT_SHIMS=$work/shims.a
