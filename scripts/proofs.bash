@@ -62,7 +62,8 @@ prove() {
     # Nearly all crates wait for the engine, and it waits for a chain of others. A separate run comes first and
     # gives each of these more processors than they would have among all crates; the other run takes what it has
     # proved.
-    (cd "$copy" && exec rt ci twkb_engine) > "$copy-engine.log" 2>&1 &
+    copy_crates "$copy-engine" twkb_engine
+    (cd "$copy-engine" && exec rt ci) > "$copy-engine.log" 2>&1 &
     engine=$!
     sleep 5
   fi
