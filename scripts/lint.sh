@@ -26,7 +26,8 @@ warnings() {
       -Wstrict-prototypes -Wvla -Wundef -Iinclude -Iextensions/shared "$file" || return 1
   done
 }
-typed_js() { tsc --noEmit --allowJs --checkJs --target es2022 --module esnext --moduleResolution node --lib es2022,dom "${shown[@]}"; }
+# the calls of the oldest engines that js/README.md names are those of ES2020
+typed_js() { tsc --noEmit --allowJs --checkJs --target es2020 --module esnext --moduleResolution node --lib es2020,dom "${shown[@]}"; }
 in_plain() { (cd bench/plain && "$@"); }
 
 linter "bash: shellcheck, ${#other_scripts[@]} scripts" shellcheck shellcheck --check-sourced "${other_scripts[@]}"
