@@ -46,6 +46,7 @@ const POSTED = {
 };
 
 const SHAPES = `depth,kind,id,precision,polyline
+0,point,,0,
 0,linestring,,5,yop}Gysml@lAxTfChSgKhK
 0,polygon,,0,
 1,ring,,,???wBoA??vBnA?
