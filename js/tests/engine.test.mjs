@@ -171,6 +171,22 @@ test('memory grows and is given up again', LONG, () => {
     assert.ok(rss.at(-1) < 1.5 * rss[1], said);
 });
 
+// V8 gives the module at most 100 MB, less than the first guess at the output takes.
+test('an output is counted first if there is no memory for a guess', LONG, () => {
+    const said = child(`
+        await p.load();
+        // a linestring of 500,000 points, 60 times; and one of 800,000 points whose differences have 9 bytes each
+        const short = new Uint8Array(1000005), long = new Uint8Array(5 + 18 * 800000);
+        short.set([2, 0, 0xa0, 0xc2, 0x1e]);
+        long.set([2, 0, 0x80, 0xea, 0x30]);
+        const [there, back] = [[...Array(8).fill(0x80), 0x20], [...Array(8).fill(0xff), 0x1f]];
+        for (let at = 5, way = there; at < long.length; at += 18, way = way === there ? back : there) long.set([...way, ...way], at);
+        const headers = p.show(Buffer.concat(Array(60).fill(short))), { xy } = p.read(long, { degrees: false });
+        console.log(headers.length, headers.every(header => header.points === 500000), xy.length, xy[0], xy[1599999]);
+    `, '--wasm-max-mem-pages=1600');
+    assert.equal(said, `60 true 1600000 ${2n ** 60n}n 0n\n`);
+});
+
 // V8 gives the module at most 100 MB: each call answers, is refused, or says that memory is lacking; the next works.
 test('no memory', LONG, () => {
     const said = child(`
