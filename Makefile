@@ -222,7 +222,7 @@ fuzz: build bin/refuse.so
 	nice -n 10 tests/fuzz/fuzz.py --cases $(CASES) --processes $(PROCESSES) $(if $(SEED),--seed $(SEED)) --library bin/refuse.so
 
 fuzz-library: lib
-	nice -n 10 tests/fuzz/fuzz_library.py --cases $(CASES) $(if $(SEED),--seed $(SEED)) out/libpolytwkb.so
+	tests/fuzz/fuzz_library.py --cases $(CASES) --processes $(PROCESSES) $(if $(SEED),--seed $(SEED)) out/libpolytwkb.so
 
 # The library that makes a call of the program fail.
 bin/refuse.so: tests/hostile/refuse.c

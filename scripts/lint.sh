@@ -28,6 +28,7 @@ warnings() {
       -DSECONDS=1 -DMEGABYTES=1 -DWRITTEN=1 -DROOT='"/"' -DPROGRAM='"/"' "$file" || return 1
   done
 }
+# the calls of the oldest engines that js/README.md names are those of ES2020
 typed_js() { tsc --noEmit --allowJs --checkJs --target es2020 --module esnext --moduleResolution node --lib es2020,dom "${shown[@]}"; }
 in_plain() { (cd bench/plain && "$@"); }
 marks_of_a_merge() { ! git grep -nE '^(<{7}|>{7})( |$)'; }

@@ -70,7 +70,7 @@ function readInto(wasm, input, most) {
 
 /** What `result` makes of the rows and points of a stream; if it is refused, of those before the fault. */
 export function found(blobs, limits, result) {
-    const input = bytesOf(blobs, 'a stream of blobs is bytes'), most = limitsOf(limits);
+    const most = limitsOf(limits), input = bytesOf(blobs, 'a stream of blobs is bytes');
     return called(wasm => {
         const { counts, found: rows } = readInto(wasm, input, most), output = result(rows);
         if (counts.status === Status.REFUSED) {

@@ -36,13 +36,13 @@ export function spelled(bytes) {
 }
 
 export function pack(table, style = 'full', limits = undefined) {
-    const form = styleOf(style), input = textOf(table, 'a table is a string or bytes'), most = limitsOf(limits);
+    const form = styleOf(style), most = limitsOf(limits), input = textOf(table, 'a table is a string or bytes');
     const call = (wasm, from, to, room) => wasm.pack(from, input.length, to, room, ...most, form);
     return converted(input, input.length + 64, call, copied);
 }
 
 function unpacked(blobs, limits, result) {
-    const input = bytesOf(blobs, 'a stream of blobs is bytes'), most = limitsOf(limits);
+    const most = limitsOf(limits), input = bytesOf(blobs, 'a stream of blobs is bytes');
     const call = (wasm, from, to, room) => wasm.unpack(from, input.length, to, room, ...most);
     return converted(input, roomOf(input), call, result);
 }
@@ -53,7 +53,7 @@ export const unpackBytes = (blobs, limits) => unpacked(blobs, limits, copied);
 
 /** What `result` makes of the lines that tell the headers of a stream. */
 export function shown(blobs, limits, result) {
-    const input = bytesOf(blobs, 'a stream of blobs is bytes'), most = limitsOf(limits);
+    const most = limitsOf(limits), input = bytesOf(blobs, 'a stream of blobs is bytes');
     const call = (wasm, from, to, room) => wasm.show(from, input.length, to, room, ...most);
     return converted(input, roomOf(input), call, result);
 }

@@ -84,7 +84,7 @@ export function viewOf(given, what) {
     throw new TypeError(`${what}, not ${kindOf(given)}`);
 }
 
-/** Bytes, to be copied into the module. */
+/** Bytes, to be copied into the module. No code of the caller's, such as a getter of limits, may run before that. */
 export function bytesOf(given, what) {
     const view = viewOf(given, what), { length } = view;
     return { length, put: at => bytesAt(at, length).set(view) };

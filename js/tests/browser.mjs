@@ -12,11 +12,11 @@ import { fileURLToPath } from 'node:url';
 import * as polytwkb from '../polytwkb.js';
 
 const [cases, folder, ...browsers] = process.argv.slice(2);
-const SECONDS = 240;
+const SECONDS = 480;
 const TOP = fileURLToPath(new URL('..', import.meta.url));
 const KINDS = { '.html': 'text/html', '.js': 'text/javascript', '.wasm': 'application/wasm', '.css': 'text/css' };
 const POINT = Buffer.from([1, 2, 2, 4, 2]);
-let told = null, held = null;
+let told = null, held = null, began = 'the start';
 
 /** A stream that is sent in pieces which end inside of blobs. */
 async function sendStream(response) {
@@ -28,16 +28,25 @@ async function sendStream(response) {
     response.end();
 }
 
-function take(request, response) {
+function take(request, response, end) {
     let body = '';
     request.on('data', data => (body += data)).on('end', () => {
         response.end();
-        held?.writeHead(204).end();
-        told(body);
+        end(body);
     });
 }
 
+/** What the page posts: the name of each test that begins, and at last the lines of all. */
+const POSTED = {
+    '/began': name => (began = name),
+    '/result': lines => {
+        held?.writeHead(204).end();
+        told(lines);
+    },
+};
+
 const SHAPES = `depth,kind,id,precision,polyline
+0,point,,0,
 0,linestring,,5,yop}Gysml@lAxTfChSgKhK
 0,polygon,,0,
 1,ring,,,???wBoA??vBnA?
@@ -68,7 +77,7 @@ function send(path, response) {
 
 const server = createServer((request, response) => {
     const path = new URL(request.url, 'http://here').pathname;
-    if (request.method === 'POST') take(request, response);
+    if (request.method === 'POST') take(request, response, POSTED[path]);
     else if (path === '/wait') held = response;
     else if (MADE[path]) MADE[path](response, path);
     else send(path, response);
@@ -94,9 +103,10 @@ async function shown(browser, url, picture) {
 
 let wrong = 0;
 for (const browser of browsers) {
+    began = 'the start';
     const result = new Promise(resolve => (told = resolve)), picture = resolve(folder, `${browser}.png`);
     const status = await shown(browser, `${base}/tests/in_browser.html`, picture);
-    const text = await Promise.race([result, `FAIL  no result: it ended with ${status}`]);
+    const text = await Promise.race([result, `FAIL  ${began}: no result, and the browser ended with ${status}`]);
     for (const line of text.split('\n')) {
         console.log(line.replace(/^(ok  |FAIL)  /, `$1  ${browser}: `));
         if (line.startsWith('FAIL')) wrong++;

@@ -157,7 +157,8 @@ test('rounding is exact', () => {
 test('numbers of any size are read exactly', () => {
     const most = 2n ** 62n - 1n;
     assert.deepEqual(decodeFlat(encode([[most, -(2n ** 62n)]])), BigInt64Array.of(most, -(2n ** 62n)));
-    assert.throws(() => decode(encode([[2n ** 53n, 0]])), RangeError);
+    for (const number of [2n ** 53n, -(2n ** 53n) - 1n]) assert.throws(() => decode(encode([[number, 0]])), RangeError);
+    assert.deepEqual(decode(encode([[-(2n ** 53n), 0]])), [[-(2 ** 53), 0]]);
     assert.deepEqual(decode(encode([[2n ** 53n - 1n, -(2n ** 53n) + 1n]])), [[2 ** 53 - 1, -(2 ** 53) + 1]]);
     assert.deepEqual(decode(encode([[most, 2n ** 53n + 1n]]), 7), [[461168601842.7387903, 900719925.4740993]]);
     assert.deepEqual(decode(encode([[12345, -5]]), -3), [[12345000, -5000]]);

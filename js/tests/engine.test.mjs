@@ -2,6 +2,7 @@
 import assert from 'node:assert/strict';
 import { execFileSync } from 'node:child_process';
 import { readFileSync } from 'node:fs';
+import { tmpdir } from 'node:os';
 import test from 'node:test';
 import { fileURLToPath } from 'node:url';
 import * as polytwkb from '../polytwkb.js';
@@ -36,6 +37,34 @@ test('before load, and a module of another version', () => {
     `), /needs the module \S+, and this one is 9\.\S+\n.*and this one is another one\ndepth,kind/);
 });
 
+test('where a module is', () => {
+    assert.match(child(`
+        import { copyFileSync, mkdtempSync, rmSync } from 'node:fs';
+        const folder = mkdtempSync('${tmpdir()}/polytwkb-'), asked = [];
+        copyFileSync('${WASM}', folder + '/other.wasm');
+        globalThis.fetch = async url => { asked.push(url.href); return { ok: false, url: url.href, status: 404, arrayBuffer() {} }; };
+        const failed = source => p.load(source).catch(fault => console.log(fault.name + ': ' + fault.message));
+        await failed(42);
+        await failed({});
+        process.chdir(folder);
+        await failed('lacking.wasm');
+        globalThis.document = { baseURI: 'https://here.example/map/index.html' };
+        await failed('a.wasm');
+        await failed('/b.wasm');
+        delete globalThis.document;
+        globalThis.location = { href: 'https://there.example/worker.js' };
+        await failed('c.wasm');
+        delete globalThis.location;
+        await p.load('other.wasm');
+        rmSync(folder, { recursive: true });
+        console.log(asked.join(' '), p.unpack(new Uint8Array()));
+    `), new RegExp([
+        'TypeError: a module is a URL, a response, bytes or compiled, not number', 'TypeError: .*, not Object',
+        'Error: polytwkb: \\S*/lacking.wasm cannot be read .*', ...Array(3).fill('Error: polytwkb: https://\\S* status 404'),
+        'https://here.example/map/a.wasm https://here.example/b.wasm https://there.example/c.wasm depth,kind',
+    ].join('\n')));
+});
+
 // It takes some 5 ms; a machine that is busy with other tests may take longer.
 test('ready soon', () => {
     const times = [1, 2, 3].map(() => Number(child(`
@@ -63,6 +92,13 @@ test('calls inside of calls', () => {
     assert.equal(encode(points, 5), encode(inner, 5));
     const limits = { get nest() { pack(HEADER); return 3; } };
     assert.equal(unpack(POINT, limits), ONE_POINT);
+});
+
+test('a buffer that is taken away while limits are asked for is refused', () => {
+    for (const call of [unpack, show, geometries, pack]) {
+        const given = POINT.slice(), limits = { get nest() { structuredClone(0, { transfer: [given.buffer] }); return 3; } };
+        assert.throws(() => call === pack ? pack(given, 'full', limits) : call(given, limits), TypeError);
+    }
 });
 
 // Each round ends the stack at other places: in the module, before it and after it.
@@ -133,6 +169,22 @@ test('memory grows and is given up again', LONG, () => {
     `, '--expose-gc');
     const rss = JSON.parse(said);
     assert.ok(rss.at(-1) < 1.5 * rss[1], said);
+});
+
+// V8 gives the module at most 100 MB, less than the first guess at the output takes.
+test('an output is counted first if there is no memory for a guess', LONG, () => {
+    const said = child(`
+        await p.load();
+        // a linestring of 500,000 points, 60 times; and one of 800,000 points whose differences have 9 bytes each
+        const short = new Uint8Array(1000005), long = new Uint8Array(5 + 18 * 800000);
+        short.set([2, 0, 0xa0, 0xc2, 0x1e]);
+        long.set([2, 0, 0x80, 0xea, 0x30]);
+        const [there, back] = [[...Array(8).fill(0x80), 0x20], [...Array(8).fill(0xff), 0x1f]];
+        for (let at = 5, way = there; at < long.length; at += 18, way = way === there ? back : there) long.set([...way, ...way], at);
+        const headers = p.show(Buffer.concat(Array(60).fill(short))), { xy } = p.read(long, { degrees: false });
+        console.log(headers.length, headers.every(header => header.points === 500000), xy.length, xy[0], xy[1599999]);
+    `, '--wasm-max-mem-pages=1600');
+    assert.equal(said, `60 true 1600000 ${2n ** 60n}n 0n\n`);
 });
 
 // V8 gives the module at most 100 MB: each call answers, is refused, or says that memory is lacking; the next works.

@@ -8,6 +8,7 @@ document.body.append(Object.assign(new Image(), { src: '/wait', hidden: true }))
 const frame = document.getElementById('page');
 const said = [];
 const HEADER = 'depth,kind,id,precision,polyline\n';
+const LONGEST = 200; // seconds that a test may take
 
 function check(name, holds, found = '') {
     said.push(holds ? `ok    ${name}` : `FAIL  ${name}: ${found}`);
@@ -107,6 +108,31 @@ async function testLarge() {
     check(name, longest < 1500 && blobs.length > 1e7);
 }
 
+/** Waits until something holds, for some seconds. */
+async function until(holds) {
+    for (let tries = 0; tries < 200 && !holds(); tries++) await new Promise(resolve => setTimeout(resolve, 50));
+    return holds();
+}
+
+/** Ten megabytes of rows, the last of which is refused: it is shown, after so long, and each other row can be scrolled to. */
+async function testLateFault() {
+    const points = Array.from({ length: 1000 }, (_, at) => [1.1e9 + 700001 * ((at * 7919) % 1000), 3e8 + 200003 * at]);
+    const rows = points.map(point => `0,point,,7,${polytwkb.encode([point])}\n`).join(''), count = 400000;
+    const table = new TextEncoder().encode(`${HEADER}${rows.repeat(count / points.length)}0,pont,,7,\n`);
+    const start = performance.now();
+    await dropped(table);
+    const took = Math.round(performance.now() - start), megabytes = (table.length / 1e6).toFixed(1), [wrong] = marks('#table .wrong');
+    const isShown = wrong === '0,pont,,7,' && textOf('#refused').includes(`record ${count + 2}: unknown kind`);
+    check(`${megabytes} MB with a fault in the last row are shown in ${took} ms`, isShown, `${wrong} ${textOf('#refused')}`);
+    const box = within('#table'), line = at => within(`#table div[data-line="${at}"]`)?.getBoundingClientRect();
+    const { top, bottom } = box.getBoundingClientRect(), sees = at => line(at)?.bottom > top && line(at)?.top < bottom;
+    check('the fault is in sight', sees(count + 1), marks('#table div'));
+    for (const [part, at] of [[0, 0], [0.5, count / 2], [1, count + 1]]) {
+        box.scrollTop = part * (box.scrollHeight - box.clientHeight);
+        check(`it scrolls to line ${at}`, await until(() => sees(at)), marks('#table div'));
+    }
+}
+
 async function testPackage() {
     await polytwkb.load();
     const comparing = new Comparing([
@@ -120,12 +146,6 @@ async function testPackage() {
     const got = [];
     for await (const part of polytwkb.stream(fetch('/stream'))) got.push(...polytwkb.geometries(part));
     check('a fetched stream comes blob by blob', got.length === 2600, got.length);
-}
-
-/** Waits until something holds, for some seconds. */
-async function until(holds) {
-    for (let tries = 0; tries < 200 && !holds(); tries++) await new Promise(resolve => setTimeout(resolve, 50));
-    return holds();
 }
 
 async function testExamples() {
@@ -146,17 +166,29 @@ async function testExamples() {
     check('the example draws on a map of Leaflet', await until(() => drawn() === 2), drawn());
 }
 
-async function main() {
-    await testPackage();
-    await started();
-    await testExample();
-    await testRefusals();
-    await testLarge();
-    await testExamples();
+/** Runs a test. One that takes too long fails by its name, which the server has if the page does not answer any more. */
+async function run(test) {
+    await fetch('/began', { method: 'POST', body: test.name });
+    let timer;
+    const late = new Promise((_, reject) => {
+        timer = setTimeout(() => reject(new Error(`${test.name} has no end after ${LONGEST} s`)), 1000 * LONGEST);
+    });
+    await Promise.race([test(), late]);
+    clearTimeout(timer);
+}
+
+async function testPicture() {
     await started();
     within('#headers div[data-line="3"]').click();
     await next(within('svg'), 'drawn');
 }
 
-await main().catch(fault => check('the tests end', false, fault.stack));
+async function main() {
+    const tests = [
+        testPackage, started, testExample, testRefusals, testLarge, testLateFault, testExamples, testPicture,
+    ];
+    for (const test of tests) await run(test);
+}
+
+await main().catch(fault => check('the tests end', false, `${fault.message} ${fault.stack}`));
 await fetch('/result', { method: 'POST', body: [...said, `# ${navigator.userAgent}`].join('\n') });

@@ -98,9 +98,18 @@ def _contiguous(view: memoryview, what: str) -> memoryview:
     return view
 
 
-def _row_of(rows: Rows, place: int) -> int:
-    """The row that has a point."""
-    return next((row for row, end in enumerate(accumulate(rows.counts)) if place < end), len(rows))
+def _place_of(rows: Rows, point: int) -> str:
+    """The row that has a point, and the number of the point in it; after the last row there may be more points."""
+    start = 0
+    for row, end in enumerate(accumulate(rows.counts)):
+        if point < end:
+            return _point_in(row, point - start)
+        start = end
+    return _point_in(len(rows), point - start)
+
+
+def _point_in(row: int, point: int) -> str:
+    return f"row {row}: point {point}"
 
 
 def _rounded(rows: Rows, degrees: array[float]) -> memoryview:
@@ -108,8 +117,7 @@ def _rounded(rows: Rows, degrees: array[float]) -> memoryview:
     try:
         return memoryview(to_units(rows, memoryview(degrees)))
     except NotFinite as fault:
-        place = fault.place // 2
-        raise ValueError(f"row {_row_of(rows, place)}: point {place}: {fault}") from None
+        raise ValueError(f"{_place_of(rows, fault.place // 2)}: {fault}") from None
 
 
 def _precisions(rows: Rows) -> Any:
@@ -142,7 +150,7 @@ def _of_pairs(rows: Rows, points: Any) -> memoryview:
         try:
             units.extend([clipped(unit(number, precision)) for number in pair])
         except (TypeError, ValueError) as fault:
-            raise placed(fault, f"row {_row_of(rows, place)}: point {place}") from None
+            raise placed(fault, _place_of(rows, place)) from None
     return memoryview(units)
 
 
@@ -176,6 +184,13 @@ def _report(rows: Rows, coordinates: memoryview, limits: CLimits, style: int) ->
     return report, memoryview(memory)[: report.sent].tobytes()
 
 
+def _where_of(report: Any) -> str:
+    """The row that is refused, and which of its points, if that is out of range."""
+    if report.reason == Reason.POINTS_LEFT:
+        return ""
+    return _point_in(report.place, report.text_offset) if report.reason == Reason.POLYLINE_RANGE else f"row {report.place}"
+
+
 def write(rows: RowsLike, points: PointsLike, style: str = "full", limits: Optional[Limits] = None) -> bytes:
     """Writes rows and their points to a stream of blobs: with sizes and boxes, or ``"plain"``, without either. What `read` gave becomes the
     canonical stream of the same geometries. `Packed` of the stream has single blobs and their places.
@@ -190,13 +205,13 @@ def write(rows: RowsLike, points: PointsLike, style: str = "full", limits: Optio
     buffer that can be written are read in place: no one may write to them meanwhile, no loop of numpy and no other process either.
 
     Raises Refused, with the row from 0 as its place, at the first row that is wrong, or if points are left over; its `output` has the
-    blobs of the complete geometries before. Raises ValueError for a coordinate that is not finite, an array that is not contiguous,
-    columns of other lengths; TypeError for other types, other shapes and masked arrays.
+    blobs of the complete geometries before. If a point of the row is out of range, `text_offset` is the first such point, from 0. Raises
+    ValueError for a coordinate that is not finite, an array that is not contiguous, columns of other lengths; TypeError for other types,
+    other shapes and masked arrays.
     """
     number, most = style_of(style), _limits(limits)
     own = _own_rows(rows)
     report, output = _report(own, _coordinates(own, points), most, number)
     if report.status == Status.REFUSED:
-        where = "" if report.reason == Reason.POINTS_LEFT else f"row {report.place}"
-        raise Refused(report.reason, where, report.place, report.text_offset, report.done, output)
+        raise Refused(report.reason, _where_of(report), report.place, report.text_offset, report.done, output)
     return output

@@ -107,12 +107,12 @@ class Writing(unittest.TestCase):
         for _ in with_each_module():
             for number in (float("nan"), float("inf"), float("-inf")):
                 for form in (array("d", [1, 1, 2, 2, 3, number]), [(1.0, 1), (2, 2), (3, number)], [(1, 1), (2, 2), (Decimal(3), number)]):
-                    with self.assertRaisesRegex(ValueError, "^row 1: point 2: a coordinate is a finite number, not -?(nan|inf)$"):
+                    with self.assertRaisesRegex(ValueError, "^row 1: point 1: a coordinate is a finite number, not -?(nan|inf)$"):
                         polytwkb.write(columns, form)
             for number in (1e300, -1e300, 2.0**62 / 1e3, 10**40):
-                with self.assertRaisesRegex(polytwkb.Refused, "^row 1: coordinate out of range$"):
+                with self.assertRaisesRegex(polytwkb.Refused, "^row 1: point 0: coordinate out of range$"):
                     polytwkb.write(columns, [(1.0, 1), (2, number), (3, 1)])
-        with self.assertRaisesRegex(TypeError, "^row 1: point 1: a coordinate is a number, not str$"):
+        with self.assertRaisesRegex(TypeError, "^row 1: point 0: a coordinate is a number, not str$"):
             polytwkb.write(columns, [(1.0, 1), (2, "2"), (3, 1)])
 
     def test_what_is_wrong_with_a_row_is_said_of_floats_too(self):

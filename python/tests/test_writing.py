@@ -109,11 +109,12 @@ class Writing(unittest.TestCase):
     def test_a_coordinate_out_of_range(self):
         rows = polytwkb.read(BLOBS).rows
         for number in (1 << 62, -(1 << 62) - 1, 1 << 63, -(1 << 63), 10**40):
-            for place, row in ((0, 1), (5, 2), (7, 5)):
+            for place, row, point in ((0, 1, 0), (5, 2, 2), (7, 5, 0)):
                 points = [list(point) for point in POINTS]
                 points[place][place % 2] = number
-                self.assertEqual(str(self.refused(rows, points)), f"row {row}: coordinate out of range")
-        self.assertEqual(str(self.refused(rows, [(10**40, 0)] + POINTS)), "row 1: coordinate out of range")
+                refused = self.refused(rows, points)
+                self.assertEqual((str(refused), refused.text_offset), (f"row {row}: point {point}: coordinate out of range", point))
+        self.assertEqual(str(self.refused(rows, [(10**40, 0)] + POINTS)), "row 1: point 0: coordinate out of range")
 
     def test_wrong_types_and_shapes(self):
         rows, points = polytwkb.read(BLOBS, degrees=False)

@@ -6,7 +6,6 @@ fuzz.py [--cases N] [--seed S] [--processes P] [--only CASE] [--program FILE] [-
 A case is one input with one subcommand; case K of seed S is always the same. Where the library of tests/hostile/refuse.c
 is given, half of the cases are read in pieces of a few bytes. Status 1 where a case differs.
 """
-import json
 import os
 import random
 import re
@@ -16,7 +15,7 @@ import time
 sys.path.insert(0, os.path.dirname(os.path.abspath(__file__)))
 
 from blob import canonical, spelled_in
-from fuzzing import MOST_FOUND, report, words_of
+from fuzzing import MOST_FOUND, in_processes, report, words_of
 from geometry import NEST, Geometry
 from run_command import Command
 from slips import announced, any_bytes, stream_slip, table_slip
@@ -160,33 +159,9 @@ def run_cases(arguments, numbers):
     return comparing.found, comparing.ends
 
 
-def in_processes(arguments):
-    """The cases shared among processes; the sums of what each found."""
-    pipes = []
-    for process in range(arguments.processes):
-        reads, writes = os.pipe()
-        if os.fork() == 0:
-            os.close(reads)
-            numbers = range(process, arguments.cases, arguments.processes)
-            with os.fdopen(writes, "w") as result:
-                result.write(json.dumps(run_cases(arguments, numbers)))
-            os._exit(0)
-        os.close(writes)
-        pipes.append(reads)
-    found, ends = 0, {}
-    for pipe in pipes:
-        with os.fdopen(pipe) as result:
-            part, its_ends = json.loads(result.read() or '[1, {"a process that failed": 1}]')
-        found += part
-        for end, times in its_ends.items():
-            ends[end] = ends.get(end, 0) + times
-    return found, ends
-
-
 def main():
     top = os.path.join(os.path.dirname(os.path.abspath(__file__)), "../..")
     words = words_of(__doc__, 100000)
-    words.add_argument("--processes", type=int, default=2)
     words.add_argument("--program", default=os.path.join(top, "bin/polytwkb"))
     words.add_argument("--library", help="what lets the program read in pieces")
     arguments = words.parse_args()
@@ -196,7 +171,7 @@ def main():
         return run_cases(arguments, [arguments.only])[0]
     print(f"fuzz: seed {arguments.seed}, {arguments.cases} cases", flush=True)
     start = time.monotonic()
-    found, ends = in_processes(arguments)
+    found, ends = in_processes(arguments, run_cases)
     return report("fuzz", arguments, start, found, ends)
 
 

@@ -3,7 +3,7 @@
 streams, and written as streams, by the library into rooms of all sizes, doubles are rounded, random shapes are packed and tables checked, and
 degrees of rows, columns of one kind and lists with gaps go through the package.
 
-fuzz_library.py [--cases N] [--seed S] [--only CASE] LIBRARY
+fuzz_library.py [--cases N] [--seed S] [--processes P] [--only CASE] LIBRARY
 
 Case K of seed S is always the same. Status 1 where a case differs.
 """
@@ -24,7 +24,7 @@ import table
 from arrays import arrays_of, bytes_of_points, bytes_of_rows, index_outside, named_by, some_arrays
 from columns import Columns
 from fuzz import some_stream, some_table
-from fuzzing import MOST_FOUND, report, words_of
+from fuzzing import MOST_FOUND, in_processes, report, words_of
 from geometry import NODES, POINTS, mapping_of, with_precision
 from rounding import some_double, unit_of
 from trees import nested, some_tree
@@ -288,18 +288,10 @@ class Comparing(Columns):
         call(chance, limits if call in limited else standard_limits())
 
 
-def main():
-    words = words_of(__doc__, 20000)
-    words.add_argument("library")
-    given = words.parse_args()
-    os.environ["POLYTWKB_LIBRARY"] = path = os.path.abspath(given.library)
-    global nearest, polytwkb
-    import polytwkb
-    from polytwkb._rounding import nearest
-
-    comparing, found, start = Comparing(path), 0, time.monotonic()
-    comparing.package = polytwkb
-    for number in range(given.cases) if given.only is None else [given.only]:
+def run_cases(given, numbers):
+    """How many of these cases differ, and how often each end was met."""
+    comparing, found = Comparing(given.library), 0
+    for number in numbers:
         try:
             comparing.compare(given.seed, number)
         except AssertionError as fault:
@@ -307,7 +299,21 @@ def main():
             found += 1
             if found == MOST_FOUND:
                 break
-    return report("fuzz of the library", given, start, found, comparing.ends)
+    return found, comparing.ends
+
+
+def main():
+    words = words_of(__doc__, 20000)
+    words.add_argument("library")
+    given = words.parse_args()
+    os.environ["POLYTWKB_LIBRARY"] = given.library = os.path.abspath(given.library)
+    global nearest, polytwkb
+    import polytwkb
+    from polytwkb._rounding import nearest
+
+    Comparing.package, start = polytwkb, time.monotonic()
+    found, ends = in_processes(given, run_cases) if given.only is None else run_cases(given, [given.only])
+    return report("fuzz of the library", given, start, found, ends)
 
 
 if __name__ == "__main__":
