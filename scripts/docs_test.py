@@ -49,7 +49,7 @@ OWN_FILE = "route_id,polyline,name\n12,yop}Gysml@lAxTfChSgKhK,Bern\n14,,\n"
 RIGHT_FILES = ["cat", r"tr '\n' '\r'", r"sed 's/$/\r/; 1s/^/\xef\xbb\xbf/'", "cut -d , -f 1,2"]
 WRONG_FILES = ["sed 1d", "tr , ';'", "gzip -nc", "cut -d , -f 1,3", "iconv -t UTF-16", "sed 's/^14,/14,NULL/'", "true"]
 MARK = "--- end of the command ---"
-SECONDS = 300
+SECONDS = 1800
 
 
 class Command:
