@@ -237,13 +237,14 @@ class Comparing(Columns):
         precision = chance.choice((5, 7, chance.randint(-8, 7), chance.randint(-8, 7), out_of_range))
         numbers = [some_double(chance, max(-8, min(precision, 7))) for _ in range(chance.choice((0, 1, 1, 2, 5)))]
         room = max(len(numbers) + chance.choice((0, 0, 0, 1, -1, 5)), 0)
-        units = []
-        for number in numbers:
+        is_precision, units = -8 <= precision <= 7, []
+        # a power of ten by a precision of ten digits would take hours
+        for number in numbers if is_precision else ():
             unit = unit_of(number, precision)
             if unit is None:
                 break
             units.append(unit)
-        status = 2 if not -8 <= precision <= 7 else 5 if room < len(numbers) else 0 if len(units) == len(numbers) else 1
+        status = 2 if not is_precision else 5 if room < len(numbers) else 0 if len(units) == len(numbers) else 1
         units = units if status < 2 else []
         reason, place, needed = (26, len(units), len(units)) if status == 1 else (0, 0, len(numbers) if status != 2 else 0)
         wanted = (status, reason, place, 0, int(status == 0), len(units), needed), units
