@@ -98,14 +98,17 @@ lacks() {
   return 1
 }
 
+# made TARGET..: makes targets of a part, which fails if they have no end after an hour.
+made() { timeout --kill-after=60 3600 make -s "$@"; }
+
 lint() { scripts/lint.sh; }
 smoke() { MEGABYTES=${MEGABYTES:-50} scripts/smoke.sh; }
 completions() { scripts/completions_test.sh; }
 fuzz() {
-  if lacks "reading in pieces" make cc; then tests/fuzz/fuzz.py --cases "$cases" --seed "$seed"; else make -s fuzz "${random[@]}"; fi
+  if lacks "reading in pieces" make cc; then tests/fuzz/fuzz.py --cases "$cases" --seed "$seed"; else made fuzz "${random[@]}"; fi
 }
 hostile() {
-  if lacks "calls that fail in turn" make cc; then tests/hostile/sizes.py bin/polytwkb; else make -s hostile; fi
+  if lacks "calls that fail in turn" make cc; then tests/hostile/sizes.py bin/polytwkb; else made hostile; fi
 }
 documents() {
   python3 tests/vectors/make.py --check && scripts/docs_test.py || return 1
@@ -122,24 +125,24 @@ machines() {
     fi
   done
 }
-javascript() { lacks JavaScript make cc node || make -s wasm-test "${random[@]}"; }
-databases() { lacks "SQLite and PostgreSQL" make cc || make -s databases-test "${random[@]}"; }
-dist() { lacks dist make cc dpkg-deb || make -s dist-test; }
+javascript() { lacks JavaScript make cc node || made wasm-test "${random[@]}"; }
+databases() { lacks "SQLite and PostgreSQL" make cc || made databases-test "${random[@]}"; }
+dist() { lacks dist make cc dpkg-deb || made dist-test; }
 arm64() {
   lacks "64-bit ARM" make cc aarch64-linux-gnu-gcc qemu-aarch64-static && return
   # programs linked with other functions may do anything, so none is run
   packaging/arm64/shims/compare.sh || { echo "FAIL  arm64: the functions of C are not the kit's"; return 1; }
   echo "ok    arm64: the functions of C are the kit's"
-  make -s arm64-test
+  made arm64-test
 }
 library() {
   lacks library make cc && return
-  make -s lib-test || return 1
+  made lib-test || return 1
   echo "ok    the library in C and in Python"
   if command -v go > /dev/null; then echo "ok    the library in Go"; fi
-  make -s python-test || return 1
+  made python-test || return 1
   echo "ok    the package for Python"
-  make -s fuzz-library "${random[@]}" || return 1
+  made fuzz-library "${random[@]}" || return 1
   lacks "memory of the library" valgrind || return 0
 }
 
