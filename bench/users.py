@@ -239,22 +239,25 @@ def sizes_line(sizes):
 
 
 def speed_text(rows):
-    """One sentence on speed and memory."""
+    """Two sentences on speed and memory."""
     speeds = {word: [row["speed"]["polytwkb"] for row in rows if row["command"] == word] for word in WORDS}
     pack, unpack = (f"{min(speeds[word]):.0f} to {max(speeds[word]):.0f}" for word in ("pack", "unpack"))
     peaks = {}
     for row in rows:
         peaks[row["case"]] = max(row["peak"]["polytwkb"], peaks.get(row["case"], 0))
     *usual, (most, case) = sorted((peak, case) for case, peak in peaks.items())
-    memory = f"{usual[-1][0] / 1000:.1f} MB of memory, however large the file is, but {case} takes {most / 1000:.0f} MB" if usual else f"{most / 1000:.0f} MB of memory"
-    return f"in a second one core packs {pack} MB of table, or unpacks a stream and writes {unpack} MB of table. A run takes {memory}."
+    memory = f"run takes {most / 1000:.0f} MB of memory"
+    if usual:
+        small = f"{usual[-1][0] / 1000:.1f} MB of memory, however large the file is"
+        memory = f"run over small geometries takes {small}, and {case} takes {most / 1000:.0f} MB"
+    return f"per second, one core packs {pack} MB of table, or writes {unpack} MB of table when it unpacks, depending on the geometries. A {memory}."
 
 
 def size_text(sizes):
-    """One sentence on the size of lines."""
+    """One sentence on the size of linestrings."""
     lines = next((each for each in sizes if each["case"] == CASES["lines"]), sizes[0])
     table, full, wkb = (f"{lines[name] / MEGABYTE:.1f}" for name in ("table", "full", "wkb"))
-    return f"a table of {table} MB with lines of 1000 points becomes a stream of {full} MB, or {wkb} MB of WKB."
+    return f"a table of {table} MB, with linestrings of 1000 points, becomes a stream of {full} MB; as WKB they have {wkb} MB."
 
 
 def growth_line(rows):
