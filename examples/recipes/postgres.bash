@@ -14,7 +14,8 @@ version=${bindir//[!0-9]/}
 if [ -n "$version" ] && [ -z "${NO_OWN_EXTENSION:-}" ] && [ -e "$here/../../out/postgresql/$version/polytwkb.so" ]; then
     for part in lib share; do
         mkdir -p "$folder/server/usr/$part/postgresql"
-        cp -as "/usr/$part/postgresql/$version" "$folder/server/usr/$part/postgresql"
+        # a file that a package brings or takes away meanwhile may be missing
+        cp -as "/usr/$part/postgresql/$version" "$folder/server/usr/$part/postgresql" 2> cp.log || true
     done
     cp --remove-destination "$bindir"/{postgres,initdb,pg_ctl} "$folder/server$bindir"
     cp --remove-destination "$here/../../out/postgresql/$version/polytwkb.so" "$folder/server${bindir%/bin}/lib"
