@@ -12,7 +12,7 @@ import { fileURLToPath } from 'node:url';
 import * as polytwkb from '../polytwkb.js';
 
 const [cases, folder, ...browsers] = process.argv.slice(2);
-const SECONDS = 480;
+const SECONDS = 1200;
 const TOP = fileURLToPath(new URL('..', import.meta.url));
 const KINDS = { '.html': 'text/html', '.js': 'text/javascript', '.wasm': 'application/wasm', '.css': 'text/css' };
 const POINT = Buffer.from([1, 2, 2, 4, 2]);

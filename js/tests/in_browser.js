@@ -8,7 +8,7 @@ document.body.append(Object.assign(new Image(), { src: '/wait', hidden: true }))
 const frame = document.getElementById('page');
 const said = [];
 const HEADER = 'depth,kind,id,precision,polyline\n';
-const LONGEST = 200; // seconds that a test may take
+const LONGEST = 600; // seconds that a test may take
 
 function check(name, holds, found = '') {
     said.push(holds ? `ok    ${name}` : `FAIL  ${name}: ${found}`);
