@@ -9,3 +9,4 @@ pub mod NearestDoubles
 pub mod HalfLemmas
 pub mod RoundingLemmas
 pub mod DoubleLemmas
+pub mod SampleLemmas

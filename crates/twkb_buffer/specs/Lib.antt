@@ -11,3 +11,4 @@ pub mod Fractions
 pub mod Binary64
 pub mod Scales
 pub mod RoundedNumbers
+pub mod Samples

@@ -13,6 +13,7 @@ mod reason_numbers;
 mod reason_texts;
 mod report;
 mod rounded_numbers;
+pub mod samples;
 mod scale;
 
 pub use filled_slice::fill;
