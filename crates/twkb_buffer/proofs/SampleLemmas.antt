@@ -39,7 +39,7 @@ near_by over under less whole e =
     record { at_most_half_over = leb-true _ _ h.0; less_than_half_under = ltb-true _ _ h.1 }
 
 -- a double of few units
-short_unit : (precision : ℤ) (number size : ℕ)
+of_few : (precision : ℤ) (number size : ℕ)
     → are_scales (factor_at precision) (divisor_at precision) ≡ true
     → nat_lt (exponent_field number) (2 ^ 11 - 1) ≡ true
     → nat_lt (10 * above (factor_at precision) number) (10 ^ 15 * below (divisor_at precision) number) ≡ true
@@ -47,7 +47,7 @@ short_unit : (precision : ℤ) (number size : ℕ)
     (significand number % 2) size ≡ true
     → IsCoordinate (with_sign number size)
     → IsUnit (factor_at precision) (divisor_at precision) number (with_sign number size)
-short_unit precision number size scales finite short near within =
+of_few precision number size scales finite short near within =
     let factor = factor_at precision in
     let divisor = divisor_at precision in
     let is_finite = ltb-true (exponent_field number) (2 ^ 11 - 1) finite in
@@ -62,12 +62,12 @@ short_unit precision number size scales finite short near within =
     }
 
 -- a double of more units
-long_unit : (precision : ℤ) (number size : ℕ) → nat_lt (exponent_field number) (2 ^ 11 - 1) ≡ true
+of_many : (precision : ℤ) (number size : ℕ) → nat_lt (exponent_field number) (2 ^ 11 - 1) ≡ true
     → nat_le (10 ^ 15 * below (divisor_at precision) number) (10 * above (factor_at precision) number) ≡ true
     → is_near (above (factor_at precision) number) (below (divisor_at precision) number) 0 size ≡ true
     → IsCoordinate (with_sign number size)
     → IsUnit (factor_at precision) (divisor_at precision) number (with_sign number size)
-long_unit precision number size finite long near within =
+of_many precision number size finite long near within =
     let factor = factor_at precision in
     let divisor = divisor_at precision in
     let more = leb-true (10 ^ 15 * below divisor number) (10 * above factor number) long in
@@ -82,33 +82,33 @@ long_unit precision number size finite long near within =
 
 pub halves_rounded : AreRounded written_halves
 halves_rounded = (
-  short_unit (pos 1) 0x3FC3333333333333 2 refl refl refl refl (omega arith, omega arith),
+  of_few (pos 1) 0x3FC3333333333333 2 refl refl refl refl (omega arith, omega arith),
   (
-    short_unit (pos 1) 0xBFC3333333333333 2 refl refl refl refl (omega arith, omega arith),
+    of_few (pos 1) 0xBFC3333333333333 2 refl refl refl refl (omega arith, omega arith),
     (
-      short_unit (pos 1) 0x3FD6666666666666 4 refl refl refl refl (omega arith, omega arith),
+      of_few (pos 1) 0x3FD6666666666666 4 refl refl refl refl (omega arith, omega arith),
       (
-        short_unit (pos 2) 0x3FF0147AE147AE14 101 refl refl refl refl (omega arith, omega arith),
+        of_few (pos 2) 0x3FF0147AE147AE14 101 refl refl refl refl (omega arith, omega arith),
         (
-          short_unit (pos 0) 0x3FE0000000000000 1 refl refl refl refl (omega arith, omega arith),
+          of_few (pos 0) 0x3FE0000000000000 1 refl refl refl refl (omega arith, omega arith),
           (
-            short_unit (pos 0) 0xC004000000000000 3 refl refl refl refl (omega arith, omega arith),
+            of_few (pos 0) 0xC004000000000000 3 refl refl refl refl (omega arith, omega arith),
             (
-              short_unit (pos 5) 0x3ED4F8B588E368F1 1 refl refl refl refl (omega arith, omega arith),
+              of_few (pos 5) 0x3ED4F8B588E368F1 1 refl refl refl refl (omega arith, omega arith),
               (
-                short_unit (pos 4) 0x401DCA9930BE0DED 74479 refl refl refl refl (omega arith, omega arith),
+                of_few (pos 4) 0x401DCA9930BE0DED 74479 refl refl refl refl (omega arith, omega arith),
                 (
-                  short_unit (pos 5) 0x3F904C059210385C 1592 refl refl refl refl (omega arith, omega arith),
+                  of_few (pos 5) 0x3F904C059210385C 1592 refl refl refl refl (omega arith, omega arith),
                   (
-                    short_unit (pos 5) 0xBFD11BDA5119CE07 26733 refl refl refl refl (omega arith, omega arith),
+                    of_few (pos 5) 0xBFD11BDA5119CE07 26733 refl refl refl refl (omega arith, omega arith),
                     (
-                      short_unit (pos 5) 0x40477956EAC86057 4694797 refl refl refl refl (omega arith, omega arith),
+                      of_few (pos 5) 0x40477956EAC86057 4694797 refl refl refl refl (omega arith, omega arith),
                       (
-                        short_unit (pos 6) 0x3EA0C6F7A0B5ED8D 1 refl refl refl refl (omega arith, omega arith),
+                        of_few (pos 6) 0x3EA0C6F7A0B5ED8D 1 refl refl refl refl (omega arith, omega arith),
                         (
-                          short_unit (pos 6) 0x404098F6A0DBAD3A 33195027 refl refl refl refl (omega arith, omega arith),
+                          of_few (pos 6) 0x404098F6A0DBAD3A 33195027 refl refl refl refl (omega arith, omega arith),
                           (
-                            short_unit (pos 7) 0x4040BCD3AB78BF2E 334752097 refl refl refl refl (omega arith, omega arith),
+                            of_few (pos 7) 0x4040BCD3AB78BF2E 334752097 refl refl refl refl (omega arith, omega arith),
                             tt,
                           ),
                         ),
@@ -127,17 +127,17 @@ halves_rounded = (
 
 pub others_rounded : AreRounded other_doubles
 others_rounded = (
-  short_unit (pos 1) 0x3FC3333333333332 1 refl refl refl refl (omega arith, omega arith),
+  of_few (pos 1) 0x3FC3333333333332 1 refl refl refl refl (omega arith, omega arith),
   (
-    short_unit (pos 5) 0x401DCA8EB463497B 744781 refl refl refl refl (omega arith, omega arith),
+    of_few (pos 5) 0x401DCA8EB463497B 744781 refl refl refl refl (omega arith, omega arith),
     (
-      short_unit (pos 7) 0x401DCA8EB463497B 74478100 refl refl refl refl (omega arith, omega arith),
+      of_few (pos 7) 0x401DCA8EB463497B 74478100 refl refl refl refl (omega arith, omega arith),
       (
-        short_unit (negsuc 7) 0x41A1E1A300000000 2 refl refl refl refl (omega arith, omega arith),
+        of_few (negsuc 7) 0x41A1E1A300000000 2 refl refl refl refl (omega arith, omega arith),
         (
-          short_unit (pos 7) 0x8000000000000000 0 refl refl refl refl (omega arith, omega arith),
+          of_few (pos 7) 0x8000000000000000 0 refl refl refl refl (omega arith, omega arith),
           (
-            short_unit (pos 7) 0x0000000000000001 0 refl refl refl refl (omega arith, omega arith),
+            of_few (pos 7) 0x0000000000000001 0 refl refl refl refl (omega arith, omega arith),
             tt,
           ),
         ),
@@ -148,11 +148,11 @@ others_rounded = (
 
 pub large_rounded : AreRounded large_doubles
 large_rounded = (
-  long_unit (pos 0) 0x4340000000000000 9007199254740992 refl refl refl (omega arith, omega arith),
+  of_many (pos 0) 0x4340000000000000 9007199254740992 refl refl refl (omega arith, omega arith),
   (
-    long_unit (pos 0) 0x43CFFFFFFFFFFFFF 4611686018427387392 refl refl refl (omega arith, omega arith),
+    of_many (pos 0) 0x43CFFFFFFFFFFFFF 4611686018427387392 refl refl refl (omega arith, omega arith),
     (
-      long_unit (pos 0) 0xC3D0000000000000 4611686018427387904 refl refl refl (omega arith, omega arith),
+      of_many (pos 0) 0xC3D0000000000000 4611686018427387904 refl refl refl (omega arith, omega arith),
       tt,
     ),
   ),
