@@ -4,7 +4,7 @@
 use std::env;
 use std::io::BufWriter;
 use std::process::ExitCode;
-use twkb_command::{lack_memory, lack_words, run};
+use twkb_command::{report_no_memory, report_unread_words, run};
 use twkb_io::{Ending, Tap};
 
 // Runs the command over the standard streams, and exits with its status.
@@ -13,15 +13,15 @@ fn main(rt: HostRuntime) -> ExitCode {
     let mut reader = Tap::new(Ending::new(rt.stdin()));
     let mut errors = Tap::new(rt.stderr());
     let Ok(buffered) = BufWriter::new(rt.alloc(), rt.stdout()) else {
-        return ExitCode::from(lack_memory(&mut errors));
+        return ExitCode::from(report_no_memory(&mut errors));
     };
     let mut writer = Tap::new(buffered);
     let words = match env::args(&rt) {
         Ok(words) => words,
-        Err(error) => return ExitCode::from(lack_words(&mut errors, error.kind())),
+        Err(error) => return ExitCode::from(report_unread_words(&mut errors, error.kind())),
     };
     let Ok(words) = words.collect::<Vec<String>>(rt.alloc()) else {
-        return ExitCode::from(lack_memory(&mut errors));
+        return ExitCode::from(report_no_memory(&mut errors));
     };
     ExitCode::from(run(rt.alloc(), &words, &mut reader, &mut writer, &mut errors))
 }

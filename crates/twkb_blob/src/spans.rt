@@ -81,6 +81,8 @@ pub struct Located {
 // last.
 #[derive(Debug, Drop)]
 pub(crate) struct OpenSpans {
+    // As long as the geometry of a span is open, its `points` is the number of points of the blob
+    // before the geometry; once the geometry ends, the number of the geometry's own.
     spans: Vec<Span>,
     begun: Vec<usize>,
 }
@@ -103,9 +105,9 @@ fn set_metadata(spans: &mut Vec<Span>, index: usize, metadata: u8)
     }
 }
 
-// Sets length and points of the span at this place, if there is one. Its geometry ends at this
-// offset, after this many points of the blob; so far its `points` is how many of these came before
-// the geometry.
+// Sets the length of the span at this place, if there is one, and replaces its `points`, so far the
+// number of points of the blob before its geometry, by the number of points of the geometry. The
+// geometry ends at this offset, after this many points of the blob.
 fn set_end(spans: &mut Vec<Span>, index: usize, offset: u64, points: u64)
     ensures { spans.new.items ≡ changed_at index (measured offset points) spans.old.items }
 {
@@ -131,8 +133,8 @@ impl SpanNotes for OpenSpans {
 
     ghost holds = { λ o w. o ≡ w };
 
-    // Adds an open span; until it ends, its `points` is how many points of the blob came before its
-    // geometry. After an `Err` a span may be left that is not open.
+    // Adds an open span, whose geometry begins at this offset, after this many points of the blob.
+    // After an `Err` a span may be left that is not open.
     #[inline(always)]
     fn begin(&mut self, offset: u64, points: u64, byte: TypeByte) -> Result<(), AllocError> {
         let level = self.begun.len().min(u32::MAX as usize) as u32;

@@ -48,19 +48,23 @@ fn after_short_steps(from: Pt, x: u64, y: u64) -> Option<Pt>
 fn long_point(from: Pt, bytes: &[u8]) -> Option<(Pt, usize)>
     ensures { IfSome result (λ front. PointInFront from bytes.now front.0 front.1) }
 {
-    let FrontNumber::Complete { number: x, width } = long_number(bytes) else {
+    let FrontNumber::Complete {
+        number: x,
+        width: x_length,
+    } = long_number(bytes)
+    else {
         return None;
     };
     let FrontNumber::Complete {
         number: y,
-        width: height,
-    } = long_number(&bytes[width..])
+        width: y_length,
+    } = long_number(&bytes[x_length..])
     else {
         return None;
     };
     let beside = from.moved_x(unzigzag(x))?;
     let to = beside.moved_y(unzigzag(y))?;
-    Some((to, width + height))
+    Some((to, x_length + y_length))
 }
 
 /// The point at the start of the bytes, by its two steps from `from`, and how many bytes they have;
@@ -70,12 +74,12 @@ fn long_point(from: Pt, bytes: &[u8]) -> Option<(Pt, usize)>
 pub fn front_point(from: Pt, bytes: &[u8]) -> Option<(Pt, usize)>
     ensures { IfSome result (λ front. PointInFront from bytes.now front.0 front.1) }
 {
-    let Some((x, width)) = short_number(bytes) else {
+    let Some((x, x_length)) = short_number(bytes) else {
         return long_point(from, bytes);
     };
-    let Some((y, height)) = short_number(&bytes[width..]) else {
+    let Some((y, y_length)) = short_number(&bytes[x_length..]) else {
         return long_point(from, bytes);
     };
     let to = after_short_steps(from, x, y)?;
-    Some((to, width + height))
+    Some((to, x_length + y_length))
 }

@@ -14,7 +14,7 @@ mod words;
 
 pub use exit_code::status;
 pub use lines::print_line;
-pub use outcome::{lack_memory, lack_words};
+pub use outcome::{report_no_memory, report_unread_words};
 pub use refusal::Refusal;
 pub use request::Request;
 pub use runs::run;

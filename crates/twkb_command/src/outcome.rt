@@ -36,7 +36,7 @@ pub(crate) fn carry_out<R: Read, W: Write, E: Write>(
 }
 
 // Prints the text that was asked for, and returns the status.
-fn tell<W: Write>(writer: &mut Tap<W>, text: &str) -> u8
+fn print_requested<W: Write>(writer: &mut Tap<W>, text: &str) -> u8
     ensures { result ≡ 0 }
 {
     print_text(writer, text);
@@ -54,9 +54,9 @@ pub(crate) fn refuse<W: Write, E: Write>(
     ensures { Refuses E.contents refusal.now writer.old errors.old writer.new errors.new result }
 {
     match refusal {
-        Refusal::Memory => lack_memory(errors),
-        Refusal::Help(text) => tell(writer, text),
-        Refusal::Version(text) => tell(writer, text),
+        Refusal::Memory => report_no_memory(errors),
+        Refusal::Help(text) => print_requested(writer, text),
+        Refusal::Version(text) => print_requested(writer, text),
         Refusal::Usage(text) => {
             print_text(errors, text);
             USAGE
@@ -65,7 +65,7 @@ pub(crate) fn refuse<W: Write, E: Write>(
 }
 
 /// Reports that memory was refused, and returns the status. Takes no memory.
-pub fn lack_memory<E: Write>(errors: &mut Tap<E>) -> u8
+pub fn report_no_memory<E: Write>(errors: &mut Tap<E>) -> u8
     ensures status { result ≡ 4 }
     ensures line { IsPrinted E.contents errors.old (line_of Cause.Memory) errors.new }
 {
@@ -75,14 +75,14 @@ pub fn lack_memory<E: Write>(errors: &mut Tap<E>) -> u8
 
 /// Reports why the words were not read, and returns the status. A word that is not UTF-8 is
 /// refused like any other bad word. Takes no memory.
-pub fn lack_words<E: Write>(errors: &mut Tap<E>, kind: ErrorKind) -> u8
+pub fn report_unread_words<E: Write>(errors: &mut Tap<E>, kind: ErrorKind) -> u8
     ensures memory { kind ≡ ErrorKind.OutOfMemory → (result ≡ 4)
         × IsPrinted E.contents errors.old (line_of Cause.Memory) errors.new }
     ensures other { kind ≢ ErrorKind.OutOfMemory → (result ≡ 2)
         × IsPrinted E.contents errors.old no_text_line errors.new }
 {
     if kind == ErrorKind::OutOfMemory {
-        return lack_memory(errors);
+        return report_no_memory(errors);
     }
     print_text(errors, "polytwkb: a word is not UTF-8\n");
     USAGE

@@ -7,7 +7,7 @@ use twkb_points::Pt;
 // The least room after the first growth, so that a short list asks for memory once.
 const ROOM: usize = 16;
 
-// Makes room for `count` more points if there is less. Takes memory only if they do not fit.
+// Makes sure that there is room for `count` more points. Takes memory only if they do not fit.
 #[inline(always)]
 pub(crate) fn make_room(points: &mut Vec<Pt>, count: usize) -> Result<(), AllocError>
     ensures same { points.new.items ≡ points.old.items }

@@ -1,4 +1,4 @@
--- Two numbers that are a whole text: their characters at its two ends, and their groups in two words.
+-- Two numbers that are a whole text, by its first eight and its last eight characters.
 use Rattle.std.proofs.Common.{◌≡◌, ℕ, zero, suc, ◌+◌, ◌-◌, ◌*◌, ◌/◌, ◌%◌, ◌<◌, ◌≤◌, ◌^◌, Bool, true}
 use Rattle.std.proofs.Common.{false, inr, inl, List, [], ◌∷◌, ◌++◌, length, take, drop, map, get_or}
 use Rattle.std.proofs.Common.{refl, sym, ◌∙◌, ap, subst, arith, length-append, bit_and, Fits, w8}
@@ -21,7 +21,7 @@ use Rattle.twkb_num.specs.Alphabet.{five_unit}
 use Rattle.twkb_num.specs.Block.{units_in}
 use Rattle.twkb_num.specs.Four.{joined_groups, number_in_front, run_of}
 use Rattle.twkb_num.specs.Spelling.{shortest}
-use Rattle.twkb_num.specs.WholeText.{both_ends, eight_groups, AreMarked, AreTwoRuns}
+use Rattle.twkb_num.specs.WholeText.{first_and_last, eight_groups, AreMarked, AreTwoRuns}
 use Rattle.twkb_num.proofs.BlockLemmas.{same_units, all_below}
 use Rattle.twkb_num.proofs.FourLemmas.{marks_of, number_spelled}
 use Rattle.twkb_num.proofs.JoinLemmas.{first_word, later_words}
@@ -93,7 +93,7 @@ groups_found (a ∷ b ∷ c ∷ d ∷ e ∷ f ∷ g ∷ h ∷ []) (suc (suc (suc
 groups_found (a ∷ b ∷ c ∷ d ∷ e ∷ f ∷ g ∷ h ∷ i ∷ us) more fit long few = absurd (omega arith)
 groups_found us more fit long few = absurd (omega arith)
 
--- ---- a text by its two ends
+-- ---- a text by its first eight and its last eight characters
 
 -- two lists of bytes
 both_below : (xs ys : List ℕ) → Each1 (λ b. b < 256) xs → Each1 (λ b. b < 256) ys → Each1 (λ b. b < 256) (xs ++ ys)
@@ -108,19 +108,21 @@ module _ (text : List ℕ) (long : 8 ≤ length text) where
   back_long = omega (arith, length-drop (length text - 8) text)
 
   -- there are sixteen
-  pub length-both_ends : length (both_ends text) ≡ 16
-  length-both_ends = omega (arith, length-append (take 8 text) (drop (length text - 8) text), front_long, back_long)
+  pub length-first_and_last : length (first_and_last text) ≡ 16
+  length-first_and_last =
+      omega (arith, length-append (take 8 text) (drop (length text - 8) text), front_long, back_long)
 
-  -- the bytes of the two words are the two ends
+  -- the bytes of the two words are the first eight and the last eight
   pub bytes_are : (front back : ℕ) → Each1 (λ b. b < 256) text → front ≡ number_l 256 (take 8 text)
       → back ≡ number_l 256 (take 8 (drop (length text - 8) text))
-      → digits_l 256 16 (number_l 18446744073709551616 (front ∷ back ∷ [])) ≡ both_ends text
+      → digits_l 256 16 (number_l 18446744073709551616 (front ∷ back ∷ [])) ≡ first_and_last text
   bytes_are front back below front_is back_is =
       let first = take 8 text in
       let last = drop (length text - 8) text in
       let all : take 8 last ≡ last = take_all 8 last (omega (arith, back_long)) in
       let power : 256 ^ length first ≡ 18446744073709551616 = ap (λ n. 256 ^ n) front_long in
-      let joined : number_l 18446744073709551616 (front ∷ back ∷ []) ≡ number_l 256 (both_ends text) =
+      let joined : number_l 18446744073709551616 (front ∷ back ∷ [])
+      ≡ number_l 256 (first_and_last text) =
       ap (λ n. n + 18446744073709551616 * (back + 18446744073709551616 * 0)) front_is
       ∙ ap (λ n. number_l 256 first + 18446744073709551616 * (n + 18446744073709551616 * 0))
       (back_is ∙ ap (number_l 256) all)
@@ -129,24 +131,25 @@ module _ (text : List ℕ) (long : 8 ≤ length text) where
       ∙ ap (λ n. number_l 256 first + n * number_l 256 last) (sym power)
       ∙ sym (number_l-append 256 first last) in
       ap (digits_l 256 16) joined
-      ∙ digits-number 256 16 (both_ends text) length-both_ends
+      ∙ digits-number 256 16 (first_and_last text) length-first_and_last
       (both_below first last (Each1-chunk (λ b. b < 256) 0 8 text below) (later_below (length text - 8) text below))
 
-  -- the two ends, cut at `used` characters, are the text cut there
+  -- the first eight and the last eight, cut at `used` characters, are the text cut there
   pub cut_apart : (used : ℕ) → used ≤ 8 → used ≤ length text → length text ≤ used + 8
-      → text ≡ take used (both_ends text) ++ drop (16 - (length text - used)) (both_ends text)
+      → text ≡ take used (first_and_last text)
+      ++ drop (16 - (length text - used)) (first_and_last text)
   cut_apart used first_short within second_short =
       let last = drop (length text - 8) text in
       let rest = length text - used in
       let place : 16 - rest ≡ length (take 8 text) + (8 - rest) = omega (arith, front_long) in
       let from : (length text - 8) + (8 - rest) ≡ used = omega arith in
-      let low : take used (both_ends text) ≡ take used text =
+      let low : take used (first_and_last text) ≡ take used text =
       take-append-le used (take 8 text) last (omega (arith, front_long)) ∙ take-take used 8 text first_short in
-      let high : drop (16 - rest) (both_ends text) ≡ drop used text =
-      ap (λ n. drop n (both_ends text)) place ∙ drop-append-add (take 8 text) last (8 - rest)
+      let high : drop (16 - rest) (first_and_last text) ≡ drop used text =
+      ap (λ n. drop n (first_and_last text)) place ∙ drop-append-add (take 8 text) last (8 - rest)
       ∙ drop-drop (8 - rest) (length text - 8) text ∙ ap (λ n. drop n text) from in
       sym (take-append-drop used text) ∙ ap (λ xs. xs ++ drop used text) (sym low)
-      ∙ ap (λ xs. take used (both_ends text) ++ xs) (sym high)
+      ∙ ap (λ xs. take used (first_and_last text) ++ xs) (sym high)
 
 -- ---- runs of marks
 
@@ -198,12 +201,15 @@ none_above (u ∷ us) most none k within =
     by_place (suc k) within below rest = rest k (omega arith)
 
 -- there are sixteen units, and each is a byte
-pub length-end_units : (text us : List ℕ) → 8 ≤ length text → us ≡ units_in 63 (both_ends text) → length us ≡ 16
-length-end_units text us long us_are = ap length us_are
-    ∙ length-map (both_ends text) (λ b. (b + (2 ^ 8 - 63)) % 2 ^ 8) ∙ length-both_ends text long
+pub length-first_and_last_units : (text us : List ℕ) → 8 ≤ length text
+    → us ≡ units_in 63 (first_and_last text) → length us ≡ 16
+length-first_and_last_units text us long us_are = ap length us_are
+    ∙ length-map (first_and_last text) (λ b. (b + (2 ^ 8 - 63)) % 2 ^ 8)
+    ∙ length-first_and_last text long
 
-pub units_below : (text us : List ℕ) → us ≡ units_in 63 (both_ends text) → Each1 (λ u. u < 256) us
-units_below text us us_are = rw us_are (each (both_ends text))
+pub units_below : (text us : List ℕ) → us ≡ units_in 63 (first_and_last text)
+    → Each1 (λ u. u < 256) us
+units_below text us us_are = rw us_are (each (first_and_last text))
   where
     each : (bytes : List ℕ) → Each1 (λ u. u < 256) (units_in 63 bytes)
     each [] = tt
@@ -309,24 +315,24 @@ run_spelled us count below some run within =
     (λ _. some (run_of (marks_of 32 us)) (omega arith))
     ∙ ap (λ n. shortest five_unit 32 (number_in_front 32 n us)) (sym number)
 
--- A text is the two numbers whose units are at its two ends.
+-- A text is the two numbers whose units are its first eight and its last eight.
 pub two_read : (text us : List ℕ) (ends used : ℕ) → 8 ≤ length text → Each1 (λ b. b < 256) text
-    → us ≡ units_in 63 (both_ends text) → AreMarked us ends → used ≤ 8 → used < length text
+    → us ≡ units_in 63 (first_and_last text) → AreMarked us ends → used ≤ 8 → used < length text
     → length text ≤ used + 8 → AreTwoRuns (marks_of 32 us) used (length text)
     → text ≡ shortest five_unit 32 (number_in_front 32 (used - 1) us)
     ++ shortest five_unit 32 (number_in_front 32 (length text - used - 1) (drop (16 - (length text - used)) us))
 two_read text us ends used long fit us_are marked first_short within second_short runs =
-    let bytes = both_ends text in
+    let bytes = first_and_last text in
     let rest = length text - used in
     let last = drop (16 - rest) us in
     let character = λ (u : ℕ). u + 63 in
-    let count = length-end_units text us long us_are in
+    let count = length-first_and_last_units text us long us_are in
     let last_count : length last ≡ rest = omega (arith, length-drop (16 - rest) us) in
     let bytes_fit = Each1-weaker (λ b. b < 256) (Fits w8) (λ b small. record { fits = small }) bytes
     (both_below (take 8 text) (drop (length text - 8) text) (Each1-chunk (λ b. b < 256) 0 8 text fit)
     (later_below (length text - 8) text fit)) in
     let same : bytes ≡ map character us = same_units 63 63 bytes (omega arith) bytes_fit
-    (λ k low. let small : get_or us k 0 < 64 = marked.below k (omega (arith, count, length-both_ends text long)) in
+    (λ k low. let small : get_or us k 0 < 64 = marked.below k (omega (arith, count, length-first_and_last text long)) in
     let is = ap (λ vs. get_or vs k 0) us_are in omega arith) ∙ ap (map character) (sym us_are) in
     let last_run : suc (run_of (marks_of 32 last)) ≡ rest =
     ap (λ marks. suc (run_of marks)) (sym (drop-map (λ u. nat_lt u 32) (16 - rest) us)) ∙ runs.second in

@@ -5,8 +5,8 @@ use lib.Lanes.{mask_l}
 use Rattle.twkb_num.specs.Four.{joined_groups, run_of}
 
 -- the first eight characters of a text, and then its last eight
-abbrev pub both_ends : List ℕ → List ℕ
-both_ends text = take 8 text ++ drop (length text - 8) text
+abbrev pub first_and_last : List ℕ → List ℕ
+first_and_last text = take 8 text ++ drop (length text - 8) text
 
 -- the number of the eight groups of five bits in the bytes of a word, low first
 abbrev pub eight_groups : ℕ → ℕ

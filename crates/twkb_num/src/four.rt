@@ -1,4 +1,10 @@
-//! Four complete numbers one after the other in some bytes, read at once.
+//! Four complete numbers one after the other in some bytes, read at once, by masked decoding of
+//! varints (Plaisance, Kurz, Lemire, "Vectorized VByte Decoding", 2015,
+//! https://arxiv.org/abs/1503.07387). As in the paper, a bit for each unit says whether a number
+//! ends with it, and these bits are the index of a table (`places`). The table gives a shuffle that
+//! moves the units of each number into a lane of its own. Then the groups in all lanes are joined
+//! at once (`joined`). Here a number has at most four units, and a table of 256 shuffles finds two
+//! numbers.
 ghost use Rattle.std.specs.Prelude.{IfSome, ◌≡◌, ◌^◌, ◌⊎◌, ◌/◌, ◌≤◌, length, drop, map};
 ghost use lib.Lanes.{digits_l, number_l};
 ghost use Rattle.twkb_num.specs.Alphabet.{unit_over, IsRadix};

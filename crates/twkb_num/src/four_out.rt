@@ -1,5 +1,7 @@
 //! Four numbers spelled at once, with no branch on their lengths: tracks mix numbers of one, two
-//! and three units, so such a branch can't be predicted.
+//! and three units, so such a branch can't be predicted. It is the masked decoding of `four` the
+//! other way round: numbers are split into units in lanes, and a shuffle from a table closes the
+//! gaps.
 ghost use Rattle.std.specs.Prelude.{◌≡◌, ◌≤◌, ◌<◌, ◌+◌, ◌++◌, ◌*◌, ◌^◌};
 ghost use Rattle.twkb_num.specs.Alphabet.{five_unit, leb_unit, unit_over, IsRadix};
 ghost use Rattle.twkb_num.specs.Shuffles.{lane_units, AreSpelled};

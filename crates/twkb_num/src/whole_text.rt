@@ -4,7 +4,7 @@ ghost use lib.Lanes.{mask_l};
 ghost use Rattle.twkb_num.specs.Alphabet.{five_unit};
 ghost use Rattle.twkb_num.specs.Block.{units_in};
 ghost use Rattle.twkb_num.specs.Spelling.{shortest};
-ghost use Rattle.twkb_num.specs.WholeText.{both_ends, eight_groups, AreMarked, AreTwoRuns};
+ghost use Rattle.twkb_num.specs.WholeText.{first_and_last, eight_groups, AreMarked, AreTwoRuns};
 ghost use Rattle.twkb_num.specs.Zigzag.{zigzag_of};
 
 use crate::alphabet::{FIRST_OPEN, POLYLINES};
@@ -29,7 +29,7 @@ pub fn two_in_text(text: &[u8]) -> Option<(i64, i64)>
     if count < WORD || 2 * WORD < count {
         return None;
     }
-    let units = end_units(text);
+    let units = first_and_last_units(text);
     let ends = ends_of(units)?;
     let used = first_len(ends, count as u32)?;
     let rest = count as u32 - used;
@@ -78,11 +78,13 @@ fn second_end(text: &[u8]) -> Option<usize>
     Some(end)
 }
 
-// The units of the first eight characters, and then those of the last eight.
+// The units of the first eight characters, and then those of the last eight. The difference from
+// the first character of the alphabet wraps: a character below 63 becomes a unit of 193 or more,
+// which `ends_of` refuses as one outside the alphabet.
 #[inline(always)]
-fn end_units(text: &[u8]) -> u8x16
+fn first_and_last_units(text: &[u8]) -> u8x16
     requires { 8 ≤ length text.now }
-    ensures { result ≡ units_in 63 (both_ends text.now) }
+    ensures { result ≡ units_in 63 (first_and_last text.now) }
 {
     let front = eight_bytes(text);
     let back = eight_bytes(&text[text.len() - WORD..]);

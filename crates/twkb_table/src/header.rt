@@ -18,13 +18,13 @@ pub fn header_text() -> &'static [u8]
 const HEADER: [&[u8]; FIELD_COUNT] = [b"depth", b"kind", b"id", b"precision", b"polyline"];
 
 // Whether the record is the header.
-pub(crate) fn is_header(here: &ByteRecord) -> bool
-    ensures { IsTrue result ↔ (fields_of here.now ≡ header) }
+pub(crate) fn is_header(csv_record: &ByteRecord) -> bool
+    ensures { IsTrue result ↔ (fields_of csv_record.now ≡ header) }
 {
-    if here.len() != FIELD_COUNT {
+    if csv_record.len() != FIELD_COUNT {
         return false;
     }
-    let fields = five_fields(here);
+    let fields = five_fields(csv_record);
     [
         fields.depth,
         fields.kind,

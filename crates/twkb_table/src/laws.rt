@@ -65,12 +65,12 @@ pub fn one_verdict()
 /// After records that name geometries, a record with a row as its verdict gives records that name
 /// geometries with that row; a refused record gives records that name none.
 pub fn judged()
-    ensures grows { (l : Allowance) (records : List Record) (here : Record) (gs : List Tree)
-        (row : Row) → Named l records gs → JudgedBehind l gs here (Accepted row)
-        → NameMore l records here gs row }
-    ensures refused { (l : Allowance) (records : List Record) (here : Record) (gs : List Tree)
+    ensures grows { (l : Allowance) (records : List Record) (fields : Record) (gs : List Tree)
+        (row : Row) → Named l records gs → JudgedBehind l gs fields (Accepted row)
+        → NameMore l records fields gs row }
+    ensures refused { (l : Allowance) (records : List Record) (fields : Record) (gs : List Tree)
         (reason : RowReason) → IsAllowance l → Named l records gs
-        → JudgedBehind l gs here (Refused reason) → NamesNone l (records ++ here ∷ []) }
+        → JudgedBehind l gs fields (Refused reason) → NamesNone l (records ++ fields ∷ []) }
 {}
 
 /// Records name geometries or have a fault, and never both; the fault has one place and one reason.

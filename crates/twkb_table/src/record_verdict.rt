@@ -104,19 +104,19 @@ pub(crate) fn judge_head<'a>(
     rows: &[OpenRow],
     nodes: u32,
     points_before: u32,
-    here: &'a ByteRecord,
+    csv_record: &'a ByteRecord,
 ) -> Result<RowHead<'a>, RowReason>
     ensures read { IfOk result (λ head. (v : Verdict) → JudgedAs head v → (before : List TableRow)
-        → StandsAfter before rows.now nodes points_before → Judged limits.now before
-        (fields_of here.now) v) }
+        → StandsAfter before rows.now nodes points_before
+        → Judged limits.now before (fields_of csv_record.now) v) }
     ensures refused { IfErr result (λ reason. (before : List TableRow)
-        → StandsAfter before rows.now nodes points_before → Judged limits.now before (fields_of here.now)
-        (Refused reason)) }
+        → StandsAfter before rows.now nodes points_before
+        → Judged limits.now before (fields_of csv_record.now) (Refused reason)) }
 {
-    if here.len() != FIELD_COUNT {
+    if csv_record.len() != FIELD_COUNT {
         return Err(RowReason::FieldCount);
     }
-    let fields = five_fields(here);
+    let fields = five_fields(csv_record);
     judge_fields(limits, rows, nodes, points_before, &fields)
 }
 
@@ -130,17 +130,18 @@ pub fn judge(
     rows: &[OpenRow],
     nodes: u32,
     points_before: u32,
-    here: &ByteRecord,
+    csv_record: &ByteRecord,
     points: &mut Vec<Pt>,
 ) -> Result<Row, Stop<RowReason>>
     ensures read { IfOk result (λ row. (before : List TableRow)
-        → StandsAfter before rows.now nodes points_before → Judged limits.now before (fields_of here.now)
+        → StandsAfter before rows.now nodes points_before
+        → Judged limits.now before (fields_of csv_record.now)
         (Accepted (row_with row points.new.items))) }
     ensures refused { IfErr result (IfRefused (λ reason. (before : List TableRow)
-        → StandsAfter before rows.now nodes points_before → Judged limits.now before (fields_of here.now)
-        (Refused reason))) }
+        → StandsAfter before rows.now nodes points_before
+        → Judged limits.now before (fields_of csv_record.now) (Refused reason))) }
 {
-    let head = match judge_head(limits, rows, nodes, points_before, here) {
+    let head = match judge_head(limits, rows, nodes, points_before, csv_record) {
         Ok(head) => head,
         Err(reason) => return Err(Stop::Refused(reason)),
     };

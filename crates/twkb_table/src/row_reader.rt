@@ -66,10 +66,10 @@ impl RowReader {
     // after a point. It is the root of the next geometry, and then waits. An `Err` is the first
     // reason to refuse it, or want of memory for its points.
     #[inline(always)]
-    pub(crate) fn read_root(&mut self, here: &ByteRecord) -> Result<(), Stop<RowReason>>
-        ensures read { OnOk result (BeginsFirst self.old (fields_of here.now) self.new) }
+    pub(crate) fn read_root(&mut self, csv_record: &ByteRecord) -> Result<(), Stop<RowReason>>
+        ensures read { OnOk result (BeginsFirst self.old (fields_of csv_record.now) self.new) }
         ensures refused { IfErr result
-            (IfRefused (λ reason. Judged (limits_of self.old) [] (fields_of here.now)
+            (IfRefused (λ reason. Judged (limits_of self.old) [] (fields_of csv_record.now)
             (Refused reason))) }
         ensures limits { limits_of self.new ≡ limits_of self.old }
         ensures sound { IsAllowance (limits_of self.old) }
@@ -77,7 +77,7 @@ impl RowReader {
         // lets proofs know that the limits are allowed
         let _learnt = self.limits.nest();
         self.waiting = None;
-        match judge(&self.limits, &[], 0, 0, here, &mut self.points) {
+        match judge(&self.limits, &[], 0, 0, csv_record, &mut self.points) {
             Ok(row) => {
                 let first = Root {
                     kind: row.kind,
@@ -146,24 +146,25 @@ impl RowReader {
     #[inline(always)]
     pub(crate) fn read_row(
         &mut self,
-        here: &ByteRecord,
+        csv_record: &ByteRecord,
         flat: &mut Flat,
     ) -> Result<bool, Stop<RowReason>>
         requires keeps { Keeps self.old flat.old }
         ensures more { IfOk result (λ more. more ≡ true
-            → GoesOn self.old flat.old (fields_of here.now) self.new flat.new) }
+            → GoesOn self.old flat.old (fields_of csv_record.now) self.new flat.new) }
         ensures root { IfOk result (λ more. more ≡ false
-            → EndsBefore self.old flat.old (fields_of here.now) self.new × (flat.new ≡ flat.old)) }
+            → EndsBefore self.old flat.old (fields_of csv_record.now) self.new
+            × (flat.new ≡ flat.old)) }
         ensures refused { IfErr result
-            (IfRefused (λ reason. JudgedAfter (limits_of self.old) flat.old (fields_of here.now)
-            (Refused reason))) }
+            (IfRefused (λ reason. JudgedAfter (limits_of self.old) flat.old
+            (fields_of csv_record.now) (Refused reason))) }
         ensures limits { limits_of self.new ≡ limits_of self.old }
         ensures sound { IsAllowance (limits_of self.old) }
     {
         // lets proofs know that the limits are allowed
         let _learnt = self.limits.nest();
         self.waiting = None;
-        let head = match self.judge_next(here, flat) {
+        let head = match self.judge_next(csv_record, flat) {
             Ok(head) => head,
             Err(reason) => return Err(Stop::Refused(reason)),
         };
@@ -191,15 +192,25 @@ impl RowReader {
 
     // Judges a record after the rows of the flat form, except for its points.
     #[inline(always)]
-    fn judge_next<'a>(&self, here: &'a ByteRecord, flat: &Flat) -> Result<RowHead<'a>, RowReason>
+    fn judge_next<'a>(
+        &self,
+        csv_record: &'a ByteRecord,
+        flat: &Flat,
+    ) -> Result<RowHead<'a>, RowReason>
         requires keeps { Keeps self.now flat.now }
         ensures read { IfOk result (λ head. (v : Verdict) → JudgedAs head v
-            → JudgedAfter (limits_of self.now) flat.now (fields_of here.now) v) }
+            → JudgedAfter (limits_of self.now) flat.now (fields_of csv_record.now) v) }
         ensures refused { IfErr result (λ reason. JudgedAfter (limits_of self.now) flat.now
-            (fields_of here.now) (Refused reason)) }
+            (fields_of csv_record.now) (Refused reason)) }
     {
         let nodes = flat.node_count();
         let count = flat.point_count();
-        judge_head(&self.limits, self.open_rows.as_slice(), nodes, count, here)
+        judge_head(
+            &self.limits,
+            self.open_rows.as_slice(),
+            nodes,
+            count,
+            csv_record,
+        )
     }
 }

@@ -17,7 +17,9 @@ use twkb_flat::Flat;
 use twkb_io::Tap;
 use twkb_tree::{Geometry, Limits};
 
-/// The geometries of a table, read from a tap one after another (profile; RFC 4180).
+/// The geometries of a table, read from a tap one after another (profile; RFC 4180). Take
+/// `next_flat` for rows that are needed only until the next call, and `next` for geometries to
+/// keep. If most geometries are points, it is quicker to try `next_point` before each `next_flat`.
 #[derive(Drop)]
 pub struct TableReader<'a, R> {
     alloc: Global,

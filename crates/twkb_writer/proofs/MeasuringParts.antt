@@ -12,7 +12,7 @@ use Rattle.twkb_tree.specs.Rows.{first_id, other_ids, own_points}
 use Rattle.twkb_tree.specs.RowLists.{IsAbove}
 use Rattle.twkb_grammar.specs.declared.style.Style.{Style}
 use Rattle.twkb_writer.specs.declared.totals.RowTotals.{RowTotals}
-use Rattle.twkb_writer.specs.Totals.{blank, with_part}
+use Rattle.twkb_writer.specs.Totals.{blank, with_component}
 use Rattle.twkb_writer.specs.MeasuredRows.{totals, points_ahead, measured}
 use Rattle.twkb_writer.proofs.TotalsLemmas.{totals_at, totals_none, totals_past}
 use Rattle.twkb_writer.proofs.BelowLemmas.{deep-rings}
@@ -88,14 +88,16 @@ no_entry_each style d f w g part ids (x ∷ xs) rest =
 
 -- the totals with one such row before the others
 abbrev pub with_row_of : {A : Type 0} → Kind → (A → List Point) → Option ℤ → A → RowTotals → RowTotals
-with_row_of k g id x l = with_part k (length (g x)) id blank l
+with_row_of k g id x l = with_component k (length (g x)) id blank l
 
 counts_one : (style : Style) (d : ℕ) (k : Kind) (id : Option ℤ) (ps : List Point) (more : List Row)
     → IsAbove (suc d) more
-    → totals style d (plain_row d k id ps ∷ more) ≡ with_part k (length ps) id blank (totals style d more)
+    → totals style d (plain_row d k id ps ∷ more)
+    ≡ with_component k (length ps) id blank (totals style d more)
 counts_one style d k id ps more h =
     totals_at style d (plain_row d k id ps) more refl
-    ∙ ap (λ (l : RowTotals). with_part k (length ps) id l (totals style d more)) (totals_none style (suc d) more h)
+    ∙ ap (λ (l : RowTotals). with_component k (length ps) id l (totals style d more))
+    (totals_none style (suc d) more h)
 
 -- one such row is a part
 pub one_part : {A : Type 0} (style : Style) (d : ℕ) (k : Kind) (g : A → List Point)
@@ -115,7 +117,7 @@ rings_totals rings = with_each (with_row_of kind.Ring (λ ps. ps)) None rings bl
 
 -- the totals with a polygon before the others
 abbrev pub with_polygon : Option ℤ → List (List Point) → RowTotals → RowTotals
-with_polygon id rings l = with_part kind.Polygon 0 id (rings_totals rings) l
+with_polygon id rings l = with_component kind.Polygon 0 id (rings_totals rings) l
 
 -- the totals of rings before rows that are above them
 pub totals_rings : (style : Style) (d : ℕ) (rings : List (List Point)) (rest : List Row)
@@ -131,7 +133,7 @@ counts_polygon : (style : Style) (d : ℕ) (id : Option ℤ) (rings : List (List
     → totals style d (polygon_rows d id rings ++ more) ≡ with_polygon id rings (totals style d more)
 counts_polygon style d id rings more h =
     totals_at style d (plain_row d kind.Polygon id []) (ring_rows (suc d) rings ++ more) refl
-    ∙ (λ i. with_part kind.Polygon 0 id (totals_rings style (suc d) rings more h i)
+    ∙ (λ i. with_component kind.Polygon 0 id (totals_rings style (suc d) rings more h i)
     (totals_past style d (ring_rows (suc d) rings) more (deep-rings (suc d) rings) i))
 
 -- a polygon with its rings is a part

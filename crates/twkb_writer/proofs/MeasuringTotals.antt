@@ -6,7 +6,7 @@ use Rattle.twkb_tree.specs.Tree.{Ids, HasIds}
 use Rattle.twkb_tree.specs.Rows.{first_id, other_ids}
 use Rattle.twkb_writer.specs.declared.totals.RowTotals.{RowTotals}
 use Rattle.twkb_writer.specs.declared.precisions.Precisions.TheVariants.{Absent}
-use Rattle.twkb_writer.specs.Totals.{blank, id_len, lead_len, with_part}
+use Rattle.twkb_writer.specs.Totals.{blank, id_len, lead_len, with_component}
 use Rattle.twkb_writer.specs.Tails.{signed_len}
 use Rattle.twkb_writer.proofs.MeasuringParts.{with_each}
 
@@ -26,10 +26,11 @@ pub record IsCounted {A : Type 0} (w : Option ℤ → A → RowTotals → RowTot
   pub ids : (id : Option ℤ) (x : A) (l : RowTotals) → (w id x l).ids ≡ id_len id + l.ids
   pub named : (id : Option ℤ) (x : A) (l : RowTotals) → (w id x l).named ≡ (is_some id || l.named)
 
--- a part is counted
-pub part_counted : {A : Type 0} (k : Kind) (own : A → ℕ) (below : A → RowTotals)
-    → IsCounted (λ id x l. with_part k (own x) id (below x) l)
-part_counted k own below = record { members = λ id x l. refl; ids = λ id x l. refl; named = λ id x l. refl }
+-- a component is counted
+pub component_counted : {A : Type 0} (k : Kind) (own : A → ℕ) (below : A → RowTotals)
+    → IsCounted (λ id x l. with_component k (own x) id (below x) l)
+component_counted k own below =
+    record { members = λ id x l. refl; ids = λ id x l. refl; named = λ id x l. refl }
 
 -- there are as many members as parts
 pub members_each : {A : Type 0} (w : Option ℤ → A → RowTotals → RowTotals) → IsCounted w
@@ -86,7 +87,8 @@ total f (x ∷ xs) = f x + total f xs
 -- the bytes of parts
 bytes_each : {A : Type 0} (k : Kind) (own : A → ℕ) (below : A → RowTotals) (f : A → ℕ)
     → ((x : A) → lead_len k (own x) (below x) + (below x).bytes ≡ f x)
-    → (ids : Ids) (xs : List A) → (with_each (λ id x l. with_part k (own x) id (below x) l) ids xs
+    → (ids : Ids) (xs : List A)
+    → (with_each (λ id x l. with_component k (own x) id (below x) l) ids xs
     blank).bytes ≡ total f xs
 bytes_each k own below f is ids [] = refl
 bytes_each k own below f is ids (x ∷ xs) =
@@ -94,13 +96,14 @@ bytes_each k own below f is ids (x ∷ xs) =
 
 -- parts are not geometries, so they add no bounds
 bounds_each : {A : Type 0} (k : Kind) (own : A → ℕ) (below : A → RowTotals) (ids : Ids) (xs : List A)
-    → (with_each (λ id x l. with_part k (own x) id (below x) l) ids xs blank).bounds ≡ None
+    → (with_each (λ id x l. with_component k (own x) id (below x) l) ids xs blank).bounds ≡ None
 bounds_each k own below ids [] = refl
 bounds_each k own below ids (x ∷ xs) = bounds_each k own below (other_ids ids) xs
 
 -- parts add no precisions
 precisions_each : {A : Type 0} (k : Kind) (own : A → ℕ) (below : A → RowTotals) (ids : Ids) (xs : List A)
-    → (with_each (λ id x l. with_part k (own x) id (below x) l) ids xs blank).precisions ≡ Absent
+    → (with_each (λ id x l. with_component k (own x) id (below x) l) ids xs blank).precisions
+    ≡ Absent
 precisions_each k own below ids [] = refl
 precisions_each k own below ids (x ∷ xs) = precisions_each k own below (other_ids ids) xs
 
@@ -117,12 +120,16 @@ pub record IsTotal (l : RowTotals) (n : ℕ) (ids : Ids) (bytes : ℕ) : Type 0 
 pub total_each : {A : Type 0} (k : Kind) (own : A → ℕ) (below : A → RowTotals) (f : A → ℕ)
     → ((x : A) → lead_len k (own x) (below x) + (below x).bytes ≡ f x)
     → (ids : Ids) (xs : List A) → HasIds ids (length xs)
-    → IsTotal (with_each (λ id x l. with_part k (own x) id (below x) l) ids xs blank) (length xs)
+    → IsTotal (with_each (λ id x l. with_component k (own x) id (below x) l) ids xs blank)
+    (length xs)
     ids (total f xs)
 total_each k own below f is ids xs h = record {
-  members = members_each (λ id x l. with_part k (own x) id (below x) l) (part_counted k own below) ids xs;
-  ids_are = ids_each (λ id x l. with_part k (own x) id (below x) l) (part_counted k own below) ids xs h;
-  named = named_each (λ id x l. with_part k (own x) id (below x) l) (part_counted k own below) ids xs h;
+  members = members_each (λ id x l. with_component k (own x) id (below x) l)
+      (component_counted k own below) ids xs;
+  ids_are = ids_each (λ id x l. with_component k (own x) id (below x) l)
+      (component_counted k own below) ids xs h;
+  named = named_each (λ id x l. with_component k (own x) id (below x) l)
+      (component_counted k own below) ids xs h;
   bytes_are = bytes_each k own below f is ids xs;
   no_bounds = bounds_each k own below ids xs;
   no_precisions = precisions_each k own below ids xs;

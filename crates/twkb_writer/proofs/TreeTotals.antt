@@ -24,7 +24,7 @@ use Rattle.twkb_writer.specs.declared.totals.RowTotals.{RowTotals}
 use Rattle.twkb_writer.specs.declared.precisions.Precisions.TheVariants.{One}
 use Rattle.twkb_writer.specs.declared.sizes.Entry.{Entry}
 use Rattle.twkb_writer.specs.declared.tails.TailTotals.{TailTotals}
-use Rattle.twkb_writer.specs.Totals.{blank, entry_for, with_part, with_geometry}
+use Rattle.twkb_writer.specs.Totals.{blank, entry_for, with_component, with_geometry}
 use Rattle.twkb_writer.specs.MeasuredRows.{totals, row_totals, points_ahead}
 use Rattle.twkb_writer.specs.Precisions.{agreed}
 use Rattle.twkb_writer.specs.Tails.{tail_of}
@@ -224,22 +224,24 @@ counted_from w counted ids k xs l is = omega (
   fewer k xs,
 )
 
--- ---- totals with one more part before the others
+-- ---- totals with one more component before the others
 
--- the totals with one more part of one row
-pub part_more : {A : Type 0} (kind : Kind) (own : A → List Point) (ids : Ids) (j : ℕ) (x : A)
+-- the totals with one more component of one row
+pub component_more : {A : Type 0} (kind : Kind) (own : A → List Point) (ids : Ids) (j : ℕ) (x : A)
     (ps : List Point) (id : Option ℤ) (below l new : RowTotals)
     → ps ≡ own x → id ≡ first_id (ids_from j ids) → below ≡ blank
-    → new ≡ with_part kind (length ps) id below l
+    → new ≡ with_component kind (length ps) id below l
     → new ≡ with_row_of kind own (first_id (ids_from j ids)) x l
-part_more kind own ids j x ps id below l new ep ei eb is = is ∙ (λ i. with_part kind (length (ep i)) (ei i) (eb i) l)
+component_more kind own ids j x ps id below l new ep ei eb is =
+    is ∙ (λ i. with_component kind (length (ep i)) (ei i) (eb i) l)
 
 -- the totals with one more polygon
 pub polygon_more : (ids : Ids) (j : ℕ) (x : List (List Point)) (id : Option ℤ) (below l new : RowTotals)
     → id ≡ first_id (ids_from j ids) → below ≡ totals Full 0 (ring_rows 0 x)
-    → new ≡ with_part kinds.Polygon 0 id below l → new ≡ with_polygon
+    → new ≡ with_component kinds.Polygon 0 id below l → new ≡ with_polygon
     (first_id (ids_from j ids)) x l
-polygon_more ids j x id below l new ei eb is = is ∙ (λ i. with_part kinds.Polygon 0 (ei i) (rings_are x below eb i) l)
+polygon_more ids j x id below l new ei eb is =
+    is ∙ (λ i. with_component kinds.Polygon 0 (ei i) (rings_are x below eb i) l)
 
 -- the totals with one more geometry, by its own row, the rows below it and its points
 pub geometry_more : (g : Tree) (id : Option ℤ) (kind : Kind) (ps : List Point) (p : ℤ)

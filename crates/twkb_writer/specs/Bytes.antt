@@ -119,18 +119,18 @@ geometry_lead style p e k d own rs =
     header style k p own e ++ (if is_bare own e then [] else counts_bytes k own e.members
     (if e.named then ids_bytes (members_below d rs) else []))
 
--- the bytes before the points of a part of a geometry: a ring, or a member of a multi type
-abbrev pub part_lead : Kind → ℕ → ℕ → List Row → List ℕ
-part_lead k d own rs = counts_bytes k own (length (members_below d rs)) []
+-- the bytes before the points of a component of a geometry: a ring, or a member of a multi type
+abbrev pub component_lead : Kind → ℕ → ℕ → List Row → List ℕ
+component_lead k d own rs = counts_bytes k own (length (members_below d rs)) []
 
 -- the bytes before the points of any row; a row with a precision is a geometry itself
 abbrev pub lead : Style → Option ℤ → List Entry → Kind → ℕ → ℕ → List Row → List ℕ
-lead style None es k d own rs = part_lead k d own rs
+lead style None es k d own rs = component_lead k d own rs
 lead style (Some p) [] k d own rs = []
 lead style (Some p) (e ∷ es) k d own rs = geometry_lead style p e k d own rs
 
 -- the point from which the first difference of a row counts: the origin for a geometry itself, the
--- point before it for a part (profile)
+-- point before it for a component (profile)
 abbrev pub way_start : Option ℤ → Point → Point
 way_start None at = at
 way_start (Some p) at = origin

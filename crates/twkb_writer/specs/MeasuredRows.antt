@@ -11,10 +11,10 @@ use Rattle.twkb_grammar.specs.declared.style.Style.{Style}
 use Rattle.twkb_writer.specs.declared.totals.RowTotals.{RowTotals}
 use Rattle.twkb_writer.specs.declared.sizes.Entry.{Entry}
 use Rattle.twkb_writer.specs.declared.tails.TailTotals.{TailTotals}
-use Rattle.twkb_writer.specs.Totals.{blank, entry_for, with_part, with_geometry}
+use Rattle.twkb_writer.specs.Totals.{blank, entry_for, with_component, with_geometry}
 use Rattle.twkb_writer.specs.Tails.{tail_of}
 
--- the points up to the next geometry, if the row is a part; none if it is a geometry itself
+-- the points up to the next geometry, if the row is a component; none if it is a geometry itself
 abbrev pub ahead_of : Option ℤ → List Point → List Point
 ahead_of None ps = ps
 ahead_of (Some p) ps = []
@@ -27,7 +27,7 @@ points_ahead (r ∷ rs) = ahead_of r.precision (r.points ++ points_ahead rs)
 -- the totals after one more row is added before the rows: it has `own` points, `below` totals the
 -- rows under it, and `t` totals the points up to the end of its geometry
 abbrev pub row_totals : Style → Kind → ℕ → Option ℤ → Option ℤ → RowTotals → TailTotals → RowTotals → RowTotals
-row_totals style k own id None below t l = with_part k own id below l
+row_totals style k own id None below t l = with_component k own id below l
 row_totals style k own id (Some p) below t l = with_geometry style (entry_for style k p own below t).size p id below t l
 
 -- the entry of the row, if it is a geometry itself

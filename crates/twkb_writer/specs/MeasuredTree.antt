@@ -9,7 +9,7 @@ use Rattle.twkb_writer.specs.declared.totals.RowTotals.{RowTotals}
 use Rattle.twkb_writer.specs.MeasuredRows.{totals, row_totals}
 use Rattle.twkb_writer.specs.Tails.{tail_of}
 
--- the points of the geometry itself, those of its parts included; a collection has none
+-- the points of the geometry itself, those of its components included; a collection has none
 abbrev pub way_of : Tree → List Point
 way_of (simple p s) = points_in s
 way_of (collection p ids gs) = []

@@ -10,7 +10,7 @@ use Rattle.twkb_writer.specs.declared.job.PlacedNode.{PlacedNode}
 use Rattle.twkb_writer.specs.declared.members.MemberList.{MemberList}
 use Rattle.twkb_writer.specs.declared.sizes.Entry.{Entry}
 use Rattle.twkb_writer.specs.Bytes.{members_below, ids_bytes, counts_bytes, is_bare, header}
-use Rattle.twkb_writer.specs.Bytes.{part_lead, lead, rows_bytes}
+use Rattle.twkb_writer.specs.Bytes.{component_lead, lead, rows_bytes}
 
 -- the rows after the node
 abbrev pub rows_after : List Row → PlacedNode → List Row
@@ -41,9 +41,10 @@ abbrev pub own_of : Entry → List Row → PlacedNode → List ℕ
 own_of e rows at = if is_bare at.node.points e then [] else counts_of
     (record { count = e.members; named = e.named }) rows at
 
--- the counts of a node that is a part of a geometry
+-- the counts of a node that is a component of a geometry
 abbrev pub component_of : List Row → PlacedNode → List ℕ
-component_of rows at = part_lead at.node.row.kind at.node.row.depth at.node.points (rows_after rows at)
+component_of rows at =
+    component_lead at.node.row.kind at.node.row.depth at.node.points (rows_after rows at)
 
 -- the bytes before the node's points, given the entries from this index on
 abbrev pub lead_of : Job → ℕ → PlacedNode → List ℕ

@@ -43,7 +43,7 @@ lead_len kind.MultiLinestring own below = number_len below.members + below.ids
 lead_len kind.MultiPolygon own below = number_len below.members + below.ids
 lead_len kind.Collection own below = number_len below.members + below.ids
 
--- the row has no points, no members and no parts
+-- the row has no points, no members and no components
 abbrev pub is_bare : ℕ → RowTotals → Bool
 is_bare own below = nat_eq own 0 && nat_eq below.members 0
 
@@ -81,9 +81,9 @@ abbrev pub blob_len : Style → ℕ → ℕ
 blob_len Full size = 2 + number_len size + size
 blob_len Plain size = 2 + size
 
--- the totals after a part of a geometry is added before the rows
-abbrev pub with_part : Kind → ℕ → Option ℤ → RowTotals → RowTotals → RowTotals
-with_part k own id below l = record {
+-- the totals after a component of a geometry is added before the rows
+abbrev pub with_component : Kind → ℕ → Option ℤ → RowTotals → RowTotals → RowTotals
+with_component k own id below l = record {
   members = l.members + 1;
   ids = id_len id + l.ids;
   named = is_some id || l.named;

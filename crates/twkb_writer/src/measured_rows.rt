@@ -96,18 +96,18 @@ fn take_geometry(
     entry
 }
 
-// Adds a row that is a part of a geometry.
+// Adds a row that is a component of a geometry.
 #[inline(always)]
-fn take_part(node: &Node, by_depth: &mut Depths)
+fn take_component(node: &Node, by_depth: &mut Depths)
     requires deep { node.now.row.depth ≤ row_depth_cap }
     requires small { (k : ℕ) → k < DEPTHS → IsSmall (slice_index_or by_depth.old k blank) }
-    requires part { node.now.row.precision ≡ None }
+    requires component { node.now.row.precision ≡ None }
     ensures { (style : InStyle) (points : PointsAhead) → TakenRow style node.now points by_depth.old by_depth.new None }
 {
     let depth = node.row.depth as usize;
     let others = *by_depth.at(depth);
     let below = by_depth.at(depth + 1);
-    let own = others.with_part(node.row.kind, node.points, node.row.id, below);
+    let own = others.with_component(node.row.kind, node.points, node.row.id, below);
     by_depth.put(depth, own);
 }
 
@@ -123,7 +123,7 @@ fn take_row(style: Style, node: &Node, points: &TailTotals, by_depth: &mut Depth
     match node.row.precision {
         Some(precision) => Some(take_geometry(style, node, precision, points, by_depth)),
         None => {
-            take_part(node, by_depth);
+            take_component(node, by_depth);
             None
         }
     }

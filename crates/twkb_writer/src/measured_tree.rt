@@ -20,7 +20,7 @@ use twkb_points::Pt;
 use twkb_tree::{Element, Geometry, Ids, Kind, Lines, Members, Pts, Shape, id_at, own_parts};
 
 // A component of a geometry whose length is measured: a point, line, ring or polygon.
-trait MeasuredPart: Element {
+trait MeasuredComponent: Element {
     // The points of the component's own row.
     ghost own: { Self → List Point };
 
@@ -38,7 +38,7 @@ trait MeasuredPart: Element {
         ensures most { result.bytes ≤ tail.bytes + 20 * length (all self.now) };
 }
 
-impl MeasuredPart for Pt {
+impl MeasuredComponent for Pt {
     ghost own = { λ point. point ∷ [] };
 
     ghost all = { λ point. point ∷ [] };
@@ -52,7 +52,7 @@ impl MeasuredPart for Pt {
     }
 }
 
-impl MeasuredPart for Pts {
+impl MeasuredComponent for Pts {
     ghost own = { λ points. points };
 
     ghost all = { λ points. points };
@@ -66,7 +66,7 @@ impl MeasuredPart for Pts {
     }
 }
 
-impl MeasuredPart for Lines {
+impl MeasuredComponent for Lines {
     ghost own = { λ rings. [] };
 
     ghost all = { flatten };
@@ -81,7 +81,7 @@ impl MeasuredPart for Lines {
 }
 
 // Adds the points of components before those after them in the geometry.
-fn tail_before<T: MeasuredPart>(components: &[T], tail: TailTotals) -> TailTotals
+fn tail_before<T: MeasuredComponent>(components: &[T], tail: TailTotals) -> TailTotals
     requires room { tail.bytes + 20 * length (flat_map T.all components.now) ≤ sums_cap }
     ensures value { (ahead : List Point) → tail ≡ tail_of ahead
         → result ≡ tail_of (flat_map T.all components.now ++ ahead) }
@@ -95,7 +95,7 @@ fn tail_before<T: MeasuredPart>(components: &[T], tail: TailTotals) -> TailTotal
 }
 
 // The totals of rings, or of members that are points or linestrings.
-fn components_totals<T: MeasuredPart>(kind: Kind, components: &[T], ids: &Ids) -> RowTotals
+fn components_totals<T: MeasuredComponent>(kind: Kind, components: &[T], ids: &Ids) -> RowTotals
     requires few { length components.now ≤ NODES_CAP }
     requires few_points { length (flat_map T.own components.now) ≤ POINTS_CAP }
     ensures value { result ≡ totals Full 0 (rows_of_each
@@ -105,7 +105,7 @@ fn components_totals<T: MeasuredPart>(kind: Kind, components: &[T], ids: &Ids) -
     let mut totals = RowTotals::blank();
     for index in (0..components.len()).rev() {
         let own = components[index].own_points().len() as u32;
-        totals = totals.with_part(kind, own, id_at(ids, index), &RowTotals::blank());
+        totals = totals.with_component(kind, own, id_at(ids, index), &RowTotals::blank());
     }
     totals
 }
@@ -120,7 +120,7 @@ fn areas_totals(areas: &[Lines], ids: &Ids) -> RowTotals
     let mut totals = RowTotals::blank();
     for index in (0..areas.len()).rev() {
         let rings = components_totals(Kind::Ring, areas[index].as_slice(), &None);
-        totals = totals.with_part(Kind::Polygon, 0, id_at(ids, index), &rings);
+        totals = totals.with_component(Kind::Polygon, 0, id_at(ids, index), &rings);
     }
     totals
 }

@@ -85,7 +85,7 @@ fn put_own<S: Sink>(
     put_counts(flat, at, members, gatherer, work);
 }
 
-// Puts the bytes before the points of a part of a geometry.
+// Puts the bytes before the points of a component of a geometry.
 #[inline(always)]
 fn put_component<S: Sink>(
     flat: &Flat,

@@ -35,7 +35,8 @@ fn step_len(from: Pt, to: Pt) -> u64
     ensures most { result ≤ 20 }
 {
     let mut cursor = Cursor::origin();
-    let _to_the_start = cursor.delta(from);
+    // moves the cursor to `from`; this difference is not counted
+    let _from_origin = cursor.delta(from);
     let (x, y) = cursor.delta(to);
     signed_len(x) + signed_len(y)
 }
@@ -49,7 +50,8 @@ fn add_two_steps(bytes: &mut VarintLens, from: Pt, by: Pt, to: Pt)
     ensures most { bytes.new ≤ bytes.old + 40 }
 {
     let mut cursor = Cursor::origin();
-    let _to_the_start = cursor.delta(from);
+    // moves the cursor to `from`; this difference is not counted
+    let _from_origin = cursor.delta(from);
     let (x, y) = cursor.delta(by);
     let (next_x, next_y) = cursor.delta(to);
     bytes.add_four(zigzag(x), zigzag(y), zigzag(next_x), zigzag(next_y));

@@ -3,7 +3,7 @@ ghost use Rattle.std.specs.Prelude.{◌≡◌, ◌+◌, ◌≤◌, ◌^◌};
 ghost use Rattle.twkb_tree.specs.declared.limits.TheConstants.{NODES_CAP};
 ghost use Rattle.twkb_writer.specs.Caps.{sums_cap};
 ghost use Rattle.twkb_writer.specs.Totals.{blank, lead_len, body_len, all_bounds, box_for, box_len};
-ghost use Rattle.twkb_writer.specs.Totals.{id_len, is_point, entry_for, blob_len, with_part};
+ghost use Rattle.twkb_writer.specs.Totals.{id_len, is_point, entry_for, blob_len, with_component};
 ghost use Rattle.twkb_writer.specs.Totals.{with_geometry};
 ghost use Rattle.twkb_grammar.specs.declared.style.Style.TheVariants.{Full};
 
@@ -25,7 +25,7 @@ pub(crate) struct RowTotals {
     pub(crate) ids: u64,
     // Whether one of these rows has an id.
     pub(crate) named: bool,
-    // The number of bytes of the geometries, and of the counts of the parts.
+    // The number of bytes of the geometries, and of the counts of the components.
     pub(crate) bytes: u64,
     // The bounds of the points of the geometries.
     pub(crate) bounds: Option<Bounds>,
@@ -183,10 +183,10 @@ impl RowTotals {
         }
     }
 
-    // Adds a part of a geometry before these rows: its own row has `own` points, and `below` totals
-    // the rows under it.
+    // Returns these totals with a component of a geometry before these rows: its own row has `own`
+    // points, and `below` totals the rows under it.
     #[inline(always)]
-    pub(crate) fn with_part(
+    pub(crate) fn with_component(
         self,
         kind: Kind,
         own: u32,
@@ -198,7 +198,7 @@ impl RowTotals {
         requires bytes { self.bytes ≤ sums_cap }
         requires ids_below { below.now.ids ≤ sums_cap }
         requires bytes_below { below.now.bytes ≤ sums_cap }
-        ensures value { result ≡ with_part kind own id below.now self }
+        ensures value { result ≡ with_component kind own id below.now self }
         ensures most { result.ids + result.bytes ≤ (below.now.ids + below.now.bytes) + (self.ids + self.bytes) + 20 }
     {
         RowTotals {
@@ -211,8 +211,9 @@ impl RowTotals {
         }
     }
 
-    // Adds a geometry before these rows: its box and body have `size` bytes, `below` totals the
-    // rows under it, and `tail` totals its points, except those of collection members.
+    // Returns these totals with a geometry before these rows: its box and body have `size` bytes,
+    // `below` totals the rows under it, and `tail` totals its points, except those of collection
+    // members.
     #[inline(always)]
     pub(crate) fn with_geometry(
         self,

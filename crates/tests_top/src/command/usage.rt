@@ -3,7 +3,7 @@ use super::{Ended, POINT_TABLE, run_over};
 use crate::devices::{AMPLE, SOUND};
 use std::alloc::Global;
 use std::io::ErrorKind;
-use twkb_command::lack_words;
+use twkb_command::report_unread_words;
 use twkb_io::Tap;
 
 // Whether a run ended with status 2 and a text on standard error alone, which contains this word.
@@ -63,10 +63,10 @@ fn words_that_are_refused_end_with_2(rt: HostRuntime) {
 }
 
 // Whether words that can't be read for this reason have this status and this line. If memory was
-// refused, `lack_memory` reports it.
-fn lacks(alloc: Global, kind: ErrorKind, status: u8, line: &[u8]) -> bool {
+// refused, `report_no_memory` reports it.
+fn is_reported(alloc: Global, kind: ErrorKind, status: u8, line: &[u8]) -> bool {
     let mut errors = Tap::new(Vec::new(alloc));
-    let found = lack_words(&mut errors, kind);
+    let found = report_unread_words(&mut errors, kind);
     let told = errors.into_inner();
     told.as_slice() == line && found == status
 }
@@ -75,7 +75,7 @@ fn lacks(alloc: Global, kind: ErrorKind, status: u8, line: &[u8]) -> bool {
 fn words_without_memory_end_with_4_and_words_that_are_no_text_with_2(rt: HostRuntime) {
     let alloc = rt.alloc();
     assert!(rt;
-        lacks(
+        is_reported(
             alloc,
             ErrorKind::OutOfMemory,
             4,
@@ -83,7 +83,7 @@ fn words_without_memory_end_with_4_and_words_that_are_no_text_with_2(rt: HostRun
         )
     );
     assert!(rt;
-        lacks(
+        is_reported(
             alloc,
             ErrorKind::InvalidData,
             2,

@@ -15,7 +15,7 @@ returns c =
     let beside = c.in_ok-beside.beside in
     let x = c.in-Complete in
     let y = c.in-Complete-long_number in
-    two_numbers from beside c.in_ok-to.to c.args.bytes.now x.x y.y x.width y.height
+    two_numbers from beside c.in_ok-to.to c.args.bytes.now x.x y.y x.x_length y.y_length
     c.unzigzag.result c.unzigzag-2.result x.ensures y.ensures c.unzigzag.ensures c.unzigzag-2.ensures
     (subst (λ d. in_range (from.x +ℤ d) ≡ true) (to_z-of_z w64 c.unzigzag.result x_fits)
     (passes _ (c.in_ok-beside.ensures.range.0 refl)))

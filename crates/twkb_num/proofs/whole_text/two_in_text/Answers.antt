@@ -5,19 +5,19 @@ use Rattle.std.proofs.lemmas.List.{length-map}
 use Rattle.twkb_num.proofs.FourLemmas.{marks_of}
 use Rattle.twkb_num.proofs.ByteLemmas.{bytes_of}
 use Rattle.twkb_num.proofs.JoinLemmas.{groups_small}
-use Rattle.twkb_num.proofs.WholeTextLemmas.{units_below, length-end_units, first_groups, last_groups}
-use Rattle.twkb_num.proofs.WholeTextLemmas.{two_read}
+use Rattle.twkb_num.proofs.WholeTextLemmas.{units_below, length-first_and_last_units}
+use Rattle.twkb_num.proofs.WholeTextLemmas.{first_groups, last_groups, two_read}
 use Rattle.twkb_num.proofs.whole_text.two_in_text.Goals as goal
 
 pub returns-clause-spelled : goal.returns-clause-spelled
 returns-clause-spelled c =
     let text = c.args.text.now in
     let used = c.in_ok-used.used in
-    let us = c.end_units-units.result in
-    let us_are = c.end_units-units.ensures in
+    let us = c.first_and_last_units-units.result in
+    let us_are = c.first_and_last_units-units.ensures in
     let marked = c.in_ok-ends.ensures in
     let found = c.in_ok-used.ensures in
-    let long = length-end_units text us c.if-count-lt-WORD.false us_are in
+    let long = length-first_and_last_units text us c.if-count-lt-WORD.false us_are in
     let below = units_below text us us_are in
     let first = c.unzigzag.ensures ∙ c.numbers-first.ensures.first
     ∙ first_groups us long below _ used refl found.some found.first_short in

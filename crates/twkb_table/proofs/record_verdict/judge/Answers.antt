@@ -13,7 +13,7 @@ returns-in-Err-append_to-clause-refused c =
 pub returns-clause-read : goal.returns-clause-read
 returns-clause-read c before stands =
     let own = c.in_default.ensures.given in
-    subst (λ r. Judged c.args.limits.now before (fields_of c.args.here.now) (Accepted r))
+    subst (λ r. Judged c.args.limits.now before (fields_of c.args.csv_record.now) (Accepted r))
     (given_row c.in-Ok.head c.row.result c.clear.new.self.items c.append_to.new.points.items
     own.0 c.row.ensures c.clear.ensures.items own.1)
     (c.in-Ok.ensures.read _ own.2 before stands)

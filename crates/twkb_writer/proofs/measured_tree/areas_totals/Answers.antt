@@ -7,7 +7,7 @@ use Rattle.twkb_tree.specs.declared.kind.Kind.TheVariants as kind
 use Rattle.twkb_grammar.specs.declared.style.Style.TheVariants.{Full}
 use Rattle.twkb_writer.specs.MeasuredRows.{totals}
 use Rattle.twkb_writer.proofs.MeasuringParts.{with_polygon, rings_totals}
-use Rattle.twkb_writer.proofs.MeasuringTotals.{part_counted}
+use Rattle.twkb_writer.proofs.MeasuringTotals.{component_counted}
 use Rattle.twkb_writer.proofs.TreeTotals.{each_back, polygon_more, count_back, fewer_points}
 use Rattle.twkb_writer.proofs.TreeTotals.{areas_back, fewer_areas, area_within, areas_have_rows}
 use Rattle.twkb_writer.proofs.TreeTotals.{counted_from, areas_are}
@@ -36,26 +36,27 @@ components_totals-rings-requires-clause-few_points c =
     ) in
     few
 
-pub with_part-totals-requires-clause-members : goal.with_part-totals-requires-clause-members
-with_part-totals-requires-clause-members c =
+pub with_component-totals-requires-clause-members : goal.with_component-totals-requires-clause-members
+with_component-totals-requires-clause-members c =
     omega (
       arith,
       c.requires.few,
       areas_have_rows c.args.areas.now,
-      counted_from with_polygon (part_counted kind.Polygon (λ rings. 0) rings_totals) c.args.ids.now
+      counted_from with_polygon (component_counted kind.Polygon (λ rings. 0) rings_totals)
+          c.args.ids.now
           c.loop-index.index c.args.areas.now _ c.loop-index.invariant.value,
     )
 
-pub with_part-totals-requires-clause-ids : goal.with_part-totals-requires-clause-ids
-with_part-totals-requires-clause-ids c =
+pub with_component-totals-requires-clause-ids : goal.with_component-totals-requires-clause-ids
+with_component-totals-requires-clause-ids c =
     omega (arith, c.requires.few, c.loop-index.invariant.most, fewer_areas c.loop-index.index c.args.areas.now)
 
-pub with_part-totals-requires-clause-bytes : goal.with_part-totals-requires-clause-bytes
-with_part-totals-requires-clause-bytes c =
+pub with_component-totals-requires-clause-bytes : goal.with_component-totals-requires-clause-bytes
+with_component-totals-requires-clause-bytes c =
     omega (arith, c.requires.few, c.loop-index.invariant.most, fewer_areas c.loop-index.index c.args.areas.now)
 
-pub with_part-totals-requires-clause-ids_below : goal.with_part-totals-requires-clause-ids_below
-with_part-totals-requires-clause-ids_below c =
+pub with_component-totals-requires-clause-ids_below : goal.with_component-totals-requires-clause-ids_below
+with_component-totals-requires-clause-ids_below c =
     omega (
       arith,
       c.requires.few,
@@ -65,8 +66,8 @@ with_part-totals-requires-clause-ids_below c =
       ap (λ (rings : List (List Point)). length rings) c.as_slice.ensures.items,
     )
 
-pub with_part-totals-requires-clause-bytes_below : goal.with_part-totals-requires-clause-bytes_below
-with_part-totals-requires-clause-bytes_below c =
+pub with_component-totals-requires-clause-bytes_below : goal.with_component-totals-requires-clause-bytes_below
+with_component-totals-requires-clause-bytes_below c =
     omega (
       arith,
       c.requires.few,
@@ -85,12 +86,12 @@ loop-index-preserved c =
           c.loop-index-test.true c.loop-index.auto.index area.is c.loop-index.invariant.value
           (polygon_more c.args.ids.now (k - 1) area.result _ _ _ _ c.id_at.ensures
           (c.components_totals-rings.ensures.value ∙ ap (λ rings. totals Full 0 (ring_rows 0 rings))
-          c.as_slice.ensures.items) c.with_part-totals.ensures.value);
+          c.as_slice.ensures.items) c.with_component-totals.ensures.value);
       most = omega (
         arith,
         c.loop-index.invariant.most,
         c.components_totals-rings.ensures.most,
-        c.with_part-totals.ensures.most,
+        c.with_component-totals.ensures.most,
         ap (λ (rings : List (List Point)). length rings) c.as_slice.ensures.items,
         areas_back c.args.areas.now k area.result c.loop-index-test.true c.loop-index.auto.index area.is,
       );

@@ -8,7 +8,8 @@ use Rattle.twkb_writer.proofs.measured_tree.components_totals.Given as goal
 
 abbrev pub invariant-loop-index : goal.invariant-loop-index
 invariant-loop-index g l = record {
-  value : l.totals ≡ with_each (with_row_of l.kind g.T.MeasuredPart.own) (ids_from l.index l.ids)
+  value : l.totals ≡ with_each (with_row_of l.kind g.T.MeasuredComponent.own)
+      (ids_from l.index l.ids)
       (drop l.index l.components) blank;
   most : load l.totals ≤ 20 * length (drop l.index l.components);
 }

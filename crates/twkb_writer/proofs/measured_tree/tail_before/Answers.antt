@@ -10,15 +10,17 @@ in_front_of-tail-requires g c =
         arith,
         c.loop-index.invariant.most,
         c.requires.room,
-        count_back g.T.MeasuredPart.all c.args.components.now k c.index-components-index.result c.loop-index-test.true
+        count_back g.T.MeasuredComponent.all c.args.components.now k
+            c.index-components-index.result c.loop-index-test.true
             c.loop-index.auto.index c.index-components-index.is,
-        fewer_points g.T.MeasuredPart.all (k - 1) c.args.components.now,
+        fewer_points g.T.MeasuredComponent.all (k - 1) c.args.components.now,
       );
     }
 
 pub loop-index-init : goal.loop-index-init
 loop-index-init g c = record {
-  value = λ ahead starts. tail_end g.T.MeasuredPart.all c.args.components.now _ ahead _ (omega arith) starts;
+  value = λ ahead starts. tail_end g.T.MeasuredComponent.all c.args.components.now _ ahead _
+      (omega arith) starts;
   most = omega arith;
 }
 
@@ -27,14 +29,16 @@ loop-index-preserved g c =
     let inv = c.loop-index.invariant in
     let k = c.loop-index.index in
     record {
-      value = λ ahead starts. tail_back g.T.MeasuredPart.all c.args.components.now k c.index-components-index.result
+      value = λ ahead starts. tail_back g.T.MeasuredComponent.all c.args.components.now k
+          c.index-components-index.result
           ahead _ c.loop-index-test.true c.loop-index.auto.index c.index-components-index.is
           (c.in_front_of-tail.ensures.value _ (inv.value ahead starts));
       most = omega (
         arith,
         inv.most,
         c.in_front_of-tail.ensures.most,
-        count_back g.T.MeasuredPart.all c.args.components.now k c.index-components-index.result c.loop-index-test.true
+        count_back g.T.MeasuredComponent.all c.args.components.now k
+            c.index-components-index.result c.loop-index-test.true
             c.loop-index.auto.index c.index-components-index.is,
       );
     }

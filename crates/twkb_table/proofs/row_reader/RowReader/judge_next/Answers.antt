@@ -11,7 +11,7 @@ pub returns-clause-read : goal.returns-clause-read
 returns-clause-read c =
     let open_now = subst (AreOpen (reverse c.args.flat.now)) (sym c.as_slice.ensures) c.requires.keeps.open_rows in
     if_ok _ _ c.judge_head.result (λ head h v j. judged_by_open c.args.self.now.limits
-    c.args.flat.now _ _ _ (fields_of c.args.here.now) v c.requires.keeps.of_one
+    c.args.flat.now _ _ _ (fields_of c.args.csv_record.now) v c.requires.keeps.of_one
     c.requires.keeps.some open_now c.node_count-nodes.ensures.value c.point_count-count.ensures
     (h v j)) c.judge_head.ensures.read
 
@@ -19,6 +19,6 @@ pub returns-clause-refused : goal.returns-clause-refused
 returns-clause-refused c =
     let open_now = subst (AreOpen (reverse c.args.flat.now)) (sym c.as_slice.ensures) c.requires.keeps.open_rows in
     if_err _ _ c.judge_head.result (λ reason j. judged_by_open c.args.self.now.limits
-    c.args.flat.now _ _ _ (fields_of c.args.here.now) (Refused reason) c.requires.keeps.of_one
+    c.args.flat.now _ _ _ (fields_of c.args.csv_record.now) (Refused reason) c.requires.keeps.of_one
     c.requires.keeps.some open_now c.node_count-nodes.ensures.value c.point_count-count.ensures
     j) c.judge_head.ensures.refused

@@ -11,7 +11,7 @@ invariant_of-self c =
     let points = c.judge.new.points.items in
     record {
       waits = may_wait_as l c.in-Ok.row points
-          (begins_first l (fields_of c.args.here.now) (row_with c.in-Ok.row points)
+          (begins_first l (fields_of c.args.csv_record.now) (row_with c.in-Ok.row points)
           (c.in-Ok.ensures.read [] stands_nowhere));
     }
 
@@ -21,7 +21,7 @@ returns-in-Ok-clause-read c =
     let points = c.judge.new.points.items in
     let row = row_with c.in-Ok.row points in
     let judged = c.in-Ok.ensures.read [] stands_nowhere in
-    let begins = begins_first l (fields_of c.args.here.now) row judged in
+    let begins = begins_first l (fields_of c.args.csv_record.now) row judged in
     record {
       row = row;
       waits = ap (λ (r : Row). r ∷ [])

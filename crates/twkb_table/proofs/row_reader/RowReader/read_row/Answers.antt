@@ -18,7 +18,7 @@ invariant_of-self-then-row-eq0 c =
     let points = c.append_to.new.points.items in
     let row_is = given_row c.in-Ok.head c.row-row.result c.clear.new.self.items points own.0
     c.row-row.ensures c.clear.ensures.items own.1 in
-    let next = comes_next l c.args.flat.now (fields_of c.args.here.now) c.in-Ok.head
+    let next = comes_next l c.args.flat.now (fields_of c.args.csv_record.now) c.in-Ok.head
     (row_with c.row-row.result points) own.0 c.requires.keeps.of_one c.in-Ok.ensures.read
     row_is own.2 in
     record {
@@ -32,7 +32,7 @@ push_from-requires c own given =
     let l = c.args.self.now.limits in
     let row = row_with c.row-row.result own in
     let below : 0 < c.row-row.result.depth = omega (arith, c.if-row-eq0.false) in
-    let next = comes_next l c.args.flat.now (fields_of c.args.here.now) c.in-Ok.head row own
+    let next = comes_next l c.args.flat.now (fields_of c.args.csv_record.now) c.in-Ok.head row own
     c.requires.keeps.of_one c.in-Ok.ensures.read (ap (λ r. row_with r own)
     (sym c.row-row.ensures)) given in
     continues_largest l c.args.flat.now row c.nest-learnt.ensures.sound
@@ -43,7 +43,7 @@ open_row-requires c =
     let l = c.args.self.now.limits in
     let own = c.in_default-push_from.ensures.pushed in
     let row = row_with c.row-row.result own.0 in
-    let next = comes_next l c.args.flat.now (fields_of c.args.here.now) c.in-Ok.head row own.0
+    let next = comes_next l c.args.flat.now (fields_of c.args.csv_record.now) c.in-Ok.head row own.0
     c.requires.keeps.of_one c.in-Ok.ensures.read (ap (λ r. row_with r own.0)
     (sym c.row-row.ensures)) own.2 in
     depth_within l (reverse c.args.flat.now) c.args.self.now.open_rows row next.accepts c.requires.keeps.open_rows
@@ -70,7 +70,8 @@ returns-then-row-eq0 c = record {
       let row = row_with c.row-row.result points in
       let row_is = given_row c.in-Ok.head c.row-row.result c.clear.new.self.items points own.0
       c.row-row.ensures c.clear.ensures.items own.1 in
-      let next = comes_next l c.args.flat.now (fields_of c.args.here.now) c.in-Ok.head row own.0
+      let next = comes_next l c.args.flat.now (fields_of c.args.csv_record.now)
+      c.in-Ok.head row own.0
       c.requires.keeps.of_one c.in-Ok.ensures.read row_is own.2 in
       let begins = begins_anew l c.args.flat.now row next.accepts c.if-row-eq0.true in (
         record {
@@ -106,7 +107,8 @@ returns c = record {
       let own = c.in_default-push_from.ensures.pushed in
       let row = row_with c.row-row.result own.0 in
       let below : 0 < c.row-row.result.depth = omega (arith, c.if-row-eq0.false) in
-      let next = comes_next l c.args.flat.now (fields_of c.args.here.now) c.in-Ok.head row own.0
+      let next = comes_next l c.args.flat.now (fields_of c.args.csv_record.now)
+      c.in-Ok.head row own.0
       c.requires.keeps.of_one c.in-Ok.ensures.read (ap (λ r. row_with r own.0)
       (sym c.row-row.ensures)) own.2 in
       let kept = keeps_next l row c.args.flat.now c.push_from.new.self c.args.self.now.open_rows

@@ -4,7 +4,7 @@ use Rattle.twkb_points.specs.Point.{Point}
 use Rattle.twkb_writer.specs.Caps.{sums_cap}
 use Rattle.twkb_writer.specs.Tails.{tail_of}
 use Rattle.twkb_writer.proofs.MeasuringParts.{flat_map_ones}
-use Rattle.twkb_writer.proofs.measured_tree.PtsMeasuredPart.in_front_of.Goals as goal
+use Rattle.twkb_writer.proofs.measured_tree.PtsMeasuredComponent.in_front_of.Goals as goal
 
 pub tail_before-requires : goal.tail_before-requires
 tail_before-requires c =

@@ -3,11 +3,11 @@ use lib.Lanes.{zip2}
 use lib.ListN.{replicate}
 use Rattle.std.proofs.lemmas.List.{take_rest}
 use Rattle.std.proofs.lemmas.Simd.{zip2_splat}
-use Rattle.twkb_num.specs.WholeText.{both_ends}
+use Rattle.twkb_num.specs.WholeText.{first_and_last}
 use Rattle.twkb_num.proofs.LaneLemmas.{wrapped_sub}
 use Rattle.twkb_num.proofs.ByteLemmas.{bytes_of}
-use Rattle.twkb_num.proofs.WholeTextLemmas.{bytes_are, length-both_ends}
-use Rattle.twkb_num.proofs.whole_text.end_units.Goals as goal
+use Rattle.twkb_num.proofs.WholeTextLemmas.{bytes_are, length-first_and_last}
+use Rattle.twkb_num.proofs.whole_text.first_and_last_units.Goals as goal
 
 pub returns : goal.returns
 returns c =
@@ -16,4 +16,4 @@ returns c =
     ap (λ bytes. zip2 wrapped_sub bytes (replicate 16 63))
     (bytes_are text c.requires c.eight_bytes-front.result c.eight_bytes-back.result (bytes_of text c.type_inv.text)
     c.eight_bytes-front.ensures back)
-    ∙ zip2_splat wrapped_sub (both_ends text) 16 63 (length-both_ends text c.requires)
+    ∙ zip2_splat wrapped_sub (first_and_last text) 16 63 (length-first_and_last text c.requires)
