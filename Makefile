@@ -129,8 +129,8 @@ arm64: out/arm64/libpolytwkb.a out/arm64/polytwkb out/arm64/static/polytwkb
 out/arm64/libpolytwkb.a: $(ARM64_SOURCES)
 	@packaging/arm64/build.sh out/arm64 twkb_c
 
-# vectors reads tests/vectors, for the tests alone.
-out/arm64/polytwkb out/arm64/vectors: $(ARM64_SOURCES)
+# vector_runner reads tests/vectors, for the tests alone.
+out/arm64/polytwkb out/arm64/vector_runner: $(ARM64_SOURCES)
 	@packaging/arm64/build.sh out/arm64 $(@F)
 
 out/arm64/static/polytwkb: out/arm64/polytwkb
@@ -208,12 +208,12 @@ smoke: build
 completions-test: build
 	scripts/completions_test.sh
 
-hostile: build bin/refuse.so bin/growths bin/tests_middle bin/tests_top
+hostile: build bin/refuse.so bin/growths bin/tests_blobs bin/tests_conversions
 	tests/hostile/each_failing.py bin/polytwkb bin/refuse.so
 	tests/hostile/sizes.py bin/polytwkb 64
 	tests/hostile/sizes.py bin/polytwkb 1024
 	tests/hostile/growths.py bin/growths bin/refuse.so bin/polytwkb
-	tests/hostile/growths_of_tests.py bin/refuse.so bin/tests_middle bin/tests_top
+	tests/hostile/growths_of_tests.py bin/refuse.so bin/tests_blobs bin/tests_conversions
 
 CASES ?= 100000
 PROCESSES ?= 2
@@ -230,7 +230,7 @@ bin/refuse.so: tests/hostile/refuse.c
 	$(CC) -O1 -shared -fPIC -o $@ $<
 
 # The programs of tests, which `make test` takes from the gate.
-bin/tests_middle bin/tests_top: $(SOURCES)
+bin/tests_blobs bin/tests_conversions: $(SOURCES)
 	@scripts/build.sh $(@F) $@
 
 # Counts growths. It is not a crate of the repository, so it is proved in a copy.

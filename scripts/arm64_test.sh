@@ -4,7 +4,7 @@
 #
 #   scripts/arm64_test.sh        after `make build lib arm64`
 #
-# The program vectors is proved and built for this processor beside the other checks, which takes as long as they all do.
+# The program vector_runner is proved and built for this processor beside the other checks, which takes as long as they all do.
 # CASES is the number of cases of tests/fuzz. A program under qemu gets any limit of memory granted and keeps none,
 # so tests/hostile/sizes.py and the package's test of little memory are not run. A wrong program may do anything: each
 # run under qemu has the limits below, and each check that makes many runs `patience` seconds; fuzz one more for each
@@ -43,13 +43,13 @@ compile() { $cross-gcc -std=c11 -O1 -Wall -Wextra -Werror -Iinclude -o "$work/$1
 tree=$work/tree
 mkdir -p "$tree/bin" "$tree/out"
 cp -r scripts tests examples python include "$tree/"
-cp --parents crates/twkb_convert/src/version.rt crates/vectors/stdin crates/vectors/stdout "$tree/"
+cp --parents crates/twkb_convert/src/version.rt crates/vector_runner/stdin crates/vector_runner/stdout "$tree/"
 cp -a "$built"/libpolytwkb.* "$tree/out/"
 starter "$built/polytwkb" "$tree/bin/polytwkb" || exit 1
 $cross-gcc -O1 -shared -fPIC -o "$tree/bin/refuse.so" tests/hostile/refuse.c || exit 1
 
 # scripts/test.sh may be making the program already
-vectors() { flock "$built/vectors.lock" make -s out/arm64/vectors && arm "$built/vectors" < crates/vectors/stdin | cmp - crates/vectors/stdout; }
+vectors() { flock "$built/vector_runner.lock" make -s out/arm64/vector_runner && arm "$built/vector_runner" < crates/vector_runner/stdin | cmp - crates/vector_runner/stdout; }
 same() { cmp <(bin/polytwkb "$@" < "$work/input" 2>&1) <("$tree/bin/polytwkb" "$@" < "$work/input" 2>&1); }
 as_here() {
   cp examples/collection.csv "$work/input"
@@ -161,7 +161,7 @@ of_packages() {
 
 # ---- side by side
 
-report "the stored answers of the program vectors" vectors &
+report "the stored answers of the program vector_runner" vectors &
 of_program &
 of_packages &
 of_library

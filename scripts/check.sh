@@ -1,5 +1,5 @@
 #!/usr/bin/env bash
-# The short round: one proof of each crate, the stored run of the command, the tests and `vectors` run without a
+# The short round: one proof of each crate, the stored run of the command, the tests and `vector_runner` run without a
 # proof, and the smoke test of the program. Mutants and the proofs of test crates are left to `make test`.
 # The proofs are those of `rt ci`, over a copy without mutants. If the kit keeps what has passed, neither
 # round proves again what the other has proved on this machine.
@@ -11,10 +11,10 @@ source scripts/proofs.bash
 work=$(mktemp -d)
 trap 'cleared "$work"' EXIT
 mapfile -t tests < <(grep -rl --include='*.rt' '#\[test\]' crates/*/src | cut -d/ -f2 | sort -u)
-mapfile -t proved < <(grep '^[a-z]' crates.txt | names_of | grep -vxF "$(printf '%s\n' "${tests[@]}" vectors)")
+mapfile -t proved < <(grep '^[a-z]' crates.txt | names_of | grep -vxF "$(printf '%s\n' "${tests[@]}" vector_runner)")
 
 run_vectors() {
-  (cd crates/vectors && rt try < stdin > "$work/vectors.out") && diff -u crates/vectors/stdout "$work/vectors.out" && echo "tests: vectors as stored"
+  (cd crates/vector_runner && rt try < stdin > "$work/vectors.out") && diff -u crates/vector_runner/stdout "$work/vectors.out" && echo "tests: vectors as stored"
 }
 
 # run_tests: runs the tests on processors that the proofs leave free.

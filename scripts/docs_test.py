@@ -1,6 +1,6 @@
 #!/usr/bin/env python3
 """Runs the commands that documents show, and compares their output with the output shown. Compares the callers in the
-READMEs of crates with the files of the crate `examples`, which the gate proves. Then runs pages.py, promises.py and
+READMEs of crates with the files of the crate `example_callers`, which the gate proves. Then runs pages.py, promises.py and
 reasons.py, which need no program. Exit status: 0 if all is as the documents say, 1 if not, 2 if there is no program.
 
     scripts/docs_test.py [FILE ..]
@@ -22,7 +22,7 @@ with a status other than 0 in an empty folder, without `pipefail`.
 The line for a CSV of one's own is the same in README.md and in docs/USING.md. What it makes of files that it is not
 for, `pack` must refuse.
 
-If a line of a crate's README ends with a link to a file of crates/examples/src and a colon, a block fenced with ```rust
+If a line of a crate's README ends with a link to a file of crates/example_callers/src and a colon, a block fenced with ```rust
 follows, which must be that file. Each file there, except lib.rt and tests.rt, must be shown by a README.
 """
 import difflib
@@ -149,14 +149,14 @@ def callers():
     shown, faults = set(), []
     for path in sorted(glob.glob(os.path.join(REPO, "crates", "*", "README.md"))):
         page = os.path.relpath(path, REPO)
-        for caller in re.finditer(r"\(\.\./examples/src/([a-z_]+\.rt)\):\n(?:\n?```rust\n(.*?)^```$)?", text_of(page), re.S | re.M):
+        for caller in re.finditer(r"\(\.\./example_callers/src/([a-z_]+\.rt)\):\n(?:\n?```rust\n(.*?)^```$)?", text_of(page), re.S | re.M):
             shown.add(caller[1])
-            held = text_of(f"crates/examples/src/{caller[1]}").rstrip("\n")
+            held = text_of(f"crates/example_callers/src/{caller[1]}").rstrip("\n")
             block = (caller[2] or "").rstrip("\n")
             if block != held:
-                faults.append(f"{page}: not as in crates/examples/src/{caller[1]}{difference(block, held, 'README', caller[1])}")
-    lost = sorted(set(os.listdir(f"{REPO}/crates/examples/src")) - shown - {"lib.rt", "tests.rt"})
-    faults += [f"crates/examples/src/{name}: no README shows it" for name in lost]
+                faults.append(f"{page}: not as in crates/example_callers/src/{caller[1]}{difference(block, held, 'README', caller[1])}")
+    lost = sorted(set(os.listdir(f"{REPO}/crates/example_callers/src")) - shown - {"lib.rt", "tests.rt"})
+    faults += [f"crates/example_callers/src/{name}: no README shows it" for name in lost]
     return report(f"crates/*/README.md: {len(shown)} callers", faults)
 
 

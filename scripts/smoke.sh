@@ -113,10 +113,10 @@ blobs_of_others() {
     "$program" pack < "$work/table" | hex | expect full $count
     "$program" pack --style plain < "$work/table" | hex | expect plain $count
     through "$work/table" | cmp -s - "$work/table" || echo "round trip of blob $count"
-  done 3< crates/vectors/stdout
+  done 3< crates/vector_runner/stdout
   [ "$count" -gt 0 ] || echo "no blobs"
 }
-ends 0 "" "" "the blobs of crates/vectors are shown, unpacked and packed" blobs_of_others
+ends 0 "" "" "the blobs of crates/vector_runner are shown, unpacked and packed" blobs_of_others
 
 # ---- devices that fail
 

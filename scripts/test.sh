@@ -69,7 +69,7 @@ install_lacking() {
 take_programs() {
   local crate
   install -D crates/polytwkb/out/polytwkb bin/polytwkb || return 1
-  for crate in tests_middle tests_top; do install "crates/$crate/out/${crate}_tests" "bin/$crate" || return 1; done
+  for crate in tests_blobs tests_conversions; do install "crates/$crate/out/${crate}_tests" "bin/$crate" || return 1; done
 }
 
 # gate: runs `rt ci`, and leaves its counts and what it built.
@@ -170,12 +170,12 @@ part() {
 # lane NAME..: runs parts one after the other.
 lane() { for name in "$@"; do part "$name"; done; }
 
-# programs_for_arm64: makes the command, and then vectors, which the tests alone need, and whose proof is long. Who needs
+# programs_for_arm64: makes the command, and then vector_runner, which the tests alone need, and whose proof is long. Who needs
 # one of them too waits for its lock, so that it is made once.
 programs_for_arm64() {
   mkdir -p out/arm64
   flock out/arm64/command.lock make -s out/arm64/static/polytwkb
-  ! command -v qemu-aarch64-static > /dev/null || flock out/arm64/vectors.lock make -s out/arm64/vectors
+  ! command -v qemu-aarch64-static > /dev/null || flock out/arm64/vector_runner.lock make -s out/arm64/vector_runner
 }
 
 install_lacking > "$work/install.log" 2>&1 &

@@ -1,7 +1,7 @@
 #!/usr/bin/env python3
 """Refuses each growth in turn to the tests that bear one: those whose names have the word growth.
 
-growths_of_tests.py REFUSE.SO PROGRAM..       a PROGRAM is bin/tests_middle or bin/tests_top
+growths_of_tests.py REFUSE.SO PROGRAM..       a PROGRAM is bin/tests_blobs or bin/tests_conversions
 
 Each growth is refused alone, and then with all after it. A test passes whichever it is. The tests of a program
 must be some, and must take memory.

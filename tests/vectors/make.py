@@ -11,7 +11,7 @@ import os
 import sys
 
 HERE = os.path.dirname(os.path.abspath(__file__))
-CRATE = os.path.join(HERE, "..", "..", "crates", "vectors")
+CRATE = os.path.join(HERE, "..", "..", "crates", "vector_runner")
 BLOBS = os.path.join(HERE, "..", "postgis", "blobs.jsonl")
 ROWS = ["numbers", "points", "polylines", "devices", "fields", "forms", "tables", "streams", "runs"]
 HEADER = "depth,kind,id,precision,polyline"

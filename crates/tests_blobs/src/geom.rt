@@ -1,0 +1,4 @@
+//! Single calls of geometries, limits, rows and flat forms. Worked tables are rows of the program
+//! `vector_runner`.
+mod making;
+mod rules;

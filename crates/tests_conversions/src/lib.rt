@@ -1,0 +1,20 @@
+//! Tests of tables, of whole conversions, of the command and of the callers in `example_callers`,
+//! through what their crates make public.
+#![tactic(auto)]
+
+#[cfg(test)]
+mod arrays;
+#[cfg(test)]
+mod buffers;
+#[cfg(test)]
+mod callers;
+#[cfg(test)]
+mod command;
+#[cfg(test)]
+mod convert;
+#[cfg(test)]
+mod devices;
+#[cfg(test)]
+mod table;
+#[cfg(test)]
+mod texts;

@@ -1,5 +1,0 @@
-//! Sinks that refuse a put, lines written from lists, and lengths at their thresholds. Blobs of tables are those of the
-//! program `vectors`.
-mod failing;
-mod lines;
-mod thresholds;
