@@ -18,7 +18,7 @@ pub const CHARACTER_GOES_ON: u8 = 1 << CHARACTER_BITS;
 /// Algorithm Format).
 pub const FIRST_CHARACTER: u8 = b'?';
 
-/// The first character that says that more follow.
+/// The first character that says that more follow: that of the group 0.
 pub const FIRST_OPEN: u8 = FIRST_CHARACTER + CHARACTER_GOES_ON;
 
 /// The last character that ends a number.

@@ -8,9 +8,9 @@ use std::simd::u8x16;
 /// The number of units in a block.
 pub const BLOCK: usize = 64;
 
-/// Sets a bit for each of the first 63 bytes that ends a varint, and stops before the first
-/// padded number (TWKB specification; LEB128). Returns 0 if there are fewer than 64 bytes. Takes
-/// no memory.
+/// A word with bit k set if byte k ends a varint, for the first 63 bytes, and for none from the
+/// first padded varint on (TWKB specification; LEB128). The word is 0 if there are fewer than 64
+/// bytes. Takes no memory.
 #[inline(always)]
 pub fn varint_ends(bytes: &[u8]) -> u64
     ensures ends { AreEnds 0 128 bytes.now result }
@@ -19,9 +19,10 @@ pub fn varint_ends(bytes: &[u8]) -> u64
     block_ends(bytes, VARINTS)
 }
 
-/// Sets a bit for each of the first 63 characters that ends a number of a polyline, and stops
-/// before the first character outside the alphabet and the first padded number (Encoded Polyline
-/// Algorithm Format). Returns 0 if there are fewer than 64 characters. Takes no memory.
+/// A word with bit k set if character k ends a number of a polyline, for the first 63 characters,
+/// and for none from the first that is outside the alphabet, or the first padded number, on
+/// (Encoded Polyline Algorithm Format). The word is 0 if there are fewer than 64 characters. Takes
+/// no memory.
 #[inline(always)]
 pub fn character_ends(text: &[u8]) -> u64
     ensures ends { AreEnds 63 32 text.now result }
@@ -30,7 +31,8 @@ pub fn character_ends(text: &[u8]) -> u64
     block_ends(text, POLYLINES)
 }
 
-// One bit for each unit: whether it ends a number, is 0, or is outside the alphabet.
+// A bit for each unit, the first lowest: whether it ends a number, is a last group of 0, or is
+// outside the alphabet.
 #[derive(Clone, Copy)]
 pub(crate) struct Marks {
     pub(crate) ends: u64,
@@ -38,7 +40,7 @@ pub(crate) struct Marks {
     pub(crate) bad: u64,
 }
 
-// Marks the sixteen units that begin at a place.
+// Marks the sixteen bytes from `at` on, as units of the alphabet.
 #[inline(always)]
 fn sixteen(bytes: &[u8], at: usize, alphabet: Alphabet) -> Marks
     requires long { at + 16 ≤ length bytes.now }
@@ -52,7 +54,7 @@ fn sixteen(bytes: &[u8], at: usize, alphabet: Alphabet) -> Marks
     }
 }
 
-// Marks the 32 units that begin at a place.
+// Marks the 32 bytes from `at` on, as units of the alphabet.
 #[inline(always)]
 fn thirty_two(bytes: &[u8], at: usize, alphabet: Alphabet) -> Marks
     requires long { at + 32 ≤ length bytes.now }
@@ -67,7 +69,7 @@ fn thirty_two(bytes: &[u8], at: usize, alphabet: Alphabet) -> Marks
     }
 }
 
-// Marks the first 64 units.
+// Marks the first 64 bytes, as units of the alphabet; there must be 64.
 #[inline(always)]
 fn sixty_four(bytes: &[u8], alphabet: Alphabet) -> Marks
     requires long { 64 ≤ length bytes.now }
@@ -82,8 +84,9 @@ fn sixty_four(bytes: &[u8], alphabet: Alphabet) -> Marks
     }
 }
 
-// Keeps the ends before the first fault, which is a unit outside the alphabet or a last group of 0
-// that pads a number.
+// The bits of the units that end a number, before the first fault and among the first 63. A fault
+// is a unit outside the alphabet, or one that goes on before a last group of 0, which pads the
+// number.
 #[inline(always)]
 fn before_fault(marks: Marks) -> u64
     ensures { (radix most : ℕ) (units : List ℕ) → AreMarks radix most units marks
@@ -95,7 +98,8 @@ fn before_fault(marks: Marks) -> u64
     marks.ends % (1 << faults.trailing_zeros())
 }
 
-// The ends among the first 63 units, or 0 if there are fewer than 64.
+// The bits of the first 63 units that end a number, up to the first fault (`before_fault`); 0 if
+// there are fewer than 64 units.
 #[inline(always)]
 fn block_ends(bytes: &[u8], alphabet: Alphabet) -> u64
     requires bound { alphabet.most + 1 ≡ 2 * alphabet.radix }
@@ -109,7 +113,8 @@ fn block_ends(bytes: &[u8], alphabet: Alphabet) -> u64
     before_fault(sixty_four(bytes, alphabet))
 }
 
-// The ends among the first sixteen units, or 0 if there are fewer units.
+// The bits of the first sixteen units that end a number, up to the first fault (`before_fault`); 0
+// if there are fewer than sixteen units.
 #[inline(always)]
 pub(crate) fn few_ends(bytes: &[u8], alphabet: Alphabet) -> u64
     requires bound { alphabet.most < 2 * alphabet.radix }

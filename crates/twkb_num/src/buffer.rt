@@ -12,8 +12,9 @@ const ROOM: usize = 13;
 pub type NumBuf = Piece<13>;
 
 impl Piece<13> {
-    /// Spells the number in an alphabet with the fewest units: one for each group of its bits,
-    /// and one for 0 (LEB128; Encoded Polyline Algorithm Format). Takes no memory.
+    /// The shortest spelling of a number in an alphabet: a unit for each group of its bits up to
+    /// the last that is not 0, and one for the number 0 (LEB128; Encoded Polyline Algorithm
+    /// Format). Takes no memory.
     pub fn put<G: Groups>(number: u64) -> NumBuf
         ensures { result ≡ shortest G.unit_of (2 ^ G.BITS) number }
     {

@@ -17,7 +17,7 @@ use crate::groups::Numbered;
 use crate::places::two_in_front;
 use std::simd::{u8x16, u16x8, u32x4, u64x2};
 
-/// Four signed numbers, and the number of bytes that spell them.
+/// Four signed numbers in the order of their spellings, and the number of bytes that spell them.
 #[derive(Clone, Copy, Debug, PartialEq, Eq)]
 pub struct Four {
     pub first: i64,
@@ -27,9 +27,9 @@ pub struct Four {
     pub used: usize,
 }
 
-/// Fast path: reads the four signed numbers that begin at `start`, if each has a shortest spelling
-/// of at most four units. `None` proves nothing about the bytes: it is also the answer for fewer
-/// than sixteen, and for fewer than six from `start` on. Takes no memory.
+/// Fast path: reads the four signed numbers whose zigzag forms are spelled from `start` on, each in
+/// its shortest spelling of at most four units. `None` proves nothing about the bytes: it is also
+/// the answer for fewer than sixteen, and for fewer than six from `start` on. Takes no memory.
 #[inline(always)]
 pub fn four_at<G: Numbered>(bytes: &[u8], start: usize) -> Option<Four>
     ensures { IfSome result (SignedInFront G.unit_of G.ALPHABET.radix (drop start bytes.now)) }
@@ -49,9 +49,10 @@ pub fn four_at<G: Numbered>(bytes: &[u8], start: usize) -> Option<Four>
     four_by(window, skipped as u32, ends, alphabet)
 }
 
-/// Reads the four numbers at the start of the bytes that `four_at` reads, by the ends of numbers in
-/// these bytes (`varint_ends`, `character_ends`). `None` proves nothing about the bytes. Shifted
-/// by `used`, `ends` are those of the bytes after the four numbers. Takes no memory.
+/// Fast path: reads four signed numbers, as `four_at` does, from the start of at least sixteen
+/// bytes. `ends` must be what `varint_ends` or `character_ends` returns for the bytes, or a part of
+/// it up to some byte; `ends >> used` is the same for the bytes after the four numbers. `None`
+/// proves nothing about the bytes. Takes no memory.
 #[inline(always)]
 pub fn four_by_ends<G: Numbered>(bytes: &[u8], ends: u64) -> Option<Four>
     requires long { 16 ≤ length bytes.now }
@@ -67,14 +68,17 @@ pub fn four_by_ends<G: Numbered>(bytes: &[u8], ends: u64) -> Option<Four>
 // The number of bytes that are looked at: four numbers of at most four.
 const WINDOW: usize = 16;
 
-// With fewer than six units left, the search is in vain mostly: they are one near point.
+// The most bytes of a window before the start of the numbers: with fewer than six after it, a
+// search mostly finds nothing, since they are one near point.
 const MOST_SKIPPED: usize = WINDOW - 6;
 
-// Times a number below 0x100: that number in each of eight bytes.
+// Times a number below 0x100, this is that number in each of eight bytes.
 const EACH_PLACE: u64 = 0x0101_0101_0101_0101;
 
-// Reads the four numbers after the first `skipped` bytes, by the ends of numbers after these bytes.
-// `None` proves nothing about the bytes.
+// Reads four signed numbers, as `four_at` does, after the first `skipped` of at least sixteen
+// bytes, of exactly sixteen unless `skipped` is 0. Bit 0 of `ends` must say whether the first byte
+// after the skipped ones ends a number, and so on up to some byte. `None` proves nothing about the
+// bytes.
 #[inline(always)]
 fn four_by(bytes: &[u8], skipped: u32, ends: u64, alphabet: Alphabet) -> Option<Four>
     requires known { IsRadix alphabet.radix }
@@ -104,7 +108,8 @@ fn four_by(bytes: &[u8], skipped: u32, ends: u64, alphabet: Alphabet) -> Option<
     })
 }
 
-// Joins the groups of each four bytes into a number: first in pairs, then the pairs.
+// Joins each four bytes into one number, the first group lowest: the group of a byte is the byte
+// modulo `radix`, which must be 32 or 128.
 #[inline(always)]
 pub(crate) fn joined(units: u8x16, radix: u8) -> u32x4
     requires alphabet { IsRadix radix }
@@ -120,7 +125,7 @@ pub(crate) fn joined(units: u8x16, radix: u8) -> u32x4
     lanes % low + lanes / low * square
 }
 
-// Undoes zigzag in four lanes of 32 bits.
+// The number of each of four zigzag forms, as the 32 bits of an `i32`.
 #[inline(always)]
 fn unzigzagged(forms: u32x4) -> u32x4
     ensures { result ≡ map unzigzagged_bits forms }

@@ -10,8 +10,8 @@ use crate::alphabet::{Alphabet, POLYLINES, VARINTS};
 use crate::shuffles::shuffle;
 use std::simd::{u8x16, u32x4, u64x2};
 
-// The units of four numbers: two numbers in the first eight bytes, two in the last eight, and how
-// many bytes of each half are used.
+// The units of four numbers. The first `low` of the first eight bytes spell two numbers, and the
+// first `high` of the last eight the other two.
 #[derive(Drop)]
 pub(crate) struct FourUnits {
     pub(crate) units: u8x16,
@@ -19,13 +19,13 @@ pub(crate) struct FourUnits {
     pub(crate) high: u32,
 }
 
-// Times a number below 0x100: that number in each of four bytes.
+// Times a number below 0x100, this is that number in each of four bytes.
 const EACH_BYTE: u32 = 0x0101_0101;
 
 // The number eight in each of eight bytes.
 const EIGHTS: u64 = 0x0808_0808_0808_0808;
 
-// Spells four numbers as their shortest varints.
+// Spells four numbers, each below 2^28, as their shortest varints, of one to four bytes each.
 #[inline(always)]
 pub(crate) fn as_varints(first: u32, second: u32, third: u32, fourth: u32) -> FourUnits
     requires first_small { first < 2 ^ 28 }
@@ -37,7 +37,7 @@ pub(crate) fn as_varints(first: u32, second: u32, third: u32, fourth: u32) -> Fo
     spelled(first, second, third, fourth, VARINTS)
 }
 
-// Spells four numbers by the characters of a polyline.
+// Spells four numbers, each below 2^20, by the characters of a polyline, one to four each.
 #[inline(always)]
 pub(crate) fn as_characters(first: u32, second: u32, third: u32, fourth: u32) -> FourUnits
     requires first_small { first < 2 ^ 20 }
@@ -49,7 +49,8 @@ pub(crate) fn as_characters(first: u32, second: u32, third: u32, fourth: u32) ->
     spelled(first, second, third, fourth, POLYLINES)
 }
 
-// The units of four numbers in an alphabet.
+// Spells four numbers by the units of an alphabet, one to four each. Each number must be below the
+// fourth power of the radix, which must be 32 or 128, and each unit must fit a byte.
 #[inline(always)]
 fn spelled(first: u32, second: u32, third: u32, fourth: u32, alphabet: Alphabet) -> FourUnits
     requires known { IsRadix alphabet.radix }
@@ -75,7 +76,8 @@ fn spelled(first: u32, second: u32, third: u32, fourth: u32, alphabet: Alphabet)
     }
 }
 
-// The units of four numbers, four bytes for each number.
+// Splits four numbers, as `spelled` takes them, into four units each, low group first. The units
+// past a number's last group are those of the group 0 with none to follow.
 #[inline(always)]
 fn lanes(first: u32, second: u32, third: u32, fourth: u32, alphabet: Alphabet) -> u8x16
     requires known { IsRadix alphabet.radix }

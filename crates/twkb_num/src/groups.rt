@@ -29,13 +29,14 @@ pub trait Groups {
     /// The group and mark that a unit stands for, if it is in the alphabet.
     ghost group_of: { ℕ → Option (ℕ × Bool) };
 
-    /// Makes the unit of a group below `2^BITS`.
+    /// Makes the unit that stands for a group below `2^BITS` and says, by `more`, whether more
+    /// units follow. Takes no memory.
     fn to_unit(group: u8, more: bool) -> u8
         requires { group < 2 ^ BITS }
         ensures { result ≡ unit_of group more };
 
-    /// Reads the group of a unit, and whether more follow; `None` if the byte is not in the
-    /// alphabet.
+    /// The group, below `2^BITS`, that a unit stands for, and whether more units follow; `None` if
+    /// the byte is not in the alphabet. Takes no memory.
     fn from_unit(unit: u8) -> Option<(u8, bool)>
         ensures { result ≡ group_of unit };
 

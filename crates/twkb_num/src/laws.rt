@@ -48,8 +48,8 @@ pub fn one_answer<G: Groups>()
         G.MAX_LEN us u a → IsAnswer G.unit_of G.group_of (2 ^ G.BITS) G.MAX_LEN us u b → a ≡ b }
 {}
 
-/// A unit that ends a spelling is answered by `Done` with the number, and one that leaves it open
-/// by `More`.
+/// `Partial::step` answers a unit that ends a spelling by `Done` with its number, and a unit that
+/// leaves the spelling open by `More`.
 pub fn due_answers<G: Groups>()
     ensures done { (us : List ℕ) (u n : ℕ) (a : Step)
         → IsSpelling G.unit_of (2 ^ G.BITS) G.MAX_LEN (us ++ u ∷ []) n
@@ -60,13 +60,13 @@ pub fn due_answers<G: Groups>()
         → IsAnswer G.unit_of G.group_of (2 ^ G.BITS) G.MAX_LEN us u a → a ≡ More }
 {}
 
-/// A reader that holds units can still reach the end of a spelling.
+/// After any units that a reader can hold, there is a unit that ends a spelling.
 pub fn open_units_end<G: Groups>()
     ensures { (us : List ℕ) → IsOpen G.unit_of (2 ^ G.BITS) G.MAX_LEN us → (u n : ℕ)
         × IsSpelling G.unit_of (2 ^ G.BITS) G.MAX_LEN (us ++ u ∷ []) n }
 {}
 
-/// No spelling contains a refused unit after these units, whatever follows.
+/// If a unit is refused after the units held, no spelling begins with those units and that one.
 pub fn refused_units_end<G: Groups>()
     ensures { (us : List ℕ) (u : ℕ) (more : List ℕ) (n : ℕ)
         → IsRefused G.unit_of G.group_of (2 ^ G.BITS) G.MAX_LEN us u
@@ -79,15 +79,16 @@ pub fn varints()
     ensures begun { (bytes : List ℕ) → IsOpenVarint bytes ↔ IsOpen leb_unit 128 10 bytes }
 {}
 
-/// A varint is too long exactly if a byte above 1 follows nine bytes with their top bit set.
+/// A byte is refused as `TooLong` exactly if it is above 1 and comes after nine bytes of a varint,
+/// each with its top bit set.
 pub fn long_varints()
     ensures { (us : List ℕ) (u : ℕ) → IsOpenVarint us → u < 256
         → IsAnswer leb_unit leb_group 128 10 us u TooLong ↔ ((length us ≡ 9) × (2 ≤ u)) }
 {}
 
-/// Checks by computation that numbers of the public documents have the forms and spellings
-/// printed there: 300 is a varint of Protocol Buffers, 624485 one of LEB128, and -17998321 the
-/// example of the Encoded Polyline Algorithm Format.
+/// Checks by computation that numbers of the public documents have the forms and spellings printed
+/// there: 300 is a varint of Protocol Buffers, 624485 one of LEB128, and -17998321 the example of
+/// the Encoded Polyline Algorithm Format. The varint of 2^64 - 1 has ten bytes.
 #[tactic(auto, unfolding(crate::specs::Digits::digits, crate::specs::Digits::digits_within))]
 pub fn samples()
     ensures zigzag { zigzag_of (negsuc 17998320) ≡ 35996641 }

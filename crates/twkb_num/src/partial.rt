@@ -39,7 +39,7 @@ impl<G: Groups> Partial<G> {
         }
     }
 
-    /// The number of units held, 0 to `G::MAX_LEN - 1`.
+    /// The number of units held, 0 to `G::MAX_LEN - 1`. Takes no memory.
     pub fn len(&self) -> usize
         ensures count { result ≡ length self.now }
         ensures short { result < G.MAX_LEN }
@@ -48,8 +48,9 @@ impl<G: Groups> Partial<G> {
         self.len
     }
 
-    /// Takes the next unit, which may be any byte. After any answer but `More` the reader holds no
-    /// unit. Takes no memory.
+    /// Takes the next unit, which may be any byte, and says whether the spelling goes on, ends with
+    /// it, or is refused. After any answer but `More` the reader holds no unit, and can begin
+    /// another spelling. Takes no memory.
     pub fn step(&mut self, unit: u8) -> Step
         ensures answer { IsAnswer G.unit_of G.group_of (2 ^ G.BITS) G.MAX_LEN self.old unit result }
         ensures held { self.new ≡ held_after self.old unit result }
@@ -80,7 +81,7 @@ impl<G: Groups> Partial<G> {
         Step::Done { value, shortest }
     }
 
-    // Drops the units held.
+    // Drops the units held, so that the next unit begins a spelling.
     fn clear(&mut self)
         ensures { self.new ≡ [] }
     {

@@ -58,7 +58,8 @@ impl<const ROOM: usize> Piece<ROOM> {
         self.len = 0;
     }
 
-    /// Whether there is room for `count` more bytes. Takes no memory.
+    /// Whether there is room for `count` more bytes; `count` must be at most `ROOM`. Takes no
+    /// memory.
     #[inline(always)]
     pub fn has_room(&self, count: usize) -> bool
         requires { count ≤ ROOM }
@@ -67,7 +68,7 @@ impl<const ROOM: usize> Piece<ROOM> {
         self.len <= ROOM - count
     }
 
-    /// Appends a byte. Takes no memory.
+    /// Appends a byte, for which there must be room. Takes no memory.
     #[inline(always)]
     pub fn push(&mut self, byte: u8)
         requires { length self.old < ROOM }
@@ -78,8 +79,9 @@ impl<const ROOM: usize> Piece<ROOM> {
         self.len = at + 1;
     }
 
-    /// Appends the low `count` bytes of a word. One store writes all eight bytes; those past
-    /// `count` are not counted. Takes no memory.
+    /// Appends the low `count` bytes of a word, at most eight, the lowest first. The piece must
+    /// have room for eight: one store writes all of them, and those past `count` are not counted.
+    /// Takes no memory.
     #[inline(always)]
     pub fn push_low(&mut self, word: u64, count: u32)
         requires few { count ≤ 8 }
@@ -89,8 +91,9 @@ impl<const ROOM: usize> Piece<ROOM> {
         self.push_eight(u8x8::from_array(word.to_le_bytes()), count);
     }
 
-    // Appends the first `count` of eight bytes. One vector store writes all eight: a slice copy
-    // would first test whether the places overlap.
+    // Appends the first `count` of eight bytes. The piece must have room for eight: one vector
+    // store writes all of them, and those past `count` are not counted. A slice copy would first
+    // test whether the places overlap.
     #[inline(always)]
     fn push_eight(&mut self, bytes: u8x8, count: u32)
         requires few { count ≤ 8 }
@@ -103,7 +106,9 @@ impl<const ROOM: usize> Piece<ROOM> {
         self.len = at + count as usize;
     }
 
-    // Appends the shortest varints of four numbers, with no branch on their lengths.
+    // Appends the shortest varints of four numbers, each below 2^28, with no branch on their
+    // lengths. The piece must have room for sixteen bytes: two stores write eight each, and those
+    // past the varints are not counted.
     #[inline(always)]
     pub(crate) fn push_varints(&mut self, first: u32, second: u32, third: u32, fourth: u32)
         requires first_small { first < 2 ^ 28 }
@@ -120,7 +125,9 @@ impl<const ROOM: usize> Piece<ROOM> {
         self.push_eight(four.units.extract::<8, 8>(), four.high);
     }
 
-    // Appends the shortest varints of two numbers, with no branch on their lengths.
+    // Appends the shortest varints of two numbers, each below 2^28, with no branch on their
+    // lengths. The piece must have room for eight bytes: one store writes eight, and those past the
+    // varints are not counted.
     #[inline(always)]
     pub(crate) fn push_pair(&mut self, first: u32, second: u32)
         requires first_small { first < 2 ^ 28 }
@@ -132,8 +139,9 @@ impl<const ROOM: usize> Piece<ROOM> {
         self.push_eight(four.units.extract::<0, 8>(), four.low);
     }
 
-    /// Appends the characters of four numbers of a polyline, with no branch on their lengths
-    /// (Encoded Polyline Algorithm Format). Takes no memory.
+    /// Appends the characters of four numbers, each below 2^20, with no branch on their lengths
+    /// (Encoded Polyline Algorithm Format). The piece must have room for sixteen bytes: two stores
+    /// write eight each, and those past the characters are not counted. Takes no memory.
     #[inline(always)]
     pub fn push_four_characters(&mut self, first: u32, second: u32, third: u32, fourth: u32)
         requires first_small { first < 2 ^ 20 }
@@ -151,8 +159,8 @@ impl<const ROOM: usize> Piece<ROOM> {
         self.push_eight(four.units.extract::<8, 8>(), four.high);
     }
 
-    /// Appends the first `count` of these bytes. Stores of a fixed size write all `N`; those past
-    /// `count` are not counted. Takes no memory.
+    /// Appends the first `count` bytes of an array. The piece must have room for all `N`: stores of
+    /// a fixed size write them, and those past `count` are not counted. Takes no memory.
     #[inline(always)]
     pub fn push_prefix<const N: usize>(&mut self, bytes: &[u8; N], count: usize)
         requires few { count ≤ N }
@@ -165,7 +173,7 @@ impl<const ROOM: usize> Piece<ROOM> {
         self.len = at + count;
     }
 
-    /// Appends these bytes. Takes no memory.
+    /// Appends all bytes of a slice, for which there must be room. Takes no memory.
     #[inline(always)]
     pub fn push_all(&mut self, bytes: &[u8])
         requires { length self.old + length bytes.now ≤ ROOM }

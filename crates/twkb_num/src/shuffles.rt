@@ -3,9 +3,9 @@ ghost use Rattle.std.specs.Prelude.{◌≡◌, ◌≤◌, ◌<◌, ℕ};
 ghost use lib.Lanes.{number_l};
 ghost use Rattle.twkb_num.specs.Shuffles.{marks_of_two, shuffle_of};
 
-// The places of the units of two numbers, a byte each and low first. The marks have a bit for
-// each unit that goes on, four for each number. The units of the first number begin at place 0,
-// those of the second at place 4.
+// The places from which eight bytes take the units of two numbers, so that these follow one
+// another; 0x80 for each byte after the last. Places are bytes, low first. `marks`, below 256, has
+// a bit for each unit that goes on, four for each number; the numbers begin at places 0 and 4.
 #[inline(always)]
 pub(crate) fn shuffle(marks: u64) -> u64
     requires { marks < 256 }

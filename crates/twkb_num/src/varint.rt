@@ -7,16 +7,16 @@ use crate::alphabet::VARINT_BITS;
 // The place of the highest bit in a number of 64 bits.
 const TOP: u32 = 63;
 
-/// The least number of two bytes (TWKB specification; LEB128).
+/// The least number whose shortest varint has two bytes (TWKB specification; LEB128).
 pub const TWO_BYTES: u64 = 1 << VARINT_BITS;
 
-/// The least number of three bytes.
+/// The least number whose shortest varint has three bytes.
 pub const THREE_BYTES: u64 = 1 << (2 * VARINT_BITS);
 
-/// The least number of four bytes.
+/// The least number whose shortest varint has four bytes.
 pub const FOUR_BYTES: u64 = 1 << (3 * VARINT_BITS);
 
-/// The least number of five bytes.
+/// The least number whose shortest varint has five bytes.
 pub const FIVE_BYTES: u64 = 1 << (4 * VARINT_BITS);
 
 /// The number of bytes in the shortest varint of a number, 1 to 10 (TWKB specification; LEB128).

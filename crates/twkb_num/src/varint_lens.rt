@@ -6,8 +6,8 @@ use crate::varint::{FIVE_BYTES, FOUR_BYTES, THREE_BYTES, TWO_BYTES, varint_len};
 use std::marker::Model;
 use std::simd::{u32x4, u64x2};
 
-/// Adds up the lengths of varints. Short numbers are counted in lanes, which are added up at the
-/// end. A contract sees the sum.
+/// Adds up the lengths of varints, in bytes. Lengths of short varints are counted in lanes, which
+/// are added up at the end. A contract sees the sum.
 #[derive(Drop)]
 pub struct VarintLens {
     lanes: u32x4,
@@ -25,7 +25,8 @@ impl Model for VarintLens {
     ghost invariant = { λ s. length s.lanes ≡ 4 };
 }
 
-// How many bytes each of four numbers has after its first.
+// How many bytes, 0 to 3, the shortest varint of each of four numbers has after its first. Each
+// number must be below 2^28.
 #[inline(always)]
 fn more_lens(first: u32, second: u32, third: u32, fourth: u32) -> u32x4
     requires first_small { first < 2 ^ 28 }
@@ -49,7 +50,7 @@ fn more_lens(first: u32, second: u32, third: u32, fourth: u32) -> u32x4
 }
 
 impl VarintLens {
-    /// Starts a sum at this number of bytes. Takes no memory.
+    /// Makes a sum that starts at `bytes`. Takes no memory.
     #[inline(always)]
     pub fn from(bytes: u64) -> VarintLens
         ensures { result ≡ bytes }
@@ -60,7 +61,8 @@ impl VarintLens {
         }
     }
 
-    // Counts the varints of four numbers that have at most four bytes each.
+    // Adds the lengths of the shortest varints of four numbers, each below 2^28. The sum before
+    // must be at most 2^31.
     #[inline(always)]
     fn add_short(&mut self, first: u32, second: u32, third: u32, fourth: u32)
         requires first_small { first < 2 ^ 28 }
@@ -75,8 +77,8 @@ impl VarintLens {
         self.others += 4;
     }
 
-    /// Counts the bytes of the shortest varints of four numbers (TWKB specification; LEB128). Takes
-    /// no memory.
+    /// Adds the lengths of the shortest varints of four numbers (TWKB specification; LEB128). The
+    /// sum before must be at most 2^31. Takes no memory.
     #[inline(always)]
     #[tactic(auto, using(std::proofs::lemmas::Nat::le_or_l, std::proofs::lemmas::Nat::le_or_r))]
     pub fn add_four(&mut self, first: u64, second: u64, third: u64, fourth: u64)
@@ -96,7 +98,8 @@ impl VarintLens {
         self.others += u64::from(lens);
     }
 
-    /// The sum of the lengths, in bytes. Takes no memory.
+    /// The sum, in bytes: the number that it started at, and all lengths added. It must be at most
+    /// 2^31. Takes no memory.
     #[inline(always)]
     pub fn total(&self) -> u64
         requires { self.now ≤ lanes_cap }

@@ -7,7 +7,7 @@ use crate::piece::Piece;
 use crate::varint::{FIVE_BYTES, THREE_BYTES, TWO_BYTES};
 use std::simd::u64x2;
 
-// The length of a number that has at most two bytes.
+// The number of bytes, 1 or 2, in the shortest varint of a number below 2^14.
 #[tactic(auto, using(crate::proofs::VarintLemmas::varint_lengths))]
 fn short_len(number: u64) -> usize
     requires { number < 2 ^ 14 }
@@ -17,7 +17,7 @@ fn short_len(number: u64) -> usize
     if number < TWO_BYTES { 1 } else { 2 }
 }
 
-// The first byte of a number's varint.
+// The first byte of the shortest varint of a number.
 fn lead_byte(number: u64) -> u8
     ensures { result ≡ (if nat_lt number 128 then number else number % 128 + 128) }
 {
@@ -29,7 +29,8 @@ fn lead_byte(number: u64) -> u8
 }
 
 impl<const ROOM: usize> Piece<ROOM> {
-    // Appends a number of one or two bytes. Both bytes are written at once.
+    // Appends the shortest varint of a number below 2^14. The piece must have room for two bytes:
+    // both are written, and the second is not counted if the varint has one.
     #[inline(always)]
     fn push_short(&mut self, number: u64)
         requires small { number < 2 ^ 14 }
@@ -42,7 +43,8 @@ impl<const ROOM: usize> Piece<ROOM> {
         self.len = at + short_len(number);
     }
 
-    // Appends a number of three or four bytes.
+    // Appends the shortest varint of a number from 2^14 to 2^28 - 1, three or four bytes. The piece
+    // must have room for four.
     #[inline(never)]
     fn push_middle(&mut self, number: u64)
         requires more { 2 ^ 14 ≤ number }
@@ -56,7 +58,8 @@ impl<const ROOM: usize> Piece<ROOM> {
         self.push_short(high / TWO_BYTES);
     }
 
-    // Appends a number of any length, byte by byte.
+    // Appends the shortest varint of any number, byte by byte. The piece must have room for ten
+    // bytes.
     #[inline(never)]
     fn push_long(&mut self, number: u64)
         requires { length self.old + 10 ≤ ROOM }
@@ -70,8 +73,8 @@ impl<const ROOM: usize> Piece<ROOM> {
         self.push(rest as u8);
     }
 
-    /// Appends a number as its shortest varint, at most ten bytes (TWKB specification; LEB128).
-    /// Takes no memory.
+    /// Appends the shortest varint of a number, at most ten bytes (TWKB specification; LEB128). The
+    /// piece must have room for ten, however short the varint is. Takes no memory.
     #[inline(always)]
     pub fn push_varint(&mut self, number: u64)
         requires { length self.old + 10 ≤ ROOM }
@@ -87,8 +90,9 @@ impl<const ROOM: usize> Piece<ROOM> {
         }
     }
 
-    /// Appends two numbers as their shortest varints (TWKB specification; LEB128). If both have at
-    /// most four bytes, there is no branch on their lengths. Takes no memory.
+    /// Appends the shortest varints of two numbers (TWKB specification; LEB128), with no branch on
+    /// their lengths if both have at most four bytes. The piece must have room for twenty bytes.
+    /// Takes no memory.
     #[inline(always)]
     #[tactic(auto, using(std::proofs::lemmas::Nat::le_or_l, std::proofs::lemmas::Nat::le_or_r))]
     pub fn push_two_varints(&mut self, first: u64, second: u64)
@@ -103,9 +107,9 @@ impl<const ROOM: usize> Piece<ROOM> {
         self.push_varint(second);
     }
 
-    /// Appends four numbers as their shortest varints (TWKB specification; LEB128). If all have at
-    /// most four bytes, as in nearly all tracks, there is no branch on their lengths. Takes no
-    /// memory.
+    /// Appends the shortest varints of four numbers (TWKB specification; LEB128). If all have at
+    /// most four bytes, as in nearly all tracks, there is no branch on their lengths. The piece
+    /// must have room for forty bytes. Takes no memory.
     #[inline(always)]
     #[tactic(auto, using(std::proofs::lemmas::Nat::le_or_l, std::proofs::lemmas::Nat::le_or_r))]
     pub fn push_four_varints(&mut self, first: u64, second: u64, third: u64, fourth: u64)

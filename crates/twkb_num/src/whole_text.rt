@@ -16,9 +16,10 @@ use std::simd::{u8x16, u64x2};
 // The number of characters in a word.
 const WORD: usize = 8;
 
-/// Fast path: reads the two signed numbers that are a whole text of a polyline, if each has a
-/// shortest spelling of at most eight characters and neither is 0 (Encoded Polyline Algorithm
-/// Format). `None` proves nothing about the text. Takes no memory.
+/// Fast path: reads the two signed numbers that are a whole polyline text, if each has a shortest
+/// spelling of at most eight characters and neither is 0 (Encoded Polyline Algorithm Format).
+/// `None` proves nothing about the text: it is also the answer for fewer than eight or more than
+/// sixteen characters. Takes no memory.
 #[inline(always)]
 pub fn two_in_text(text: &[u8]) -> Option<(i64, i64)>
     ensures spelled { IfSome result (λ r. text.now
@@ -41,9 +42,10 @@ pub fn two_in_text(text: &[u8]) -> Option<(i64, i64)>
     Some((unzigzag(first), unzigzag(second)))
 }
 
-/// Fast path: reads the first two signed numbers of a polyline's text, as `two_in_text` reads those
+/// Fast path: reads the first two signed numbers of a polyline text, as `two_in_text` reads those
 /// of a whole text, and returns them and the number of their characters. `None` proves nothing
-/// about the text: it is also the answer for fewer than sixteen characters. Takes no memory.
+/// about the text: it is also the answer for a text of fewer than sixteen characters, and for two
+/// numbers of fewer than eight. Takes no memory.
 #[inline(always)]
 pub fn first_two(text: &[u8]) -> Option<(i64, i64, usize)>
     ensures within { IfSome result (λ r. r.2 ≤ length text.now) }
@@ -56,7 +58,9 @@ pub fn first_two(text: &[u8]) -> Option<(i64, i64, usize)>
     Some((first, second, count))
 }
 
-// Where the second number of a text ends, if that is within its first sixteen characters.
+// The number of characters of the first two numbers of a text; `None` if they do not end in its
+// first sixteen characters, or if it has fewer. A character below 63 counts as the end of a number,
+// though it is outside the alphabet.
 #[inline(always)]
 fn second_end(text: &[u8]) -> Option<usize>
     ensures { IfSome result (λ end. end ≤ length text.now) }
@@ -78,9 +82,9 @@ fn second_end(text: &[u8]) -> Option<usize>
     Some(end)
 }
 
-// The units of the first eight characters, and then those of the last eight. The difference from
-// the first character of the alphabet wraps: a character below 63 becomes a unit of 193 or more,
-// which `ends_of` refuses as one outside the alphabet.
+// The units of the first eight characters of a text, and then those of its last eight; it must have
+// at least eight. The difference from the first character of the alphabet wraps: a character below
+// 63 becomes a unit of 193 or more, which `ends_of` refuses as one outside the alphabet.
 #[inline(always)]
 fn first_and_last_units(text: &[u8]) -> u8x16
     requires { 8 ≤ length text.now }
@@ -91,8 +95,8 @@ fn first_and_last_units(text: &[u8]) -> u8x16
     u64x2::from_array([front, back]).to_le_bytes() - u8x16::splat(POLYLINES.base)
 }
 
-// A bit for each unit that ends a number; `None` if a unit is 0, which pads a number unless it is
-// one alone, or outside the alphabet.
+// A bit for each of sixteen units that ends a number; `None` if a unit is outside the alphabet or
+// is 0, which is the number 0 or pads another number.
 #[inline(always)]
 fn ends_of(units: u8x16) -> Option<u64>
     ensures { IfSome result (AreMarked units) }
@@ -106,8 +110,9 @@ fn ends_of(units: u8x16) -> Option<u64>
     Some(units.simd_lt(u8x16::splat(POLYLINES.radix)).to_bitmask())
 }
 
-// The number of characters of the first number of a text of `count`, by a bit for each of the first
-// and the last eight that ends a number; `None` if the text is not two numbers of at most eight.
+// The number of characters of the first number of a text of `count` characters, 8 to 16. `ends` has
+// a bit for each of its first eight and its last eight characters that ends a number. `None` if the
+// text is not two numbers of at most eight characters each.
 #[inline(always)]
 fn first_len(ends: u64, count: u32) -> Option<u32>
     requires long { 8 ≤ count }
@@ -130,7 +135,8 @@ fn first_len(ends: u64, count: u32) -> Option<u32>
     Some(used)
 }
 
-// The numbers whose groups are in the bytes of two words, low group first.
+// The two numbers below 2^40 whose eight groups of five bits are in the bytes of two words, low
+// group first. The group of a byte is the byte modulo 32.
 #[inline(always)]
 fn numbers(first: u64, second: u64) -> (u64, u64)
     ensures first { result.0 ≡ eight_groups first }

@@ -4,7 +4,8 @@ ghost use lib.Lanes.{number_l};
 
 use std::simd::{u8x4, u8x8, u32x1, u64x1};
 
-/// The first four bytes as a number, low first.
+/// The first four bytes as a number, the lowest byte first. There must be at least four. Takes no
+/// memory.
 #[inline(always)]
 pub fn four_bytes(bytes: &[u8]) -> u32
     requires { 4 ≤ length bytes.now }
@@ -14,7 +15,8 @@ pub fn four_bytes(bytes: &[u8]) -> u32
     number
 }
 
-/// The first eight bytes as a number, low first.
+/// The first eight bytes as a number, the lowest byte first. There must be at least eight. Takes no
+/// memory.
 #[inline(always)]
 pub fn eight_bytes(bytes: &[u8]) -> u64
     requires { 8 ≤ length bytes.now }
