@@ -47,7 +47,7 @@ fn greater(a: i64, b: i64) -> i64
     a.max(b)
 }
 
-// How far the greatest coordinate is above the least.
+// The coordinate `greatest` less the coordinate `least`, in the points' unit; it fits 64 bits.
 fn width_of(least: i64, greatest: i64) -> i64
     requires least_in_range { IsCoordinate least }
     requires greatest_in_range { IsCoordinate greatest }
@@ -56,7 +56,7 @@ fn width_of(least: i64, greatest: i64) -> i64
     greatest - least
 }
 
-// The lesser x and the lesser y of two points.
+// The point with the lesser x and the lesser y of two points.
 fn least_of(a: Pt, b: Pt) -> Pt
     ensures { result ≡ point_at (int_min a.x b.x) (int_min a.y b.y) }
 {
@@ -65,7 +65,7 @@ fn least_of(a: Pt, b: Pt) -> Pt
     Pt::at(x, y)
 }
 
-// The greater x and the greater y of two points.
+// The point with the greater x and the greater y of two points.
 fn greatest_of(a: Pt, b: Pt) -> Pt
     ensures { result ≡ point_at (int_max a.x b.x) (int_max a.y b.y) }
 {
@@ -85,7 +85,7 @@ impl Bounds {
         }
     }
 
-    /// Finds the bounds of the points; `None` if there are no points. Takes no memory.
+    /// The bounds of some points; `None` if there are no points. Takes no memory.
     pub fn around(points: &[Pt]) -> Option<Bounds>
         ensures { result ≡ extent points.now }
     {
@@ -97,7 +97,7 @@ impl Bounds {
         Some(bounds)
     }
 
-    /// Widens the bounds to hold a point. Takes no memory.
+    /// Widens the bounds as little as they need to hold a point. Takes no memory.
     #[tactic(auto, using(crate::proofs::ExtentLemmas::extents))]
     pub fn include(&mut self, point: Pt)
         ensures value { self.new ≡ joined self.old (extent_of point) }
@@ -106,7 +106,7 @@ impl Bounds {
         self.merge(&Bounds::of(point));
     }
 
-    /// Widens the bounds to hold the other bounds. Takes no memory.
+    /// Widens the bounds as little as they need to hold other bounds. Takes no memory.
     #[tactic(auto, unfolding(crate::specs::Extent::joined))]
     pub fn merge(&mut self, other: &Bounds)
         ensures value { self.new ≡ joined self.old other.now }
@@ -119,8 +119,8 @@ impl Bounds {
         };
     }
 
-    /// The least x, the width in x, the least y, and the width in y, in the points' unit: the
-    /// order of TWKB's bounding box. Takes no memory.
+    /// The least x, the width in x, the least y and the width in y, in the points' unit: the
+    /// numbers of TWKB's bounding box, in its order. Takes no memory.
     pub fn items(&self) -> [i64; 4]
         ensures value { result ≡ box_numbers self.now }
         ensures of_each_list { (ps : List Point) → extent ps ≡ Some self.now → result ≡ tight ps }
@@ -133,7 +133,8 @@ impl Bounds {
     }
 }
 
-/// Joins the bounds that are there; `None` if neither is. Takes no memory.
+/// The least bounds that hold both; the one if only one is there; `None` if neither is. Takes no
+/// memory.
 pub fn merged(a: Option<Bounds>, b: Option<Bounds>) -> Option<Bounds>
     ensures { result ≡ joined_options a b }
 {

@@ -42,7 +42,7 @@ impl Cursor {
         self.at
     }
 
-    /// Moves the cursor to the point. Takes no memory.
+    /// Moves the cursor to a point. Takes no memory.
     #[inline(always)]
     pub fn go(&mut self, to: Pt)
         ensures { self.new ≡ to }
@@ -50,8 +50,8 @@ impl Cursor {
         self.at = to;
     }
 
-    /// Moves the cursor to the point and returns how far it moved, x before y, in the points'
-    /// unit: each from -(2^63 - 1) to 2^63 - 1. Takes no memory.
+    /// Moves the cursor to a point and returns how far it moved, x before y, in the points' unit:
+    /// each from -(2^63 - 1) to 2^63 - 1. Takes no memory.
     pub fn delta(&mut self, to: Pt) -> (i64, i64)
         ensures x { result.0 ≡ to.x -ℤ self.old.x }
         ensures y { result.1 ≡ to.y -ℤ self.old.y }
@@ -62,8 +62,8 @@ impl Cursor {
         (to.x() - from.x(), to.y() - from.y())
     }
 
-    /// Moves the cursor by `dx` and `dy` and returns the point reached. If a coordinate would
-    /// leave -2^62 to 2^62 - 1, the answer is `None` and the cursor stays. Takes no memory.
+    /// Moves the cursor by `dx` and `dy` and returns the point reached. `None` if a coordinate
+    /// would leave -2^62 to 2^62 - 1; then the cursor stays. Takes no memory.
     #[inline(always)]
     pub fn add(&mut self, dx: i64, dy: i64) -> Option<Pt>
         ensures range { IsSome result ↔ IsInRange (moved_by self.old dx dy) }
@@ -76,7 +76,9 @@ impl Cursor {
         Some(to)
     }
 
-    /// Like `add`, for `dx` and `dy` in the range of a coordinate, by one test of the point.
+    /// Moves the cursor by `dx` and `dy`, which must be from -2^62 to 2^62 - 1, and returns the
+    /// point reached; one test of the point is then enough. `None` if a coordinate would leave that
+    /// range; then the cursor stays. Takes no memory.
     #[inline(always)]
     pub fn add_near(&mut self, dx: i64, dy: i64) -> Option<Pt>
         requires near_x { IsCoordinate dx }

@@ -6,8 +6,9 @@ ghost use Rattle.twkb_points.specs.Differences.{differences, points_of};
 use crate::cursor::Cursor;
 use crate::point::Pt;
 
-/// Writes the first point, and then each point less the one before it, x before y, in the points'
-/// unit (TWKB; Encoded Polyline Algorithm Format). Takes no memory.
+/// Writes the first point, and then each point less the one before it, as differences in x and in y
+/// in the points' unit (TWKB; Encoded Polyline Algorithm Format). `deltas` must be as long as
+/// `points`. Takes no memory.
 pub fn to_differences(points: &[Pt], deltas: &mut [(i64, i64)])
     requires { length deltas.old ≡ length points.now }
     ensures { deltas.new ≡ differences points.now }
@@ -18,9 +19,9 @@ pub fn to_differences(points: &[Pt], deltas: &mut [(i64, i64)])
     }
 }
 
-/// Writes the points that the differences lead to from (0, 0), up to the first point out of the
-/// range of a `Pt`, and returns how many were written. The places after them stay as they were.
-/// Takes no memory.
+/// Writes the points that the differences lead to from (0, 0), and returns how many: all of them,
+/// or those before the first with a coordinate outside -2^62 to 2^62 - 1. The places after them
+/// stay as they were. `points` must be as long as `deltas`. Takes no memory.
 pub fn to_points(deltas: &[(i64, i64)], points: &mut [Pt]) -> usize
     requires { length points.old ≡ length deltas.now }
     ensures within { result ≤ length deltas.now }

@@ -11,7 +11,7 @@ use twkb_num::{BLOCK, four_at, four_by_ends};
 /// The number of points that are read at once from a block.
 pub const POINTS_AT_ONCE: usize = 8;
 
-/// The number of their numbers.
+/// The number of numbers that spell `POINTS_AT_ONCE` points.
 pub const NUMBERS_AT_ONCE: u32 = 16;
 
 /// The number of bytes from a search that found points in blocks to the next search.
@@ -28,14 +28,15 @@ pub struct Eight {
     pub last: Pt,
     /// The number of bytes that spell them.
     pub used: usize,
-    /// The ends of the numbers after these bytes.
+    /// A bit for each byte after these bytes that ends a number, as in the `ends` of
+    /// `eight_points`.
     pub ends: u64,
 }
 
-/// Fast path: reads the two points that begin at `start`, the first by its step from `from`, and the
-/// number of their bytes. `None` unless each number is a shortest spelling of at most four units, both
-/// points are in range, and there are sixteen bytes or more, at least six of them from `start` on; it
-/// proves nothing about the bytes. Takes no memory.
+/// Fast path: reads two points from `start` on, the first as its step from `from` and the second as
+/// its step from the first, and returns them and the number of their bytes. `None` proves nothing
+/// about the bytes: it is also the answer for fewer than sixteen, for fewer than six from `start`
+/// on, and for a number of five units or more. Takes no memory.
 #[inline(always)]
 pub fn two_points<C: StepCode>(from: Pt, bytes: &[u8], start: usize) -> Option<(Pt, Pt, usize)>
     requires { start ≤ length bytes.now }
@@ -47,8 +48,10 @@ pub fn two_points<C: StepCode>(from: Pt, bytes: &[u8], start: usize) -> Option<(
     Some((first, second, four.used))
 }
 
-// Two points by the ends of their numbers, from a point so near the origin that the range needs no
-// test. The ends, shifted right by the number of bytes used, are the ends of the bytes that remain.
+// Reads two points as `two_points` does, from the start of at least sixteen bytes, by a bit for
+// each byte that ends a number, as in `eight_points`. `from` must be at most 6 * 2^27 from an inner
+// point in x and in y, so that the range needs no test. `ends`, shifted right by the number of
+// bytes returned, are those of the bytes that remain.
 #[inline(always)]
 fn two_by<C: StepCode>(from: Pt, bytes: &[u8], ends: u64) -> Option<(Pt, Pt, usize)>
     requires near { IsNear 6 from }
@@ -66,15 +69,17 @@ fn two_by<C: StepCode>(from: Pt, bytes: &[u8], ends: u64) -> Option<(Pt, Pt, usi
     Some((one, two, four.used))
 }
 
-// Whether the fourth point is tested, and is not an inner one.
+// Whether the code tests the fourth of eight points (`TESTS_FOURTH`), and this one is no inner
+// point.
 #[inline(always)]
 fn fails_fourth<C: StepCode>(fourth: Pt) -> bool {
     C::TESTS_FOURTH && !fourth.is_inner()
 }
 
-/// Fast path: reads the eight points of the first sixteen numbers, by the ends of numbers in these
-/// bytes (`twkb_num::four_by_ends`); only from an inner point, so that none of the eight can be out of
-/// range. `None` proves nothing about the bytes. Takes no memory.
+/// Fast path: reads eight points from the start of the bytes, each as its step from the one before
+/// it, the first from `from`. `ends` must have a bit for each byte that ends a number, up to some
+/// byte, as for `twkb_num::four_by_ends`. `None` proves nothing about the bytes: it is also the
+/// answer for fewer than 64, and if `from` is no inner point. Takes no memory.
 #[inline(always)]
 pub fn eight_points<C: StepCode>(from: Pt, bytes: &[u8], ends: u64) -> Option<Eight>
     requires { AreEnds C.ALPHABET.base C.ALPHABET.radix bytes.now ends }

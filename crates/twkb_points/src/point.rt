@@ -57,7 +57,8 @@ impl Pt {
         }
     }
 
-    /// (0, 0), from which the first point of a geometry counts. Takes no memory.
+    /// The point (0, 0), from which the first difference of a list of points counts. Takes no
+    /// memory.
     pub fn origin() -> Pt
         ensures { result ≡ origin }
     {
@@ -72,7 +73,7 @@ impl Pt {
         is_inner_coordinate(self.x) && is_inner_coordinate(self.y)
     }
 
-    /// Makes the point at coordinates that are in range. Takes no memory.
+    /// Makes a point from coordinates, which must be from -2^62 to 2^62 - 1. Takes no memory.
     #[inline(always)]
     pub fn at(x: i64, y: i64) -> Pt
         requires x_in_range { IsCoordinate x }
@@ -82,8 +83,8 @@ impl Pt {
         Pt { x, y }
     }
 
-    /// The point at `dx` and `dy` from this one, if both coordinates stay in range. Takes no
-    /// memory.
+    /// The point at `dx` and `dy` from this one; the coordinates of the point reached must be from
+    /// -2^62 to 2^62 - 1. Takes no memory.
     #[inline(always)]
     pub fn step(self, dx: i64, dy: i64) -> Pt
         requires x_in_range { IsCoordinate (self.x +ℤ dx) }
@@ -93,7 +94,8 @@ impl Pt {
         Pt::at(self.x + dx, self.y + dy)
     }
 
-    // The point at `dx` and `dy` from this one; `None` if a coordinate would leave its range.
+    // The point at `dx` and `dy` from this one; `None` if one of its coordinates is outside -2^62
+    // to 2^62 - 1.
     #[inline(always)]
     pub(crate) fn moved(self, dx: i64, dy: i64) -> Option<Pt>
         ensures range { IsSome result ↔ IsInRange (moved_by self dx dy) }
@@ -105,8 +107,9 @@ impl Pt {
         Some(Pt { x, y })
     }
 
-    /// The point at `dx` and `dy` from this one, each in the range of a coordinate: no sum passes 64
-    /// bits, so one test of the point is enough. `None` if that is out of range. Takes no memory.
+    /// The point at `dx` and `dy` from this one; `None` if one of its coordinates is outside -2^62
+    /// to 2^62 - 1. `dx` and `dy` must be in that range too: then no sum passes 64 bits, and one
+    /// test of the point is enough. Takes no memory.
     #[inline(always)]
     pub fn moved_near(self, dx: i64, dy: i64) -> Option<Pt>
         requires near_x { IsCoordinate dx }
@@ -117,8 +120,8 @@ impl Pt {
         Pt::try_new(self.x() + dx, self.y() + dy)
     }
 
-    /// The point that lies `dx` from this one along x, or `None` if that is out of range. Takes no
-    /// memory.
+    /// The point at `dx` from this one along x, with the same y; `None` if its x is outside -2^62
+    /// to 2^62 - 1. Takes no memory.
     pub fn moved_x(self, dx: i64) -> Option<Pt>
         ensures range { IsSome result ↔ IsCoordinate (self.x +ℤ dx) }
         ensures moved { IfSome result (λ to. to ≡ point_at (self.x +ℤ dx) self.y) }
@@ -128,8 +131,8 @@ impl Pt {
         Some(Pt { x, y })
     }
 
-    /// The point that lies `dy` from this one along y, or `None` if that is out of range. Takes no
-    /// memory.
+    /// The point at `dy` from this one along y, with the same x; `None` if its y is outside -2^62
+    /// to 2^62 - 1. Takes no memory.
     pub fn moved_y(self, dy: i64) -> Option<Pt>
         ensures range { IsSome result ↔ IsCoordinate (self.y +ℤ dy) }
         ensures moved { IfSome result (λ to. to ≡ point_at self.x (self.y +ℤ dy)) }
@@ -166,14 +169,14 @@ fn is_inner_coordinate(number: i64) -> bool
     INNER_LEAST <= number && number <= INNER_GREATEST
 }
 
-// Whether the number is in the range of a coordinate.
+// Whether the number is from -2^62 to 2^62 - 1, the range of a coordinate.
 pub(crate) fn is_coordinate(number: i64) -> bool
     ensures { IsTrue result ↔ IsCoordinate number }
 {
     LEAST <= number && number <= GREATEST
 }
 
-// The sum, if it is in the range of a coordinate.
+// `from` plus `by`; `None` if the sum is outside -2^62 to 2^62 - 1, the range of a coordinate.
 pub(crate) fn moved_coordinate(from: i64, by: i64) -> Option<i64>
     ensures range { IsSome result ↔ IsCoordinate (from +ℤ by) }
     ensures in_range { IfSome result IsCoordinate }

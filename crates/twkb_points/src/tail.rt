@@ -16,7 +16,7 @@ pub trait PointList {
     fn count(&self) -> usize
         ensures { result ≡ length (points self.now) };
 
-    /// The point at a place. Takes no memory.
+    /// The point at place `at`, from 0. Takes no memory.
     fn point(&self, at: usize) -> Pt
         requires { at < length (points self.now) }
         ensures { result ≡ get_or (points self.now) at origin };
@@ -37,12 +37,12 @@ pub trait PointTail {
         ensures appended { OnOk result (held self.new ≡ held self.old ++ point ∷ []) }
         ensures same { OnErr result (held self.new ≡ held self.old) };
 
-    /// Appends these points. Takes memory; an `Err` changes nothing.
+    /// Appends some points in their order. Takes memory; an `Err` changes nothing.
     fn put_all(&mut self, points: &[Pt]) -> Result<(), AllocError>
         ensures appended { OnOk result (held self.new ≡ held self.old ++ points.now) }
         ensures same { OnErr result (held self.new ≡ held self.old) };
 
-    /// Appends the points of a list. Takes memory, once; an `Err` changes nothing.
+    /// Appends all points of a list in their order. Takes memory, once; an `Err` changes nothing.
     fn put_each<S: PointList>(&mut self, list: &S) -> Result<(), AllocError>
         ensures appended { OnOk result (held self.new ≡ held self.old ++ S.points list.now) }
         ensures same { OnErr result (held self.new ≡ held self.old) };
@@ -52,7 +52,7 @@ pub trait PointTail {
         ensures { held self.new ≡ take count (held self.old) };
 }
 
-// Appends the points of a list, for which there is room. Takes no memory.
+// Appends all points of a list to a vector, which must have room for them. Takes no memory.
 #[inline(always)]
 #[tactic(auto, using(crate::proofs::TailLemmas::put_more))]
 fn put_list<S: PointList>(points: &mut Vec<Pt>, list: &S)
