@@ -33,8 +33,9 @@ pub fn decode(alloc: Global, text: &[u8], max: u32) -> Result<Vec<Pt>, PolyFault
     Ok(points)
 }
 
-/// Decodes a polyline of at most `max` points and appends them. A refusal leaves the points as
-/// they were. The points already in the list are not read.
+/// Decodes a polyline of at most `max` points, as `decode` does, and appends the points to a list,
+/// whose earlier points are neither read nor counted. After an `Err` the list is as it was. Takes
+/// memory for the points alone.
 pub fn decode_into<L: PointTail>(text: &[u8], max: u32, points: &mut L) -> Result<(), PolyFault>
     ensures decodes { OnOk result (AppendsDecoded text.now max (L.held points.old) (L.held points.new)) }
     ensures refuses { IfErr result (IsRefused text.now max) }
@@ -60,8 +61,8 @@ pub fn decode_one(text: &[u8]) -> Option<Pt>
     one_by_one(text)
 }
 
-// Decodes a polyline of exactly one point, number by number. Out of line: most texts of one point
-// have at least eight characters.
+// Decodes a polyline of exactly one point, number by number; `None` for any other text. Out of
+// line: most texts of one point have at least eight characters.
 #[inline(never)]
 fn one_by_one(text: &[u8]) -> Option<Pt>
     ensures point { IfSome result (λ point. DecodesTo text.now 1 (point ∷ [])) }
@@ -80,7 +81,8 @@ fn one_by_one(text: &[u8]) -> Option<Pt>
     Some(point)
 }
 
-// Appends the points of the text, or those before its first fault.
+// Decodes a text as `decode_into` does, but after an `Err` the points read before it stay in the
+// list.
 fn read_points<L: PointTail>(text: &[u8], max: u32, points: &mut L) -> Result<(), PolyFault>
     ensures decodes { OnOk result (AppendsDecoded text.now max (L.held points.old) (L.held points.new)) }
     ensures refuses { IfErr result (IsRefused text.now max) }
@@ -116,7 +118,8 @@ fn read_points<L: PointTail>(text: &[u8], max: u32, points: &mut L) -> Result<()
     Ok(())
 }
 
-// Refuses a point after the most that there may be.
+// Refuses one more point after `read` points, as `TooMany` at the offset `at`, if `read` is `max`;
+// it must not be above `max`.
 #[inline(always)]
 fn one_more(read: usize, max: u32, at: usize) -> Result<(), PolyFault>
     requires { read ≤ max }
@@ -132,7 +135,8 @@ fn one_more(read: usize, max: u32, at: usize) -> Result<(), PolyFault>
 // Where blocks are first searched for: after the first point, whose numbers are mostly large.
 const FIRST_LOOK: usize = 1;
 
-// The number of characters from a search for blocks to the next search.
+// The number of characters from the end of a search for blocks to the next search: `APART` if it
+// has found points, and otherwise `FAR_APART`.
 #[inline(always)]
 fn apart(has_found: bool) -> usize
     ensures some { 0 < result }
@@ -141,9 +145,9 @@ fn apart(has_found: bool) -> usize
     if has_found { APART } else { FAR_APART }
 }
 
-// Fast path: appends points from `start` on, eight at a time, as long as their numbers are found
-// in blocks, and at most `room` points. Returns where the text goes on. After an `Err` the points
-// before the refusal are appended.
+// Fast path: appends points from `start` on, eight at a time and at most `room`, as long as
+// `eight_points` finds them, and moves the cursor to the last one. Returns the offset where the
+// text goes on. If memory is refused, the points read before stay in the list.
 #[inline(never)]
 fn read_eights<L: PointTail>(
     text: &[u8],
@@ -178,7 +182,9 @@ fn read_eights<L: PointTail>(
     Ok(at)
 }
 
-// Reads the point whose latitude begins at `start`, and where the text goes on.
+// Reads the point whose latitude begins at `start`, where text must be left, as its step from the
+// cursor. Moves the cursor to the point, and returns the point and the offset where the text goes
+// on. An `Err` is the point's first fault, at its offset in the text.
 #[inline(always)]
 fn next_point(text: &[u8], start: usize, cursor: &mut Cursor) -> Result<(Pt, usize), PolyFault>
     requires { start < length text.now }
@@ -193,8 +199,8 @@ fn next_point(text: &[u8], start: usize, cursor: &mut Cursor) -> Result<(Pt, usi
     }
 }
 
-// Reads that point number by number, so that a fault is found at its place. Out of line: only
-// points that the fast path refuses get here.
+// Does what `next_point` does, number by number, so that a fault is found at its place. Out of
+// line: only points that the fast path refuses get here.
 #[cold]
 fn point_at(text: &[u8], start: usize, cursor: &mut Cursor) -> Result<(Pt, usize), PolyFault>
     requires { start < length text.now }
@@ -217,7 +223,9 @@ fn point_at(text: &[u8], start: usize, cursor: &mut Cursor) -> Result<(Pt, usize
     }
 }
 
-// Reads the number that begins at `start`, and where the text goes on.
+// Reads the signed number that begins at `start`, where text must be left, and returns the number
+// and the offset where the text goes on. An `Err` is the number's first fault, at its offset in the
+// text.
 fn number_at(text: &[u8], start: usize) -> Result<(i64, usize), PolyFault>
     requires { start < length text.now }
     ensures read { IfOk result (λ r. IsNumberAt text.now start r.0 r.1) }

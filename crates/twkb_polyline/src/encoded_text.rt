@@ -10,8 +10,8 @@ use std::alloc::{AllocError, Global};
 use twkb_num::{Piece, zigzag};
 use twkb_points::{Cursor, Pt};
 
-/// Encodes the points as a polyline, in a new vector (Encoded Polyline Algorithm Format). Takes
-/// memory for the text alone.
+/// Encodes points as a polyline, in a new vector (Encoded Polyline Algorithm Format). Takes memory
+/// for the text alone.
 pub fn encode(alloc: Global, points: &[Pt]) -> Result<Vec<u8>, AllocError>
     ensures { IfOk result (λ text. text.items ≡ polyline points.now) }
 {
@@ -20,7 +20,8 @@ pub fn encode(alloc: Global, points: &[Pt]) -> Result<Vec<u8>, AllocError>
     Ok(text)
 }
 
-/// Appends the polyline of the points to a text. If memory is refused, the text is unchanged.
+/// Appends the polyline of some points to a text (Encoded Polyline Algorithm Format). Takes memory
+/// for the text alone; after an `Err` the text is as it was.
 pub fn encode_into(points: &[Pt], text: &mut Vec<u8>) -> Result<(), AllocError>
     ensures appended { OnOk result (text.new.items ≡ text.old.items ++ polyline points.now) }
     ensures same { OnErr result (text.new.items ≡ text.old.items) }
@@ -33,8 +34,8 @@ pub fn encode_into(points: &[Pt], text: &mut Vec<u8>) -> Result<(), AllocError>
     result
 }
 
-/// Appends the polyline of one point to a piece (Encoded Polyline Algorithm Format): at most 26
-/// characters. Takes no memory.
+/// Appends the polyline of one point, at most 26 characters, to a piece, which must have room for
+/// 32 (Encoded Polyline Algorithm Format). Takes no memory.
 #[inline(always)]
 pub fn encode_point(point: Pt, piece: &mut Piece<128>)
     requires room { length piece.old + 32 ≤ 128 }
@@ -45,8 +46,8 @@ pub fn encode_point(point: Pt, piece: &mut Piece<128>)
     push_point(&mut cursor, point, piece);
 }
 
-// Appends the polyline of the points, or a prefix of it if memory is refused. It takes two points
-// at a time, whose four numbers fill a vector.
+// Appends the polyline of some points to a text, or a prefix of it if memory is refused. It takes
+// two points at a time, whose four numbers fill a vector.
 fn put_points(points: &[Pt], text: &mut Vec<u8>) -> Result<(), AllocError>
     ensures appended { OnOk result (text.new.items ≡ text.old.items ++ polyline points.now) }
     ensures grown { (more : List ℕ) × (text.new.items ≡ text.old.items ++ more) }
@@ -62,8 +63,9 @@ fn put_points(points: &[Pt], text: &mut Vec<u8>) -> Result<(), AllocError>
     Ok(())
 }
 
-// Appends the characters of some pairs of points, or a prefix of them if memory is refused. Out
-// of line, so that a list of one point does not pay for it.
+// Appends the characters of pairs of points to a text, each point as its step from the one before
+// it, the first from the cursor, and moves the cursor to the last point. If memory is refused, only
+// a prefix may be appended. Out of line, so that a list of one point does not pay for it.
 #[inline(never)]
 fn put_pairs(pairs: &[[Pt; 2]], cursor: &mut Cursor, text: &mut Vec<u8>) -> Result<(), AllocError>
     ensures appended { OnOk result (text.new.items ≡ text.old.items ++ polyline_from cursor.old (points_of pairs.now)) }
@@ -79,8 +81,9 @@ fn put_pairs(pairs: &[[Pt; 2]], cursor: &mut Cursor, text: &mut Vec<u8>) -> Resu
     flush(&mut piece, text)
 }
 
-// Appends the characters of two points to the piece, or a prefix of both to the text if memory is
-// refused.
+// Appends the characters of two points to the piece, the first as its step from the cursor, and
+// moves the cursor to the second. If the piece has too little room, its characters are first moved
+// to the text; if memory for that is refused, the two points are not appended.
 #[inline(always)]
 fn push_pair(
     cursor: &mut Cursor,
@@ -106,7 +109,8 @@ fn push_pair(
     )
 }
 
-// Appends the characters of a point to the text, or nothing if memory is refused.
+// Appends the characters of a point to a text, as its step from the cursor, and moves the cursor to
+// the point. If memory is refused, the text stays as it was, and the cursor moves nevertheless.
 #[inline(always)]
 fn put_point(cursor: &mut Cursor, point: Pt, text: &mut Vec<u8>) -> Result<(), AllocError>
     ensures appended { OnOk result (text.new.items ≡ text.old.items ++ polyline_from cursor.old (point ∷ [])) }
@@ -118,7 +122,8 @@ fn put_point(cursor: &mut Cursor, point: Pt, text: &mut Vec<u8>) -> Result<(), A
     flush(&mut characters, text)
 }
 
-// Appends the characters of a point to the piece.
+// Appends the characters of a point to the piece, at most 26, as its step from the cursor, and
+// moves the cursor to the point. The piece must have room for 32.
 #[inline(always)]
 fn push_point(cursor: &mut Cursor, point: Pt, piece: &mut Piece<128>)
     requires room { length piece.old + 32 ≤ 128 }

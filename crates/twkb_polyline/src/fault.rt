@@ -26,7 +26,7 @@ pub enum PolyReason {
 }
 
 impl PolyReason {
-    /// The reason in a few words. Takes no memory.
+    /// The reason in English, at most 31 bytes. Takes no memory.
     #[tactic(auto, using(crate::proofs::ShortTexts::short_point_text))]
     pub fn text(self) -> &'static str
         ensures words { result.now ≡ point_text_words self }
@@ -43,7 +43,7 @@ impl PolyReason {
         }
     }
 
-    // Makes the refusal for this reason at this offset.
+    // Makes the refusal of a text for this reason, at an offset in bytes from its start.
     pub(crate) fn at(self, offset: usize) -> PolyFault
         ensures { result ≡ PolyFault.At offset self }
     {

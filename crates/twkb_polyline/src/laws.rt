@@ -9,7 +9,7 @@ ghost use Rattle.twkb_polyline.specs.Polyline.{number_text, polyline, DecodesTo}
 ghost use Rattle.twkb_polyline.specs.Fault.{IsTextFault, GoesOn, EndsIn};
 ghost use Rattle.twkb_polyline.specs.declared.fault.PolyReason.{PolyReason};
 
-/// Distinct lists have distinct polylines.
+/// Distinct lists of points have distinct polylines.
 pub fn distinct_lists()
     ensures { (ps qs : List Point) → polyline ps ≡ polyline qs → ps ≡ qs }
 {}
@@ -20,7 +20,7 @@ pub fn no_polyline()
         IsTextFault text max offset reason → DecodesTo text max ps → ⊥ }
 {}
 
-/// A text has at most one fault: one offset and one reason.
+/// With the same `max`, a text has at most one fault: one offset and one reason.
 pub fn one_fault()
     ensures { (text : List ℕ) (max o p : ℕ) (r s : PolyReason) →
         IsTextFault text max o r → IsTextFault text max p s → (o ≡ p) × (r ≡ s) }
@@ -39,8 +39,9 @@ pub fn too_long_numbers()
         ((16 ≤ group) ↔ IsAbove five_unit 32 (us ++ c ∷ [])) }
 {}
 
-/// Checks by computation that the definition gives the texts printed on the format's page, and
-/// the texts that its steps give by hand at the ends of the range.
+/// Checks by computation that the definition of polylines gives the texts printed on the format's
+/// page, and the texts that the format's steps give by hand at the ends of the range of
+/// coordinates.
 pub fn samples()
     ensures number { number_text (negsuc 17998320) ≡ codes "`~oia@" }
     ensures example { polyline (point_at (negsuc 12019999) (pos 3850000) ∷ point_at (negsuc 12094999) (pos 4070000)

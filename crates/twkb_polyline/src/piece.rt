@@ -4,7 +4,8 @@ ghost use Rattle.std.specs.Prelude.{◌≡◌, ◌≤◌, ◌+◌, ◌++◌, [],
 use std::alloc::AllocError;
 use twkb_num::Piece;
 
-// Appends what the piece holds to the text and empties it, or changes nothing if memory is refused.
+// Appends the characters that the piece holds to the text, and empties the piece; changes nothing
+// if memory is refused.
 #[inline(always)]
 pub(crate) fn flush(piece: &mut Piece<128>, text: &mut Vec<u8>) -> Result<(), AllocError>
     ensures appended { OnOk result (text.new.items ≡ text.old.items ++ piece.old) }
@@ -16,7 +17,8 @@ pub(crate) fn flush(piece: &mut Piece<128>, text: &mut Vec<u8>) -> Result<(), Al
     Ok(())
 }
 
-// Makes room for `count` more characters: the piece is flushed if it has too little.
+// Makes room in the piece for `count` more characters, at most 128: if it has too little, moves the
+// characters that it holds to the text. Changes nothing if memory is refused.
 #[inline(always)]
 pub(crate) fn make_room(
     count: usize,

@@ -34,8 +34,9 @@ const OPEN_MARKS: u64 = CHARACTER_GOES_ON as u64 * EACH_BYTE;
 // What is added to each of eight groups.
 const BASES: u64 = FIRST_CHARACTER as u64 * EACH_BYTE;
 
-// Appends the characters of four numbers to the piece, or a prefix of them to the text if memory
-// is refused. Nearly all numbers of a track are below 2^20.
+// Appends the characters of four numbers to the piece. If the piece has too little room, its
+// characters are first moved to the text; if memory for that is refused, the numbers are not
+// appended. Nearly all numbers of a track are below 2^20.
 #[inline(always)]
 #[tactic(auto, using(std::proofs::lemmas::Nat::le_or_l, std::proofs::lemmas::Nat::le_or_r))]
 pub(crate) fn push_four(
@@ -69,8 +70,8 @@ pub(crate) fn push_four(
     Ok(())
 }
 
-// Fast path: appends four numbers of one character each, as short steps have, as four bytes of
-// one word.
+// Fast path: appends the characters of four numbers below 32, as short steps have: one each. The
+// piece must have room for eight: one store writes a word of eight bytes, and four are counted.
 #[inline(always)]
 fn push_characters(first: u64, second: u64, third: u64, fourth: u64, piece: &mut Piece<128>)
     requires first_few { first < 32 }
@@ -91,7 +92,7 @@ fn push_characters(first: u64, second: u64, third: u64, fourth: u64, piece: &mut
     piece.push_low(u64::from(u32::from_le_bytes(characters)), 4);
 }
 
-// The character of a number that has one group.
+// The character of a number below 32, which has one group.
 #[inline(always)]
 fn one_character(number: u64) -> u8
     requires { number < 32 }
@@ -100,8 +101,9 @@ fn one_character(number: u64) -> u8
     Five::to_unit(number as u8, false)
 }
 
-// Appends the characters of two numbers to the piece: at most 13 each. Each number fills two
-// lanes, with its lower and its upper four groups.
+// Appends the characters of two numbers to the piece, at most 13 each. The piece must have room for
+// 32. If both are below 2^40, each number fills two lanes, with its lower and its upper four
+// groups.
 #[inline(always)]
 #[tactic(auto, using(std::proofs::lemmas::Nat::le_or_l, std::proofs::lemmas::Nat::le_or_r))]
 pub(crate) fn push_two(first: u64, second: u64, piece: &mut Piece<128>)
@@ -129,8 +131,8 @@ pub(crate) fn push_two(first: u64, second: u64, piece: &mut Piece<128>)
     );
 }
 
-// Appends the characters of a number of any size to the piece: at most 13. Out of line: few texts
-// need it.
+// Appends the characters of a number of any size to the piece, which must have room for 13. Out of
+// line: few texts need it.
 #[inline(never)]
 fn push_one(number: u64, piece: &mut Piece<128>)
     requires room { length piece.old + 13 ≤ 128 }
@@ -140,7 +142,8 @@ fn push_one(number: u64, piece: &mut Piece<128>)
     piece.push_all(NumBuf::put::<Five>(number).as_slice());
 }
 
-// Spreads the groups of four numbers, one group in each byte of the number's lane.
+// Spreads the four groups of each of four numbers below 2^20 over the four bytes of its lane, low
+// group first.
 #[inline(always)]
 fn spread_four(first: u32, second: u32, third: u32, fourth: u32) -> u32x4
     requires first_few { first < 2 ^ 20 }
@@ -157,7 +160,9 @@ fn spread_four(first: u32, second: u32, third: u32, fourth: u32) -> u32x4
         + ((numbers >> (3 * CHARACTER_BITS)) << 24)
 }
 
-// Appends the characters of a number whose groups are in a word, one group in each byte.
+// Appends the characters of a number below 2^40. `groups` must have its groups, one in each byte,
+// low group first. The piece must have room for eight: one store writes eight bytes, and those past
+// the characters are not counted.
 #[inline(always)]
 fn push_spread(number: u64, groups: u64, piece: &mut Piece<128>)
     requires few { number < 2 ^ 40 }
@@ -171,7 +176,7 @@ fn push_spread(number: u64, groups: u64, piece: &mut Piece<128>)
     piece.push_low(groups + marks + BASES, count);
 }
 
-// The number of groups of a number: 1 for 0.
+// The number of groups of five bits in a number below 2^40: 1 for 0, and 8 at most.
 #[inline(always)]
 fn group_count(number: u64) -> u32
     requires { number < 2 ^ 40 }

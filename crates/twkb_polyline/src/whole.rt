@@ -13,8 +13,9 @@ use twkb_points::{Cursor, Pt};
 // The shift of a thirteenth group, the last that a number may have.
 const LAST_SHIFT: u32 = 12 * CHARACTER_BITS;
 
-// Reads the point whose latitude begins at `start`, moves the cursor to it, and returns it and
-// where it ends. `None` proves nothing about the text, and the cursor stays.
+// Reads the point whose latitude begins at `start`, as its step from the cursor, moves the cursor
+// to the point, and returns the point and the offset where it ends. `None` proves nothing about the
+// text, and the cursor stays.
 #[inline(always)]
 pub(crate) fn whole_point(text: &[u8], start: usize, cursor: &mut Cursor) -> Option<(Pt, usize)>
     requires { start ≤ length text.now }
@@ -32,7 +33,8 @@ pub(crate) fn whole_point(text: &[u8], start: usize, cursor: &mut Cursor) -> Opt
     Some((point, end))
 }
 
-// Fast path: reads that point if it has eight to sixteen characters, as a first point mostly has.
+// Fast path: does what `whole_point` does, for a point of eight to sixteen characters, as a first
+// point mostly has.
 #[inline(always)]
 fn far_point(text: &[u8], start: usize, cursor: &mut Cursor) -> Option<(Pt, usize)>
     requires { start ≤ length text.now }
@@ -46,7 +48,8 @@ fn far_point(text: &[u8], start: usize, cursor: &mut Cursor) -> Option<(Pt, usiz
     Some((point, start + count))
 }
 
-// Reads the point whose two numbers are the whole text. `None` proves nothing about the text.
+// Reads the point whose two numbers are a whole text, of eight to sixteen characters. `None` proves
+// nothing about the text.
 #[inline(always)]
 pub(crate) fn only_point(text: &[u8]) -> Option<Pt>
     ensures read { IfSome result (λ point. IsPointAt text.now 0 origin point (length text.now)) }
@@ -57,8 +60,8 @@ pub(crate) fn only_point(text: &[u8]) -> Option<Pt>
     Some(point)
 }
 
-// The group of a character that says that more follow; `None` for any other. By its range: with
-// `Five::from_unit` in its place, `pack` of multipolygons takes 1 in 1000 more instructions.
+// The group of a character that says that more follow; `None` for any other byte. By its range:
+// with `Five::from_unit` in its place, `pack` of multipolygons takes 1 in 1000 more instructions.
 #[inline(always)]
 fn open_group(unit: u8) -> Option<u64>
     ensures { IfSome result (λ group. five_group unit ≡ Some (group, true)) }
@@ -69,7 +72,7 @@ fn open_group(unit: u8) -> Option<u64>
     }
 }
 
-// The group of a character that ends a number; `None` for any other.
+// The group of a character that ends a number; `None` for any other byte.
 #[inline(always)]
 fn last_group(unit: u8) -> Option<u64>
     ensures { IfSome result (λ group. five_group unit ≡ Some (group, false)) }
@@ -80,8 +83,8 @@ fn last_group(unit: u8) -> Option<u64>
     }
 }
 
-// Reads the number that begins at `start`, and returns it and where it ends. `None` proves
-// nothing about the text.
+// Reads the signed number that begins at `start`, and returns the number and the offset where it
+// ends. `None` proves nothing about the text.
 #[inline(always)]
 fn whole_number(text: &[u8], start: usize) -> Option<(i64, usize)>
     ensures { IfSome result (λ r. IsNumberAt text.now start r.0 r.1) }
@@ -94,7 +97,8 @@ fn whole_number(text: &[u8], start: usize) -> Option<(i64, usize)>
     later_number(text, start, first)
 }
 
-// Goes on reading a number whose first character has this group and says that more follow.
+// Does what `whole_number` does for a number of two characters or more: the one at `start` must
+// have the group `first` and say that more follow.
 #[inline(always)]
 fn later_number(text: &[u8], start: usize, first: u64) -> Option<(i64, usize)>
     requires within { start < length text.now }
@@ -112,7 +116,8 @@ fn later_number(text: &[u8], start: usize, first: u64) -> Option<(i64, usize)>
     long_number(text, start, first + (second << CHARACTER_BITS))
 }
 
-// Goes on reading a number whose first two characters have this value and say that more follow.
+// Does what `whole_number` does for a number of three characters or more: the first two must say
+// that more follow, and their groups must make the number `begun`.
 #[inline(always)]
 fn long_number(text: &[u8], start: usize, begun: u64) -> Option<(i64, usize)>
     requires { IsBegun text.now start (start + 2) begun }
