@@ -5,7 +5,8 @@ ghost use Rattle.twkb_io.specs.Sinks.{TookFront};
 use crate::sink::Sink;
 use std::alloc::{AllocError, Global};
 
-/// A sink that keeps the bytes in a vector. A put takes memory, and is refused if there is none.
+/// A sink that keeps its bytes in a vector. A put takes memory; if that is refused, no byte of the
+/// put is taken.
 #[derive(Drop)]
 pub struct Bytes {
     kept: Vec<u8>,
@@ -23,21 +24,22 @@ impl Bytes {
         }
     }
 
-    /// Drops all bytes, and keeps their memory for others. Takes no memory.
+    /// Drops all bytes, and keeps their memory for later puts. Takes no memory.
     pub fn clear(&mut self)
         ensures { bytes_of self.new ≡ [] }
     {
         self.kept.clear();
     }
 
-    /// The bytes of all accepted puts, in order. Takes no memory.
+    /// The bytes of all accepted puts since the last `clear`, in order. Takes no memory.
     pub fn as_slice(&self) -> &[u8]
         ensures { result.now ≡ bytes_of self.now }
     {
         &self.kept
     }
 
-    /// The bytes of all accepted puts, in order. Takes no memory.
+    /// The bytes of all accepted puts since the last `clear`, in order, as the sink's own vector.
+    /// Takes no memory.
     pub fn into_vec(self) -> Vec<u8>
         ensures { result.items ≡ bytes_of self }
     {

@@ -7,14 +7,15 @@ use crate::MAX_BYTES;
 use crate::sink::Sink;
 use thiserror::Error;
 
-/// A sink that keeps only the number of bytes it took, at most 2^62. Takes no memory.
+/// A sink that keeps only the number of bytes it took, at most 2^62. A put that would pass this
+/// bound is refused, and none of its bytes is counted. Takes no memory.
 #[derive(Clone, Copy, Debug)]
 pub struct Count {
     total: u64,
     ghost within: { total ≤ MAX_BYTES },
 }
 
-/// The length would pass 2^62.
+/// A put would take the count past 2^62 bytes.
 #[derive(Clone, Copy, PartialEq, Eq, Debug, Error)]
 #[error("too many bytes to count")]
 pub struct CountFull;
@@ -29,7 +30,7 @@ impl Count {
         Count { total: 0 }
     }
 
-    /// The number of bytes taken.
+    /// The number of bytes taken, at most 2^62.
     pub fn total(&self) -> u64
         ensures total { result ≡ total_of self.now }
         ensures within { result ≤ MAX_BYTES }

@@ -18,7 +18,8 @@ pub enum FuseEnd {
 impl FuseEnd {
     ghost use Rattle.twkb_io.specs.Fuses.{Dries};
 
-    // The answer of a call that should move a byte.
+    // The answer to a read or a write after the bytes of a fuse: an error, or that no byte was
+    // moved.
     fn answer(self) -> io::Result<usize>
         ensures { Dries self result }
     {
@@ -30,7 +31,7 @@ impl FuseEnd {
 }
 
 /// A device for tests: passes the first bytes of another device, a step at a time, and then fails
-/// or moves no more bytes.
+/// or moves no more bytes. Takes no memory itself.
 #[derive(Drop)]
 pub struct Fuse<D> {
     device: D,
@@ -44,8 +45,9 @@ pub struct Fuse<D> {
 impl<D> Fuse<D> {
     ghost use Rattle.twkb_io.specs.Fuses.{end_of, fails_flush, fuse_device, left_of, step_of};
 
-    /// Makes a fuse that passes the first `bytes` bytes, at most `step` of them in one call. A
-    /// flush fails if `flush_fails` is set; if not, it is passed on.
+    /// Makes a fuse that passes the first `bytes` bytes of its reads and writes, at most `step` in
+    /// one call, and then answers each as `end` says. `step` must not be 0. A flush fails if
+    /// `flush_fails` is set; if not, it is passed on.
     pub fn new(device: D, bytes: u64, step: usize, end: FuseEnd, flush_fails: bool) -> Fuse<D>
         requires { 0 < step }
         ensures device { fuse_device result ≡ device }
@@ -71,7 +73,8 @@ impl<D> Fuse<D> {
     }
 }
 
-// The number of bytes that pass in one call.
+// The number of bytes that may pass in a call for `length` bytes: the least of `length`, `step` and
+// `left`. `step` must not be 0.
 fn passing(length: usize, left: u64, step: usize) -> usize
     requires { 0 < step }
     ensures { result ≡ min (min length step) left }

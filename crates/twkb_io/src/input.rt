@@ -53,7 +53,7 @@ impl<'a, R: Read> Input<'a, R> {
     ghost use Rattle.twkb_io.specs.Inputs.{input_failures, input_tap, is_read_fault, is_spent};
     ghost use Rattle.twkb_io.specs.Inputs.{rest_of};
 
-    /// Makes an input of all that the reader still gives. Reads nothing yet.
+    /// Makes an input of all bytes that the tap's reader still gives. Reads nothing yet.
     pub fn new(tap: &'a mut Tap<R>) -> Input<'a, R>
         ensures same_tap { (input_tap result).ghost_name ≡ tap.entry.ghost_name }
         ensures untouched { (input_tap result).now ≡ tap.old }
@@ -74,9 +74,9 @@ impl<'a, R: Read> Input<'a, R> {
         }
     }
 
-    /// Returns the next byte. After an `Err` each call returns `Spent`; after the end each call
-    /// returns `None` and does not read again. It reads at most once, and only if no byte is
-    /// held.
+    /// Returns the next byte, or `None` at the end and in each call after it. Reads at most once,
+    /// and only if no byte is held and the end was not reached. After an `Err` each later call
+    /// returns `Spent`.
     pub fn next(&mut self) -> Result<Option<u8>, InFault>
         ensures same_tap { (input_tap self.new).ghost_name ≡ (input_tap self.old).ghost_name }
         ensures gives { GivesNext (rest_of self.old) result (rest_of self.new) }
@@ -105,8 +105,8 @@ impl<'a, R: Read> Input<'a, R> {
         Ok(Some(byte))
     }
 
-    /// Reads once if no byte is held; afterwards `held` is empty only at the end. After an `Err`
-    /// each call returns `Spent`; after the end no call reads again.
+    /// Reads once if no byte is held and the end was not reached; after `Ok`, `held` is empty only
+    /// at the end. After an `Err` each later call returns `Spent`.
     pub fn fill(&mut self) -> Result<(), InFault>
         ensures same_tap { (input_tap self.new).ghost_name ≡ (input_tap self.old).ghost_name }
         ensures keeps { Keeps (rest_of self.old) (rest_of self.new) }
@@ -154,7 +154,7 @@ impl<'a, R: Read> Input<'a, R> {
         &unused[..count]
     }
 
-    /// Counts the first `count` held bytes as given out.
+    /// Counts the first `count` bytes of `held` as given out; there must be that many.
     pub fn advance(&mut self, count: usize)
         requires { count ≤ length (held_of self.old) }
         ensures same_tap { input_tap self.new ≡ input_tap self.old }
@@ -168,7 +168,7 @@ impl<'a, R: Read> Input<'a, R> {
         self.offset += count as u64;
     }
 
-    /// The number of bytes given out.
+    /// The number of bytes given out, at most 2^62.
     pub fn offset(&self) -> u64
         ensures offset { result ≡ given self.now }
         ensures within { result ≤ MAX_BYTES }
@@ -176,14 +176,16 @@ impl<'a, R: Read> Input<'a, R> {
         self.offset
     }
 
-    /// The failures of the borrowed tap.
+    /// The number of failed calls that the borrowed tap has counted, also before this input was
+    /// made.
     pub fn failures(&self) -> u64
         ensures { result ≡ input_failures self.now }
     {
         self.tap.failures()
     }
 
-    // Reads if the array is used up.
+    // Reads once if no byte of the array is left and the end was not reached; a read that gives no
+    // byte is the end. The input must not be spent; if the read fails, it is spent.
     fn refill(&mut self) -> Result<(), InFault>
         requires { is_spent self.old ≡ false }
         ensures same_tap { (input_tap self.new).ghost_name ≡ (input_tap self.old).ghost_name }

@@ -1,4 +1,4 @@
-//! A device with a count of its failures.
+//! A device with counts of its calls, of their failures and of its bytes.
 ghost use Rattle.std.specs.Prelude.{◌≡◌, ◌&&◌, ◌||◌, is_err, false};
 ghost use Rattle.std.specs.Io.{ReadsAtMost, WritesAtMost};
 ghost use Rattle.std.specs.Io.KnownBytes.{Keeps, ReadConsumes, WriteAppends};
@@ -7,9 +7,9 @@ use std::io;
 use std::io::{Read, Write};
 
 /// A reader or a writer with counts of its calls, of its flushes, of the calls that failed and of
-/// the bytes that it gave. It also knows whether it took bytes after its last flush, and whether its last write
-/// took none. Each read, write and flush is passed on once, and answered as the device answers
-/// it. Takes no memory itself.
+/// the bytes that it gave. It also knows whether it took bytes after its last flush, and whether
+/// its last write took none. Each read, write and flush is passed on once, and answered as the
+/// device answers it. Takes no memory itself.
 #[derive(Drop)]
 pub struct Tap<D> {
     device: D,
@@ -25,7 +25,7 @@ impl<D> Tap<D> {
     ghost use Rattle.twkb_io.specs.Taps.{bytes_given, calls_of, count_failure, device_of};
     ghost use Rattle.twkb_io.specs.Taps.{failures_of, flushes_of, has_unflushed, is_stuck, one_call};
 
-    /// Wraps a device of which no call has failed yet.
+    /// Wraps a device, with all counts at 0.
     pub fn new(device: D) -> Tap<D>
         ensures device { device_of result ≡ device }
         ensures calls { calls_of result ≡ 0 }
@@ -52,7 +52,8 @@ impl<D> Tap<D> {
         self.calls
     }
 
-    /// The number of calls that failed. The count stops at `u64::MAX`.
+    /// The number of calls that failed; a write of at least one byte that took none is one of them.
+    /// The count stops at `u64::MAX`.
     pub fn failures(&self) -> u64
         ensures { result ≡ failures_of self.now }
     {
@@ -66,7 +67,7 @@ impl<D> Tap<D> {
         self.given
     }
 
-    /// Whether bytes were taken after the last flush that passed.
+    /// Whether a write took bytes after the last flush that succeeded.
     pub fn has_unflushed(&self) -> bool
         ensures { result ≡ has_unflushed self.now }
     {
@@ -80,7 +81,7 @@ impl<D> Tap<D> {
         self.device
     }
 
-    // Counts a call, and its failure if it failed.
+    // Counts a call, and a failure if `has_failed`. Both counts stop at `u64::MAX`.
     fn count(&mut self, has_failed: bool)
         ensures calls { calls_of self.new ≡ one_call (calls_of self.old) }
         ensures flushes { flushes_of self.new ≡ flushes_of self.old }
