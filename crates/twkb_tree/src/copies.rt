@@ -29,6 +29,7 @@ fn copy_ids(alloc: Global, ids: &Ids) -> Result<Ids, AllocError>
     }
 }
 
+// Makes a linestring with a copy of the points.
 fn copy_line(alloc: Global, points: &Pts) -> Result<Shape, AllocError>
     ensures { IfOk result (λ copy. copy ≡ Shape.Line points.now) }
 {
@@ -36,6 +37,7 @@ fn copy_line(alloc: Global, points: &Pts) -> Result<Shape, AllocError>
     Ok(Shape::Line(points))
 }
 
+// Makes a polygon with a copy of the rings.
 fn copy_polygon(alloc: Global, rings: &Lines) -> Result<Shape, AllocError>
     ensures { IfOk result (λ copy. copy ≡ Shape.Polygon rings.now) }
 {
@@ -43,6 +45,7 @@ fn copy_polygon(alloc: Global, rings: &Lines) -> Result<Shape, AllocError>
     Ok(Shape::Polygon(rings))
 }
 
+// Makes a multipoint with copies of the points and the ids.
 fn copy_points(alloc: Global, points: &Pts, ids: &Ids) -> Result<Shape, AllocError>
     ensures { IfOk result (λ copy. copy ≡ Shape.MultiPoint points.now ids.now) }
 {
@@ -51,6 +54,7 @@ fn copy_points(alloc: Global, points: &Pts, ids: &Ids) -> Result<Shape, AllocErr
     Ok(Shape::MultiPoint(points, ids))
 }
 
+// Makes a multilinestring with copies of the lines and the ids.
 fn copy_lines(alloc: Global, lines: &Lines, ids: &Ids) -> Result<Shape, AllocError>
     ensures { IfOk result (λ copy. copy ≡ Shape.MultiLine lines.now ids.now) }
 {
@@ -59,6 +63,7 @@ fn copy_lines(alloc: Global, lines: &Lines, ids: &Ids) -> Result<Shape, AllocErr
     Ok(Shape::MultiLine(lines, ids))
 }
 
+// Makes a multipolygon with copies of the polygons and the ids.
 fn copy_areas(alloc: Global, areas: &Areas, ids: &Ids) -> Result<Shape, AllocError>
     ensures { IfOk result (λ copy. copy ≡ Shape.MultiPolygon areas.now ids.now) }
 {
@@ -67,7 +72,7 @@ fn copy_areas(alloc: Global, areas: &Areas, ids: &Ids) -> Result<Shape, AllocErr
     Ok(Shape::MultiPolygon(areas, ids))
 }
 
-// Makes a collection of these members, with a copy of the ids.
+// Makes a collection of the members themselves, with a copy of the ids.
 fn with_ids(alloc: Global, members: Members, ids: &Ids) -> Result<Shape, AllocError>
     ensures { IfOk result (λ made. made ≡ Shape.Collection members ids.now) }
 {

@@ -7,7 +7,8 @@ use crate::geometry::{Geometry, Members, Shape};
 use crate::lists::Areas;
 use crate::with_points::WithPoints;
 
-// The number of rows of polygons: one for each polygon and one for each ring.
+// The number of rows of some polygons, at most `u64::MAX`: one for each polygon and one for each
+// ring.
 fn rows_of(areas: &Areas) -> u64
     ensures { result ≡ saturated (area_nodes areas.now) }
 {
@@ -20,6 +21,7 @@ fn rows_of(areas: &Areas) -> u64
 }
 
 impl Members {
+    // The number of rows of all members, at most `u64::MAX`.
     #[cycle(nodes)]
     fn count_nodes(&self) -> u64
         ensures { result ≡ saturated (nodes_all (trees self.now)) }
@@ -31,6 +33,7 @@ impl Members {
         total
     }
 
+    // The number of points of all members, at most `u64::MAX`.
     #[cycle(points)]
     fn points(&self) -> u64
         ensures { result ≡ saturated (length (flat_all (trees self.now))) }
@@ -44,8 +47,8 @@ impl Members {
 }
 
 impl Geometry {
-    /// The number of rows of its table: one for itself, and one for each member and ring at any
-    /// depth. At most `u64::MAX`. Takes no memory.
+    /// The number of rows that the geometry has in a table, at most `u64::MAX`: one for itself, and
+    /// one for each member and ring at any depth. Takes no memory.
     #[tactic(auto, using(crate::specs::RowLemmas::row_counts))]
     pub fn nodes(&self) -> u64
         ensures { result ≡ saturated (length (rows 0 self.now)) }
@@ -53,6 +56,7 @@ impl Geometry {
         self.count_nodes()
     }
 
+    // The number of rows, as `nodes` returns it.
     #[cycle(nodes)]
     pub(crate) fn count_nodes(&self) -> u64
         ensures { result ≡ saturated (nodes self.now) }
@@ -68,7 +72,8 @@ impl Geometry {
         below.saturating_add(1)
     }
 
-    /// The number of its points, members' points included, at most `u64::MAX`. Takes no memory.
+    /// The number of the geometry's points, members' points included, at most `u64::MAX`. Takes no
+    /// memory.
     #[cycle(points)]
     pub fn points(&self) -> u64
         ensures { result ≡ saturated (length (flat self.now)) }

@@ -26,6 +26,7 @@ fn same_ids(a: &Ids, b: &Ids) -> bool
     }
 }
 
+// Whether two lists of members are equal, and their ids are too.
 fn same_with<T: Element>(a: &Elements<T>, b: &Elements<T>, ids: &Ids, others: &Ids) -> bool
     ensures { IsTrue result ↔ ((a.now ≡ b.now) × (ids.now ≡ others.now)) }
 {

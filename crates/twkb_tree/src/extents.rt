@@ -8,6 +8,7 @@ use crate::with_points::WithPoints;
 use twkb_points::{Bounds, merged};
 
 impl Members {
+    // The smallest box that holds the points of all members; `None` if they have no points.
     #[cycle(bounds)]
     #[tactic(auto, using(twkb_points::proofs::ExtentLemmas::extents))]
     fn bounds(&self) -> Option<Bounds>
@@ -22,8 +23,9 @@ impl Members {
 }
 
 impl Geometry {
-    /// The smallest box that holds all its points, members' points included; `None` if it has no
-    /// points (TWKB, bounding box; profile: what it spans in a collection). Takes no memory.
+    /// The smallest box that holds all points of the geometry, members' points included; `None` if
+    /// it has no points (TWKB, bounding box; profile: what it spans in a collection). Takes no
+    /// memory.
     #[cycle(bounds)]
     pub fn bounds(&self) -> Option<Bounds>
         ensures { result ≡ extent (flat self.now) }

@@ -101,7 +101,8 @@ impl Model for Geometry {
 }
 
 impl Members {
-    /// Makes the members in this order. Takes no memory.
+    /// Makes the members of a collection from the geometries of a vector, in their order. Takes no
+    /// memory.
     pub fn from_vec(items: Vec<Geometry>) -> Members
         ensures { result ≡ items.items }
     {
@@ -145,8 +146,8 @@ fn ids_fit(count: usize, ids: &Ids) -> bool
 impl Shape {
     ghost use Rattle.twkb_tree.specs.Shape.{HasFitIds, HasTrees, IsShapeInRange};
 
-    // Whether the ids of its members fit. On the way it lets proofs know the facts about its
-    // members and points.
+    // Whether the ids of the shape's members fit: there are none, or one for each of at least one
+    // member. On the way it lets proofs know the facts about its members and points.
     fn has_fit_ids(&self) -> bool
         ensures fit { IsTrue result ↔ HasFitIds self.now }
         ensures trees { HasTrees self.now }
@@ -182,8 +183,9 @@ impl Geometry {
     ghost use Rattle.twkb_tree.specs.Tree.{precision_of, IsTree, IsPrecision};
     ghost use Rattle.twkb_tree.specs.InRange.{IsTreeInRange};
 
-    /// Makes the geometry of a shape with a precision from -8 to 7. If it refuses, it returns the
-    /// shape. Takes no memory.
+    /// Makes a geometry of a shape with a precision. Refuses a precision outside -8 to 7, and then
+    /// ids that are not one for each of at least one member; an `Err` gives the shape back, with
+    /// the reason. Takes no memory.
     pub fn try_new(precision: i8, shape: Shape) -> Result<Geometry, (Shape, GeomFault)>
         ensures accepted { IsOk result ↔ (IsPrecision precision × HasFitIds shape) }
         ensures tree { IfOk result (λ g. g ≡ tree_of precision shape) }
@@ -200,7 +202,7 @@ impl Geometry {
         Ok(Geometry { precision, shape })
     }
 
-    /// The number of decimals of its coordinates, -8 to 7.
+    /// The number of decimals of the geometry's coordinates, -8 to 7. Takes no memory.
     pub fn precision(&self) -> i8
         ensures value { result ≡ precision_of self.now }
         ensures sound { IsTree self.now }
@@ -209,7 +211,7 @@ impl Geometry {
         self.precision
     }
 
-    /// Its shape, as it was given.
+    /// The geometry's shape, as it was given. Takes no memory.
     pub fn shape(&self) -> &Shape
         ensures { tree_of (precision_of self.now) result.now ≡ self.now }
     {

@@ -24,8 +24,8 @@ pub enum Kind {
 }
 
 impl Kind {
-    /// The kind's word in a table, in ASCII and padded with spaces to a fixed size, and the
-    /// word's length. Takes no memory.
+    /// The kind's word in a table, in ASCII and padded with spaces to sixteen bytes, and the word's
+    /// own length. Takes no memory.
     #[inline(always)]
     pub fn padded_name(self) -> (&'static [u8; 16], usize)
         ensures few { result.1 ≤ 15 }

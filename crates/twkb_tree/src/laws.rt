@@ -52,25 +52,25 @@ pub fn fronts()
         → AreValidRowsOfOne l front }
 {}
 
-/// No row of a valid geometry is more than two levels below the deepest member that the limits
-/// allow.
+/// No row of valid geometries is deeper than the levels of collections in the limits, plus two.
 pub fn depths()
     ensures { (l : Allowance) (rs : List Row) → AreValidRows l rs → AreShallow (l.nest + 2) rs }
 {}
 
 // ---- when a row may come next
 
-/// After rows of geometries a row is admitted exactly if the rows with it are rows of geometries;
-/// after rows of one geometry, it is admitted and is no second root exactly if they are rows of one
-/// geometry.
+/// By the rules of a table without its limits, a row may come after rows of geometries exactly if
+/// the rows with it are rows of geometries. It may come after rows of one geometry, and is no
+/// second root, exactly if the rows with it are rows of one geometry.
 pub fn admitted()
     ensures list { (rs : List Row) (r : Row) → AreRows rs → (admits rs r ≡ true) ↔ AreRows (rs ++ r ∷ []) }
     ensures one { (rs : List Row) (r : Row) → AreRowsOfOne rs
         → ((admits rs r ≡ true) × IsOneRoot rs r) ↔ AreRowsOfOne (rs ++ r ∷ []) }
 {}
 
-/// Rows are accepted one by one exactly if they are rows of valid geometries. After such rows one
-/// more is accepted exactly if rows of valid geometries begin with these rows and that one.
+/// Rows are accepted one by one exactly if they are rows of valid geometries. After rows of valid
+/// geometries one more is accepted exactly if rows of valid geometries begin with those rows and
+/// that one.
 pub fn accepted()
     ensures one_by_one { (l : Allowance) (rs : List Row) → AreAccepted l (reverse rs) ↔ AreValidRows l rs }
     ensures next { (l : Allowance) (rs : List Row) (r : Row) → AreValidRows l rs
@@ -139,13 +139,14 @@ pub fn open_rows()
 
 // ---- worked tables
 
-/// The rows of a collection and of a multipolygon with ids.
+/// Checks by computation that a collection and a multipolygon, both with ids, have the rows of two
+/// worked tables.
 pub fn table_rows()
     ensures members { MemberRows }
     ensures polygons { PolygonRows }
 {}
 
-/// Tables whose rows are accepted.
+/// Checks by computation that all rows of seven worked tables are accepted.
 pub fn accepted_tables()
     ensures two_rings { TwoRings }
     ensures points_with_ids { PointsWithIds }
@@ -156,7 +157,8 @@ pub fn accepted_tables()
     ensures two_roots { TwoRoots }
 {}
 
-/// Tables with a refused row, and its reason.
+/// Checks by computation that rows of worked tables are refused, each at its place and for its
+/// reason.
 pub fn refused_tables()
     ensures ids_on_some { IdsOnSome }
     ensures no_level { NoLevel }
@@ -167,7 +169,9 @@ pub fn refused_tables()
     ensures first_rows { FirstRows }
 {}
 
-/// The ends of the ranges of precisions, coordinates and ids; and a second root.
+/// Checks by computation that precisions, coordinates and ids at the ends of their ranges are
+/// accepted, and those just outside are refused; and that a second root may come next in a table,
+/// but is no row of the first geometry.
 pub fn ranges_of_rows()
     ensures precisions { PrecisionRange }
     ensures coordinates { CoordinateRanges }

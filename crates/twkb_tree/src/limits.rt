@@ -38,8 +38,8 @@ pub const NODES_CAP: u32 = 1 << 20;
 pub const POINTS_CAP: u32 = 1 << 24;
 
 impl Limits {
-    /// Makes limits of `nest` from 0 to 32, `nodes` from 1 to 2^20 and `points` from 0 to 2^24;
-    /// `None` if one is out of its range. Takes no memory.
+    /// Makes limits of `nest` levels of collections, 0 to 32, `nodes` rows, 1 to 2^20, and `points`
+    /// points, 0 to 2^24; `None` if one is out of its range. Takes no memory.
     pub fn try_new(nest: u32, nodes: u32, points: u32) -> Option<Limits>
         ensures accepted { IsSome result ↔ IsAllowance (record { nest = nest; nodes = nodes; points = points }) }
         ensures value { IfSome result (λ l. l ≡ record { nest = nest; nodes = nodes; points = points }) }
@@ -54,7 +54,8 @@ impl Limits {
         })
     }
 
-    /// The standard limits: sixteen levels, 2^20 rows and 2^24 points. Takes no memory.
+    /// The standard limits: sixteen levels of collections, 2^20 rows and 2^24 points. Takes no
+    /// memory.
     pub fn standard() -> Limits
         ensures { result ≡ standard_limits }
     {
@@ -65,7 +66,7 @@ impl Limits {
         }
     }
 
-    /// The largest limits: 32 levels, 2^20 rows and 2^24 points. Takes no memory.
+    /// The largest limits: 32 levels of collections, 2^20 rows and 2^24 points. Takes no memory.
     pub fn largest() -> Limits
         ensures { result ≡ largest_limits }
     {
@@ -76,8 +77,8 @@ impl Limits {
         }
     }
 
-    /// The number of collections that a member may be in. A collection inside that many must have
-    /// no members.
+    /// The most collections that a member may be in, 0 to 32: a collection inside that many may
+    /// have no members. Takes no memory.
     pub fn nest(&self) -> u32
         ensures value { result ≡ self.now.nest }
         ensures sound { IsAllowance self.now }
@@ -85,14 +86,15 @@ impl Limits {
         self.nest
     }
 
-    /// The number of rows that a geometry may have, its own row included.
+    /// The most rows that a geometry may have, its own row included: 1 to 2^20. Takes no memory.
     pub fn nodes(&self) -> u32
         ensures { result ≡ self.now.nodes }
     {
         self.nodes
     }
 
-    /// The number of points that a geometry may have, its members' points included.
+    /// The most points that a geometry may have, its members' points included: 0 to 2^24. Takes no
+    /// memory.
     pub fn points(&self) -> u32
         ensures { result ≡ self.now.points }
     {

@@ -21,11 +21,12 @@ pub trait Element: Drop {
     fn look(&self, look: Look)
         ensures { Fits self.now };
 
-    /// Whether the two elements are equal.
+    /// Whether the two elements are equal. Takes no memory.
     fn same(&self, other: &Self) -> bool
         ensures { IsTrue result ↔ (self.now ≡ other.now) };
 
-    /// Makes an element equal to this one. A list takes memory for its elements.
+    /// Makes an element equal to this one. A list takes memory for its elements; an `Err` says that
+    /// it was refused.
     fn copy(&self, alloc: Global) -> Result<Self, AllocError>
         ensures { IfOk result (λ copy. copy ≡ self.now) };
 }
@@ -82,7 +83,7 @@ impl<T: Element> Model for Elements<T> {
 }
 
 impl<T: Element> Elements<T> {
-    /// Makes the list of these elements. Takes no memory.
+    /// Makes a list of the elements of a vector, in their order. Takes no memory.
     pub fn from_vec(items: Vec<T>) -> Elements<T>
         ensures { result ≡ items.items }
     {
@@ -100,7 +101,7 @@ impl<T: Element> Elements<T> {
         self.items
     }
 
-    /// The elements as a slice, each of which fits. Takes no memory.
+    /// The elements as a slice. Takes no memory.
     pub fn as_slice(&self) -> &[T]
         ensures items { result.now ≡ self.now }
         ensures fit { AllByRecursion T.Fits self.now }

@@ -14,7 +14,8 @@ pub struct OpenRow {
 }
 
 impl OpenRow {
-    /// The row after one more child, with an id or without. Takes no memory.
+    /// The open row after one more child, with an id or without; only the first child changes it.
+    /// Takes no memory.
     pub fn with_child(self, has_id: bool) -> OpenRow
         ensures { result ≡ record { kind = self.kind; child_ids = first_answer self.child_ids has_id } }
     {

@@ -9,7 +9,8 @@ use crate::lists::Ids;
 use std::slice::from_ref;
 use twkb_points::Pt;
 
-/// The kind of a geometry of this shape, and the points of its own row. Takes no memory.
+/// The kind of a geometry of this shape, and the points of its own row in a table: those of a point
+/// or a linestring, and none for any other shape. Takes no memory.
 pub fn own_parts(shape: &Shape) -> (Kind, &[Pt])
     ensures { (p : ℤ) (id : Option ℤ) (depth : ℕ)
         → own_row id depth (tree_of p shape.now) ≡ whole_row depth result.0 id p result.1.now }
@@ -26,7 +27,8 @@ pub fn own_parts(shape: &Shape) -> (Kind, &[Pt])
     }
 }
 
-/// The id of the member at a place, from 0; `None` if the members have no ids. Takes no memory.
+/// The id of the member at place `index`, from 0; `None` if the members have no ids, or fewer.
+/// Takes no memory.
 pub fn id_at(ids: &Ids, index: usize) -> Option<i64>
     ensures { result ≡ first_id (ids_from index ids.now) }
 {

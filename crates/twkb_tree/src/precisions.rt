@@ -6,7 +6,8 @@ ghost use Rattle.twkb_tree.specs.Uniform.{has_precision, have_precision, uniform
 use crate::geometry::{Geometry, Members, Shape};
 
 impl Members {
-    // Whether each member has this precision, at any depth.
+    // Whether each of the members has this precision, and also each member, at any depth, of a
+    // collection among them.
     #[cycle(uniform)]
     fn have_precision(&self, precision: i8) -> bool
         ensures { result ≡ have_precision precision (trees self.now) }
@@ -35,8 +36,8 @@ impl Geometry {
         }
     }
 
-    /// Whether each member of a collection in the geometry, at any depth, has its precision
-    /// (profile: if not, a blob has no box). Takes no memory.
+    /// Whether each member of a collection in the geometry, at any depth, has the precision of the
+    /// geometry (profile: if not, a blob has no box). Takes no memory.
     pub fn uniform(&self) -> bool
         ensures { result ≡ uniform self.now }
     {

@@ -19,9 +19,9 @@ impl RowPlace {
     ghost use Rattle.std.specs.Prelude.{◌≡◌, ◌<◌, ◌≤◌, length, MatchOption};
     ghost use Rattle.twkb_tree.specs.RowPlace.{row_place_at};
 
-    /// Finds the place of a row at this depth, from the open rows, the root first, and the counts
-    /// of rows and points since the last root. `None` if the depth is more than one below the
-    /// last row. Takes no memory.
+    /// The place of a row at `depth`, by the open rows, the root first, and the numbers of rows and
+    /// points since the last root; a root has no parent, and both numbers are 0. `None` if `depth`
+    /// is greater than the number of open rows. Takes no memory.
     pub fn at(depth: u32, rows: &[OpenRow], nodes: u32, points: u32) -> Option<RowPlace>
         ensures stands { MatchOption result (length rows.now < depth)
             (λ row_place. (depth ≤ length rows.now)

@@ -10,7 +10,8 @@ use crate::kind::Kind;
 use crate::limits::Limits;
 use crate::open_rows::OpenRow;
 
-/// Whether a row of the first kind may have a child of the second (profile). Takes no memory.
+/// Whether a row of the kind `parent` may have a child of the kind `child` (profile). Takes no
+/// memory.
 pub fn may_have(parent: Kind, child: Kind) -> bool
     ensures value { result ≡ may_have parent child }
 {
@@ -24,8 +25,8 @@ pub fn may_have(parent: Kind, child: Kind) -> bool
     }
 }
 
-/// Whether a row of this kind may come under this parent, which is `None` for a root. Takes no
-/// memory.
+/// Whether a row may have this kind under its parent, or as a root if there is none: a root may be
+/// anything but a ring. Takes no memory.
 pub fn has_place(parent: Option<OpenRow>, kind: Kind) -> bool
     ensures value { result ≡ has_place (row_of parent) kind }
 {
@@ -35,8 +36,8 @@ pub fn has_place(parent: Option<OpenRow>, kind: Kind) -> bool
     }
 }
 
-/// Whether a row under this parent is a geometry itself: a root, or a member of a collection.
-/// Takes no memory.
+/// Whether a row under this parent is a geometry itself: a root, which has no parent, or a member
+/// of a collection. Takes no memory.
 pub fn is_geometry(parent: Option<OpenRow>) -> bool
     ensures value { result ≡ is_geometry (row_of parent) }
 {
@@ -46,8 +47,8 @@ pub fn is_geometry(parent: Option<OpenRow>) -> bool
     }
 }
 
-/// Whether a row at this depth is inside no more collections than the limits allow. Takes no
-/// memory.
+/// Whether a member of a collection, at this depth, is in no more collections than the limits
+/// allow; true if the parent is no collection, and for a root. Takes no memory.
 pub fn nest_kept(limits: &Limits, parent: Option<OpenRow>, depth: u32) -> bool
     ensures value { result ≡ nest_kept limits.now (row_of parent) depth }
 {
@@ -57,15 +58,15 @@ pub fn nest_kept(limits: &Limits, parent: Option<OpenRow>, depth: u32) -> bool
     }
 }
 
-/// Whether a row of this kind under this parent may have an id, if it has one. Takes no memory.
+/// Whether a row has no id or may have one: a root and a ring may not. Takes no memory.
 pub fn id_allowed(parent: Option<OpenRow>, kind: Kind, has_id: bool) -> bool
     ensures value { (id : Option ℤ) → is_some id ≡ has_id → id_allowed (row_of parent) kind id ≡ result }
 {
     !has_id || (parent.is_some() && kind != Kind::Ring)
 }
 
-/// Whether a row under this parent has an id exactly if the parent's first child has one. Takes
-/// no memory.
+/// Whether a row has an id exactly if the first child of its parent has one; true for a root, and
+/// for a first child. Takes no memory.
 pub fn has_same_ids(parent: Option<OpenRow>, has_id: bool) -> bool
     ensures value { (id : Option ℤ) → is_some id ≡ has_id → has_same_ids (child_of parent) id ≡ result }
 {
@@ -78,7 +79,8 @@ pub fn has_same_ids(parent: Option<OpenRow>, has_id: bool) -> bool
     }
 }
 
-/// Whether a row under this parent has a precision, if it needs one. Takes no memory.
+/// Whether a row has a precision or needs none: a root and a member of a collection need one. Takes
+/// no memory.
 pub fn has_needed_precision(parent: Option<OpenRow>, has_precision: bool) -> bool
     ensures value { (precision : Option ℤ) → is_some precision ≡ has_precision
         → has_needed_precision (row_of parent) precision ≡ result }
@@ -86,7 +88,8 @@ pub fn has_needed_precision(parent: Option<OpenRow>, has_precision: bool) -> boo
     !is_geometry(parent) || has_precision
 }
 
-/// Whether a row under this parent may have a precision, if it has one. Takes no memory.
+/// Whether a row has no precision or may have one: a root and a member of a collection may. Takes
+/// no memory.
 pub fn precision_allowed(parent: Option<OpenRow>, has_precision: bool) -> bool
     ensures value { (precision : Option ℤ) → is_some precision ≡ has_precision
         → precision_allowed (row_of parent) precision ≡ result }
@@ -94,15 +97,17 @@ pub fn precision_allowed(parent: Option<OpenRow>, has_precision: bool) -> bool
     is_geometry(parent) || !has_precision
 }
 
-/// Whether rows of this kind hold points themselves. Takes no memory.
+/// Whether rows of this kind hold points themselves: points, linestrings and rings do. Takes no
+/// memory.
 pub fn has_points(kind: Kind) -> bool
     ensures value { result ≡ has_points kind }
 {
     matches!(kind, Kind::Point | Kind::Linestring | Kind::Ring)
 }
 
-/// Whether a row of this kind may have `count` points: as a geometry itself if `whole`, as a part
-/// of one if not. Takes no memory.
+/// Whether a row of this kind may have `count` points: a point one, or none if the row is a
+/// geometry itself (`whole`); a linestring or a ring any number; any other kind none. Takes no
+/// memory.
 pub fn count_fits(kind: Kind, whole: bool, count: usize) -> bool
     ensures value { (points : List Point) → length points ≡ count → points_fit kind whole points ≡ result }
 {

@@ -7,6 +7,8 @@ use crate::geometry::{Geometry, Members, Shape};
 use crate::limits::Limits;
 
 impl Members {
+    // The most collections that a member at any depth is in, the collection of these members
+    // included; 0 if there are no members. At most `u64::MAX`.
     #[cycle(nest)]
     fn nest(&self) -> u64
         ensures { result ≡ saturated (nest_all (trees self.now)) }
@@ -20,7 +22,8 @@ impl Members {
 }
 
 impl Geometry {
-    // The most collections that a member is in.
+    // The most collections that a member of a collection in the geometry is in; 0 if there is no
+    // such member. At most `u64::MAX`.
     #[cycle(nest)]
     fn nest(&self) -> u64
         ensures { result ≡ saturated (nest self.now) }

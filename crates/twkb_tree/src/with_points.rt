@@ -57,6 +57,7 @@ impl WithPoints for Areas {
     }
 }
 
+// The number of points of all items, at most `u64::MAX`.
 fn total_points<T: WithPoints>(items: &[T]) -> u64
     ensures { result ≡ saturated (length (flat_map T.points_of items.now)) }
 {
@@ -67,6 +68,7 @@ fn total_points<T: WithPoints>(items: &[T]) -> u64
     total
 }
 
+// The smallest box that holds the points of all items; `None` if they have no points.
 #[tactic(auto, using(twkb_points::proofs::ExtentLemmas::extents))]
 fn joined_bounds<T: WithPoints>(items: &[T]) -> Option<Bounds>
     ensures { result ≡ extent (flat_map T.points_of items.now) }
