@@ -13,8 +13,8 @@ use std::alloc::{AllocError, Global};
 use twkb_tree::{Elements, Geometry, IdList, Ids, Kind, Members, Pts, Shape};
 
 impl Flat {
-    /// Builds the geometry of these rows, of which there is at least one. Takes memory for each
-    /// list in it, and returns `AllocError` only if memory is refused.
+    /// Builds the geometry whose rows the form has; there must be at least one. Takes memory for
+    /// each list of the geometry; an `Err` is that memory was refused.
     pub fn to_geometry(&self, alloc: Global) -> Result<Geometry, AllocError>
         requires { ¬ (self.now ≡ []) }
         ensures rows { IfOk result (λ g. rows 0 g ≡ self.now) }
@@ -27,7 +27,8 @@ impl Flat {
     }
 }
 
-// Builds the geometry whose rows begin at a place, and returns the place after them.
+// Builds the geometry whose first row is at place `at`, and returns it and the place after its last
+// row. The row at `at` must be a root or a member of a collection. Takes memory.
 #[cycle(building)]
 fn take_geometry(flat: &Flat, alloc: Global, at: usize) -> Result<(Geometry, usize), AllocError>
     requires { (d : ℕ) × (id : Option ℤ) × (g : Tree) × (rest : List TableRow) × TreeAt flat.now at d id g rest }
@@ -40,7 +41,8 @@ fn take_geometry(flat: &Flat, alloc: Global, at: usize) -> Result<(Geometry, usi
     Ok((made_of(precision, shape), next))
 }
 
-// Makes the geometry of a precision and a shape.
+// Makes the geometry of a precision and a shape. The precision must be there, and
+// `Geometry::try_new` must accept both.
 fn made_of(precision: Option<i8>, shape: Shape) -> Geometry
     requires { (g : Tree) × AreOf precision shape g }
     ensures { (g : Tree) → AreOf precision shape g → result ≡ g }
@@ -54,7 +56,9 @@ fn made_of(precision: Option<i8>, shape: Shape) -> Geometry
     }
 }
 
-// Builds the shape of the geometry whose rows begin at a place, and returns the place after them.
+// Builds the shape of the geometry whose first row is at place `at`, and returns it and the place
+// after the geometry's last row. The row at `at` must be a root or a member of a collection. Takes
+// memory.
 #[cycle(building)]
 fn take_shape(flat: &Flat, alloc: Global, at: usize) -> Result<(Shape, usize), AllocError>
     requires { (d : ℕ) × (id : Option ℤ) × (g : Tree) × (rest : List TableRow) × TreeAt flat.now at d id g rest }
@@ -72,7 +76,9 @@ fn take_shape(flat: &Flat, alloc: Global, at: usize) -> Result<(Shape, usize), A
     }
 }
 
-// Builds the shape of a geometry that is not a collection, and returns the place after its rows.
+// Builds the shape of the geometry whose first row is at place `at`, and returns it and the place
+// after the geometry's last row. The row at `at` must be a root or a member of a collection, and
+// must not be a collection itself. Takes memory.
 fn take_simple(flat: &Flat, alloc: Global, at: usize) -> Result<(Shape, usize), AllocError>
     requires { (d : ℕ) × (id : Option ℤ) × (g : Tree) × (rest : List TableRow) × SimpleAt flat.now at d id g rest }
     ensures { (d : ℕ) (id : Option ℤ) (g : Tree) (rest : List TableRow)
@@ -111,8 +117,9 @@ fn take_simple(flat: &Flat, alloc: Global, at: usize) -> Result<(Shape, usize), 
     }
 }
 
-// Builds all geometries that follow each other at this depth from a place on, and returns their ids
-// and the place after them.
+// Builds the members of a collection: the geometries that follow one another from place `start` on,
+// each with its first row at `depth`. Returns them, their ids (`None` if they have none) and the
+// place after their last row. Takes memory.
 #[cycle(building)]
 fn take_members(
     flat: &Flat,
@@ -138,8 +145,9 @@ fn take_members(
     Ok((Members::from_vec(members), found_ids(ids), at))
 }
 
-// Builds all components that follow each other at this depth from a place on, and returns their ids and
-// the place after them.
+// Builds the members of a multi-geometry or the rings of a polygon: the components that follow one
+// another from place `start` on, each with its first row at `depth`. Returns them, their ids
+// (`None` if they have none) and the place after their last row. Takes memory.
 pub(crate) fn take_each<T: Component>(
     flat: &Flat,
     alloc: Global,
@@ -165,7 +173,7 @@ pub(crate) fn take_each<T: Component>(
     Ok((Elements::from_vec(components), found_ids(ids), at))
 }
 
-// Appends the id, if there is one.
+// Appends an id to the ids, or nothing if it is `None`. Takes memory.
 fn push_id(ids: &mut Vec<i64>, id: Option<i64>) -> Result<(), AllocError>
     ensures { OnOk result (ids.new.items ≡ ids.old.items ++ id_list id) }
 {
@@ -175,7 +183,7 @@ fn push_id(ids: &mut Vec<i64>, id: Option<i64>) -> Result<(), AllocError>
     Ok(())
 }
 
-// Makes the ids of a shape from a list, or `None` if the list is empty.
+// Makes the ids of a shape from a list of ids; `None`, for members without ids, if it is empty.
 fn found_ids(ids: Vec<i64>) -> Ids
     ensures { result ≡ ids_in ids.items }
 {

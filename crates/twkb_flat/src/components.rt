@@ -16,7 +16,7 @@ use std::slice::from_ref;
 use twkb_points::Pt;
 use twkb_tree::{Element, Kind, Lines, Pts};
 
-// A member of a multi geometry, or a ring of a polygon.
+// A member of a multi-geometry or a ring of a polygon: a point, a line or ring, or a polygon.
 pub(crate) trait Component: Element {
     // The points of the component's own row.
     ghost own: { Self → List Point };
@@ -24,16 +24,21 @@ pub(crate) trait Component: Element {
     // The rows below the component's own, starting at a depth.
     ghost below: { ℕ → Self → List TableRow };
 
-    // The points of the component's own row. Takes no memory.
+    // The points of the component's own row: its point, all points of a line or ring, none of a
+    // polygon. Takes no memory.
     fn own_points(&self) -> &[Pt]
         ensures { result.now ≡ own self.now };
 
-    // Appends the rows below the component's own, at this depth.
+    // Appends the rows below the component's own row to the form: one for each ring of a polygon,
+    // at `depth`; none for a point or a line. They must continue the form's rows within
+    // `Limits::largest()`. Takes memory; after an `Err` some of them may be appended.
     fn push_below(&self, depth: u32, flat: &mut Flat) -> Result<(), AllocError>
         requires valid { AreValidRowsOfOne largest_limits (flat.old ++ below depth self.now) }
         ensures { OnOk result (flat.new ≡ flat.old ++ below depth self.now) };
 
-    // Builds the component whose rows begin at a place, and returns the place after them.
+    // Builds the component of this type whose first row is at place `at`, and returns it and the
+    // place after its last row. The row at `at` must be that of one. Takes memory for lines and
+    // polygons.
     fn take(flat: &Flat, alloc: Global, at: usize) -> Result<(Self, usize), AllocError>
         requires stands { (kind : Kind) × (d : ℕ) × (id : Option ℤ) × (component : Self)
             × (rest : List TableRow) × OneAt IsAny (component_rows own below kind d) flat.now at d id

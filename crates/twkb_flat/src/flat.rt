@@ -54,7 +54,7 @@ impl Flat {
         }
     }
 
-    /// Drops all rows, and keeps their memory for others. Takes no memory.
+    /// Drops all rows, and keeps their memory for later rows. Takes no memory.
     pub fn clear(&mut self)
         ensures { self.new ≡ [] }
     {
@@ -62,7 +62,7 @@ impl Flat {
         self.points.clear();
     }
 
-    /// The number of nodes, 0 to 2^20. Takes no memory.
+    /// The number of nodes, one for each row, 0 to 2^20. Takes no memory.
     pub fn node_count(&self) -> u32
         ensures value { result ≡ length self.now }
         ensures sound { AreValidRowsOfOne largest_limits self.now }
@@ -70,14 +70,14 @@ impl Flat {
         self.kept.len() as u32
     }
 
-    /// The number of points, 0 to 2^24. Takes no memory.
+    /// The number of points of all rows together, 0 to 2^24. Takes no memory.
     pub fn point_count(&self) -> u32
         ensures { result ≡ length (row_points self.now) }
     {
         self.points.len() as u32
     }
 
-    /// Whether there is no node. Takes no memory.
+    /// Whether the form has no row. Takes no memory.
     pub fn is_empty(&self) -> bool
         ensures value { IsTrue result ↔ (self.now ≡ []) }
         ensures sound { AreValidRowsOfOne largest_limits self.now }
@@ -85,9 +85,9 @@ impl Flat {
         self.kept.is_empty()
     }
 
-    /// Whether the row with these points may be pushed: it is a root if there is no row yet, and
-    /// otherwise continues the geometry by the rules of the table and within `Limits::largest()`
-    /// (profile). Takes no memory.
+    /// Whether `push` may append the row with these points: it is a root exactly if there is no row
+    /// yet, fits under its parent by the rules for rows of a table, and the geometry stays within
+    /// `Limits::largest()` (profile). Takes no memory.
     // Inlined in its callers, which push the row that they ask about.
     #[inline(always)]
     pub fn admits(&self, row: &Row, points: &[Pt]) -> bool
@@ -105,9 +105,10 @@ impl Flat {
         admits_at(&Limits::largest(), &row_place, row, points.len())
     }
 
-    /// Replaces all rows by one root, which must be able to begin a geometry, with the points of
-    /// the vector; the vector gets the memory of the form's points. Takes memory for the row
-    /// alone. After an `Err` there are no rows, and the vector is as it was.
+    /// Replaces all rows by one root with the points of the vector; `admits` must be true for it in
+    /// a form without rows. The vector is then empty, and has the memory of the form's old points.
+    /// Takes memory for the row alone. After an `Err` there are no rows, and the vector is as it
+    /// was.
     #[inline(always)]
     pub fn begin(&mut self, root: Row, points: &mut Vec<Pt>) -> Result<(), AllocError>
         requires { Continues largest_limits [] (row_with root points.old.items) }
@@ -132,8 +133,8 @@ impl Flat {
         Ok(())
     }
 
-    /// Replaces all rows by the root row of one point without an id. Takes memory; after an `Err`
-    /// there are no rows.
+    /// Replaces all rows by the only row of a point geometry at this point, with this precision,
+    /// which must be from -8 to 7. Takes memory; after an `Err` there are no rows.
     #[inline(always)]
     pub fn begin_point(&mut self, precision: i8, point: Pt) -> Result<(), AllocError>
         requires { IsPrecision precision }
@@ -164,8 +165,8 @@ impl Flat {
         Ok(())
     }
 
-    /// Appends a row with these points, which `admits` must admit. Takes memory; an `Err` changes
-    /// nothing.
+    /// Appends a row with these points, for which `admits` must be true. Takes memory; an `Err`
+    /// changes nothing.
     #[inline(always)]
     pub fn push(&mut self, row: Row, points: &[Pt]) -> Result<(), AllocError>
         requires { Continues largest_limits self.old (row_with row points.now) }
@@ -175,9 +176,9 @@ impl Flat {
         self.push_from(row, &Copied { points })
     }
 
-    /// Appends a row, and lets the source append its points directly to those of the form.
-    /// `admits` must admit the row with any points that the source may give. Takes memory; an
-    /// `Err` changes nothing.
+    /// Appends a row whose points the source appends directly to those of the form. `admits` must
+    /// be true for the row with any points that the source may give. Takes memory. An `Err` is the
+    /// fault of the source, or its `want_of_memory`, and changes nothing.
     #[inline(always)]
     pub fn push_from<S: PointSource>(&mut self, row: Row, source: &S) -> Result<(), S::Fault>
         requires { (own : List Point) → S.gives source.now own → Continues largest_limits self.old (row_with row own) }
@@ -194,7 +195,7 @@ impl Flat {
         Ok(())
     }
 
-    /// The node at a place, counted as one read. Takes no memory.
+    /// The node at this place in preorder. Adds one to `work.node_reads`. Takes no memory.
     pub fn node(&self, id: NodeId, work: &mut Work) -> Node
         requires { id.0 < length self.now }
         ensures node { IsNode self.now id.0 result }
@@ -216,7 +217,8 @@ impl Flat {
         }
     }
 
-    /// The point at a place, counted as one read. Takes no memory.
+    /// The point at this place among the points of all rows. Adds one to `work.point_reads`. Takes
+    /// no memory.
     pub fn point(&self, id: PointId, work: &mut Work) -> Pt
         requires { id.0 < length (row_points self.now) }
         ensures point { slice_get (row_points self.now) id.0 ≡ Some result }

@@ -15,8 +15,8 @@ use twkb_points::Pt;
 use twkb_tree::{Geometry, Ids, Kind, Members, Shape, id_at, own_parts};
 
 impl Flat {
-    /// Makes the flat form of a geometry within `Limits::largest()`. Takes memory, and returns
-    /// `AllocError` only if memory is refused.
+    /// Makes the flat form of a geometry, which must be within `Limits::largest()`. Takes memory;
+    /// an `Err` is that memory was refused.
     pub fn from_geometry(alloc: Global, geometry: &Geometry) -> Result<Flat, AllocError>
         requires { IsValid largest_limits geometry.now }
         ensures { IfOk result (λ flat. flat ≡ rows 0 geometry.now) }
@@ -27,7 +27,9 @@ impl Flat {
     }
 }
 
-// Appends the rows of a geometry with this id at this depth.
+// Appends the rows of a geometry to the form: its own row, with this id and at this depth, and the
+// rows below it. They must continue the form's rows within `Limits::largest()`. Takes memory; after
+// an `Err` some of them may be appended.
 #[cycle(filling)]
 fn push_geometry(
     geometry: &Geometry,
@@ -44,7 +46,8 @@ fn push_geometry(
     push_under(geometry, below, flat)
 }
 
-/// The row of the geometry itself, with this depth and id, and its points.
+/// The geometry's own row, with this depth and id, and the points of that row: those of a point or
+/// a linestring, none for another kind. Takes no memory.
 pub fn own_row(geometry: &Geometry, depth: u32, id: Option<i64>) -> (Row, &[Pt])
     ensures { row_with result.0 result.1.now ≡ own_row id depth geometry.now }
 {
@@ -59,7 +62,9 @@ pub fn own_row(geometry: &Geometry, depth: u32, id: Option<i64>) -> (Row, &[Pt])
     (row, points)
 }
 
-// Appends the rows of a geometry except its own, starting at this depth.
+// Appends the rows below a geometry's own row to the form: those of its rings or members, each of
+// them at `depth`, and the rows below them. They must continue the form's rows within
+// `Limits::largest()`. Takes memory; after an `Err` some of them may be appended.
 #[cycle(filling)]
 fn push_under(geometry: &Geometry, depth: u32, flat: &mut Flat) -> Result<(), AllocError>
     requires { AreValidRowsOfOne largest_limits (flat.old ++ rows_under depth geometry.now) }
@@ -71,7 +76,8 @@ fn push_under(geometry: &Geometry, depth: u32, flat: &mut Flat) -> Result<(), Al
     }
 }
 
-// Appends the rows of a geometry that is not a collection except its own, starting at this depth.
+// Appends the rows below the own row of a geometry, which must not be a collection, as `push_under`
+// does.
 fn push_components(geometry: &Geometry, depth: u32, flat: &mut Flat) -> Result<(), AllocError>
     requires valid { AreValidRowsOfOne largest_limits (flat.old ++ rows_under depth geometry.now) }
     requires no_collection { IsSimple geometry.now }
@@ -93,7 +99,9 @@ fn push_components(geometry: &Geometry, depth: u32, flat: &mut Flat) -> Result<(
     }
 }
 
-// Appends the rows of the members of a collection, with these ids and at this depth.
+// Appends the rows of the members of a collection to the form: each member's own row at `depth`,
+// with its id if there are ids, and the rows below it. They must continue the form's rows within
+// `Limits::largest()`. Takes memory; after an `Err` some of them may be appended.
 #[cycle(filling)]
 #[tactic(auto, using(twkb_tree::specs::Size::member_smaller))]
 fn push_members(members: &Members, depth: u32, ids: &Ids, flat: &mut Flat) -> Result<(), AllocError>
@@ -109,7 +117,9 @@ fn push_members(members: &Members, depth: u32, ids: &Ids, flat: &mut Flat) -> Re
     Ok(())
 }
 
-// Appends the rows of components, with these ids and at this depth.
+// Appends the rows of components of this kind to the form: each component's own row at `depth`,
+// with its id if there are ids, and the rows below it. They must continue the form's rows within
+// `Limits::largest()`. Takes memory; after an `Err` some of them may be appended.
 pub(crate) fn push_each<T: Component>(
     kind: Kind,
     depth: u32,

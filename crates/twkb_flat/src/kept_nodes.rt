@@ -33,8 +33,8 @@ pub(crate) struct KeptNode {
     pub(crate) next: NodeId,
 }
 
-// Appends a node to the nodes and its one point to the points of all rows, or neither if memory
-// is refused.
+// Appends a node to `kept`, as it is given, and a point to `points`. Takes memory; after an `Err`
+// neither is appended.
 #[inline(always)]
 pub(crate) fn put_point(
     kept: &mut Vec<KeptNode>,
@@ -58,7 +58,9 @@ pub(crate) fn put_point(
     Ok(())
 }
 
-// Appends a node of this row, and the points of the source to the points of all rows, or neither.
+// Appends the points of the source to `points`, and a node of this row with their place and number,
+// and with link 0, to `kept`. `points` must then have at most 2^24 points. Takes memory. An `Err`
+// is the fault of the source, or its `want_of_memory`, and changes nothing.
 #[inline(always)]
 pub(crate) fn put_row<S: PointSource>(
     kept: &mut Vec<KeptNode>,
@@ -94,7 +96,7 @@ pub(crate) fn put_row<S: PointSource>(
     Ok(())
 }
 
-// Sets the link of one node.
+// Sets the link of the node at place `at` to the place `to`.
 #[inline(always)]
 pub(crate) fn link(kept: &mut [KeptNode], at: u32, to: u32)
     requires { at < length kept.old }
@@ -105,8 +107,9 @@ pub(crate) fn link(kept: &mut [KeptNode], at: u32, to: u32)
     kept_node.next = NodeId(to);
 }
 
-// Closes the open nodes at this depth and below it, whose subtrees end at `next`, and returns the
-// open node above them.
+// Closes the open nodes at this depth and below it, among those before place `next`: sets their
+// links to `next`. Returns the place of the open node above them. `depth` must be from 1 to one
+// more than that of the node before `next`.
 #[inline(always)]
 fn close_from(kept: &mut [KeptNode], depth: u32, next: u32) -> u32
     requires some { 0 < next }
@@ -127,7 +130,9 @@ fn close_from(kept: &mut [KeptNode], depth: u32, next: u32) -> u32
     at
 }
 
-// Links the last node, at this place, to its parent, and closes the nodes whose subtrees end there.
+// Links the last node, which is at place `at` and must not be linked yet, to its parent, and closes
+// the nodes whose subtrees end before it. Its depth must be 0 for the first node, else from 1 to
+// one more than that of the node before it.
 #[inline(always)]
 pub(crate) fn link_last(kept: &mut [KeptNode], at: u32)
     requires { IsUnlinked kept.old at }
@@ -143,7 +148,7 @@ pub(crate) fn link_last(kept: &mut [KeptNode], at: u32)
     link(kept, at, parent);
 }
 
-// The place of the open node at this depth.
+// The place of the open node at this depth, which must be at most the depth of the last node.
 pub(crate) fn open_at(kept: &[KeptNode], depth: u32) -> usize
     requires linked { Linked (depths_in kept.now) (links_in kept.now) }
     requires within { depth < levels (depths_in kept.now) }
@@ -169,7 +174,8 @@ pub(crate) fn child_ids(kept: &[KeptNode], at: usize) -> Option<bool>
     Some(kept[next].placed.row.id.is_some())
 }
 
-// Counts one more point of the last node.
+// Adds one to the number of points of the last node. There must be a node, and the sum must be
+// below 2^32.
 #[inline(always)]
 pub(crate) fn count_point(kept: &mut [KeptNode])
     requires some { 0 < length kept.old }
@@ -182,7 +188,8 @@ pub(crate) fn count_point(kept: &mut [KeptNode])
     kept_node.placed.points += 1;
 }
 
-// Counts `more` more points of the last node.
+// Adds `more` to the number of points of the last node. There must be a node, and the sum must be
+// below 2^32.
 #[inline(always)]
 pub(crate) fn count_points(kept: &mut [KeptNode], more: u32)
     requires some { 0 < length kept.old }
@@ -195,7 +202,7 @@ pub(crate) fn count_points(kept: &mut [KeptNode], more: u32)
     kept_node.placed.points += more;
 }
 
-// Whether the row is a linestring or a ring.
+// Whether the kind is a linestring or a ring.
 fn is_line(kind: Kind) -> bool
     ensures { IsTrue result ↔ IsLineKind kind }
 {
@@ -205,7 +212,7 @@ fn is_line(kind: Kind) -> bool
     }
 }
 
-// Whether there is a node, and the last is a linestring or a ring.
+// Whether there is a node, and the last one is that of a linestring or a ring.
 #[inline(always)]
 pub(crate) fn ends_in_line(kept: &[KeptNode]) -> bool
     ensures { IsTrue result ↔ LastIsLine kept.now }

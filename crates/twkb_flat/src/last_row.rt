@@ -18,8 +18,8 @@ use twkb_points::Pt;
 use twkb_tree::Kind;
 
 impl Flat {
-    /// Whether one more point may be added: the last row is that of a linestring or a ring, and
-    /// there are fewer than 2^24 points. Takes no memory.
+    /// Whether `add_point` may append a point: the last row is that of a linestring or a ring, and
+    /// all rows together have fewer than 2^24 points. Takes no memory.
     #[inline(always)]
     pub fn takes_point(&self) -> bool
         ensures { IsTrue result ↔ (EndsInLine self.now × (length (row_points self.now) < POINTS_CAP)) }
@@ -30,8 +30,9 @@ impl Flat {
         self.points.len() < MOST_POINTS as usize
     }
 
-    /// Whether `count` points may be added to the last row, which is that of a linestring or a
-    /// ring. `false` proves nothing. Takes no memory.
+    /// If true, `add_points` may append `count` points: the last row is that of a linestring or a
+    /// ring, and all rows together then have at most 2^24 points. `false` means nothing. Takes no
+    /// memory.
     pub fn takes_points(&self, count: u64) -> bool
         ensures line { result ≡ true → EndsInLine self.now }
         ensures room { result ≡ true → length (row_points self.now) + count ≤ POINTS_CAP }
@@ -39,8 +40,8 @@ impl Flat {
         self.takes_point() && count <= MOST_POINTS - u64::from(self.point_count())
     }
 
-    /// Appends a point to the last row, which is that of a linestring or a ring and has room.
-    /// Takes memory; an `Err` changes nothing.
+    /// Appends a point to the last row, which must be that of a linestring or a ring; all rows
+    /// together must have fewer than 2^24 points. Takes memory; an `Err` changes nothing.
     #[inline(always)]
     pub fn add_point(&mut self, point: Pt) -> Result<(), AllocError>
         requires line { EndsInLine self.old }
@@ -57,9 +58,9 @@ impl Flat {
         Ok(())
     }
 
-    /// Appends two points to the last row, which is that of a linestring or a ring and has room,
-    /// with one test for memory. Takes memory if there is no room for both; an `Err` changes
-    /// nothing.
+    /// Appends two points to the last row, which must be that of a linestring or a ring; all rows
+    /// together must then have at most 2^24 points. It tests once for memory, and takes it if there
+    /// is no room for both. An `Err` changes nothing.
     #[inline(always)]
     pub fn add_two(&mut self, first: Pt, second: Pt) -> Result<(), AllocError>
         requires line { EndsInLine self.old }
@@ -78,8 +79,9 @@ impl Flat {
         Ok(())
     }
 
-    /// Appends points to the last row, which is that of a linestring or a ring and has room, with
-    /// one test for memory. Takes memory if there is no room for all; an `Err` changes nothing.
+    /// Appends points to the last row, which must be that of a linestring or a ring; all rows
+    /// together must then have at most 2^24 points. It tests once for memory, and takes it if there
+    /// is no room for all. An `Err` changes nothing.
     #[inline(always)]
     pub fn add_points(&mut self, points: &[Pt]) -> Result<(), AllocError>
         requires line { EndsInLine self.old }
@@ -94,8 +96,9 @@ impl Flat {
         Ok(())
     }
 
-    /// Whether `count` members, all with ids or all without, may be added at this depth to the
-    /// multipoint that the last row is a member of. `false` proves nothing. Takes no memory.
+    /// If true, `add_member` may append `count` members: the last row is at this depth, a member of
+    /// a multipoint whose members all have ids if `named` and none if not, and there are then at
+    /// most 2^20 rows and 2^24 points. `false` means nothing. Takes no memory.
     pub fn takes_members(&self, depth: u32, named: bool, count: u64) -> bool
         ensures ends { result ≡ true → EndsInMember depth named self.now }
         ensures nodes { result ≡ true → length self.now + count ≤ NODES_CAP }
@@ -107,8 +110,9 @@ impl Flat {
         self.is_in_member(depth, named)
     }
 
-    /// Appends a point as one more member of the multipoint that the last row is a member of, if
-    /// it has room. Takes memory; an `Err` changes nothing.
+    /// Appends a point with this id as one more member of a multipoint. The last row must be a
+    /// member of it, at this depth, and have an id exactly if this one has; there must be fewer
+    /// than 2^20 rows and 2^24 points. Takes memory; an `Err` changes nothing.
     #[inline(always)]
     pub fn add_member(&mut self, depth: u32, id: Option<i64>, point: Pt) -> Result<(), AllocError>
         requires member { EndsInMember depth (is_some id) self.old }

@@ -9,25 +9,27 @@ ghost use Rattle.twkb_tree.specs.RowLists.{AreValidRowsOfOne};
 ghost use Rattle.twkb_flat.specs.declared.node.Node.{Node};
 ghost use Rattle.twkb_flat.specs.Rows.{IsNode};
 
-/// The rows of a flat form are within the caps, so places of nodes and points fit `u32`.
+/// The rows of a flat form are at most 2^20, and their points at most 2^24, so that the places of
+/// both fit `u32`.
 pub fn caps()
     ensures nodes { (rs : List TableRow) → AreValidRowsOfOne largest_limits rs → length rs ≤ NODES_CAP }
     ensures points { (rs : List TableRow) → AreValidRowsOfOne largest_limits rs → length (row_points rs) ≤ POINTS_CAP }
 {}
 
-/// Every geometry within the largest limits can be pushed row by row.
+/// Each row of a geometry within `Limits::largest()` may be pushed after those before it, so a flat
+/// form can be filled row by row.
 pub fn every_geometry()
     ensures { (g : Tree) (front : List TableRow) (r : TableRow) (more : List TableRow)
         → IsValid largest_limits g → rows 0 g ≡ front ++ r ∷ more
         → Continues largest_limits front r }
 {}
 
-/// The rows and a place determine the node at that place.
+/// The rows of a flat form and a place determine the node at that place.
 pub fn one_node()
     ensures { (rs : List TableRow) (i : ℕ) (m n : Node) → IsNode rs i m → IsNode rs i n → m ≡ n }
 {}
 
-/// Reads that follow each other add up, even if the counter has stopped.
+/// A count that stops at 2^64 - 1 is the same after two additions as after one of their sum.
 pub fn reads_add_up()
     ensures { (n more : ℕ) → saturated (saturated n + more) ≡ saturated (n + more) }
 {}

@@ -1,7 +1,7 @@
 //! Rows and nodes of the flat form, and their places.
 use twkb_tree::Kind;
 
-/// A row without its points (profile).
+/// A row of the flat form, without its points (profile).
 #[derive(Clone, Copy, Debug, PartialEq, Eq)]
 pub struct Row {
     /// The depth of the row, 0 for the root.
@@ -22,7 +22,7 @@ pub struct NodeId(pub u32);
 #[derive(Clone, Copy, Debug, PartialEq, Eq)]
 pub struct PointId(pub u32);
 
-/// A row with its place.
+/// A row of the flat form, with the places of its points and of the node after its subtree.
 #[derive(Clone, Copy, Debug, PartialEq, Eq)]
 pub struct Node {
     /// The row.

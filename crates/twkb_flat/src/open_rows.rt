@@ -13,7 +13,7 @@ use crate::kept_nodes::{child_ids, open_at};
 use twkb_tree::{Kind, OpenRow, RowPlace};
 
 impl Flat {
-    // The number of open rows: one for each depth, down to that of the last row.
+    // The number of open rows: one for each depth from 0 to that of the last row; 0 without rows.
     pub(crate) fn levels(&self) -> u32
         ensures value { result ≡ open_count (reverse self.now) }
         ensures sound { AreValidRowsOfOne largest_limits self.now }
@@ -25,7 +25,8 @@ impl Flat {
         self.row(count - 1).depth + 1
     }
 
-    // The open row at this depth, as far as the test of a row needs it.
+    // The open row at this depth, which must be below `levels`: its kind, and whether its first
+    // child has an id.
     fn open_row(&self, depth: u32) -> OpenRow
         requires { depth < open_count (reverse self.now) }
         ensures { IsOpenAt depth (reverse self.now) result }
@@ -37,7 +38,9 @@ impl Flat {
         }
     }
 
-    // The place of a row at this depth after the rows.
+    // Where a row at this depth would come after the form's rows: its parent, and how many rows and
+    // points its geometry has before it. A row at depth 0 has no parent, and nothing before it. The
+    // depth must be at most `levels`.
     pub(crate) fn row_place(&self, depth: u32) -> RowPlace
         requires { depth ≤ open_count (reverse self.now) }
         ensures { (os : List OpenRow) → AreOpen (reverse self.now) os
@@ -59,8 +62,10 @@ impl Flat {
         }
     }
 
-    /// The place of a row at this depth after the rows; `None` if the depth is more than one below
-    /// the last row. Takes no memory.
+    /// Where a row at this depth would come after the form's rows: its parent, and how many rows
+    /// and points its geometry has before it. A row at depth 0 has no parent, and nothing before
+    /// it. `None` if the depth is more than one below the last row, or not 0 without rows. Takes no
+    /// memory.
     pub fn place(&self, depth: u32) -> Option<RowPlace>
         ensures { MatchOption result (open_count (reverse self.now) < depth)
             (λ row_place. (os : List OpenRow) → AreOpen (reverse self.now) os → (depth ≤ length os)
@@ -72,8 +77,8 @@ impl Flat {
         Some(self.row_place(depth))
     }
 
-    // Whether the last row is at this depth and is a member of a multipoint, whose members all
-    // have ids or all have none.
+    // Whether the last row is at this depth, and a member of a multipoint whose members all have
+    // ids if `named`, and none if not.
     pub(crate) fn is_in_member(&self, depth: u32, named: bool) -> bool
         ensures { result ≡ true → EndsInMember depth named self.now }
     {

@@ -5,9 +5,9 @@ ghost use Rattle.twkb_points.specs.Point.{Point};
 use std::alloc::AllocError;
 use twkb_points::{PointTail, Pt};
 
-/// Appends the points of one row to those of a flat form.
+/// A source of the points of one row, which it appends directly to those of a flat form.
 pub trait PointSource {
-    /// Why it appended no points.
+    /// Why it appends no points.
     type Fault;
 
     // It may append these points.
@@ -16,15 +16,15 @@ pub trait PointSource {
     // It may answer with this fault.
     ghost refuses: { Self → Self.Fault → Type 0 };
 
-    /// Appends the points of the row to a list, through its borrowed tail. An `Err` changes
-    /// nothing.
+    /// Appends the points of the row to a list, through its borrowed tail. Takes memory for them.
+    /// An `Err` is why there are none, and changes nothing.
     fn append_to<L: PointTail>(&self, points: &mut L) -> Result<(), Self::Fault>
         ensures given { OnOk result ((own : List Point)
             × (L.held points.new ≡ L.held points.old ++ own) × gives self.now own) }
         ensures refused { IfErr result (refuses self.now) }
         ensures same { OnErr result (L.held points.new ≡ L.held points.old) };
 
-    /// The fault that it returns if memory is refused.
+    /// The fault that means that memory was refused. Takes no memory.
     fn want_of_memory(&self) -> Self::Fault
         ensures { refuses self.now result };
 }

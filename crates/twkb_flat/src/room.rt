@@ -7,7 +7,8 @@ use twkb_points::Pt;
 // The least room after the first growth, so that a short list asks for memory once.
 const ROOM: usize = 16;
 
-// Makes sure that there is room for `count` more points. Takes memory only if they do not fit.
+// Makes room for `count` more points in the vector, and takes memory only if they do not fit. The
+// points stay, also after an `Err`.
 #[inline(always)]
 pub(crate) fn make_room(points: &mut Vec<Pt>, count: usize) -> Result<(), AllocError>
     ensures same { points.new.items ≡ points.old.items }
@@ -19,7 +20,8 @@ pub(crate) fn make_room(points: &mut Vec<Pt>, count: usize) -> Result<(), AllocE
     grow(points, count)
 }
 
-// Asks for memory for `count` more points, and for at least sixteen points in all.
+// Takes memory for `count` more points, and for at least 16 points in all. The points stay, also
+// after an `Err`.
 #[inline(never)]
 fn grow(points: &mut Vec<Pt>, count: usize) -> Result<(), AllocError>
     ensures same { points.new.items ≡ points.old.items }
@@ -29,7 +31,7 @@ fn grow(points: &mut Vec<Pt>, count: usize) -> Result<(), AllocError>
     points.reserve(more)
 }
 
-// Appends points for which there is room. Takes no memory.
+// Appends points to a vector, which must have room for them. Takes no memory.
 #[inline(always)]
 pub(crate) fn put_reserved(points: &mut Vec<Pt>, more: &[Pt])
     requires { vec_len points.old + length more.now ≤ vec_capacity points.old }

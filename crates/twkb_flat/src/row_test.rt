@@ -22,7 +22,7 @@ const MOST_NODES: u64 = NODES_CAP as u64;
 // The most points of the largest geometry.
 pub(crate) const MOST_POINTS: u64 = POINTS_CAP as u64;
 
-// Lets a proof know that an id is in range. Changes nothing.
+// Changes nothing. Its contract says that an id is from -2^63 to 2^63 - 1, if there is one.
 pub(crate) fn look_at_id(id: Option<i64>)
     ensures { id_in_range id ≡ true }
 {
@@ -32,8 +32,8 @@ pub(crate) fn look_at_id(id: Option<i64>)
     }
 }
 
-// Whether an id is allowed for a row of this kind under this parent, and is there exactly if the
-// first child has one.
+// Whether a row of this kind under this parent may have this id, or none: a root and a ring have no
+// id, and another row has one exactly if the parent's first child, if any, has one.
 fn id_fits(parent: Option<OpenRow>, kind: Kind, id: Option<i64>) -> bool
     ensures { result ≡ (id_allowed (row_of parent) kind id && has_same_ids (child_of parent) id) }
 {
@@ -41,8 +41,8 @@ fn id_fits(parent: Option<OpenRow>, kind: Kind, id: Option<i64>) -> bool
     row_rules::id_allowed(parent, kind, has_id) && row_rules::has_same_ids(parent, has_id)
 }
 
-// Whether a row under this parent has a precision in range if it is a geometry itself, and none if
-// not.
+// Whether a row under this parent (`None` for a root) has the precision that it needs: -8 to 7 if
+// it is a root or a member of a collection, none if not.
 fn precision_fits(parent: Option<OpenRow>, precision: Option<i8>) -> bool
     ensures { result ≡ (precision_in_range precision && precision_fits (row_of parent) precision) }
 {
@@ -53,7 +53,8 @@ fn precision_fits(parent: Option<OpenRow>, precision: Option<i8>) -> bool
     }
 }
 
-// Whether a row with `count` points fits under this parent.
+// Whether a row with `count` points fits under this parent (`None` for a root) by its kind, id,
+// precision and number of points. Limits are not tested.
 fn fits(parent: Option<OpenRow>, row: &Row, count: usize) -> bool
     ensures { (own : List Point) → length own ≡ count
         → result ≡ fits (row_of parent) (child_of parent) (row_with row.now own) }
@@ -71,7 +72,7 @@ fn fits(parent: Option<OpenRow>, row: &Row, count: usize) -> bool
     row_rules::count_fits(row.kind, row_rules::is_geometry(parent), count)
 }
 
-// Whether the limits leave room for a row with `count` points at this place.
+// Whether the limits on rows and on points leave room for a row with `count` points at this place.
 fn has_room(limits: &Limits, row_place: &RowPlace, count: usize) -> bool
     ensures { result ≡ (nat_lt row_place.now.nodes limits.now.nodes && nat_le
         (row_place.now.points + count) limits.now.points) }
@@ -81,7 +82,8 @@ fn has_room(limits: &Limits, row_place: &RowPlace, count: usize) -> bool
         && count <= (limits.points() - row_place.points) as usize
 }
 
-// Whether the row with `count` points may come at this place.
+// Whether a row with `count` points may come at this place: it fits under the parent there, and the
+// limits on nesting, rows and points are kept. The row's own depth is not used.
 pub(crate) fn admits_at(limits: &Limits, row_place: &RowPlace, row: &Row, count: usize) -> bool
     ensures { (own : List Point) → length own ≡ count
         → result ≡ is_admitted_at limits.now row_place.now (row_with row.now own) }
@@ -91,14 +93,14 @@ pub(crate) fn admits_at(limits: &Limits, row_place: &RowPlace, row: &Row, count:
         && fits(row_place.parent, row, count)
 }
 
-// Whether a row at this depth is a root exactly if no row is open.
+// Whether a row at this depth is a root (depth 0) exactly if no row is open (`levels` is 0).
 pub(crate) fn is_next(levels: u32, depth: u32) -> bool
     ensures { (os : List OpenRow) (r : TableRow) → length os ≡ levels → r.depth ≡ depth → result ≡ is_next os r }
 {
     if levels == 0 { depth == 0 } else { depth > 0 }
 }
 
-// Lets a proof know that the points are in range. Changes nothing.
+// Changes nothing. Its contract says that the coordinates of the points are from -2^62 to 2^62 - 1.
 pub(crate) fn look(points: &[Pt])
     ensures { AreInRange points.now }
 {
@@ -108,7 +110,8 @@ pub(crate) fn look(points: &[Pt])
     }
 }
 
-// Whether `count` rows of one point each fit beside this many rows and points.
+// Whether `count` more rows of one point each keep the caps of 2^20 rows and 2^24 points, after
+// `nodes` rows with `points` points.
 pub(crate) fn leaves_room(nodes: u32, points: u32, count: u64) -> bool
     ensures nodes { result ≡ true → nodes + count ≤ NODES_CAP }
     ensures points { result ≡ true → points + count ≤ POINTS_CAP }

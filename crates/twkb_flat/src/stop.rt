@@ -1,7 +1,7 @@
 //! Why something was not taken: memory was refused, or it is refused itself.
 use std::alloc::{AllocError, AllocFailed};
 
-/// Why something was not taken, if it can be refused for an `R`.
+/// Why something was not taken: memory was refused, or it is refused for an `R`.
 #[derive(Clone, Copy, Debug, PartialEq, Eq)]
 pub enum Stop<R> {
     /// A growth was refused.

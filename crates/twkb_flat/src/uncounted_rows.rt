@@ -10,7 +10,7 @@ use crate::node::Row;
 use twkb_points::Pt;
 
 impl Flat {
-    // Whether there is a row at a place, and it has this depth.
+    // Whether there is a row at place `at`, and it has this depth.
     pub(crate) fn is_at(&self, at: usize, depth: u32) -> bool
         ensures { IsTrue result ↔ IsAt depth (drop at self.now) }
     {
@@ -20,7 +20,7 @@ impl Flat {
         self.row(at).depth == depth
     }
 
-    // The row at a place.
+    // The row at this place in preorder, without its points.
     pub(crate) fn row(&self, at: usize) -> Row
         requires { at < length self.now }
         ensures row { (row : TableRow) (rest : List TableRow) → drop at self.now ≡ row ∷ rest
@@ -31,7 +31,7 @@ impl Flat {
         self.kept[at].placed.row
     }
 
-    // The points of the row at a place.
+    // The points of the row at this place, without those of rows below it.
     pub(crate) fn own_points(&self, at: usize) -> &[Pt]
         requires { at < length self.now }
         ensures points { (row : TableRow) (rest : List TableRow) → drop at self.now ≡ row ∷ rest
@@ -45,7 +45,7 @@ impl Flat {
     }
 }
 
-// The points from one place up to another.
+// The points from place `first` up to, but not including, place `last`.
 fn part(points: &[Pt], first: usize, last: usize) -> &[Pt]
     requires order { first ≤ last }
     requires within { last ≤ length points.now }

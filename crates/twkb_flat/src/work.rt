@@ -2,14 +2,15 @@
 ghost use Rattle.std.specs.Prelude.{◌≡◌, ◌+◌, ◌≤◌};
 ghost use Rattle.twkb_tree.specs.Tree.{saturated};
 
-/// Counts of what was measured and read; each stops at `u64::MAX`.
+/// Counts of what was measured, and of what was read of flat forms; each stops at 2^64 - 1.
 #[derive(Clone, Copy, Debug, PartialEq, Eq)]
 pub struct Work {
     /// The points of the flat forms that were measured.
     pub points: u64,
-    /// The nodes of these forms.
+    /// The nodes of the flat forms that were measured.
     pub nodes: u64,
-    /// The TWKB geometries of these forms: the rows that have their own header.
+    /// The TWKB geometries of the flat forms that were measured: the rows that have their own
+    /// header.
     pub entries: u64,
     /// The number of reads of points.
     pub point_reads: u64,
@@ -47,7 +48,7 @@ impl Work {
         self.point_reads = self.point_reads.saturating_add(1);
     }
 
-    // Counts one read of a node and of this number of points.
+    // Counts one read of a node and `points` reads of points.
     pub(crate) fn count_row(&mut self, points: u64)
         ensures { self.new ≡ record self.old {
           node_reads = saturated (self.old.node_reads + 1);
