@@ -18,8 +18,9 @@ ghost use Rattle.twkb_grammar.specs.Noting.{no_notes, noted, NotesGoOn, NotesEnd
 ghost use Rattle.twkb_grammar.specs.Reading.{Ran, Reached, IsGiven, AtNumber, RefusalsAre, Leads};
 ghost use Rattle.twkb_grammar.specs.Reading.{Stands, IsSamePlace, frame_count, open_after};
 
-/// In either style, the canonical blob of a valid geometry is a blob of it, and the numbers of
-/// nodes and points bound its length. The canonical stream of valid geometries is a stream of them.
+/// In either style, the canonical blob of a valid geometry is a blob of it, with at most 100 bytes
+/// for each node and 20 for each point. The canonical stream of valid geometries is a stream of
+/// them.
 pub fn written_is_blob()
     ensures blob { (limits : Allowance) (style : Style) (g : Tree) → IsAllowance limits
         → IsValid limits g → Blob limits (canonical_blob style g) g }
@@ -55,8 +56,8 @@ pub fn one_stream()
         → Stream limits b hs → Stream limits (a ++ b) (gs ++ hs) }
 {}
 
-/// Bytes that begin with a blob have no fault. If two joined lists of bytes are a stream, and so is
-/// the first, the second has no fault.
+/// Bytes that begin with a blob have no fault. If a stream is followed by bytes with a fault, both
+/// together are no stream.
 pub fn blob_or_fault()
     ensures no_blob { (limits : Allowance) (bytes rest : List ℕ) (g : Tree) (offset : ℕ)
         (reason : Reason) → BlobInFront limits bytes g rest → Fault limits bytes offset reason → ⊥ }
@@ -66,8 +67,8 @@ pub fn blob_or_fault()
 {}
 
 /// Bytes have at most one first fault, with one offset and one reason. In a stream, the geometries
-/// before the fault are determined too. Bytes with a fault, put after a stream, keep their fault;
-/// its offset grows by the length of the stream.
+/// before the fault are determined too. After a stream, bytes with a first fault keep it; its
+/// offset grows by the length of the stream.
 pub fn one_fault()
     ensures blob { (limits : Allowance) (bytes : List ℕ) (o p : ℕ) (r s : Reason)
         → FirstFault limits bytes o r → FirstFault limits bytes p s → (o ≡ p) × (r ≡ s) }
@@ -87,8 +88,9 @@ pub fn stream_or_fault()
         × StreamFault limits bytes gs offset reason) }
 {}
 
-/// If there is at least one byte, the plain reader always answers: it makes a geometry exactly if a
-/// blob of it is at the start of the bytes, and refuses the bytes exactly at their first fault.
+/// If there is at least one byte, the plain reader `decode` always answers: it makes a geometry
+/// exactly if a blob of it is at the start of the bytes, and refuses the bytes exactly at their
+/// first fault.
 pub fn plain_reader()
     ensures made { (limits : Allowance) (bytes rest : List ℕ) (g : Tree) → IsAllowance limits
         → AreBytes bytes → bytes ≢ [] → decode limits bytes ≡ Made g rest
@@ -100,8 +102,8 @@ pub fn plain_reader()
         → bytes ≢ [] → decode limits bytes ≢ GoesOn }
 {}
 
-/// The item machine runs through some items to a geometry exactly if they are the items of that
-/// geometry.
+/// The item machine runs through some items to a finished geometry exactly if they are the items of
+/// that geometry.
 pub fn machine()
     ensures { (g : Tree) (is : List Item) → (IsTree g × Items 0 g is) ↔ Runs nothing started is ([], Finished g) }
 {}
@@ -112,7 +114,8 @@ pub fn fronts()
         ↔ ((g : Tree) × (more : List Item) × IsTree g × Items 0 g (before ++ more)) }
 {}
 
-/// From each state that it reaches, the item machine can run on to a complete geometry.
+/// From each state that the item machine reaches, some further items lead it to a finished
+/// geometry.
 pub fn completions()
     ensures { (before : List Item) (st : Stack) → Runs nothing started before st
         → (more : List Item) × (g : Tree) × Runs (sums_after nothing before) st more
@@ -133,8 +136,8 @@ pub fn parts()
         → IsPart limits bytes → Fault limits (bytes ++ more) offset reason → length bytes ≤ offset }
 {}
 
-/// If the machine expects an item, and a reason is the first that applies to the bytes left, then
-/// that place and reason are a fault. It is the first fault if the items so far keep the limits and
+/// If the machine expects an item, and a reason is the first that applies to the bytes left, that
+/// place and reason are a fault. They are the first fault if the items so far keep the limits and
 /// have exact sizes.
 pub fn refusals()
     ensures fault { (limits : Allowance) (before : List Item) (st : Stack)
@@ -143,8 +146,8 @@ pub fn refusals()
         → RefusalsAre (FirstFault limits) limits before st }
 {}
 
-/// A reader that takes items one by one: what is true at its start, after each item, at a blob's
-/// end, and if bytes are missing or a number is too long.
+/// What holds of a reader that takes items one by one: at its start, after each item, at a blob's
+/// end, if bytes are missing, and if a number is too long.
 pub fn reading()
     ensures starts { (limits : Allowance) → IsAllowance limits → Reached limits [] nothing started }
     ensures offset { (limits : Allowance) (bytes : List ℕ) (e : Sums) (st : Stack)
@@ -186,9 +189,8 @@ pub fn standing()
         → StreamFault limits bytes gs (length s.front + e.bytes) Truncated }
 {}
 
-/// The bytes of a blob determine its spans. There is one for each geometry, and the first is from
-/// the blob's start to its end. If the blob begins at another offset, only the offsets of the spans
-/// change.
+/// The bytes of a blob determine its spans: one for each geometry, the first from the blob's start
+/// to its end. If the blob begins at another offset, only the offsets of the spans change.
 pub fn spans()
     ensures one_list { (limits : Allowance) (bytes : List ℕ) (g : Tree) (start : ℕ)
         (a b : Blob limits bytes g) → spans_of_blob start a ≡ spans_of_blob start b }

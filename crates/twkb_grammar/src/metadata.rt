@@ -50,7 +50,8 @@ impl Model for Metadata {
     ghost inverse = { λ n. record { byte = n } };
 }
 
-// The value of this bit if it is set, or 0.
+// The byte in which only the bit at `position` is set, or 0 if `is_set` is false. The position must
+// be below 8; bit 0 is the lowest.
 #[inline]
 fn bit_if(is_set: bool, position: u32) -> u8
     requires { position < 8 }
@@ -61,7 +62,7 @@ fn bit_if(is_set: bool, position: u32) -> u8
 }
 
 impl Metadata {
-    /// Makes the metadata byte with these flags; reading it gives them back.
+    /// Makes the metadata byte with the bits of these flags, and with all other bits 0.
     #[inline]
     pub fn of(flags: MetadataFlags) -> Metadata
         ensures number { result ≡ metadata_number flags }
@@ -79,7 +80,7 @@ impl Metadata {
         }
     }
 
-    /// Takes the byte as it was read.
+    /// The metadata byte that is this byte, whatever its bits.
     #[inline]
     pub fn from_byte(byte: u8) -> Metadata
         ensures { result ≡ byte }
@@ -87,7 +88,7 @@ impl Metadata {
         Metadata { byte }
     }
 
-    /// Takes the lowest byte of an item's number.
+    /// The metadata byte that is the lowest byte of a number: the number itself if it is below 256.
     #[inline]
     pub fn from_number(number: u64) -> Metadata
         ensures whole { number < 256 → result ≡ number }
@@ -98,7 +99,7 @@ impl Metadata {
         }
     }
 
-    /// Makes the metadata byte of a geometry that has only a body.
+    /// The metadata byte of a geometry that has a body, and no ids and no optional parts: 0.
     #[inline]
     pub fn plain() -> Metadata
         ensures { result ≡ 0 }
@@ -106,7 +107,8 @@ impl Metadata {
         Metadata { byte: 0 }
     }
 
-    /// Makes the metadata byte of a geometry that has a size and a body.
+    /// The metadata byte of a geometry that has a body and a size, and no ids and no other optional
+    /// part: 2.
     #[inline]
     pub fn sized() -> Metadata
         ensures { result ≡ 2 }
@@ -114,7 +116,7 @@ impl Metadata {
         Metadata { byte: 1 << SIZE }
     }
 
-    /// The byte itself.
+    /// The metadata byte as a number.
     #[inline]
     pub fn byte(self) -> u8
         ensures { result ≡ self }
@@ -122,7 +124,7 @@ impl Metadata {
         self.byte
     }
 
-    // Whether this bit is set; bit 0 is the lowest.
+    // Whether the bit at `position` is set. The position must be below 8; bit 0 is the lowest.
     #[inline]
     fn has_bit(self, position: u32) -> bool
         requires { position < 8 }
@@ -131,7 +133,7 @@ impl Metadata {
         self.byte >> position & 1 == 1
     }
 
-    /// Whether a box follows.
+    /// Whether a box follows in the header (bit 0).
     #[inline]
     pub fn has_box(self) -> bool
         ensures { result ≡ bit self 0 }
@@ -139,7 +141,7 @@ impl Metadata {
         self.has_bit(BOX)
     }
 
-    /// Whether a size follows.
+    /// Whether a size follows in the header (bit 1).
     #[inline]
     pub fn has_size(self) -> bool
         ensures { result ≡ bit self 1 }
@@ -147,7 +149,7 @@ impl Metadata {
         self.has_bit(SIZE)
     }
 
-    /// Whether ids follow the count of members.
+    /// Whether ids follow the count of members (bit 2).
     #[inline]
     pub fn has_ids(self) -> bool
         ensures { result ≡ bit self 2 }
@@ -155,7 +157,7 @@ impl Metadata {
         self.has_bit(IDS)
     }
 
-    /// Whether the extended dimensions byte follows.
+    /// Whether the extended dimensions byte follows (bit 3).
     #[inline]
     pub fn has_extended(self) -> bool
         ensures { result ≡ bit self 3 }
@@ -163,7 +165,7 @@ impl Metadata {
         self.has_bit(EXTENDED)
     }
 
-    /// Whether there is no body.
+    /// Whether the geometry has no body (bit 4).
     #[inline]
     pub fn is_empty(self) -> bool
         ensures { result ≡ bit self 4 }

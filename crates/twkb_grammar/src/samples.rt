@@ -17,7 +17,7 @@ ghost use Rattle.twkb_grammar.specs.Samples.{widest_blob, nine_deep_blob, named_
 ghost use Rattle.twkb_grammar.specs.Samples.{bare_collection, in_collections};
 ghost use Rattle.twkb_grammar.specs.declared.style.Style.TheVariants.{Full, Plain};
 
-/// The canonical blobs of some geometries in full style.
+/// The canonical blobs of some sample geometries in full style, byte by byte.
 #[tactic(auto, unfolding(twkb_num::specs::Digits::digits, twkb_num::specs::Digits::digits_within, twkb_points::specs::Extent::joined))]
 pub fn full()
     ensures one_point { canonical_blob Full one_point ≡ 0x01 ∷ 0x02 ∷ 0x02 ∷ 0x04 ∷ 0x02 ∷ [] }
@@ -47,7 +47,7 @@ pub fn full()
     ensures nine_deep { canonical_blob Full nine_deep ≡ nine_deep_blob }
 {}
 
-/// The canonical blobs of some geometries in plain style.
+/// The canonical blobs of some sample geometries in plain style, byte by byte.
 #[tactic(auto, unfolding(twkb_num::specs::Digits::digits, twkb_num::specs::Digits::digits_within))]
 pub fn plain()
     ensures one_point { canonical_blob Plain one_point ≡ 0x01 ∷ 0x00 ∷ 0x04 ∷ 0x02 ∷ [] }
@@ -60,7 +60,7 @@ pub fn plain()
         ∷ 0x00 ∷ 0x00 ∷ 0x02 ∷ 0x02 ∷ [] }
 {}
 
-/// Blobs other than the canonical ones in full style.
+/// Blobs of sample geometries that are not their canonical blobs in full style.
 pub fn loose()
     ensures no_size { Blob standard (0x02 ∷ 0x00 ∷ 0x02 ∷ 0x02 ∷ 0x02 ∷ 0x08 ∷ 0x08 ∷ []) short_line }
     ensures padded_count { Blob standard (0x02 ∷ 0x00 ∷ 0x82 ∷ 0x00 ∷ 0x02 ∷ 0x02 ∷ 0x08 ∷ 0x08 ∷ []) short_line }
@@ -79,7 +79,7 @@ pub fn loose()
         ∷ 0x02 ∷ 0x02 ∷ 0x10 ∷ []) named_members }
 {}
 
-/// First faults of some bytes.
+/// The offset and the reason of the first fault of some bytes, one example for each clause.
 pub fn faults()
     ensures cut_line { FirstFault standard (0x02 ∷ 0x00 ∷ 0x02 ∷ 0x02 ∷ 0x02 ∷ 0x08 ∷ []) 6 Truncated }
     ensures wrong_size { FirstFault standard (0x01 ∷ 0x02 ∷ 0x03 ∷ 0x04 ∷ 0x02 ∷ []) 5 SizeMismatch }
@@ -125,14 +125,15 @@ pub fn faults()
     ensures cut_after_thirty_four { FirstFault standard (take 34 three_points_blob) 32 Truncated }
 {}
 
-/// Each proper prefix of this sample blob, except the empty one, is refused at its end, because
-/// each item of the blob has one byte.
+/// Each proper prefix of one sample blob, except the empty one, is truncated at its own end,
+/// because each item of the blob has one byte.
 pub fn cut()
     ensures { AllByRecursion (λ k. FirstFault standard (take k named_members_blob) k Truncated)
         (1 ∷ 2 ∷ 3 ∷ 4 ∷ 5 ∷ 6 ∷ 7 ∷ 8 ∷ 9 ∷ 10 ∷ 11 ∷ 12 ∷ 13 ∷ 14 ∷ 15 ∷ 16 ∷ 17 ∷ []) }
 {}
 
-/// An empty stream, and a stream that is cut inside its second point.
+/// The empty stream has no geometry, and a stream that is cut inside its second point is truncated
+/// there.
 pub fn streams()
     ensures nothing { Stream standard [] [] }
     ensures cut_point { StreamFault standard (0x01 ∷ 0x00 ∷ 0x04 ∷ 0x02 ∷ 0x01 ∷ 0x00 ∷ 0x04 ∷ [])

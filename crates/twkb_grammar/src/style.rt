@@ -14,7 +14,7 @@ pub enum Style {
 impl Style {
     ghost use Rattle.twkb_grammar.specs.declared.style.Style.TheVariants.{Full};
 
-    /// Whether blobs of this style have sizes, and boxes if they may have them.
+    /// Whether the style is `Full`: geometries have sizes, and boxes if they may have them.
     pub fn is_full(self) -> bool
         ensures { (result ≡ true) ↔ (self ≡ Full) }
     {

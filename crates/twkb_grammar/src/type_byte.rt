@@ -37,7 +37,8 @@ impl Model for TypeByte {
     ghost inverse = { λ n. record { byte = n } };
 }
 
-// The number of a type; 0 for a ring, which is not a type.
+// The number of a kind's type in TWKB, 1 for a point to 7 for a collection; 0 for a ring, which is
+// not a type.
 #[inline]
 fn type_number(kind: Kind) -> u8
     ensures number { result ≡ type_of kind }
@@ -56,9 +57,9 @@ fn type_number(kind: Kind) -> u8
 }
 
 impl TypeByte {
-    /// Makes the type byte of a geometry of this kind, with the lowest four bits of the
-    /// precision's zigzag form. Reading it gives back the kind and a precision from -8 to 7. A
-    /// ring has no type and gets 0.
+    /// Makes the type byte of a geometry of this kind and precision. A precision from -8 to 7 is
+    /// read back as it was; of another, only the lowest four bits of the zigzag form are kept. For
+    /// a ring, which has no type, the lower half is 0.
     #[inline]
     pub fn of(kind: Kind, precision: i8) -> TypeByte
         ensures number { result ≡ type_byte kind precision }
@@ -71,7 +72,7 @@ impl TypeByte {
         }
     }
 
-    /// Takes the byte as it was read.
+    /// The type byte that is this byte, whatever its bits.
     #[inline]
     pub fn from_byte(byte: u8) -> TypeByte
         ensures { result ≡ byte }
@@ -79,7 +80,7 @@ impl TypeByte {
         TypeByte { byte }
     }
 
-    /// Takes the lowest byte of an item's number.
+    /// The type byte that is the lowest byte of a number: the number itself if it is below 256.
     #[inline]
     pub fn from_number(number: u64) -> TypeByte
         ensures whole { number < 256 → result ≡ number }
@@ -90,7 +91,7 @@ impl TypeByte {
         }
     }
 
-    /// The byte itself.
+    /// The type byte as a number.
     #[inline]
     pub fn byte(self) -> u8
         ensures { result ≡ self }
@@ -98,7 +99,7 @@ impl TypeByte {
         self.byte
     }
 
-    /// Whether the lower half is the number of a type.
+    /// Whether the lower half is the number of a type, 1 to 7.
     #[inline]
     pub fn names_type(self) -> bool
         ensures { result ≡ names_type self }
@@ -115,7 +116,7 @@ impl TypeByte {
         self.byte % HALF == POINT
     }
 
-    /// The kind of the type, never `Ring`. For a byte that names no type it is `Collection`.
+    /// The kind that the lower half names, never `Ring`; `Collection` if it names no type.
     #[inline]
     pub fn kind(self) -> Kind
         ensures { result ≡ shown (kind_at (self % 16)) }
@@ -131,7 +132,8 @@ impl TypeByte {
         }
     }
 
-    /// The number of decimals of the coordinates, -8 to 7.
+    /// The number of decimals of the coordinates, -8 to 7, which the upper half spells in zigzag
+    /// form.
     #[inline]
     pub fn precision(self) -> i8
         ensures value { result ≡ unzigzag_of (self / 16) }
