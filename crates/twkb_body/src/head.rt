@@ -27,8 +27,8 @@ pub struct Head {
 }
 
 impl Head {
-    /// Makes the head that is kept until a header is read: that of a point at depth 0, without size
-    /// and id; precision, metadata byte and `from` are 0. Takes no memory.
+    /// Makes a placeholder, kept until a header is read: the head of a point at depth 0, without
+    /// size and id; precision, metadata byte and `from` are 0. Takes no memory.
     pub fn none() -> Head {
         Head {
             size: None,

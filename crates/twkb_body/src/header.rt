@@ -20,10 +20,10 @@ pub struct FrontHeader {
     pub used: usize,
 }
 
-/// The header at the start of the bytes: type byte, metadata byte, and size and box if it has them.
-/// `None` if it is not complete, if its type byte names no type, if its metadata byte says that the
-/// extended dimensions byte follows or that there is no body, or if one of its numbers is longer
-/// than ten bytes or above 2^64 - 1. Takes no memory.
+/// Reads the header at the start of the bytes: type byte, metadata byte, and size and box if it has
+/// them. `None` if one of them is cut or has a number that is too long (over ten bytes, or 2^64 or
+/// above), if the type byte names no type, or if the metadata byte announces the extended
+/// dimensions byte or no body. Takes no memory.
 #[inline(always)]
 pub fn front_header(bytes: &[u8]) -> Option<FrontHeader>
     ensures { IfSome result (λ header. HeaderInFront bytes.now header) }

@@ -20,7 +20,7 @@ ghost use Rattle.twkb_body.specs.Reading.{Outlined, OutlinedBehind, Wants, WithI
 ghost use Rattle.twkb_body.specs.Reading.{open_count, AtPoint, change_after};
 ghost use Rattle.twkb_body.specs.Admitting.{Admits};
 
-/// The role of the next item is determined by the outline and the sums of the items so far.
+/// The outline and the sums of the items so far determine the role of the next item.
 pub fn role()
     ensures { (e : Sums) (st : Stack) → role_at e st ≡ outline_role e (outline_of st) }
 {}
@@ -34,9 +34,9 @@ pub fn steps()
     ensures ends { (bytes : ℕ) (st : Stack) → outline_in (ends bytes st.0 st.1) ≡ outline_ends bytes (outline_of st) }
 {}
 
-/// The rows after an item are those before it with a change, which the outline before it, its
-/// number and the position that it leads to determine. The ends of geometries change no row, and at
-/// the end of the blob the rows are those of the geometry.
+/// The rows after an item are those before it with one change, which the outline before the item,
+/// its number and the position that it leads to determine. The ends of geometries change no row,
+/// and at the end of the blob the rows are those of the geometry.
 pub fn grows()
     ensures item { (p : Point) (bytes n : ℕ) (st : Stack)
         → rows_so_far (advanced p bytes n st.0 st.1) ≡ applied (change_of p n (outline_of st))
@@ -45,8 +45,8 @@ pub fn grows()
     ensures whole { (g : Tree) → rows_so_far ([], Finished g) ≡ rows 0 g }
 {}
 
-/// Within the limits, the rows so far are always those of a valid geometry, or there are none.
-/// A point that is added to an existing row goes into that of a line or ring.
+/// Within the limits, the rows so far are always those of a valid geometry, or there are none. A
+/// point that is added to an existing row goes into that of a line or ring.
 pub fn valid()
     ensures rows { (limits : Allowance) (bytes : List ℕ) (e : Sums) (st : Stack)
         → Reached limits bytes e st → AreValidRowsOfOne limits (rows_so_far st) }
@@ -55,11 +55,8 @@ pub fn valid()
 
 /// What holds of a reader that keeps an outline and rows: at the start, after an item, if an item
 /// is refused, after the ends of geometries, at a blob's end, and if bytes are missing or a number
-/// is too long. The bytes read begin a blob, and the sums count them. The rows are those of a valid
-/// geometry, or there are none. The open lists of a body, and the value that is expected in them,
-/// are those of its form. No more collections are open than the limits allow. A row that an item
-/// begins continues the rows before it, and a point that is added to an existing row goes into that
-/// of a line or ring.
+/// is too long. The bytes read begin a blob, the sums count them, the rows are those of a valid
+/// geometry or there are none, and no more collections are open than the limits allow.
 pub fn reading()
     ensures starts { (limits : Allowance) → IsAllowance limits → Outlined limits [] nothing ([], OnHeader) [] }
     ensures item { (limits : Allowance) (bytes : List ℕ) (e : Sums) (o : Outline) (rs : List Row)
@@ -127,8 +124,8 @@ pub fn points()
         (λ bytes e o change rs. NotedOutline limits bytes e o (applied change rs) told) }
 {}
 
-/// The outline determines the notes that a reader makes of spans, whether the optional part that
-/// comes next is neither a header nor an end, and the number of open geometries.
+/// The outline determines the notes that a reader makes of spans, whether what comes next is
+/// neither a header nor an end, and the number of open geometries.
 pub fn noting()
     ensures note { (st : Stack) (offset points byte : ℕ) (w : Notes)
         → note_byte st.1 offset points byte w ≡ note_stage (stage_of st.1) offset points byte w }

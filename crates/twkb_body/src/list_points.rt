@@ -16,7 +16,7 @@ use twkb_points::{
     APART, FAR_APART, NUMBERS_AT_ONCE, POINTS_AT_ONCE, Pt, eight_points, two_points,
 };
 
-/// Points that were taken.
+/// Points that were read at the start of bytes and appended to a form.
 #[derive(Clone, Copy, Debug, PartialEq, Eq)]
 pub struct Taken {
     /// How many bytes they had.
@@ -31,11 +31,10 @@ const NEAR: usize = 16;
 // How many points are taken at once from a block.
 const POINTS: u64 = POINTS_AT_ONCE as u64;
 
-/// Appends to the last row the points at the start of the bytes, at most `most`, each by its steps
-/// from the one before, the first from `from`. It stops before a point that is out of range, or
-/// that has a number which is cut or too long. Returns what was taken, and how many of `most` are
-/// left. Takes memory; after an `Err` the points appended so far stay. Points that lie near one
-/// another are read eight or two at a time.
+/// Appends points at the start of the bytes, at most `most`, each by its steps from the one before,
+/// the first from `from`. The last row must be a linestring's or a ring's, and `most` must fit in
+/// 2^24 points. Stops before a point that is cut, too long or out of range. Returns what was taken,
+/// and how many of `most` are left. Takes memory; after an `Err` the points appended so far stay.
 // One function: with the choice of the next step in a function of its own, it took up to 6 in 1000
 // more instructions.
 #[inline(always)]
@@ -79,10 +78,8 @@ pub fn take_row(
     Ok((Taken { used, position }, left))
 }
 
-// Appends the points of a list at the start of the bytes to the last row, eight at a time, the
-// first by its steps from `from`, as long as `eight_points` reads them and eight or more of `most`
-// are left. Returns what was taken, which may be nothing, and how many of `most` are left. Takes
-// memory; after an `Err` the points appended so far stay.
+// Appends points as `take_row` does, and under the same conditions, but eight at a time, and only
+// as long as `eight_points` reads them and eight or more of `most` are left, so maybe none.
 #[inline(never)]
 fn take_eights(
     flat: &mut Flat,
@@ -115,12 +112,10 @@ fn take_eights(
     Ok((Taken { used, position }, left))
 }
 
-/// Appends the members of a multipoint at the start of the bytes, at most `most`, as rows at this
-/// depth after the row of a member, each by its steps from the point before, the first from `from`.
-/// Each has its id if members have ids; such an id leaves `ids`. It stops before a point that is
-/// out of range, that has a number which is cut or too long, or for which no id is left. Returns
-/// what was taken, and how many of `most` are left. Takes memory; after an `Err` the rows appended
-/// so far stay.
+/// Appends rows of members of a multipoint, whose member at `depth` the last row must be, as
+/// `take_row` appends points, each with the next id of `ids` if members have ids. `most` must fit
+/// in 2^20 rows and 2^24 points. Stops also before a point for which no id is left. Takes memory;
+/// after an `Err` the rows appended so far stay.
 pub fn take_members(
     flat: &mut Flat,
     ids: &mut MemberIds,

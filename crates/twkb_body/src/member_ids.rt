@@ -30,7 +30,7 @@ impl MemberIds {
         }
     }
 
-    /// Forgets all ids, and keeps their memory for others. Members have ids from now on if
+    /// Forgets all ids, and keeps their memory for others. From now on members have ids exactly if
     /// `has_ids` is true. Takes no memory.
     #[inline(always)]
     pub fn restart(&mut self, has_ids: bool)
@@ -42,8 +42,8 @@ impl MemberIds {
         self.has_ids = has_ids;
     }
 
-    /// Appends the id of a further member, while ids are read. Takes memory; an `Err` changes
-    /// nothing.
+    /// Appends the id of a further member, after `restart` and before `begin`. Takes memory; an
+    /// `Err` changes nothing.
     pub fn push(&mut self, id: i64) -> Result<(), AllocError>
         ensures pushed { OnOk result (ids_read self.new ≡ ids_read self.old ++ id ∷ []) }
         ensures has { self.new.has_ids ≡ self.old.has_ids }
@@ -52,9 +52,9 @@ impl MemberIds {
         Ok(())
     }
 
-    /// Appends the ids that are complete at the start of the bytes, at most `most`, and returns how
-    /// many bytes they have. It stops before a number that is cut or too long. Takes memory; after
-    /// an `Err` the ids before the one without memory stay appended.
+    /// Appends the ids that the zigzag varints at the start of the bytes spell, at most `most`, and
+    /// returns how many bytes they have. Stops before a number that is cut or too long. Takes
+    /// memory; after an `Err` the ids appended so far stay.
     #[inline(always)]
     pub fn take(&mut self, bytes: &[u8], most: u64) -> Result<usize, AllocError>
         ensures within { IfOk result (λ used. used ≤ length bytes.now) }
@@ -75,7 +75,7 @@ impl MemberIds {
         Ok(used)
     }
 
-    /// The number of ids that it keeps: those read so far, or those from the open member on. Takes
+    /// The number of ids that are kept: those read so far, or those from the open member on. Takes
     /// no memory.
     #[inline(always)]
     pub fn count(&self) -> u64
@@ -101,7 +101,7 @@ impl MemberIds {
         self.ids.reverse();
     }
 
-    // Whether the open member has the id that it needs: members have no ids, or an id is left.
+    // Whether members have no ids, or an id is left for the open member.
     #[inline(always)]
     pub(crate) fn has_needed_id(&self) -> bool
         ensures { result ≡ true → is_some (first_id (ids_of self.now)) ≡ self.now.has_ids }

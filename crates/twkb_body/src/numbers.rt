@@ -15,9 +15,9 @@ pub enum FrontNumber {
     TooLong,
 }
 
-// Reads a number of five bytes or fewer at the start of the bytes, and returns it and how many
-// bytes it has; `None` if it is not complete or has more. Nearly all numbers take this path, since
-// steps between degrees of six decimals have at most five bytes.
+// Reads the varint at the start of the bytes if it is complete and has at most five bytes, and
+// returns its number, below 2^35, and how many bytes it has; else `None`. Nearly all numbers take
+// this path, since steps between degrees of six decimals have at most five bytes.
 #[inline(always)]
 pub(crate) fn short_number(bytes: &[u8]) -> Option<(u64, usize)>
     ensures front { IfSome result (λ front. NumberInFront bytes.now front.0 front.1) }
@@ -50,7 +50,7 @@ pub(crate) fn short_number(bytes: &[u8]) -> Option<(u64, usize)>
     None
 }
 
-// Reads a number of any length at the start of the bytes, byte by byte. It is called when
+// Reads a varint of any length at the start of the bytes, byte by byte. It is called when
 // `short_number` does not suffice, which is rare.
 #[cold]
 #[inline(never)]
@@ -79,7 +79,7 @@ pub(crate) fn long_number(bytes: &[u8]) -> FrontNumber
     FrontNumber::Cut
 }
 
-/// Reads the number at the start of the bytes. Takes no memory.
+/// Reads the varint at the start of the bytes, or says why none is complete there. Takes no memory.
 #[inline(always)]
 pub fn front_number(bytes: &[u8]) -> FrontNumber
     ensures { IsFront bytes.now result }

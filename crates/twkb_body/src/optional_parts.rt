@@ -8,8 +8,9 @@ use twkb_grammar::Metadata;
 // Sides of a box (TWKB, bounding box).
 const SIDES: usize = 4;
 
-/// The optional parts of a header: the size that it declares, if any, how many of their bytes come
-/// before those that a size counts (`from`), and how many bytes they have (`used`).
+/// The optional parts of a header but the extended dimensions byte: the size that it declares, if
+/// any, how many of their bytes come before those that a size counts (`from`), and how many bytes
+/// they have (`used`).
 #[derive(Clone, Copy, Debug)]
 pub struct OptionalParts {
     pub size: Option<u64>,
@@ -17,8 +18,9 @@ pub struct OptionalParts {
     pub used: usize,
 }
 
-// The size at the start of the bytes, and how many bytes it has; no size and 0 if this metadata
-// byte asks for none. `None` if the size is not complete or too long.
+// Reads the size at the start of the bytes, and returns it and how many bytes it has; no size and 0
+// if this metadata byte announces none. `None` if its varint is cut, or is longer than ten bytes or
+// of 2^64 or above.
 #[inline(always)]
 fn front_size(metadata: Metadata, bytes: &[u8]) -> Option<(Option<u64>, usize)>
     ensures { IfSome result (λ front. SizeInFront metadata bytes.now front.0 front.1) }
@@ -32,8 +34,8 @@ fn front_size(metadata: Metadata, bytes: &[u8]) -> Option<(Option<u64>, usize)>
     Some((Some(number), width))
 }
 
-// How many bytes the box at the start of the bytes has; 0 if this metadata byte asks for none.
-// `None` if one of its four numbers is not complete or too long.
+// How many bytes the box at the start of the bytes has; 0 if this metadata byte announces none.
+// `None` if one of its four varints is cut, or is longer than ten bytes or of 2^64 or above.
 #[inline(always)]
 fn front_box_length(metadata: Metadata, bytes: &[u8]) -> Option<usize>
     ensures { IfSome result (λ used. BoxInFront metadata bytes.now used) }
@@ -53,9 +55,9 @@ fn front_box_length(metadata: Metadata, bytes: &[u8]) -> Option<usize>
     Some(used)
 }
 
-/// The optional parts at the start of the bytes, all that this metadata byte asks for. `None` if
-/// one is the extended dimensions byte, is not complete, or has a number that is longer than ten
-/// bytes or above 2^64 - 1. Takes no memory.
+/// Reads the size and the box at the start of the bytes, as far as this metadata byte announces
+/// them. `None` if it announces the extended dimensions byte, or if one of their varints is cut, or
+/// is longer than ten bytes or of 2^64 or above. Takes no memory.
 #[inline(always)]
 pub fn front_parts(metadata: Metadata, bytes: &[u8]) -> Option<OptionalParts>
     ensures { IfSome result (λ parts. PartsInFront metadata bytes.now parts.size parts.from parts.used) }

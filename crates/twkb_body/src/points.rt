@@ -8,7 +8,7 @@ use crate::numbers::{FrontNumber, long_number, short_number};
 use twkb_num::unzigzag;
 use twkb_points::Pt;
 
-// The step that a number of five bytes or fewer spells.
+// The step whose zigzag form is this number, which must be below 2^35.
 #[inline(always)]
 fn short_step(number: u64) -> i64
     requires { number < 2 ^ 35 }
@@ -18,8 +18,8 @@ fn short_step(number: u64) -> i64
     unzigzag(number)
 }
 
-// The point at `dx` along x and `dy` along y from this one, both steps in the range of a
-// coordinate; `None` if that point is out of range.
+// The point at `dx` along x and `dy` along y from this one; `None` if a coordinate is then outside
+// -2^62 to 2^62 - 1. Both steps must be in that range.
 #[inline(always)]
 fn after_steps(from: Pt, dx: i64, dy: i64) -> Option<Pt>
     requires near_x { IsCoordinate dx }
@@ -29,8 +29,8 @@ fn after_steps(from: Pt, dx: i64, dy: i64) -> Option<Pt>
     from.moved_near(dx, dy)
 }
 
-// The point after two steps from this one, along x and along y, each spelled by a number of five
-// bytes or fewer; `None` if that point is out of range.
+// The point after two steps from this one, along x and along y, each given by its zigzag form,
+// which must be below 2^35; `None` if a coordinate is then outside -2^62 to 2^62 - 1.
 #[inline(always)]
 fn after_short_steps(from: Pt, x: u64, y: u64) -> Option<Pt>
     requires x_small { x < 2 ^ 35 }
@@ -40,9 +40,8 @@ fn after_short_steps(from: Pt, x: u64, y: u64) -> Option<Pt>
     after_steps(from, short_step(x), short_step(y))
 }
 
-// The point at the start of the bytes, by its two steps from `from`, and how many bytes they have;
-// `None` if the number of one is not complete or too long, or if they lead out of range. It is
-// called when `short_number` does not suffice for one of them, which is rare.
+// Does what `front_point` does, with varints of any length. It is called when `short_number` does
+// not suffice for one of the two, which is rare.
 #[cold]
 #[inline(never)]
 fn long_point(from: Pt, bytes: &[u8]) -> Option<(Pt, usize)>
@@ -67,9 +66,9 @@ fn long_point(from: Pt, bytes: &[u8]) -> Option<(Pt, usize)>
     Some((to, x_length + y_length))
 }
 
-/// The point at the start of the bytes, by its two steps from `from`, and how many bytes they have;
-/// `None` if the number of one is not complete, or is longer than ten bytes or above 2^64 - 1, or
-/// if they lead out of range. Takes no memory.
+/// Reads the point at the start of the bytes, given by its two steps from `from`, and returns it
+/// and how many bytes the steps have. `None` if a varint is cut, or is longer than ten bytes or of
+/// 2^64 or above, or if a coordinate is outside -2^62 to 2^62 - 1. Takes no memory.
 #[inline(always)]
 pub fn front_point(from: Pt, bytes: &[u8]) -> Option<(Pt, usize)>
     ensures { IfSome result (λ front. PointInFront from bytes.now front.0 front.1) }

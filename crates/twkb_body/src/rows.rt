@@ -1,4 +1,4 @@
-//! The rows of a geometry in a flat form.
+//! Rows that a reader appends to a flat form.
 ghost use Rattle.std.specs.Prelude.{◌≡◌, ◌++◌, ◌∷◌, [], OnOk, OnErr};
 ghost use Rattle.twkb_tree.specs.Rows.{plain_row};
 ghost use Rattle.twkb_tree.specs.Limits.{largest_limits};
@@ -14,8 +14,7 @@ use twkb_flat::{Flat, Row};
 use twkb_points::Pt;
 use twkb_tree::Kind;
 
-/// Appends a row without points, which must be one that may follow the rows. Takes memory; an `Err`
-/// changes nothing.
+/// Appends a row without points, which the form must admit. Takes memory; an `Err` changes nothing.
 // Not inlined, since the push of a row is large.
 #[inline(never)]
 pub fn push_row(flat: &mut Flat, row: Row) -> Result<(), AllocError>
@@ -26,8 +25,7 @@ pub fn push_row(flat: &mut Flat, row: Row) -> Result<(), AllocError>
     flat.push(row, &[])
 }
 
-/// Appends a row with one point, which must be one that may follow the rows. Takes memory; an `Err`
-/// changes nothing.
+/// Appends a row with one point, which the form must admit. Takes memory; an `Err` changes nothing.
 #[inline(never)]
 pub fn push_point_row(flat: &mut Flat, row: Row, point: Pt) -> Result<(), AllocError>
     requires { Continues largest_limits flat.old (row_with row (point ∷ [])) }
@@ -37,10 +35,9 @@ pub fn push_point_row(flat: &mut Flat, row: Row, point: Pt) -> Result<(), AllocE
     flat.push(row, &[point])
 }
 
-/// Adds a point of the geometry with this header to the rows, which must admit it. For a point
-/// geometry it pushes the geometry's own row with the point, and for a multipoint the row of a
-/// member with the point and the id `member`; any other point goes to the last row. Takes memory;
-/// an `Err` changes nothing.
+/// Adds a point of the geometry with this header to the form, which must admit it: for a point, the
+/// geometry's own row with it; for a multipoint, the row of a member with the id `member`; for
+/// another kind, the point goes to the last row. Takes memory; an `Err` changes nothing.
 #[inline(always)]
 pub fn put_point(
     flat: &mut Flat,
@@ -66,7 +63,7 @@ pub fn put_point(
     }
 }
 
-/// The row, without points, of the geometry that has this header. Takes no memory.
+/// The own row of the geometry with this header, without points. Takes no memory.
 #[inline]
 pub fn own_row(head: &Head) -> Row
     requires { IsTyped head.now.kind }
@@ -80,7 +77,8 @@ pub fn own_row(head: &Head) -> Row
     }
 }
 
-// The row, without points, of a component, which has no precision of its own.
+// Makes the row, without points, of a ring or of a member of a multi-geometry, which has no
+// precision of its own.
 fn component_row(depth: u32, kind: Kind, id: Option<i64>) -> Row
     ensures { row_with result [] ≡ plain_row depth kind id [] }
 {
@@ -92,9 +90,9 @@ fn component_row(depth: u32, kind: Kind, id: Option<i64>) -> Row
     }
 }
 
-/// The row, without points, of a list of points that begins: that of a ring in a polygon or a
-/// multipolygon, that of the open member, which has this id, in a multilinestring, and else that of
-/// the geometry itself. Takes no memory.
+/// The row, without points, of a list of points in the geometry with this header: a ring of a
+/// polygon or multipolygon, the member with the id `member` of a multilinestring, and else the
+/// geometry itself, which must not be a collection. Takes no memory.
 #[inline]
 pub fn line_row(head: &Head, member: Option<i64>) -> Row
     requires { IsBodied head.now.kind }
@@ -109,8 +107,9 @@ pub fn line_row(head: &Head, member: Option<i64>) -> Row
     }
 }
 
-/// The row, without points, of a list of rings that begins: that of the open member, which has this
-/// id, in a multipolygon, and else that of the geometry itself. Takes no memory.
+/// The row, without points, of a list of rings in the geometry with this header: the member with
+/// the id `member` of a multipolygon, and else the geometry itself, which must not be a collection.
+/// Takes no memory.
 #[inline]
 pub fn ring_list_row(head: &Head, member: Option<i64>) -> Row
     requires { IsBodied head.now.kind }

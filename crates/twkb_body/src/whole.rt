@@ -11,8 +11,8 @@ use twkb_points::Pt;
 /// Bytes of a header with a size of one byte, and no other optional part.
 pub const SIZED: usize = 3;
 
-/// A point that is complete with its header: its position, how many bytes both have, and the size
-/// that is declared, if any.
+/// A point that was read with its header: its position, how many bytes both have, and the size that
+/// is declared, if any.
 #[derive(Clone, Copy, Debug)]
 pub struct Whole {
     pub to: Pt,
@@ -21,9 +21,9 @@ pub struct Whole {
     ghost long: { 3 ≤ used },
 }
 
-// The size that the header at the start of the bytes declares, if any, and how many bytes the
-// header has. `None` if it is not complete, if its type is not point, if its metadata byte has any
-// bit set but that of a size, or if its size has more than one byte.
+// Reads the header of a point at the start of the bytes: the size that it declares, if any, and how
+// many bytes the header has. `None` if it is cut, if its type is not point, if its metadata byte
+// has any bit set but that of a size, or if its size has more than one byte.
 #[inline(always)]
 fn point_header(bytes: &[u8]) -> Option<(Option<u64>, usize)>
     ensures { IfSome result (λ front. PointHeader bytes.now front.0 front.1) }
@@ -46,10 +46,10 @@ fn point_header(bytes: &[u8]) -> Option<(Option<u64>, usize)>
     Some((Some(u64::from(size)), SIZED))
 }
 
-/// The point at the start of the bytes with its header. `None` if the header is not complete, is
-/// not that of a point, has a size of more than one byte, or has a metadata byte with any bit set
-/// but that of a size; if one of the point's two numbers is not complete or too long; or if they
-/// lead out of range. Whether the size is exact is not judged. Takes no memory.
+/// Reads the point at the start of the bytes with its header. `None` if a part is cut, if the type
+/// is not point, if the metadata byte has any bit set but that of a size, if the size has more than
+/// one byte, or if one of the point's two numbers is too long or leads out of range. Whether the
+/// size is exact is not judged. Takes no memory.
 #[inline(always)]
 pub fn whole_point(bytes: &[u8]) -> Option<Whole>
     ensures { IfSome result (λ front. WholePoint bytes.now front.to front.used front.size) }
