@@ -29,7 +29,7 @@ pub enum BlobReason {
 }
 
 impl BlobReason {
-    /// The reason in a few words. Takes no memory.
+    /// The reason in a few English words, at most 31 bytes. Takes no memory.
     #[tactic(auto, using(crate::proofs::ShortTexts::short_blob))]
     pub fn text(self) -> &'static str
         ensures words { result.now ≡ blob_words self }

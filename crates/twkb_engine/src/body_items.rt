@@ -1,4 +1,6 @@
-//! The items of a body: coordinates, and counts of points and of rings.
+//! The items of a body: coordinates, and counts of points and of rings. Each is taken by its
+//! number, and by `width`, how many bytes that has. It must be the item that comes next, and end at
+//! an offset of the stream of at most 2^63. After an `Err` the engine can take nothing more.
 ghost use Rattle.std.specs.Prelude.{◌≡◌, ◌≢◌, ◌+◌, ◌≤◌, [], true, false, List, Ok, Some, IfOk, OnOk, IfSome};
 ghost use Rattle.std.specs.Prelude.{IfNone};
 ghost use Rattle.twkb_tree.specs.Rows.{Row as TableRow};
@@ -31,8 +33,9 @@ impl Engine {
     ghost use Rattle.twkb_engine.specs.Notes.{NotesGo, notes_with, notes_past, open_in};
     ghost use Rattle.twkb_engine.specs.Standing.{ComesNext};
 
-    // Takes an x, which moves the position; the y comes next. Returns false, as no blob ends with
-    // an x. Refused if it leads out of range.
+    // Takes an x: moves the position by the step that the number spells in zigzag form; the y comes
+    // next. Returns false, as no blob ends with an x. Refused if x is then outside -2^62 to
+    // 2^62 - 1. Takes no memory.
     #[inline(always)]
     #[tactic(auto, using(twkb_body::proofs::Ranges::ranges))]
     pub(crate) fn x(&mut self, number: u64, width: u64) -> Result<bool, Stop>
@@ -52,7 +55,8 @@ impl Engine {
         Ok(false)
     }
 
-    // The position after a y of this number; `None` if the position is out of range.
+    // The position after the step along y that this number spells in zigzag form; `None` if y is
+    // then outside -2^62 to 2^62 - 1.
     #[inline(always)]
     #[tactic(auto, using(twkb_body::proofs::Ranges::ranges))]
     fn moved_y(&self, number: u64) -> Option<Pt>
@@ -67,10 +71,10 @@ impl Engine {
         Some(position)
     }
 
-    // Takes a y, and adds the point that it completes to the rows: at once if its list goes on, and
-    // else as `put_last_point` does. Returns whether the blob ends with it. Refused if it leads out
-    // of range, or if the size of a geometry that ends with it is not exact. The point takes
-    // memory.
+    // Takes a y, and adds the point that it completes to the rows, at once if its list goes on,
+    // else as `put_last_point` does. Returns whether the blob ends with it. Refused if y is then
+    // outside -2^62 to 2^62 - 1, or if the size of a geometry that ends here is not exact. The
+    // point takes memory.
     #[inline(always)]
     pub(crate) fn y<S: SpanNotes>(
         &mut self,
@@ -101,9 +105,10 @@ impl Engine {
         self.put_last_point(flat, spans, position)
     }
 
-    // Goes past the last point of a list, or past a point that is a geometry or a member itself, as
-    // `end_list_or_point` does, and then adds the point to the rows. Returns whether the blob ends.
-    // Refused if the size of a geometry that ends with it is not exact. The point takes memory.
+    // Goes past a point at `position`, the last of its list or a geometry or member itself, as
+    // `end_list_or_point` does, and adds it to the form, which must admit it. No point of the list
+    // may be left. Returns whether the blob ends with it. Refused if the size of a geometry that
+    // ends here is not exact. The point takes memory.
     #[inline(never)]
     pub(crate) fn put_last_point<S: SpanNotes>(
         &mut self,
@@ -127,10 +132,10 @@ impl Engine {
         Ok(ends)
     }
 
-    // Takes the count of a line's or ring's points, adds it to the sum of points, and pushes the
-    // list's row. Goes to the first point, or past an empty list. Returns whether the blob ends
-    // with it. Refused if the points are too many, or if the size of a geometry that ends with it
-    // is not exact. A row takes memory.
+    // Takes the count of a line's or ring's points, adds it to the sum of points, pushes the list's
+    // row, and goes to the first point, or past an empty list. Returns whether the blob ends with
+    // it. Refused if the points are too many, or if the size of a geometry that ends here is not
+    // exact. A row takes memory.
     #[inline(always)]
     pub(crate) fn point_count<S: SpanNotes>(
         &mut self,
@@ -162,10 +167,10 @@ impl Engine {
         Ok(false)
     }
 
-    // Takes the count of a polygon's rings, adds it to the sum of rows, and pushes the polygon's
-    // row. Goes to the first ring, or past an empty list. Returns whether the blob ends with it.
-    // Refused if the rings are too many, or if the size of a geometry that ends with it is not
-    // exact. A row takes memory.
+    // Takes the count of a polygon's rings, adds it to the sum of rows, pushes the polygon's row,
+    // and goes to the first ring, or past an empty list. Returns whether the blob ends with it.
+    // Refused if the rings are too many, or if the size of a geometry that ends here is not exact.
+    // A row takes memory.
     #[inline(always)]
     pub(crate) fn ring_count<S: SpanNotes>(
         &mut self,
@@ -197,9 +202,9 @@ impl Engine {
         Ok(false)
     }
 
-    // Goes past an empty list, as `end_list_or_point` does, and then pushes its row. Returns
-    // whether the blob ends. Refused if the size of a geometry that ends with it is not exact. The
-    // row takes memory.
+    // Goes past an empty list of points or rings, as `end_list_or_point` does, and then pushes its
+    // row, which the form must admit. Returns whether the blob ends with it. Refused if the size of
+    // a geometry that ends here is not exact. The row takes memory.
     fn put_empty_list<S: SpanNotes>(
         &mut self,
         flat: &mut Flat,
@@ -221,9 +226,10 @@ impl Engine {
         Ok(ends)
     }
 
-    // Goes past the end of a list, or of a point that is a geometry or a member itself: to the next
-    // ring or member, or past the end of the geometry as `end_geometry` does. Returns whether the
-    // blob ends there; an `Err` is a size that is not exact. Takes no memory.
+    // Goes past a list, or past a point that is a geometry or a member itself, of which no point
+    // may be left: to the next ring or member, or past the end of the geometry as `end_geometry`
+    // does. Returns whether the blob ends here; an `Err` is a size that is not exact. Takes no
+    // memory.
     #[inline(always)]
     fn end_list_or_point<S: SpanNotes>(&mut self, spans: &mut S) -> Result<bool, Inexact>
         requires last { self.old.points_left ≡ 0 }
@@ -243,8 +249,8 @@ impl Engine {
         Ok(false)
     }
 
-    // Goes past the end of a list of points that are all taken, and returns what
-    // `end_list_or_point` does. Not inlined, so that its caller keeps its registers.
+    // Goes past a list of points that are all taken, as `end_list_or_point` does. Not inlined, so
+    // that its caller keeps its registers.
     #[inline(never)]
     pub(crate) fn end_points<S: SpanNotes>(&mut self, spans: &mut S) -> Result<bool, Inexact>
         requires last { self.old.points_left ≡ 0 }
@@ -259,8 +265,8 @@ impl Engine {
         self.end_list_or_point(spans)
     }
 
-    // Whether no ring and no member is left after the open list or point, so that the body ends
-    // with it.
+    // Whether the body ends with the open list or point, since no ring and no member is left after
+    // it.
     #[inline(always)]
     fn ends_with_list(&self) -> bool
         ensures ends { result ≡ true → past_last self.now ≡ past_end self.now }
@@ -270,8 +276,8 @@ impl Engine {
         self.rings_left == 0 && self.members_left == 0
     }
 
-    // Goes past the end of a list or point with which the body does not end: to the next ring, or
-    // else to the next member and its id.
+    // Goes past a list or point after which a ring or a member must be left: to the next ring, or
+    // else to the next member and its id. No point of the list may be left.
     #[inline(always)]
     fn end_list(&mut self)
         requires last { self.old.points_left ≡ 0 }

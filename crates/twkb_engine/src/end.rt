@@ -15,8 +15,8 @@ use crate::stop::Stop;
 use twkb_body::{Head, own_row, push_row};
 use twkb_flat::Flat;
 
-// Whether a geometry with this header, which ends after this number of bytes of the blob, has the
-// size that it declares; true if it declares none.
+// Whether a geometry with this header, which ends after `bytes` bytes of its blob, has the size
+// that it declares; true if it declares none.
 #[inline(always)]
 fn is_exact(head: &Head, bytes: u64) -> bool
     ensures { result ≡ exact head.now.size (bytes - head.now.from) }
@@ -49,10 +49,10 @@ impl Engine {
     ghost use Rattle.twkb_engine.specs.Taking.{Lands, Keeps, past_end, own_row, judged_as};
     ghost use Rattle.twkb_engine.specs.Notes.{NotesGo, notes_past};
 
-    // Ends the geometry that is read, and each collection whose last member ends with it, the
-    // innermost first, and notes the ends of their spans. Returns true if the blob ends, and then
-    // goes to the next one's start; false if a member comes next. Returns `Err` at the first size
-    // that is not exact. Takes no memory.
+    // Ends the geometry that is read, of which nothing may be left, and each collection whose last
+    // member ends with it, the innermost first, and notes the ends of their spans. Returns true if
+    // the blob ends, and goes to the next one; false if a member comes next. An `Err` is the first
+    // size that is not exact. Takes no memory.
     pub(crate) fn end_geometry<S: SpanNotes>(&mut self, spans: &mut S) -> Result<bool, Inexact>
         requires shut { are_shut self.old.points_left self.old.rings_left self.old.members_left ≡ true }
         requires inside { IsInside self.old.next }
@@ -86,8 +86,8 @@ impl Engine {
     }
 
     // Ends a geometry that has no body, or no members, as `end_geometry` does, and then pushes its
-    // row. Returns whether the blob ends with it. Refused if the size of a geometry that ends with
-    // it is not exact. The row takes memory.
+    // row, which the form must admit. Returns whether the blob ends with it. Refused if the size of
+    // a geometry that ends here is not exact. The row takes memory.
     #[tactic(auto, using(crate::proofs::Ends::headings))]
     pub(crate) fn end_empty<S: SpanNotes>(
         &mut self,

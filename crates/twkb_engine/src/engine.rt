@@ -58,8 +58,8 @@ impl Engine {
     ghost use Rattle.twkb_engine.specs.Notes.{NotesGo, notes_with, open_in};
     ghost use Rattle.twkb_engine.specs.Standing.{StandsAt, IsAlive, IsEnd, count_of, held_in, offset_in, place_in};
 
-    /// Makes an engine that has read nothing, for a blob at this offset of a stream. The limits are
-    /// those of each geometry. Takes no memory.
+    /// Makes an engine that has read nothing, for the blobs of a stream from this offset on, which
+    /// must be at most 2^63. The limits are those of each blob's geometry. Takes no memory.
     pub fn new(alloc: Global, limits: Limits, start: u64) -> Engine
         requires room { start ≤ place_cap }
         ensures stands { StandsAt [] [] result }
@@ -85,8 +85,9 @@ impl Engine {
         }
     }
 
-    // Goes to the start of the next blob, which is where the one that was read ends. Forgets sums
-    // and position, and the open collections, whose memory it keeps.
+    // Goes to the start of the next blob, which is where the one that was read ends; nothing of
+    // that one may be left. Forgets sums and position, and the open collections, whose memory it
+    // keeps.
     pub(crate) fn restart(&mut self)
         requires shut { are_shut self.old.points_left self.old.rings_left self.old.members_left ≡ true }
         ensures begins { BeginsAt (self.old.start + self.old.bytes) self.new }
@@ -102,10 +103,10 @@ impl Engine {
         self.next = NextItem::TypeByte;
     }
 
-    // Takes the next item, which is this number, of `width` bytes; returns whether the blob ends
-    // with it. An `Err` is the first reason against the item, an inexact size of a geometry that
-    // ends with it, or want of memory. A row, a point, an id, an open collection and a span take
-    // memory.
+    // Takes the next item by its number of `width` bytes (one byte below 256 for a type, metadata
+    // or extended byte), which must end at an offset of at most 2^63. Returns whether the blob ends
+    // with it. An `Err` is the first reason against it, an inexact size of a geometry that ends
+    // here, or refused memory. A row, a point, an id, an open collection and a span take memory.
     #[inline(never)]
     pub(crate) fn take<S: SpanNotes>(
         &mut self,
@@ -139,7 +140,7 @@ impl Engine {
         }
     }
 
-    /// Whether no byte was taken since the start or the last blob's end. Takes no memory.
+    /// Whether no byte was taken since the engine was made or the last blob ended. Takes no memory.
     #[inline(always)]
     pub fn is_between(&self) -> bool
         ensures ended { (bs : List ℕ) (rs : List Row) → StandsAt bs rs self.now
@@ -151,7 +152,8 @@ impl Engine {
         self.held.len() == 0 && self.bytes == 0
     }
 
-    /// The number of bytes that it holds of a number that is not complete, 0 to 9. Takes no memory.
+    /// The number of bytes, 0 to 9, that are held of a varint that is not complete. Takes no
+    /// memory.
     #[inline(always)]
     pub fn held(&self) -> usize
         ensures held { result ≡ length (held_in self.now) }
@@ -170,8 +172,8 @@ impl Engine {
         self.start
     }
 
-    /// The number of bytes of the blob before the next item; after a refusal, before what is
-    /// refused. Takes no memory.
+    /// The number of bytes of the blob before the next item; after a refusal, before the item that
+    /// is refused, or up to the end of the geometry with the inexact size. Takes no memory.
     #[inline(always)]
     pub fn bytes(&self) -> u64
         ensures { result ≡ offset_in self.now }
@@ -179,8 +181,9 @@ impl Engine {
         self.bytes
     }
 
-    /// Where the next item begins, in bytes from the stream's start; after a refusal, the place of
-    /// what is refused. Takes no memory.
+    /// Where the next item begins, in bytes from the stream's start; after a refusal, where the
+    /// item that is refused begins, or where the geometry with the inexact size ends. Takes no
+    /// memory.
     #[inline(always)]
     pub fn offset(&self) -> u64
         ensures { result ≡ place_in self.now }
@@ -188,14 +191,14 @@ impl Engine {
         self.start + self.bytes
     }
 
-    /// The limits of each geometry. Takes no memory.
+    /// The limits of each blob's geometry. Takes no memory.
     pub fn limits(&self) -> Limits
         ensures { result ≡ allowance_of self.now }
     {
         self.limits
     }
 
-    /// The number of geometries that are begun and not finished. Takes no memory.
+    /// The number of geometries whose type byte was taken and whose end was not. Takes no memory.
     pub fn open_geometries(&self) -> usize
         ensures open { result ≡ open_in self.now }
         ensures few { (bs : List ℕ) (rs : List Row) → StandsAt bs rs self.now

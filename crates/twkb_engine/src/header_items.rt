@@ -1,4 +1,7 @@
-//! The items of a header: type byte, metadata byte, extended byte, size and box.
+//! The items of a header: type byte, metadata byte, extended byte, size and box. Each is taken by
+//! its number, and by `width`, how many bytes that has, 1 if not given. It must be the item that
+//! comes next, and end at an offset of the stream of at most 2^63. After an `Err` the engine can
+//! take nothing more.
 ghost use Rattle.std.specs.Prelude.{◌≡◌, ◌+◌, ◌≤◌, ◌<◌, ◌/◌, ◌%◌, ℕ, List, [], None, true, IfOk, OnOk};
 ghost use Rattle.twkb_tree.specs.Rows.{Row};
 ghost use Rattle.twkb_grammar.specs.Roles as role;
@@ -35,8 +38,9 @@ impl Engine {
     ghost use Rattle.twkb_engine.specs.Notes.{NotesGo, notes_with, notes_past};
     ghost use Rattle.twkb_engine.specs.Standing.{IsAlive, ComesNext};
 
-    // Begins a geometry: keeps the kind and the precision that its type byte states, puts the
-    // position at the origin, and notes that a span begins. The span takes memory.
+    // Begins a geometry at its type byte, which must come next: keeps kind and precision, puts the
+    // position at the origin, and notes that a span begins. It does not count the byte, nor move to
+    // the next item. The span takes memory.
     #[inline(always)]
     pub(crate) fn begin_geometry<S: SpanNotes>(
         &mut self,
@@ -61,7 +65,7 @@ impl Engine {
 
     // Keeps the metadata byte, in `head` and in the notes of spans, and the geometry's depth and
     // id, which the open collections give. Sets `head.size` to `None`, and `head.from` to the
-    // number of the blob's bytes so far.
+    // number of the blob's bytes so far. Takes no memory.
     #[inline(always)]
     pub(crate) fn set_metadata<S: SpanNotes>(&mut self, spans: &mut S, metadata: Metadata)
         ensures head { head_of self.new.head ≡ record {
@@ -85,8 +89,8 @@ impl Engine {
         self.head.id = self.collections.id();
     }
 
-    // Whether a header with this kind and metadata byte announces a point: that of a point with a
-    // body.
+    // Whether a header with this kind and metadata byte is that of a point with a body, which
+    // announces one point.
     #[inline(always)]
     pub(crate) fn announces_point(&self, kind: Kind, metadata: Metadata) -> bool
         ensures { result ≡ announces (kind_number (kind_of kind)) metadata }
@@ -122,9 +126,9 @@ impl Engine {
     }
 
     // Takes a metadata byte, counts a point if it announces one, and goes to the first optional
-    // part that it asks for, or past the header as `begin_body` does; returns whether the blob ends
-    // with it. Refused if it announces a point too many, or if the size of a geometry that ends
-    // with it is not exact. The row of a geometry without a body takes memory.
+    // part that it announces, or past the header as `begin_body` does. Returns whether the blob
+    // ends with it. Refused if it announces a point too many, or if the size of a geometry that
+    // ends here is not exact. The row of a geometry without a body takes memory.
     #[inline(always)]
     pub(crate) fn metadata_byte<S: SpanNotes>(
         &mut self,
@@ -158,9 +162,8 @@ impl Engine {
     }
 
     // Takes an extended dimensions byte, moves `head.from` past it, and goes on as `after_extended`
-    // does; returns whether the blob ends with it. Refused if it announces Z or M, or if the size
-    // of a geometry that ends with it is not exact. The row of a geometry without a body takes
-    // memory.
+    // does. Returns whether the blob ends with it. Refused if it announces Z or M, or if the size
+    // of a geometry that ends here is not exact. The row of a geometry without a body takes memory.
     #[inline(always)]
     pub(crate) fn extended_byte<S: SpanNotes>(
         &mut self,
@@ -185,10 +188,9 @@ impl Engine {
         self.after_extended(flat, spans, Metadata::from_byte(self.head.metadata))
     }
 
-    // Takes a size, which counts the bytes after it, and goes on as `after_size` does; returns
-    // whether the blob ends with it. The size is judged when the geometry ends, which may be here
-    // if it has no body. Refused if the size of a geometry that ends with it is not exact. The row
-    // of a geometry without a body takes memory.
+    // Takes a size, which counts the bytes after it, and goes on as `after_size` does. Returns
+    // whether the blob ends with it. Refused if the size of a geometry that ends here, maybe this
+    // one, is not exact. The row of a geometry without a body takes memory.
     #[inline(always)]
     pub(crate) fn size<S: SpanNotes>(
         &mut self,
@@ -211,10 +213,10 @@ impl Engine {
         self.after_size(flat, spans, Metadata::from_byte(self.head.metadata))
     }
 
-    // Takes a number of a box, whose value is not used, with `left` more after it. After the last
-    // one it goes past the header as `begin_body` does. Returns whether the blob ends with it.
-    // Refused if the size of a geometry that ends with it is not exact. The row of a geometry
-    // without a body takes memory.
+    // Takes a number of a box, whose value is not used, with `left` more after it, and after the
+    // last one goes past the header as `begin_body` does. Returns whether the blob ends with it.
+    // Refused if the size of a geometry that ends here is not exact. The row of a geometry without
+    // a body takes memory.
     #[inline(always)]
     pub(crate) fn box_number<S: SpanNotes>(
         &mut self,
@@ -241,9 +243,9 @@ impl Engine {
         self.begin_body(flat, spans)
     }
 
-    // Goes past the place of the extended dimensions byte: to the size, if there is one, or else as
-    // `after_size` does. Returns whether the blob ends there. An `Err` and memory are as with
-    // `end_empty`.
+    // Goes past the place of the extended dimensions byte: to the size, if `metadata`, which must
+    // be that of `head`, announces one, or else as `after_size` does. Returns whether the blob ends
+    // here. An `Err` and memory are as with `end_empty`.
     #[inline(always)]
     fn after_extended<S: SpanNotes>(
         &mut self,
@@ -269,9 +271,9 @@ impl Engine {
         self.after_size(flat, spans, metadata)
     }
 
-    // Goes past the place of the size: to the box, if there is one, or else past the header as
-    // `begin_body` does. Returns whether the blob ends there. An `Err` and memory are as with
-    // `end_empty`.
+    // Goes past the place of the size: to the box, if `metadata`, which must be that of `head`,
+    // announces one, or else past the header as `begin_body` does. Returns whether the blob ends
+    // here. An `Err` and memory are as with `end_empty`.
     #[inline(always)]
     fn after_size<S: SpanNotes>(
         &mut self,
@@ -298,7 +300,8 @@ impl Engine {
     }
 
     // Goes past the header: to the body, or to the count of members. A geometry without a body
-    // ends, as by `end_empty`, with the same `Err` and memory. Returns whether the blob ends there.
+    // ends, as `end_empty` does it, with the same `Err` and memory. Returns whether the blob ends
+    // here.
     #[inline(always)]
     fn begin_body<S: SpanNotes>(&mut self, flat: &mut Flat, spans: &mut S) -> Result<bool, Stop>
         requires header { IsHeaderItem self.old.next }
@@ -317,7 +320,8 @@ impl Engine {
         Ok(false)
     }
 
-    // Makes the first item of the body, or the count of members, the item that comes next.
+    // Makes the item after the header, the first of the body or the count of members, the one that
+    // comes next.
     #[inline(always)]
     #[tactic(auto, using(crate::proofs::Parts::headers))]
     pub(crate) fn go_to_body(&mut self)

@@ -1,4 +1,7 @@
 //! The items before the members of a multi-geometry or a collection: their count and their ids.
+//! Each is taken by its number, and by `width`, how many bytes that has. It must be the item that
+//! comes next, and end at an offset of the stream of at most 2^63. After an `Err` the engine can
+//! take nothing more.
 ghost use Rattle.std.specs.Prelude.{◌≡◌, ◌+◌, ◌<◌, ◌++◌, ◌∷◌, [], nat_lt, suc, length, false, None, IfOk, OnOk};
 ghost use Rattle.twkb_num.specs.Zigzag.{unzigzag_of};
 ghost use Rattle.twkb_grammar.specs.Bits.{bit};
@@ -26,7 +29,7 @@ use twkb_grammar::Metadata;
 use twkb_num::unzigzag;
 use twkb_tree::Kind;
 
-// Appends the id whose zigzag form is this number. It takes memory.
+// Appends the id that this number spells in zigzag form. Takes memory; an `Err` changes nothing.
 #[inline(always)]
 fn push_id(ids: &mut MemberIds, number: u64) -> Result<(), AllocError>
     ensures pushed { OnOk result
@@ -45,8 +48,8 @@ impl Engine {
     ghost use Rattle.twkb_engine.specs.Notes.{NotesGo, notes_with, open_in};
     ghost use Rattle.twkb_engine.specs.Standing.{ComesNext};
 
-    // Why the limits do not allow this number of further rows, or else of further points; `None` if
-    // they allow both.
+    // Why the limits leave no room for `nodes` more rows, or else for `points` more points; `None`
+    // if they leave room for both.
     #[inline(always)]
     pub(crate) fn too_many(&self, nodes: u64, points: u64) -> Option<BlobReason>
         ensures { objection_of result ≡ unless (nat_lt self.now.limits.nodes
@@ -62,8 +65,8 @@ impl Engine {
         None
     }
 
-    // The number of points that this number of members announces: one each in a multipoint, else
-    // none.
+    // How many points `count` members of the geometry announce by their count: one each in a
+    // multipoint, else none.
     #[inline(always)]
     fn member_points(&self, count: u64) -> u64
         ensures { result ≡ points_by (count_role self.now) count }
@@ -74,9 +77,9 @@ impl Engine {
         0
     }
 
-    // Why the limits do not allow this number of members, with this number of points: a collection
-    // would nest too deep, or else there are too many rows, or else too many points. `None` if they
-    // allow them.
+    // Why the limits refuse `count` members, which announce `points` points, as `member_points`
+    // must give them: a collection nests too deep, or else there are too many rows, or else too
+    // many points. `None` if they do not.
     #[inline(always)]
     fn too_many_members(&self, count: u64, points: u64) -> Option<BlobReason>
         requires next { self.now.next ≡ next.MemberCount }
@@ -90,11 +93,10 @@ impl Engine {
         self.too_many(count, points)
     }
 
-    // Takes the count of members, and adds their rows and points to the sums. Goes to the first id
-    // or member; without members the geometry ends, as by `end_empty`. Returns whether the blob
-    // ends with it. Refused if the members are too deep, if their rows or points are too many, or
-    // if the size of a geometry that ends with it is not exact. A row and an open collection take
-    // memory.
+    // Takes the count of members, adds their rows and points to the sums, and goes to the first id
+    // or member, or past a geometry without members as `end_empty` does. Returns whether the blob
+    // ends with it. Refused if they are too deep or too many, or if the size of a geometry that
+    // ends here is not exact. A row and an open collection take memory.
     #[inline(always)]
     pub(crate) fn member_count<S: SpanNotes>(
         &mut self,
@@ -124,9 +126,9 @@ impl Engine {
         Ok(false)
     }
 
-    // Forgets the ids read before, and goes to the members of a geometry that has `count` of them:
-    // to the first id if they have ids, else to the first member as `begin_members` does. A row and
-    // an open collection take memory.
+    // Forgets all ids, and goes to the members of a geometry that has `count` of them, at least
+    // one: to the first id if they have ids, else to the first member as `begin_members` does. A
+    // row and an open collection take memory.
     #[inline(always)]
     fn begin_ids_or_members(&mut self, flat: &mut Flat, count: u64) -> Result<(), AllocError>
         requires next { self.old.next ≡ next.MemberCount }
@@ -152,8 +154,9 @@ impl Engine {
         Ok(())
     }
 
-    // Takes an id, and after the last one goes to the first member, as `begin_members` does.
-    // Returns false, as no blob ends with an id. An id, a row and an open collection take memory.
+    // Takes an id, and after the last one goes to the first member as `begin_members` does. Returns
+    // false, as no blob ends with an id. Never refused; an id, a row and an open collection take
+    // memory.
     #[inline(always)]
     pub(crate) fn id(&mut self, flat: &mut Flat, number: u64, width: u64) -> Result<bool, Stop>
         requires { ComesNext next.Id flat.old self.old number width }
@@ -173,8 +176,9 @@ impl Engine {
         Ok(false)
     }
 
-    // Pushes the row of a geometry with members, opens the geometry, with the ids, if it is a
-    // collection, and goes to the first member. A row and an open collection take memory.
+    // Pushes the row of a geometry with members, which the form must admit, opens the geometry with
+    // its ids if it is a collection, and goes to the first member. A row and an open collection
+    // take memory.
     fn begin_members(&mut self, flat: &mut Flat) -> Result<(), AllocError>
         requires next { self.old.next ≡ next.Id }
         requires row { Admits (own_row self.old) flat.old }

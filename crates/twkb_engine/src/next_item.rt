@@ -32,7 +32,7 @@ pub(crate) enum NextItem {
 }
 
 impl NextItem {
-    // Whether the item is a byte, and no number.
+    // Whether the item is a single byte: a type, metadata or extended byte, and not a varint.
     #[inline(always)]
     pub(crate) fn is_byte(self) -> bool
         ensures { IsTrue result ↔ IsByte self }
@@ -43,8 +43,8 @@ impl NextItem {
         )
     }
 
-    // The item after the header of a geometry of this kind that has a body: the count of members of
-    // a multi-geometry or a collection, else the first item of the body.
+    // The item after the header of a geometry of this kind that has a body: the x of a point, the
+    // count of a linestring's points or a polygon's rings, else the count of members.
     #[inline(always)]
     pub(crate) fn after_header(kind: Kind) -> NextItem
         ensures { result ≡ header_item kind }
@@ -57,8 +57,8 @@ impl NextItem {
         }
     }
 
-    // The first item of a body of this kind; for a multi-geometry or a collection, the first item
-    // of a member.
+    // The first item of the body of this kind: of a multi-geometry or a collection, the first item
+    // of a member; of a ring, the count of its points.
     #[inline(always)]
     pub(crate) fn first_of(kind: Kind) -> NextItem
         ensures { result ≡ first_item kind }

@@ -32,7 +32,8 @@ pub(crate) struct OpenCollection {
 }
 
 impl MadeWith<Global> for OpenCollection {
-    // Makes a blank place, which `push` fills. Takes no memory.
+    // Makes an unused place, which `push` fills later: the head of `Head::none`, and no ids. Takes
+    // no memory.
     fn made_with(alloc: Global) -> OpenCollection {
         OpenCollection {
             head: Head::none(),
@@ -68,9 +69,9 @@ impl Model for OpenCollections {
     ghost invariant = { λ c. c.count ≤ length c.places.items };
 }
 
-// Adds a blank place after the others. Takes memory; an `Err` changes nothing. Out of line: it runs
-// once for each depth. It makes the blank itself, so that no caller keeps a collection in memory
-// for it.
+// Adds an unused place after the others. Takes memory; an `Err` changes nothing. Out of line: it
+// runs once for each depth. It makes the place itself, so that no caller keeps a collection in
+// memory for it.
 #[cold]
 #[inline(never)]
 fn make_place(places: &mut SmallVec<OpenCollection, INLINE>) -> Result<(), AllocError>
@@ -117,9 +118,8 @@ impl OpenCollections {
     }
 
     // Opens a collection inside those that are open, with this header, the ids of its members, and
-    // the number of members after the first. `ids` then has the ids that were in the place before,
-    // for their memory. Takes memory only if more are open than ever before; an `Err` changes
-    // nothing.
+    // the number of members after the first. `ids` then has old ids of no meaning, for their
+    // memory. Takes memory only if more are open than ever before; an `Err` changes nothing.
     #[inline(always)]
     pub(crate) fn push(
         &mut self,
@@ -144,7 +144,7 @@ impl OpenCollections {
         Ok(())
     }
 
-    // Leaves no collection open, and keeps all places for others.
+    // Leaves no collection open, and keeps the memory of all for later ones.
     #[inline(always)]
     pub(crate) fn clear(&mut self)
         ensures { self.new ≡ [] }
@@ -152,10 +152,10 @@ impl OpenCollections {
         self.count = 0;
     }
 
-    // Ends a member of the innermost collection, and returns what comes next. If members are left,
-    // that is the next one, with the next id. Otherwise the collection ends too: its head is
-    // returned, and its ids are swapped with `ids`, so that their room is used again. If no
-    // collection is open, the blob ends, and nothing changes.
+    // Ends the open member of the innermost collection, and returns what that leads to: the next
+    // member, with the next id; after the last one the end of the collection, with its head, and
+    // its ids swapped with `ids`, for their memory; the end of the blob, with no change, if no
+    // collection is open.
     #[inline(always)]
     pub(crate) fn end_member(&mut self, ids: &mut MemberIds) -> MemberEnd
         ensures blob { IfBlob result (self.old ≡ []) }

@@ -1,4 +1,6 @@
 //! The items of a piece of bytes, taken one at a time, byte by byte if need be, or many at once.
+//! The piece must end at an offset of the stream of at most 2^63. After an `Err` the engine can
+//! take nothing more.
 ghost use Rattle.std.specs.Prelude.{◌≡◌, ◌+◌, ◌<◌, ◌≤◌, ◌∷◌, [], List, IfOk, length};
 ghost use Rattle.twkb_engine.specs.Standing.{with_used};
 
@@ -20,8 +22,8 @@ impl Engine {
     ghost use Rattle.twkb_engine.specs.Standing.{TakesMany, TakesList, held_in, count_of};
     ghost use Rattle.twkb_engine.specs.declared.next_item.NextItem.TheVariants.{X, Id};
 
-    /// Takes one byte, and returns whether the blob ends with it. A byte that does not end its
-    /// number is held. Rows, spans, an `Err` and memory are as with `feed`.
+    /// Takes one byte, and returns whether the blob ends with it; a byte that does not end its
+    /// varint is held. `flat`, `spans`, an `Err` and memory are as with `feed`.
     #[inline(always)]
     pub fn take_byte<S: SpanNotes>(
         &mut self,
@@ -47,8 +49,9 @@ impl Engine {
         }
     }
 
-    // Reads the next item at the start of the bytes, and takes nothing. An item that is a byte is
-    // always complete; its value is returned as the number, with a width of 1.
+    // Reads the next item at the start of the bytes, and takes nothing. There must be a byte, and
+    // none of the item may be held. An item that is a single byte is always complete: the number is
+    // the byte, the width 1.
     #[inline(always)]
     fn front_item(&self, rest: &[u8]) -> FrontNumber
         requires some { 0 < length rest.now }
@@ -64,10 +67,10 @@ impl Engine {
         front_number(rest)
     }
 
-    // Takes the next item if it is complete at the start of the bytes and no byte of it is held.
-    // Refuses a number that is too long, and takes one byte of any other item. Returns how many
-    // bytes were taken, and whether the blob ends with them. Rows, spans, an `Err` and memory are as
-    // with `feed`.
+    // Takes the next item if it is complete at the start of the bytes and no byte of it is held;
+    // else takes one byte of it, or refuses a number that is too long. There must be a byte.
+    // Returns how many bytes were taken, and whether the blob ends with them. `flat`, `spans`, an
+    // `Err` and memory are as with `feed`.
     #[inline(always)]
     fn take_item<S: SpanNotes>(
         &mut self,
@@ -92,10 +95,10 @@ impl Engine {
         Ok((1, self.take_byte(flat, spans, rest[0])?))
     }
 
-    // Takes a point that is a geometry or a member itself, and goes past what ends with it. Returns
-    // how many bytes were taken, and whether the blob ends with them. Returns 0 bytes and changes
-    // nothing if the point is out of range or has a number that is cut or too long. Refused if the
-    // size of a geometry that ends with it is not exact. The point takes memory.
+    // Takes a point that is a geometry or a member itself, whose x must come next, none of it held,
+    // and goes past what ends with it. Returns how many bytes were taken, and whether the blob
+    // ends; 0 and false, with no change, if the point is out of range, cut or too long. Refused if
+    // the size of a geometry that ends here is not exact. Takes memory.
     #[inline(always)]
     fn take_point<S: SpanNotes>(
         &mut self,
@@ -117,10 +120,10 @@ impl Engine {
         Ok((used, self.put_last_point(flat, spans, position)?))
     }
 
-    // Takes points of the open list of points, and does not go past its end. Returns how many bytes
-    // they had; 0 if the next is out of range or has a number that is cut or too long, or if the
-    // form is not known to have room for all that are left. Takes memory. Not inlined, so that its
-    // callers keep their registers.
+    // Takes points of the open list, of which some must be left; an x must come next, none of it
+    // held. Does not go past the list's end. Returns how many bytes they had; 0 if the next is out
+    // of range, cut or too long, or if the form may lack room for all that are left. Takes memory.
+    // Not inlined, so that its callers keep their registers.
     #[inline(never)]
     fn take_list(&mut self, flat: &mut Flat, rest: &[u8]) -> Result<usize, AllocError>
         requires ahead { IsAhead X self.old (length rest.now) }
@@ -137,11 +140,10 @@ impl Engine {
         Ok(taken.used)
     }
 
-    // Takes members of a multipoint after its first, but not its last, each with its id if members
-    // have ids. Returns how many bytes they had; 0 if the geometry is no multipoint, if the next
-    // member is the first or the last, is out of range, has no id left, or has a number that is cut
-    // or too long, or if the form is not known to have room for all that are left. Takes memory.
-    // Not inlined, so that its callers keep their registers.
+    // Takes members of a multipoint; an x must come next, none of it held. Returns how many bytes
+    // they had; 0 if the geometry is no multipoint, if the next member is its first or last, lacks
+    // its id, or is out of range, cut or too long, or if the form may lack room for all. Takes
+    // memory. Not inlined, so that its callers keep their registers.
     #[inline(never)]
     fn take_members(&mut self, flat: &mut Flat, rest: &[u8]) -> Result<usize, AllocError>
         requires { IsAhead X self.old (length rest.now) }
@@ -163,8 +165,8 @@ impl Engine {
         Ok(taken.used)
     }
 
-    // Takes ids, but not the last, and returns how many bytes they had; 0 if the next is the last,
-    // or is cut or too long. Takes memory.
+    // Takes ids, but not the last; an id must come next, none of it held. Returns how many bytes
+    // they had; 0 if the next is the last, cut or too long. Takes memory.
     #[inline(never)]
     fn take_ids(&mut self, rest: &[u8]) -> Result<usize, AllocError>
         requires { IsAhead Id self.old (length rest.now) }
@@ -179,9 +181,9 @@ impl Engine {
         Ok(used)
     }
 
-    // Takes the next bytes of a piece, one at least: many items at once, or else one item or one
-    // byte. Returns how many bytes were taken, and whether the blob ends with them. Rows, spans, an
-    // `Err` and memory are as with `feed`.
+    // Takes some of the bytes, of which there must be one: many items at once, or else one item or
+    // one byte. Returns how many bytes were taken, at least one, and whether the blob ends with
+    // them. `flat`, `spans`, an `Err` and memory are as with `feed`.
     #[inline(always)]
     fn take_some<S: SpanNotes>(
         &mut self,
@@ -244,12 +246,10 @@ impl Engine {
         Ok((used, false))
     }
 
-    /// Takes bytes up to the end of a blob, else all of them; returns how many, and whether a blob
-    /// ends with them. `flat` must have no rows when a blob begins, and later those that the calls
-    /// before left in it; those of a blob that ended stay, so clear it before the next call.
-    /// `spans` notes the spans of the blob. An `Err` is the reason against what is at `offset`, or
-    /// want of memory; after it the engine cannot be fed further. Takes memory for rows, points,
-    /// ids, open collections and spans.
+    /// Takes bytes up to the end of a blob, else all; returns how many, and whether a blob ends
+    /// with them. `flat` must be empty when a blob begins, so clear it after each, and else as the
+    /// last call left it. `spans` notes the blob's spans. After an `Err`, why what is at `offset`
+    /// is refused or that memory was, nothing more can be fed. Takes memory for what is read.
     #[inline(always)]
     pub fn feed<S: SpanNotes>(
         &mut self,

@@ -5,13 +5,13 @@ ghost use Rattle.twkb_grammar.specs.Noting.{Notes, no_notes, note_header, note_m
 use std::alloc::AllocError;
 use twkb_grammar::{Span, TypeByte};
 
-/// A receiver of the spans of the geometries that a reader reads.
+/// Notes the spans of geometries, as a reader comes to their headers and their ends.
 pub trait SpanNotes {
     // These notes are held; what notes nothing holds any.
     ghost holds: { Self → Notes → Type 0 };
 
-    /// Notes that a geometry begins with this type byte at this offset of the stream, after this
-    /// number of points of its blob. Takes memory; after an `Err` the notes may be incomplete.
+    /// Notes that a geometry begins with this type byte at this offset of the stream, after
+    /// `points` points of its blob. Takes memory; after an `Err` the notes may be incomplete.
     fn begin(&mut self, offset: u64, points: u64, byte: TypeByte) -> Result<(), AllocError>
         ensures { OnOk result ((w : Notes) → length w.begun < 2 ^ 32 → holds self.old w
             → holds self.new (note_header offset points byte w)) };
@@ -21,13 +21,14 @@ pub trait SpanNotes {
     fn set_metadata(&mut self, byte: u8)
         ensures { (w : Notes) → holds self.old w → holds self.new (note_metadata byte w) };
 
-    /// Notes that the innermost open geometry ends at this offset of the stream, after this number
-    /// of points of its blob; nothing if none is open. Takes no memory.
+    /// Notes that the innermost open geometry ends at this offset of the stream, after `points`
+    /// points of its blob; nothing if none is open. Takes no memory.
     fn end(&mut self, offset: u64, points: u64)
         ensures { (w : Notes) → holds self.old w → holds self.new (note_end offset points w) };
 
-    /// Notes the only span of a complete blob, which has one header; nothing may be noted before
-    /// it. Takes memory; after an `Err` the notes may be incomplete.
+    /// Notes the span of a whole blob that has only this one, in place of `begin`, `set_metadata`
+    /// and `end`; nothing may have been noted before. Takes memory; after an `Err` the notes may be
+    /// incomplete.
     fn put(&mut self, span: Span) -> Result<(), AllocError>
         ensures { OnOk result (holds self.old no_notes → holds self.new (record { spans = span ∷ []; begun = [] })) };
 }

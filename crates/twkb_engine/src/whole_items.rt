@@ -1,4 +1,5 @@
-//! Items that are complete at the start of bytes: a header, and a blob of a single point.
+//! Items that are complete at the start of bytes: a header, and a blob of a single point. The bytes
+//! must end at an offset of the stream of at most 2^63.
 ghost use Rattle.std.specs.Prelude.{◌≡◌, ◌+◌, ◌-◌, ◌<◌, ◌≤◌, [], true, List, Ok, length, take};
 ghost use Rattle.std.specs.Prelude.{IfOk, IfSome, OnErr};
 ghost use Rattle.twkb_tree.specs.Rows.{Row};
@@ -15,8 +16,8 @@ use twkb_flat::Flat;
 use twkb_grammar::{Span, TypeByte};
 use twkb_tree::Kind;
 
-// The point at the start of the bytes with its header, as `whole_point` reads it; `None` too if the
-// header declares a size that is not exact.
+// Reads the point at the start of the bytes with its header, as `whole_point` does; `None` also if
+// the header declares a size that is not exact.
 #[inline(always)]
 fn exact_point(bytes: &[u8]) -> Option<Whole>
     ensures point { IfSome result (λ front. WholePoint bytes.now front.to front.used front.size) }
@@ -32,8 +33,8 @@ fn exact_point(bytes: &[u8]) -> Option<Whole>
     Some(point)
 }
 
-// The span of a blob of a single point, which has these bytes and begins at this offset of a
-// stream.
+// The span of a blob of a single point, which has these bytes, at least two, and begins at this
+// offset of a stream.
 #[inline(always)]
 fn point_span(offset: u64, blob: &[u8]) -> Span
     requires long { 2 ≤ length blob.now }
@@ -55,8 +56,8 @@ impl Engine {
     ghost use Rattle.twkb_engine.specs.Taking.{Stays};
     ghost use Rattle.twkb_engine.specs.Standing.{FedBy, IsAhead, LeadsOn, StopsIn, held_in, count_of};
 
-    // Takes a blob as `take_root_point` does, if no byte was taken since the start or the last
-    // blob's end; else it returns 0 and changes nothing. The row and the span take memory.
+    // Takes a blob of a single point as `take_root_point` does, if no byte was taken since the
+    // engine was made or the last blob ended; else returns 0 and changes nothing. Takes memory.
     #[inline(always)]
     pub(crate) fn take_root<S: SpanNotes>(
         &mut self,
@@ -77,11 +78,10 @@ impl Engine {
         self.take_root_point(flat, spans, piece)
     }
 
-    // Takes a blob of a single point that is complete at the start of the piece, if `exact_point`
-    // gives it and the limits allow a point. It then replaces the rows of the form by the point's
-    // row, notes the span, goes to the next blob, and returns how many bytes the blob has.
-    // Otherwise it returns 0, and changes nothing. The row and the span take memory. Not inlined,
-    // so that its callers have more registers.
+    // Takes a blob of a single point at the start of the piece: replaces the form's rows by the
+    // point's, notes its span, goes to the next blob, and returns how many bytes the blob has; 0,
+    // with no change, if `exact_point` gives none or the limits allow no point. No blob may be
+    // begun. Takes memory. Not inlined, so that its callers have more registers.
     #[inline(never)]
     fn take_root_point<S: SpanNotes>(
         &mut self,
@@ -111,9 +111,9 @@ impl Engine {
         Ok(point.used)
     }
 
-    // Takes a header that is complete at the start of the bytes and has a body after it; returns
-    // how many bytes it has. Returns 0 and changes nothing if `front_header` gives none, or if the
-    // header announces a point too many. A span takes memory.
+    // Takes a header with a body that is complete at the start of the bytes, and returns how many
+    // bytes it has; 0, with no change, if `front_header` gives none, or if it announces a point too
+    // many. A type byte must come next. A span takes memory.
     #[inline(always)]
     pub(crate) fn take_header<S: SpanNotes>(
         &mut self,
