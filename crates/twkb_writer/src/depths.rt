@@ -35,7 +35,7 @@ impl Model for Depths {
 impl Depths {
     ghost use Rattle.twkb_writer.specs.Depths.{IsBlankFrom};
 
-    /// Makes totals with no rows at any depth. Takes no memory.
+    /// Makes the totals of no rows at each depth. Takes no memory.
     pub fn new() -> Depths
         ensures { IsBlankFrom 0 result }
     {
@@ -45,7 +45,7 @@ impl Depths {
         }
     }
 
-    // Drops the rows of all depths.
+    // Sets the totals at each depth to those of no rows.
     pub(crate) fn clear(&mut self)
         ensures { IsBlankFrom 0 self.new }
     {
@@ -56,7 +56,7 @@ impl Depths {
         }
     }
 
-    // The totals of the rows at a depth.
+    // The totals of the rows at a depth from 0 to 35.
     #[inline(always)]
     pub(crate) fn at(&self, depth: usize) -> &RowTotals
         requires { depth < DEPTHS }
@@ -65,7 +65,7 @@ impl Depths {
         &self.by_depth[depth]
     }
 
-    // Drops the rows at a depth, if there are any.
+    // Sets the totals at a depth from 0 to 35 to those of no rows.
     #[inline(always)]
     fn blank_at(&mut self, depth: usize)
         requires { depth < DEPTHS }
@@ -76,7 +76,8 @@ impl Depths {
         }
     }
 
-    // Sets the totals of the rows at a depth, and drops the rows below it.
+    // Sets the totals of the rows at a depth from 0 to 34, and sets those at the depth below it to
+    // those of no rows.
     #[inline(always)]
     pub(crate) fn put(&mut self, depth: usize, own: RowTotals)
         requires { depth ≤ row_depth_cap }

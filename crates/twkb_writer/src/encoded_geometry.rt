@@ -25,9 +25,9 @@ pub enum EncodeFault<F> {
     Sink(F),
 }
 
-/// Writes the canonical blob of a geometry within `Limits::largest()` in a style. If it returns
-/// `Ok` the sink got exactly these bytes; otherwise it got a prefix of them, and nothing if
-/// memory was refused. Takes memory for a copy of the rows and the points, and for the sizes.
+/// Writes the canonical blob of a geometry, which must be within `Limits::largest()`, in a style.
+/// On `Ok` the sink got exactly the blob; on `Err` it got a prefix of it, which is empty if memory
+/// was refused. Takes memory for a copy of the rows and the points, and for the sizes.
 pub fn encode_styled<S: Sink>(
     alloc: Global,
     geometry: &Geometry,
@@ -52,8 +52,8 @@ pub fn encode_styled<S: Sink>(
     }
 }
 
-/// Writes the canonical blob with sizes, and with boxes if they are allowed, like `encode_styled`
-/// in full style.
+/// Writes the canonical blob of a geometry, which must be within `Limits::largest()`, in full
+/// style. What the sink got, an `Err` and memory are as with `encode_styled`.
 pub fn encode<S: Sink>(
     alloc: Global,
     geometry: &Geometry,

@@ -14,7 +14,8 @@ use twkb_points::{Cursor, Pt};
 const STEP: usize = 40;
 
 // A sink with a piece that gathers bytes on their way to it, and the fault of the first put that
-// the sink refused. Bytes that are put after a fault are lost.
+// the sink refused. Bytes that are put into the gatherer go to the piece, which is sent when it
+// lacks room; after a fault they are lost.
 #[derive(Drop)]
 pub(crate) struct Gatherer<'a, 'b, 'c, S, F> {
     pub(crate) sink: &'a mut S,
@@ -22,7 +23,8 @@ pub(crate) struct Gatherer<'a, 'b, 'c, S, F> {
     pub(crate) fault: &'c mut Option<F>,
 }
 
-// Moves the cursor to a point, and returns the zigzag forms of the difference.
+// Moves the cursor to a point, and returns how far it moved along x and along y, both in zigzag
+// form.
 pub(crate) fn step_to(cursor: &mut Cursor, to: Pt) -> (u64, u64)
     ensures x { result.0 ≡ zigzag_of (to.x -ℤ cursor.old.x) }
     ensures y { result.1 ≡ zigzag_of (to.y -ℤ cursor.old.y) }
@@ -35,8 +37,8 @@ pub(crate) fn step_to(cursor: &mut Cursor, to: Pt) -> (u64, u64)
 impl<'a, 'b, 'c, S: Sink> Gatherer<'a, 'b, 'c, S, S::Fault> {
     ghost use Rattle.twkb_writer.specs.Putting.{Put};
 
-    // Sends the bytes of the piece to the sink, unless the sink has refused a put, and empties the
-    // piece.
+    // Sends the bytes of the piece to the sink by one put, keeps its fault if it refuses, and
+    // empties the piece. After an earlier fault it only empties the piece.
     #[inline(always)]
     pub(crate) fn flush(&mut self)
         ensures put { Put S.took S.refused self.old [] self.new }
@@ -54,7 +56,7 @@ impl<'a, 'b, 'c, S: Sink> Gatherer<'a, 'b, 'c, S, S::Fault> {
         }
     }
 
-    // Sends the bytes of the piece if it has no room for two points.
+    // Empties the piece by `flush` if it has no room for 40 bytes, the most that two points have.
     #[inline(always)]
     fn make_room(&mut self)
         ensures put { Put S.took S.refused self.old [] self.new }
@@ -66,8 +68,7 @@ impl<'a, 'b, 'c, S: Sink> Gatherer<'a, 'b, 'c, S, S::Fault> {
         self.empty();
     }
 
-    // Sends the bytes of the piece and empties it. Out of line: it is needed once for each full
-    // piece.
+    // Empties the piece by `flush`. Out of line: it is needed once for each full piece.
     #[inline(never)]
     fn empty(&mut self)
         ensures put { Put S.took S.refused self.old [] self.new }
@@ -76,7 +77,7 @@ impl<'a, 'b, 'c, S: Sink> Gatherer<'a, 'b, 'c, S, S::Fault> {
         self.flush();
     }
 
-    // Puts two bytes.
+    // Puts two bytes, as they are.
     #[inline(always)]
     pub(crate) fn put_two(&mut self, first: u8, second: u8)
         ensures { Put S.took S.refused self.old (first ∷ second ∷ []) self.new }
@@ -95,7 +96,7 @@ impl<'a, 'b, 'c, S: Sink> Gatherer<'a, 'b, 'c, S, S::Fault> {
         self.piece.push_varint(number);
     }
 
-    // Puts a signed number in its zigzag form.
+    // Puts a signed number as the shortest varint of its zigzag form.
     #[inline(always)]
     fn put_signed(&mut self, number: i64)
         ensures { Put S.took S.refused self.old (signed number) self.new }
@@ -103,7 +104,7 @@ impl<'a, 'b, 'c, S: Sink> Gatherer<'a, 'b, 'c, S, S::Fault> {
         self.put_number(zigzag(number));
     }
 
-    // Puts an id, if there is one.
+    // Puts an id, if there is one, as the shortest varint of its zigzag form.
     #[inline(always)]
     pub(crate) fn put_id(&mut self, id: Option<i64>)
         ensures { Put S.took S.refused self.old (id_bytes id) self.new }
@@ -114,7 +115,7 @@ impl<'a, 'b, 'c, S: Sink> Gatherer<'a, 'b, 'c, S, S::Fault> {
         }
     }
 
-    // Puts four signed numbers in their zigzag forms.
+    // Puts four signed numbers, each as the shortest varint of its zigzag form.
     #[inline(always)]
     pub(crate) fn put_four(&mut self, first: i64, second: i64, third: i64, fourth: i64)
         ensures { Put S.took S.refused self.old (flat_map signed (first ∷ second ∷ third ∷ fourth ∷ [])) self.new }
@@ -123,7 +124,8 @@ impl<'a, 'b, 'c, S: Sink> Gatherer<'a, 'b, 'c, S, S::Fault> {
         self.piece.push_four_varints(zigzag(first), zigzag(second), zigzag(third), zigzag(fourth));
     }
 
-    // Puts the difference to a point, and moves the cursor there.
+    // Puts the differences in x and in y from the cursor to a point, each as the shortest varint of
+    // its zigzag form, and moves the cursor there.
     #[inline(always)]
     pub(crate) fn put_step(&mut self, cursor: &mut Cursor, to: Pt)
         ensures put { Put S.took S.refused self.old (step_bytes (to.x -ℤ cursor.old.x, to.y -ℤ cursor.old.y)) self.new }
@@ -134,7 +136,8 @@ impl<'a, 'b, 'c, S: Sink> Gatherer<'a, 'b, 'c, S, S::Fault> {
         self.piece.push_two_varints(x, y);
     }
 
-    // Puts the differences to two points, one after the other, and moves the cursor there.
+    // Puts the differences in x and in y from the cursor to a first point and from that to a
+    // second, each as the shortest varint of its zigzag form, and moves the cursor to the second.
     #[inline(always)]
     pub(crate) fn put_steps(&mut self, cursor: &mut Cursor, first: Pt, second: Pt)
         ensures put { Put S.took S.refused self.old (step_bytes

@@ -10,14 +10,15 @@ use twkb_flat::Node;
 use twkb_grammar::{Metadata, MetadataFlags, Style, TypeByte};
 use twkb_io::Sink;
 
-// Whether a geometry with this many points in its own row has no body.
+// Whether the geometry of an entry has no body: its own row has no points (`points` is 0), and it
+// has no members or rings.
 pub(crate) fn has_no_body(points: u32, entry: &Entry) -> bool
     ensures { result ≡ is_bare points entry.now }
 {
     points == 0 && entry.members == 0
 }
 
-// The metadata byte of a geometry in a style.
+// The metadata byte, in a style, of the geometry of an entry whose own row has `points` points.
 fn metadata(style: Style, points: u32, entry: &Entry) -> Metadata
     ensures { result ≡ metadata_of style points entry.now }
 {
@@ -30,7 +31,7 @@ fn metadata(style: Style, points: u32, entry: &Entry) -> Metadata
     })
 }
 
-// Puts the size, if the style has one.
+// Puts the size of an entry as its shortest varint in full style; nothing in plain style.
 fn put_size<S: Sink>(style: Style, entry: &Entry, gatherer: &mut Gatherer<'_, '_, '_, S, S::Fault>)
     ensures { Put S.took S.refused gatherer.old (size_bytes style entry.now) gatherer.new }
 {
@@ -40,7 +41,8 @@ fn put_size<S: Sink>(style: Style, entry: &Entry, gatherer: &mut Gatherer<'_, '_
     }
 }
 
-// Puts the box, if there is one.
+// Puts the box of an entry: least x, width, least y and height, each as the shortest varint of its
+// zigzag form; nothing if it has none.
 fn put_box<S: Sink>(entry: &Entry, gatherer: &mut Gatherer<'_, '_, '_, S, S::Fault>)
     ensures { Put S.took S.refused gatherer.old (box_bytes entry.now.bounds) gatherer.new }
 {
@@ -53,7 +55,8 @@ fn put_box<S: Sink>(entry: &Entry, gatherer: &mut Gatherer<'_, '_, '_, S, S::Fau
     }
 }
 
-// Puts type byte, metadata byte, size and box of a node that is a geometry itself.
+// Puts the header of a geometry with this precision, whose own row is the node: type byte and
+// metadata byte, the size in full style, and the box if its entry has one.
 pub(crate) fn put_header<S: Sink>(
     style: Style,
     node: &Node,

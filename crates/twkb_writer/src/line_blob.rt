@@ -26,7 +26,7 @@ use twkb_io::Sink;
 use twkb_points::{Cursor, PointList};
 use twkb_tree::Kind;
 
-// The node of a line that is the whole geometry.
+// The node of the only row of a line with this precision and this number of points.
 #[inline(always)]
 fn line_node(precision: i8, points: u32) -> Node
     ensures kind { result.row.kind ≡ Linestring }
@@ -46,7 +46,8 @@ fn line_node(precision: i8, points: u32) -> Node
     }
 }
 
-// Measures a line.
+// The entry, in a style, of the line through a list's points, which must be at most 2^24. The node
+// must be as `line_node` makes it for them. Reads each point once.
 #[inline(always)]
 fn line_entry<L: PointList>(
     style: Style,
@@ -65,7 +66,8 @@ fn line_entry<L: PointList>(
     RowTotals::blank().entry_for(style, Kind::Linestring, precision, node.points, &points)
 }
 
-// Puts the bytes before the points of a line.
+// Puts the bytes of a line's blob before its points: the header and, if it has points, their
+// number. The node must be that of a linestring.
 #[inline(always)]
 fn put_line_lead<S: Sink>(
     style: Style,
@@ -85,10 +87,10 @@ fn put_line_lead<S: Sink>(
     gatherer.put_number(node.points as u64);
 }
 
-/// Writes the canonical blob of the line through the points of a list, in a style: the bytes that
-/// `write_through` writes of a form of that line. The precision is from -8 to 7. Counts one node
-/// and one entry as measured, and the points; reads each point twice, and counts that. The bytes go
-/// through the piece, whatever it holds. Takes no memory.
+/// Writes the canonical blob of the line through a list's points, which must be at most 2^24, in a
+/// style and for a precision from -8 to 7; after an `Err` the sink got a prefix of it. Counts one
+/// node, one entry and the points as measured, and two reads of each point. The bytes go through
+/// the piece, whatever it holds. Takes no memory.
 #[inline(always)]
 pub fn write_line<L: PointList, S: Sink>(
     precision: i8,

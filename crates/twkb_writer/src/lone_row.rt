@@ -23,7 +23,7 @@ use twkb_grammar::Style;
 use twkb_points::{Cursor, Pt};
 use twkb_tree::Kind;
 
-// Measures a point, which has no box.
+// The entry, in either style, of a geometry that is this point alone; it has no box.
 fn point_entry(point: Pt) -> Entry
     ensures { (style : InStyle) (precision : ℤ) → result ≡ entry_for style PointKind precision 1
         blank (tail_of (point ∷ [])) }
@@ -37,14 +37,15 @@ fn point_entry(point: Pt) -> Entry
     }
 }
 
-// Whether the node is a point that is not empty.
+// Whether the node is that of a point that is not empty.
 fn is_one_point(node: &Node) -> bool
     ensures { IsTrue result ↔ ((node.now.row.kind ≡ PointKind) × (node.now.points ≡ 1)) }
 {
     matches!(node.row.kind, Kind::Point) && node.points == 1
 }
 
-// Measures the only row, of any kind.
+// The entry, in a style, of the geometry of a form of one row, of any kind; the node and the
+// precision must be those of the row. Reads each point once.
 fn row_entry(flat: &Flat, style: Style, node: &Node, precision: i8, work: &mut Work) -> Entry
     requires few { length (row_points flat.now) ≤ POINTS_CAP }
     requires one { length flat.now ≡ 1 }
@@ -58,8 +59,8 @@ fn row_entry(flat: &Flat, style: Style, node: &Node, precision: i8, work: &mut W
     RowTotals::blank().entry_for(style, node.row.kind, precision, node.points, &points)
 }
 
-// Replaces all entries by this one; if there is just one, it is overwritten in place. Takes memory
-// for it if they have no room.
+// Replaces all entries by this one, in place if there is just one. Takes memory for it if the
+// vector has no room.
 #[inline(always)]
 fn keep_alone(entries: &mut Vec<Entry>, entry: Entry) -> Result<(), AllocError>
     ensures { OnOk result (entries.new.items ≡ entry ∷ []) }
@@ -72,8 +73,8 @@ fn keep_alone(entries: &mut Vec<Entry>, entry: Entry) -> Result<(), AllocError>
     keep(entries, Some(entry), 1)
 }
 
-// Measures a flat form of one row and replaces the entries. Takes memory for its entry if they have
-// no room.
+// Measures a flat form, which must have one row, in a style, and replaces the entries by its entry.
+// Reads the node and each point once. Takes memory for the entry if the vector has no room.
 #[inline(always)]
 pub(crate) fn measure_one(
     flat: &Flat,

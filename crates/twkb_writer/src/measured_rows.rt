@@ -25,7 +25,7 @@ use std::alloc::{AllocError, Global};
 use twkb_flat::{Flat, Node, NodeId, Work};
 use twkb_grammar::Style;
 
-// Lets a proof know that counts of reads fit 64 bits. Changes nothing.
+// Changes nothing. Its contract says that both counts of reads are below 2^64.
 pub(crate) fn look_at_reads(work: &Work)
     ensures nodes { work.now.node_reads < 2 ^ 64 }
     ensures points { work.now.point_reads < 2 ^ 64 }
@@ -35,7 +35,8 @@ pub(crate) fn look_at_reads(work: &Work)
     let _learnt = work.point_reads;
 }
 
-// Adds a node's own points to the totals of the points after them in its geometry. Reads each point
+// Returns `tail`, the totals of the points after a node's own in its geometry, with the node's own
+// before them. `tail.bytes` must be at most 2^30, and all points at most 2^24. Reads each own point
 // once, two at a time, from the last to the first.
 #[inline(always)]
 pub(crate) fn take_points<P: PlacedPoints>(
@@ -72,7 +73,9 @@ pub(crate) fn take_points<P: PlacedPoints>(
     points.tail().with_first(first)
 }
 
-// Adds a row that is a geometry itself, and returns its entry.
+// Adds a row that is a geometry itself, with this precision, to the totals at its depth, clears
+// those at the depth below, and returns the row's entry. `points` are the totals of the geometry's
+// points, without those of collection members. No total may be above 2^20 rows or 2^40 bytes.
 #[inline(always)]
 fn take_geometry(
     style: Style,
@@ -96,7 +99,8 @@ fn take_geometry(
     entry
 }
 
-// Adds a row that is a component of a geometry.
+// Adds a row, which must be a component of a geometry, to the totals at its depth, and clears those
+// at the depth below. No total may be above 2^20 rows or 2^40 bytes.
 #[inline(always)]
 fn take_component(node: &Node, by_depth: &mut Depths)
     requires deep { node.now.row.depth ≤ row_depth_cap }
@@ -111,8 +115,9 @@ fn take_component(node: &Node, by_depth: &mut Depths)
     by_depth.put(depth, own);
 }
 
-// Adds a row to the totals at its depth, drops the totals below it, and returns its entry if it is
-// a geometry itself.
+// Adds a row to the totals at its depth, clears those at the depth below, and returns the row's
+// entry if it is a geometry itself. `points` are the totals of the points from the row on to the
+// end of its geometry. No total may be above 2^20 rows or 2^40 bytes.
 #[inline(always)]
 fn take_row(style: Style, node: &Node, points: &TailTotals, by_depth: &mut Depths) -> Option<Entry>
     requires deep { node.now.row.depth ≤ row_depth_cap }
@@ -129,8 +134,8 @@ fn take_row(style: Style, node: &Node, points: &TailTotals, by_depth: &mut Depth
     }
 }
 
-// Appends an entry, if there is one. The first one takes memory for `most`, if the vector has less,
-// so the vector grows only once.
+// Appends an entry, or nothing if it is `None`. Takes memory if the vector has no room; for the
+// first entry it takes room for `most` entries at once.
 #[inline(always)]
 pub(crate) fn keep(
     entries: &mut Vec<Entry>,
@@ -148,7 +153,8 @@ pub(crate) fn keep(
     entries.extend_from_slice(&[entry])
 }
 
-// The totals of points that the row before this one adds to: none if this row begins a geometry.
+// The totals of points that the row before this one goes on with: `points`, which begin with this
+// row's, if this row is a component; those of no points if it is a geometry itself.
 fn before_row(node: &Node, points: TailTotals) -> TailTotals
     ensures { result ≡ tail_after node.now.row.precision points }
 {
@@ -158,8 +164,9 @@ fn before_row(node: &Node, points: TailTotals) -> TailTotals
     }
 }
 
-// Measures the rows of a flat form one by one, from the last to the first, and replaces the
-// entries. Takes memory for the entries if they have too little room.
+// Measures a flat form in a style, row by row from the last to the first, and replaces the entries
+// and the depths. Reads each node and each point once. Takes memory for the entries if the vector
+// has too little room; after an `Err` they are incomplete.
 fn measure_rows(
     flat: &Flat,
     style: Style,
@@ -187,8 +194,9 @@ fn measure_rows(
     Ok(())
 }
 
-// Measures a flat form and replaces the entries. Takes memory for them if they have too little
-// room.
+// Measures a flat form in a style and replaces the entries. Reads each node and each point once.
+// Takes memory for the entries if the vector has too little room; after an `Err` they are
+// incomplete.
 #[inline(always)]
 fn measure_entries(
     flat: &Flat,
@@ -206,7 +214,8 @@ fn measure_entries(
     measure_rows(flat, style, depths, entries, work)
 }
 
-// Counts these points, nodes and entries as measured.
+// Adds these numbers to the points, nodes and entries that `work` counts as measured, each up to
+// 2^64 - 1.
 #[inline(always)]
 pub(crate) fn count_measured(points: u32, nodes: u32, entries: usize, work: &mut Work)
     ensures { Measures work.old points nodes entries work.new }
@@ -217,9 +226,9 @@ pub(crate) fn count_measured(points: u32, nodes: u32, entries: usize, work: &mut
 }
 
 /// Measures a flat form in a style and replaces the sizes: one entry for each TWKB geometry in
-/// preorder, none if there is no node. Reads each node and each point once, in one pass at any
-/// nesting, and counts them and the entries. Takes memory for the entries if they have too little
-/// room.
+/// preorder, none if there is no node. Reads each node and each point once, in one pass, and counts
+/// the reads, nodes, points and entries. Takes memory for the entries if they have too little room;
+/// after an `Err` they are incomplete.
 pub fn measure_into(
     flat: &Flat,
     style: Style,
@@ -241,9 +250,9 @@ pub fn measure_into(
     Ok(())
 }
 
-/// Measures a flat form in a style: one entry for each TWKB geometry in preorder, none if there
-/// is no node. Reads each node and each point once, in one pass at any nesting, and counts them
-/// and the entries. Takes memory for the entries alone.
+/// Measures a flat form in a style, and returns its sizes: one entry for each TWKB geometry in
+/// preorder, none if there is no node. Reads each node and each point once, in one pass, and counts
+/// the reads, nodes, points and entries. Takes memory for the entries alone.
 pub fn measure_flat(
     alloc: Global,
     flat: &Flat,

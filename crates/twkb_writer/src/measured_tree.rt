@@ -31,7 +31,9 @@ trait MeasuredComponent: Element {
     fn own_points(&self) -> &[Pt]
         ensures { result.now ≡ own self.now };
 
-    // Adds the component's points before those after it in the geometry.
+    // Returns `tail`, the totals of the points after the component in its geometry, with all points
+    // of the component before them. The bytes of `tail`, and 20 for each added point, must be at
+    // most 2^40.
     fn in_front_of(&self, tail: TailTotals) -> TailTotals
         requires room { tail.bytes + 20 * length (all self.now) ≤ sums_cap }
         ensures value { (ahead : List Point) → tail ≡ tail_of ahead → result ≡ tail_of (all self.now ++ ahead) }
@@ -80,7 +82,9 @@ impl MeasuredComponent for Lines {
     }
 }
 
-// Adds the points of components before those after them in the geometry.
+// Returns `tail`, the totals of the points after these components in their geometry, with all
+// points of the components before them. The bytes of `tail`, and 20 for each added point, must be
+// at most 2^40.
 fn tail_before<T: MeasuredComponent>(components: &[T], tail: TailTotals) -> TailTotals
     requires room { tail.bytes + 20 * length (flat_map T.all components.now) ≤ sums_cap }
     ensures value { (ahead : List Point) → tail ≡ tail_of ahead
@@ -94,7 +98,8 @@ fn tail_before<T: MeasuredComponent>(components: &[T], tail: TailTotals) -> Tail
     tail
 }
 
-// The totals of rings, or of members that are points or linestrings.
+// The totals of the rows of components that have no rows below them: rings, or members that are
+// points or linestrings, with their ids. They must be at most 2^20, with at most 2^24 points.
 fn components_totals<T: MeasuredComponent>(kind: Kind, components: &[T], ids: &Ids) -> RowTotals
     requires few { length components.now ≤ NODES_CAP }
     requires few_points { length (flat_map T.own components.now) ≤ POINTS_CAP }
@@ -110,7 +115,8 @@ fn components_totals<T: MeasuredComponent>(kind: Kind, components: &[T], ids: &I
     totals
 }
 
-// The totals of members that are polygons.
+// The totals of the rows of members that are polygons, with these ids, and of their rings. They
+// must be at most 2^20 rows, with at most 2^24 points.
 fn areas_totals(areas: &[Lines], ids: &Ids) -> RowTotals
     requires few { area_nodes areas.now ≤ NODES_CAP }
     requires few_points { length (flat_map flatten areas.now) ≤ POINTS_CAP }
@@ -125,7 +131,8 @@ fn areas_totals(areas: &[Lines], ids: &Ids) -> RowTotals
     totals
 }
 
-// The points of the geometry itself, those of its components included.
+// The totals of a geometry's points, those of its components included, and those of a collection's
+// members left out. There must be at most 2^24 points.
 fn own_tail(geometry: &Geometry) -> TailTotals
     requires few { length (flat geometry.now) ≤ POINTS_CAP }
     ensures value { result ≡ tail_of (way_of geometry.now) }
@@ -142,7 +149,8 @@ fn own_tail(geometry: &Geometry) -> TailTotals
     }
 }
 
-// The totals of the members of a collection, with these ids.
+// The totals of the rows of a collection's members, with these ids, in full style. They must be at
+// most 2^20 rows, with at most 2^24 points.
 #[cycle(measuring)]
 #[tactic(auto, using(twkb_tree::specs::Size::member_smaller))]
 fn members_totals(members: &Members, ids: &Ids) -> RowTotals
@@ -158,7 +166,8 @@ fn members_totals(members: &Members, ids: &Ids) -> RowTotals
     totals
 }
 
-// The totals of the rows below a geometry's own row.
+// The totals of the rows below a geometry's own row, in full style. The geometry must have at most
+// 2^20 rows and 2^24 points.
 #[cycle(measuring)]
 fn below(geometry: &Geometry) -> RowTotals
     requires { IsWithinCaps (nodes geometry.now) (length (flat geometry.now)) }
@@ -176,7 +185,9 @@ fn below(geometry: &Geometry) -> RowTotals
     }
 }
 
-// Adds a geometry with this id before the rows at its depth.
+// Returns `others`, the totals of the rows after a geometry at its depth, with the geometry before
+// them, with this id, in full style. The geometry must have at most 2^20 rows and 2^24 points, and
+// `others` at most 2^20 members, and 2^39 bytes with their ids.
 #[cycle(measuring)]
 fn with_member(geometry: &Geometry, id: Option<i64>, others: RowTotals) -> RowTotals
     requires caps { IsWithinCaps (nodes geometry.now) (length (flat geometry.now)) }
@@ -195,8 +206,8 @@ fn with_member(geometry: &Geometry, id: Option<i64>, others: RowTotals) -> RowTo
     others.with_geometry(Style::Full, entry.size, precision, id, &totals, &tail)
 }
 
-/// The length of the full canonical blob of a geometry within `Limits::largest()`, as `encode`
-/// writes it. Reads each point once, whatever the nesting. Takes no memory.
+/// The length in bytes of the canonical blob, in full style, of a geometry, which must be within
+/// `Limits::largest()`. Reads each point once, whatever the nesting. Takes no memory.
 pub fn measure(geometry: &Geometry) -> u64
     requires { IsValid largest_limits geometry.now }
     ensures { result ≡ length (canonical_blob Full geometry.now) }

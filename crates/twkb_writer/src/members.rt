@@ -18,7 +18,8 @@ pub(crate) struct MemberList {
     pub(crate) named: bool,
 }
 
-// Puts the ids of a node's members. Reads each member once.
+// Puts the ids of the nodes one level below a node, in order, each as the shortest varint of its
+// zigzag form, and nothing for a node without one. Reads each of them once.
 pub(crate) fn put_ids<S: Sink>(
     flat: &Flat,
     at: &PlacedNode,
@@ -38,7 +39,7 @@ pub(crate) fn put_ids<S: Sink>(
     }
 }
 
-// Counts the members of a node. Reads each once.
+// The number of nodes one level below a node. Reads each of them once.
 pub(crate) fn count_members(flat: &Flat, at: &PlacedNode, work: &mut Work) -> u32
     requires { IsNode flat.now at.now.id.0 at.now.node }
     ensures count { result ≡ length (members_of flat.now at.now) }

@@ -11,7 +11,7 @@ pub(crate) trait PlacedPoints {
     // The points.
     ghost points: { Self → List Point };
 
-    // The point at a place, counted as one read. Takes no memory.
+    // The point at a place. Adds one to `work.point_reads`. Takes no memory.
     fn point(&self, at: u32, work: &mut Work) -> Pt
         requires { at < length (points self.now) }
         ensures point { slice_get (points self.now) at ≡ Some result }

@@ -16,7 +16,8 @@ use twkb_io::Sink;
 use twkb_points::{Cursor, Pt};
 use twkb_tree::Kind;
 
-// Appends the metadata byte of a point and, if the style has one, the size of its body.
+// Appends the metadata byte of a point's blob and, in full style, the size of the body, which must
+// be below 128. The piece must have room for two bytes.
 #[inline(always)]
 fn push_frame(style: Style, size: u64, piece: &mut Piece)
     requires small { size < 128 }
@@ -33,7 +34,8 @@ fn push_frame(style: Style, size: u64, piece: &mut Piece)
     }
 }
 
-// Replaces the bytes of the piece by the canonical blob of a point.
+// Replaces the bytes of the piece by the canonical blob of a point, in a style and for a precision
+// from -8 to 7.
 #[inline(always)]
 fn put_point(precision: i8, point: Pt, style: Style, piece: &mut Piece)
     ensures { IsPrecision precision → piece.new ≡ canonical_blob style (one_point precision point) }
@@ -46,10 +48,10 @@ fn put_point(precision: i8, point: Pt, style: Style, piece: &mut Piece)
     piece.push_two_varints(x, y);
 }
 
-/// Writes the canonical blob of a point that is not empty, in a style, by one put: the bytes that
-/// `write_through` writes of a form of that point. The precision is from -8 to 7. Counts one point,
-/// one node and one entry as measured, and no reads, since there is no form. The bytes go through
-/// the piece, whatever it holds. Takes no memory.
+/// Writes the canonical blob of a point that is not empty, in a style and for a precision from -8
+/// to 7, by one put; after an `Err` the sink got a prefix of it. Counts one point, one node and one
+/// entry as measured, and no reads. The bytes go through the piece, whatever it holds. Takes no
+/// memory.
 #[inline(always)]
 pub fn write_point<S: Sink>(
     precision: i8,

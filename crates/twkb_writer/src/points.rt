@@ -12,7 +12,9 @@ use twkb_flat::{Node, Work};
 use twkb_io::Sink;
 use twkb_points::Cursor;
 
-// Puts the differences through a node's own points, two points at a time. Reads each point once.
+// Puts the differences in x and in y from the cursor to a node's first own point, and on from each
+// to the next, and moves the cursor to the last. The node's points must be among `all`, at places
+// below 2^32. Reads each once, two at a time.
 #[inline(always)]
 pub(crate) fn put_points<P: PlacedPoints, S: Sink>(
     all: &P,

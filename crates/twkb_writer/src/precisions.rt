@@ -14,7 +14,7 @@ pub(crate) enum Precisions {
 }
 
 impl Precisions {
-    // Whether all geometries have this precision.
+    // Whether no geometry has another precision than this one; true if there is no geometry.
     pub(crate) fn all_are(self, precision: i8) -> bool
         ensures { result ≡ all_are precision self }
     {
@@ -25,7 +25,7 @@ impl Precisions {
         }
     }
 
-    // The precisions of these geometries and of the others.
+    // The precisions of two groups of geometries taken together.
     pub(crate) fn and(self, others: Precisions) -> Precisions
         ensures { result ≡ agreed self others }
     {

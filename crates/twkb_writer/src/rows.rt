@@ -19,7 +19,8 @@ use twkb_io::Sink;
 use twkb_points::Cursor;
 use twkb_tree::Kind;
 
-// Puts the count of a node's members, and their ids if they are written.
+// Puts the count of members, and the ids of the node's members if `members.named` is true. Reads
+// each member once if so, else none.
 fn put_members<S: Sink>(
     flat: &Flat,
     at: &PlacedNode,
@@ -38,7 +39,9 @@ fn put_members<S: Sink>(
     put_ids(flat, at, gatherer, work);
 }
 
-// Puts the counts and ids before a node's points, after its header.
+// Puts what comes between a node's header, if it has one, and its points: nothing for a point, the
+// count of points for a linestring or ring, else the count of members or rings and, if
+// `members.named` is true, their ids. Reads each member at most once.
 #[inline(always)]
 fn put_counts<S: Sink>(
     flat: &Flat,
@@ -62,7 +65,9 @@ fn put_counts<S: Sink>(
     }
 }
 
-// Puts the bytes between the header of a geometry and the points of its row.
+// Puts the bytes between a geometry's header and the points of its own row: its count, if its kind
+// has one, and the ids of its members, if they have any; nothing if it has no body. Reads each
+// member at most once.
 #[inline(always)]
 fn put_own<S: Sink>(
     flat: &Flat,
@@ -85,7 +90,8 @@ fn put_own<S: Sink>(
     put_counts(flat, at, members, gatherer, work);
 }
 
-// Puts the bytes before the points of a component of a geometry.
+// Puts the bytes of a component of a geometry before its points: its count of points or rings, or
+// nothing for a point. Reads each ring once.
 #[inline(always)]
 fn put_component<S: Sink>(
     flat: &Flat,
@@ -112,7 +118,8 @@ struct RowStart {
     entry: usize,
 }
 
-// Where the points of a row with this precision start, and the index of the entry after it.
+// Where the points of a row start, and the index of the entry after the row's: at (0, 0) and one
+// entry further if the row has a precision, as a geometry itself has; else at `start`.
 #[inline(always)]
 fn start_of_points(precision: Option<i8>, start: RowStart) -> RowStart
     requires { start.entry + entry_count precision < 2 ^ 64 }
@@ -128,7 +135,9 @@ fn start_of_points(precision: Option<i8>, start: RowStart) -> RowStart
     }
 }
 
-// Puts the bytes before the points of a row.
+// Puts the bytes of a row before its points: for a geometry itself, whose entry must be at index
+// `entry`, its header, count and ids; for a component its count. Reads each of its members at most
+// once.
 #[inline(always)]
 fn put_lead<S: Sink>(
     job: &Job<'_>,
@@ -153,7 +162,9 @@ fn put_lead<S: Sink>(
     }
 }
 
-// Puts all rows with their entries, in one pass.
+// Puts the bytes of all rows of the form in preorder, in one pass, until the sink has refused a
+// put. There must be an entry for each geometry. Reads each node at most twice and each point at
+// most once.
 pub(crate) fn put_rows<S: Sink>(
     job: &Job<'_>,
     gatherer: &mut Gatherer<'_, '_, '_, S, S::Fault>,

@@ -44,7 +44,7 @@ impl Sizes {
         }
     }
 
-    /// The number of TWKB geometries that were measured. Takes no memory.
+    /// The number of entries, one for each TWKB geometry that was measured. Takes no memory.
     pub fn len(&self) -> usize
         ensures { result ≡ length self.now }
     {

@@ -29,7 +29,7 @@ pub(crate) struct NonEmptyTailTotals {
     pub(crate) bounds: Bounds,
 }
 
-// The number of bytes of the difference from one point to the next.
+// The number of bytes of the two varints of the difference from one point to the next, at most 20.
 fn step_len(from: Pt, to: Pt) -> u64
     ensures value { result ≡ step_len from to }
     ensures most { result ≤ 20 }
@@ -41,7 +41,8 @@ fn step_len(from: Pt, to: Pt) -> u64
     signed_len(x) + signed_len(y)
 }
 
-// Counts the bytes of two differences: from one point to another, and from there to a third.
+// Adds to `bytes`, which must be at most 2^31, the number of bytes of two differences: from one
+// point to a second, and from that to a third.
 #[tactic(auto, unfolding(crate::specs::Tails::number_len))]
 #[inline(always)]
 fn add_two_steps(bytes: &mut VarintLens, from: Pt, by: Pt, to: Pt)
@@ -69,7 +70,7 @@ impl TailTotals {
         }
     }
 
-    // Adds a point before these points.
+    // The totals of `point` and, after it, the points of `self`. `self.bytes` must be at most 2^40.
     pub(crate) fn with_first(self, point: Pt) -> TailTotals
         requires room { self.bytes ≤ sums_cap }
         ensures value { (ps : List Point) → self ≡ tail_of ps → result ≡ tail_of (point ∷ ps) }
@@ -86,7 +87,8 @@ impl TailTotals {
         }
     }
 
-    // Adds a point before these points, so that there is at least one.
+    // The totals of `point` and, after it, the points of `self`, in the form for at least one
+    // point. `self.bytes` must be at most 2^40.
     #[inline(always)]
     pub(crate) fn begun(self, point: Pt) -> NonEmptyTailTotals
         requires room { self.bytes ≤ sums_cap }
@@ -108,7 +110,8 @@ impl TailTotals {
         }
     }
 
-    // The number of bytes of all differences, the first of them from (0, 0).
+    // The number of bytes of the differences of all points, the first of them from (0, 0); 0 if
+    // there are no points. `self.bytes` must be at most 2^40.
     pub(crate) fn from_origin(&self) -> u64
         requires room { self.now.bytes ≤ sums_cap }
         ensures value { result ≡ from_origin self.now }
@@ -125,7 +128,8 @@ impl TailTotals {
 }
 
 impl NonEmptyTailTotals {
-    // Adds two points before these points.
+    // The totals of `point`, then `next`, then the points of `self`. `self.bytes` must be at most
+    // 2^31.
     #[inline(always)]
     pub(crate) fn with_first_two(self, point: Pt, next: Pt) -> NonEmptyTailTotals
         requires room { self.bytes ≤ lanes_cap }
@@ -146,7 +150,7 @@ impl NonEmptyTailTotals {
         }
     }
 
-    // Turns totals of at least one point into totals of any number of points.
+    // The same totals, in the form for any number of points. `self.bytes` must be at most 2^31.
     #[inline(always)]
     pub(crate) fn tail(self) -> TailTotals
         requires { self.bytes ≤ lanes_cap }

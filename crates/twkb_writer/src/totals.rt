@@ -15,8 +15,9 @@ use twkb_grammar::Style;
 use twkb_points::{Bounds, merged};
 use twkb_tree::Kind;
 
-// Totals of a row, of the rows after it at its depth, and of all rows below these: of all rows before
-// the next one at a smaller depth.
+// Totals of the rows at one depth, from a row to the last before a row of smaller depth, with those
+// of all rows below them. Sums of bytes in the methods must be at most 2^40, so that no sum
+// overflows.
 #[derive(Clone, Copy)]
 pub(crate) struct RowTotals {
     // The number of rows at this depth.
@@ -33,7 +34,8 @@ pub(crate) struct RowTotals {
     pub(crate) precisions: Precisions,
 }
 
-// The number of bytes of an id, 0 if there is none.
+// The number of bytes of an id, as the shortest varint of its zigzag form, at most 10; 0 if there
+// is none.
 #[inline(always)]
 fn id_len(id: Option<i64>) -> u64
     ensures value { result ≡ id_len id }
@@ -45,7 +47,7 @@ fn id_len(id: Option<i64>) -> u64
     }
 }
 
-// The number of bytes of a box, 0 if there is none.
+// The number of bytes of the box with these bounds, at most 40; 0 if there is none.
 #[inline(always)]
 fn box_len(bounds: &Option<Bounds>) -> u64
     ensures value { result ≡ box_len bounds.now }
@@ -67,7 +69,8 @@ fn is_point(kind: Kind) -> bool
     matches!(kind, Kind::Point)
 }
 
-// The length of a blob whose box and body have `size` bytes.
+// The number of bytes of a TWKB geometry in a style, from its type byte on, if its box and body
+// have `size` bytes, which must be at most 2^50.
 #[inline(always)]
 fn blob_len(style: Style, size: u64) -> u64
     requires room { size ≤ 2 ^ 50 }
@@ -95,8 +98,8 @@ impl RowTotals {
         }
     }
 
-    // The number of bytes of a row's count, and of the ids if it counts members. The row has `own`
-    // points and is above these rows.
+    // The number of bytes between the header, if any, of a row above the rows of `self` and its
+    // points: its count, and the ids if it counts members. The row has `own` points itself.
     #[inline(always)]
     fn lead_len(&self, kind: Kind, own: u32) -> u64
         requires room { self.now.ids ≤ sums_cap }
@@ -110,7 +113,8 @@ impl RowTotals {
         }
     }
 
-    // The number of bytes of the body of a geometry above these rows. Its own row has `own` points.
+    // The number of bytes of the body of a geometry above the rows of `self`, whose own row has
+    // `own` points; `tail` totals its points, without those of collection members.
     #[inline(always)]
     fn body_len(&self, kind: Kind, own: u32, tail: &TailTotals) -> u64
         requires ids { self.now.ids ≤ sums_cap }
@@ -125,7 +129,8 @@ impl RowTotals {
         self.lead_len(kind, own) + self.bytes + tail.from_origin()
     }
 
-    // The bounds of all points of a geometry above these rows.
+    // The bounds of all points of a geometry above the rows of `self`, those of collection members
+    // included; `tail` totals the others. `None` if it has no point.
     #[inline(always)]
     fn all_bounds(&self, tail: &TailTotals) -> Option<Bounds>
         ensures { result ≡ all_bounds self.now tail.now }
@@ -133,7 +138,8 @@ impl RowTotals {
         merged(tail.bounds, self.bounds)
     }
 
-    // The bounds of the box of a geometry above these rows; `None` if it has no box in this style.
+    // The bounds of the box, in a style, of a geometry above the rows of `self`; `None` if it has
+    // no box: in plain style always, in full style if `full_box` gives none.
     #[inline(always)]
     fn box_for(&self, style: Style, kind: Kind, precision: i8, tail: &TailTotals) -> Option<Bounds>
         ensures { result ≡ box_for style kind precision self.now tail.now }
@@ -144,8 +150,8 @@ impl RowTotals {
         }
     }
 
-    // The bounds of the box of a geometry above these rows, in a full blob; `None` if it has no
-    // box.
+    // The bounds of the box, in full style, of a geometry above the rows of `self`; `None` if it
+    // has no box: it is a point, has no point, or has a geometry of another precision inside.
     #[inline(always)]
     fn full_box(&self, kind: Kind, precision: i8, tail: &TailTotals) -> Option<Bounds>
         ensures { result ≡ box_for Full kind precision self.now tail.now }
@@ -156,8 +162,8 @@ impl RowTotals {
         self.all_bounds(tail)
     }
 
-    // Measures a geometry above these rows: its own row has `own` points, and `tail` totals its
-    // points, except those of collection members.
+    // The entry, in a style, of a geometry above the rows of `self`, whose own row has `own`
+    // points; `tail` totals its points, without those of collection members.
     #[inline(always)]
     pub(crate) fn entry_for(
         &self,
@@ -183,8 +189,8 @@ impl RowTotals {
         }
     }
 
-    // Returns these totals with a component of a geometry before these rows: its own row has `own`
-    // points, and `below` totals the rows under it.
+    // The totals of the rows of `self` with a component of a geometry before them: its own row has
+    // `own` points, and `below` totals the rows under it. `self` must have at most 2^20 members.
     #[inline(always)]
     pub(crate) fn with_component(
         self,
@@ -211,9 +217,9 @@ impl RowTotals {
         }
     }
 
-    // Returns these totals with a geometry before these rows: its box and body have `size` bytes,
-    // `below` totals the rows under it, and `tail` totals its points, except those of collection
-    // members.
+    // The totals of the rows of `self` with a geometry before them: its box and body have `size`
+    // bytes, at most 2^50, `below` totals the rows under it, and `tail` its points, without those
+    // of collection members. `self` must have at most 2^20 members.
     #[inline(always)]
     pub(crate) fn with_geometry(
         self,

@@ -16,11 +16,10 @@ use twkb_flat::{Flat, Work};
 use twkb_grammar::Style;
 use twkb_io::Sink;
 
-/// Writes the canonical blob of a flat form in a style, given its sizes in that style. If it
-/// returns `Ok` the sink got exactly these bytes, otherwise a prefix of them; for a flat form
-/// without rows it got nothing. Reads each point at most once and each node at most twice, at any
-/// nesting, and counts nothing else as work. The bytes go through the piece, whatever it holds.
-/// Takes no memory.
+/// Writes the canonical blob of a flat form in a style; `sizes` must be its sizes in that style.
+/// Without rows the sink gets nothing, and after an `Err` it got a prefix of the blob. Counts only
+/// reads: each point at most once, each node at most twice. The bytes go through the piece,
+/// whatever it holds. Takes no memory.
 pub fn write_through<S: Sink>(
     flat: &Flat,
     style: Style,
@@ -60,10 +59,9 @@ pub fn write_through<S: Sink>(
     }
 }
 
-/// Writes the canonical blob of a flat form in a style, given its sizes in that style. If it
-/// returns `Ok` the sink got exactly these bytes, otherwise a prefix of them; for a flat form
-/// without rows it got nothing. Reads each point at most once and each node at most twice, at any
-/// nesting, and counts nothing else as work. Takes no memory.
+/// Writes the canonical blob of a flat form in a style; `sizes` must be its sizes in that style.
+/// Without rows the sink gets nothing, and after an `Err` it got a prefix of the blob. Counts only
+/// reads: each point at most once, each node at most twice. Takes no memory.
 pub fn write_flat<S: Sink>(
     flat: &Flat,
     style: Style,
