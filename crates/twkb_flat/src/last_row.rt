@@ -31,8 +31,8 @@ impl Flat {
     }
 
     /// If true, `add_points` may append `count` points: the last row is that of a linestring or a
-    /// ring, and all rows together then have at most 2^24 points. `false` means nothing. Takes no
-    /// memory.
+    /// ring, and all rows together then have at most 2^24 points. `false` does not say the
+    /// contrary. Takes no memory.
     pub fn takes_points(&self, count: u64) -> bool
         ensures line { result ≡ true → EndsInLine self.now }
         ensures room { result ≡ true → length (row_points self.now) + count ≤ POINTS_CAP }
@@ -98,7 +98,7 @@ impl Flat {
 
     /// If true, `add_member` may append `count` members: the last row is at this depth, a member of
     /// a multipoint whose members all have ids if `named` and none if not, and there are then at
-    /// most 2^20 rows and 2^24 points. `false` means nothing. Takes no memory.
+    /// most 2^20 rows and 2^24 points. `false` does not say the contrary. Takes no memory.
     pub fn takes_members(&self, depth: u32, named: bool, count: u64) -> bool
         ensures ends { result ≡ true → EndsInMember depth named self.now }
         ensures nodes { result ≡ true → length self.now + count ≤ NODES_CAP }
