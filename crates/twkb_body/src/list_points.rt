@@ -112,10 +112,10 @@ fn take_eights(
     Ok((Taken { used, position }, left))
 }
 
-/// Appends rows of members of a multipoint, whose member at `depth` the last row must be, as
-/// `take_row` appends points, each with the next id of `ids` if members have ids. `most` must fit
-/// in 2^20 rows and 2^24 points. Stops also before a point for which no id is left. Takes memory;
-/// after an `Err` the rows appended so far stay.
+/// Appends members of a multipoint, as rows at `depth`, as `take_row` appends points, each with the
+/// next id of `ids` if members have ids. The last row must be one, with an id exactly if they have
+/// ids, and `most` must fit in 2^20 rows and 2^24 points. Stops also before a point without an id
+/// left. Takes memory; after an `Err` the rows appended so far stay.
 pub fn take_members(
     flat: &mut Flat,
     ids: &mut MemberIds,
