@@ -239,7 +239,7 @@ def sizes_line(sizes):
 
 
 def speed_text(rows):
-    """Two sentences on speed and memory."""
+    """Four sentences on speed and memory."""
     speeds = {word: [row["speed"]["polytwkb"] for row in rows if row["command"] == word] for word in WORDS}
     pack, unpack = (f"{min(speeds[word]):.0f} to {max(speeds[word]):.0f}" for word in ("pack", "unpack"))
     peaks = {}
@@ -257,7 +257,7 @@ def speed_text(rows):
 
 
 def size_text(sizes):
-    """One sentence on the size of linestrings."""
+    """Two sentences on the size of linestrings."""
     lines = next((each for each in sizes if each["case"] == CASES["lines"]), sizes[0])
     table, full, wkb = (f"{lines[name] / MEGABYTE:.1f}" for name in ("table", "full", "wkb"))
     return f"a CSV table of {table} MB, with linestrings of 1000 points, becomes {full} MB of TWKB. The same linestrings take {wkb} MB as WKB."
