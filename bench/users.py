@@ -239,7 +239,7 @@ def sizes_line(sizes):
 
 
 def speed_text(rows):
-    """Two sentences on speed and memory."""
+    """Four sentences on speed and memory."""
     speeds = {word: [row["speed"]["polytwkb"] for row in rows if row["command"] == word] for word in WORDS}
     pack, unpack = (f"{min(speeds[word]):.0f} to {max(speeds[word]):.0f}" for word in ("pack", "unpack"))
     peaks = {}
@@ -249,15 +249,18 @@ def speed_text(rows):
     memory = f"run takes {most / 1000:.0f} MB of memory"
     if usual:
         small = f"{usual[-1][0] / 1000:.1f} MB of memory, however large the file is"
-        memory = f"run over small geometries takes {small}, and {case} takes {most / 1000:.0f} MB"
-    return f"per second, one core packs {pack} MB of table, or writes {unpack} MB of table when it unpacks, depending on the geometries. A {memory}."
+        memory = f"run over small geometries takes {small}. A run over {case} takes {most / 1000:.0f} MB"
+    return (
+        f"`pack` reads {pack} MB of CSV table per second on one core, and `unpack` writes {unpack} MB. "
+        f"Both speeds depend on the geometries. A {memory}."
+    )
 
 
 def size_text(sizes):
-    """One sentence on the size of linestrings."""
+    """Two sentences on the size of linestrings."""
     lines = next((each for each in sizes if each["case"] == CASES["lines"]), sizes[0])
     table, full, wkb = (f"{lines[name] / MEGABYTE:.1f}" for name in ("table", "full", "wkb"))
-    return f"a table of {table} MB, with linestrings of 1000 points, becomes a stream of {full} MB; as WKB they have {wkb} MB."
+    return f"a CSV table of {table} MB, with linestrings of 1000 points, becomes {full} MB of TWKB. The same linestrings take {wkb} MB as WKB."
 
 
 def growth_line(rows):
