@@ -1,22 +1,27 @@
--- Four numbers found among units.
-use Rattle.std.proofs.Common.{◌≡◌, ℕ, zero, suc, ◌+◌, ◌-◌, ◌*◌, ◌%◌, ◌<◌, ◌≤◌, ◌^◌, ◌⊎◌, Bool, true}
-use Rattle.std.proofs.Common.{false, inl, inr, List, [], ◌∷◌, ◌++◌, length, take, drop, map, get_or}
-use Rattle.std.proofs.Common.{refl, sym, ◌∙◌, ap, arith}
-use Rattle.std.specs.Prelude.{nat_lt}
+-- Four numbers found at once among units, by the marks of these units joined.
+use lib.Lanes.{mask_l}
+use Rattle.std.proofs.Common.{◌≡◌, ℕ, zero, suc, ◌+◌, ◌-◌, ◌*◌, ◌%◌, ◌<◌, ◌≤◌, ◌^◌, ◌⊎◌, Bool, true, false, inl, inr}
+use Rattle.std.proofs.Common.{List, [], ◌∷◌, ◌++◌, length, take, drop, map, get_or, refl, sym, ◌∙◌, ap, arith, subst}
+use Rattle.std.specs.Prelude.{nat_lt, nat_eq}
 use Rattle.std.proofs.Math.Nat.{pow-suc, pow-le-pow_right, one-le-pow}
 use Rattle.std.proofs.lemmas.Bool.{cases_lt, lt-ltb, le-ltb}
-use Rattle.std.proofs.lemmas.List.{drop-map, take-map, drop-drop, get_or-drop, length-drop}
-use Rattle.std.proofs.lemmas.List.{drop-take, length-map, length-take, map-append, take-take}
+use Rattle.std.proofs.lemmas.List.{drop-map, take-map, drop-drop, get_or-drop, length-drop, drop-take, length-map}
+use Rattle.std.proofs.lemmas.List.{length-take, map-append, take-take, length-take-le}
 use Rattle.std.proofs.lemmas.Nat.{mod_below, mul-le}
+use Rattle.std.proofs.lemmas.Simd.{mask_l-lt}
 use Rattle.twkb_num.specs.Four.{number_in_front, run_of, FourInFront}
-use Rattle.twkb_num.specs.Block.{AreUnits}
+use Rattle.twkb_num.specs.Block.{AreUnits, units_in, AreMarks}
 use Rattle.twkb_num.specs.Alphabet.{leb_unit, unit_over, IsNumbered}
 use Rattle.twkb_num.specs.AlphabetLemmas.{leb_numbered}
 use Rattle.twkb_num.specs.declared.alphabet.Alphabet.{Alphabet}
 use Rattle.twkb_num.specs.Digits.{digits}
 use Rattle.twkb_num.specs.Spelling.{shortest, units_of}
+use Rattle.twkb_num.specs.declared.block.Marks.{Marks}
 use Rattle.twkb_num.proofs.FourLemmas.{marks_of, number_spelled}
 use Rattle.twkb_num.proofs.TwoLemmas.{AreFour}
+use Rattle.twkb_num.proofs.MarkLemmas.{mask_l-append}
+
+-- ==== Four numbers found among units.
 
 -- units before the first that ends a number say that more follow
 before_run : (radix : ℕ) (us : List ℕ) (k : ℕ) → k < run_of (marks_of radix us) → radix ≤ get_or us k 0
@@ -225,3 +230,79 @@ four_in_units unit alphabet numbered bytes a b c d count found =
       third_small = found.third_small;
       fourth_small = found.fourth_small;
     }
+
+-- ==== The marks of some units and of the units after them, joined.
+
+-- the marks of some units and of the units after them, joined
+pub marks_joined : (p : ℕ → Bool) (base n m : ℕ) (bytes : List ℕ) → n ≤ length bytes
+    → mask_l (map p (units_in base (take (n + m) bytes))) ≡ mask_l
+    (map p (units_in base (take n bytes))) + 2 ^ n * mask_l
+    (map p (units_in base (take m (drop n bytes))))
+marks_joined p base n m bytes long =
+    let unit = λ (b : ℕ). (b + (2 ^ 8 - base)) % 2 ^ 8 in
+    let front = units_in base (take n bytes) in
+    let next = units_in base (take m (drop n bytes)) in
+    let count : length (map p front) ≡ n = length-map front p ∙ length-map (take n bytes) unit
+    ∙ length-take-le n bytes long in
+    ap (λ bs. mask_l (map p (units_in base bs))) (take_apart n m (n + m) bytes refl)
+    ∙ ap (λ us. mask_l (map p us)) (map-append unit (take n bytes) (take m (drop n bytes)))
+    ∙ ap mask_l (map-append p front next)
+    ∙ mask_l-append (map p front) (map p next)
+    ∙ ap (λ k. mask_l (map p front) + 2 ^ k * mask_l (map p next)) count
+
+-- there are at most as many bits as units
+pub marks_small : (p : ℕ → Bool) (base n : ℕ) (bytes : List ℕ) → n ≤ length bytes
+    → mask_l (map p (units_in base (take n bytes))) < 2 ^ n
+marks_small p base n bytes long =
+    let unit = λ (b : ℕ). (b + (2 ^ 8 - base)) % 2 ^ 8 in
+    let us = units_in base (take n bytes) in
+    let count : length (map p us) ≡ n = length-map us p ∙ length-map (take n bytes) unit
+    ∙ length-take-le n bytes long in
+    let power : 2 ^ length (map p us) ≡ 2 ^ n = ap (λ k. 2 ^ k) count in
+    omega (arith, mask_l-lt (map p us))
+
+-- the marks of n units and of the n units after them are small, and joined they are the marks of both
+pub record AreHalves (n radix most : ℕ) (units : List ℕ) (low high : Marks) : Type 0 where
+  pub ends : (low.ends < 2 ^ n) × (high.ends < 2 ^ n)
+  pub zeros : (low.zeros < 2 ^ n) × (high.zeros < 2 ^ n)
+  pub bad : (low.bad < 2 ^ n) × (high.bad < 2 ^ n)
+  pub joined_ends : mask_l (map (λ u. nat_lt u radix) units) ≡ low.ends + 2 ^ n * high.ends
+  pub joined_zeros : mask_l (map (λ u. nat_eq u 0) units) ≡ low.zeros + 2 ^ n * high.zeros
+  pub joined_bad : mask_l (map (λ u. nat_lt most u) units) ≡ low.bad + 2 ^ n * high.bad
+
+pub are_halves : (at n base radix most : ℕ) (bytes : List ℕ) (low high : Marks) → at + (n + n) ≤ length bytes
+    → AreMarks radix most (units_in base (take n (drop at bytes))) low
+    → AreMarks radix most (units_in base (take n (drop (at + n) bytes))) high
+    → AreHalves n radix most (units_in base (take (n + n) (drop at bytes))) low high
+are_halves at n base radix most bytes low high long are_low are_after = record {
+  ends = small (λ u. nat_lt u radix) low.ends high.ends are_low.ends are_high.ends;
+  zeros = small (λ u. nat_eq u 0) low.zeros high.zeros are_low.zeros are_high.zeros;
+  bad = small (λ u. nat_lt most u) low.bad high.bad are_low.bad are_high.bad;
+  joined_ends = joined (λ u. nat_lt u radix) low.ends high.ends are_low.ends are_high.ends;
+  joined_zeros = joined (λ u. nat_eq u 0) low.zeros high.zeros are_low.zeros are_high.zeros;
+  joined_bad = joined (λ u. nat_lt most u) low.bad high.bad are_low.bad are_high.bad;
+}
+  where
+    are_high : AreMarks radix most (units_in base (take n (drop n (drop at bytes)))) high
+    are_high = subst (λ bs. AreMarks radix most (units_in base (take n bs)) high) (sym (drop-drop n at bytes)) are_after
+
+    enough : n ≤ length (drop at bytes)
+    enough = omega (arith, length-drop at bytes, long)
+
+    rest : n ≤ length (drop n (drop at bytes))
+    rest = omega (arith, length-drop at bytes, length-drop n (drop at bytes), long)
+
+    small : (p : ℕ → Bool) (a b : ℕ) → a ≡ mask_l (map p (units_in base (take n (drop at bytes))))
+        → b ≡ mask_l (map p (units_in base (take n (drop n (drop at bytes))))) → (a < 2 ^ n) × (b < 2 ^ n)
+    small p a b first second = (
+      subst (λ m. m < 2 ^ n) (sym first) (marks_small p base n (drop at bytes) enough),
+      subst (λ m. m < 2 ^ n) (sym second) (marks_small p base n (drop n (drop at bytes)) rest),
+    )
+
+    joined : (p : ℕ → Bool) (a b : ℕ) → a ≡ mask_l (map p (units_in base (take n (drop at bytes))))
+        → b ≡ mask_l (map p (units_in base (take n (drop n (drop at bytes)))))
+        → mask_l (map p (units_in base (take (n + n) (drop at bytes)))) ≡ a + 2 ^ n * b
+    joined p a b first second =
+        marks_joined p base n n (drop at bytes) enough
+        ∙ (ap (λ m. m + 2 ^ n * mask_l (map p (units_in base (take n (drop n (drop at bytes)))))) (sym first)
+        ∙ ap (λ m. a + 2 ^ n * m) (sym second))

@@ -8,8 +8,7 @@ use Rattle.std.proofs.lemmas.Nat.{mod_below}
 use Rattle.twkb_num.specs.Alphabet.{unit_over}
 use Rattle.twkb_num.specs.Four.{number_in_front, run_of}
 use Rattle.twkb_num.specs.Spelling.{shortest}
-use Rattle.twkb_num.proofs.DigitLemmas.{low_digit, high_digits}
-use Rattle.twkb_num.proofs.SpellingLemmas.{shortest_one, shortest_more}
+use Rattle.twkb_num.proofs.SpellingLemmas.{low_digit, high_digits, shortest_one, shortest_more}
 
 -- the marks of units: one for each unit that ends a number
 abbrev pub marks_of : ℕ → List ℕ → List Bool

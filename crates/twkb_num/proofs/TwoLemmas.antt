@@ -11,9 +11,8 @@ use Rattle.twkb_num.specs.Four.{number_in_front, places_in, joined_groups, run_o
 use Rattle.twkb_num.specs.Places.{second_run, AreTwo}
 use Rattle.twkb_num.proofs.FourLemmas.{marks_of}
 use Rattle.twkb_num.proofs.MarkLemmas.{mask_l-drop}
-use Rattle.twkb_num.proofs.PlaceLemmas.{sixteen_places, places_moved, places_of_two, places_below}
-use Rattle.twkb_num.proofs.PlaceLemmas.{places_ok, words_are, word_found}
-use Rattle.twkb_num.proofs.WordLemmas.{four_same}
+use Rattle.twkb_num.proofs.WordLemmas.{sixteen_places, places_moved, places_of_two, places_below, places_ok, words_are}
+use Rattle.twkb_num.proofs.WordLemmas.{word_found, four_same}
 
 -- the first two numbers, and the two after them
 pub record AreTwice (marks : List Bool) (places used later_places later_used : ℕ) : Type 0 where

@@ -1,25 +1,243 @@
--- Varints as the spellings by seven bits; no varint begins another; which ones are too long.
-use Rattle.std.proofs.Common.{◌≡◌, ℕ, ◌+◌, ◌-◌, ◌*◌, ◌/◌, ◌%◌, ◌<◌, ◌≤◌, ◌^◌, true, false, inl, inr}
-use Rattle.std.proofs.Common.{Some, List, [], ◌∷◌, ◌++◌, length, map, refl, sym, ◌∙◌, ap, arith}
-use Rattle.std.proofs.Common.{lit<}
-use Rattle.std.specs.Prelude.{◌↔◌}
+-- Varints: the answers of their reader, and varints appended to a piece.
+use Rattle.std.proofs.Common.{◌≡◌, ℕ, ◌+◌, ◌<◌, ◌≤◌, ◌^◌, Bool, true, false, ◌⊎◌, inl, inr, Option, Some, None, List}
+use Rattle.std.proofs.Common.{[], ◌∷◌, ◌++◌, length, refl, sym, ◌∙◌, ap, arith, append_assoc, length-append, ◌-◌, ◌*◌}
+use Rattle.std.proofs.Common.{◌/◌, ◌%◌, map, lit<, take, set}
+use Rattle.std.specs.Prelude.{IsTrue, ◌↔◌, if◌then◌else◌, nat_lt}
+use Rattle.std.proofs.lemmas.Bool.{false≢true, cases_lt, lt-ltb, le-ltb}
+use Rattle.std.proofs.lemmas.List.{append-nil, length-map, take_more_set, take-set-le, length-set, length-take-le}
 use Rattle.std.specs.Int.Digits.{AllBelowBase}
 use Rattle.std.specs.List.{AllByRecursion}
 use Rattle.std.proofs.Math.Nat.{mod-eq_of_lt, mul-le-mul_left, pow-le-pow_right, pow-suc, pow-zero}
-use Rattle.std.proofs.lemmas.Bool.{cases_lt, lt-ltb, le-ltb}
-use Rattle.std.proofs.lemmas.List.{length-map}
 use Rattle.std.proofs.lemmas.Nat.{mod_below}
-use Rattle.twkb_num.specs.Alphabet.{leb_unit, leb_group}
-use Rattle.twkb_num.specs.Answer.{IsAnswer}
+use Rattle.twkb_num.specs.Alphabet.{AlphabetLaws, leb_unit, leb_group}
+use Rattle.twkb_num.specs.Answer.{IsAbove, IsAnswer}
 use Rattle.twkb_num.specs.Digits.{number_of}
-use Rattle.twkb_num.specs.Spelling.{units_of, open_units, IsSpelling, IsOpen}
+use Rattle.twkb_num.specs.Spelling.{units_of, open_units, shortest, IsSpelling, IsOpen}
+use Rattle.twkb_num.specs.declared.partial.Step.{Step}
+use Rattle.twkb_num.specs.declared.partial.Step.TheVariants.{More, Done, BadUnit, TooLong}
 use Rattle.twkb_num.specs.Varint.{HasMarks, seven_bit_sum, IsVarint, varint_of, IsOpenVarint}
-use Rattle.twkb_num.specs.declared.partial.Step.TheVariants.{TooLong}
 use Rattle.twkb_num.specs.AlphabetLemmas.{leb_laws}
-use Rattle.twkb_num.proofs.AnswerLemmas.{marks_apart}
-use Rattle.twkb_num.proofs.DigitLemmas.{AllBelowBase-push, number_of-push}
-use Rattle.twkb_num.proofs.LawLemmas.{spelling_one, shortest_spelling}
-use Rattle.twkb_num.proofs.SpellingLemmas.{length-units_of, units_of-push, shortest_one, shortest_more}
+use Rattle.twkb_num.proofs.SpellingLemmas.{base-le, AllBelowBase-push, number_of-lt, number_of-push, same_digits}
+use Rattle.twkb_num.proofs.SpellingLemmas.{spelling_one, shortest_spelling, power_fits, length-units_of, units_of-push}
+use Rattle.twkb_num.proofs.SpellingLemmas.{shortest_one, shortest_more}
+
+-- ==== The answers of a reader: one answer fits, open units can become a spelling, and refused ones can't.
+
+-- no unit says both that more follow and that none do
+pub marks_apart : (g : Option (ℕ × Bool)) (d e : ℕ) → g ≡ Some (d, true) → g ≡ Some (e, false) → ⊥
+marks_apart g d e p q =
+    let both : Some (d, true) ≡ Some (e, false) = sym p ∙ q in
+    let pair : (d, true) ≡ (e, false) = cc in
+    false≢true (sym (ap (λ (z : ℕ × Bool). z.1) pair))
+
+-- no byte is both in the alphabet and outside it
+none_apart : (g : Option (ℕ × Bool)) (z : ℕ × Bool) → g ≡ None → g ≡ Some z → ⊥
+none_apart g z p q = cc
+
+-- two tests of the same fact are equal
+same_flag : (P : Type 0) (s t : Bool) → (IsTrue s ↔ P) → (IsTrue t ↔ P) → s ≡ t
+same_flag P true true a b = refl
+same_flag P false false a b = refl
+same_flag P true false a b = sym (b.1 (a.0 refl))
+same_flag P false true a b = a.1 (b.0 refl)
+
+-- the unit u comes after the units us in a spelling by the digits ds
+record StandsIn (group : ℕ → Option (ℕ × Bool)) (us : List ℕ) (u : ℕ) (ds : List ℕ) : Type 0 where
+  pub digit : ℕ
+  pub more : Bool
+  pub read : group u ≡ Some (digit, more)
+  pub goes_on : more ≡ true → length us + 1 < length ds
+
+module _ {bits longest : ℕ} {unit : ℕ → Bool → ℕ} {group : ℕ → Option (ℕ × Bool)}
+    (laws : AlphabetLaws bits longest unit group) where
+  -- each unit of a spelling is in the alphabet, and says that more follow only if another follows
+  stands_in : (us : List ℕ) (u : ℕ) (more ds : List ℕ) → AllBelowBase (2 ^ bits) ds
+      → us ++ u ∷ more ≡ units_of unit ds → StandsIn group us u ds
+  stands_in us u more [] below e = absurd (omega (arith, ap length e, length-append us (u ∷ more)))
+  stands_in [] u more (d ∷ []) below e =
+      let head : u ≡ unit d false = cc in
+      record {
+        digit = d;
+        more = false;
+        read = ap group head ∙ laws.read_back d false below.0;
+        goes_on = λ t. absurd (false≢true t);
+      }
+  stands_in [] u more (d ∷ f ∷ ds) below e =
+      let head : u ≡ unit d true = cc in
+      record {
+        digit = d;
+        more = true;
+        read = ap group head ∙ laws.read_back d true below.0;
+        goes_on = λ _. omega arith;
+      }
+  stands_in (x ∷ us) u more (d ∷ []) below e = absurd (omega (arith, ap length e, length-append us (u ∷ more)))
+  stands_in (x ∷ us) u more (d ∷ f ∷ ds) below e =
+      let rest : us ++ u ∷ more ≡ units_of unit (f ∷ ds) = cc in
+      let there = stands_in us u more (f ∷ ds) below.1 rest in
+      record {
+        digit = there.digit;
+        more = there.more;
+        read = there.read;
+        goes_on = λ t. omega (arith, there.goes_on t);
+      }
+
+  -- the last unit of a spelling says that no more follow
+  last_unit : (us : List ℕ) (u : ℕ) (ds : List ℕ) → AllBelowBase (2 ^ bits) ds
+      → us ++ u ∷ [] ≡ units_of unit ds → (d : ℕ) × (group u ≡ Some (d, false))
+  last_unit us u ds below e = go (stands_in us u [] ds below e).digit
+      (stands_in us u [] ds below e).more (stands_in us u [] ds below e).read
+      (stands_in us u [] ds below e).goes_on
+    where
+      go : (d : ℕ) (more : Bool) → group u ≡ Some (d, more)
+          → (more ≡ true → length us + 1 < length ds) → (d : ℕ) × (group u ≡ Some (d, false))
+      go d false read goes_on = (d, read)
+      go d true read goes_on = absurd
+          (omega (
+            arith,
+            goes_on refl,
+            ap length e,
+            length-append us (u ∷ []),
+            length-units_of unit ds,
+          ))
+
+  -- units before the last one have digits
+  some_digits : (us : List ℕ) (u : ℕ) (more ds : List ℕ) → us ++ u ∷ more ≡ units_of unit ds → 1 ≤ length ds
+  some_digits us u more ds e = omega (arith, ap length e, length-append us (u ∷ more), length-units_of unit ds)
+
+  -- units whose number is too large begin no spelling
+  not_above : (us : List ℕ) (u : ℕ) (more : List ℕ) (n : ℕ) → IsAbove unit (2 ^ bits) (us ++ u ∷ [])
+      → IsSpelling unit (2 ^ bits) longest (us ++ u ∷ more) n → ⊥
+  not_above us u more n a s =
+      let regrouped : (us ++ u ∷ []) ++ more ≡ us ++ u ∷ more = append_assoc us (u ∷ []) more in
+      let same = same_digits laws a.ds s.ds more [] a.below s.below (some_digits us u [] a.ds a.spelled) s.some
+      (ap (λ t. t ++ more) (sym a.spelled) ∙ regrouped ∙ s.spelled ∙ sym (append-nil (units_of unit s.ds))) in
+      let number : number_of (2 ^ bits) a.ds ≡ n = ap (number_of (2 ^ bits)) same ∙ s.number in
+      omega (arith, a.above, s.fits)
+
+  -- ---- one answer
+
+  done_ends : (us : List ℕ) (u n : ℕ) → IsSpelling unit (2 ^ bits) longest (us ++ u ∷ []) n
+      → (d : ℕ) × (group u ≡ Some (d, false))
+  done_ends us u n s = last_unit us u s.ds s.below s.spelled
+
+  long_reads : (us : List ℕ) (u : ℕ) → IsAnswer unit group (2 ^ bits) longest us u TooLong → (d : ℕ)
+      × (more : Bool) × (group u ≡ Some (d, more))
+  long_reads us u (inl t) = (t.1.0, true, t.1.1)
+  long_reads us u (inr a) = let l = last_unit us u a.ds a.below a.spelled in (l.0, false, l.1)
+
+  more_long : (us : List ℕ) (u : ℕ) → IsAnswer unit group (2 ^ bits) longest us u More
+      → IsAnswer unit group (2 ^ bits) longest us u TooLong → ⊥
+  more_long us u a (inl t) = omega (arith, a.0, t.0)
+  more_long us u a (inr b) = let l = last_unit us u b.ds b.below b.spelled in marks_apart (group u) a.1.0 l.0 a.1.1 l.1
+
+  done_long : (us : List ℕ) (u n : ℕ) → IsSpelling unit (2 ^ bits) longest (us ++ u ∷ []) n
+      → IsAnswer unit group (2 ^ bits) longest us u TooLong → ⊥
+  done_long us u n s (inl t) = let l = done_ends us u n s in marks_apart (group u) t.1.0 l.0 t.1.1 l.1
+  done_long us u n s (inr b) = not_above us u [] n b s
+
+  -- at most one answer fits
+  pub answer_one : (us : List ℕ) (u : ℕ) (a b : Step)
+      → IsAnswer unit group (2 ^ bits) longest us u a
+      → IsAnswer unit group (2 ^ bits) longest us u b → a ≡ b
+  answer_one us u More More p q = refl
+  answer_one us u More (Done n s) p q = let l = done_ends us u n q.0 in
+      absurd (marks_apart (group u) p.1.0 l.0 p.1.1 l.1)
+  answer_one us u More BadUnit p q = absurd (none_apart (group u) (p.1.0, true) q p.1.1)
+  answer_one us u More TooLong p q = absurd (more_long us u p q)
+  answer_one us u (Done n s) More p q = let l = done_ends us u n p.0 in
+      absurd (marks_apart (group u) q.1.0 l.0 q.1.1 l.1)
+  answer_one us u (Done n s) (Done m t) p q =
+      let number : n ≡ m = (spelling_one laws (us ++ u ∷ []) (us ++ u ∷ []) [] [] n m p.0 q.0 refl).1 in
+      let flag : s ≡ t = same_flag (us ++ u ∷ [] ≡ shortest unit (2 ^ bits) m) s t (rw number at p.1) q.1 in
+      cc
+  answer_one us u (Done n s) BadUnit p q = let l = done_ends us u n p.0 in
+      absurd (none_apart (group u) (l.0, false) q l.1)
+  answer_one us u (Done n s) TooLong p q = absurd (done_long us u n p.0 q)
+  answer_one us u BadUnit More p q = absurd (none_apart (group u) (q.1.0, true) p q.1.1)
+  answer_one us u BadUnit (Done n s) p q = let l = done_ends us u n q.0 in
+      absurd (none_apart (group u) (l.0, false) p l.1)
+  answer_one us u BadUnit BadUnit p q = refl
+  answer_one us u BadUnit TooLong p q = let l = long_reads us u q in absurd (none_apart (group u) (l.0, l.1) p l.2)
+  answer_one us u TooLong More p q = absurd (more_long us u q p)
+  answer_one us u TooLong (Done n s) p q = absurd (done_long us u n q.0 p)
+  answer_one us u TooLong BadUnit p q = let l = long_reads us u p in absurd (none_apart (group u) (l.0, l.1) q l.2)
+  answer_one us u TooLong TooLong p q = refl
+
+  -- ---- what can still follow
+
+  -- open units can be completed to a spelling: a last digit of 0 ends them
+  pub open_ends : (us : List ℕ) → IsOpen unit (2 ^ bits) longest us → (u n : ℕ)
+      × IsSpelling unit (2 ^ bits) longest (us ++ u ∷ []) n
+  open_ends us o =
+      let base = base-le bits laws.five in
+      let value = number_of (2 ^ bits) o.ds in
+      let small : value < (2 ^ bits) ^ length o.ds = number_of-lt (2 ^ bits) o.ds o.below in
+      let many : length (o.ds ++ 0 ∷ []) ≡ length o.ds + 1 = length-append o.ds (0 ∷ []) in (
+        unit 0 false,
+        value,
+        record {
+          ds = o.ds ++ 0 ∷ [];
+          spelled = ap (λ t. t ++ unit 0 false ∷ []) o.spelled ∙ sym (units_of-push unit o.ds 0);
+          below = AllBelowBase-push (2 ^ bits) o.ds 0 o.below (omega arith);
+          some = omega arith;
+          within = omega (arith, o.room);
+          number = number_of-push (2 ^ bits) o.ds 0 ∙ omega arith;
+          fits = omega (arith, power_fits laws (length o.ds) o.room);
+        },
+      )
+
+  -- refused units begin no spelling
+  pub refused_ends : (us : List ℕ) (u : ℕ) (more : List ℕ) (n : ℕ)
+      → (IsAnswer unit group (2 ^ bits) longest us u BadUnit)
+      ⊎ (IsAnswer unit group (2 ^ bits) longest us u TooLong)
+      → IsSpelling unit (2 ^ bits) longest (us ++ u ∷ more) n → ⊥
+  refused_ends us u more n (inl bad) s =
+      let there = stands_in us u more s.ds s.below s.spelled in
+      none_apart (group u) (there.digit, there.more) bad there.read
+  refused_ends us u more n (inr (inl long)) s = go
+      (stands_in us u more s.ds s.below s.spelled).digit
+      (stands_in us u more s.ds s.below s.spelled).more
+      (stands_in us u more s.ds s.below s.spelled).read
+      (stands_in us u more s.ds s.below s.spelled).goes_on
+    where
+      go : (d : ℕ) (m : Bool) → group u ≡ Some (d, m) → (m ≡ true → length us + 1 < length s.ds) → ⊥
+      go d true read goes_on = omega (arith, goes_on refl, long.0, s.within)
+      go d false read goes_on = marks_apart (group u) long.1.0 d long.1.1 read
+  refused_ends us u more n (inr (inr above)) s = not_above us u more n above s
+
+  -- ---- when each answer is due
+
+  -- the last of some open units says that more follow
+  open_last : (us : List ℕ) (u : ℕ) (ds : List ℕ) → AllBelowBase (2 ^ bits) ds
+      → us ++ u ∷ [] ≡ open_units unit ds → (d : ℕ) × (group u ≡ Some (d, true))
+  open_last us u [] below e = absurd (omega (arith, ap length e, length-append us (u ∷ [])))
+  open_last [] u (d ∷ ds) below e = let head : u ≡ unit d true = cc in
+      (d, ap group head ∙ laws.read_back d true below.0)
+  open_last (x ∷ us) u (d ∷ ds) below e = let rest : us ++ u ∷ [] ≡ open_units unit ds = cc in
+      open_last us u ds below.1 rest
+
+  -- the answer is More if the units with this one are open
+  pub due_more : (us : List ℕ) (u : ℕ) (a : Step) → IsOpen unit (2 ^ bits) longest (us ++ u ∷ [])
+      → IsAnswer unit group (2 ^ bits) longest us u a → a ≡ More
+  due_more us u a o h =
+      let many : length us + 1 ≡ length o.ds = sym (length-append us (u ∷ [])) ∙ ap length o.spelled
+      ∙ length-map o.ds (λ d. unit d true) in
+      answer_one us u a More h (omega (arith, o.room), open_last us u o.ds o.below o.spelled)
+
+  -- the answer is Done if this unit ends a spelling
+  pub due_done : (us : List ℕ) (u n : ℕ) (a : Step)
+      → IsSpelling unit (2 ^ bits) longest (us ++ u ∷ []) n
+      → IsAnswer unit group (2 ^ bits) longest us u a → (short : Bool) × (a ≡ Done n short)
+  due_done us u n More s h = let l = done_ends us u n s in absurd (marks_apart (group u) h.1.0 l.0 h.1.1 l.1)
+  due_done us u n (Done m short) s h = (
+    short,
+    ap (λ v. Done v short) (spelling_one laws (us ++ u ∷ []) (us ++ u ∷ []) [] [] m n
+        h.0 s refl).1,
+  )
+  due_done us u n BadUnit s h = absurd (refused_ends us u [] n (inl h) s)
+  due_done us u n TooLong s h = absurd (refused_ends us u [] n (inr h) s)
+
+-- ==== Varints as the spellings by seven bits; no varint begins another; which ones are too long.
 
 -- a varint's bytes are the units of their low seven bits
 sevens_spell : (bs : List ℕ) → HasMarks bs → bs ≡ units_of leb_unit (map (λ b. b % 128) bs)
@@ -229,3 +447,84 @@ some_byte n = elim (cases_lt n 128) [
 ]
 
 pub ruleset varint_lengths = (one_byte, one_byte_more, length-varint_of)
+
+-- ==== Numbers appended to a piece.
+
+-- a number below 128 is one byte
+pub last_byte : (n : ℕ) → n < 128 → varint_of n ≡ n ∷ []
+last_byte n h = shortest_one leb_unit 128 n h
+
+-- any other number is a byte that says that more follow, and the bytes of its quotient
+pub byte_more : (n : ℕ) → 128 ≤ n → varint_of n ≡ (n % 128 + 128) ∷ varint_of (n / 128)
+byte_more n h = shortest_more leb_unit 128 n (lit< tt) h
+
+-- two bytes are written, and only one is counted if the number has one
+pub both_written : (bytes : List ℕ) (at n lead len : ℕ) → at + 2 ≤ length bytes → n < 2 ^ 14
+    → lead ≡ (if nat_lt n 128 then n else n % 128 + 128) → len ≡ length (varint_of n)
+    → take (at + len) (set (set bytes at lead) (at + 1) (n / 128)) ≡ take at bytes ++ varint_of n
+both_written bytes at n lead len room small lead_is len_is =
+    elim (cases_lt n 128) [
+      | inl one ↦
+          let spelled = last_byte n one in
+          let lead_one : lead ≡ n = lead_is ∙ rw (lt-ltb n 128 one) refl in
+          let count : at + len ≡ at + 1 = omega (arith, len_is, ap length spelled) in
+          ap (λ k. take k (set (set bytes at lead) (at + 1) (n / 128))) count
+          ∙ take-set-le (at + 1) (set bytes at lead) (at + 1) (n / 128) (omega arith)
+          ∙ take_more_set bytes at lead (omega arith)
+          ∙ ap (λ b. take at bytes ++ b ∷ []) lead_one
+          ∙ ap (λ bs. take at bytes ++ bs) (sym spelled)
+      | inr two ↦
+          let high : n / 128 < 128 = omega arith in
+          let spelled : varint_of n ≡ (n % 128 + 128) ∷ (n / 128) ∷ [] = byte_more n two
+          ∙ ap (λ bs. (n % 128 + 128) ∷ bs) (last_byte (n / 128) high) in
+          let lead_two : lead ≡ n % 128 + 128 = lead_is ∙ rw (le-ltb n 128 two) refl in
+          let count : at + len ≡ at + 1 + 1 = omega (arith, len_is, ap length spelled) in
+          ap (λ k. take k (set (set bytes at lead) (at + 1) (n / 128))) count
+          ∙ take_more_set (set bytes at lead) (at + 1) (n / 128) (omega (arith, length-set bytes at lead))
+          ∙ ap (λ bs. bs ++ (n / 128) ∷ []) (take_more_set bytes at lead (omega arith))
+          ∙ append_assoc (take at bytes) (lead ∷ []) ((n / 128) ∷ [])
+          ∙ ap (λ b. take at bytes ++ (b ∷ (n / 128) ∷ [])) lead_two
+          ∙ ap (λ bs. take at bytes ++ bs) (sym spelled)
+    ]
+
+-- there is room for two bytes
+pub room_for_two : (room : ℕ) (bytes held : List ℕ) (at : ℕ) → at ≤ room → length bytes ≡ room
+    → take at bytes ≡ held → length held + 2 ≤ room → at + 2 ≤ length bytes
+room_for_two room bytes held at within whole view enough = omega
+    (arith, ap length view, length-take-le at bytes (omega arith))
+
+-- a byte that says that more follow is written, and the quotient is left
+pub written_more : (held whole now : List ℕ) (n lead number : ℕ) → 128 ≤ n
+    → lead ≡ (if nat_lt n 128 then n else n % 128 + 128) → now ≡ held ++ lead ∷ []
+    → held ++ varint_of n ≡ whole ++ varint_of number
+    → now ++ varint_of (n / 128) ≡ whole ++ varint_of number
+written_more held whole now n lead number more lead_is pushed so_far =
+    let lead_more : lead ≡ n % 128 + 128 = lead_is ∙ rw (le-ltb n 128 more) refl in
+    ap (λ bs. bs ++ varint_of (n / 128)) pushed
+    ∙ append_assoc held (lead ∷ []) (varint_of (n / 128))
+    ∙ ap (λ b. held ++ (b ∷ varint_of (n / 128))) lead_more
+    ∙ ap (λ bs. held ++ bs) (sym (byte_more n more))
+    ∙ so_far
+
+-- the last byte is written, and nothing is left
+pub written_last : (held whole now : List ℕ) (n number : ℕ) → n < 128 → now ≡ held ++ n ∷ []
+    → held ++ varint_of n ≡ whole ++ varint_of number → now ≡ whole ++ varint_of number
+written_last held whole now n number small pushed so_far = pushed
+    ∙ ap (λ bs. held ++ bs) (sym (last_byte n small)) ∙ so_far
+
+-- there is room for a byte while the number is not complete
+pub room_here : (room : ℕ) (held whole : List ℕ) (n number : ℕ)
+    → held ++ varint_of n ≡ whole ++ varint_of number
+    → length whole + length (varint_of number) ≤ room → length held < room
+room_here room held whole n number so_far enough =
+    omega (
+      arith,
+      ap length so_far,
+      length-append held (varint_of n),
+      length-append whole (varint_of number),
+      some_byte n,
+    )
+
+-- a number takes at most ten bytes
+pub ten_at_most : (held now : List ℕ) (n : ℕ) → now ≡ held ++ varint_of n → n < 2 ^ 64 → length now ≤ length held + 10
+ten_at_most held now n e fits = omega (arith, ap length e, length-append held (varint_of n), length-varint_of n fits)

@@ -9,8 +9,7 @@ use Rattle.twkb_polyline.specs.SpelledNumbers.{spread, marks, HasGroups}
 use Rattle.twkb_num.specs.Alphabet.{five_unit}
 use Rattle.twkb_num.specs.Digits.{digits, low_digits}
 use Rattle.twkb_num.specs.Spelling.{shortest}
-use Rattle.twkb_num.proofs.DigitLemmas.{length-digits-le}
-use Rattle.twkb_num.proofs.SpellingLemmas.{length-units_of}
+use Rattle.twkb_num.proofs.SpellingLemmas.{length-digits-le, length-units_of}
 use Rattle.twkb_polyline.proofs.WordLemmas.{spelled_groups}
 
 -- 2 ^ (5 k) is 32 ^ k

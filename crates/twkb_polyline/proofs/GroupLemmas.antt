@@ -9,9 +9,8 @@ use Rattle.std.specs.Int.Digits.{AllBelowBase}
 use Rattle.twkb_num.specs.Alphabet.{five_unit}
 use Rattle.twkb_num.specs.Digits.{digits, number_of}
 use Rattle.twkb_num.specs.Spelling.{units_of, open_units, shortest}
-use Rattle.twkb_num.proofs.DigitLemmas.{EndsAbove, EndsAbove-push, digits_one, digits_more}
-use Rattle.twkb_num.proofs.DigitLemmas.{digits-number_of, number_of-lt, number_of-push}
-use Rattle.twkb_num.proofs.SpellingLemmas.{units_of-push}
+use Rattle.twkb_num.proofs.SpellingLemmas.{EndsAbove, EndsAbove-push, digits_one, digits_more, digits-number_of}
+use Rattle.twkb_num.proofs.SpellingLemmas.{number_of-lt, number_of-push, units_of-push}
 
 -- Groups are some groups and a last one, all below 32.
 pub record HasLast (ds : List ℕ) : Type 0 where

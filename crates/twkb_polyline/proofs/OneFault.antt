@@ -9,8 +9,8 @@ use Rattle.twkb_num.specs.AlphabetLemmas.{five_laws}
 use Rattle.twkb_num.specs.Alphabet.{five_unit}
 use Rattle.twkb_num.specs.Digits.{digits, number_of}
 use Rattle.twkb_num.specs.Zigzag.{zigzag_of}
-use Rattle.twkb_num.proofs.LawLemmas.{zigzag_one, same_digits, digits_below, number_of-digits}
-use Rattle.twkb_num.proofs.SpellingLemmas.{length-units_of, digits_some}
+use Rattle.twkb_num.proofs.SpellingLemmas.{zigzag_one, same_digits, digits_below, number_of-digits, length-units_of}
+use Rattle.twkb_num.proofs.SpellingLemmas.{digits_some}
 use Rattle.twkb_points.specs.Point.{Point, IsCoordinate, IsInRange, AreInRange, origin}
 use Rattle.twkb_points.specs.Steps.{last_of}
 use Rattle.twkb_polyline.specs.Polyline.{number_text, polyline, polyline_from, DecodesTo, AppendsDecoded}

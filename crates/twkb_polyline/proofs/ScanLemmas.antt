@@ -10,8 +10,7 @@ use Rattle.twkb_num.specs.Answer.{IsAbove}
 use Rattle.twkb_num.specs.Digits.{number_of}
 use Rattle.twkb_num.specs.Spelling.{units_of, shortest}
 use Rattle.twkb_num.specs.Zigzag.{unzigzag_of}
-use Rattle.twkb_num.proofs.DigitLemmas.{AllBelowBase-push}
-use Rattle.twkb_num.proofs.SpellingLemmas.{units_of-push}
+use Rattle.twkb_num.proofs.SpellingLemmas.{AllBelowBase-push, units_of-push}
 use Rattle.twkb_num.proofs.ZigzagLemmas.{zigzag_of-unzigzag_of}
 use Rattle.twkb_polyline.specs.Fault.{GoesOn, EndsIn, IsNumberFault, StartsWithNumber}
 use Rattle.twkb_polyline.specs.declared.fault.PolyReason.{PolyReason}

@@ -11,8 +11,8 @@ use Rattle.twkb_num.specs.AlphabetLemmas.{five_laws}
 use Rattle.twkb_num.specs.Digits.{digits, number_of}
 use Rattle.twkb_num.specs.Spelling.{units_of, open_units}
 use Rattle.twkb_num.specs.Zigzag.{zigzag_of}
-use Rattle.twkb_num.proofs.LawLemmas.{shortest_spelling, digits_below, number_of-digits}
-use Rattle.twkb_num.proofs.SpellingLemmas.{length-units_of, digits_some}
+use Rattle.twkb_num.proofs.SpellingLemmas.{shortest_spelling, digits_below, number_of-digits, length-units_of}
+use Rattle.twkb_num.proofs.SpellingLemmas.{digits_some}
 use Rattle.twkb_polyline.specs.Fault.{IsCharacter, GoesOn, IsNumberFault, StartsWithNumber}
 use Rattle.twkb_polyline.specs.declared.fault.PolyReason.{PolyReason}
 use Rattle.twkb_polyline.specs.declared.fault.PolyReason.TheVariants.{BadChar, Cut, TooLong, Padded}

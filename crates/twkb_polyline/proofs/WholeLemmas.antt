@@ -10,9 +10,8 @@ use Rattle.twkb_num.specs.AlphabetLemmas.{five_laws}
 use Rattle.twkb_num.specs.Digits.{number_of}
 use Rattle.twkb_num.specs.Spelling.{open_units, shortest}
 use Rattle.twkb_num.specs.Zigzag.{zigzag_of}
-use Rattle.twkb_num.proofs.DigitLemmas.{AllBelowBase-push, number_of-push, number_of-lt}
-use Rattle.twkb_num.proofs.PartialLemmas.{more_sum, more_fits, last_sum, last_fits}
-use Rattle.twkb_num.proofs.SpellingLemmas.{units_of-push}
+use Rattle.twkb_num.proofs.SpellingLemmas.{AllBelowBase-push, number_of-push, number_of-lt, more_sum, more_fits}
+use Rattle.twkb_num.proofs.SpellingLemmas.{last_sum, last_fits, units_of-push}
 use Rattle.twkb_polyline.specs.Reading.{IsNumberAt, IsBegun}
 use Rattle.twkb_polyline.proofs.CharacterLemmas.{open_goes_on, unit_more, unit_last}
 use Rattle.twkb_polyline.proofs.GroupLemmas.{length-open_units, spelled_shortest}

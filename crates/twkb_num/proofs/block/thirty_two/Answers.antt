@@ -1,5 +1,5 @@
 use Rattle.std.proofs.Common.{arith}
-use Rattle.twkb_num.proofs.JoinedMarkLemmas.{are_halves}
+use Rattle.twkb_num.proofs.FoundLemmas.{are_halves}
 use Rattle.twkb_num.proofs.block.thirty_two.Goals as goal
 
 pub overflow_mul-result : goal.overflow_mul-result

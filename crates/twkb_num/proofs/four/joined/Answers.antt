@@ -2,7 +2,7 @@ use Rattle.std.proofs.Common.{◌≡◌, ◌*◌, ◌%◌, refl, rules, inl, inr
 use lib.Lanes.{zip2}
 use lib.ListN.{replicate}
 use Rattle.std.proofs.lemmas.Simd.{Each2-splat, Each1-all, zip2_splat}
-use Rattle.twkb_num.proofs.JoinLemmas.{joined_are}
+use Rattle.twkb_num.proofs.WordLemmas.{joined_are}
 use Rattle.twkb_num.proofs.four.joined.Goals as goal
 
 pub nonzero_rem-groups : goal.nonzero_rem-groups

@@ -1,4 +1,4 @@
-use Rattle.twkb_num.proofs.LaneUnitLemmas.{lanes_are}
+use Rattle.twkb_num.proofs.SpelledLemmas.{lanes_are}
 use Rattle.twkb_num.proofs.four_out.lanes.Goals as goal
 
 pub returns : goal.returns

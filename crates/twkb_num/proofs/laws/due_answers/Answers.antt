@@ -1,4 +1,4 @@
-use Rattle.twkb_num.proofs.AnswerLemmas.{due_done, due_more}
+use Rattle.twkb_num.proofs.VarintLemmas.{due_done, due_more}
 use Rattle.twkb_num.proofs.laws.due_answers.Goals as goal
 
 pub returns : goal.returns

@@ -1,4 +1,4 @@
-use Rattle.twkb_num.proofs.LawLemmas.{shortest_least, shortest_only}
+use Rattle.twkb_num.proofs.SpellingLemmas.{shortest_least, shortest_only}
 use Rattle.twkb_num.proofs.laws.none_shorter.Goals as goal
 
 pub returns : goal.returns

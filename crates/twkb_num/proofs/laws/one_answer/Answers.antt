@@ -1,4 +1,4 @@
-use Rattle.twkb_num.proofs.AnswerLemmas.{answer_one}
+use Rattle.twkb_num.proofs.VarintLemmas.{answer_one}
 use Rattle.twkb_num.proofs.laws.one_answer.Goals as goal
 
 pub returns : goal.returns

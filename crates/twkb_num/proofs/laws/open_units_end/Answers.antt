@@ -1,4 +1,4 @@
-use Rattle.twkb_num.proofs.AnswerLemmas.{open_ends}
+use Rattle.twkb_num.proofs.VarintLemmas.{open_ends}
 use Rattle.twkb_num.proofs.laws.open_units_end.Goals as goal
 
 pub returns : goal.returns

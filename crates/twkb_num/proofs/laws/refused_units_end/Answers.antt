@@ -1,4 +1,4 @@
-use Rattle.twkb_num.proofs.AnswerLemmas.{refused_ends}
+use Rattle.twkb_num.proofs.VarintLemmas.{refused_ends}
 use Rattle.twkb_num.proofs.laws.refused_units_end.Goals as goal
 
 pub returns : goal.returns

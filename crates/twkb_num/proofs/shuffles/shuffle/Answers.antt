@@ -1,6 +1,6 @@
 use Rattle.std.proofs.Common.{◌∙◌, ap, get_or}
 use Rattle.twkb_num.specs.declared.shuffles.TheConstants.{SHUFFLES}
-use Rattle.twkb_num.proofs.ShuffleLemmas.{table_at}
+use Rattle.twkb_num.proofs.SpelledLemmas.{table_at}
 use Rattle.twkb_num.proofs.shuffles.shuffle.Goals as goal
 
 pub returns : goal.returns

@@ -3,7 +3,7 @@ use lib.Lanes.{zip2}
 use lib.ListN.{replicate}
 use Rattle.std.proofs.lemmas.Simd.{bitmask_splat}
 use Rattle.twkb_num.proofs.LaneLemmas.{wrapped_sub, above_is}
-use Rattle.twkb_num.proofs.WholeTextLemmas.{marked_by, length-less}
+use Rattle.twkb_num.proofs.BlockLemmas.{marked_by, length-less}
 use Rattle.twkb_num.proofs.whole_text.ends_of.Goals as goal
 
 pub returns : goal.returns

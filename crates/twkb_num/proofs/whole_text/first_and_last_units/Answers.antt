@@ -5,8 +5,8 @@ use Rattle.std.proofs.lemmas.List.{take_rest}
 use Rattle.std.proofs.lemmas.Simd.{zip2_splat}
 use Rattle.twkb_num.specs.WholeText.{first_and_last}
 use Rattle.twkb_num.proofs.LaneLemmas.{wrapped_sub}
-use Rattle.twkb_num.proofs.ByteLemmas.{bytes_of}
-use Rattle.twkb_num.proofs.WholeTextLemmas.{bytes_are, length-first_and_last}
+use Rattle.twkb_num.proofs.WordLemmas.{bytes_of}
+use Rattle.twkb_num.proofs.BlockLemmas.{bytes_are, length-first_and_last}
 use Rattle.twkb_num.proofs.whole_text.first_and_last_units.Goals as goal
 
 pub returns : goal.returns

@@ -1,6 +1,6 @@
 use Rattle.std.proofs.Common.{arith, ap}
 use Rattle.std.specs.Int.Count.{count_trailing_zeros}
-use Rattle.twkb_num.proofs.WholeTextLemmas.{run_found, last_run}
+use Rattle.twkb_num.proofs.BlockLemmas.{run_found, last_run}
 use Rattle.twkb_num.proofs.whole_text.first_len.Goals as goal
 
 pub returns-clause-runs : goal.returns-clause-runs

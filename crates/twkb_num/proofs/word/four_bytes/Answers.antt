@@ -1,4 +1,4 @@
-use Rattle.twkb_num.proofs.ByteLemmas.{word_is}
+use Rattle.twkb_num.proofs.WordLemmas.{word_is}
 use Rattle.twkb_num.proofs.word.four_bytes.Goals as goal
 
 pub returns : goal.returns

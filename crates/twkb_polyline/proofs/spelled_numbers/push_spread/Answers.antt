@@ -1,5 +1,5 @@
 use Rattle.std.proofs.Common.{◌+◌, ◌∙◌, ap, arith, length, length-append}
-use Rattle.twkb_num.proofs.DigitLemmas.{length-low_digits}
+use Rattle.twkb_num.proofs.SpellingLemmas.{length-low_digits}
 use Rattle.twkb_polyline.proofs.FarLemmas.{spelled_far}
 use Rattle.twkb_polyline.proofs.spelled_numbers.push_spread.Goals as goal
 

@@ -1,6 +1,6 @@
 use Rattle.std.proofs.Common.{◌∙◌, ◌-◌, sym, arith, length}
 use Rattle.std.proofs.lemmas.List.{take_rest}
-use Rattle.twkb_num.proofs.ByteLemmas.{ends_decide}
+use Rattle.twkb_num.proofs.WordLemmas.{ends_decide}
 use Rattle.twkb_table.proofs.kind_word.is_word.Goals as goal
 
 pub returns-then-front-four_bytes : goal.returns-then-front-four_bytes

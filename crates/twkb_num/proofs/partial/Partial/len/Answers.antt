@@ -1,5 +1,5 @@
 use Rattle.std.proofs.Common.{◌^◌, sym, ◌∙◌, ap, length}
-use Rattle.twkb_num.proofs.PartialLemmas.{length-held, held_open}
+use Rattle.twkb_num.proofs.SpellingLemmas.{length-held, held_open}
 use Rattle.twkb_num.proofs.partial.Partial.len.Goals as goal
 
 pub returns-clause-count : goal.returns-clause-count

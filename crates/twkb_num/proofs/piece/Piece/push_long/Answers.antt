@@ -1,6 +1,5 @@
 use Rattle.std.proofs.Common.{arith}
-use Rattle.twkb_num.proofs.VarintLemmas.{length-varint_of}
-use Rattle.twkb_num.proofs.VarintOutLemmas.{written_more, written_last, room_here}
+use Rattle.twkb_num.proofs.VarintLemmas.{length-varint_of, written_more, written_last, room_here}
 use Rattle.twkb_num.proofs.piece.Piece.push_long.Goals as goal
 
 pub push-requires : goal.push-requires

@@ -1,5 +1,5 @@
 use Rattle.std.proofs.Common.{refl, ◌∙◌, arith}
-use Rattle.twkb_num.proofs.VarintOutLemmas.{written_more}
+use Rattle.twkb_num.proofs.VarintLemmas.{written_more}
 use Rattle.twkb_num.proofs.piece.Piece.push_middle.Goals as goal
 
 pub returns : goal.returns

@@ -1,6 +1,6 @@
 use Rattle.std.proofs.Common.{◌++◌, ◌∙◌, ap}
 use Rattle.twkb_num.specs.Varint.{varint_of}
-use Rattle.twkb_num.proofs.VarintOutLemmas.{both_written, room_for_two}
+use Rattle.twkb_num.proofs.VarintLemmas.{both_written, room_for_two}
 use Rattle.twkb_num.proofs.piece.Piece.push_short.Goals as goal
 
 pub returns : goal.returns

@@ -1,4 +1,4 @@
-use Rattle.twkb_num.proofs.VarintOutLemmas.{ten_at_most}
+use Rattle.twkb_num.proofs.VarintLemmas.{ten_at_most}
 use Rattle.twkb_num.proofs.piece.Piece.push_varint.Goals as goal
 
 pub returns-then-number-lt-THREE_BYTES-clause-most : goal.returns-then-number-lt-THREE_BYTES-clause-most
