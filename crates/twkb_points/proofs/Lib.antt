@@ -1,8 +1,5 @@
 -- Lemmas of the crate, by their topic.
-pub mod DifferenceLemmas
-pub mod PointLemmas
-pub mod NearLemmas
 pub mod StepLemmas
+pub mod PointLemmas
 pub mod ExtentLemmas
 pub mod BoxLemmas
-pub mod TailLemmas
