@@ -6,7 +6,7 @@ use Rattle.std.proofs.lemmas.Bool.{cases_Bool, true≢false}
 use Rattle.std.proofs.lemmas.Bool.Decides.{nat_tests}
 use Rattle.twkb_points.specs.Point.{Point}
 use Rattle.twkb_polyline.specs.Polyline.{DecodesTo, polyline}
-use Rattle.twkb_polyline.proofs.OneFault.{one_polyline, text_fault_none}
+use Rattle.twkb_polyline.proofs.FaultLemmas.{one_polyline, text_fault_none}
 use Rattle.twkb_tree.specs.Tree.{IsId}
 use Rattle.twkb_tree.specs.Rows.{Row}
 use Rattle.twkb_tree.specs.Limits.{Allowance}

@@ -31,7 +31,7 @@ use Rattle.twkb_table.specs.declared.reason.RowReason.TheVariants.{BadPrecision,
 use Rattle.twkb_table.specs.declared.reason.RowReason.TheVariants.{PrecisionNotAllowed}
 use Rattle.twkb_table.specs.declared.reason.RowReason.TheVariants.{PolylineNotAllowed, Polyline}
 use Rattle.twkb_table.specs.declared.reason.RowReason.TheVariants.{PointCount}
-use Rattle.twkb_polyline.proofs.TextOrFault.{text_or_fault}
+use Rattle.twkb_polyline.proofs.FaultLemmas.{text_or_fault}
 use Rattle.twkb_table.proofs.DecimalsDecided.{SomeOrNone, decided_depth, decided_kind}
 use Rattle.twkb_table.proofs.DecimalsDecided.{decided_optional_id, decided_optional_precision}
 use Rattle.twkb_table.proofs.ReadingLaws.{reads_table}

@@ -14,7 +14,7 @@ use Rattle.twkb_table.specs.Fields.{optional}
 use Rattle.twkb_tree.specs.Kind.{word_of}
 use Rattle.twkb_table.specs.Record.{record_of}
 use Rattle.twkb_table.specs.declared.decimal.TheConstants.{GREATEST_DEPTH}
-use Rattle.twkb_polyline.proofs.OneFault.{one_polyline}
+use Rattle.twkb_polyline.proofs.FaultLemmas.{one_polyline}
 use Rattle.twkb_table.proofs.DecimalLemmas.{mag-id, one_id, precision-id}
 
 -- ---- words

@@ -13,7 +13,7 @@ use Rattle.twkb_table.specs.Judged.{Verdict, Refused, Place, place_of, points_le
 use Rattle.twkb_table.specs.Judged.{JudgedByPoints, JudgedByPrecision, JudgedById, JudgedByPlace}
 use Rattle.twkb_table.specs.Judged.{Judged}
 use Rattle.twkb_table.specs.declared.reason.RowReason.TheVariants.{Polyline}
-use Rattle.twkb_polyline.proofs.OneFault.{one_polyline, text_fault_none, text_fault_one}
+use Rattle.twkb_polyline.proofs.FaultLemmas.{one_polyline, text_fault_none, text_fault_one}
 use Rattle.twkb_table.proofs.FieldLemmas.{one_depth, one_word, one_optional, precision-ids}
 use Rattle.twkb_table.proofs.Verdicts.{when_one, unless_one}
 

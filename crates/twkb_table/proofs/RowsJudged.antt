@@ -27,7 +27,7 @@ use Rattle.twkb_table.specs.declared.reason.RowReason.TheVariants.{BadPrecision,
 use Rattle.twkb_table.specs.declared.reason.RowReason.TheVariants.{PrecisionNotAllowed}
 use Rattle.twkb_table.specs.declared.reason.RowReason.TheVariants.{PolylineNotAllowed, PointCount}
 use Rattle.twkb_table.specs.declared.decimal.TheConstants.{GREATEST_DEPTH}
-use Rattle.twkb_polyline.proofs.OneFault.{one_polyline, text_fault_none}
+use Rattle.twkb_polyline.proofs.FaultLemmas.{one_polyline, text_fault_none}
 use Rattle.twkb_table.proofs.FieldLemmas.{one_depth, one_word, one_optional, precision-ids}
 use Rattle.twkb_table.proofs.Verdicts.{both_true, both, stays_true, skip, pick}
 

@@ -1,5 +1,5 @@
 use Rattle.std.proofs.lemmas.Result.{err_from_is_err_and}
-use Rattle.twkb_polyline.proofs.OneFault.{behind_none, no_other_points, only_memory, only_fault, text_fault_none}
+use Rattle.twkb_polyline.proofs.FaultLemmas.{behind_none, no_other_points, only_memory, only_fault, text_fault_none}
 use Rattle.twkb_polyline.proofs.decoded_points.decode.Goals as goal
 
 pub returns-in_err-decode_into-clause-each_polyline : goal.returns-in_err-decode_into-clause-each_polyline

@@ -2,8 +2,8 @@ use Rattle.std.proofs.Common.{◌∷◌, [], ◌+◌, drop, get_or, length, leng
 use Rattle.std.proofs.Common.{arith, rules, FitsSigned, w64}
 use Rattle.std.proofs.lemmas.Bool.{false≢true}
 use Rattle.std.proofs.lemmas.Int.{to_z-of_z}
-use Rattle.twkb_polyline.proofs.CharacterLemmas.{goes_on, GoesOn-push}
-use Rattle.twkb_polyline.proofs.NumberLemmas.{bad_character, cut_short, next_at, held_more, number_at, padded, too_long}
+use Rattle.twkb_polyline.proofs.NumberLemmas.{goes_on, GoesOn-push, bad_character, cut_short, next_at, held_more}
+use Rattle.twkb_polyline.proofs.NumberLemmas.{number_at, padded, too_long}
 use Rattle.twkb_polyline.proofs.decoded_points.number_at.Goals as goal
 
 pub loop-at-preserved : goal.loop-at-preserved

@@ -5,9 +5,8 @@ use Rattle.std.proofs.lemmas.Result.{err_from_is_err_and}
 use Rattle.twkb_points.specs.Point.{Point}
 use Rattle.twkb_polyline.specs.declared.fault.PolyReason.TheVariants.{Range}
 use Rattle.twkb_polyline.specs.declared.fault.PolyFault.TheVariants.{At}
-use Rattle.twkb_polyline.proofs.PointLemmas.{point_read, after_latitude, latitude_number}
-use Rattle.twkb_polyline.proofs.PointLemmas.{latitude_range, longitude_number, longitude_range}
-use Rattle.twkb_polyline.proofs.PointLemmas.{no_longitude}
+use Rattle.twkb_polyline.proofs.DecodeLemmas.{point_read, after_latitude, latitude_number, latitude_range}
+use Rattle.twkb_polyline.proofs.DecodeLemmas.{longitude_number, longitude_range, no_longitude}
 use Rattle.twkb_polyline.proofs.decoded_points.point_at.Goals as goal
 
 pub returns-in_err-dy : goal.returns-in_err-dy

@@ -1,7 +1,7 @@
 use Rattle.std.proofs.Common.{◌∙◌, ◌-◌, ◌<◌, ◌^◌, arith, rules, length, drop}
 use Rattle.std.proofs.lemmas.Result.{err_from_is_err_and}
 use Rattle.twkb_num.proofs.BlockLemmas.{ends_after, no_ends}
-use Rattle.twkb_polyline.proofs.PointLists.{put_fewer, put_more, put_none, rest_end, short_on}
+use Rattle.twkb_polyline.proofs.DecodeLemmas.{put_fewer, put_more, put_none, rest_end, short_on}
 use Rattle.twkb_polyline.proofs.decoded_points.read_eights.Goals as goal
 
 pub loop-left-init : goal.loop-left-init

@@ -1,10 +1,8 @@
 use Rattle.std.proofs.Common.{◌≡◌, ◌∙◌, ◌+◌, ◌-◌, ◌<◌, ◌≤◌, ◌^◌, rules, length, refl, arith}
 use Rattle.std.proofs.lemmas.Result.{err_from_is_err_and}
-use Rattle.twkb_polyline.proofs.DecodeLemmas.{read_count, has_read_all, has_read_none}
-use Rattle.twkb_polyline.proofs.DecodeLemmas.{has_read_more, one_too_many}
-use Rattle.twkb_polyline.proofs.DecodeLemmas.{text_refused, no_memory}
-use Rattle.twkb_polyline.proofs.PointLists.{has_read_points, no_memory_on, points_end, points_from}
-use Rattle.twkb_polyline.proofs.StepTexts.{two_read}
+use Rattle.twkb_polyline.proofs.DecodeLemmas.{read_count, has_read_all, has_read_none, has_read_more, one_too_many}
+use Rattle.twkb_polyline.proofs.DecodeLemmas.{text_refused, no_memory, has_read_points, no_memory_on, points_end}
+use Rattle.twkb_polyline.proofs.DecodeLemmas.{points_from, two_read}
 use Rattle.twkb_polyline.proofs.decoded_points.read_points.Goals as goal
 
 pub loop-at-init : goal.loop-at-init

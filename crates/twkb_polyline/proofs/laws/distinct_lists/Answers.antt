@@ -1,4 +1,4 @@
-use Rattle.twkb_polyline.proofs.OneFault.{one_polyline}
+use Rattle.twkb_polyline.proofs.FaultLemmas.{one_polyline}
 use Rattle.twkb_polyline.proofs.laws.distinct_lists.Goals as goal
 
 pub returns : goal.returns

@@ -1,4 +1,4 @@
-use Rattle.twkb_polyline.proofs.TextOrFault.{text_or_fault}
+use Rattle.twkb_polyline.proofs.FaultLemmas.{text_or_fault}
 use Rattle.twkb_polyline.proofs.laws.polyline_or_fault.Goals as goal
 
 pub returns : goal.returns

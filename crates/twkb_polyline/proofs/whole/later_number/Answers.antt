@@ -1,6 +1,6 @@
 use Rattle.std.proofs.Common.{◌+◌, ◌<◌, true, false, arith, rules, FitsSigned, w64}
 use Rattle.std.proofs.lemmas.Int.{to_z-of_z}
-use Rattle.twkb_polyline.proofs.WholeLemmas.{group_at, two_number, two_begun}
+use Rattle.twkb_polyline.proofs.NumberLemmas.{group_at, two_number, two_begun}
 use Rattle.twkb_polyline.proofs.whole.later_number.Goals as goal
 
 pub returns-in_default : goal.returns-in_default

@@ -1,8 +1,7 @@
 use Rattle.std.proofs.Common.{get_or, length, ◌<◌, true, false, inl, refl, arith, rules, FitsSigned, w64}
 use Rattle.std.proofs.lemmas.Int.{to_z-of_z}
-use Rattle.twkb_polyline.proofs.CharacterLemmas.{unit_more}
-use Rattle.twkb_polyline.proofs.WholeLemmas.{group_at, begun_more, begun_ends, more_added}
-use Rattle.twkb_polyline.proofs.WholeLemmas.{more_within, last_added, last_within}
+use Rattle.twkb_polyline.proofs.NumberLemmas.{unit_more, group_at, begun_more, begun_ends, more_added, more_within}
+use Rattle.twkb_polyline.proofs.NumberLemmas.{last_added, last_within}
 use Rattle.twkb_polyline.proofs.whole.long_number.Goals as goal
 
 pub loop-at-init : goal.loop-at-init

@@ -1,6 +1,6 @@
 use Rattle.std.proofs.Common.{true, false, rules, FitsSigned, w64}
 use Rattle.std.proofs.lemmas.Int.{to_z-of_z}
-use Rattle.twkb_polyline.proofs.WholeLemmas.{group_at, one_number}
+use Rattle.twkb_polyline.proofs.NumberLemmas.{group_at, one_number}
 use Rattle.twkb_polyline.proofs.whole.whole_number.Goals as goal
 
 pub returns-in_default : goal.returns-in_default

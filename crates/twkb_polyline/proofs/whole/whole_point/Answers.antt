@@ -1,7 +1,7 @@
 use Rattle.std.proofs.Common.{◌∙◌, ap, rules, FitsSigned, w64}
 use Rattle.std.proofs.lemmas.Int.{to_z-of_z}
 use Rattle.twkb_points.specs.Point.{Point}
-use Rattle.twkb_polyline.proofs.PointLemmas.{point_read}
+use Rattle.twkb_polyline.proofs.DecodeLemmas.{point_read}
 use Rattle.twkb_polyline.proofs.whole.whole_point.Goals as goal
 
 pub returns-in_err-dy : goal.returns-in_err-dy
