@@ -1,5 +1,3 @@
 -- Lemmas of the crate, by their topic.
-pub mod FaultLemmas
-pub mod HeldLemmas
+pub mod InputLemmas
 pub mod OutputLemmas
-pub mod PassingLemmas

@@ -1,14 +1,37 @@
--- The held bytes of an array: its unused part from `at` to `filled`, as far as there is room.
-use Rattle.std.proofs.Common.{◌≡◌, ◌≢◌, ◌≤◌, ◌<◌, ◌+◌, ◌-◌, min, ℕ, List, [], ◌∷◌, ◌++◌, take, drop}
-use Rattle.std.proofs.Common.{length, Option, Some, None, arith, ap, sym, ◌∙◌, inl, inr, Bool, true}
-use Rattle.std.proofs.Common.{false, append_assoc, length-append, length-drop}
+-- The bytes that a reader gives, those of them that are held, and its faults.
+use Rattle.std.proofs.Common.{◌≡◌, Bool, true, false, ◌≢◌, ◌≤◌, ◌<◌, ◌+◌, ◌-◌, min, ℕ, List, [], ◌∷◌, ◌++◌, take, drop}
+use Rattle.std.proofs.Common.{length, Option, Some, None, arith, ap, sym, ◌∙◌, inl, inr, append_assoc, length-append}
+use Rattle.std.proofs.Common.{length-drop}
+use Rattle.std.specs.Prelude.{Result, Ok, Err, IfSome, slice_get, slice_range}
 use Rattle.std.proofs.KnownBytes.{Keeps-refl, prepend_known-end}
 use Rattle.std.proofs.Math.Nat.{eq-or-lt_of_le}
-use Rattle.std.proofs.Math.Seq.{take-nil}
+use Rattle.std.proofs.Math.Seq.{take-nil, take-append-add}
 use Rattle.std.proofs.lemmas.List.{length-take, nil_from_length, take-take, drop-take, drop-drop, take-append-drop}
-use Rattle.twkb_io.proofs.FaultLemmas.{not_both}
-use Rattle.std.specs.Prelude.{IfSome, slice_get, slice_range}
+use Rattle.std.proofs.lemmas.List.{length-take-le, take-append-le}
 use Rattle.std.specs.Io.KnownBytes.{Consumes, IsAtEnd, Keeps, prepend_known}
+use Rattle.twkb_io.specs.Fuses.{passed}
+
+-- ==== An answer is either `Ok` or one error.
+
+-- a call that passed was not refused
+pub ok_no_err : {T E : Type 0} {x : T} {e : E} → ◌≡◌ {A = Result T E} (Ok x) (Err e) → ⊥
+ok_no_err other = cc other
+
+-- of two calls that passed, neither was refused
+pub both_ok : {T U E F : Type 0} {x : T} {y : U} {e : E} {k : F}
+    → ◌≡◌ {A = Result T E} (Ok x) (Err e) → ◌≡◌ {A = Result U F} (Ok y) (Err k)
+both_ok other = absurd (ok_no_err other)
+
+-- a call that is refused as another is refused for the same reason
+pub same_fault : {T U E : Type 0} {e k : E} → ◌≡◌ {A = Result T E} (Err e) (Err k)
+    → ◌≡◌ {A = Result U E} (Err e) (Err k)
+same_fault same = cc same
+
+-- a test is not both true and false
+pub not_both : {test : Bool} → test ≡ true → test ≡ false → ⊥
+not_both was other = cc (was, other)
+
+-- ==== The held bytes of an array: its unused part from `at` to `filled`, as far as there is room.
 
 -- after n more bytes, the unused part has lost its first n
 pub unused_advanced : (held : List ℕ) (at filled n : ℕ) → at + n ≤ filled
@@ -127,3 +150,22 @@ ended_rest held known at filled room same end =
           (Keeps-refl _) none (told_end known end),
       told_end known end,
     )
+
+-- ==== The effect of a fuse on the bytes that a reader gives.
+
+-- a read of n bytes leaves n fewer to pass
+pub passed_read : (old new : Option (List ℕ)) (left n : ℕ) (front back : List ℕ) → n ≤ left
+    → n ≤ length front → Consumes old new (take n front)
+    → Consumes (passed left old) (passed (left - n) new) (take n (front ++ back))
+passed_read None new left n front back fits within taken = tt
+passed_read (Some all) None left n front back fits within taken = absurd taken
+passed_read (Some all) (Some rest) left n front back fits within taken =
+    let parts : left ≡ length (take n front) + (left - n) = omega (arith, length-take-le n front within) in
+    ap (take left) taken ∙ ap (λ k. take k (take n front ++ rest)) parts
+    ∙ take-append-add (take n front) rest (left - n)
+    ∙ ap (λ l. l ++ take (left - n) rest) (sym (take-append-le n front back within))
+
+-- at the reader's end nothing is left to pass
+pub passed_end : (known : Option (List ℕ)) (left : ℕ) → IsAtEnd known → IsAtEnd (passed left known)
+passed_end None left end = tt
+passed_end (Some rest) left end = nil_from_length (take left rest) (omega (arith, ap length end, length-take left rest))
