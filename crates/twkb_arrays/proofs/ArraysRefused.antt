@@ -8,11 +8,10 @@ use Rattle.twkb_tree.specs.Rows.{Row, rows_of, row_points}
 use Rattle.twkb_tree.specs.RowLists.{AreValid, AreValidRowsOfOne}
 use Rattle.twkb_tree.specs.Refusal.{Refusal, refusal}
 use Rattle.twkb_tree.proofs.AllJoined.{all_apart}
-use Rattle.twkb_tree.proofs.Forest.{all_push}
+use Rattle.twkb_tree.proofs.Shapes.{all_push}
 use Rattle.twkb_tree.proofs.RowLaws.{one_reading}
-use Rattle.twkb_tree.proofs.RowsLocal.{local_refusal, root_refusal}
-use Rattle.twkb_tree.proofs.RefusalLaws.{accepted_unrefused}
-use Rattle.twkb_tree.proofs.RootLimits.{refused_begins_none}
+use Rattle.twkb_tree.proofs.OpenLaws.{local_refusal, root_refusal, accepted_unrefused}
+use Rattle.twkb_tree.proofs.LimitLaws.{refused_begins_none}
 use Rattle.twkb_table.proofs.FieldLemmas.{ArePlain, IsPlain, head_same}
 use Rattle.twkb_table.proofs.Tables.{plain_rows, geometries}
 use Rattle.twkb_buffer.specs.Polylines.{coordinates_of}

@@ -18,17 +18,11 @@ use Rattle.twkb_tree.specs.Refusal.{are_in_range, refusal}
 use Rattle.twkb_tree.specs.RowLists.{AreRowsOfOne, AreValidRowsOfOne}
 use Rattle.twkb_tree.specs.Rows.{Row, row_points}
 use Rattle.twkb_tree.specs.RowPlace.{row_place_at}
-use Rattle.twkb_tree.proofs.OpenDecides.{steps_open}
-use Rattle.twkb_tree.proofs.OpenLaws.{open_none}
-use Rattle.twkb_tree.proofs.OpenRefusal.{open_refused, stepless}
-use Rattle.twkb_tree.proofs.RefusalLaws.{accepts_unrefused}
-use Rattle.twkb_tree.proofs.RootLaws.{as_list}
-use Rattle.twkb_tree.proofs.RootLimits.{continued, of_one, one_since_root}
-use Rattle.twkb_tree.proofs.RowLaws.{admitted_rows}
-use Rattle.twkb_tree.proofs.RowPoints.{length-row_points}
-use Rattle.twkb_tree.proofs.RowRanges.{are_in_range-true, points_in_range}
-use Rattle.twkb_tree.proofs.RowTests.{both_true, test_within}
-use Rattle.twkb_tree.proofs.RowsLocal.{open_rows, point_count-reverse}
+use Rattle.twkb_tree.proofs.OpenLaws.{steps_open, open_none, open_refused, stepless, accepts_unrefused, open_rows}
+use Rattle.twkb_tree.proofs.OpenLaws.{point_count-reverse}
+use Rattle.twkb_tree.proofs.RowLaws.{as_list, admitted_rows, length-row_points}
+use Rattle.twkb_tree.proofs.LimitLaws.{continued, of_one, one_since_root}
+use Rattle.twkb_tree.proofs.RowForest.{are_in_range-true, points_in_range, both_true, test_within}
 use Rattle.twkb_flat.specs.Stops.{IfRefused}
 use Rattle.twkb_flat.specs.declared.stop.Stop.{Stop}
 use Rattle.twkb_flat.specs.declared.stop.Stop.TheVariants as stop

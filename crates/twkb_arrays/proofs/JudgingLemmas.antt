@@ -17,7 +17,7 @@ use Rattle.twkb_tree.specs.Refusal.{Refusal, PointsNotAllowed, CoordinateRange}
 use Rattle.twkb_tree.specs.Refusal.{Check, check, first_failed, are_in_range, has_none}
 use Rattle.twkb_tree.specs.Refusal.{id_checks, point_checks, precision_checks}
 use Rattle.twkb_tree.specs.Rows.{Row}
-use Rattle.twkb_tree.proofs.RowRanges.{are_in_range-true, points_in_range}
+use Rattle.twkb_tree.proofs.RowForest.{are_in_range-true, points_in_range}
 use Rattle.twkb_table.specs.RowRules.{first_reason, kind_checks}
 use Rattle.twkb_table.specs.declared.reason.RowReason.{RowReason}
 use Rattle.twkb_buffer.specs.declared.point.BufferPoint.{BufferPoint}

@@ -2,7 +2,7 @@
 use Rattle.std.proofs.Common.{◌≡◌, ◌<◌, ℕ, suc, true, List, [], ◌∷◌, length, ap, refl, arith, get_or, zero}
 use Rattle.twkb_points.specs.Point.{Point, AreInRange, IsInRange}
 use Rattle.twkb_tree.specs.Refusal.{are_in_range}
-use Rattle.twkb_tree.proofs.RowRanges.{points_in_range}
+use Rattle.twkb_tree.proofs.RowForest.{points_in_range}
 use Rattle.twkb_buffer.specs.Polylines.{coordinates_of}
 use Rattle.twkb_buffer.specs.declared.point.BufferPoint.{BufferPoint}
 use Rattle.twkb_arrays.specs.Rows.{point_of, points_of}

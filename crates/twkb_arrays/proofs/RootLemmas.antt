@@ -16,8 +16,8 @@ use Rattle.twkb_tree.specs.Limits.{Allowance}
 use Rattle.twkb_tree.specs.Refusal.{are_in_range}
 use Rattle.twkb_tree.specs.Rows.{rows, whole_row}
 use Rattle.twkb_tree.specs.Tree.{Tree, IsPrecision, IsTree}
-use Rattle.twkb_tree.proofs.RootLaws.{one_geometry}
-use Rattle.twkb_tree.proofs.RowRanges.{is_precision-true, points_in_range}
+use Rattle.twkb_tree.proofs.RowLaws.{one_geometry}
+use Rattle.twkb_tree.proofs.RowForest.{is_precision-true, points_in_range}
 use Rattle.twkb_grammar.specs.Written.{canonical_blob}
 use Rattle.twkb_grammar.specs.declared.style.Style.{Style}
 use Rattle.twkb_writer.specs.LineBlob.{one_line}

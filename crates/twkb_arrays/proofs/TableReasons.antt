@@ -17,7 +17,7 @@ use Rattle.twkb_tree.specs.Admits.{is_geometry, has_points, points_fit}
 use Rattle.twkb_tree.specs.Accepted.{nest_kept, geometry_rows, point_count}
 use Rattle.twkb_tree.specs.Refusal.{Refusal, Check, check, first_failed, are_in_range, has_none, refusal}
 use Rattle.twkb_tree.specs.Refusal.{id_checks, precision_checks, point_checks, count_checks}
-use Rattle.twkb_tree.proofs.RowRanges.{id_in_range-true, points_in_range}
+use Rattle.twkb_tree.proofs.RowForest.{id_in_range-true, points_in_range}
 use Rattle.twkb_table.specs.Fields.{optional, IsDepthField, IsOptionalId, IsOptionalPrecision}
 use Rattle.twkb_table.specs.Record.{record_of}
 use Rattle.twkb_table.specs.RowRules.{rule_reason}

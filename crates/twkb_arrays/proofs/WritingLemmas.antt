@@ -8,7 +8,7 @@ use Rattle.twkb_tree.specs.Tree.{Tree, IsTree}
 use Rattle.twkb_tree.specs.Limits.{Allowance, IsValid}
 use Rattle.twkb_tree.specs.Rows.{Row, rows, rows_of, row_points}
 use Rattle.twkb_tree.specs.RowLists.{AreValidRowsOfOne}
-use Rattle.twkb_tree.proofs.Forest.{all_push}
+use Rattle.twkb_tree.proofs.Shapes.{all_push}
 use Rattle.twkb_grammar.specs.Written.{canonical_blob}
 use Rattle.twkb_grammar.specs.declared.style.Style.{Style}
 use Rattle.twkb_buffer.specs.Polylines.{coordinates_of}

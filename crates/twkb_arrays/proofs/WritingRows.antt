@@ -8,7 +8,7 @@ use Rattle.twkb_tree.specs.Tree.{Tree}
 use Rattle.twkb_tree.specs.Limits.{Allowance}
 use Rattle.twkb_tree.specs.Rows.{Row, rows_of, row_points}
 use Rattle.twkb_tree.specs.RowLists.{AreValidRowsOfOne}
-use Rattle.twkb_tree.proofs.RootLaws.{one_geometry}
+use Rattle.twkb_tree.proofs.RowLaws.{one_geometry}
 use Rattle.twkb_flat.specs.declared.stop.Stop.{Stop}
 use Rattle.twkb_flat.specs.declared.stop.Stop.TheVariants as stop
 use Rattle.twkb_flat.specs.Stops.{IfRefused}

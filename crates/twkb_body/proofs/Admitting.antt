@@ -10,8 +10,8 @@ use Rattle.twkb_tree.specs.Limits.{Allowance, IsAllowance, largest_limits}
 use Rattle.twkb_tree.specs.Rows.{Row, row_points}
 use Rattle.twkb_tree.specs.RowGrowth.{EndsInLine, point_added}
 use Rattle.twkb_tree.specs.RowLists.{AreValidRowsOfOne}
-use Rattle.twkb_tree.proofs.RowPoints.{row_points-with}
-use Rattle.twkb_tree.proofs.RefusalLaws.{continues_is, continues_true}
+use Rattle.twkb_tree.proofs.RowLaws.{row_points-with}
+use Rattle.twkb_tree.proofs.OpenLaws.{continues_is, continues_true}
 use Rattle.std.proofs.Props.{props}
 use Rattle.twkb_tree.specs.declared.kind.Kind.{Kind}
 use Rattle.twkb_tree.specs.declared.kind.Kind.TheVariants as kinds

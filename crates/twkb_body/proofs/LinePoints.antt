@@ -4,7 +4,7 @@ use Rattle.twkb_points.specs.Point.{Point}
 use Rattle.twkb_tree.specs.Rows.{Row, row_points}
 use Rattle.twkb_tree.specs.RowGrowth.{EndsInLine, point_added, with_point}
 use Rattle.twkb_tree.proofs.PointAdded.{point_last}
-use Rattle.twkb_tree.proofs.RowPoints.{row_points-append}
+use Rattle.twkb_tree.proofs.RowLaws.{row_points-append}
 
 -- the last row is still that of a line
 pub ends_again : (p : Point) (rs : List Row) → EndsInLine rs → EndsInLine (point_added p rs)

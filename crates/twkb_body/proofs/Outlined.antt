@@ -8,8 +8,7 @@ use Rattle.twkb_tree.specs.Limits.{Allowance, IsAllowance, IsValid, largest_limi
 use Rattle.twkb_tree.specs.Rows.{Row, rows}
 use Rattle.twkb_tree.specs.Accepted.{Continues}
 use Rattle.twkb_tree.specs.RowLists.{AreValidRowsOfOne}
-use Rattle.twkb_tree.proofs.RootLimits.{continues_row}
-use Rattle.twkb_tree.proofs.LargestLimits.{continues_largest}
+use Rattle.twkb_tree.proofs.LimitLaws.{continues_row, continues_largest}
 use Rattle.twkb_grammar.specs.Roles.{Role, Count, End, IsNumber, Item}
 use Rattle.twkb_grammar.specs.Blob.{Blob}
 use Rattle.twkb_grammar.specs.Fault.{Reason, Truncated, BadVarint, FirstFault, IsPart, IsCut, IsTooLong, moved}

@@ -14,7 +14,7 @@ use Rattle.twkb_tree.specs.Accepted.{Accepts, IsOneRoot}
 use Rattle.twkb_tree.specs.RowLists.{AreValidRowsOfOne}
 use Rattle.twkb_tree.specs.RowGrowth.{with_point, point_added, EndsInLine}
 use Rattle.twkb_tree.proofs.PointAdded.{point_last}
-use Rattle.twkb_tree.proofs.RootLimits.{continued, continues_row, one_valid_front}
+use Rattle.twkb_tree.proofs.LimitLaws.{continued, continues_row, one_valid_front}
 use Rattle.twkb_grammar.specs.Bits.{bit}
 use Rattle.twkb_grammar.specs.Roles.{Role, Item}
 use Rattle.twkb_grammar.specs.Fault.{Part, moved}

@@ -17,16 +17,11 @@ use Rattle.twkb_tree.specs.Open.{count_at, open_refusal, is_next, open_continues
 use Rattle.twkb_tree.specs.RowLists.{AreValidRowsOfOne}
 use Rattle.twkb_tree.specs.Refusal.{checks_under, first_failed, continues}
 use Rattle.twkb_tree.specs.RowPlace.{row_place_at}
-use Rattle.twkb_tree.proofs.OpenRefusal.{stepless, no_open_parent, open_parent_at}
-use Rattle.twkb_tree.proofs.RefusalLaws.{passes, passed, joined, apart, none_is, continues_is, continues_true}
-use Rattle.twkb_tree.proofs.RowTests.{both_true, both, below_test, within_test, test_within}
-use Rattle.twkb_tree.proofs.RootLimits.{of_one}
-use Rattle.twkb_tree.proofs.RowPoints.{length-row_points}
-use Rattle.twkb_tree.proofs.RowsLocal.{continues_open, open_rows}
-use Rattle.twkb_tree.proofs.RowLaws.{admitted_rows}
-use Rattle.twkb_tree.proofs.RootLaws.{as_list}
-use Rattle.twkb_tree.proofs.OpenLaws.{open_none}
-use Rattle.twkb_tree.proofs.OpenDecides.{open_at}
+use Rattle.twkb_tree.proofs.OpenLaws.{stepless, no_open_parent, open_parent_at, passes, passed, joined, apart, none_is}
+use Rattle.twkb_tree.proofs.OpenLaws.{continues_is, continues_true, continues_open, open_rows, open_none, open_at}
+use Rattle.twkb_tree.proofs.RowForest.{both_true, both, below_test, within_test, test_within}
+use Rattle.twkb_tree.proofs.LimitLaws.{of_one}
+use Rattle.twkb_tree.proofs.RowLaws.{length-row_points, admitted_rows, as_list}
 use Rattle.twkb_flat.specs.RowTest.{is_admitted_at}
 
 -- two tests that imply each other are equal

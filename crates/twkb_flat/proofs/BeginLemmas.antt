@@ -7,7 +7,7 @@ use Rattle.twkb_tree.specs.Limits.{largest_limits}
 use Rattle.twkb_tree.specs.Tree.{IsPrecision}
 use Rattle.twkb_tree.specs.Rows.{whole_row}
 use Rattle.twkb_tree.specs.Accepted.{Continues}
-use Rattle.twkb_tree.proofs.RowRanges.{is_precision-true}
+use Rattle.twkb_tree.proofs.RowForest.{is_precision-true}
 use Rattle.twkb_flat.specs.declared.node.Row.{Row}
 use Rattle.twkb_flat.specs.declared.kept_nodes.KeptNode.{KeptNode}
 use Rattle.twkb_flat.specs.Rows.{row_with}

@@ -16,9 +16,9 @@ use Rattle.twkb_tree.proofs.Shapes.{fit-tree_of}
 use Rattle.twkb_tree.specs.Rows.{Row, plain_row, rows, own_row, rows_under, rows_with, rows_of_each, ring_rows}
 use Rattle.twkb_tree.specs.RowLists.{AreValidRowsOfOne}
 use Rattle.twkb_tree.proofs.RowForest.{point_in}
-use Rattle.twkb_tree.proofs.RowMembers.{own_row_first, member_rows_each}
-use Rattle.twkb_tree.proofs.RowFitting.{own_row-depth}
-use Rattle.twkb_tree.proofs.RowsOfTrees.{geometries_are}
+use Rattle.twkb_tree.proofs.MemberLemmas.{own_row_first, member_rows_each}
+use Rattle.twkb_tree.proofs.RowSteps.{own_row-depth}
+use Rattle.twkb_tree.proofs.RowLaws.{geometries_are}
 use Rattle.twkb_flat.specs.declared.node.Row.{Row as FlatRow}
 use Rattle.twkb_flat.specs.Rows.{row_with}
 use Rattle.twkb_flat.specs.Components.{component_rows}

@@ -14,10 +14,10 @@ use Rattle.twkb_tree.specs.Rows.{Row, plain_row, first_id, ids_from, rows_of_eac
 use Rattle.twkb_tree.specs.Rows.{rows_under, own_row, member_rows}
 use Rattle.twkb_tree.specs.Accepted.{Continues}
 use Rattle.twkb_tree.specs.RowLists.{AreValidRowsOfOne, AreShallow}
-use Rattle.twkb_tree.proofs.RootLimits.{valid_list, continues_row, one_valid_front}
+use Rattle.twkb_tree.proofs.LimitLaws.{valid_list, continues_row, one_valid_front}
 use Rattle.twkb_tree.proofs.RowDepths.{valid_depths}
-use Rattle.twkb_tree.proofs.RowFitting.{own_row-depth}
-use Rattle.twkb_tree.proofs.RowMembers.{each_next, ids_from_start, member_rows_each, own_row_first, under_shape}
+use Rattle.twkb_tree.proofs.RowSteps.{own_row-depth}
+use Rattle.twkb_tree.proofs.MemberLemmas.{each_next, ids_from_start, member_rows_each, own_row_first, under_shape}
 use Rattle.twkb_flat.specs.Rows.{row_depth_cap}
 use Rattle.twkb_flat.specs.Components.{IsSimple, component_rows}
 

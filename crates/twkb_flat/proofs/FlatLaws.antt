@@ -13,8 +13,8 @@ use Rattle.twkb_tree.specs.Rows.{Row as TableRow, rows, row_points}
 use Rattle.twkb_tree.specs.Accepted.{Continues}
 use Rattle.twkb_tree.specs.RowLists.{AreValidRowsOfOne}
 use Rattle.twkb_tree.specs.RowLemmas.{length-rows_with}
-use Rattle.twkb_tree.proofs.RootLimits.{one_valid_front, continues_row}
-use Rattle.twkb_tree.proofs.RowPoints.{row_points-with}
+use Rattle.twkb_tree.proofs.LimitLaws.{one_valid_front, continues_row}
+use Rattle.twkb_tree.proofs.RowLaws.{row_points-with}
 use Rattle.twkb_flat.specs.declared.node.Row.{Row}
 use Rattle.twkb_flat.specs.declared.node.Node.{Node}
 use Rattle.twkb_flat.specs.Links.{IsNext}

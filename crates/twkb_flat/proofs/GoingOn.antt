@@ -8,11 +8,10 @@ use Rattle.twkb_tree.specs.Rows.{Row, row_points}
 use Rattle.twkb_tree.specs.Admits.{steps_to, parent, first_child, fits}
 use Rattle.twkb_tree.specs.Accepted.{Continues, IsOneRoot, geometry_rows, point_count}
 use Rattle.twkb_tree.specs.RowLists.{AreValidRowsOfOne}
-use Rattle.twkb_tree.proofs.OpenLaws.{steps_within}
-use Rattle.twkb_tree.proofs.RootLimits.{continued, of_one, one_geometry_rows}
-use Rattle.twkb_tree.proofs.RowPoints.{length-row_points}
-use Rattle.twkb_tree.proofs.RowTests.{both_true}
-use Rattle.twkb_tree.proofs.RowsLocal.{point_count-reverse}
+use Rattle.twkb_tree.proofs.OpenLaws.{steps_within, point_count-reverse}
+use Rattle.twkb_tree.proofs.LimitLaws.{continued, of_one, one_geometry_rows}
+use Rattle.twkb_tree.proofs.RowLaws.{length-row_points}
+use Rattle.twkb_tree.proofs.RowForest.{both_true}
 use Rattle.twkb_flat.specs.Links.{MayFollow}
 use Rattle.twkb_flat.specs.Rows.{depths, depth_of}
 use Rattle.twkb_flat.proofs.FlatOpenLemmas.{open_levels}

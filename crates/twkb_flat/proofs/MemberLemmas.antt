@@ -16,13 +16,10 @@ use Rattle.twkb_tree.specs.RowLists.{AreValidRowsOfOne}
 use Rattle.twkb_tree.specs.Refusal.{checks_under, first_failed}
 use Rattle.twkb_tree.specs.Open.{AreOpen, IsOpenAt, opened, open_count, open_parent, open_refusal}
 use Rattle.twkb_tree.specs.Open.{open_continues, is_next, row_of, child_of, child_by}
-use Rattle.twkb_tree.proofs.OpenDecides.{steps_open}
-use Rattle.twkb_tree.proofs.OpenLaws.{open_more}
-use Rattle.twkb_tree.proofs.RefusalLaws.{apart, passed, continues_is}
-use Rattle.twkb_tree.proofs.RootLimits.{of_one}
-use Rattle.twkb_tree.proofs.RowPoints.{length-row_points, row_points-append}
-use Rattle.twkb_tree.proofs.RowTests.{both, test_below, test_within}
-use Rattle.twkb_tree.proofs.RowsLocal.{continues_open}
+use Rattle.twkb_tree.proofs.OpenLaws.{steps_open, open_more, apart, passed, continues_is, continues_open}
+use Rattle.twkb_tree.proofs.LimitLaws.{of_one}
+use Rattle.twkb_tree.proofs.RowLaws.{length-row_points, row_points-append}
+use Rattle.twkb_tree.proofs.RowForest.{both, test_below, test_within}
 use Rattle.twkb_flat.specs.declared.node.Row.{Row}
 use Rattle.twkb_flat.specs.declared.kept_nodes.KeptNode.{KeptNode}
 use Rattle.twkb_flat.specs.Links.{levels, Linked}

@@ -9,11 +9,10 @@ use Rattle.twkb_tree.specs.Tree.{Ids, HasIds}
 use Rattle.twkb_points.specs.Point.{Point}
 use Rattle.twkb_tree.specs.declared.kind.Kind.{Kind}
 use Rattle.twkb_tree.specs.Rows.{Row, first_id, other_ids, rows_of_each, plain_row, own_row, rows_with, rows_under}
-use Rattle.twkb_tree.proofs.RowMembers.{own_row_first}
-use Rattle.twkb_tree.proofs.RowFitting.{own_row-depth, own_row-id}
+use Rattle.twkb_tree.proofs.MemberLemmas.{own_row_first}
+use Rattle.twkb_tree.proofs.RowSteps.{own_row-depth, own_row-id, above_less}
 use Rattle.twkb_flat.specs.Components.{component_rows}
 use Rattle.twkb_tree.specs.RowLists.{IsAbove}
-use Rattle.twkb_tree.proofs.RowsApart.{above_less}
 use Rattle.twkb_flat.specs.Taking.{IsAt, OneAt, EachAt, ids_in, id_list}
 
 -- dropping one more row

@@ -13,9 +13,8 @@ use Rattle.twkb_tree.specs.Admits.{parent, first_child, steps_to, has_place, id_
 use Rattle.twkb_tree.specs.Admits.{has_same_ids, has_needed_precision, precision_allowed}
 use Rattle.twkb_tree.specs.Admits.{is_geometry, points_fit, precision_in_range, precision_fits, fits}
 use Rattle.twkb_tree.specs.Accepted.{nest_kept, geometry_rows, point_count, since_root, Accepts, AreAccepted}
-use Rattle.twkb_tree.proofs.RefusalLaws.{precision_joined}
-use Rattle.twkb_tree.proofs.RowFacts.{fits_by}
-use Rattle.twkb_tree.proofs.RowRanges.{id_in_range-true, is_precision-true}
+use Rattle.twkb_tree.proofs.OpenLaws.{precision_joined}
+use Rattle.twkb_tree.proofs.RowForest.{fits_by, id_in_range-true, is_precision-true}
 use Rattle.twkb_table.specs.Fields.{optional, IsDepthField, IsOptionalId, IsOptionalPrecision}
 use Rattle.twkb_tree.specs.Kind.{word_of}
 use Rattle.twkb_table.specs.Record.{Record, record_of}

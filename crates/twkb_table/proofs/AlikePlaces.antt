@@ -10,10 +10,10 @@ use Rattle.twkb_tree.specs.Rows.{Row}
 use Rattle.twkb_tree.specs.Admits.{parent, first_child, steps_to}
 use Rattle.twkb_tree.specs.Accepted.{geometry_rows, point_count}
 use Rattle.twkb_tree.specs.Open.{ids_by, open_parent, row_of, child_of, count_at}
-use Rattle.twkb_tree.proofs.OpenDecides.{kind_by, head_kind, head_id, steps_open}
+use Rattle.twkb_tree.proofs.OpenLaws.{kind_by, head_kind, head_id, steps_open, kind_under, ids_under, nodes_under}
+use Rattle.twkb_tree.proofs.OpenLaws.{points_under}
 use Rattle.twkb_table.specs.Judged.{Verdict, place_of, JudgedByPlace}
 use Rattle.twkb_tree.specs.RowPlace.{row_place_at}
-use Rattle.twkb_tree.proofs.OpenRefusal.{kind_under, ids_under, nodes_under, points_under}
 use Rattle.twkb_table.specs.Standing.{place_seen, StandsAfter}
 
 -- ---- the chain of reasons looks only at the kind of the parent and at whether the first child

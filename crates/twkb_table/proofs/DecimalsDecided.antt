@@ -13,7 +13,7 @@ use Rattle.std.proofs.lemmas.Slice.Eq.{bytes_eq-Decides}
 use Rattle.twkb_tree.specs.declared.kind.Kind.{Kind}
 use Rattle.twkb_tree.specs.Tree.{IsId, IsPrecision}
 use Rattle.twkb_tree.specs.Admits.{is_id, is_precision}
-use Rattle.twkb_tree.proofs.RowRanges.{is_id-true, id_is, is_precision-true, precision_is}
+use Rattle.twkb_tree.proofs.RowForest.{is_id-true, id_is, is_precision-true, precision_is}
 use Rattle.twkb_table.specs.Fields.{IsDepthField, IsIdField, IsPrecisionField, IsOptionalId, IsOptionalPrecision}
 use Rattle.twkb_tree.specs.Kind.{word_of}
 use Rattle.twkb_table.specs.declared.decimal.TheConstants.{GREATEST_DEPTH}

@@ -7,7 +7,7 @@ use Rattle.twkb_tree.specs.Rows.{Row, rows, rows_of}
 use Rattle.twkb_tree.specs.Accepted.{Accepts}
 use Rattle.twkb_tree.proofs.AllJoined.{all_join, all_apart}
 use Rattle.twkb_tree.proofs.LimitLaws.{accepted_rows}
-use Rattle.twkb_tree.proofs.RowsGrow.{grown_geometry, new_geometry, rows_of-last}
+use Rattle.twkb_tree.proofs.OpenLaws.{grown_geometry, new_geometry, rows_of-last}
 use Rattle.twkb_table.specs.Record.{Record, record_of, header, table}
 use Rattle.twkb_table.specs.Named.{Named}
 use Rattle.twkb_table.specs.Judged.{Accepted, Refused, Judged}

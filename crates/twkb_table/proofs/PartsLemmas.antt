@@ -10,7 +10,7 @@ use Rattle.twkb_tree.specs.Rows.{Row, rows, rows_of}
 use Rattle.twkb_tree.specs.RowLists.{AreShallow, AreValid, IsAtRoot, IsShallow}
 use Rattle.twkb_tree.proofs.AllJoined.{all_apart, all_join}
 use Rattle.twkb_tree.proofs.LimitLaws.{valid_front}
-use Rattle.twkb_tree.proofs.RootEnd.{first_all_ended}
+use Rattle.twkb_tree.proofs.RowLaws.{first_all_ended}
 use Rattle.twkb_table.specs.Record.{Record, header, record_of}
 use Rattle.twkb_table.specs.Named.{Named}
 use Rattle.twkb_table.specs.Parts.{BeginAtRoot}

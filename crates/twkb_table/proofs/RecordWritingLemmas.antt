@@ -15,7 +15,7 @@ use Rattle.twkb_tree.specs.declared.kind.Kind.{Kind}
 use Rattle.twkb_tree.specs.Tree.{Ids, Tree}
 use Rattle.twkb_tree.specs.Rows.{Row, plain_row, polygon_rows, ring_rows, first_id, ids_from}
 use Rattle.twkb_tree.specs.Rows.{rows_of_each, rows_with, rows_under, own_row}
-use Rattle.twkb_tree.proofs.RowMembers.{each_next, ids_from_start, own_row_first}
+use Rattle.twkb_tree.proofs.MemberLemmas.{each_next, ids_from_start, own_row_first}
 use Rattle.twkb_table.specs.Fields.{optional}
 use Rattle.twkb_table.specs.RowLines.{row_lines}
 use Rattle.twkb_table.specs.RecordWriting.{IsBare, IsReady, Writes, text_of}

@@ -12,13 +12,10 @@ use Rattle.twkb_tree.specs.Admits.{parent, first_child, steps_to, fits, id_allow
 use Rattle.twkb_tree.specs.Accepted.{Accepts, Continues, since_root, point_count}
 use Rattle.twkb_tree.specs.RowLists.{AreRowsOfOne, AreValidRowsOfOne}
 use Rattle.twkb_tree.specs.Open.{AreOpen, opened}
-use Rattle.twkb_tree.proofs.LimitLaws.{accepted_rows}
-use Rattle.twkb_tree.proofs.OpenLaws.{open_more, open_none, steps_within}
-use Rattle.twkb_tree.proofs.RefusalLaws.{continues_is, continues_true, none_is}
-use Rattle.twkb_tree.proofs.RowFacts.{facts}
-use Rattle.twkb_tree.proofs.RootLimits.{continued, valid_list}
-use Rattle.twkb_tree.proofs.RowsGrow.{root_alone}
-use Rattle.twkb_tree.proofs.RowsLocal.{open_last, since_last, point_count-reverse}
+use Rattle.twkb_tree.proofs.LimitLaws.{accepted_rows, continued, valid_list}
+use Rattle.twkb_tree.proofs.OpenLaws.{open_more, open_none, steps_within, continues_is, continues_true, none_is}
+use Rattle.twkb_tree.proofs.OpenLaws.{root_alone, open_last, since_last, point_count-reverse}
+use Rattle.twkb_tree.proofs.RowForest.{facts}
 use Rattle.twkb_flat.specs.Rows.{row_with}
 use Rattle.twkb_flat.specs.declared.node.Row.{Row as Bare}
 use Rattle.twkb_table.specs.Record.{Record}

@@ -11,9 +11,8 @@ use Rattle.twkb_tree.specs.Admits.{parent, first_child, steps_to, has_place, id_
 use Rattle.twkb_tree.specs.Admits.{has_same_ids, has_needed_precision, precision_allowed}
 use Rattle.twkb_tree.specs.Admits.{is_geometry, has_points, points_fit, precision_in_range, fits}
 use Rattle.twkb_tree.specs.Accepted.{nest_kept, geometry_rows, Accepts}
-use Rattle.twkb_tree.proofs.RowFacts.{Facts, facts, no_points_of}
-use Rattle.twkb_tree.proofs.RefusalLaws.{precision_tested}
-use Rattle.twkb_tree.proofs.RowRanges.{optional_id_is, precision_is}
+use Rattle.twkb_tree.proofs.RowForest.{Facts, facts, no_points_of, optional_id_is, precision_is}
+use Rattle.twkb_tree.proofs.OpenLaws.{precision_tested}
 use Rattle.twkb_table.specs.Fields.{optional, IsDepthField, IsOptionalId, IsOptionalPrecision}
 use Rattle.twkb_tree.specs.Kind.{word_of}
 use Rattle.twkb_table.specs.Record.{record_of}

@@ -7,7 +7,7 @@ use Rattle.std.proofs.lemmas.Bool.{true≢false}
 use Rattle.twkb_tree.specs.Tree.{Tree}
 use Rattle.twkb_tree.specs.Limits.{Allowance, IsAllowance}
 use Rattle.twkb_tree.specs.Rows.{Row, rows_of}
-use Rattle.twkb_tree.proofs.RowsGrow.{last_valid}
+use Rattle.twkb_tree.proofs.OpenLaws.{last_valid}
 use Rattle.twkb_table.specs.Record.{Record}
 use Rattle.twkb_table.specs.Named.{Named}
 use Rattle.twkb_table.specs.Judged.{Accepted, Refused, Judged}

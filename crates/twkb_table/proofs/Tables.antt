@@ -9,8 +9,7 @@ use Rattle.twkb_tree.specs.Rows.{Row, rows_of}
 use Rattle.twkb_tree.specs.RowLists.{AreValid, AreGeometries, AreShallow}
 use Rattle.twkb_tree.specs.Admits.{parent, first_child, steps_to, fits}
 use Rattle.twkb_tree.specs.Accepted.{Accepts, AreAccepted}
-use Rattle.twkb_tree.proofs.RowFacts.{facts}
-use Rattle.twkb_tree.proofs.RowRanges.{optional_id_is}
+use Rattle.twkb_tree.proofs.RowForest.{facts, optional_id_is}
 use Rattle.twkb_tree.proofs.RowDepths.{valid_depths}
 use Rattle.twkb_tree.proofs.RowLaws.{one_reading}
 use Rattle.twkb_table.specs.Record.{Record, record_of, header}

@@ -1,27 +1,35 @@
--- Rows are accepted one by one exactly if they are the rows of valid geometries.
-use Rattle.std.proofs.Common.{◌≡◌, List, [], ◌∷◌, ◌++◌, length, None, refl, sym, ◌∙◌, ap, subst, arith}
-use Rattle.std.specs.Prelude.{reverse}
+-- The limits on rows, and on the geometries that they are the rows of.
 use mathlib.Core.List.{reverse_aux}
+use Rattle.std.proofs.Common.{◌≡◌, List, [], ◌∷◌, ◌++◌, length, None, refl, sym, ◌∙◌, ap, subst, arith, ℕ, zero, suc}
+use Rattle.std.proofs.Common.{◌<◌, append_assoc, append-nil, ◌≤◌, true, Option, inl, inr, ◌+◌, ◌==◌, false, eq-eqb}
+use Rattle.std.proofs.Common.{ne_eqb}
+use Rattle.std.specs.Prelude.{reverse, nat_le}
 use Rattle.std.specs.List.{AllByRecursion}
 use Rattle.std.proofs.lemmas.List.{reverse-append}
-use Rattle.twkb_tree.specs.Limits.{Allowance}
+use Rattle.std.proofs.lemmas.Grind.{reverse_onto}
+use Rattle.std.proofs.lemmas.Bool.{cases_Bool}
+use Rattle.std.proofs.lemmas.Bool.Decides.{nat_tests}
+use Rattle.twkb_tree.specs.Limits.{Allowance, IsAllowance, largest_limits}
 use Rattle.twkb_tree.specs.Tree.{Tree, Trees, end, ◌▷◌, trees, members, AreTrees, nodes}
-use Rattle.twkb_tree.specs.Rows.{Row, rows}
+use Rattle.twkb_tree.specs.Rows.{Row, rows, rows_of}
 use Rattle.twkb_tree.specs.RowLemmas.{length-rows_with}
 use Rattle.twkb_tree.specs.Admits.{IsAdmitted}
-use Rattle.twkb_tree.specs.Accepted.{geometry_rows, weight, Accepts, AreAccepted}
-use Rattle.twkb_tree.specs.RowLists.{AreValid, AreValidRows}
+use Rattle.twkb_tree.specs.Accepted.{geometry_rows, weight, Accepts, AreAccepted, since_root, IsOneRoot, Continues}
+use Rattle.twkb_tree.specs.Accepted.{is_member, nest_kept, point_count}
+use Rattle.twkb_tree.specs.RowLists.{AreValid, AreValidRows, AreGeometries, BeginValidRows, AreRowsOfOne}
+use Rattle.twkb_tree.specs.RowLists.{AreValidRowsOfOne}
+use Rattle.twkb_tree.specs.declared.limits.TheConstants.{NEST_CAP}
 use Rattle.twkb_tree.proofs.RowForest.{past, member_nodes}
-use Rattle.twkb_tree.proofs.RowSteps.{past-listed, at_roots, rows_admitted}
-use Rattle.twkb_tree.proofs.RowListing.{listed-members}
-use Rattle.twkb_tree.proofs.RowFitting.{fit_roots}
-use Rattle.twkb_tree.proofs.RowsOfTrees.{rows_all, rows_all-trees, rows_of-members}
-use Rattle.twkb_tree.proofs.RowLaws.{admitted_forest}
-use Rattle.twkb_tree.proofs.RowsAlong.{Along, UnderParent, along_locally, locally_along}
-use Rattle.twkb_tree.proofs.RowNests.{Nests, NestAll, roots_nest, nest_roots}
-use Rattle.twkb_tree.proofs.RowSums.{Adds, TotalAll, totals, of_totals}
-use Rattle.twkb_tree.proofs.RowPoints.{HasPointsInRange, point_count-rows, flat_in_range, rows_in_range}
+use Rattle.twkb_tree.proofs.RowSteps.{past-listed, at_roots, rows_admitted, listed-members, fit_roots, Along}
+use Rattle.twkb_tree.proofs.RowSteps.{UnderParent, along_locally, locally_along}
+use Rattle.twkb_tree.proofs.RowLaws.{rows_all, rows_all-trees, rows_of-members, admitted_forest, Nests, NestAll}
+use Rattle.twkb_tree.proofs.RowLaws.{roots_nest, nest_roots, HasPointsInRange, point_count-rows, flat_in_range}
+use Rattle.twkb_tree.proofs.RowLaws.{rows_in_range, IsDeeper, AreDeep, one_tree, only_root, rest_deep, root_depth}
+use Rattle.twkb_tree.proofs.RowLaws.{one_root}
+use Rattle.twkb_tree.proofs.RowSums.{Adds, TotalAll, totals, of_totals, since_root-over, deep_reverse}
 use Rattle.twkb_tree.proofs.AllJoined.{all_join, all_apart}
+
+-- ==== Rows are accepted one by one exactly if they are the rows of valid geometries.
 
 -- ---- sums
 
@@ -206,3 +214,160 @@ row_accepted l rs r v h = valid_rows l (rs ++ r ∷ [])
 -- the last of the rows of valid geometries is accepted after the others
 pub accepts_row : (l : Allowance) (rs : List Row) (r : Row) → AreValidRows l (rs ++ r ∷ []) → Accepts l (reverse rs) r
 accepts_row l rs r v = (subst (AreAccepted l) (reverse-append rs (r ∷ [])) (accepted_rows l (rs ++ r ∷ []) v)).0
+
+-- ==== Rows of one valid geometry, and rows with which none begins.
+
+-- ---- beginnings of rows of valid geometries
+
+-- a beginning of rows of valid geometries is itself such rows
+pub begun_are : (l : Allowance) (rs : List Row) → BeginValidRows l rs → AreValidRows l rs
+begun_are l rs b = valid_front l rs b.0 b.1
+
+-- rows of valid geometries are a beginning of such rows
+pub are_begun : (l : Allowance) (rs : List Row) → AreValidRows l rs → BeginValidRows l rs
+are_begun l rs v = ([], subst (AreValidRows l) (sym (append-nil rs)) v)
+
+-- the last row of such a beginning is accepted after the others
+pub accepts_begun : (l : Allowance) (rs : List Row) (r : Row) → BeginValidRows l (rs ++ r ∷ [])
+    → Accepts l (reverse rs) r
+accepts_begun l rs r b = accepts_row l rs r (begun_are l (rs ++ r ∷ []) b)
+
+-- an accepted row makes such a beginning longer
+pub accepted_begins : (l : Allowance) (rs : List Row) (r : Row) → AreValidRows l rs
+    → Accepts l (reverse rs) r → BeginValidRows l (rs ++ r ∷ [])
+accepted_begins l rs r v h = are_begun l (rs ++ r ∷ []) (row_accepted l rs r v h)
+
+-- no rows of valid geometries begin with a row that is not accepted
+pub refused_begins_none : (l : Allowance) (rs : List Row) (r : Row) (more : List Row)
+    → (Accepts l (reverse rs) r → ⊥) → AreValidRows l (rs ++ r ∷ more) → ⊥
+refused_begins_none l rs r more refused v = refused
+    (accepts_begun l rs r (more, subst (AreValidRows l) (sym (append_assoc rs (r ∷ []) more)) v))
+
+-- ---- one geometry
+
+-- valid geometries are geometries
+are_geometries : (l : Allowance) (gs : List Tree) → AreValid l gs → AreGeometries gs
+are_geometries l [] v = tt
+are_geometries l (g ∷ gs) v = (v.0.tree, are_geometries l gs v.1)
+
+-- rows of one valid geometry are rows of valid geometries
+valid_as_list : (l : Allowance) (s : Row) (rs : List Row) → AreValidRowsOfOne l (s ∷ rs) → AreValidRows l (s ∷ rs)
+valid_as_list l s rs a = (a.0 ∷ [], (a.1, tt), one_tree a.0 ∙ a.2)
+
+-- rows of one valid geometry, or no rows, are rows of valid geometries
+pub valid_list : (l : Allowance) (rs : List Row) → AreValidRowsOfOne l rs → AreValidRows l rs
+valid_list l [] a = ([], tt, refl)
+valid_list l (s ∷ rs) a = valid_as_list l s rs a
+
+-- rows of one valid geometry are rows of one geometry
+pub of_one : (l : Allowance) (rs : List Row) → AreValidRowsOfOne l rs → AreRowsOfOne rs
+of_one l [] a = tt
+of_one l (s ∷ rs) a = (a.0, a.1.tree, a.2)
+
+-- rows of valid geometries without a second root are rows of one valid geometry
+one_of_list : (l : Allowance) (s : Row) (rs : List Row) → AreValidRows l (s ∷ rs) → AreDeep 1 rs
+    → AreValidRowsOfOne l (s ∷ rs)
+one_of_list l s rs v deep =
+    let one = only_root v.0 s rs (are_geometries l v.0 v.1) v.2 deep in
+    let valid = subst (AreValid l) one.2 v.1 in
+    (one.0, valid.0, sym (one_tree one.0) ∙ ap rows_of (sym one.2) ∙ v.2)
+
+-- the rows after the first are below the root
+deep_after : (l : Allowance) (s : Row) (rs : List Row) → AreValidRowsOfOne l (s ∷ rs) → AreDeep 1 rs
+deep_after l s rs a = rest_deep a.0 s rs a.1.tree a.2
+
+-- rows of one valid geometry with one more accepted row are rows of one
+pub continued : (l : Allowance) (rs : List Row) (r : Row) → AreValidRowsOfOne l rs
+    → Continues l rs r → AreValidRowsOfOne l (rs ++ r ∷ [])
+continued l [] r a h = one_of_list l r [] (row_accepted l [] r ([], tt, refl) h.0) tt
+continued l (s ∷ rs) r a h =
+    let root = h.1 in
+    one_of_list l s (rs ++ r ∷ []) (row_accepted l (s ∷ rs) r (valid_as_list l s rs a) h.0)
+    (all_join (IsDeeper 1) rs (r ∷ []) (deep_after l s rs a) (omega arith, tt))
+
+-- the last of the rows of one valid geometry is accepted after the others
+pub continues_row : (l : Allowance) (rs : List Row) (r : Row) → AreValidRowsOfOne l (rs ++ r ∷ []) → Continues l rs r
+continues_row l rs r a = (accepts_row l rs r (valid_list l (rs ++ r ∷ []) a), one_root rs r (of_one l (rs ++ r ∷ []) a))
+
+-- a prefix of rows of one valid geometry is rows of one
+pub one_valid_front : (l : Allowance) (front more : List Row) → AreValidRowsOfOne l (front ++ more)
+    → AreValidRowsOfOne l front
+one_valid_front l [] more a = tt
+one_valid_front l (s ∷ front) more a =
+    one_of_list l s front (valid_front l (s ∷ front) more (valid_as_list l s (front ++ more) a))
+    (all_apart (IsDeeper 1) front more (deep_after l s (front ++ more) a)).0
+
+-- ---- all rows of one geometry are counted
+
+-- all rows of one geometry are since its root
+pub one_since_root : (rs : List Row) → AreRowsOfOne rs → since_root (reverse rs) ≡ reverse rs
+one_since_root [] a = refl
+one_since_root (s ∷ rs) a =
+    let split : reverse (s ∷ rs) ≡ reverse rs ++ s ∷ [] = reverse_onto rs s [] in
+    let deep = deep_reverse rs [] (rest_deep a.0 s rs a.1 a.2) tt in
+    let root = root_depth a.0 s [] rs a.1 (append-nil (rows 0 a.0) ∙ a.2) in
+    ap since_root split ∙ since_root-over (reverse rs) s [] deep root ∙ sym split
+
+-- for a row below the root, all rows since the root are counted
+geometry_rows-below : (d : ℕ) (before : List Row) → 0 < d → geometry_rows d before ≡ since_root before
+geometry_rows-below zero before lt = absurd (omega arith)
+geometry_rows-below (suc d) before lt = refl
+
+-- all rows of one geometry are counted
+pub one_geometry_rows : (rs : List Row) (r : Row) → AreRowsOfOne rs → IsOneRoot rs r
+    → geometry_rows r.depth (reverse rs) ≡ reverse rs
+one_geometry_rows [] r a root = ap (λ d. geometry_rows d []) root
+one_geometry_rows (s ∷ rs) r a root = geometry_rows-below r.depth (reverse (s ∷ rs)) root ∙ one_since_root (s ∷ rs) a
+
+-- ==== Rows accepted within some limits are accepted within the largest.
+
+more_levels : (d m n : ℕ) → m ≤ n → nat_le d m ≡ true → nat_le d n ≡ true
+more_levels d m n le e = grind (arith, nat_tests)
+
+nest_largest : (l : Allowance) (p : Option Row) (d : ℕ) → IsAllowance l → nest_kept l p d ≡ true
+    → nest_kept largest_limits p d ≡ true
+nest_largest l p d sound e = elim (cases_Bool (is_member p)) [
+  | inl member ↦ rw member (more_levels d l.nest NEST_CAP sound.nest_cap (rw member at e))
+  | inr other ↦ rw other refl
+]
+
+pub accepts_largest : (l : Allowance) (before : List Row) (r : Row) → IsAllowance l
+    → Accepts l before r → Accepts largest_limits before r
+accepts_largest l before r cap a = record {
+  admitted = a.admitted;
+  nest = nest_largest l _ r.depth cap a.nest;
+  nodes = (let n = a.nodes in let c = cap.nodes_cap in omega (arith, n, c));
+  in_range = a.in_range;
+  points = (let n = a.points in let c = cap.points_cap in omega (arith, n, c));
+}
+
+pub continues_largest : (l : Allowance) (rows : List Row) (r : Row) → IsAllowance l
+    → Continues l rows r → Continues largest_limits rows r
+continues_largest l rows r cap c = (accepts_largest l _ r cap c.0, c.1)
+
+-- ==== The number of rows and points of a geometry so far, after one more row and within the limits.
+
+-- the number of rows is one higher after a row
+pub nodes_after : (d : ℕ) (r : Row) (before : List Row) → r.depth ≡ d
+    → length (since_root (r ∷ before)) ≡ length (geometry_rows d before) + 1
+nodes_after zero r before e = let t : (r.depth == 0) ≡ true = eq-eqb r.depth 0 e in rw t refl
+nodes_after (suc d) r before e = let t : (r.depth == 0) ≡ false = ne_eqb r.depth 0
+    (λ z. omega arith) in rw t (omega arith)
+
+-- the number of points is higher by those of the row
+pub points_after : (d : ℕ) (r : Row) (before : List Row) → r.depth ≡ d
+    → point_count (since_root (r ∷ before)) ≡ point_count (geometry_rows d before) + length r.points
+points_after zero r before e = let t : (r.depth == 0) ≡ true = eq-eqb r.depth 0 e in rw t (omega arith)
+points_after (suc d) r before e = let t : (r.depth == 0) ≡ false = ne_eqb r.depth 0
+    (λ z. omega arith) in rw t (omega arith)
+
+-- accepted rows are at most as many as the limits allow
+pub nodes_kept : (l : Allowance) (before : List Row) → AreAccepted l before → length (since_root before) ≤ l.nodes
+nodes_kept l [] a = omega arith
+nodes_kept l (r ∷ before) a = let few = a.0.nodes in omega (arith, few, nodes_after r.depth r before refl)
+
+-- the points of accepted rows are at most as many as the limits allow
+pub points_kept : (l : Allowance) (before : List Row) → AreAccepted l before
+    → point_count (since_root before) ≤ l.points
+points_kept l [] a = omega arith
+points_kept l (r ∷ before) a = let few = a.0.points in omega (arith, few, points_after r.depth r before refl)

@@ -14,9 +14,9 @@ use Rattle.twkb_tree.specs.Admits.{parent, first_child}
 use Rattle.twkb_tree.specs.Accepted.{Accepts, IsOneRoot, geometry_rows, point_count}
 use Rattle.twkb_tree.specs.RowLists.{AreValidRowsOfOne}
 use Rattle.twkb_tree.proofs.PointAdded.{point_last}
-use Rattle.twkb_tree.proofs.RootLimits.{continued, continues_row, one_valid_front, of_one, one_geometry_rows}
-use Rattle.twkb_tree.proofs.RowPoints.{length-row_points, row_points-append}
-use Rattle.twkb_tree.proofs.RowsLocal.{point_count-reverse}
+use Rattle.twkb_tree.proofs.LimitLaws.{continued, continues_row, one_valid_front, of_one, one_geometry_rows}
+use Rattle.twkb_tree.proofs.RowLaws.{length-row_points, row_points-append}
+use Rattle.twkb_tree.proofs.OpenLaws.{point_count-reverse}
 
 -- a line fits any number of points
 pub line_fits : (k : Kind) (whole : Bool) (ps : List Point) → (k ≡ kinds.Linestring)

@@ -1,21 +1,233 @@
--- Rows are admitted one by one exactly if they are rows of geometries, and they determine the
--- geometries.
-use Rattle.std.proofs.Common.{◌≡◌, true, false, List, [], ◌∷◌, ◌++◌, None, refl, sym, ◌∙◌, ap, subst, append-nil}
-use Rattle.std.specs.Prelude.{reverse}
+-- The rows of geometries: their points and nesting, and where a geometry begins and ends.
+use Rattle.std.proofs.Common.{◌≡◌, ℕ, suc, List, [], ◌∷◌, ◌++◌, length, Option, Some, None, refl, sym, ◌∙◌, ap, subst}
+use Rattle.std.proofs.Common.{arith, length-append, append_assoc, append-nil, ◌+◌, ◌≤◌, true, false, ◌<◌}
+use Rattle.std.specs.Prelude.{ℤ, flat_map, ⊤, nat_le, reverse}
+use Rattle.std.specs.List.{AllByRecursion}
+use Rattle.std.proofs.lemmas.Bool.Decides.{nat_tests}
 use Rattle.std.proofs.lemmas.List.{reverse-reverse, reverse-append}
-use Rattle.twkb_tree.specs.Tree.{Tree, Trees, trees, members, AreTrees}
-use Rattle.twkb_tree.specs.Rows.{Row, rows_of}
-use Rattle.twkb_tree.specs.Admits.{admits, IsAdmitted}
-use Rattle.twkb_tree.specs.RowLists.{AreGeometries, AreRows}
-use Rattle.twkb_tree.proofs.RowForest.{listed, past, member_nodes, trees_from}
-use Rattle.twkb_tree.proofs.RowSteps.{past-listed, forest_of, past-forest_of, forest_fits, rows_admitted}
-use Rattle.twkb_tree.proofs.RowsApart.{one_forest}
-use Rattle.twkb_tree.proofs.RowListing.{listed-members}
-use Rattle.twkb_tree.proofs.RowFitting.{fit_roots}
-use Rattle.twkb_tree.proofs.RowsBack.{trees_back}
-use Rattle.twkb_tree.proofs.RowRebuilding.{rebuilt}
-use Rattle.twkb_tree.proofs.RowsOfTrees.{rows_all, rows_all-trees, rows_of-members, members-trees}
-use Rattle.twkb_tree.proofs.RowsOfTrees.{AreTrees-trees, geometries_are}
+use Rattle.twkb_points.specs.Point.{Point, IsInRange, AreInRange}
+use Rattle.twkb_tree.specs.Tree.{Tree, Trees, Simple, Ids, simple, collection, end, ◌▷◌, point, line, polygon}
+use Rattle.twkb_tree.specs.Tree.{multi_point, multi_line, multi_polygon, flat, flat_all, flatten, points_in, trees}
+use Rattle.twkb_tree.specs.Tree.{members, AreTrees, nest, nest_all, IsTree}
+use Rattle.twkb_tree.specs.Rows.{Row, rows, rows_with, member_rows, rows_below, ring_rows, row_points, own_points}
+use Rattle.twkb_tree.specs.Rows.{first_id, other_ids, rows_of, own_row, plain_row}
+use Rattle.twkb_tree.specs.Accepted.{point_count, nest_kept, IsOneRoot}
+use Rattle.twkb_tree.specs.RowLists.{AreGeometries, AreRows, AreRowsOfOne, IsAtRoot, IsAbove}
+use Rattle.twkb_tree.specs.Limits.{Allowance}
+use Rattle.twkb_tree.specs.Admits.{is_collection, admits, IsAdmitted}
+use Rattle.twkb_tree.specs.declared.kind.Kind.TheVariants as kind
+use Rattle.twkb_tree.proofs.AllJoined.{all_join, all_apart}
+use Rattle.twkb_tree.proofs.RowForest.{Nodes, none, each_nodes, ring_nodes, simple_below, member_nodes, tree_below}
+use Rattle.twkb_tree.proofs.RowForest.{listed, past, trees_from, node, IsDeep, Fit, rebuilt}
+use Rattle.twkb_tree.proofs.RowSteps.{own_row-depth, fit_roots, simple_kind, trees_back, Locally, past-listed}
+use Rattle.twkb_tree.proofs.RowSteps.{forest_of, past-forest_of, forest_fits, rows_admitted, fit_deep, one_forest}
+use Rattle.twkb_tree.proofs.RowSteps.{listed-members}
+
+-- ==== The points of a geometry are those of its rows, in order.
+
+-- the points of joined rows
+pub row_points-append : (xs ys : List Row) → row_points (xs ++ ys) ≡ row_points xs ++ row_points ys
+row_points-append [] ys = refl
+row_points-append (x ∷ xs) ys = ap (λ ps. x.points ++ ps) (row_points-append xs ys)
+    ∙ sym (append_assoc x.points (row_points xs) (row_points ys))
+
+-- the points of the rows of rings
+row_points-rings : (d : ℕ) (rings : List (List Point)) → row_points (ring_rows d rings) ≡ flatten rings
+row_points-rings d [] = refl
+row_points-rings d (ring ∷ rings) = ap (λ ps. ring ++ ps) (row_points-rings d rings)
+
+-- the points of the rows of points
+row_points-points : (d : ℕ) (ids : Ids) (ps : List Point) → row_points (rows_below d (multi_point ids ps)) ≡ ps
+row_points-points d ids [] = refl
+row_points-points d ids (p ∷ ps) = ap (λ qs. p ∷ qs) (row_points-points d (other_ids ids) ps)
+
+-- the points of the rows of linestrings
+row_points-lines : (d : ℕ) (ids : Ids) (lines : List (List Point))
+    → row_points (rows_below d (multi_line ids lines)) ≡ flatten lines
+row_points-lines d ids [] = refl
+row_points-lines d ids (ps ∷ lines) = ap (λ qs. ps ++ qs) (row_points-lines d (other_ids ids) lines)
+
+-- the points of the rows of polygons
+row_points-areas : (d : ℕ) (ids : Ids) (areas : List (List (List Point)))
+    → row_points (rows_below d (multi_polygon ids areas)) ≡ flat_map flatten areas
+row_points-areas d ids [] = refl
+row_points-areas d ids (rings ∷ areas) =
+    row_points-append (ring_rows (suc d) rings) (rows_below d (multi_polygon (other_ids ids) areas))
+    ∙ ap (λ ps. ps ++ row_points (rows_below d (multi_polygon (other_ids ids) areas))) (row_points-rings (suc d) rings)
+    ∙ ap (λ ps. flatten rings ++ ps) (row_points-areas d (other_ids ids) areas)
+
+-- the points of the rows of a simple shape
+row_points-simple : (d : ℕ) (s : Simple) → own_points s ++ row_points (rows_below d s) ≡ points_in s
+row_points-simple d (point None) = refl
+row_points-simple d (point (Some p)) = refl
+row_points-simple d (line ps) = append-nil ps
+row_points-simple d (polygon rings) = row_points-rings d rings
+row_points-simple d (multi_point ids ps) = row_points-points d ids ps
+row_points-simple d (multi_line ids lines) = row_points-lines d ids lines
+row_points-simple d (multi_polygon ids areas) = row_points-areas d ids areas
+
+mutual
+  pub row_points-with : (id : Option ℤ) (d : ℕ) (g : Tree) → row_points (rows_with id d g) ≡ flat g
+  row_points-with id d (simple q s) = row_points-simple (suc d) s
+  row_points-with id d (collection q ids gs) = row_points-members (suc d) ids gs
+
+  row_points-members : (d : ℕ) (ids : Ids) (gs : Trees) → row_points (member_rows d ids gs) ≡ flat_all gs
+  row_points-members d ids end = refl
+  row_points-members d ids (g ▷ gs) =
+      row_points-append (rows_with (first_id ids) d g) (member_rows d (other_ids ids) gs)
+      ∙ ap (λ ps. ps ++ row_points (member_rows d (other_ids ids) gs)) (row_points-with (first_id ids) d g)
+      ∙ ap (λ ps. flat g ++ ps) (row_points-members d (other_ids ids) gs)
+
+-- ---- the number of points
+
+-- there are as many points as the rows count
+pub length-row_points : (rs : List Row) → length (row_points rs) ≡ point_count rs
+length-row_points [] = refl
+length-row_points (r ∷ rs) = omega (arith, length-append r.points (row_points rs), length-row_points rs)
+
+-- there are as many points as the geometry has
+pub point_count-rows : (g : Tree) → point_count (rows 0 g) ≡ length (flat g)
+point_count-rows g = sym (length-row_points (rows 0 g)) ∙ ap (λ ps. length ps) (row_points-with None 0 g)
+
+-- ---- the range of points
+
+-- the points of the row are in range
+abbrev pub HasPointsInRange : Row → Type 0
+HasPointsInRange r = AreInRange r.points
+
+-- all points are in range if each row's are
+of_each_row : (rs : List Row) → AllByRecursion HasPointsInRange rs → AreInRange (row_points rs)
+of_each_row [] h = tt
+of_each_row (r ∷ rs) h = all_join IsInRange r.points (row_points rs) h.0 (of_each_row rs h.1)
+
+-- each row's points are in range if all are
+each_row : (rs : List Row) → AreInRange (row_points rs) → AllByRecursion HasPointsInRange rs
+each_row [] h = tt
+each_row (r ∷ rs) h = let t = all_apart IsInRange r.points (row_points rs) h in (t.0, each_row rs t.1)
+
+-- a geometry's points are in range if its rows' points are
+pub flat_in_range : (g : Tree) → AllByRecursion HasPointsInRange (rows 0 g) → AreInRange (flat g)
+flat_in_range g h = subst AreInRange (row_points-with None 0 g) (of_each_row (rows 0 g) h)
+
+-- a geometry's rows have their points in range if its points are
+pub rows_in_range : (g : Tree) → AreInRange (flat g) → AllByRecursion HasPointsInRange (rows 0 g)
+rows_in_range g h = each_row (rows 0 g) (subst AreInRange (sym (row_points-with None 0 g)) h)
+
+-- ==== The rows of a list of geometries and the rows of members are the same.
+
+-- the rows of roots
+abbrev pub rows_all : Trees → List Row
+rows_all gs = member_rows 0 None gs
+
+-- the rows of a list, as members, are the rows of the list
+pub rows_all-trees : (gs : List Tree) → rows_all (trees gs) ≡ rows_of gs
+rows_all-trees [] = refl
+rows_all-trees (g ∷ gs) = ap (λ rs. rows 0 g ++ rs) (rows_all-trees gs)
+
+-- the rows of members, as a list, are the rows of the members
+pub rows_of-members : (gs : Trees) → rows_of (members gs) ≡ rows_all gs
+rows_of-members end = refl
+rows_of-members (g ▷ gs) = ap (λ rs. rows 0 g ++ rs) (rows_of-members gs)
+
+-- a list turned into members and back is the list
+pub members-trees : (gs : List Tree) → members (trees gs) ≡ gs
+members-trees [] = refl
+members-trees (g ∷ gs) = ap (λ hs. g ∷ hs) (members-trees gs)
+
+-- a list of geometries is members that are geometries
+pub AreTrees-trees : (gs : List Tree) → AreGeometries gs → AreTrees (trees gs)
+AreTrees-trees [] h = tt
+AreTrees-trees (g ∷ gs) h = (h.0, AreTrees-trees gs h.1)
+
+-- members that are geometries are a list of geometries
+pub geometries_are : (gs : Trees) → AreTrees gs → AreGeometries (members gs)
+geometries_are end h = tt
+geometries_are (g ▷ gs) h = (h.0, geometries_are gs h.1)
+
+-- ==== The rows of a geometry keep the nesting exactly if the geometry does.
+
+-- the row keeps the nesting under its parent
+abbrev pub Nests : Allowance → Option Row → Row → Type 0
+Nests m p r = nest_kept m p r.depth ≡ true
+
+-- parts are not members of a collection
+simple_each : {A : Type 0} (m : Allowance) (p : Row) (row : Option ℤ → A → Row) (below : A → Nodes)
+    (ids : Ids) (xs : List A) → is_collection p.kind ≡ false
+    → ((id : Option ℤ) (x : A) → Locally (Nests m) (Some (row id x)) (below x))
+    → Locally (Nests m) (Some p) (each_nodes row below ids xs)
+simple_each m p row below ids [] e h = tt
+simple_each m p row below ids (x ∷ xs) e h = (
+  rw e refl,
+  h (first_id ids) x,
+  simple_each m p row below (other_ids ids) xs e h,
+)
+
+-- the rows below a simple shape are not members of a collection
+simple_nests : (m : Allowance) (d : ℕ) (p : Row) (s : Simple) → is_collection p.kind ≡ false
+    → Locally (Nests m) (Some p) (simple_below d s)
+simple_nests m d p (point o) e = tt
+simple_nests m d p (line ps) e = tt
+simple_nests m d p (polygon rings) e = simple_each m p (plain_row d kind.Ring) (λ ring. none) None rings e (λ id x. tt)
+simple_nests m d p (multi_point ids ps) e = simple_each m p
+    (λ id q. plain_row d kind.Point id (q ∷ [])) (λ q. none) ids ps e (λ id x. tt)
+simple_nests m d p (multi_line ids lines) e = simple_each m p (plain_row d kind.Linestring)
+    (λ ps. none) ids lines e (λ id x. tt)
+simple_nests m d p (multi_polygon ids areas) e =
+    simple_each m p (λ id rings. plain_row d kind.Polygon id []) (ring_nodes (suc d)) ids areas e
+    (λ id rings. simple_each m (plain_row d kind.Polygon id []) (plain_row (suc d) kind.Ring)
+    (λ ring. none) None rings refl (λ id' x. tt))
+
+mutual
+  nests_depth : (m : Allowance) (d : ℕ) (id : Option ℤ) (g : Tree) → d ≤ m.nest
+      → Locally (Nests m) (Some (own_row id d g)) (tree_below (suc d) g) → d + nest g ≤ m.nest
+  nests_depth m d id (simple q s) le h = omega arith
+  nests_depth m d id (collection q ids gs) le h = all_kept m d (own_row id d (collection q ids gs)) ids gs refl le h
+
+  all_kept : (m : Allowance) (d : ℕ) (p : Row) (ids : Ids) (gs : Trees)
+      → is_collection p.kind ≡ true → d ≤ m.nest → Locally (Nests m) (Some p)
+      (member_nodes (suc d) ids gs) → d + nest_all gs ≤ m.nest
+  all_kept m d p ids end e le h = omega arith
+  all_kept m d p ids (g ▷ gs) e le h =
+      let here : nat_le (suc d) m.nest ≡ true = ap (λ k. nat_le k m.nest)
+      (sym (own_row-depth (first_id ids) (suc d) g)) ∙ (rw e at h.0) in
+      let deep : suc d ≤ m.nest = grind (arith, nat_tests) in
+      let one = nests_depth m (suc d) (first_id ids) g deep h.1 in
+      let rest = all_kept m d p (other_ids ids) gs e le h.2 in
+      omega (arith, one, rest)
+
+mutual
+  depth_nests : (m : Allowance) (d : ℕ) (id : Option ℤ) (g : Tree) → d + nest g ≤ m.nest
+      → Locally (Nests m) (Some (own_row id d g)) (tree_below (suc d) g)
+  depth_nests m d id (simple q s) le = simple_nests m (suc d) (own_row id d (simple q s)) s (simple_kind s)
+  depth_nests m d id (collection q ids gs) le = kept_all m d (own_row id d (collection q ids gs)) ids gs refl le
+
+  kept_all : (m : Allowance) (d : ℕ) (p : Row) (ids : Ids) (gs : Trees)
+      → is_collection p.kind ≡ true → d + nest_all gs ≤ m.nest
+      → Locally (Nests m) (Some p) (member_nodes (suc d) ids gs)
+  kept_all m d p ids end e le = tt
+  kept_all m d p ids (g ▷ gs) e le =
+      let deep : suc d ≤ m.nest = omega arith in
+      let test : nat_le (suc d) m.nest ≡ true = grind (arith, nat_tests) in
+      let here : nest_kept m (Some p) (own_row (first_id ids) (suc d) g).depth ≡ true =
+      rw (own_row-depth (first_id ids) (suc d) g, e) test in
+      (here, depth_nests m (suc d) (first_id ids) g (omega arith), kept_all m d p (other_ids ids) gs e (omega arith))
+
+-- each member keeps the nesting
+abbrev pub NestAll : Allowance → Trees → Type 0
+NestAll m end = ⊤
+NestAll m (g ▷ gs) = (nest g ≤ m.nest) × NestAll m gs
+
+-- roots keep the nesting if their rows do
+pub roots_nest : (m : Allowance) (gs : Trees) → Locally (Nests m) None (member_nodes 0 None gs) → NestAll m gs
+roots_nest m end h = tt
+roots_nest m (g ▷ gs) h = (omega (arith, nests_depth m 0 None g (omega arith) h.1), roots_nest m gs h.2)
+
+-- the rows of roots keep the nesting if the roots do
+pub nest_roots : (m : Allowance) (gs : Trees) → NestAll m gs → Locally (Nests m) None (member_nodes 0 None gs)
+nest_roots m end h = tt
+nest_roots m (g ▷ gs) h = (refl, depth_nests m 0 None g (omega (arith, h.0)), nest_roots m gs h.1)
+
+-- ==== Rows are admitted one by one exactly if they are rows of geometries, and they determine the geometries.
 
 -- ---- rows of geometries are admitted, and admitted rows are rows of geometries
 
@@ -87,3 +299,207 @@ one_reading gs hs a b e =
     let same = one_trees (trees gs) (trees hs) (AreTrees-trees gs a) (AreTrees-trees hs b)
     (rows_all-trees gs ∙ e ∙ sym (rows_all-trees hs)) in
     sym (members-trees gs) ∙ ap members same ∙ members-trees hs
+
+-- ==== The rows of one geometry: where they begin, continue and end.
+
+-- the row is at this depth or deeper
+abbrev pub IsDeeper : ℕ → Row → Type 0
+IsDeeper d r = d ≤ r.depth
+
+-- each row is at this depth or deeper
+abbrev pub AreDeep : ℕ → List Row → Type 0
+AreDeep d rs = AllByRecursion (IsDeeper d) rs
+
+-- the last row of deep rows is deep
+deep_end : (d : ℕ) (xs : List Row) (r : Row) → AreDeep d (xs ++ r ∷ []) → d ≤ r.depth
+deep_end d [] r h = h.0
+deep_end d (x ∷ xs) r h = deep_end d xs r h.1
+
+-- a row between deep rows is deep
+deep_mid : (d : ℕ) (xs : List Row) (y : Row) (ys : List Row) → AreDeep d (xs ++ y ∷ ys) → d ≤ y.depth
+deep_mid d [] y ys h = h.0
+deep_mid d (x ∷ xs) y ys h = deep_mid d xs y ys h.1
+
+-- the rows of a deep forest are deep
+deep_listed : (d : ℕ) (n : Nodes) → IsDeep d n → AreDeep d (listed n)
+deep_listed d none h = tt
+deep_listed d (node r c l) h = (
+  h.0,
+  all_join (IsDeeper d) (listed c) (listed l)
+      (deep_listed d c h.1) (deep_listed d l h.2),
+)
+
+-- the rows of a list of one geometry are those of the geometry
+pub one_tree : (g : Tree) → rows_of (g ∷ []) ≡ rows 0 g
+one_tree g = append-nil (rows 0 g)
+
+-- the rows below the root are deeper than it
+pub below_root : (g : Tree) → IsTree g → (below : List Row) × (rows 0 g ≡ own_row None 0 g ∷ below) × AreDeep 1 below
+below_root g t =
+    let fit = fit_roots (g ▷ end) (t, tt) in
+    let deep = fit_deep 1 (Some (own_row None 0 g)) None (tree_below 1 g) fit.2 in (
+      listed (tree_below 1 g),
+      sym (one_tree g) ∙ sym (listed-members 0 None (g ▷ end))
+          ∙ ap (λ rs. own_row None 0 g ∷ rs) (append-nil (listed (tree_below 1 g))),
+      deep_listed 1 (tree_below 1 g) deep,
+    )
+
+-- the root's row is at depth 0
+root_is_root : (g : Tree) → IsTree g → (own_row None 0 g).depth ≡ 0
+root_is_root g t = (fit_roots (g ▷ end) (t, tt)).0
+
+-- the rows of a geometry begin at depth 0
+pub root_depth : (g : Tree) (r : Row) (x y : List Row) → IsTree g → rows 0 g ++ x ≡ r ∷ y → r.depth ≡ 0
+root_depth g r x y t e =
+    let b = below_root g t in
+    let w : own_row None 0 g ∷ (b.0 ++ x) ≡ r ∷ y = ap (λ rs. rs ++ x) (sym b.1) ∙ e in
+    let head : own_row None 0 g ≡ r = cc w in
+    sym (ap (λ (q : Row). q.depth) head) ∙ root_is_root g t
+
+-- the other rows of a geometry are below the root
+pub rest_deep : (g : Tree) (r : Row) (rest : List Row) → IsTree g → rows 0 g ≡ r ∷ rest → AreDeep 1 rest
+rest_deep g r rest t e =
+    let b = below_root g t in
+    let w : own_row None 0 g ∷ b.0 ≡ r ∷ rest = sym b.1 ∙ e in
+    let tail : b.0 ≡ rest = cc w in
+    subst (AreDeep 1) tail b.2
+
+-- rows with no second root are those of one geometry
+pub only_root : (gs : List Tree) (r : Row) (rest : List Row) → AreGeometries gs
+    → rows_of gs ≡ r ∷ rest → AreDeep 1 rest → (g : Tree) × IsTree g × (gs ≡ g ∷ [])
+only_root [] r rest t e deep = cc e
+only_root (g ∷ []) r rest t e deep = (g, t.0, refl)
+only_root (g ∷ h ∷ hs) r rest t e deep =
+    let b = below_root g t.0 in
+    let c = below_root h t.1.0 in
+    let whole : (own_row None 0 g ∷ b.0) ++ ((own_row None 0 h ∷ c.0) ++ rows_of hs) ≡ r ∷ rest =
+    ap (λ rs. rs ++ ((own_row None 0 h ∷ c.0) ++ rows_of hs)) (sym b.1)
+    ∙ ap (λ rs. rows 0 g ++ (rs ++ rows_of hs)) (sym c.1) ∙ e in
+    let tail : b.0 ++ (own_row None 0 h ∷ (c.0 ++ rows_of hs)) ≡ rest = cc whole in
+    let low = deep_mid 1 b.0 (own_row None 0 h) (c.0 ++ rows_of hs) (subst (AreDeep 1) (sym tail) deep) in
+    absurd (omega (arith, low, root_is_root h t.1.0))
+
+-- the rows of the only geometry are all rows
+rows_of_only : (gs : List Tree) (g : Tree) (rs : List Row) → gs ≡ g ∷ [] → rows_of gs ≡ rs → rows 0 g ≡ rs
+rows_of_only gs g rs same e = sym (one_tree g) ∙ ap rows_of (sym same) ∙ e
+
+-- ---- one more row
+
+-- rows of one geometry are rows of geometries
+pub as_list : (s : Row) (rs : List Row) → AreRowsOfOne (s ∷ rs) → AreRows (s ∷ rs)
+as_list s rs a = (a.0 ∷ [], (a.1, tt), one_tree a.0 ∙ a.2)
+
+-- rows of one geometry with one more admitted row are rows of one geometry
+pub one_grows : (rs : List Row) (r : Row) → AreRowsOfOne rs → admits rs r ≡ true → IsOneRoot rs r
+    → AreRowsOfOne (rs ++ r ∷ [])
+one_grows [] r a h root =
+    let grown = row_admitted [] r ([], tt, refl) h in
+    let one = only_root grown.0 r [] grown.1 grown.2 tt in
+    (one.0, one.1, rows_of_only grown.0 one.0 (r ∷ []) one.2 grown.2)
+one_grows (s ∷ rs) r a h root =
+    let grown = row_admitted (s ∷ rs) r (as_list s rs a) h in
+    let one = only_root grown.0 s (rs ++ r ∷ []) grown.1 grown.2
+    (all_join (IsDeeper 1) rs (r ∷ []) (rest_deep a.0 s rs a.1 a.2) (omega arith, tt)) in
+    (one.0, one.1, rows_of_only grown.0 one.0 (s ∷ rs ++ r ∷ []) one.2 grown.2)
+
+-- only the first row is a root
+pub one_root : (rs : List Row) (r : Row) → AreRowsOfOne (rs ++ r ∷ []) → IsOneRoot rs r
+one_root [] r a = root_depth a.0 r [] [] a.1 (append-nil (rows 0 a.0) ∙ a.2)
+one_root (s ∷ rs) r a = deep_end 1 rs r (rest_deep a.0 s (rs ++ r ∷ []) a.1 a.2)
+
+-- the last of the rows of one geometry is admitted after the others
+pub one_came : (rs : List Row) (r : Row) → AreRowsOfOne (rs ++ r ∷ []) → (admits rs r ≡ true) × IsOneRoot rs r
+one_came [] r a = (admits_row [] r (as_list r [] a), one_root [] r a)
+one_came (s ∷ rs) r a = (admits_row (s ∷ rs) r (as_list s (rs ++ r ∷ []) a), one_root (s ∷ rs) r a)
+
+-- ---- the end of a geometry's rows
+
+-- the rows of one geometry determine it
+pub one_geometry : (g h : Tree) → IsTree g → IsTree h → rows 0 g ≡ rows 0 h → g ≡ h
+one_geometry g h a b e =
+    let same = one_reading (g ∷ []) (h ∷ []) (a, tt) (b, tt) (one_tree g ∙ e ∙ sym (one_tree h)) in
+    let only : g ≡ h = cc in only
+
+-- another geometry whose rows begin with these continues below its root
+pub goes_on_below : (g h : Tree) (r : Row) (more : List Row) → IsTree g → IsTree h
+    → rows 0 g ++ r ∷ more ≡ rows 0 h → 0 < r.depth
+goes_on_below g h r more a b e =
+    let c = below_root g a in
+    let w : rows 0 h ≡ own_row None 0 g ∷ (c.0 ++ r ∷ more) = sym e ∙ ap (λ rs. rs ++ r ∷ more) c.1 in
+    deep_mid 1 c.0 r more (rest_deep h (own_row None 0 g) (c.0 ++ r ∷ more) b w)
+
+-- ==== A geometry ends if the next row is a root, or if there is no next row.
+
+-- the rows of a geometry are the root's row and the rows below it
+root_rows : (g : Tree) → rows 0 g ≡ own_row None 0 g ∷ listed (tree_below 1 g)
+root_rows g = sym (one_tree g) ∙ sym (listed-members 0 None (g ▷ end))
+    ∙ ap (λ rs. own_row None 0 g ∷ rs) (append-nil (listed (tree_below 1 g)))
+
+-- the rows below the root fit
+below_fits : (g : Tree) → IsTree g → Fit 1 (Some (own_row None 0 g)) None (tree_below 1 g)
+below_fits g t = (fit_roots (g ▷ end) (t, tt)).2
+
+-- rows that begin with a root begin above depth 1
+above_one : (more : List Row) → IsAtRoot more → IsAbove 1 more
+above_one [] h = tt
+above_one (r ∷ rs) h = omega (arith, h)
+
+-- the rows of at least one geometry begin with a root, whatever follows them
+pub at_root : (g : Tree) (gs : List Tree) (more : List Row) → AreGeometries (g ∷ gs)
+    → IsAtRoot (rows_of (g ∷ gs) ++ more)
+at_root g gs more h =
+    let head : rows_of (g ∷ gs) ++ more ≡ own_row None 0 g
+    ∷ ((listed (tree_below 1 g) ++ rows_of gs) ++ more) = ap (λ rs. (rs ++ rows_of gs) ++ more)
+    (root_rows g) in
+    subst IsAtRoot (sym head) (root_depth g (own_row None 0 g) [] (listed (tree_below 1 g)) h.0
+    (append-nil (rows 0 g) ∙ root_rows g))
+
+-- the rows of geometries begin with a root, or there are none
+pub roots_first : (gs : List Tree) → AreGeometries gs → IsAtRoot (rows_of gs)
+roots_first [] h = tt
+roots_first (g ∷ gs) h = subst IsAtRoot (append-nil (rows_of (g ∷ gs))) (at_root g gs [] h)
+
+-- the rows of geometries, and more rows that begin with a root, begin with a root
+both_at_root : (gs : List Tree) (more : List Row) → AreGeometries gs → IsAtRoot more → IsAtRoot (rows_of gs ++ more)
+both_at_root [] more h root = root
+both_at_root (g ∷ gs) more h root = at_root g gs more h
+
+-- equal lists have equal heads and equal tails
+tails : (x y : Row) (xs ys : List Row) → x ∷ xs ≡ y ∷ ys → (x ≡ y) × (xs ≡ ys)
+tails x y xs ys e = (cc e, cc e)
+
+-- a list with a head is not empty
+empty_apart : (x : Row) (xs : List Row) → x ∷ xs ≡ [] → ⊥
+empty_apart x xs e = cc e
+
+-- the first of the geometries ends, and the rest are rows of the others
+pub first_ended : (g : Tree) (more : List Row) (hs : List Tree) → IsTree g → AreGeometries hs
+    → IsAtRoot more → rows 0 g ++ more ≡ rows_of hs → (rest : List Tree) × (hs ≡ g ∷ rest)
+    × (rows_of rest ≡ more)
+first_ended g more [] t a root e = absurd (empty_apart (own_row None 0 g)
+    (listed (tree_below 1 g) ++ more) (ap (λ rs. rs ++ more) (sym (root_rows g)) ∙ e))
+first_ended g more (h ∷ hs) t a root e =
+    let w : own_row None 0 g ∷ (listed (tree_below 1 g) ++ more) ≡ own_row None 0 h
+    ∷ (listed (tree_below 1 h) ++ rows_of hs) =
+    ap (λ rs. rs ++ more) (sym (root_rows g)) ∙ e ∙ ap (λ rs. rs ++ rows_of hs) (root_rows h) in
+    let two = tails (own_row None 0 g) (own_row None 0 h) (listed (tree_below 1 g) ++ more)
+    (listed (tree_below 1 h) ++ rows_of hs) w in
+    let same = one_forest 1 (Some (own_row None 0 g)) None (Some (own_row None 0 h)) None
+    (tree_below 1 g) (tree_below 1 h) more (rows_of hs) (below_fits g t) (below_fits h a.0)
+    (above_one more root) (above_one (rows_of hs) (roots_first hs a.1)) two.1 in
+    let first : g ≡ h = one_geometry g h t a.0 (root_rows g
+    ∙ ap (λ r. r ∷ listed (tree_below 1 g)) two.0 ∙ ap (λ n. own_row None 0 h ∷ listed n) same.0
+    ∙ sym (root_rows h)) in
+    (hs, ap (λ k. k ∷ hs) (sym first), sym same.1)
+
+-- the first few geometries end, and the rest are rows of the others
+pub first_all_ended : (gs : List Tree) (more : List Row) (hs : List Tree) → AreGeometries gs
+    → AreGeometries hs → IsAtRoot more → rows_of gs ++ more ≡ rows_of hs → (rest : List Tree)
+    × (hs ≡ gs ++ rest) × (rows_of rest ≡ more)
+first_all_ended [] more hs t a root e = (hs, refl, sym e)
+first_all_ended (g ∷ gs) more hs t a root e =
+    let (rest, first, others) = first_ended g (rows_of gs ++ more) hs t.0 a
+    (both_at_root gs more t.1 root) (sym (append_assoc (rows 0 g) (rows_of gs) more) ∙ e) in
+    let are : AreGeometries (g ∷ rest) = subst AreGeometries first a in
+    let (left, second, last) = first_all_ended gs more rest t.1 are.1 root (sym others) in
+    (left, first ∙ ap (λ ks. g ∷ ks) second, last)

@@ -4,7 +4,7 @@ use Rattle.std.proofs.Common.{get_or, refl, sym, ◌∙◌, ap, arith}
 use Rattle.twkb_tree.specs.declared.open_rows.OpenRow.{OpenRow}
 use Rattle.twkb_tree.specs.declared.row_place.RowPlace.{RowPlace}
 use Rattle.twkb_tree.specs.RowPlace.{row_place_at}
-use Rattle.twkb_tree.proofs.OpenRefusal.{no_open_parent, open_parent_at}
+use Rattle.twkb_tree.proofs.OpenLaws.{no_open_parent, open_parent_at}
 
 -- a root has no parent
 pub root_stands : (d : ℕ) (rows : List OpenRow) (nodes points : ℕ) → d ≡ 0 → (d ≤ length rows)

@@ -7,11 +7,8 @@ use Rattle.std.proofs.lemmas.Grind.{reverse_onto}
 use Rattle.twkb_tree.specs.Tree.{Tree, Trees, end, ◌▷◌, IsTree, AreTrees}
 use Rattle.twkb_tree.specs.Rows.{Row, rows, own_row}
 use Rattle.twkb_tree.specs.Accepted.{since_root, geometry_rows, weight}
-use Rattle.twkb_tree.proofs.RowFitting.{own_row-depth}
-use Rattle.twkb_tree.proofs.RowSteps.{onto-append}
-use Rattle.twkb_tree.proofs.RowsOfTrees.{rows_all}
-use Rattle.twkb_tree.proofs.RootLaws.{AreDeep, below_root}
-use Rattle.twkb_tree.proofs.RowsAlong.{Along}
+use Rattle.twkb_tree.proofs.RowSteps.{own_row-depth, onto-append, Along}
+use Rattle.twkb_tree.proofs.RowLaws.{rows_all, AreDeep, below_root}
 
 -- the sum over the row and the rows of its geometry before it is at most `most`
 abbrev pub Adds : (Row → ℕ) → ℕ → List Row → Row → Type 0

@@ -1,13 +1,39 @@
--- What a shape says of its tree, and the tree of its shape.
-use Rattle.std.proofs.Common.{◌≡◌, ℤ, None, Some, List, [], ◌∷◌, refl, ap, subst, sym, ◌∙◌}
+-- Trees of shapes, and their members as lists.
+use Rattle.std.proofs.Common.{◌≡◌, List, [], ◌∷◌, ◌++◌, length, suc, refl, ap, ℤ, None, Some, subst, sym, ◌∙◌}
+use Rattle.std.specs.List.{AllByRecursion}
 use Rattle.std.specs.Prelude.{Bool, IsTrue, ◌↔◌}
-use Rattle.twkb_tree.specs.Tree.{Tree, trees, members, precision_of, IsPrecision, IsTree, HasIds}
-use Rattle.twkb_tree.specs.InRange.{IsTreeInRange}
+use Rattle.twkb_tree.specs.Tree.{Tree, trees, count, IsTree, AreTrees, members, precision_of, IsPrecision, HasIds}
+use Rattle.twkb_tree.specs.InRange.{IsTreeInRange, AreTreesInRange}
 use Rattle.twkb_tree.specs.Shape.{tree_of, HasFitIds, HasTrees, IsShapeInRange}
 use Rattle.twkb_tree.specs.declared.geometry.Shape.{Shape}
-use Rattle.twkb_tree.specs.declared.geometry.Shape.TheVariants.{Point, Line, Polygon, MultiPoint}
-use Rattle.twkb_tree.specs.declared.geometry.Shape.TheVariants.{MultiLine, MultiPolygon, Collection}
-use Rattle.twkb_tree.proofs.Forest.{count-trees}
+use Rattle.twkb_tree.specs.declared.geometry.Shape.TheVariants.{Point, Line, Polygon, MultiPoint, MultiLine}
+use Rattle.twkb_tree.specs.declared.geometry.Shape.TheVariants.{MultiPolygon, Collection}
+
+-- ==== Members as a list and as trees, and lists with one more item.
+
+-- there are as many members as items
+pub count-trees : (gs : List Tree) → count (trees gs) ≡ length gs
+count-trees [] = refl
+count-trees (g ∷ gs) = ap suc (count-trees gs)
+
+-- one more geometry in a list of geometries
+pub AreTrees-push : (gs : List Tree) (g : Tree) → AreTrees (trees gs) → IsTree g → AreTrees (trees (gs ++ g ∷ []))
+AreTrees-push [] g h s = (s, tt)
+AreTrees-push (u ∷ us) g h s = (h.0, AreTrees-push us g h.1 s)
+
+-- one more geometry with its points in range
+pub AreTreesInRange-push : (gs : List Tree) (g : Tree) → AreTreesInRange (trees gs)
+    → IsTreeInRange g → AreTreesInRange (trees (gs ++ g ∷ []))
+AreTreesInRange-push [] g h s = (s, tt)
+AreTreesInRange-push (u ∷ us) g h s = (h.0, AreTreesInRange-push us g h.1 s)
+
+-- one more item for which P holds
+pub all_push : {X : Type 0} (P : X → Type 0) (xs : List X) (x : X) → AllByRecursion P xs → P x
+    → AllByRecursion P (xs ++ x ∷ [])
+all_push P [] x h s = (s, tt)
+all_push P (y ∷ ys) x h s = (h.0, all_push P ys x h.1 s)
+
+-- ==== What a shape says of its tree, and the tree of its shape.
 
 -- a shape with fitting ids and a precision in range is a geometry
 pub IsTree-tree_of : (p : ℤ) (s : Shape) → IsPrecision p → HasFitIds s → HasTrees s → IsTree (tree_of p s)

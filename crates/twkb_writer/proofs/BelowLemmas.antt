@@ -11,8 +11,8 @@ use Rattle.twkb_tree.specs.declared.kind.Kind.{Kind}
 use Rattle.twkb_tree.specs.Rows.{Row, plain_row, polygon_rows, own_row, rows_with, rows_below}
 use Rattle.twkb_tree.specs.Rows.{member_rows, ring_rows, rows_of_each, first_id, other_ids}
 use Rattle.twkb_tree.proofs.AllJoined.{all_join}
-use Rattle.twkb_tree.proofs.RootLaws.{AreDeep, IsDeeper}
-use Rattle.twkb_tree.proofs.RowFitting.{own_row-depth}
+use Rattle.twkb_tree.proofs.RowLaws.{AreDeep, IsDeeper}
+use Rattle.twkb_tree.proofs.RowSteps.{own_row-depth}
 use Rattle.twkb_grammar.specs.Items.{OfId}
 use Rattle.twkb_writer.specs.Bytes.{members_below, ids_bytes, id_bytes, signed}
 use Rattle.twkb_writer.proofs.WayLemmas.{walked}

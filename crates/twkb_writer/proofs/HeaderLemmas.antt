@@ -12,7 +12,7 @@ use Rattle.twkb_tree.specs.Tree.{multi_polygon, Tree, simple, collection, end, â
 use Rattle.twkb_tree.specs.Tree.{IsPrecision, precision_of, flat}
 use Rattle.twkb_tree.specs.Rows.{own_row, own_points, kind_in}
 use Rattle.twkb_tree.specs.Uniform.{uniform}
-use Rattle.twkb_tree.proofs.RowTests.{both_true}
+use Rattle.twkb_tree.proofs.RowForest.{both_true}
 use Rattle.twkb_grammar.specs.Items.{header_byte, kind_of, flags}
 use Rattle.twkb_grammar.specs.Written.{is_point, has_any, boxed, box_of, flag_bits, flags_of_tree}
 use Rattle.twkb_grammar.specs.Written.{kind_of_tree, metadata_byte, framed, written, canonical_blob}

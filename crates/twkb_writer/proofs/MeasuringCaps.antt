@@ -8,7 +8,7 @@ use Rattle.twkb_tree.specs.Rows.{Row, rows, row_points}
 use Rattle.twkb_tree.specs.RowLists.{AreValidRowsOfOne, AreValidRows, AreShallow}
 use Rattle.twkb_tree.specs.RowLemmas.{length-rows_with}
 use Rattle.twkb_tree.proofs.RowDepths.{valid_depths}
-use Rattle.twkb_tree.proofs.RowPoints.{row_points-with}
+use Rattle.twkb_tree.proofs.RowLaws.{row_points-with}
 use Rattle.twkb_flat.specs.declared.node.Node.{Node}
 use Rattle.twkb_flat.specs.Rows.{IsNode, row_depth_cap}
 

@@ -7,7 +7,7 @@ use Rattle.twkb_points.specs.Point.{Point}
 use Rattle.twkb_tree.specs.declared.kind.Kind.{Kind}
 use Rattle.twkb_tree.specs.declared.limits.TheConstants.{POINTS_CAP}
 use Rattle.twkb_tree.specs.Rows.{Row, row_points}
-use Rattle.twkb_tree.proofs.RowPoints.{row_points-append, row_points-with}
+use Rattle.twkb_tree.proofs.RowLaws.{row_points-append, row_points-with}
 use Rattle.twkb_tree.specs.Limits.{largest_limits}
 use Rattle.twkb_tree.specs.RowLists.{AreValidRowsOfOne}
 use Rattle.twkb_flat.specs.declared.node.Node.{Node}

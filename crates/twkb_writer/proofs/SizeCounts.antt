@@ -2,7 +2,7 @@
 use Rattle.std.proofs.Common.{◌≡◌, ◌∙◌, List, [], ◌∷◌, length, suc, refl, sym, ap, arith, length-append}
 use Rattle.twkb_tree.specs.Tree.{Tree, simple, collection, Trees, end, ◌▷◌, IsTree}
 use Rattle.twkb_tree.specs.Rows.{Row, rows}
-use Rattle.twkb_tree.proofs.RootLaws.{one_geometry}
+use Rattle.twkb_tree.proofs.RowLaws.{one_geometry}
 use Rattle.twkb_grammar.specs.Spans.{geometries, geometries_of_all}
 use Rattle.twkb_grammar.specs.declared.style.Style.{Style}
 use Rattle.twkb_writer.specs.declared.sizes.Entry.{Entry}

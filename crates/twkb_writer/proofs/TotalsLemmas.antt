@@ -3,7 +3,7 @@ use Rattle.std.proofs.Common.{◌≡◌, ℕ, suc, ◌<◌, ◌≤◌, List, [],
 use Rattle.std.specs.Prelude.{nat_lt, nat_eq, if◌then◌else◌}
 use Rattle.std.proofs.lemmas.Bool.Decides.{nat_tests}
 use Rattle.twkb_tree.specs.Rows.{Row}
-use Rattle.twkb_tree.proofs.RootLaws.{AreDeep}
+use Rattle.twkb_tree.proofs.RowLaws.{AreDeep}
 use Rattle.twkb_tree.specs.RowLists.{IsAbove}
 use Rattle.twkb_grammar.specs.declared.style.Style.{Style}
 use Rattle.twkb_writer.specs.declared.totals.RowTotals.{RowTotals}

@@ -11,8 +11,8 @@ use Rattle.twkb_tree.specs.Tree.{HasIds, IdsFit, IsTree, AreTrees, members, coun
 use Rattle.twkb_tree.specs.Rows.{Row, plain_row, own_row, own_points, kind_in, rows, rows_with}
 use Rattle.twkb_tree.specs.Rows.{rows_below, member_rows, ring_rows, polygon_rows, rows_of_each}
 use Rattle.twkb_tree.specs.Rows.{first_id, other_ids}
-use Rattle.twkb_tree.proofs.RowFitting.{own_row-depth, own_row-id}
-use Rattle.twkb_tree.proofs.RootLaws.{AreDeep}
+use Rattle.twkb_tree.proofs.RowSteps.{own_row-depth, own_row-id}
+use Rattle.twkb_tree.proofs.RowLaws.{AreDeep}
 use Rattle.twkb_grammar.specs.Roles.{Counted, Points, Components, Count, Geometries}
 use Rattle.twkb_grammar.specs.Items.{Slot, OfCount, OfPoint, id_slots, id_fields, fields, slots}
 use Rattle.twkb_grammar.specs.Items.{run_of, rings_of, members as flags_of, flags_all}

@@ -16,8 +16,8 @@ use Rattle.twkb_tree.specs.Rows.{member_rows, rows_of_each, plain_row, ring_rows
 use Rattle.twkb_tree.specs.Shape.{tree_of}
 use Rattle.twkb_tree.specs.declared.geometry.Shape.{Shape}
 use Rattle.twkb_tree.specs.RowLemmas.{length-rows_with}
-use Rattle.twkb_tree.proofs.RowMembers.{other_from, ids_from_start}
-use Rattle.twkb_tree.proofs.RowsOfTrees.{members-trees}
+use Rattle.twkb_tree.proofs.MemberLemmas.{other_from, ids_from_start}
+use Rattle.twkb_tree.proofs.RowLaws.{members-trees}
 use Rattle.twkb_grammar.specs.Written.{canonical_blob}
 use Rattle.twkb_grammar.specs.declared.style.Style.TheVariants.{Full}
 use Rattle.twkb_writer.specs.declared.totals.RowTotals.{RowTotals}

@@ -8,7 +8,7 @@ use Rattle.twkb_tree.specs.Tree.{Ids, Simple, point, line, polygon, multi_point,
 use Rattle.twkb_tree.specs.Tree.{multi_polygon, Tree, simple, collection, Trees, end, ◌▷◌, IsTree}
 use Rattle.twkb_tree.specs.Rows.{Row, plain_row, polygon_rows, ring_rows, rows_of_each, rows_below}
 use Rattle.twkb_tree.specs.Rows.{member_rows, rows_with, rows, first_id, other_ids}
-use Rattle.twkb_tree.proofs.RootLaws.{one_geometry}
+use Rattle.twkb_tree.proofs.RowLaws.{one_geometry}
 use Rattle.twkb_io.specs.Sinks.{TookFront}
 use Rattle.twkb_grammar.specs.Written.{canonical_blob}
 use Rattle.twkb_grammar.specs.declared.style.Style.{Style}

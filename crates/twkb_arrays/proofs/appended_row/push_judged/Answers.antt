@@ -4,7 +4,7 @@ use Rattle.twkb_points.specs.Point.{Point, AreInRange}
 use Rattle.twkb_tree.specs.Accepted.{Continues}
 use Rattle.twkb_tree.specs.Refusal.{BadPlace, CoordinateRange, first_failed}
 use Rattle.twkb_tree.specs.Rows.{Row}
-use Rattle.twkb_tree.proofs.LargestLimits.{continues_largest}
+use Rattle.twkb_tree.proofs.LimitLaws.{continues_largest}
 use Rattle.twkb_flat.specs.Rows.{row_with}
 use Rattle.twkb_buffer.specs.Numbers.{row_number_of}
 use Rattle.twkb_arrays.specs.JudgedRow.{RefusedAfter, row_from_c}

@@ -2,7 +2,7 @@ use Rattle.std.proofs.Common.{◌∙◌, ◌++◌, ap, arith, rules}
 use Rattle.twkb_tree.specs.Tree.{trees}
 use Rattle.twkb_tree.specs.Rows.{rows_with, member_rows}
 use Rattle.twkb_tree.specs.Size.{member_smaller}
-use Rattle.twkb_tree.proofs.RowMembers.{member_rows_each, under_shape}
+use Rattle.twkb_tree.proofs.MemberLemmas.{member_rows_each, under_shape}
 use Rattle.twkb_flat.proofs.FillLemmas.{is_simple, has_rows_none, has_rows_more, has_rows_all}
 use Rattle.twkb_flat.proofs.FillLemmas.{next_goes_on, members_valid, own_may_push, own_no_deeper}
 use Rattle.twkb_flat.proofs.FillLemmas.{under_goes_on, all_pushed, under_valid, under_pushed}

@@ -5,7 +5,7 @@ use Rattle.twkb_tree.specs.declared.kind.Kind.{Kind}
 use Rattle.twkb_tree.specs.Size.{member_smaller}
 use Rattle.twkb_table.specs.RowLines.{row_lines}
 use Rattle.twkb_table.specs.RecordWriting.{Writes}
-use Rattle.twkb_tree.proofs.RowMembers.{member_rows_each, nest_member, under_shape}
+use Rattle.twkb_tree.proofs.MemberLemmas.{member_rows_each, nest_member, under_shape}
 use Rattle.twkb_table.proofs.RecordWritingLemmas.{geometry_written, has_written_all, has_written_more, has_written_none}
 use Rattle.twkb_table.proofs.geometry_text.+lines.Goals as goal
 

@@ -1,6 +1,6 @@
-use Rattle.twkb_tree.proofs.LimitLaws.{valid_rows, accepted_rows, row_accepted, accepts_row}
-use Rattle.twkb_tree.proofs.RootLimits.{accepted_begins, accepts_begun}
-use Rattle.twkb_tree.proofs.RefusalLaws.{accepts_is, accepts_true}
+use Rattle.twkb_tree.proofs.LimitLaws.{valid_rows, accepted_rows, row_accepted, accepts_row, accepted_begins}
+use Rattle.twkb_tree.proofs.LimitLaws.{accepts_begun}
+use Rattle.twkb_tree.proofs.OpenLaws.{accepts_is, accepts_true}
 use Rattle.twkb_tree.proofs.laws.accepted.Goals as goal
 
 pub returns : goal.returns

@@ -1,5 +1,4 @@
-use Rattle.twkb_tree.proofs.RowLaws.{row_admitted, admits_row}
-use Rattle.twkb_tree.proofs.RootLaws.{one_grows, one_came}
+use Rattle.twkb_tree.proofs.RowLaws.{row_admitted, admits_row, one_grows, one_came}
 use Rattle.twkb_tree.proofs.laws.admitted.Goals as goal
 
 pub returns : goal.returns

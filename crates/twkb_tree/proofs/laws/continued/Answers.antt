@@ -1,5 +1,5 @@
-use Rattle.twkb_tree.proofs.RootLimits.{continued, continues_row, one_geometry_rows}
-use Rattle.twkb_tree.proofs.RefusalLaws.{continues_is, continues_true}
+use Rattle.twkb_tree.proofs.LimitLaws.{continued, continues_row, one_geometry_rows}
+use Rattle.twkb_tree.proofs.OpenLaws.{continues_is, continues_true}
 use Rattle.twkb_tree.proofs.laws.continued.Goals as goal
 
 pub returns : goal.returns

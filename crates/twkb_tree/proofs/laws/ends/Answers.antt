@@ -1,5 +1,4 @@
-use Rattle.twkb_tree.proofs.RootLaws.{goes_on_below}
-use Rattle.twkb_tree.proofs.RootEnd.{first_ended}
+use Rattle.twkb_tree.proofs.RowLaws.{goes_on_below, first_ended}
 use Rattle.twkb_tree.proofs.laws.ends.Goals as goal
 
 pub returns : goal.returns

@@ -1,6 +1,5 @@
 use Rattle.twkb_tree.proofs.RowLaws.{rows_front}
-use Rattle.twkb_tree.proofs.LimitLaws.{valid_front}
-use Rattle.twkb_tree.proofs.RootLimits.{one_valid_front}
+use Rattle.twkb_tree.proofs.LimitLaws.{valid_front, one_valid_front}
 use Rattle.twkb_tree.proofs.laws.fronts.Goals as goal
 
 pub returns : goal.returns

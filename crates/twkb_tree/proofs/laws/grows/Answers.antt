@@ -1,5 +1,5 @@
 use Rattle.twkb_tree.specs.Rows.{rows_of}
-use Rattle.twkb_tree.proofs.RowsGrow.{new_geometry, grown_geometry}
+use Rattle.twkb_tree.proofs.OpenLaws.{new_geometry, grown_geometry}
 use Rattle.twkb_tree.proofs.laws.grows.Goals as goal
 
 pub returns : goal.returns

@@ -1,4 +1,4 @@
-use Rattle.twkb_tree.proofs.RowsLocal.{local_refusal, root_refusal}
+use Rattle.twkb_tree.proofs.OpenLaws.{local_refusal, root_refusal}
 use Rattle.twkb_tree.proofs.laws.last_geometry.Goals as goal
 
 pub returns : goal.returns

@@ -1,6 +1,6 @@
 use Rattle.std.specs.Prelude.{None}
 use Rattle.twkb_tree.specs.RowLemmas.{length-rows_with}
-use Rattle.twkb_tree.proofs.RowPoints.{row_points-with}
+use Rattle.twkb_tree.proofs.RowLaws.{row_points-with}
 use Rattle.twkb_tree.proofs.laws.nodes_are_rows.Goals as goal
 
 pub returns : goal.returns

@@ -1,5 +1,4 @@
-use Rattle.twkb_tree.proofs.RowLaws.{one_reading}
-use Rattle.twkb_tree.proofs.RootLaws.{one_geometry}
+use Rattle.twkb_tree.proofs.RowLaws.{one_reading, one_geometry}
 use Rattle.twkb_tree.proofs.laws.one_reading.Goals as goal
 
 pub returns : goal.returns

@@ -1,8 +1,6 @@
 use Rattle.std.proofs.Common.{refl}
-use Rattle.twkb_tree.proofs.OpenLaws.{open_more, open_none}
-use Rattle.twkb_tree.proofs.RowCounts.{nodes_after, points_after, nodes_kept, points_kept}
-use Rattle.twkb_tree.proofs.OpenRefusal.{open_refused}
-use Rattle.twkb_tree.proofs.RowsLocal.{continues_open}
+use Rattle.twkb_tree.proofs.OpenLaws.{open_more, open_none, open_refused, continues_open}
+use Rattle.twkb_tree.proofs.LimitLaws.{nodes_after, points_after, nodes_kept, points_kept}
 use Rattle.twkb_tree.proofs.laws.open_rows.Goals as goal
 
 pub returns : goal.returns

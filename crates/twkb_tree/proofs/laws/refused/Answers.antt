@@ -1,6 +1,6 @@
 use Rattle.std.specs.Prelude.{reverse}
-use Rattle.twkb_tree.proofs.RootLimits.{refused_begins_none}
-use Rattle.twkb_tree.proofs.RefusalLaws.{accepts_unrefused, accepted_unrefused}
+use Rattle.twkb_tree.proofs.LimitLaws.{refused_begins_none}
+use Rattle.twkb_tree.proofs.OpenLaws.{accepts_unrefused, accepted_unrefused}
 use Rattle.twkb_tree.proofs.laws.refused.Goals as goal
 
 pub returns : goal.returns

@@ -1,5 +1,5 @@
 use Rattle.std.proofs.Common.{◌∙◌, subst, sym, refl}
-use Rattle.twkb_tree.proofs.RowRanges.{are_in_range-true, points_in_range}
+use Rattle.twkb_tree.proofs.RowForest.{are_in_range-true, points_in_range}
 use Rattle.twkb_flat.specs.Stops.{IfRefused}
 use Rattle.twkb_arrays.specs.OwnPoints.{AreOutOfRange}
 use Rattle.twkb_arrays.specs.Rows.{points_of}

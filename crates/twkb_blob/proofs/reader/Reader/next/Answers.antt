@@ -1,5 +1,5 @@
 use Rattle.std.proofs.Common.{rules, subst, ◌≡◌, Ok, true, []}
-use Rattle.twkb_tree.proofs.RootLaws.{one_geometry}
+use Rattle.twkb_tree.proofs.RowLaws.{one_geometry}
 use Rattle.twkb_blob.specs.Readers.{IsNextFlat, Makes, reader_input, reader_limits}
 use Rattle.twkb_blob.proofs.Answering.{made_ahead}
 use Rattle.twkb_blob.proofs.Calls.{came}

@@ -1,5 +1,5 @@
 use Rattle.std.proofs.Common.{rules, subst, ◌≡◌, Ok, refl, true}
-use Rattle.twkb_tree.proofs.RootLaws.{one_geometry}
+use Rattle.twkb_tree.proofs.RowLaws.{one_geometry}
 use Rattle.twkb_blob.specs.Readers.{reader_input, reader_limits}
 use Rattle.twkb_blob.specs.Located.{HasSpans}
 use Rattle.twkb_blob.proofs.Answering.{made_ahead, same_answer, spanned_next}

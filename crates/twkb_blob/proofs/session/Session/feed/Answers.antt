@@ -1,6 +1,6 @@
 use Rattle.std.proofs.Common.{◌≡◌, [], rules}
 use Rattle.std.proofs.lemmas.Result.{err_from_is_err_and}
-use Rattle.twkb_tree.proofs.RootLaws.{one_geometry}
+use Rattle.twkb_tree.proofs.RowLaws.{one_geometry}
 use Rattle.twkb_blob.specs.Sessions.{session_rows}
 use Rattle.twkb_blob.proofs.Standing.{gave_tree, no_tree}
 use Rattle.twkb_blob.proofs.Trees.{not_none}

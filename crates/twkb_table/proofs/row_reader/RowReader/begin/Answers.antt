@@ -1,7 +1,7 @@
 use Rattle.std.proofs.Common.{[], refl, ap, sym, ◌∙◌}
 use Rattle.twkb_flat.specs.Rows.{row_with}
 use Rattle.twkb_table.specs.Waiting.{root_row}
-use Rattle.twkb_tree.proofs.LargestLimits.{continues_largest}
+use Rattle.twkb_tree.proofs.LimitLaws.{continues_largest}
 use Rattle.twkb_table.specs.RowReading.{with_points}
 use Rattle.twkb_table.proofs.RowReaderLemmas.{waiting_begins, keeps_first}
 use Rattle.twkb_table.proofs.row_reader.RowReader.begin.Goals as goal

@@ -2,7 +2,7 @@ use Rattle.std.proofs.Common.{rules, ◌<◌, [], ◌∷◌, refl, sym, ap, arit
 use Rattle.std.specs.Prelude.{reverse}
 use Rattle.csv.specs.Records.{fields_of}
 use Rattle.twkb_tree.specs.Rows.{Row}
-use Rattle.twkb_tree.proofs.LargestLimits.{continues_largest}
+use Rattle.twkb_tree.proofs.LimitLaws.{continues_largest}
 use Rattle.twkb_flat.specs.Rows.{row_with}
 use Rattle.twkb_table.specs.Judged.{Refused}
 use Rattle.twkb_table.proofs.HeadLemmas.{given_row, comes_next}
