@@ -4,7 +4,7 @@ use Rattle.std.proofs.Common.{Bool, true, false, refl, sym, ap, ◌∙◌, arith
 use Rattle.std.proofs.lemmas.List.{append-nil, length-drop}
 use Rattle.std.proofs.lemmas.Grind.{flat_map-append}
 use Rattle.twkb_tree.specs.Tree.{Tree, simple, collection, saturated}
-use Rattle.twkb_flat.proofs.FlatLaws.{reads_join}
+use Rattle.twkb_flat.proofs.LastPoint.{reads_join}
 use Rattle.twkb_grammar.specs.Written.{canonical_blob, canonical_stream}
 use Rattle.twkb_grammar.specs.declared.style.Style.{Style}
 use Rattle.twkb_arrays.specs.Rooms.{StopsBefore}

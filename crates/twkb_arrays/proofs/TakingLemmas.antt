@@ -6,7 +6,7 @@ use Rattle.std.proofs.lemmas.Grind.{flat_map-append}
 use Rattle.twkb_points.specs.Point.{Point}
 use Rattle.twkb_tree.specs.Tree.{Tree, simple, collection, saturated}
 use Rattle.twkb_tree.specs.Rows.{Row, rows, rows_of, row_points}
-use Rattle.twkb_flat.proofs.FlatLaws.{reads_join}
+use Rattle.twkb_flat.proofs.LastPoint.{reads_join}
 use Rattle.twkb_buffer.specs.Polylines.{coordinates_of}
 use Rattle.twkb_buffer.specs.declared.point.BufferPoint.{BufferPoint}
 use Rattle.twkb_arrays.specs.Rooms.{StopsBefore}

@@ -1,23 +1,160 @@
--- The open rows of a form, by its kept nodes.
-use Rattle.std.proofs.Common.{◌≡◌, ℕ, zero, suc, ◌+◌, ◌<◌, ◌≤◌, Bool, List, [], ◌∷◌, map, length}
-use Rattle.std.proofs.Common.{drop, get_or, Option, Some, None, refl, sym, ap, ◌∙◌, subst, arith}
-use Rattle.std.specs.Prelude.{reverse, slice_get, is_some}
+-- The row at a place and the open rows of a form, by its kept nodes.
 use mathlib.Core.List.{reverse_aux}
-use Rattle.std.proofs.lemmas.List.{length-map, get_or-map, get_or-drop}
-use Rattle.std.proofs.lemmas.Option.{slice_get_past}
+use Rattle.std.proofs.Common.{◌≡◌, ℕ, ◌+◌, ◌-◌, ◌<◌, ◌≤◌, List, [], ◌∷◌, ◌++◌, map, length, take, drop, get_or, refl}
+use Rattle.std.proofs.Common.{sym, ap, ◌∙◌, subst, arith, eq-eqb, zero, suc, Bool, Option, Some, None}
+use Rattle.std.specs.Prelude.{IsTrue, ◌↔◌, ◌==◌, slice_get, reverse, is_some}
+use Rattle.std.proofs.lemmas.List.{length-map, length-append, length-drop, get_or-drop, get_or-map, take-append-drop}
+use Rattle.std.proofs.lemmas.List.{take_at, drop_at}
+use Rattle.std.proofs.lemmas.Option.{slice_get_read, slice_get_past}
+use Rattle.std.proofs.lemmas.Bool.{eqb-true}
+use Rattle.std.proofs.lemmas.Grind.{flat_map-append}
 use Rattle.twkb_points.specs.Point.{Point}
-use Rattle.twkb_tree.specs.Rows.{Row as TableRow}
+use Rattle.twkb_tree.specs.Rows.{Row as TableRow, row_points}
+use Rattle.twkb_tree.specs.Limits.{largest_limits}
+use Rattle.twkb_tree.specs.RowLists.{AreValidRowsOfOne}
 use Rattle.twkb_tree.specs.Open.{ids_by, open_count, IsOpenAt}
+use Rattle.twkb_flat.specs.declared.node.Row.{Row}
 use Rattle.twkb_flat.specs.declared.kept_nodes.PlacedRow.{PlacedRow}
 use Rattle.twkb_flat.specs.declared.kept_nodes.KeptNode.{KeptNode}
-use Rattle.twkb_flat.specs.declared.node.Row.{Row}
+use Rattle.twkb_flat.specs.Rows.{row_with, row_depth_cap, depth_of, depths}
+use Rattle.twkb_flat.specs.KeptNodes.{listed, Laid, placed_of, IsFlat, depths_in}
+use Rattle.twkb_flat.specs.Taking.{IsAt}
 use Rattle.twkb_flat.specs.Links.{levels, OpenPlace}
-use Rattle.twkb_flat.specs.Rows.{row_with, depth_of, depths}
-use Rattle.twkb_flat.specs.KeptNodes.{IsFlat, listed, placed_of, depths_in}
-use Rattle.twkb_flat.proofs.RowLemmas.{length-listed, depths-listed}
-use Rattle.twkb_flat.proofs.ReadLemmas.{some_at}
+use Rattle.twkb_flat.proofs.FillLemmas.{no_deeper}
+use Rattle.twkb_flat.proofs.RowLemmas.{Here, row_at, flat_points, length-listed, depths-listed}
 use Rattle.twkb_flat.proofs.LinkLemmas.{last_depth}
 use Rattle.twkb_flat.proofs.OpenPlaceLemmas.{open_there}
+
+-- ==== The row at a place, by its kept node.
+
+-- the rows from a place on, by the kept node there
+pub node_here : (es : List KeptNode) (ps : List Point) (i : ℕ) (e : KeptNode)
+    → Laid 0 (map placed_of es) (length ps) → i < length es → e ≡ get_or es i e
+    → Here 0 (map placed_of es) ps i e.placed
+node_here es ps i e all_laid h is =
+    let inside : i < length (map placed_of es) = rw length-map h in
+    let laid : Laid 0 (map placed_of es) (0 + length ps) =
+    subst (λ (n : ℕ). Laid 0 (map placed_of es) n) (omega arith) all_laid in
+    let placed : get_or (map placed_of es) i e.placed ≡ e.placed = get_or-map placed_of es i e e.placed h
+    ∙ sym (ap placed_of is) in
+    subst (λ (s : PlacedRow). Here 0 (map placed_of es) ps i s) placed (row_at 0
+    (map placed_of es) ps i e.placed laid inside)
+
+-- there is one kept node for each row
+pub length-rows : (es : List KeptNode) (ps : List Point) (rows : List TableRow)
+    → listed (map placed_of es) ps ≡ rows → length rows ≡ length es
+length-rows es ps rows view = ap length (sym view) ∙ length-listed (map placed_of es) ps ∙ length-map es placed_of
+
+-- the row at a place is the first of the rows from there on
+pub row_here : (es : List KeptNode) (ps : List Point) (i : ℕ) (e : KeptNode) (rows : List TableRow)
+    (r : TableRow) (rest : List TableRow) → Laid 0 (map placed_of es) (length ps)
+    → listed (map placed_of es) ps ≡ rows → i < length es → e ≡ get_or es i e → drop i rows ≡ r ∷ rest
+    → row_with e.placed.row r.points ≡ r
+row_here es ps i e rows r rest laid view h is at =
+    let here = node_here es ps i e laid h is in
+    let both : row_with e.placed.row here.own ∷ here.rest ≡ r ∷ rest = sym here.here ∙ ap (drop i) view ∙ at in
+    let same : row_with e.placed.row here.own ≡ r = cc both in
+    subst (λ (q : TableRow). row_with e.placed.row q.points ≡ q) same refl
+
+-- the points of the row at a place
+points_own : (es : List KeptNode) (ps : List Point) (i : ℕ) (e : KeptNode)
+    → Laid 0 (map placed_of es) (length ps) → (h : Here 0 (map placed_of es) ps i e.placed)
+    → (before : List Point) × (after : List Point) × (length before ≡ e.placed.first)
+    × (before ++ (h.own ++ after) ≡ ps)
+points_own es ps i e laid h =
+    let rows = listed (map placed_of es) ps in (
+      row_points (take i rows),
+      row_points h.rest,
+      omega (arith, h.first),
+      ap (λ (q : List TableRow). row_points (take i (listed (map placed_of es) ps)) ++ row_points q) (sym h.here)
+          ∙ sym (flat_map-append (λ (r : TableRow). r.points) (take i (listed (map placed_of es) ps))
+          (drop i (listed (map placed_of es) ps)))
+          ∙ ap row_points (take-append-drop i (listed (map placed_of es) ps))
+          ∙ flat_points (map placed_of es) ps laid,
+    )
+
+-- the points of the row at a place are within all points
+pub points_inside : (es : List KeptNode) (ps : List Point) (i : ℕ) (e : KeptNode)
+    → Laid 0 (map placed_of es) (length ps) → i < length es → e ≡ get_or es i e
+    → e.placed.first + e.placed.points ≤ length ps
+points_inside es ps i e laid within is =
+    let h = node_here es ps i e laid within is in
+    let own = points_own es ps i e laid h in
+    let own_list = h.own in
+    omega (arith, own.2, h.count, ap length own.3, length-append own.0 (h.own ++ own.1), length-append h.own own.1)
+
+-- a component of a list, cut out at its place
+cut_out : (before own after ps : List Point) (first count : ℕ) → length before ≡ first
+    → length own ≡ count → before ++ (own ++ after) ≡ ps → take count (drop first ps) ≡ own
+cut_out before own after ps first count f n e =
+    ap (λ (qs : List Point). take count (drop first qs)) (sym e)
+    ∙ ap (take count) (drop_at before (own ++ after) first f) ∙ take_at own after count n
+
+-- the points of the row at a place are those of the first row from there on
+pub points_here : (es : List KeptNode) (ps : List Point) (i : ℕ) (e : KeptNode)
+    (rows : List TableRow) (r : TableRow) (rest : List TableRow)
+    → Laid 0 (map placed_of es) (length ps) → listed (map placed_of es) ps ≡ rows → i < length es
+    → e ≡ get_or es i e → drop i rows ≡ r ∷ rest
+    → take (e.placed.first + e.placed.points - e.placed.first) (drop e.placed.first ps) ≡ r.points
+points_here es ps i e rows r rest laid view within is at =
+    let h = node_here es ps i e laid within is in
+    let own = points_own es ps i e laid h in
+    let both : row_with e.placed.row h.own ∷ h.rest ≡ r ∷ rest = sym h.here ∙ ap (drop i) view ∙ at in
+    let same : row_with e.placed.row h.own ≡ r = cc both in
+    let count : length h.own ≡ e.placed.first + e.placed.points - e.placed.first = omega (arith, h.count) in
+    cut_out own.0 h.own own.1 ps e.placed.first (e.placed.first + e.placed.points - e.placed.first) own.2
+    count own.3 ∙ ap (λ (q : TableRow). q.points) same
+
+-- no row is deeper than the cap
+pub shallow_here : (es : List KeptNode) (ps : List Point) (i : ℕ) (e : KeptNode)
+    (rows : List TableRow) → AreValidRowsOfOne largest_limits (listed (map placed_of es) ps)
+    → Laid 0 (map placed_of es) (length ps) → i < length es → e ≡ get_or es i e
+    → e.placed.row.depth ≤ row_depth_cap
+shallow_here es ps i e rows v laid within is =
+    let h = node_here es ps i e laid within is in
+    let rows = listed (map placed_of es) ps in
+    let split : take i rows ++ row_with e.placed.row h.own ∷ h.rest ≡ rows =
+    ap (λ (q : List TableRow). take i (listed (map placed_of es) ps) ++ q) (sym h.here)
+    ∙ take-append-drop i rows in
+    no_deeper (take i rows) (row_with e.placed.row h.own) h.rest
+    (subst (AreValidRowsOfOne largest_limits) (sym split) v)
+
+-- ---- by the rows alone
+
+-- the row there is at depth d exactly if the test of its depth passes
+pub by_test : (rows : List TableRow) (i d k : ℕ) (r : TableRow) (rest : List TableRow)
+    → drop i rows ≡ r ∷ rest → k ≡ r.depth → IsTrue (k == d) ↔ IsAt d (drop i rows)
+by_test rows i d k r rest here e = (
+  λ same. subst (IsAt d) (sym here) (sym e ∙ eqb-true k d same),
+  λ at. eq-eqb k d (e ∙ subst (IsAt d) here at),
+)
+
+-- some rows are a first row and the others
+first_of : (rows : List TableRow) → 0 < length rows → (r : TableRow) × (rest : List TableRow) × (rows ≡ r ∷ rest)
+first_of [] h = absurd (omega arith)
+first_of (r ∷ rest) h = (r, rest, refl)
+
+-- the row at a place within the rows
+pub some_at : (rows : List TableRow) (i : ℕ) → i < length rows → (r : TableRow)
+    × (rest : List TableRow) × (drop i rows ≡ r ∷ rest)
+some_at rows i h = first_of (drop i rows) (omega (arith, length-drop i rows))
+
+-- the row at a place, from the facts about it and its points
+pub row_got : (rows : List TableRow) (i : ℕ) (row : Row) (own : List Point) → i < length rows
+    → ((r : TableRow) (rest : List TableRow) → drop i rows ≡ r ∷ rest → row_with row r.points ≡ r)
+    → ((r : TableRow) (rest : List TableRow) → drop i rows ≡ r ∷ rest → own ≡ r.points)
+    → slice_get rows i ≡ Some (row_with row own)
+row_got rows i row own within whole points =
+    let found = some_at rows i within in
+    let same : row_with row own ≡ found.0 = ap (row_with row) (points found.0 found.1 found.2)
+    ∙ whole found.0 found.1 found.2 in
+    let place : i + 0 ≡ i = omega arith in
+    let read : found.0 ≡ get_or rows i found.0 = ap (λ (rs : List TableRow). get_or rs 0 found.0)
+    (sym found.2) ∙ get_or-drop i rows 0 found.0 ∙ ap (λ (k : ℕ). get_or rows k found.0)
+    place in
+    slice_get_read rows (length rows) i found.0 refl within read ∙ ap (λ (r : TableRow). Some r) (sym same)
+
+-- ==== The open rows of a form, by its kept nodes.
 
 -- ---- the number of open rows
 

@@ -10,8 +10,7 @@ use Rattle.twkb_flat.specs.Links.{IsNext, Linked}
 use Rattle.twkb_flat.specs.Rows.{IsNode}
 use Rattle.twkb_flat.specs.KeptNodes.{listed, Laid, placed_of, depths_in, links_in}
 use Rattle.twkb_flat.proofs.RowLemmas.{Here, row_at, depths-listed, length-listed}
-use Rattle.twkb_flat.proofs.LinkLemmas.{Link, open_next}
-use Rattle.twkb_flat.proofs.ClosingLemmas.{length-depths_in, depth_in, link_in}
+use Rattle.twkb_flat.proofs.LinkLemmas.{Link, open_next, length-depths_in, depth_in, link_in}
 
 -- the link returned: for a row whose subtree has ended, it leads after the row's place
 abbrev pub Answers : ℕ → ℕ → ℕ → ℕ → Type 0

@@ -1,7 +1,7 @@
 use Rattle.std.proofs.Common.{◌<◌, ◌∙◌, Bool, refl, sym, ap, subst, arith}
 use Rattle.std.specs.Prelude.{is_some}
 use Rattle.twkb_flat.specs.Members.{EndsInMember}
-use Rattle.twkb_flat.proofs.MemberLemmas.{member_added}
+use Rattle.twkb_flat.proofs.PushLemmas.{member_added}
 use Rattle.twkb_body.specs.Ids.{ids_of}
 use Rattle.twkb_body.specs.Running.{TakesMembers}
 use Rattle.twkb_body.proofs.PointRuns.{err_only, members_none, members_more, members_stop}

@@ -2,9 +2,8 @@ use Rattle.std.proofs.Common.{◌∙◌, ◌+◌, refl, ap, sym, arith}
 use Rattle.std.proofs.lemmas.List.{length-drop}
 use Rattle.twkb_tree.specs.Tree.{IsTree, collection, trees, precision_of}
 use Rattle.twkb_tree.specs.Rows.{Row, rows_with}
-use Rattle.twkb_flat.proofs.TakeLemmas.{left_next, left_none, tree_heads, read_id, shorter, item_within}
-use Rattle.twkb_flat.proofs.BuildLemmas.{read_kind, members_at}
-use Rattle.twkb_flat.proofs.BuildComponents.{ids_below, members_below, is_members}
+use Rattle.twkb_flat.proofs.BuildLemmas.{left_next, left_none, tree_heads, read_id, shorter, item_within, read_kind}
+use Rattle.twkb_flat.proofs.BuildLemmas.{members_at, ids_below, members_below, is_members}
 use Rattle.twkb_flat.proofs.built_geometry.+building.Goals as goal
 
 pub take_geometry-row-precision-requires : goal.take_geometry-row-precision-requires

@@ -4,7 +4,7 @@ use Rattle.std.proofs.Common.{◌+◌, ◌*◌, ◌≤◌, List, length, drop}
 use Rattle.twkb_tree.specs.Tree.{Ids, Tree, IsTree}
 use Rattle.twkb_tree.specs.Rows.{Row, rows_with}
 use Rattle.twkb_flat.specs.Taking.{EachAt}
-use Rattle.twkb_flat.proofs.TakeLemmas.{Left}
+use Rattle.twkb_flat.proofs.BuildLemmas.{Left}
 use Rattle.twkb_flat.proofs.built_geometry.+building.Given as goal
 
 abbrev pub decreases-take_geometry : goal.decreases-take_geometry

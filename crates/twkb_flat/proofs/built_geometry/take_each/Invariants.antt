@@ -5,7 +5,7 @@ use Rattle.twkb_tree.specs.Tree.{Ids}
 use Rattle.twkb_tree.specs.Rows.{Row}
 use Rattle.twkb_flat.specs.Components.{component_rows}
 use Rattle.twkb_flat.specs.Taking.{EachAt, IsAny}
-use Rattle.twkb_flat.proofs.TakeLemmas.{Left}
+use Rattle.twkb_flat.proofs.BuildLemmas.{Left}
 use Rattle.twkb_flat.proofs.built_geometry.take_each.Given as goal
 
 abbrev pub invariant-loop-alloc : goal.invariant-loop-alloc

@@ -3,12 +3,10 @@ use Rattle.std.specs.Prelude.{slice_get}
 use Rattle.twkb_tree.specs.declared.kind.Kind.{Kind}
 use Rattle.twkb_tree.specs.Tree.{IsTree, simple, polygon, multi_point, multi_line, multi_polygon, precision_of}
 use Rattle.twkb_tree.specs.Rows.{rows_with, rows_under, own_row}
-use Rattle.twkb_flat.proofs.TakeLemmas.{tree_heads, item_within}
-use Rattle.twkb_flat.proofs.BuildLemmas.{point_taken, line_taken, read_kind, own_here, rings_at}
-use Rattle.twkb_flat.proofs.BuildLemmas.{points_at, lines_at, areas_at}
-use Rattle.twkb_flat.proofs.BuildComponents.{ids_below, points_below, lines_below, areas_below}
-use Rattle.twkb_flat.proofs.BuildComponents.{is_polygon, is_multi_point, is_multi_line, is_multi_polygon}
-use Rattle.twkb_flat.proofs.BuildComponents.{is_no_ring}
+use Rattle.twkb_flat.proofs.BuildLemmas.{tree_heads, item_within, point_taken, line_taken, read_kind, own_here}
+use Rattle.twkb_flat.proofs.BuildLemmas.{rings_at, points_at, lines_at, areas_at, ids_below, points_below, lines_below}
+use Rattle.twkb_flat.proofs.BuildLemmas.{areas_below, is_polygon, is_multi_point, is_multi_line, is_multi_polygon}
+use Rattle.twkb_flat.proofs.BuildLemmas.{is_no_ring}
 use Rattle.twkb_flat.proofs.built_geometry.take_simple.Goals as goal
 
 pub row-row-requires : goal.row-row-requires

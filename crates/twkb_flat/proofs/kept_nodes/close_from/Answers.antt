@@ -1,5 +1,5 @@
 use Rattle.std.proofs.Common.{◌-◌, arith}
-use Rattle.twkb_flat.proofs.ClosingLemmas.{closing_last, closing_within, closing_up, closing_done, read_here}
+use Rattle.twkb_flat.proofs.LinkLemmas.{closing_last, closing_within, closing_up, closing_done, read_here}
 use Rattle.twkb_flat.proofs.kept_nodes.close_from.Goals as goal
 
 pub loop-kept-init : goal.loop-kept-init

@@ -1,5 +1,5 @@
 -- The open rows below the one at the place are closed.
-use Rattle.twkb_flat.proofs.ClosingLemmas.{Closing}
+use Rattle.twkb_flat.proofs.LinkLemmas.{Closing}
 use Rattle.twkb_flat.proofs.kept_nodes.close_from.Given as goal
 
 abbrev pub invariant-loop-kept : goal.invariant-loop-kept

@@ -1,5 +1,5 @@
 use Rattle.std.proofs.Common.{arith, length, ◌-◌}
-use Rattle.twkb_flat.proofs.CountedMore.{last_fits_for, longer_placed_by, same_links_by}
+use Rattle.twkb_flat.proofs.LastPoint.{last_fits_for, longer_placed_by, same_links_by}
 use Rattle.twkb_flat.proofs.kept_nodes.count_points.Goals as goal
 
 pub overflow_add-kept_node : goal.overflow_add-kept_node

@@ -1,7 +1,7 @@
 use Rattle.std.proofs.Common.{List, ℕ, sym, subst}
 use Rattle.twkb_flat.specs.Links.{Linked}
 use Rattle.twkb_flat.specs.KeptNodes.{depths_in}
-use Rattle.twkb_flat.proofs.LastLinkLemmas.{read_linked}
+use Rattle.twkb_flat.proofs.LinkLemmas.{read_linked}
 use Rattle.twkb_flat.proofs.kept_nodes.link_last.Goals as goal
 
 pub returns-clause-links : goal.returns-clause-links

@@ -1,5 +1,5 @@
 use Rattle.std.proofs.Common.{◌-◌, length, arith}
-use Rattle.twkb_flat.proofs.ClosingLemmas.{rising_last, rising_within, rising_up, rising_there, read_here, some_node}
+use Rattle.twkb_flat.proofs.LinkLemmas.{rising_last, rising_within, rising_up, rising_there, read_here, some_node}
 use Rattle.twkb_flat.proofs.kept_nodes.open_at.Goals as goal
 
 pub loop-at-init : goal.loop-at-init

@@ -1,4 +1,4 @@
-use Rattle.twkb_flat.proofs.FlatLaws.{few_nodes, few_points}
+use Rattle.twkb_flat.proofs.LastPoint.{few_nodes, few_points}
 use Rattle.twkb_flat.proofs.laws.caps.Goals as goal
 
 pub returns : goal.returns

@@ -1,4 +1,4 @@
-use Rattle.twkb_flat.proofs.FlatLaws.{reads_join}
+use Rattle.twkb_flat.proofs.LastPoint.{reads_join}
 use Rattle.twkb_flat.proofs.laws.reads_add_up.Goals as goal
 
 pub returns : goal.returns

@@ -2,7 +2,7 @@ use Rattle.std.proofs.Common.{sym, ap, ◌∙◌}
 use Rattle.twkb_tree.specs.Admits.{points_fit}
 use Rattle.twkb_tree.specs.Open.{row_of, child_of}
 use Rattle.twkb_flat.specs.Rows.{row_with}
-use Rattle.twkb_flat.proofs.AdmitLemmas.{fits_by_count}
+use Rattle.twkb_flat.proofs.OpenPlaceLemmas.{fits_by_count}
 use Rattle.twkb_flat.proofs.row_test.fits.Goals as goal
 
 pub returns : goal.returns

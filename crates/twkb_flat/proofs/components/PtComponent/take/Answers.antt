@@ -1,6 +1,6 @@
 use Rattle.std.proofs.Common.{◌∙◌, [], ◌∷◌, get_or, ap}
 use Rattle.twkb_tree.specs.Rows.{plain_row}
-use Rattle.twkb_flat.proofs.TakeLemmas.{drop_more}
+use Rattle.twkb_flat.proofs.BuildLemmas.{drop_more}
 use Rattle.twkb_flat.proofs.components.PtComponent.take.Goals as goal
 
 pub returns : goal.returns

@@ -1,6 +1,6 @@
 use Rattle.std.proofs.Common.{◌∙◌}
 use Rattle.twkb_tree.specs.Rows.{plain_row}
-use Rattle.twkb_flat.proofs.TakeLemmas.{drop_more}
+use Rattle.twkb_flat.proofs.BuildLemmas.{drop_more}
 use Rattle.twkb_flat.proofs.components.PtsComponent.take.Goals as goal
 
 pub returns : goal.returns

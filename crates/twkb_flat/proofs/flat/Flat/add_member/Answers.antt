@@ -3,8 +3,8 @@ use Rattle.std.proofs.lemmas.List.{with_items_is}
 use Rattle.twkb_tree.specs.declared.kind.Kind.{Kind}
 use Rattle.twkb_flat.specs.declared.kept_nodes.KeptNode.{KeptNode}
 use Rattle.twkb_flat.specs.KeptNodes.{IsFlat, listed, placed_of}
-use Rattle.twkb_flat.proofs.MemberLemmas.{member_node, member_kept, member_pushed}
-use Rattle.twkb_flat.proofs.PushLemmas.{Pushed, kept_flat, kept_view, same_count}
+use Rattle.twkb_flat.proofs.PushLemmas.{member_node, member_kept, member_pushed, Pushed, kept_flat, kept_view}
+use Rattle.twkb_flat.proofs.PushLemmas.{same_count}
 use Rattle.twkb_flat.proofs.flat.Flat.add_member.Goals as goal
 
 -- the kept nodes with the member

@@ -1,6 +1,6 @@
 use Rattle.std.specs.Vec.{with_items}
 use Rattle.twkb_tree.specs.RowGrowth.{point_added}
-use Rattle.twkb_flat.proofs.CountedPoints.{StandFor, vec_counted, one_more, can_count}
+use Rattle.twkb_flat.proofs.LastPoint.{StandFor, vec_counted, one_more, can_count}
 use Rattle.twkb_flat.proofs.flat.Flat.add_point.Goals.{After-count_point}
 use Rattle.twkb_flat.proofs.flat.Flat.add_point.Goals as goal
 

@@ -2,8 +2,7 @@ use Rattle.std.proofs.Common.{List, ◌++◌, length, ap, ◌∙◌}
 use Rattle.std.specs.Vec.{with_items}
 use Rattle.twkb_points.specs.Point.{Point}
 use Rattle.twkb_tree.specs.RowGrowth.{points_added}
-use Rattle.twkb_flat.proofs.CountedPoints.{StandFor}
-use Rattle.twkb_flat.proofs.CountedMore.{points_more, can_count_more, vec_counted_by}
+use Rattle.twkb_flat.proofs.LastPoint.{StandFor, points_more, can_count_more, vec_counted_by}
 use Rattle.twkb_flat.proofs.flat.Flat.add_points.Goals.{After-self, After-count_points}
 use Rattle.twkb_flat.proofs.flat.Flat.add_points.Goals as goal
 

@@ -2,7 +2,7 @@ use Rattle.std.proofs.Common.{◌≡◌, List, [], ◌∷◌, ◌++◌, ap, ◌�
 use Rattle.std.specs.Vec.{with_items}
 use Rattle.twkb_points.specs.Point.{Point}
 use Rattle.twkb_tree.specs.RowGrowth.{point_added}
-use Rattle.twkb_flat.proofs.CountedPoints.{StandFor, HasCounted, vec_counted, one_more, two_more, can_count}
+use Rattle.twkb_flat.proofs.LastPoint.{StandFor, HasCounted, vec_counted, one_more, two_more, can_count}
 use Rattle.twkb_flat.proofs.flat.Flat.add_two.Goals.{After-self, After-push_reserved, After-count_point}
 use Rattle.twkb_flat.proofs.flat.Flat.add_two.Goals as goal
 

@@ -3,7 +3,7 @@ use Rattle.twkb_tree.specs.Limits.{Allowance, largest_limits}
 use Rattle.twkb_tree.specs.Rows.{row_points}
 use Rattle.twkb_flat.specs.RowTest.{is_admitted_at}
 use Rattle.twkb_flat.specs.Rows.{row_with}
-use Rattle.twkb_flat.proofs.AdmitLemmas.{continues_there, decides, kept_continues, misplaced, rows_open, too_deep}
+use Rattle.twkb_flat.proofs.OpenPlaceLemmas.{continues_there, decides, kept_continues, misplaced, rows_open, too_deep}
 use Rattle.twkb_flat.proofs.flat.Flat.admits.Goals as goal
 
 pub returns-then-not-is_next : goal.returns-then-not-is_next

@@ -1,6 +1,6 @@
 use Rattle.std.proofs.Common.{◌≡◌, map, length, sym, ap, ◌∙◌, subst}
 use Rattle.twkb_flat.specs.KeptNodes.{IsFlat, listed, placed_of}
-use Rattle.twkb_flat.proofs.BeginLemmas.{begun_flat, begun_rows, no_points}
+use Rattle.twkb_flat.proofs.PushLemmas.{begun_flat, begun_rows, no_points}
 use Rattle.twkb_flat.proofs.flat.Flat.begin.Goals as goal
 
 counted : (c : goal.After-swap) → c.len.result ≡ length c.args.points.now.items

@@ -4,8 +4,7 @@ use Rattle.twkb_points.specs.Point.{Point}
 use Rattle.twkb_tree.specs.declared.kind.Kind.{Kind}
 use Rattle.twkb_flat.specs.declared.node.Row.{Row}
 use Rattle.twkb_flat.specs.KeptNodes.{IsFlat, listed, placed_of}
-use Rattle.twkb_flat.proofs.BeginLemmas.{begun_flat, begun_rows, no_points, point_begins}
-use Rattle.twkb_flat.proofs.PushLemmas.{kept_flat, kept_view}
+use Rattle.twkb_flat.proofs.PushLemmas.{begun_flat, begun_rows, no_points, point_begins, kept_flat, kept_view}
 use Rattle.twkb_flat.proofs.flat.Flat.begin_point.Goals as goal
 
 abbrev row_is : goal.In_default → Row

@@ -1,6 +1,6 @@
 use Rattle.std.proofs.Common.{ap, arith}
 use Rattle.twkb_tree.specs.Rows.{Row}
-use Rattle.twkb_flat.proofs.ReadLemmas.{some_at, by_test}
+use Rattle.twkb_flat.proofs.FlatOpenLemmas.{some_at, by_test}
 use Rattle.twkb_flat.proofs.flat.Flat.is_at.Goals as goal
 
 pub returns : goal.returns

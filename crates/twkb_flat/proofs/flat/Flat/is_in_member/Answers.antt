@@ -1,6 +1,6 @@
 use Rattle.std.proofs.Common.{◌≡◌, Some, None, arith, rules}
 use Rattle.twkb_tree.specs.declared.kind.Kind.{Kind}
-use Rattle.twkb_flat.proofs.MemberLemmas.{in_member}
+use Rattle.twkb_flat.proofs.PushLemmas.{in_member}
 use Rattle.twkb_flat.proofs.flat.Flat.is_in_member.Goals as goal
 
 pub returns-then-eq : goal.returns-then-eq

@@ -1,5 +1,5 @@
 use Rattle.std.proofs.Common.{◌∙◌, ◌+◌, ◌-◌, take, drop, ap, length, arith}
-use Rattle.twkb_flat.proofs.ReadLemmas.{length-rows, points_inside, points_here}
+use Rattle.twkb_flat.proofs.FlatOpenLemmas.{length-rows, points_inside, points_here}
 use Rattle.twkb_flat.proofs.flat.Flat.own_points.Goals as goal
 
 pub index-requires : goal.index-requires

@@ -1,5 +1,5 @@
 use Rattle.std.proofs.Common.{arith}
-use Rattle.twkb_flat.proofs.ReadLemmas.{length-rows, row_here, shallow_here}
+use Rattle.twkb_flat.proofs.FlatOpenLemmas.{length-rows, row_here, shallow_here}
 use Rattle.twkb_flat.proofs.flat.Flat.row.Goals as goal
 
 pub index-requires : goal.index-requires

@@ -1,4 +1,4 @@
-use Rattle.twkb_flat.proofs.ReadLemmas.{row_got}
+use Rattle.twkb_flat.proofs.FlatOpenLemmas.{row_got}
 use Rattle.twkb_flat.proofs.rows.Rows.row_at.Goals as goal
 
 pub returns-clause-row : goal.returns-clause-row
