@@ -10,7 +10,7 @@ use Rattle.twkb_grammar.specs.Samples.{one_point, three_points, three_points_blo
 use Rattle.twkb_grammar.specs.Samples.{standard, two_lines, named_areas, named_members, named_members_blob}
 use Rattle.twkb_grammar.specs.Written.{canonical_stream}
 use Rattle.twkb_grammar.specs.declared.style.Style.TheVariants.{Full}
-use Rattle.twkb_grammar.proofs.Computed.{blob_by, standard_allowed}
+use Rattle.twkb_grammar.proofs.Either.{blob_by, standard_allowed}
 use Rattle.twkb_grammar.proofs.Streams.{one_stream}
 use Rattle.twkb_buffer.specs.declared.point.BufferPoint.{BufferPoint}
 use Rattle.twkb_buffer.specs.declared.report.BufferReport.{BufferReport}

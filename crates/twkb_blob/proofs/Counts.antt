@@ -16,11 +16,10 @@ use Rattle.twkb_grammar.specs.Machine.{Frame, Phase, AtHeader, Finished, Sums, n
 use Rattle.twkb_grammar.specs.Machine.{role_at, Runs}
 use Rattle.twkb_grammar.specs.Reading as reading
 use Rattle.twkb_grammar.specs.Reading.{open_by, open_after, frame_count}
-use Rattle.twkb_grammar.proofs.One.{one_blob_lem, peel}
-use Rattle.twkb_grammar.proofs.Parts.{runs_split, runs_same}
+use Rattle.twkb_grammar.proofs.Parts.{one_blob_lem, peel, runs_split, runs_same}
 use Rattle.twkb_grammar.proofs.Running.{part_ran, ran_part}
-use Rattle.twkb_grammar.proofs.TwoFronts.{Beyond, Compared, longer, shorter, same, two_fronts, part_front}
-use Rattle.twkb_grammar.proofs.TwoFronts.{none_beyond_fault}
+use Rattle.twkb_grammar.proofs.OneFault.{Beyond, Compared, longer, shorter, same, two_fronts, part_front}
+use Rattle.twkb_grammar.proofs.OneFault.{none_beyond_fault}
 use Rattle.twkb_grammar.proofs.Streams.{first_item, no_stream, one_stream_fault}
 use Rattle.twkb_grammar.proofs.Frames.{reached_frames}
 use Rattle.twkb_grammar.proofs.Standing.{none_longer}

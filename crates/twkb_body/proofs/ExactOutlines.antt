@@ -5,7 +5,7 @@ use Rattle.twkb_tree.specs.Rows.{Row}
 use Rattle.twkb_grammar.specs.Roles.{Role}
 use Rattle.twkb_grammar.specs.Fault.{SizeMismatch, FirstFault}
 use Rattle.twkb_grammar.specs.Machine.{Sums}
-use Rattle.twkb_grammar.proofs.ExactEnds.{NoEnd, no_size_wrong}
+use Rattle.twkb_grammar.proofs.OneFault.{NoEnd, no_size_wrong}
 use Rattle.twkb_body.specs.Outline.{Outline, outline_role}
 use Rattle.twkb_body.specs.Reading.{Outlined}
 use Rattle.twkb_body.proofs.Outlined.{same_role}

@@ -7,7 +7,7 @@ use Rattle.twkb_tree.specs.Rows.{Row}
 use Rattle.twkb_grammar.specs.Roles.{Role}
 use Rattle.twkb_grammar.specs.Fault.{Reason}
 use Rattle.twkb_grammar.specs.Machine.{Sums}
-use Rattle.twkb_grammar.proofs.ExactEnds.{NoEnd}
+use Rattle.twkb_grammar.proofs.OneFault.{NoEnd}
 use Rattle.twkb_body.specs.Outline.{Outline, Stage, OnHeader, OnMetadata, OnId, OnBody, OnFinished, Wanted, WantedY}
 use Rattle.twkb_body.specs.Outline.{Full, stage_role}
 use Rattle.twkb_body.specs.Reading.{Outlined, OutlineLanded}

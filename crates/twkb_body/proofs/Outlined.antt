@@ -18,11 +18,11 @@ use Rattle.twkb_grammar.specs.Machine.{AtMetadata, AtOption, AtCount, AtId, AtBo
 use Rattle.twkb_grammar.specs.Machine.{added, Stack, started, role_at, stack_after}
 use Rattle.twkb_grammar.specs.Reading.{Reached, Gives, Landed, Leads, ends}
 use Rattle.twkb_grammar.specs.Noting.{Notes, no_notes, noted, noted_by}
-use Rattle.twkb_grammar.proofs.QuietItems.{noted-append}
-use Rattle.twkb_grammar.proofs.Reaching.{reached_nothing, reached_bytes, reached_on, landed, leads, reached_blob}
-use Rattle.twkb_grammar.proofs.Reaching.{reached_cut, reached_long, reached_end}
-use Rattle.twkb_grammar.proofs.PartBytes.{reached_part}
-use Rattle.twkb_grammar.proofs.Depths.{reached_depth}
+use Rattle.twkb_grammar.proofs.NotedSpans.{noted-append}
+use Rattle.twkb_grammar.proofs.Running.{reached_nothing, reached_bytes, reached_on, landed, leads, reached_blob}
+use Rattle.twkb_grammar.proofs.Running.{reached_cut, reached_long, reached_end}
+use Rattle.twkb_grammar.proofs.OneFault.{reached_part}
+use Rattle.twkb_grammar.proofs.Frames.{reached_depth}
 use Rattle.twkb_body.specs.Outline.{OnHeader, OnFinished, Outline, frame_outline, lefts_of, stage_of, outline_of}
 use Rattle.twkb_body.specs.Outline.{outline_role, outline_in, outline_ends}
 use Rattle.twkb_body.specs.Growing.{rows_so_far, Takes, applied, change_of}

@@ -26,7 +26,7 @@ use Rattle.twkb_grammar.specs.Machine.{advanced, stack_after, Runs}
 use Rattle.twkb_grammar.specs.Reading.{Ran, Reached}
 use Rattle.twkb_grammar.proofs.Parts.{runs_split, runs_same}
 use Rattle.twkb_grammar.proofs.Trees.{tree_runs}
-use Rattle.twkb_grammar.proofs.Ranges.{all_front}
+use Rattle.twkb_grammar.proofs.Refusing.{all_front}
 use Rattle.twkb_grammar.proofs.Running.{ran_part}
 use Rattle.twkb_body.specs.Outline.{ids_behind, stage_of, body_stage, outline_of}
 use Rattle.twkb_body.specs.Growing.{id_within, frame_rows, value_rows, cut_before, rows_so_far, Change, Nothing}

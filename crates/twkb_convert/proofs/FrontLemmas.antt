@@ -14,7 +14,7 @@ use Rattle.csv.specs.declared.parser.State.TheVariants.{StartRecord}
 use Rattle.twkb_tree.specs.RowLists.{AreGeometries}
 use Rattle.twkb_tree.proofs.LimitLaws.{valid_front}
 use Rattle.twkb_tree.proofs.RowLaws.{at_root, first_ended, below_root}
-use Rattle.twkb_grammar.proofs.One.{peel, one_blob_lem}
+use Rattle.twkb_grammar.proofs.Parts.{peel, one_blob_lem}
 use Rattle.twkb_grammar.proofs.OneFault.{no_fault}
 use Rattle.twkb_grammar.proofs.Streams.{behind_stream}
 use Rattle.twkb_table.proofs.FaultLaws.{later_none}

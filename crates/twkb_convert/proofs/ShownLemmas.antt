@@ -4,7 +4,7 @@ use Rattle.twkb_convert.proofs.Prelude.{sym, subst, inl, inr, length-append, app
 use Rattle.twkb_convert.proofs.Prelude.{flat_map-append, BeginsWith, Tree, Allowance, IsAllowance, AreBytes, Blob}
 use Rattle.twkb_convert.proofs.Prelude.{Stream, Reason, StreamFault, spans_of_blob, Span, Located, span_lines}
 use Rattle.twkb_convert.proofs.Prelude.{LocatedStream, ShowTo, TellsSpans, geometries_of, lines_text}
-use Rattle.twkb_grammar.proofs.One.{one_blob_lem, peel}
+use Rattle.twkb_grammar.proofs.Parts.{one_blob_lem, peel}
 use Rattle.twkb_grammar.proofs.OneFault.{no_fault}
 use Rattle.twkb_grammar.proofs.SpanLaws.{one_list}
 use Rattle.twkb_grammar.proofs.Streams.{blob_long, stream_or_fault}

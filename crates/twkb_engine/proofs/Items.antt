@@ -11,7 +11,7 @@ use Rattle.twkb_grammar.specs.Roles.{Role, IsNumber}
 use Rattle.twkb_grammar.specs.Fault.{Reason, moved}
 use Rattle.twkb_grammar.specs.Machine.{Sums}
 use Rattle.twkb_grammar.specs.Reading.{Gives}
-use Rattle.twkb_grammar.proofs.RoleBytes.{number_gives}
+use Rattle.twkb_grammar.proofs.OneFault.{number_gives}
 use Rattle.twkb_body.specs.Outline.{Outline, Stage, stage_role, outline_ends, outline_advanced}
 use Rattle.twkb_body.specs.Growing.{Change, id_in, applied, stage_change}
 use Rattle.twkb_body.specs.Admitting.{Admits}

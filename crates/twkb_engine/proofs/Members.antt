@@ -14,7 +14,7 @@ use Rattle.twkb_grammar.specs.Fault.{Reason, TooManyNodes, TooManyPoints, nodes_
 use Rattle.twkb_grammar.specs.PlainReader.{objection, unless}
 use Rattle.twkb_grammar.specs.Machine as machine
 use Rattle.twkb_grammar.specs.Machine.{Sums, Many, ManyPoints, ManyGeometries, first_count}
-use Rattle.twkb_grammar.proofs.Objections.{deep_allowed}
+use Rattle.twkb_grammar.proofs.Running.{deep_allowed}
 use Rattle.twkb_body.specs.Outline.{FrameOutline, Outline, Stage, OnId, OnEnd, members_open, many_counted, outline_ends}
 use Rattle.twkb_body.specs.Growing.{Change, Nothing, NewRow, count_change, stage_change, own_of, kind_with}
 use Rattle.twkb_body.specs.JudgedParts.{IsPastEnds, Passes}

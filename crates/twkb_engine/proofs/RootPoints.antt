@@ -16,8 +16,7 @@ use Rattle.twkb_grammar.specs.PlainReader.{is_exact}
 use Rattle.twkb_grammar.specs.Machine.{Head, Sums, Stack, Runs, nothing, started, sums_after}
 use Rattle.twkb_grammar.specs.Noting.{Notes, no_notes, noted}
 use Rattle.twkb_grammar.proofs.Streams.{first_item}
-use Rattle.twkb_grammar.proofs.PartBytes.{blob_is_part}
-use Rattle.twkb_grammar.proofs.OneFault.{no_fault}
+use Rattle.twkb_grammar.proofs.OneFault.{blob_is_part, no_fault}
 use Rattle.twkb_body.specs.Outline.{OnHeader, OnEnd, outline_of, outline_past_end}
 use Rattle.twkb_body.specs.Reading.{Outlined, OutlineLanded}
 use Rattle.twkb_body.specs.JudgedParts.{PartIn, IsJudged}

@@ -18,11 +18,8 @@ use Rattle.twkb_grammar.specs.Reading.{Ran, Reached, Gives}
 use Rattle.twkb_grammar.specs.Noting.{Notes, no_notes, noted, note_end, note_ends, note_ends_to, IsQuiet}
 use Rattle.twkb_grammar.specs.Spans.{spans_of_blob}
 use Rattle.twkb_grammar.proofs.BodiesBack.{some_role}
-use Rattle.twkb_grammar.proofs.ExactEnds.{NoEnd}
-use Rattle.twkb_grammar.proofs.RoleBytes.{IsByteRole, byte_gives, number_gives, byte_no_end, number_no_end}
-use Rattle.twkb_grammar.proofs.NotedSpans.{blob_noted}
-use Rattle.twkb_grammar.proofs.QuietItems.{quiet}
-use Rattle.twkb_grammar.proofs.NotedEnds.{all_open, ends_to}
+use Rattle.twkb_grammar.proofs.OneFault.{NoEnd, IsByteRole, byte_gives, number_gives, byte_no_end, number_no_end}
+use Rattle.twkb_grammar.proofs.NotedSpans.{blob_noted, quiet, all_open, ends_to}
 use Rattle.twkb_grammar.proofs.Frames.{reached_frames}
 use Rattle.twkb_grammar.proofs.Running.{ran_blob}
 use Rattle.twkb_grammar.proofs.TreesBack.{runs_are_items}

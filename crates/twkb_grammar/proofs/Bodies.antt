@@ -1,28 +1,177 @@
--- The machine runs through a body.
-use Rattle.std.proofs.Common.{true, false, ◌≡◌, ℕ, zero, suc, ◌+◌, List, [], ◌∷◌, ◌++◌, map, length}
-use Rattle.std.proofs.Common.{refl, ap, sym, ◌∙◌, subst, append_assoc, append-nil, ◌<◌}
-use Rattle.std.proofs.Common.{length-append, Some, None, arith}
+-- The machine runs through a body and through the frame around it.
+use Rattle.std.proofs.Common.{◌≡◌, ℕ, zero, suc, ◌*◌, ◌/◌, ◌%◌, ◌^◌, ◌<◌, ◌-◌, ℤ, pos, negsuc, refl, arith, List, []}
+use Rattle.std.proofs.Common.{◌∷◌, ◌++◌, map, ap, sym, ◌∙◌, Option, Some, None, true, false, ◌+◌, length, subst}
+use Rattle.std.proofs.Common.{append_assoc, append-nil, length-append, Bool}
+use Rattle.std.specs.Prelude.{◌≤ℤ◌, ◌-ℤ◌, flat_map, ◌+ℤ◌, ⊤}
+use Rattle.std.proofs.lemmas.Int.{ints}
 use Rattle.std.proofs.lemmas.Bool.{false≢true}
-use Rattle.std.specs.Prelude.{ℤ, flat_map, ◌-ℤ◌}
 use Rattle.twkb_num.specs.Zigzag.{zigzag_of, unzigzag_of}
-use Rattle.twkb_points.specs.Point.{Point, point_at}
-use Rattle.twkb_tree.specs.Tree.{Ids, Simple, point, line, polygon, multi_point, multi_line}
-use Rattle.twkb_tree.specs.Tree.{multi_polygon, simple, IdsFit, HasIds}
-use Rattle.twkb_grammar.specs.Bits.{bit}
-use Rattle.twkb_grammar.specs.Roles.{Item, Role, X, Y, Count, Id, Counted, Vertices, Rings, AreFields, join}
-use Rattle.twkb_grammar.specs.Items.{Slot, OfCount, OfId, OfPoint, id_slots, run_of, rings_of}
-use Rattle.twkb_grammar.specs.Items.{slots, flags, members, Agrees}
-use Rattle.twkb_grammar.specs.Fault.{moved}
-use Rattle.twkb_grammar.specs.Machine.{Nested, Around, top, within, Body, Want, closed, opened}
-use Rattle.twkb_grammar.specs.Machine.{listed, BodyForm, depth_of, Head, Frame, settled, Many}
-use Rattle.twkb_grammar.specs.Machine.{members_begin, ManyPoints, ManyLines, ManyPolygons, begun}
-use Rattle.twkb_grammar.specs.Machine.{SimpleKind, shape_of, PointForm, LineForm, PolygonForm}
-use Rattle.twkb_grammar.specs.Machine.{MultiPointForm, MultiLineForm, MultiPolygonForm, AtEnd}
-use Rattle.twkb_grammar.specs.Machine.{AtBody, first_count, counted, AtId, AtCount, Sums, added}
-use Rattle.twkb_grammar.specs.Machine.{Stack, Runs}
-use Rattle.twkb_grammar.proofs.Slots.{steps, reached, reached-append, forth}
 use Rattle.twkb_num.proofs.ZigzagLemmas.{unzigzag_of-zigzag_of}
-use Rattle.twkb_points.specs.Point.{origin}
+use Rattle.twkb_points.specs.Point.{IsCoordinate, Point, origin, point_at}
+use Rattle.twkb_points.specs.Differences.{differences_from}
+use Rattle.twkb_tree.specs.Tree.{IsPrecision, IsId, Simple, point, line, polygon, multi_point, multi_line}
+use Rattle.twkb_tree.specs.Tree.{multi_polygon, points_in, flatten, Ids, simple, IdsFit, HasIds, Tree}
+use Rattle.twkb_grammar.specs.Roles.{Field, Count, Id, X, Y, Item, Role, Counted, Vertices, Rings, AreFields, join}
+use Rattle.twkb_grammar.specs.Roles.{Header, Metadata, Extended, Size, Box, End, HaveRoles, where_set, item}
+use Rattle.twkb_grammar.specs.Items.{Slot, OfCount, OfId, OfPoint, filled, fields, slots, run_of, rings_of, id_slots}
+use Rattle.twkb_grammar.specs.Items.{flags, members, Agrees, declared, end_item, Flags, Framed, header_byte}
+use Rattle.twkb_grammar.specs.Bits.{bit}
+use Rattle.twkb_grammar.specs.Fault.{moved}
+use Rattle.twkb_grammar.specs.Machine.{Nested, Around, top, within, Body, Want, closed, opened, listed, BodyForm}
+use Rattle.twkb_grammar.specs.Machine.{depth_of, Head, Frame, settled, Many, members_begin, ManyPoints, ManyLines}
+use Rattle.twkb_grammar.specs.Machine.{ManyPolygons, begun, SimpleKind, shape_of, PointForm, LineForm, PolygonForm}
+use Rattle.twkb_grammar.specs.Machine.{MultiPointForm, MultiLineForm, MultiPolygonForm, AtEnd, AtBody, first_count}
+use Rattle.twkb_grammar.specs.Machine.{counted, AtId, AtCount, Sums, added, Stack, Runs, Kind, CollectionKind}
+use Rattle.twkb_grammar.specs.Machine.{kind_number, kind_at, AtHeader, AtMetadata, wanting, asked, ended, stack_after}
+pub use Rattle.twkb_grammar.specs.Machine.{sums_after}
+
+-- ==== Whole numbers in range, and their zigzag forms.
+
+-- a number from -k - 1 to k
+abbrev Between : ℕ → ℤ → Type 0
+Between k z = (negsuc k ≤ℤ z) × (z ≤ℤ pos k)
+
+between_pos : (k n : ℕ) → n < suc k → Between k (pos n)
+between_pos k n h = (omega (arith, ints), omega (arith, ints))
+
+between_neg : (k n : ℕ) → n < suc k → Between k (negsuc n)
+between_neg k n h = (omega (arith, ints), omega (arith, ints))
+
+between_form : (k n : ℕ) → n < 2 * suc k → Between k (unzigzag_of n)
+between_form k n h = go (n % 2) refl (omega arith)
+  where
+    go : (r : ℕ) → n % 2 ≡ r → r < 2 → Between k (unzigzag_of n)
+    go zero e l = rw e (between_pos k (n / 2) (omega arith))
+    go (suc zero) e l = rw e (between_neg k (n / 2) (omega arith))
+    go (suc (suc r)) e l = absurd (omega arith)
+
+form_between : (k : ℕ) (z : ℤ) → Between k z → zigzag_of z < 2 * suc k
+form_between k (pos n) h = omega (arith, ints, h.1)
+form_between k (negsuc n) h = omega (arith, ints, h.0)
+
+-- the zigzag form of a precision has four bits
+pub zigzag_small : (p : ℤ) → IsPrecision p → zigzag_of p < 16
+zigzag_small p h = form_between 7 p h
+
+-- a number of four bits is the zigzag form of a precision
+pub precision_fits : (n : ℕ) → n < 16 → IsPrecision (unzigzag_of n)
+precision_fits n h = between_form 7 n h
+
+-- a varint's number is the zigzag form of an id
+pub id_small : (n : ℕ) → n < 2 ^ 64 → IsId (unzigzag_of n)
+id_small n h = between_form (2 ^ 63 - 1) n (omega arith)
+
+-- the zigzag form of an id fits a varint
+pub id_fits : (z : ℤ) → IsId z → zigzag_of z < 2 ^ 64
+id_fits z h = omega (arith, form_between (2 ^ 63 - 1) z h)
+
+-- the zigzag form of a difference of coordinates fits a varint
+pub difference_fits : (a b : ℤ) → IsCoordinate a → IsCoordinate b → zigzag_of (b -ℤ a) < 2 ^ 64
+difference_fits a b h k =
+    let low : negsuc (2 ^ 63 - 1) ≤ℤ (b -ℤ a) = omega (arith, ints, h.0, h.1, k.0, k.1) in
+    let high : (b -ℤ a) ≤ℤ pos (2 ^ 63 - 1) = omega (arith, ints, h.0, h.1, k.0, k.1) in
+    id_fits (b -ℤ a) (low, high)
+
+-- the zigzag form of a coordinate fits a varint
+pub coordinate_fits : (a : ℤ) → IsCoordinate a → zigzag_of a < 2 ^ 64
+coordinate_fits a h = id_fits a (omega (arith, ints, h.0), omega (arith, ints, h.1))
+
+-- ==== The fields of a body, with a running position.
+
+-- the fields of these slots after position p
+abbrev pub steps : Point → List Slot → List Field
+steps p [] = []
+steps p (OfCount c n ∷ ps) = (Count c, n) ∷ steps p ps
+steps p (OfId id ∷ ps) = (Id, zigzag_of id) ∷ steps p ps
+steps p (OfPoint q ∷ ps) = (X, zigzag_of (q.x -ℤ p.x)) ∷ (Y, zigzag_of (q.y -ℤ p.y)) ∷ steps q ps
+
+-- the points of slots
+abbrev pub slot_points : List Slot → List Point
+slot_points [] = []
+slot_points (OfCount c n ∷ ps) = slot_points ps
+slot_points (OfId id ∷ ps) = slot_points ps
+slot_points (OfPoint q ∷ ps) = q ∷ slot_points ps
+
+-- slots filled with the differences of their points
+pub filled_is : (ps : List Slot) (p : Point) → filled ps (differences_from p (slot_points ps)) ≡ steps p ps
+filled_is [] p = refl
+filled_is (OfCount c n ∷ ps) p = ap (λ fs. (Count c, n) ∷ fs) (filled_is ps p)
+filled_is (OfId id ∷ ps) p = ap (λ fs. (Id, zigzag_of id) ∷ fs) (filled_is ps p)
+filled_is (OfPoint q ∷ ps) p = ap (λ fs. (X, zigzag_of (q.x -ℤ p.x)) ∷ (Y, zigzag_of (q.y -ℤ p.y))
+    ∷ fs) (filled_is ps q)
+
+-- the points of joined slots
+pub slot_points-append : (ps qs : List Slot) → slot_points (ps ++ qs) ≡ slot_points ps ++ slot_points qs
+slot_points-append [] qs = refl
+slot_points-append (OfCount c n ∷ ps) qs = slot_points-append ps qs
+slot_points-append (OfId id ∷ ps) qs = slot_points-append ps qs
+slot_points-append (OfPoint q ∷ ps) qs = ap (λ xs. q ∷ xs) (slot_points-append ps qs)
+
+-- the points of points
+pub slot_points-map : (ps : List Point) → slot_points (map OfPoint ps) ≡ ps
+slot_points-map [] = refl
+slot_points-map (p ∷ ps) = ap (λ xs. p ∷ xs) (slot_points-map ps)
+
+-- the points of joined lists of slots
+pub slot_points-flat : {A : Type 0} (f : A → List Slot) (g : A → List Point)
+    → ((a : A) → slot_points (f a) ≡ g a) → (xs : List A) → slot_points (flat_map f xs) ≡ flat_map g xs
+slot_points-flat f g h [] = refl
+slot_points-flat f g h (x ∷ xs) = slot_points-append (f x) (flat_map f xs)
+    ∙ (ap (λ ys. ys ++ slot_points (flat_map f xs)) (h x) ∙ ap (λ ys. g x ++ ys) (slot_points-flat f g h xs))
+
+-- the slots of ids have no points
+pub slot_points-ids : (ids : List ℤ) (ps : List Slot) → slot_points (map OfId ids ++ ps) ≡ slot_points ps
+slot_points-ids [] ps = refl
+slot_points-ids (id ∷ ids) ps = slot_points-ids ids ps
+
+-- the slots of optional ids have no points
+pub slot_points-id_slots : (ids : Option (List ℤ)) (ps : List Slot) → slot_points (id_slots ids ++ ps) ≡ slot_points ps
+slot_points-id_slots None ps = refl
+slot_points-id_slots (Some ids) ps = slot_points-ids ids ps
+
+-- the points of rings
+pub slot_points-rings : (rings : List (List Point)) → slot_points (rings_of rings) ≡ flatten rings
+slot_points-rings rings = slot_points-flat run_of (λ ps. ps) slot_points-map rings
+
+-- the points of the slots of a shape are its own
+pub points_are : (s : Simple) → slot_points (slots s) ≡ points_in s
+points_are (point None) = refl
+points_are (point (Some p)) = refl
+points_are (line ps) = slot_points-map ps
+points_are (polygon rings) = slot_points-rings rings
+points_are (multi_point ids ps) = slot_points-id_slots ids (map OfPoint ps) ∙ slot_points-map ps
+points_are (multi_line ids lines) = slot_points-id_slots ids (flat_map run_of lines) ∙ slot_points-rings lines
+points_are (multi_polygon ids areas) = slot_points-id_slots ids (flat_map rings_of areas)
+    ∙ slot_points-flat rings_of flatten slot_points-rings areas
+
+-- the fields of a shape, walked from the origin
+pub fields_are : (s : Simple) → fields s ≡ steps origin (slots s)
+fields_are s = ap (λ ps. filled (slots s) (differences_from origin ps)) (sym (points_are s))
+    ∙ filled_is (slots s) origin
+
+-- a difference added to its start gives its end
+pub back : (p q : ℤ) → p +ℤ (q -ℤ p) ≡ q
+back p q = omega (arith, ints)
+
+-- a difference, in zigzag form and back, added to its start gives its end
+pub forth : (p q : ℤ) → p +ℤ unzigzag_of (zigzag_of (q -ℤ p)) ≡ q
+forth p q = rw (unzigzag_of-zigzag_of (q -ℤ p)) (back p q)
+
+-- the position after these slots
+abbrev pub reached : Point → List Slot → Point
+reached p [] = p
+reached p (OfCount c n ∷ ps) = reached p ps
+reached p (OfId id ∷ ps) = reached p ps
+reached p (OfPoint q ∷ ps) = reached q ps
+
+-- the position after joined slots
+pub reached-append : (p : Point) (xs ys : List Slot) → reached p (xs ++ ys) ≡ reached (reached p xs) ys
+reached-append p [] ys = refl
+reached-append p (OfCount c n ∷ xs) ys = reached-append p xs ys
+reached-append p (OfId id ∷ xs) ys = reached-append p xs ys
+reached-append p (OfPoint q ∷ xs) ys = reached-append q xs ys
+
+-- ==== The machine runs through a body.
 
 -- the slots of a value of depth d
 abbrev pub slots_of : (d : ℕ) → Nested d → List Slot
@@ -284,3 +433,209 @@ shape_run h fs total (multi_polygon ids areas) fit agrees full =
     parts_run ManyPolygons h MultiPolygonForm ids fs total
     (fs, AtEnd h (simple h.precision (multi_polygon ids areas))) 2 areas top
     (flat_map rings_of areas) (areas_slots areas) refl refl (says_of h ids areas fit agrees)
+
+-- ==== The machine runs through a geometry's frame: header, optional parts, body and end.
+
+-- two runs, one after the other, are one
+pub Runs-append : (is : List Item) (e : Sums) (st mid : Stack) (js : List Item) (last : Stack)
+    → Runs e st is mid → Runs (sums_after e is) mid js last → Runs e st (is ++ js) last
+Runs-append [] e st mid js last r s = subst (λ x. Runs e x js last) (sym r) s
+Runs-append (i ∷ is) e st mid js last r s =
+    (r.0, r.1, Runs-append is (added e i) (stack_after e i st) mid js last r.2 s)
+
+-- the sums count the bytes
+pub bytes_after : (is : List Item) (e : Sums) → (sums_after e is).bytes ≡ e.bytes + length (join is)
+bytes_after [] e = omega arith
+bytes_after (i ∷ is) e = omega (arith, bytes_after is (added e i), length-append i.bytes (join is))
+
+-- roles that leave the position unchanged
+abbrev pub Still : List Role → Type 0
+Still [] = ⊤
+Still (r ∷ rs) = ((p : Point) (n : ℕ) → moved p r n ≡ p) × Still rs
+
+-- items with such roles leave the position unchanged
+pub still_after : (rs : List Role) (is : List Item) (e : Sums) → HaveRoles rs is → Still rs
+    → (sums_after e is).position ≡ e.position
+still_after [] [] e have still = refl
+still_after [] (i ∷ is) e have still = absurd have
+still_after (r ∷ rs) [] e have still = absurd have
+still_after (r ∷ rs) (i ∷ is) e have still =
+    still_after rs is (added e i) have.2 still.1 ∙ (ap (λ s. moved e.position s i.number) have.0
+    ∙ still.0 e.position i.number)
+
+-- optional roles of this sort leave the position unchanged, asked for or not
+pub still_where : (b : Bool) (rs : List Role) → Still rs → Still (where_set b rs)
+still_where true rs still = still
+still_where false rs still = tt
+
+-- the header with these fields
+abbrev pub head : ℤ → ℕ → Option ℕ → ℕ → Head
+head p meta size from = record { precision = p; meta = meta; size = size; from = from }
+
+module _ (k : Kind) (p : ℤ) (meta : ℕ) (fs : List Frame) where
+  extended_run : (b : Bool) (is : List Item) (rs : List Role) (e : Sums) → HaveRoles (where_set b (Extended ∷ [])) is
+      → Runs e (fs, wanting k (head p meta None e.bytes) (where_set b (Extended ∷ []) ++ rs)) is
+      (fs, wanting k (head p meta None (sums_after e is).bytes) rs)
+  extended_run true [] rs e have = absurd have
+  extended_run true (i ∷ []) rs e have = (ap Some (sym have.0), have.1, refl)
+  extended_run true (i ∷ j ∷ is) rs e have = absurd have.2
+  extended_run false [] rs e have = refl
+  extended_run false (i ∷ is) rs e have = absurd have
+
+  size_run : (b : Bool) (is : List Item) (rs : List Role) (e : Sums) → HaveRoles (where_set b (Size ∷ [])) is
+      → Runs e (fs, wanting k (head p meta None e.bytes) (where_set b (Size ∷ []) ++ rs)) is
+      (fs, wanting k (head p meta (declared is) (sums_after e is).bytes) rs)
+  size_run true [] rs e have = absurd have
+  size_run true (i ∷ []) rs e have = (ap Some (sym have.0), have.1, refl)
+  size_run true (i ∷ j ∷ is) rs e have = absurd have.2
+  size_run false [] rs e have = refl
+  size_run false (i ∷ is) rs e have = absurd have
+
+  box_run : (b : Bool) (is : List Item) (h : Head) (e : Sums) → HaveRoles (where_set b (Box ∷ Box ∷ Box ∷ Box ∷ [])) is
+      → Runs e (fs, wanting k h (where_set b (Box ∷ Box ∷ Box ∷ Box ∷ []))) is (fs, wanting k h [])
+  box_run true [] h e have = absurd have
+  box_run true (i ∷ []) h e have = absurd have.2
+  box_run true (i ∷ j ∷ []) h e have = absurd have.2.2
+  box_run true (i ∷ j ∷ l ∷ []) h e have = absurd have.2.2.2
+  box_run true (i ∷ j ∷ l ∷ m ∷ []) h e have = (
+    ap Some (sym have.0),
+    have.1,
+    (
+      ap Some (sym have.2.0),
+      have.2.1,
+      (
+        ap Some (sym have.2.2.0),
+        have.2.2.1,
+        (ap Some (sym have.2.2.2.0), have.2.2.2.1, refl),
+      ),
+    ),
+  )
+  box_run true (i ∷ j ∷ l ∷ m ∷ n ∷ is) h e have = absurd have.2.2.2.2
+  box_run false [] h e have = refl
+  box_run false (i ∷ is) h e have = absurd have
+
+-- the number of a kind is a type's number
+pub kind_small : (k : Kind) → (0 < kind_number k) × (kind_number k < 8)
+kind_small (SimpleKind PointForm) = (omega arith, omega arith)
+kind_small (SimpleKind LineForm) = (omega arith, omega arith)
+kind_small (SimpleKind PolygonForm) = (omega arith, omega arith)
+kind_small (SimpleKind MultiPointForm) = (omega arith, omega arith)
+kind_small (SimpleKind MultiLineForm) = (omega arith, omega arith)
+kind_small (SimpleKind MultiPolygonForm) = (omega arith, omega arith)
+kind_small CollectionKind = (omega arith, omega arith)
+
+-- a kind is that of its number
+pub kind_again : (k : Kind) → kind_at (kind_number k) ≡ k
+kind_again (SimpleKind PointForm) = refl
+kind_again (SimpleKind LineForm) = refl
+kind_again (SimpleKind PolygonForm) = refl
+kind_again (SimpleKind MultiPointForm) = refl
+kind_again (SimpleKind MultiLineForm) = refl
+kind_again (SimpleKind MultiPolygonForm) = refl
+kind_again CollectionKind = refl
+
+-- a run through the body, for which the geometry is responsible
+abbrev pub RunsBody : Kind → ℤ → List Frame → ℕ → List Item → Tree → Type 0
+RunsBody k p fs meta body g = (e : Sums) (size : Option ℕ) (from : ℕ) → e.position ≡ origin
+    → let h = head p meta size from in Runs e (fs, wanting k h []) body (fs, AtEnd h g)
+
+-- subtracting what was added gives the number back
+pub sub_add : (a n : ℕ) → (a + n) - a ≡ n
+sub_add a n = omega arith
+
+tail_run : (k : Kind) (p : ℤ) (own : Flags) (Body : List Item → Type 0) (fs : List Frame) (e : Sums)
+    (is : List Item) (g : Tree)
+    → (f : Framed (kind_number k) p own Body is) → RunsBody k p fs f.meta f.body g → e.position ≡ origin
+    → Runs e (fs, wanting k (head p f.meta None e.bytes) (asked f.meta))
+    (f.extended ++ (f.size ++ ((f.box ++ f.body) ++ end_item (declared f.size) (f.box ++ f.body)
+    ∷ []))) (ended fs g)
+tail_run k p own Body fs e is g f runs here =
+    Runs-append f.extended e (fs, wanting k (head p f.meta None e.bytes) (asked f.meta))
+    (fs, wanting k (head p f.meta None e2.bytes) (sizes ++ boxes))
+    (f.size ++ (rest ++ last ∷ [])) (ended fs g)
+    (extended_run k p f.meta fs (bit f.meta 3) f.extended (sizes ++ boxes) e f.optional.extended_is)
+    (Runs-append f.size e2 (fs, wanting k (head p f.meta None e2.bytes) (sizes ++ boxes))
+    (fs, wanting k h boxes) (rest ++ last ∷ []) (ended fs g)
+    (size_run k p f.meta fs (bit f.meta 1) f.size boxes e2 f.optional.size_is)
+    (Runs-append rest e3 (fs, wanting k h boxes) (fs, AtEnd h g) (last ∷ []) (ended fs g)
+    (Runs-append f.box e3 (fs, wanting k h boxes) (fs, wanting k h []) f.body (fs, AtEnd h g)
+    (box_run k p f.meta fs (bit f.meta 0) f.box h e3 f.optional.box_is)
+    (runs (sums_after e3 f.box) (declared f.size) e3.bytes
+    (still_after boxes f.box e3 f.optional.box_is
+    (still_where (bit f.meta 0) (Box ∷ Box ∷ Box ∷ Box ∷ [])
+    ((λ p n. refl), ((λ p n. refl), ((λ p n. refl), ((λ p n. refl), tt)))))
+    ∙ (still_after sizes f.size e2 f.optional.size_is (still_where (bit f.meta 1) (Size ∷ []) ((λ p n. refl), tt))
+    ∙ (still_after extends f.extended e f.optional.extended_is
+    (still_where (bit f.meta 3) (Extended ∷ []) ((λ p n. refl), tt)) ∙ here))))) (
+      ap (λ n. Some (End (declared f.size) n)) (ap (λ b. b - e3.bytes) (bytes_after rest e3)
+          ∙ sub_add e3.bytes (length (join rest))),
+      (refl, refl),
+      refl,
+    )))
+  where
+    extends : List Role
+    extends = where_set (bit f.meta 3) (Extended ∷ [])
+
+    sizes : List Role
+    sizes = where_set (bit f.meta 1) (Size ∷ [])
+
+    boxes : List Role
+    boxes = where_set (bit f.meta 0) (Box ∷ Box ∷ Box ∷ Box ∷ [])
+
+    rest : List Item
+    rest = f.box ++ f.body
+
+    e2 : Sums
+    e2 = sums_after e f.extended
+
+    e3 : Sums
+    e3 = sums_after e2 f.size
+
+    h : Head
+    h = head p f.meta (declared f.size) e3.bytes
+
+    last : Item
+    last = end_item (declared f.size) rest
+
+-- the machine runs through a frame
+pub framed_run : (k : Kind) (p : ℤ) (own : Flags) (Body : List Item → Type 0) (fs : List Frame)
+    (e : Sums) (is : List Item) (g : Tree) → IsPrecision p
+    → (f : Framed (kind_number k) p own Body is) → RunsBody k p fs f.meta f.body g
+    → Runs e (fs, AtHeader) is (ended fs g)
+framed_run k p own Body fs e is g fits f runs =
+    subst (λ js. Runs e (fs, AtHeader) js (ended fs g)) (sym f.whole) (
+      refl,
+      (byte, omega (arith, kind_small k, small, low), omega (arith, kind_small k, low), refl),
+      subst (λ n. Runs e1 (fs, AtMetadata (kind_at n) (unzigzag_of (hb / 16)))
+          (item (Metadata (kind_number k)) f.meta ∷ tail) (ended fs g)) (sym low)
+          (subst (λ q. Runs e1 (fs, AtMetadata q (unzigzag_of (hb / 16)))
+          (item (Metadata (kind_number k)) f.meta ∷ tail) (ended fs g)) (sym (kind_again k))
+          (subst (λ q. Runs e1 (fs, AtMetadata k q) (item (Metadata (kind_number k)) f.meta ∷ tail)
+          (ended fs g)) (sym (ap unzigzag_of high ∙ unzigzag_of-zigzag_of p)) (
+            refl,
+            (f.byte, refl),
+            tail_run k p own Body fs
+                (added e1 (item (Metadata (kind_number k)) f.meta)) is g f runs refl,
+          ))),
+    )
+  where
+    hb : ℕ
+    hb = header_byte (kind_number k) p
+
+    small : zigzag_of p < 16
+    small = zigzag_small p fits
+
+    low : hb % 16 ≡ kind_number k
+    low = omega (arith, kind_small k, small)
+
+    high : hb / 16 ≡ zigzag_of p
+    high = omega (arith, kind_small k, small)
+
+    byte : hb < 256
+    byte = omega (arith, kind_small k, small)
+
+    e1 : Sums
+    e1 = added e (item Header hb)
+
+    tail : List Item
+    tail = f.extended ++ (f.size ++ ((f.box ++ f.body) ++ end_item (declared f.size) (f.box ++ f.body) ∷ []))

@@ -13,16 +13,16 @@ use Rattle.twkb_grammar.specs.Machine.{AtId, AtBody, AtEnd, Finished, Sums, noth
 use Rattle.twkb_grammar.specs.Machine.{sums_after, Stack, started, role_at, stack_after}
 use Rattle.twkb_grammar.specs.PlainReader.{Answer, Made, RefusedAt, GoesOn, made, cut, objection}
 use Rattle.twkb_grammar.specs.PlainReader.{after_cut, decode_from, decode}
-use Rattle.twkb_grammar.proofs.Headers.{bytes_after}
+use Rattle.twkb_grammar.proofs.Bodies.{bytes_after}
 use Rattle.twkb_grammar.proofs.BodiesBack.{sums_after-append}
-use Rattle.twkb_grammar.proofs.Completing.{IsProper, proper_run}
+use Rattle.twkb_grammar.proofs.Parts.{IsProper, proper_run}
 use Rattle.twkb_grammar.proofs.Dead.{Allowed}
-use Rattle.twkb_grammar.proofs.NumberItems.{join-append}
+use Rattle.twkb_grammar.proofs.WrittenBlobs.{join-append}
 use Rattle.twkb_grammar.specs.Bits.{AreBytes}
 use Rattle.twkb_grammar.specs.Reading.{Ran}
 use Rattle.twkb_grammar.proofs.Running.{ran_nothing, agrees, ran_blob, ran_fault, ran_item}
-use Rattle.twkb_grammar.proofs.Deciding.{Took, Steps, step}
-use Rattle.twkb_grammar.proofs.Turns.{pending, lowers}
+use Rattle.twkb_grammar.proofs.Stepping.{Took, Steps, step}
+use Rattle.twkb_grammar.proofs.Frames.{pending, lowers}
 
 -- what the answer of the plain reader says
 abbrev pub Outcome : Allowance → List ℕ → Answer → Type 0

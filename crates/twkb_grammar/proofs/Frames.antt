@@ -1,27 +1,166 @@
--- The frames of a stack are its open geometries.
-use Rattle.std.proofs.Common.{Bool, true, false, ◌≡◌, ℕ, zero, suc, ◌+◌, ◌-◌, ◌≤◌, List, [], ◌∷◌}
-use Rattle.std.proofs.Common.{◌++◌, length, refl, ap, sym, ◌∙◌, subst, Some, None, arith}
-use Rattle.std.specs.Prelude.{⊤}
+-- Open geometries: the frames of a stack, their number, and a measure that each item lowers.
+use Rattle.std.proofs.Common.{Bool, true, false, ◌≡◌, ℕ, zero, suc, ◌+◌, ◌<◌, ◌≤◌, List, [], ◌∷◌, ◌++◌, length, refl}
+use Rattle.std.proofs.Common.{subst, Some, None, arith, inl, inr, ◌-◌, ap, sym, ◌∙◌, ◌*◌}
+use Rattle.std.proofs.lemmas.Bool.{cases_lt}
+use Rattle.std.specs.Prelude.{⊤, if◌then◌else◌}
 use Rattle.twkb_num.specs.Zigzag.{unzigzag_of}
+use Rattle.twkb_num.specs.Varint.{HasMarks, IsVarint}
+use Rattle.twkb_points.specs.Point.{Point}
 use Rattle.twkb_tree.specs.Tree.{Tree, Ids}
 use Rattle.twkb_tree.specs.Limits.{Allowance}
 use Rattle.twkb_grammar.specs.Bits.{bit}
-use Rattle.twkb_grammar.specs.Roles.{Role, Header, Metadata, Extended, Size, Box, Count, Id, X, Y, End, Item, where_set}
+use Rattle.twkb_grammar.specs.Roles.{Role, Count, Geometries, Item, Header, Metadata, Extended, Size, Box, Id, X, Y}
+use Rattle.twkb_grammar.specs.Roles.{End, where_set, Spells}
 use Rattle.twkb_grammar.specs.Fault.{moved}
-use Rattle.twkb_grammar.specs.Machine.{BodyForm, PointForm, LineForm, PolygonForm, MultiPointForm}
-use Rattle.twkb_grammar.specs.Machine.{MultiLineForm, MultiPolygonForm, depth_of, Kind, kind_number}
-use Rattle.twkb_grammar.specs.Machine.{SimpleKind, CollectionKind, Body, Want, WantY, Done, opened}
-use Rattle.twkb_grammar.specs.Machine.{top, listed, body_role, body_after, Head, Frame, Many}
-use Rattle.twkb_grammar.specs.Machine.{first_count, ManyPoints, ManyLines, ManyPolygons}
-use Rattle.twkb_grammar.specs.Machine.{ManyGeometries, Phase, AtHeader, AtMetadata, AtOption}
-use Rattle.twkb_grammar.specs.Machine.{AtCount, AtId, AtBody, AtEnd, Finished, Sums, nothing, added}
-use Rattle.twkb_grammar.specs.Machine.{Stack, started, settled, begun, wanting, asked, with_option}
-use Rattle.twkb_grammar.specs.Machine.{members_begin, counted, ended, role_at, stack_after, Runs}
-use Rattle.twkb_grammar.specs.Reading.{Reached, open_by, open_after, frame_count}
+use Rattle.twkb_grammar.specs.Machine.{BodyForm, PointForm, LineForm, PolygonForm, MultiPointForm, MultiLineForm}
+use Rattle.twkb_grammar.specs.Machine.{MultiPolygonForm, depth_of, Kind, SimpleKind, CollectionKind, Body, Want, WantY}
+use Rattle.twkb_grammar.specs.Machine.{Done, opened, top, Head, Frame, Many, ManyPoints, ManyLines, ManyPolygons}
+use Rattle.twkb_grammar.specs.Machine.{ManyGeometries, Phase, AtHeader, AtMetadata, AtOption, AtCount, AtId, AtBody}
+use Rattle.twkb_grammar.specs.Machine.{AtEnd, Finished, Sums, nothing, added, Stack, started, settled, begun, wanting}
+use Rattle.twkb_grammar.specs.Machine.{asked, with_option, body_after, members_begin, counted, ended, role_at}
+use Rattle.twkb_grammar.specs.Machine.{stack_after, Runs, kind_number, listed, body_role, first_count, phase_role}
+use Rattle.twkb_grammar.specs.Machine.{advanced}
+use Rattle.twkb_grammar.specs.Reading.{Here, Kept, Reached, open_by, open_after, frame_count}
 use Rattle.twkb_grammar.proofs.BodiesBack.{some_role}
-use Rattle.twkb_grammar.proofs.Headers.{head}
 use Rattle.twkb_grammar.proofs.Trees.{frame}
-use Rattle.twkb_grammar.proofs.Depths.{reached_depth}
+use Rattle.twkb_grammar.proofs.Bodies.{head}
+
+-- ==== The limit on collections around a member bounds the number of open collections.
+
+-- at most this many collections are open, and one fewer while the ids of a collection's members
+-- are read
+abbrev Shallow : ℕ → Stack → Type 0
+Shallow nest (fs, AtId ManyGeometries h members ids left) = (0 < members → length fs < nest) × (length fs ≤ nest)
+Shallow nest (fs, ph) = length fs ≤ nest
+
+shallow_settled : (nest : ℕ) (fs : List Frame) (h : Head) (f : BodyForm) (ids : Ids)
+    (b : Body (depth_of f)) → length fs ≤ nest → Shallow nest (fs, settled h f ids b)
+shallow_settled nest fs h f ids (Want d a) few = few
+shallow_settled nest fs h f ids (WantY a) few = few
+shallow_settled nest fs h f ids (Done v) few = few
+
+shallow_begun : (nest : ℕ) (fs : List Frame) (k : Kind) (h : Head) → length fs ≤ nest → Shallow nest (fs, begun k h)
+shallow_begun nest fs (SimpleKind PointForm) h few = few
+shallow_begun nest fs (SimpleKind LineForm) h few = few
+shallow_begun nest fs (SimpleKind PolygonForm) h few = few
+shallow_begun nest fs (SimpleKind MultiPointForm) h few = few
+shallow_begun nest fs (SimpleKind MultiLineForm) h few = few
+shallow_begun nest fs (SimpleKind MultiPolygonForm) h few = few
+shallow_begun nest fs CollectionKind h few = few
+
+shallow_wanting : (nest : ℕ) (fs : List Frame) (k : Kind) (h : Head) (rs : List Role)
+    → length fs ≤ nest → Shallow nest (fs, wanting k h rs)
+shallow_wanting nest fs k h (r ∷ rs) few = few
+shallow_wanting nest fs k h [] few = go (bit h.meta 4) refl
+  where
+    go : (b : Bool) → bit h.meta 4 ≡ b → Shallow nest (fs, wanting k h [])
+    go true e = rw e few
+    go false e = rw e (shallow_begun nest fs k h few)
+
+shallow_members : (nest : ℕ) (fs : List Frame) (m : Many) (h : Head) (ids : Ids) (n : ℕ)
+    → Shallow nest (fs, AtId m h n [] 0) → Shallow nest (members_begin m h fs ids n)
+shallow_members nest fs ManyPoints h ids n few = shallow_settled nest fs h MultiPointForm ids (opened 0 n top) few
+shallow_members nest fs ManyLines h ids n few = shallow_settled nest fs h MultiLineForm ids (opened 1 n top) few
+shallow_members nest fs ManyPolygons h ids n few = shallow_settled nest fs h MultiPolygonForm ids (opened 2 n top) few
+shallow_members nest fs ManyGeometries h ids zero few = few.1
+shallow_members nest fs ManyGeometries h ids (suc n) few = let z : length fs < nest = few.0
+    (omega arith) in omega (arith, z)
+
+-- reading ids does not change the depth
+shallow_ids : (nest : ℕ) (fs : List Frame) (m : Many) (h : Head) (n a b : ℕ)
+    (ids more : List Rattle.std.specs.Prelude.ℤ) → Shallow nest (fs, AtId m h n ids a)
+    → Shallow nest (fs, AtId m h n more b)
+shallow_ids nest fs ManyPoints h n a b ids more few = few
+shallow_ids nest fs ManyLines h n a b ids more few = few
+shallow_ids nest fs ManyPolygons h n a b ids more few = few
+shallow_ids nest fs ManyGeometries h n a b ids more few = few
+
+-- a count of members keeps the limit on depth
+shallow_count : (nest : ℕ) (fs : List Frame) (m : Many) (h : Head) (n : ℕ) → length fs ≤ nest
+    → ((level : ℕ) → m ≡ ManyGeometries → level ≡ length fs → nest ≤ level → n ≡ 0)
+    → Shallow nest (fs, AtId m h n [] 0)
+shallow_count nest fs ManyPoints h n few kept = few
+shallow_count nest fs ManyLines h n few kept = few
+shallow_count nest fs ManyPolygons h n few kept = few
+shallow_count nest fs ManyGeometries h n few kept = (
+  (λ (some : 0 < n). elim (cases_lt (length fs) nest) [
+    | inl low ↦ low
+    | inr high ↦ let z : n ≡ 0 = kept (length fs) refl refl high in
+        absurd (omega (arith, z, some))
+  ]),
+  few,
+)
+
+shallow_counted : (nest : ℕ) (fs : List Frame) (m : Many) (h : Head) (n : ℕ)
+    → Shallow nest (fs, AtId m h n [] 0) → Shallow nest (counted m h fs n)
+shallow_counted nest fs m h zero few = shallow_members nest fs m h None 0 few
+shallow_counted nest fs m h (suc n) few = go (bit h.meta 2) refl
+  where
+    go : (b : Bool) → bit h.meta 2 ≡ b → Shallow nest (counted m h fs (suc n))
+    go true e = rw e (shallow_ids nest fs m h (suc n) 0 n [] [] few)
+    go false e = rw e (shallow_members nest fs m h None (suc n) few)
+
+shallow_ended : (nest : ℕ) (fs : List Frame) (g : Tree) → length fs ≤ nest → Shallow nest (ended fs g)
+shallow_ended nest [] g few = few
+shallow_ended nest (f ∷ fs) g few = go f.left
+  where
+    go : (n : ℕ) → Shallow nest (ended (frame f.head f.ids f.done n ∷ fs) g)
+    go zero = omega (arith, few)
+    go (suc n) = few
+
+-- the depth after one more item
+shallow_after : (nest : ℕ) (e : Sums) (i : Item) (fs : List Frame) (ph : Phase)
+    → role_at e (fs, ph) ≡ Some i.role → Here nest e.position i.role i.number
+    → Shallow nest (fs, ph) → Shallow nest (stack_after e i (fs, ph))
+shallow_after nest e i fs AtHeader r k few = few
+shallow_after nest e i fs (AtMetadata kind p) r k few = shallow_wanting nest fs kind
+    (head p i.number None (e.bytes + length i.bytes)) (asked i.number) few
+shallow_after nest e i fs (AtOption kind h s rs) r k few = shallow_wanting nest fs kind
+    (with_option h s i.number (e.bytes + length i.bytes)) rs few
+shallow_after nest e i fs (AtCount ManyPoints h) r k few = shallow_counted nest fs ManyPoints h i.number few
+shallow_after nest e i fs (AtCount ManyLines h) r k few = shallow_counted nest fs ManyLines h i.number few
+shallow_after nest e i fs (AtCount ManyPolygons h) r k few = shallow_counted nest fs ManyPolygons h i.number few
+shallow_after nest e i fs (AtCount ManyGeometries h) r k few =
+    let deep : nest ≤ length fs → i.number ≡ 0 = subst (λ s. Here nest e.position s i.number)
+    (some_role (Count (Geometries (length fs))) i.role r) k in
+    shallow_counted nest fs ManyGeometries h i.number
+    (shallow_count nest fs ManyGeometries h i.number few
+    (λ level m same high. deep (omega (arith, same, high))))
+shallow_after nest e i fs (AtId m h n ids zero) r k few = shallow_members nest fs m h
+    (Some (ids ++ unzigzag_of i.number ∷ [])) n (shallow_ids nest fs m h n 0 0 ids [] few)
+shallow_after nest e i fs (AtId m h n ids (suc left)) r k few = shallow_ids nest fs m h n (suc left)
+    left ids (ids ++ unzigzag_of i.number ∷ []) few
+shallow_after nest e i fs (AtBody h f ids b) r k few = shallow_settled nest fs h f ids
+    (body_after (moved e.position i.role i.number) i.number b) few
+shallow_after nest e i fs (AtEnd h g) r k few = shallow_ended nest fs g few
+shallow_after nest e i fs (Finished g) r k few = absurd cc
+
+shallow_run : (nest : ℕ) (is : List Item) (e : Sums) (st last : Stack) → Shallow nest st
+    → Runs e st is last → Kept nest e is → Shallow nest last
+shallow_run nest [] e st last few r k = subst (λ s. Shallow nest s) r few
+shallow_run nest (i ∷ is) e st last few r k = shallow_run nest is (added e i) (stack_after e i st)
+    last (shallow_after nest e i st.0 st.1 r.0 k.0 few) r.2 k.1
+
+shallow_stack : (nest : ℕ) (fs : List Frame) (ph : Phase) → Shallow nest (fs, ph) → length fs ≤ nest
+shallow_stack nest fs AtHeader few = few
+shallow_stack nest fs (AtMetadata k p) few = few
+shallow_stack nest fs (AtOption k h r rs) few = few
+shallow_stack nest fs (AtCount m h) few = few
+shallow_stack nest fs (AtId ManyPoints h n ids left) few = few
+shallow_stack nest fs (AtId ManyLines h n ids left) few = few
+shallow_stack nest fs (AtId ManyPolygons h n ids left) few = few
+shallow_stack nest fs (AtId ManyGeometries h n ids left) few = few.1
+shallow_stack nest fs (AtBody h f ids b) few = few
+shallow_stack nest fs (AtEnd h g) few = few
+shallow_stack nest fs (Finished g) few = few
+
+-- at most as many collections are open as allowed
+pub reached_depth : (limits : Allowance) (bytes : List ℕ) (e : Sums) (st : Stack)
+    → Reached limits bytes e st → length st.0 ≤ limits.nest
+reached_depth limits bytes e st r = shallow_stack limits.nest st.0 st.1
+    (shallow_run limits.nest r.items nothing started st (omega arith) r.ran.runs r.ran.kept)
+
+-- ==== The frames of a stack are its open geometries.
 
 -- roles that neither begin nor end a geometry
 abbrev Leaves : List Role → Type 0
@@ -192,3 +331,162 @@ most_frames nest fs (Finished g) few = omega (arith, few)
 pub reached_few : (limits : Allowance) (bytes : List ℕ) (e : Sums) (st : Stack)
     → Reached limits bytes e st → frame_count st ≤ limits.nest + 1
 reached_few limits bytes e st r = most_frames limits.nest st.0 st.1 (reached_depth limits bytes e st r)
+
+-- ==== A measure that each item lowers, which bounds the number of items still to come.
+
+-- the number of open geometries, and of optional parts that are expected
+abbrev pub pending : Stack → ℕ
+pending (fs, AtHeader) = length fs
+pending (fs, Finished g) = length fs
+pending (fs, AtOption k h r rs) = length fs + (2 + length rs)
+pending (fs, AtMetadata k p) = length fs + 1
+pending (fs, AtCount m h) = length fs + 1
+pending (fs, AtId m h n ids left) = length fs + 1
+pending (fs, AtBody h f ids b) = length fs + 1
+pending (fs, AtEnd h g) = length fs + 1
+
+some_marks : (bytes : List ℕ) → HasMarks bytes → 1 ≤ length bytes
+some_marks [] m = absurd m
+some_marks (b ∷ bytes) m = omega arith
+
+one_byte : (n : ℕ) (bytes : List ℕ) → bytes ≡ n ∷ [] → 1 ≤ length bytes
+one_byte n bytes e = omega (arith, ap length e)
+
+pending-settled : (fs : List Frame) (h : Head) (f : BodyForm) (ids : Ids) (b : Body (depth_of f))
+    → pending (fs, settled h f ids b) ≡ length fs + 1
+pending-settled fs h f ids (Want d a) = refl
+pending-settled fs h f ids (WantY a) = refl
+pending-settled fs h f ids (Done v) = refl
+
+pending-members_begin : (m : Many) (h : Head) (fs : List Frame) (ids : Ids) (n : ℕ)
+    → pending (members_begin m h fs ids n) ≤ length fs + 1
+pending-members_begin ManyPoints h fs ids n = omega (arith, pending-settled fs h MultiPointForm ids (opened 0 n top))
+pending-members_begin ManyLines h fs ids n = omega (arith, pending-settled fs h MultiLineForm ids (opened 1 n top))
+pending-members_begin ManyPolygons h fs ids n = omega
+    (arith, pending-settled fs h MultiPolygonForm ids (opened 2 n top))
+pending-members_begin ManyGeometries h fs ids zero = omega arith
+pending-members_begin ManyGeometries h fs ids (suc n) = omega arith
+
+pending-counted : (m : Many) (h : Head) (fs : List Frame) (n : ℕ) → pending (counted m h fs n) ≤ length fs + 1
+pending-counted m h fs zero = pending-members_begin m h fs Rattle.std.proofs.Common.None 0
+pending-counted m h fs (suc n) = go (bit h.meta 2)
+  where
+    go : (b : Bool) → pending (if b then (fs, AtId m h (suc n) [] n) else members_begin m h fs
+        Rattle.std.proofs.Common.None (suc n)) ≤ length fs + 1
+    go true = omega arith
+    go false = pending-members_begin m h fs Rattle.std.proofs.Common.None (suc n)
+
+pending-begun : (k : Kind) (h : Head) (fs : List Frame) → pending (fs, begun k h) ≡ length fs + 1
+pending-begun (SimpleKind PointForm) h fs = refl
+pending-begun (SimpleKind LineForm) h fs = refl
+pending-begun (SimpleKind PolygonForm) h fs = refl
+pending-begun (SimpleKind MultiPointForm) h fs = refl
+pending-begun (SimpleKind MultiLineForm) h fs = refl
+pending-begun (SimpleKind MultiPolygonForm) h fs = refl
+pending-begun CollectionKind h fs = refl
+
+pending-wanting : (k : Kind) (h : Head) (rs : List Role) (fs : List Frame)
+    → pending (fs, wanting k h rs) ≤ length fs + (1 + length rs)
+pending-wanting k h (r ∷ rs) fs = omega arith
+pending-wanting k h [] fs = go (bit h.meta 4)
+  where
+    go : (b : Bool) → pending (
+      fs,
+      (if b then AtEnd h (Rattle.twkb_grammar.specs.Machine.empty_of k h.precision) else
+          begun k h),
+    ) ≤ length fs + 1
+    go true = omega arith
+    go false = omega (arith, pending-begun k h fs)
+
+length-asked : (meta : ℕ) → length (asked meta) ≤ 6
+length-asked meta = go (bit meta 3) (bit meta 1) (bit meta 0)
+  where
+    go : (a b c : Bool) → length (where_set a (Extended ∷ [])
+        ++ (where_set b (Size ∷ []) ++ where_set c (Box ∷ Box ∷ Box ∷ Box ∷ []))) ≤ 6
+    go true true true = omega arith
+    go true true false = omega arith
+    go true false true = omega arith
+    go true false false = omega arith
+    go false true true = omega arith
+    go false true false = omega arith
+    go false false true = omega arith
+    go false false false = omega arith
+
+pending-ended : (fs : List Frame) (g : Tree) → pending (ended fs g) ≤ length fs
+pending-ended [] g = omega arith
+pending-ended (f ∷ fs) g = go f.left
+  where
+    go : (left : ℕ) → pending (elim left [
+      | zero ↦ (
+        fs,
+        AtEnd f.head (Rattle.twkb_tree.specs.Tree.collection f.head.precision f.ids
+            (Rattle.twkb_grammar.specs.Machine.snoc f.done g)),
+      )
+      | suc n ↦ (
+        record {
+          head = f.head;
+          ids = f.ids;
+          done = Rattle.twkb_grammar.specs.Machine.snoc f.done g;
+          left = n;
+        } ∷ fs,
+        AtHeader,
+      )
+    ]) ≤ suc (length fs)
+    go zero = omega arith
+    go (suc n) = omega arith
+
+-- an item in a body has bytes
+body_bytes : {whole : ℕ} (b : Body whole) (r : Role) (n : ℕ) (bytes : List ℕ)
+    → Rattle.twkb_grammar.specs.Machine.body_role b ≡ Some r → Spells r n bytes → 1 ≤ length bytes
+body_bytes (Want zero a) r n bytes says s = let v : IsVarint bytes n = subst (λ r. Spells r n bytes)
+    (some_role X r says) s in some_marks bytes v.marked
+body_bytes (Want (suc d) a) r n bytes says s = let v : IsVarint bytes n =
+    subst (λ r. Spells r n bytes) (some_role (Count (listed d)) r says) s in
+    some_marks bytes v.marked
+body_bytes (WantY a) r n bytes says s = let v : IsVarint bytes n = subst (λ r. Spells r n bytes)
+    (some_role Y r says) s in some_marks bytes v.marked
+body_bytes (Done v) r n bytes says s = absurd cc
+
+-- each item lowers eight times the bytes left plus what is pending
+pub lowers : (p : Point) (level at total n : ℕ) (bytes : List ℕ) (fs : List Frame) (ph : Phase)
+    (r : Role) → phase_role level at ph ≡ Some r → Spells r n bytes
+    → pending (advanced p total n fs ph) + 1 ≤ 8 * length bytes + pending (fs, ph)
+lowers p level at total n bytes fs AtHeader r says s =
+    let v : (n < 256) × (0 < Rattle.std.proofs.Common.◌%◌ n 16)
+    × (Rattle.std.proofs.Common.◌%◌ n 16 < 8) × (bytes ≡ n ∷ []) = subst (λ r. Spells r n bytes)
+    (some_role Header r says) s in
+    omega (arith, one_byte n bytes v.3)
+lowers p level at total n bytes fs (AtMetadata k q) r says s =
+    let v : (n < 256) × (bytes ≡ n ∷ []) = subst (λ r. Spells r n bytes)
+    (some_role (Metadata (kind_number k)) r says) s in
+    omega (
+      arith,
+      one_byte n bytes v.1,
+      length-asked n,
+      pending-wanting k (record {
+        precision = q;
+        meta = n;
+        size = Rattle.std.proofs.Common.None;
+        from = total;
+      }) (asked n) fs,
+    )
+lowers p level at total n bytes fs (AtOption k h o rs) r says s = omega
+    (arith, pending-wanting k (Rattle.twkb_grammar.specs.Machine.with_option h o n total) rs fs)
+lowers p level at total n bytes fs (AtCount m h) r says s =
+    let v : IsVarint bytes n = subst (λ r. Spells r n bytes) (some_role (Count (first_count m level)) r says) s in
+    omega (arith, some_marks bytes v.marked, pending-counted m h fs n)
+lowers p level at total n bytes fs (AtId m h members ids zero) r says s =
+    let v : IsVarint bytes n = subst (λ r. Spells r n bytes) (some_role Id r says) s in
+    omega (
+      arith,
+      some_marks bytes v.marked,
+      pending-members_begin m h fs
+          (Some (ids ++ Rattle.twkb_num.specs.Zigzag.unzigzag_of n ∷ [])) members,
+    )
+lowers p level at total n bytes fs (AtId m h members ids (suc left)) r says s =
+    let v : IsVarint bytes n = subst (λ r. Spells r n bytes) (some_role Id r says) s in
+    omega (arith, some_marks bytes v.marked)
+lowers p level at total n bytes fs (AtBody h f ids b) r says s = omega
+    (arith, body_bytes b r n bytes says s, pending-settled fs h f ids (body_after p n b))
+lowers p level at total n bytes fs (AtEnd h g) r says s = omega (arith, pending-ended fs g)
+lowers p level at total n bytes fs (Finished g) r says s = absurd cc

@@ -1,35 +1,263 @@
--- The notes of a geometry's items are its spans.
-use Rattle.std.proofs.Common.{Bool, true, false, ◌≡◌, ℕ, suc, ◌+◌, ◌-◌, ◌/◌, ◌%◌, ◌<◌, List, []}
-use Rattle.std.proofs.Common.{◌∷◌, ◌++◌, length, refl, ap, sym, ◌∙◌, append_assoc, append-nil}
-use Rattle.std.proofs.Common.{arith}
-use Rattle.std.specs.Prelude.{ℤ}
+-- The notes of a geometry's items, and of its end, are its spans.
+use Rattle.std.proofs.Common.{◌≡◌, ℕ, zero, suc, ◌+◌, ◌-◌, List, [], ◌∷◌, ◌++◌, length, refl, sym, ap, ◌∙◌, subst}
+use Rattle.std.proofs.Common.{arith, Option, inl, inr, Bool, true, false, ◌/◌, ◌%◌, ◌<◌, append_assoc, append-nil}
+use Rattle.std.proofs.lemmas.Bool.{cases_lt}
+use Rattle.std.specs.Prelude.{⊤, ℤ}
+use Rattle.twkb_num.specs.Varint.{IsVarint}
 use Rattle.twkb_num.specs.Zigzag.{zigzag_of, unzigzag_of}
 use Rattle.twkb_num.proofs.ZigzagLemmas.{unzigzag_of-zigzag_of}
 use Rattle.twkb_tree.specs.declared.kind.Kind.{Kind}
-use Rattle.twkb_tree.specs.declared.kind.Kind.TheVariants as kind
-use Rattle.twkb_tree.specs.Tree.{Simple, point, line, polygon, multi_point, multi_line}
-use Rattle.twkb_tree.specs.Tree.{multi_polygon, Tree, simple, collection, Trees, end, ◌▷◌, count}
-use Rattle.twkb_tree.specs.Tree.{Ids, flat, IsPrecision, IsTree, AreTrees}
+use Rattle.twkb_tree.specs.Tree.{Simple, point, line, polygon, multi_point, multi_line, multi_polygon, Tree, simple}
+use Rattle.twkb_tree.specs.Tree.{collection, Trees, end, ◌▷◌, count, Ids, flat, IsPrecision, IsTree, AreTrees}
 use Rattle.twkb_tree.specs.Limits.{Allowance}
-use Rattle.twkb_grammar.specs.Bits.{bit}
-use Rattle.twkb_grammar.specs.Roles.{Item, Header, Metadata, Extended, Size, Box, Count, Counted}
-use Rattle.twkb_grammar.specs.Roles.{Geometries, AreFields, where_set, item, join}
-use Rattle.twkb_grammar.specs.Items.{fields, id_fields, id_slots, slots, declared, end_item}
-use Rattle.twkb_grammar.specs.Items.{header_byte, Flags, flags, flags_all, Framed, Follow, BodyAt}
-use Rattle.twkb_grammar.specs.Items.{Items, ItemsOfAll, kind_of}
+use Rattle.twkb_tree.specs.declared.kind.Kind.TheVariants as kind
+use Rattle.twkb_grammar.specs.Roles.{Role, Header, Metadata, Extended, Size, Box, Count, Id, X, Y, End, Item, IsItem}
+use Rattle.twkb_grammar.specs.Roles.{Spells, join, Field, AreFields, HaveRoles, where_set, Counted, Geometries, item}
 use Rattle.twkb_grammar.specs.Fault.{points_by}
-use Rattle.twkb_grammar.specs.Blob.{Blob}
-use Rattle.twkb_grammar.specs.Machine.{kind_at, Sums, nothing, added, sums_after}
-use Rattle.twkb_grammar.specs.Spans.{kind_of_shape, before_body, behind, spans, spans_of_all, spans_of_blob}
-use Rattle.twkb_grammar.specs.Noting.{shown, Notes, no_notes, changed_at, note_header, note_metadata, noted}
+use Rattle.twkb_grammar.specs.Machine.{Sums, added, sums_after, Stack, stack_after, Runs, kind_at, nothing}
+use Rattle.twkb_grammar.specs.Reading.{open_by, open_after}
+use Rattle.twkb_grammar.specs.Noting.{Notes, without_first, note_end, noted_by, noted, note_ends, note_ends_to}
+use Rattle.twkb_grammar.specs.Noting.{changed_at, IsQuiet, shown, no_notes, note_header, note_metadata}
 use Rattle.twkb_grammar.specs.declared.span.Span.{Span}
-use Rattle.twkb_grammar.proofs.Small.{zigzag_small}
-use Rattle.twkb_grammar.proofs.Headers.{bytes_after}
+use Rattle.twkb_grammar.specs.Items.{Slot, OfCount, OfId, OfPoint, filled, fields, id_fields, id_slots, slots, declared}
+use Rattle.twkb_grammar.specs.Items.{end_item, header_byte, Flags, flags, flags_all, Framed, Follow, BodyAt, Items}
+use Rattle.twkb_grammar.specs.Items.{ItemsOfAll, kind_of}
+use Rattle.twkb_grammar.specs.Bits.{bit}
+use Rattle.twkb_grammar.specs.Blob.{Blob}
+use Rattle.twkb_grammar.specs.Spans.{kind_of_shape, before_body, behind, spans, spans_of_all, spans_of_blob}
+use Rattle.twkb_grammar.proofs.Trees.{total, total_is, total-append, tree_total}
+use Rattle.twkb_grammar.proofs.Running.{points_after}
+use Rattle.twkb_grammar.proofs.Bodies.{zigzag_small, bytes_after}
 use Rattle.twkb_grammar.proofs.BodiesBack.{sums_after-append}
-use Rattle.twkb_grammar.proofs.Totals.{tree_total}
-use Rattle.twkb_grammar.proofs.SlotTotals.{total, total-append}
-use Rattle.twkb_grammar.proofs.QuietItems.{changed-behind, noted-append, points_total, quiet_where}
-use Rattle.twkb_grammar.proofs.QuietItems.{quiet_roles, quiet_filled, quiet_fields}
+
+-- ==== Ends of geometries, and what a reader notes of them.
+
+-- all items are ends
+abbrev pub AreEnds : List Item → Type 0
+AreEnds [] = ⊤
+AreEnds (i ∷ is) = (d : Option ℕ) × (came : ℕ) × (i.role ≡ End d came) × IsItem i × AreEnds is
+
+no_varint : (n : ℕ) (bytes : List ℕ) → IsVarint bytes n → bytes ≡ [] → ⊥
+no_varint n [] v e = v.marked
+no_varint n (b ∷ bytes) v e = cc
+
+-- an item without bytes is an end
+end_role : (r : Role) (n : ℕ) (bytes : List ℕ) → Spells r n bytes → bytes ≡ [] → (d : Option ℕ)
+    × (came : ℕ) × (r ≡ End d came)
+end_role Header n bytes s e = let z : n ∷ [] ≡ [] = sym s.3 ∙ e in absurd cc
+end_role (Metadata k) n bytes s e = let z : n ∷ [] ≡ [] = sym s.1 ∙ e in absurd cc
+end_role Extended n bytes s e = let z : n ∷ [] ≡ [] = sym s.2 ∙ e in absurd cc
+end_role Size n bytes s e = absurd (no_varint n bytes s e)
+end_role Box n bytes s e = absurd (no_varint n bytes s e)
+end_role (Count c) n bytes s e = absurd (no_varint n bytes s e)
+end_role Id n bytes s e = absurd (no_varint n bytes s e)
+end_role X n bytes s e = absurd (no_varint n bytes s e)
+end_role Y n bytes s e = absurd (no_varint n bytes s e)
+end_role (End d c) n bytes s e = (d, c, refl)
+
+pub none_front : (a b : List ℕ) → a ++ b ≡ [] → a ≡ []
+none_front [] b e = refl
+none_front (x ∷ a) b e = absurd cc
+
+none_back : (a b : List ℕ) → a ++ b ≡ [] → b ≡ []
+none_back [] b e = e
+none_back (x ∷ a) b e = absurd cc
+
+-- items without bytes are only ends
+pub ends_only : (is : List Item) (e : Sums) (st last : Stack) → Runs e st is last → join is ≡ [] → AreEnds is
+ends_only [] e st last r none = tt
+ends_only (i ∷ is) e st last r none =
+    let h = end_role i.role i.number i.bytes r.1 (none_front i.bytes (join is) none) in
+    (h.0, h.1, h.2, r.1, ends_only is (added e i) (stack_after e i st) last r.2 (none_back i.bytes (join is) none))
+
+-- two sums are equal except for the position
+abbrev pub Same : Sums → Sums → Type 0
+Same a b = (a.bytes ≡ b.bytes) × (a.points ≡ b.points)
+
+end_adds : (e : Sums) (i : Item) (d : Option ℕ) (came : ℕ) → i.role ≡ End d came → IsItem i → Same (added e i) e
+end_adds e i d came is item =
+    let sp : Spells (End d came) i.number i.bytes = subst (λ x. Spells x i.number i.bytes) is item in (
+      let z : length i.bytes ≡ 0 = ap length sp.1 in
+          omega (arith, z),
+      let z : points_by i.role i.number ≡ 0 = ap (λ x. points_by x i.number)
+          is in omega (arith, z),
+    )
+
+-- an end noted before other ends gives the same notes as an end noted after them
+ends_swap : (n offset points : ℕ) (w : Notes) → note_ends n offset points (note_end offset points w)
+    ≡ note_end offset points (note_ends n offset points w)
+ends_swap zero offset points w = refl
+ends_swap (suc n) offset points w = ap (λ v. note_end offset points v) (ends_swap n offset points w)
+
+pub ends_noted : (start : ℕ) (is : List Item) (e : Sums) (offset points : ℕ) (w : Notes)
+    → AreEnds is → start + e.bytes ≡ offset → e.points ≡ points
+    → noted start e w is ≡ note_ends (length is) offset points w
+ends_noted start [] e offset points w are at many = refl
+ends_noted start (i ∷ is) e offset points w (d, came, role, item, are) at many =
+    let a = end_adds e i d came role item in
+    ap (λ v. noted start (added e i) v is) (ap (λ r. noted_by start e r i.number w) role
+    ∙ (ap (λ o. note_end o e.points w) at ∙ ap (λ q. note_end offset q w) many))
+    ∙ (ends_noted start is (added e i) offset points (note_end offset points w) are
+    (ap (λ n. start + n) a.0 ∙ at) (a.1 ∙ many) ∙ ends_swap (length is) offset points w)
+
+pub ends_add : (is : List Item) (e : Sums) → AreEnds is → Same (sums_after e is) e
+ends_add [] e are = (refl, refl)
+ends_add (i ∷ is) e (d, came, role, item, are) =
+    let a = end_adds e i d came role item in
+    let b = ends_add is (added e i) are in
+    (b.0 ∙ a.0, b.1 ∙ a.1)
+
+-- the notes have as many open geometries as the items leave open
+one_open : (start : ℕ) (e : Sums) (r : Role) (n : ℕ) (ss : List Span) (b : List ℕ)
+    → length (noted_by start e r n (record { spans = ss; begun = b })).begun ≡ open_by (length b) r
+one_open start e Header n ss b = refl
+one_open start e (Metadata k) n ss [] = refl
+one_open start e (Metadata k) n ss (x ∷ b) = refl
+one_open start e Extended n ss [] = refl
+one_open start e Extended n ss (x ∷ b) = refl
+one_open start e Size n ss [] = refl
+one_open start e Size n ss (x ∷ b) = refl
+one_open start e Box n ss [] = refl
+one_open start e Box n ss (x ∷ b) = refl
+one_open start e (Count c) n ss [] = refl
+one_open start e (Count c) n ss (x ∷ b) = refl
+one_open start e Id n ss [] = refl
+one_open start e Id n ss (x ∷ b) = refl
+one_open start e X n ss [] = refl
+one_open start e X n ss (x ∷ b) = refl
+one_open start e Y n ss [] = refl
+one_open start e Y n ss (x ∷ b) = refl
+one_open start e (End d c) n ss [] = refl
+one_open start e (End d c) n ss (x ∷ b) = refl
+
+pub all_open : (start : ℕ) (is : List Item) (e : Sums) (w : Notes)
+    → length (noted start e w is).begun ≡ open_after (length w.begun) is
+all_open start [] e w = refl
+all_open start (i ∷ is) e w = all_open start is (added e i) (noted_by start e i.role i.number w)
+    ∙ ap (λ n. open_after n is) (one_open start e i.role i.number w.spans w.begun)
+
+-- n ends close n geometries
+ends_left : (n offset points : ℕ) (w : Notes) → length (note_ends n offset points w).begun ≡ length w.begun - n
+ends_left zero offset points w = omega arith
+ends_left (suc n) offset points w = one (note_ends n offset points w).begun (ends_left n offset points w)
+  where
+    one : (b : List ℕ) → length b ≡ length w.begun - n → length (without_first b) ≡ length w.begun - suc n
+    one [] e = omega (arith, e)
+    one (x ∷ b) e = omega (arith, e)
+
+-- without an open geometry an end changes nothing
+none_ends : (n offset points : ℕ) (w : Notes) → length w.begun ≡ 0 → note_ends n offset points w ≡ w
+none_ends zero offset points w e = refl
+none_ends (suc n) offset points w e = ap (λ v. note_end offset points v)
+    (none_ends n offset points w e) ∙ one w.spans w.begun e
+  where
+    one : (ss : List Span) (b : List ℕ) → length b ≡ 0
+        → note_end offset points (record { spans = ss; begun = b })
+        ≡ record { spans = ss; begun = b }
+    one ss [] e = refl
+    one ss (x ∷ b) e = absurd (omega (arith, e))
+
+ends_join : (m n offset points : ℕ) (w : Notes)
+    → note_ends (m + n) offset points w ≡ note_ends m offset points (note_ends n offset points w)
+ends_join zero n offset points w = ap (λ k. note_ends k offset points w) (let z : 0 + n ≡ n = omega arith in z)
+ends_join (suc m) n offset points w = ap (λ k. note_ends k offset points w)
+    (let z : suc m + n ≡ suc (m + n) = omega arith in z)
+    ∙ ap (λ v. note_end offset points v) (ends_join m n offset points w)
+
+-- a number of ends is given by the number of geometries they leave open
+pub ends_to : (n offset points : ℕ) (w : Notes)
+    → note_ends n offset points w ≡ note_ends_to (length (note_ends n offset points w).begun)
+    offset points w
+ends_to n offset points w =
+    ap (λ k. note_ends k offset points w) parts ∙ (ends_join (n - k) k offset points w
+    ∙ (go ∙ ap (λ q. note_ends q offset points w) is))
+  where
+    k : ℕ
+    k = length w.begun - (length w.begun - n)
+
+    parts : n ≡ (n - k) + k
+    parts = omega arith
+
+    is : k ≡ length w.begun - length (note_ends n offset points w).begun
+    is = ap (λ l. length w.begun - l) (sym (ends_left n offset points w))
+
+    go : note_ends (n - k) offset points (note_ends k offset points w) ≡ note_ends k offset points w
+    go = elim (cases_lt (length w.begun) n) [
+      | inl low ↦ none_ends (n - k) offset points (note_ends k offset points w)
+          (omega (arith, ends_left k offset points w, low))
+      | inr high ↦ ap (λ m. note_ends m offset points (note_ends k offset points w))
+          (let z : n - k ≡ 0 = omega (arith, high) in z)
+    ]
+
+-- ==== Items noted one after another, and items that leave no note.
+
+-- changing the item after some others
+pub changed-behind : {A : Type 0} (xs : List A) (f : A → A) (x : A) (ys : List A)
+    → changed_at (length xs) f (xs ++ x ∷ ys) ≡ xs ++ f x ∷ ys
+changed-behind [] f x ys = refl
+changed-behind (z ∷ xs) f x ys = ap (λ l. z ∷ l) (changed-behind xs f x ys)
+
+-- joined items are noted one after another
+pub noted-append : (start : ℕ) (is js : List Item) (e : Sums) (w : Notes)
+    → noted start e w (is ++ js) ≡ noted start (sums_after e is) (noted start e w is) js
+noted-append start [] js e w = refl
+noted-append start (i ∷ is) js e w = noted-append start is js (added e i) (noted_by start e i.role i.number w)
+
+-- the sums have the number of points announced
+pub points_total : (is : List Item) (e : Sums) → (sums_after e is).points ≡ e.points + total points_by is
+points_total is e = points_after is e ∙ ap (λ n. e.points + n) (total_is points_by is)
+
+-- items of quiet roles leave no note
+pub quiet : (start : ℕ) (e : Sums) (r : Role) (n : ℕ) (w : Notes) → IsQuiet r → noted_by start e r n w ≡ w
+quiet start e Header n w q = absurd q
+quiet start e (Metadata k) n w q = absurd q
+quiet start e Extended n w q = refl
+quiet start e Size n w q = refl
+quiet start e Box n w q = refl
+quiet start e (Count c) n w q = refl
+quiet start e Id n w q = refl
+quiet start e X n w q = refl
+quiet start e Y n w q = refl
+quiet start e (End d c) n w q = absurd q
+
+abbrev AreQuiet : List Role → Type 0
+AreQuiet [] = ⊤
+AreQuiet (r ∷ rs) = IsQuiet r × AreQuiet rs
+
+pub quiet_where : (b : Bool) (rs : List Role) → AreQuiet rs → AreQuiet (where_set b rs)
+quiet_where true rs q = q
+quiet_where false rs q = tt
+
+pub quiet_roles : (start : ℕ) (rs : List Role) (is : List Item) (e : Sums) (w : Notes)
+    → HaveRoles rs is → AreQuiet rs → noted start e w is ≡ w
+quiet_roles start [] [] e w h q = refl
+quiet_roles start [] (i ∷ is) e w h q = absurd h
+quiet_roles start (r ∷ rs) [] e w h q = absurd h
+quiet_roles start (r ∷ rs) (i ∷ is) e w h q =
+    quiet_roles start rs is (added e i) (noted_by start e i.role i.number w) h.2 q.1
+    ∙ quiet start e i.role i.number w (subst IsQuiet (sym h.0) q.0)
+
+abbrev QuietFields : List Field → Type 0
+QuietFields [] = ⊤
+QuietFields (f ∷ fs) = IsQuiet f.0 × QuietFields fs
+
+pub quiet_filled : (ps : List Slot) (ds : List (ℤ × ℤ)) → QuietFields (filled ps ds)
+quiet_filled [] ds = tt
+quiet_filled (OfCount c n ∷ ps) ds = (tt, quiet_filled ps ds)
+quiet_filled (OfId id ∷ ps) ds = (tt, quiet_filled ps ds)
+quiet_filled (OfPoint p ∷ ps) [] = tt
+quiet_filled (OfPoint p ∷ ps) (d ∷ ds) = (tt, (tt, quiet_filled ps ds))
+
+pub quiet_fields : (start : ℕ) (fs : List Field) (is : List Item) (e : Sums) (w : Notes)
+    → AreFields fs is → QuietFields fs → noted start e w is ≡ w
+quiet_fields start [] [] e w h q = refl
+quiet_fields start [] (i ∷ is) e w h q = absurd h
+quiet_fields start (f ∷ fs) [] e w h q = absurd h
+quiet_fields start (f ∷ fs) (i ∷ is) e w h q =
+    quiet_fields start fs is (added e i) (noted_by start e i.role i.number w) h.3 q.1
+    ∙ quiet start e i.role i.number w (subst IsQuiet (sym h.0) q.0)
+
+-- ==== The notes of a geometry's items are its spans.
 
 -- notes with these spans and geometries
 abbrev notes : List Span → List ℕ → Notes

@@ -1,17 +1,130 @@
--- Bytes have at most one first fault.
-use Rattle.std.proofs.Common.{◌≡◌, ℕ, List, [], ◌∷◌, ◌++◌, length, sym, ap, ◌∙◌, subst, append-nil, inl, inr}
+-- Bytes have at most one first fault, and items at their start go on from one another.
+use Rattle.std.proofs.Common.{◌≡◌, ℕ, List, [], ◌∷◌, ◌++◌, refl, sym, ap, ◌∙◌, subst, append_assoc, append-nil, Some}
+use Rattle.std.proofs.Common.{None, length, inl, inr, ◌<◌, length-append, arith, ◌≤◌}
+use Rattle.std.specs.Prelude.{Option}
+use Rattle.twkb_num.specs.Varint.{HasMarks, IsVarint}
 use Rattle.twkb_tree.specs.Tree.{Tree}
 use Rattle.twkb_tree.specs.Limits.{Allowance}
-use Rattle.twkb_grammar.specs.Roles.{Role, Header, Metadata, Extended, Size, Box, Count, Id, X, Y, End, Item, join}
+use Rattle.twkb_grammar.specs.Roles.{Item, join, Role, Header, Metadata, Extended, Size, Box, Count, Id, X, Y, End}
+use Rattle.twkb_grammar.specs.Roles.{Spells, IsNumber}
 use Rattle.twkb_grammar.specs.Items.{Items}
-use Rattle.twkb_grammar.specs.Blob.{BlobInFront}
-use Rattle.twkb_grammar.specs.Fault.{Reason, Truncated, BadVarint, When, NumberFirst, Refused}
-use Rattle.twkb_grammar.specs.Fault.{IsCut, IsTooLong, Fault, FirstFault}
-use Rattle.twkb_grammar.specs.Machine.{Finished, nothing, started, Stack, Runs}
+use Rattle.twkb_grammar.specs.Blob.{AreExact, Blob, BlobInFront}
+use Rattle.twkb_grammar.specs.Fault.{Reason, Part, Fault, Truncated, BadVarint, When, NumberFirst, Refused, IsCut}
+use Rattle.twkb_grammar.specs.Fault.{IsTooLong, FirstFault, SizeMismatch, IsPart}
+use Rattle.twkb_grammar.specs.Machine.{Finished, Sums, nothing, added, sums_after, Stack, started, role_at, stack_after}
+use Rattle.twkb_grammar.specs.Machine.{Runs}
+use Rattle.twkb_grammar.specs.Reading.{Reached, Gives}
+use Rattle.twkb_grammar.proofs.Parts.{one_item, peel, runs_split, runs_same, front_runs}
 use Rattle.twkb_grammar.proofs.Trees.{tree_runs}
-use Rattle.twkb_grammar.proofs.Parts.{front_runs}
-use Rattle.twkb_grammar.proofs.TwoFronts.{Compared, longer, shorter, same, two_fronts, none_beyond}
-use Rattle.twkb_grammar.proofs.TwoFronts.{blob_part, left_cancel, none_beyond_fault}
+use Rattle.twkb_grammar.proofs.Running.{ran_part, part_ran}
+
+-- ==== Of two lists of items that the machine runs through at the start of the same bytes, one begins with the other.
+
+-- the items are those before, one more, and perhaps others
+pub record Beyond (is before : List Item) : Type 0 where
+  pub next : Item
+  pub more : List Item
+  pub whole : is ≡ before ++ next ∷ more
+
+-- one list goes on beyond the other, or they are equal
+pub data Compared (is js : List Item) : Type 0 where
+  longer : Beyond is js → Compared is js
+  shorter : Beyond js is → Compared is js
+  same : is ≡ js → Compared is js
+
+-- over the same bytes one list goes on beyond the other, or they are equal
+pub two_fronts : (is js : List Item) (e : Sums) (st last other : Stack) (x y : List ℕ)
+    → Runs e st is last → Runs e st js other → join is ++ x ≡ join js ++ y → Compared is js
+two_fronts [] [] e st last other x y r s eq = same refl
+two_fronts (i ∷ is) [] e st last other x y r s eq = longer (record { next = i; more = is; whole = refl })
+two_fronts [] (j ∷ js) e st last other x y r s eq = shorter (record { next = j; more = js; whole = refl })
+two_fronts (i ∷ is) (j ∷ js) e st last other x y r s eq =
+    let role : i.role ≡ j.role = cc in
+    let eq2 : i.bytes ++ (join is ++ x) ≡ j.bytes ++ (join js ++ y) =
+    sym (append_assoc i.bytes (join is) x) ∙ (eq ∙ append_assoc j.bytes (join js) y) in
+    let one = one_item i j (join is ++ x) (join js ++ y) role r.1 s.1 eq2 in
+    behind i j is js one (two_fronts is js (added e j) (stack_after e j st) last other x y
+    (subst (λ k. Runs (added e k) (stack_after e k st) is last) one r.2) s.2
+    (peel i.bytes j.bytes (join is ++ x) (join js ++ y) (ap (λ k. k.bytes) one) eq2))
+  where
+    behind : (i j : Item) (is js : List Item) → i ≡ j → Compared is js → Compared (i ∷ is) (j ∷ js)
+    behind i j is js one (longer b) = longer
+        (record {
+          next = b.next;
+          more = b.more;
+          whole = ap (λ k. k ∷ is) one
+              ∙ ap (λ l. j ∷ l) b.whole;
+        })
+    behind i j is js one (shorter b) = shorter
+        (record {
+          next = b.next;
+          more = b.more;
+          whole = ap (λ k. k ∷ js) (sym one)
+              ∙ ap (λ l. i ∷ l) b.whole;
+        })
+    behind i j is js one (same e) = same (ap (λ k. k ∷ is) one ∙ ap (λ l. j ∷ l) e)
+
+-- no items go on beyond a geometry that is complete
+pub none_beyond : (is js : List Item) (g : Tree) (last : Stack)
+    → Runs nothing started is ([], Finished g) → Runs nothing started js last → Beyond js is → ⊥
+none_beyond is js g last r s b =
+    let t = runs_split is (b.next ∷ b.more) nothing started last (subst (λ l. Runs nothing started l last) b.whole s) in
+    let z : None ≡ Some b.next.role = ap (λ x. role_at (sums_after nothing is) x)
+    (runs_same is nothing started ([], Finished g) t.mid r t.front) ∙ t.rest.0 in
+    absurd cc
+
+-- a prefix of exact items is exact
+pub exact_front : (is js : List Item) → AreExact (is ++ js) → AreExact is
+exact_front [] js h = tt
+exact_front (i ∷ is) js h = (h.0, exact_front is js h.1)
+
+-- a prefix of a part is a part
+pub part_front : (limits : Allowance) (before more : List Item) → Part limits (before ++ more) → Part limits before
+part_front limits before more p = record {
+  tree = p.tree;
+  more = more ++ p.more;
+  valid = p.valid;
+  items = subst (λ l. Items 0 p.tree l) (append_assoc before more p.more) p.items;
+  exact = exact_front before more p.exact;
+}
+
+-- the items of a blob are a part
+pub blob_part : (limits : Allowance) (bytes : List ℕ) (g : Tree) (b : Blob limits bytes g) → Part limits b.items
+blob_part limits bytes g b = record {
+  tree = g;
+  more = [];
+  valid = b.valid;
+  items = subst (λ l. Items 0 g l) (sym (append-nil b.items)) b.are_items;
+  exact = b.exact;
+}
+
+-- the bytes of some items, one more item and others
+pub join-beyond : (before more : List Item) (i : Item)
+    → join (before ++ i ∷ more) ≡ join before ++ (i.bytes ++ join more)
+join-beyond [] more i = refl
+join-beyond (j ∷ before) more i = ap (λ l. j.bytes ++ l) (join-beyond before more i)
+    ∙ sym (append_assoc j.bytes (join before) (i.bytes ++ join more))
+
+-- after equal bytes the rests of equal lists are equal
+pub left_cancel : (a x y : List ℕ) → a ++ x ≡ a ++ y → x ≡ y
+left_cancel a x y e = peel a a x y refl e
+
+-- no part over the same bytes goes on beyond a fault
+pub none_beyond_fault : (limits : Allowance) (bytes : List ℕ) (offset : ℕ) (reason : Reason)
+    (f : Fault limits bytes offset reason) (is : List Item) (x : List ℕ) → Part limits is
+    → join is ++ x ≡ bytes → Beyond is f.before → ⊥
+none_beyond_fault limits bytes offset reason f is x part at b =
+    let here : join f.before ++ ((b.next.bytes ++ join b.more) ++ x) ≡ join f.before ++ f.rest =
+    sym (append_assoc (join f.before) (b.next.bytes ++ join b.more) x)
+    ∙ (ap (λ l. l ++ x) (sym (join-beyond f.before b.more b.next) ∙ ap join (sym b.whole))
+    ∙ (at ∙ f.split)) in
+    let stands : f.rest ≡ b.next.bytes ++ (join b.more ++ x) =
+    sym (left_cancel (join f.before) ((b.next.bytes ++ join b.more) ++ x) f.rest here)
+    ∙ append_assoc b.next.bytes (join b.more) x in
+    f.dead b.next (join b.more ++ x) stands (part_front limits (f.before ++ b.next ∷ []) b.more
+    (subst (λ l. Part limits l) (b.whole ∙ sym (append_assoc f.before (b.next ∷ []) b.more)) part))
+
+-- ==== Bytes have at most one first fault.
 
 -- the first reason that holds is unique
 when_same : {P A B : Type 0} (r s reason : Reason) → (A → B → r ≡ s) → When r P reason A → When s P reason B → r ≡ s
@@ -115,3 +228,196 @@ no_fault limits bytes rest g offset reason b f = go
         let next = f.next g [] b.blob.valid.tree (subst (λ l. Items 0 g l)
         (e ∙ sym (append-nil f.before)) b.blob.are_items) in
         let z : [] ≡ next.0 ∷ next.1 = next.2 in absurd cc
+
+-- ==== A size is found to be wrong only at an end, so none is if no end comes next.
+
+-- the role is not that of a geometry's end
+abbrev pub NoEnd : Role → Type 0
+NoEnd role = (declared : Option ℕ) (came : ℕ) → role ≡ End declared came → ⊥
+
+-- a wrong size is not the first reason if the reason tested is another and the others exclude it
+not_this : {P Others : Type 0} (reason : Reason) → (SizeMismatch ≡ reason → ⊥) → (Others → ⊥)
+    → When SizeMismatch P reason Others → ⊥
+not_this reason other none (inl a) = other a.1
+not_this reason other none (inr b) = none b.1
+
+no_number : {Others : Type 0} (rest : List ℕ) → (Others → ⊥) → NumberFirst SizeMismatch rest Others → ⊥
+no_number {Others = Others} rest none h = not_this {P = IsCut rest}
+    {Others = When SizeMismatch (IsTooLong rest) _ Others} _ (λ e. cc)
+    (not_this {P = IsTooLong rest} {Others = Others} _ (λ e. cc) none) h
+
+never : ⊥ → ⊥
+never x = x
+
+-- a size is found to be wrong only at an end
+size_at_end : (limits : Allowance) (before : List Item) (rest : List ℕ) (role : Role) → NoEnd role
+    → Refused limits before rest role SizeMismatch → ⊥
+size_at_end limits before rest Header n h = not_this _ (λ e. cc) (not_this _ (λ e. cc) never) h
+size_at_end limits before rest (Metadata k) n h = not_this _ (λ e. cc) (not_this _ (λ e. cc) never) h
+size_at_end limits before rest Extended n h = not_this _ (λ e. cc) (not_this _ (λ e. cc) never) h
+size_at_end limits before rest Size n h = no_number rest never h
+size_at_end limits before rest Box n h = no_number rest never h
+size_at_end limits before rest Id n h = no_number rest never h
+size_at_end limits before rest (Count c) n h = no_number rest
+    (not_this _ (λ e. cc) (not_this _ (λ e. cc) (not_this _ (λ e. cc) never))) h
+size_at_end limits before rest X n h = no_number rest (not_this _ (λ e. cc) never) h
+size_at_end limits before rest Y n h = no_number rest (not_this _ (λ e. cc) never) h
+size_at_end limits before rest (End d c) n h = n d c refl
+
+-- an item that is not an end has bytes
+marked_some : (bytes : List ℕ) → HasMarks bytes → 0 < length bytes
+marked_some [] h = absurd h
+marked_some (b ∷ bs) h = omega arith
+
+one_some : (n : ℕ) (bytes : List ℕ) → bytes ≡ n ∷ [] → 0 < length bytes
+one_some n bytes e = subst (λ l. 0 < length l) (sym e) (omega arith)
+
+item_some : (role : Role) (n : ℕ) (bytes : List ℕ) → NoEnd role → Spells role n bytes → 0 < length bytes
+item_some Header n bytes apart s = one_some n bytes s.3
+item_some (Metadata k) n bytes apart s = one_some n bytes s.1
+item_some Extended n bytes apart s = one_some n bytes s.2
+item_some Size n bytes apart s = marked_some bytes s.marked
+item_some Box n bytes apart s = marked_some bytes s.marked
+item_some (Count c) n bytes apart s = marked_some bytes s.marked
+item_some Id n bytes apart s = marked_some bytes s.marked
+item_some X n bytes apart s = marked_some bytes s.marked
+item_some Y n bytes apart s = marked_some bytes s.marked
+item_some (End d c) n bytes apart s = absurd (apart d c refl)
+
+-- if no end comes next, no size is found to be wrong after the bytes, whatever follows
+pub no_size_wrong : (limits : Allowance) (bytes more : List ℕ) (e : Sums) (st : Stack)
+    → Reached limits bytes e st → ((role : Role) → role_at e st ≡ Some role → NoEnd role)
+    → FirstFault limits (bytes ++ more) (length bytes) SizeMismatch → ⊥
+no_size_wrong limits bytes more e st r no_end f = go
+    (two_fronts r.items f.fault.before nothing started st behind.0 more f.fault.rest r.ran.runs
+    behind.1 (at ∙ f.fault.split))
+  where
+    behind : (last : Stack) × Runs nothing started f.fault.before last
+    behind = fault_runs limits (bytes ++ more) (length bytes) SizeMismatch f.fault
+
+    at : join r.items ++ more ≡ bytes ++ more
+    at = ap (λ l. l ++ more) r.spelled
+
+    -- the next of the items that go on is not an end
+    next_open : (i : Item) (is : List Item) (last : Stack)
+        → Runs nothing started (r.items ++ i ∷ is) last → NoEnd i.role
+        × Spells i.role i.number i.bytes
+    next_open i is last run =
+        let t = runs_split r.items (i ∷ is) nothing started last run in
+        let says : role_at (sums_after nothing r.items) st ≡ Some i.role =
+        ap (λ x. role_at (sums_after nothing r.items) x)
+        (runs_same r.items nothing started st t.mid r.ran.runs t.front) ∙ t.rest.0 in
+        (no_end i.role (ap (λ s. role_at s st) (sym r.sums) ∙ says), t.rest.1)
+
+    go : Compared r.items f.fault.before → ⊥
+    go (longer n) = none_beyond_fault limits (bytes ++ more) (length bytes) SizeMismatch f.fault
+        r.items more (ran_part limits r.items st r.ran) at n
+    go (shorter n) =
+        let (apart, spells) = next_open n.next n.more behind.0
+        (subst (λ l. Runs nothing started l behind.0) n.whole behind.1) in
+        let whole : length (join f.fault.before) ≡ length
+        (join r.items ++ (n.next.bytes ++ join n.more)) = ap (λ l. length (join l)) n.whole
+        ∙ ap length (join-beyond r.items n.more n.next) in
+        let place = f.fault.place in
+        let size : length (join r.items) ≡ length bytes = ap length r.spelled in
+        let some = item_some n.next.role n.next.number n.next.bytes apart spells in
+        absurd (omega (
+          arith,
+          place,
+          size,
+          whole,
+          some,
+          length-append (join r.items)
+              (n.next.bytes ++ join n.more),
+          length-append n.next.bytes (join n.more),
+        ))
+    go (same eq) =
+        let g = f.fault.begins.0 in
+        let next = f.fault.next g f.fault.begins.1 f.fault.begins.2 f.fault.begins.3 in
+        let items : Items 0 g (r.items ++ next.0 ∷ next.1) =
+        subst (λ l. Items 0 g (l ++ next.0 ∷ next.1)) (sym eq)
+        (subst (λ l. Items 0 g (f.fault.before ++ l)) next.2 f.fault.begins.3) in
+        let (apart, spells) = next_open next.0 next.1 _
+        (tree_runs g [] nothing (r.items ++ next.0 ∷ next.1) f.fault.begins.2 items) in
+        size_at_end limits f.fault.before f.fault.rest f.fault.role (subst NoEnd next.3 apart) f.fault.refused
+
+-- ==== Bytes of parts, and the faults after them.
+
+-- the items that a reader has read are a part
+pub reached_part : (limits : Allowance) (bytes : List ℕ) (e : Sums) (st : Stack)
+    → Reached limits bytes e st → IsPart limits bytes
+reached_part limits bytes e st r = record {
+  items = r.items;
+  part = ran_part limits r.items st r.ran;
+  spelled = r.spelled;
+}
+
+-- the items of a blob are a part
+pub blob_is_part : (limits : Allowance) (bytes : List ℕ) (g : Tree) → Blob limits bytes g → IsPart limits bytes
+blob_is_part limits bytes g b = record { items = b.items; part = blob_part limits bytes g b; spelled = b.spelled }
+
+-- a fault is at the end of a part or after it
+pub fault_behind : (limits : Allowance) (bytes more : List ℕ) (offset : ℕ) (reason : Reason)
+    → IsPart limits bytes → Fault limits (bytes ++ more) offset reason → length bytes ≤ offset
+fault_behind limits bytes more offset reason p f =
+    let ran = part_ran limits p.items p.part in
+    let st = fault_runs limits (bytes ++ more) offset reason f in
+    go (two_fronts p.items f.before nothing started ran.0 st.0 more f.rest ran.1.runs st.1 (at ∙ f.split))
+  where
+    at : join p.items ++ more ≡ bytes ++ more
+    at = ap (λ l. l ++ more) p.spelled
+
+    size : length (join p.items) ≡ length bytes
+    size = ap length p.spelled
+
+    go : Compared p.items f.before → length bytes ≤ offset
+    go (longer n) = absurd (none_beyond_fault limits (bytes ++ more) offset reason f p.items more p.part at n)
+    go (shorter n) =
+        let whole : length (join f.before) ≡ length (join p.items ++ (n.next.bytes ++ join n.more))
+        = ap (λ l. length (join l)) n.whole ∙ ap length (join-beyond p.items n.more n.next) in
+        let place = f.place in
+        let sum = length-append (join p.items) (n.next.bytes ++ join n.more) in
+        omega (arith, place, size, whole, sum)
+    go (same e) =
+        let whole : length (join p.items) ≡ length (join f.before) = ap (λ l. length (join l)) e in
+        let place = f.place in
+        omega (arith, place, size, whole)
+
+-- ==== The bytes of items, by their roles.
+
+-- the item with this role is a single byte
+abbrev pub IsByteRole : Role → Type 0
+IsByteRole Header = Rattle.std.specs.Prelude.⊤
+IsByteRole (Metadata kind) = Rattle.std.specs.Prelude.⊤
+IsByteRole Extended = Rattle.std.specs.Prelude.⊤
+IsByteRole _ = ⊥
+
+pub byte_gives : (r : Role) (n : ℕ) → IsByteRole r → n < 256 → Gives r n (n ∷ [])
+byte_gives Header n is low = (low, refl)
+byte_gives (Metadata kind) n is low = (low, refl)
+byte_gives Extended n is low = (low, refl)
+byte_gives _ n is low = absurd is
+
+pub number_gives : (r : Role) (n : ℕ) (bytes : List ℕ) → IsNumber r → IsVarint bytes n → Gives r n bytes
+number_gives Size n bytes is v = v
+number_gives Box n bytes is v = v
+number_gives (Count c) n bytes is v = v
+number_gives Id n bytes is v = v
+number_gives X n bytes is v = v
+number_gives Y n bytes is v = v
+number_gives _ n bytes is v = absurd is
+
+pub byte_no_end : (r : Role) → IsByteRole r → NoEnd r
+byte_no_end Header is = λ d c e. cc
+byte_no_end (Metadata kind) is = λ d c e. cc
+byte_no_end Extended is = λ d c e. cc
+byte_no_end _ is = absurd is
+
+pub number_no_end : (r : Role) → IsNumber r → NoEnd r
+number_no_end Size is = λ d c e. cc
+number_no_end Box is = λ d c e. cc
+number_no_end (Count k) is = λ d c e. cc
+number_no_end Id is = λ d c e. cc
+number_no_end X is = λ d c e. cc
+number_no_end Y is = λ d c e. cc
+number_no_end _ is = absurd is

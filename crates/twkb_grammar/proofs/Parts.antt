@@ -1,14 +1,360 @@
--- Prefixes of items, and what the machine says about them.
-use Rattle.std.proofs.Common.{◌≡◌, List, [], ◌∷◌, ◌++◌, refl, ap, sym, ◌∙◌, Some, None}
-use Rattle.twkb_tree.specs.Tree.{Tree, IsTree}
-use Rattle.twkb_grammar.specs.Roles.{Item, Role}
+-- Prefixes of items, each of which can be completed.
+use Rattle.std.proofs.Common.{Bool, true, false, ◌≡◌, ℕ, zero, suc, ◌+◌, ◌-◌, List, [], ◌∷◌, ◌++◌, length, refl, ap}
+use Rattle.std.proofs.Common.{sym, subst, Some, None, arith, ◌∙◌, append_assoc}
+use Rattle.std.specs.Prelude.{ℤ, ⊤}
+use Rattle.twkb_num.specs.Varint.{IsVarint}
+use Rattle.twkb_num.proofs.VarintLemmas.{one_varint}
+use Rattle.twkb_tree.specs.Tree.{Tree, Trees, Ids, simple, collection, IsTree}
+use Rattle.twkb_tree.specs.Limits.{Allowance}
+use Rattle.twkb_grammar.specs.Bits.{bit}
+use Rattle.twkb_grammar.specs.Roles.{Item, Role, Header, Metadata, Extended, Size, Box, Count, Id, X, Y, End, IsItem}
+use Rattle.twkb_grammar.specs.Roles.{Spells, join}
+use Rattle.twkb_grammar.specs.Machine.{Nested, Around, top, within, Body, Want, WantY, Done, closed, opened, listed}
+use Rattle.twkb_grammar.specs.Machine.{BodyForm, depth_of, shape_of, Kind, SimpleKind, CollectionKind, PointForm}
+use Rattle.twkb_grammar.specs.Machine.{LineForm, PolygonForm, MultiPointForm, MultiLineForm, MultiPolygonForm}
+use Rattle.twkb_grammar.specs.Machine.{kind_number, Head, Frame, Phase, AtHeader, AtMetadata, AtOption, AtCount, AtId}
+use Rattle.twkb_grammar.specs.Machine.{AtBody, AtEnd, Finished, Many, ManyPoints, ManyLines, ManyPolygons}
+use Rattle.twkb_grammar.specs.Machine.{ManyGeometries, first_count, settled, begun, wanting, with_option, empty_of}
+use Rattle.twkb_grammar.specs.Machine.{snoc, members_begin, counted, ended, asked, Sums, added, Stack, stack_after}
+use Rattle.twkb_grammar.specs.Machine.{role_at, Runs, nothing, started}
+use Rattle.twkb_grammar.specs.Blob.{Blob}
 use Rattle.twkb_grammar.specs.Items.{Items}
-use Rattle.twkb_grammar.specs.Machine.{Finished, Sums, nothing, started, added, Stack, stack_after, role_at, Runs}
-use Rattle.twkb_grammar.proofs.Headers.{sums_after, Runs-append}
-use Rattle.twkb_grammar.proofs.Trees.{tree_runs}
+use Rattle.twkb_grammar.proofs.Trees.{frame, tree_runs}
+use Rattle.twkb_grammar.proofs.Bodies.{sums_after, Runs-append}
 use Rattle.twkb_grammar.proofs.BodiesBack.{some_role}
 use Rattle.twkb_grammar.proofs.TreesBack.{runs_are_items}
-use Rattle.twkb_grammar.proofs.Completing.{filler, completes, proper_run}
+
+-- ==== Every state that the machine reaches can be completed: with zeros, 0x10 for a metadata byte, and 01 10 for a
+-- geometry.
+
+-- the number of a filler: an item for any role that announces and moves nothing, or a point
+-- without coordinates
+abbrev pub filler_number : Role → ℕ
+filler_number Header = 1
+filler_number (Metadata kind) = 16
+filler_number _ = 0
+
+-- the bytes of a filler
+abbrev pub filler_bytes : Role → List ℕ
+filler_bytes Header = 1 ∷ []
+filler_bytes (Metadata kind) = 16 ∷ []
+filler_bytes (End declared came) = []
+filler_bytes _ = 0 ∷ []
+
+-- the filler of a role
+abbrev pub filler : Role → Item
+filler r = record { role = r; number = filler_number r; bytes = filler_bytes r }
+
+zero_varint : IsVarint (0 ∷ []) 0
+zero_varint = record { marked = omega arith; within = omega arith; sum = refl; fits = omega arith }
+
+-- a filler is an item
+pub filler_is : (r : Role) → IsItem (filler r)
+filler_is Header = (omega arith, omega arith, omega arith, refl)
+filler_is (Metadata k) = (omega arith, refl)
+filler_is Extended = (omega arith, refl, refl)
+filler_is Size = zero_varint
+filler_is Box = zero_varint
+filler_is (Count c) = zero_varint
+filler_is Id = zero_varint
+filler_is X = zero_varint
+filler_is Y = zero_varint
+filler_is (End d c) = (refl, refl)
+
+-- fillers that lead to the end of the geometry
+pub record Completion (e : Sums) (st : Stack) : Type 0 where
+  pub roles : List Role
+  pub tree : Tree
+  pub runs : Runs e st (Rattle.std.specs.Prelude.map filler roles) ([], Finished tree)
+
+-- fillers lead to the end, whatever the sums
+abbrev pub Completes : Stack → Type 0
+Completes st = (e : Sums) → Completion e st
+
+fill : (e : Sums) (st next : Stack) (r : Role) → role_at e st ≡ Some r
+    → stack_after e (filler r) st ≡ next → Completion (added e (filler r)) next → Completion e st
+fill e st next r says leads c =
+    record {
+      roles = r ∷ c.roles;
+      tree = c.tree;
+      runs = (
+        says,
+        filler_is r,
+        subst (λ s. Runs (added e (filler r)) s
+            (Rattle.std.specs.Prelude.map filler c.roles) ([], Finished c.tree)) (sym leads) c.runs,
+      );
+    }
+
+end_done : (h : Head) (g : Tree) (fs : List Frame) → Completes (ended fs g) → Completes (fs, AtEnd h g)
+end_done h g fs k e = let r = End h.size (e.bytes - h.from) in
+    fill e (fs, AtEnd h g) (ended fs g) r refl refl (k (added e (filler r)))
+
+header_done : (fs : List Frame) → ((g : Tree) → Completes (ended fs g)) → Completes (fs, AtHeader)
+header_done fs k e =
+    fill e (fs, AtHeader) (stack_after e (filler Header) (fs, AtHeader)) Header refl refl
+    (fill (added e (filler Header)) (stack_after e (filler Header) (fs, AtHeader))
+    (stack_after (added e (filler Header)) (filler (Metadata 1))
+    (stack_after e (filler Header) (fs, AtHeader))) (Metadata 1) refl refl
+    (end_done _ _ fs (k _) (added (added e (filler Header)) (filler (Metadata 1)))))
+
+frame_done : (fs : List Frame) → ((g : Tree) → Completes (ended fs g))
+    → (left : ℕ) (h : Head) (ids : Ids) (done : Trees) (g : Tree)
+    → Completes (ended (frame h ids done left ∷ fs) g)
+frame_done fs k zero h ids done g = end_done h (collection h.precision ids (snoc done g)) fs
+    (k (collection h.precision ids (snoc done g)))
+frame_done fs k (suc left) h ids done g = header_done (frame h ids (snoc done g) left ∷ fs)
+    (λ t. frame_done fs k left h ids (snoc done g) t)
+
+-- fillers lead to the end after a complete geometry
+pub ended_done : (fs : List Frame) (g : Tree) → Completes (ended fs g)
+ended_done [] g e = record { roles = []; tree = g; runs = refl }
+ended_done (f ∷ fs) g e = frame_done fs (ended_done fs) f.left f.head f.ids f.done g e
+
+module _ (h : Head) (f : BodyForm) (ids : Ids) (fs : List Frame) where
+  abbrev body_st : Body (depth_of f) → Stack
+  body_st b = (fs, settled h f ids b)
+
+  want_done : (d : ℕ) (a : Around (depth_of f) d)
+      → ((v : Nested d) → Completes (body_st (closed a v))) → Completes (body_st (Want d a))
+  want_done zero a k e =
+      fill e (body_st (Want 0 a)) (body_st (WantY a)) X refl refl
+      (fill (added e (filler X)) (body_st (WantY a))
+      (body_st (closed a (added (added e (filler X)) (filler Y)).position)) Y refl refl
+      (k (added (added e (filler X)) (filler Y)).position
+      (added (added e (filler X)) (filler Y))))
+  want_done (suc d) a k e = fill e (body_st (Want (suc d) a)) (body_st (closed a []))
+      (Count (listed d)) refl refl (k [] (added e (filler (Count (listed d)))))
+
+  list_done : (d : ℕ) (a : Around (depth_of f) (suc d))
+      → ((v : Nested (suc d)) → Completes (body_st (closed a v)))
+      → (left : ℕ) (done : List (Nested d)) (v : Nested d)
+      → Completes (body_st (closed (within done left a) v))
+  list_done d a k zero done v = k (done ++ v ∷ [])
+  list_done d a k (suc left) done v = want_done d (within (done ++ v ∷ []) left a)
+      (λ w. list_done d a k left (done ++ v ∷ []) w)
+
+  around_done : {d : ℕ} (a : Around (depth_of f) d) (v : Nested d) → Completes (body_st (closed a v))
+  around_done top v = end_done h (simple h.precision (shape_of f ids v)) fs
+      (ended_done fs (simple h.precision (shape_of f ids v)))
+  around_done (within {d = d} done left a) v = list_done d a (around_done a) left done v
+
+  opened_done : (d n : ℕ) (a : Around (depth_of f) (suc d)) → Completes (body_st (opened d n a))
+  opened_done d zero a = around_done a []
+  opened_done d (suc n) a = want_done d (within [] n a) (around_done (within [] n a))
+
+  y_done : (a : Around (depth_of f) 0) → Completes (body_st (WantY a))
+  y_done a e = fill e (body_st (WantY a)) (body_st (closed a (added e (filler Y)).position)) Y refl
+      refl (around_done a (added e (filler Y)).position (added e (filler Y)))
+
+members_done : (m : Many) (h : Head) (fs : List Frame) (ids : Ids) (n : ℕ) → Completes (members_begin m h fs ids n)
+members_done ManyPoints h fs ids n = opened_done h MultiPointForm ids fs 0 n top
+members_done ManyLines h fs ids n = opened_done h MultiLineForm ids fs 1 n top
+members_done ManyPolygons h fs ids n = opened_done h MultiPolygonForm ids fs 2 n top
+members_done ManyGeometries h fs ids zero = end_done h (collection h.precision None Trees.end) fs
+    (ended_done fs (collection h.precision None Trees.end))
+members_done ManyGeometries h fs ids (suc n) = header_done (frame h ids Trees.end n ∷ fs)
+    (ended_done (frame h ids Trees.end n ∷ fs))
+
+ids_done : (m : Many) (h : Head) (fs : List Frame) (n left : ℕ) (ids : List ℤ) → Completes (fs, AtId m h n ids left)
+ids_done m h fs n zero ids e = fill e (fs, AtId m h n ids 0)
+    (members_begin m h fs (Some (ids ++ Rattle.std.specs.Prelude.pos 0 ∷ [])) n) Id refl refl
+    (members_done m h fs (Some (ids ++ Rattle.std.specs.Prelude.pos 0 ∷ [])) n
+    (added e (filler Id)))
+ids_done m h fs n (suc left) ids e = fill e (fs, AtId m h n ids (suc left))
+    (fs, AtId m h n (ids ++ Rattle.std.specs.Prelude.pos 0 ∷ []) left) Id refl refl
+    (ids_done m h fs n left (ids ++ Rattle.std.specs.Prelude.pos 0 ∷ []) (added e (filler Id)))
+
+count_done : (m : Many) (h : Head) (fs : List Frame) → Completes (fs, AtCount m h)
+count_done m h fs e = let r = Count (first_count m (length fs)) in
+    fill e (fs, AtCount m h) (members_begin m h fs None 0) r refl refl
+    (members_done m h fs None 0 (added e (filler r)))
+
+begun_done : (k : Kind) (h : Head) (fs : List Frame) → Completes (fs, begun k h)
+begun_done (SimpleKind PointForm) h fs = want_done h PointForm None fs 0 top (around_done h PointForm None fs top)
+begun_done (SimpleKind LineForm) h fs = want_done h LineForm None fs 1 top (around_done h LineForm None fs top)
+begun_done (SimpleKind PolygonForm) h fs = want_done h PolygonForm None fs 2 top (around_done h PolygonForm None fs top)
+begun_done (SimpleKind MultiPointForm) h fs = count_done ManyPoints h fs
+begun_done (SimpleKind MultiLineForm) h fs = count_done ManyLines h fs
+begun_done (SimpleKind MultiPolygonForm) h fs = count_done ManyPolygons h fs
+begun_done CollectionKind h fs = count_done ManyGeometries h fs
+
+wanting_done : (k : Kind) (rs : List Role) (h : Head) (fs : List Frame) → Completes (fs, wanting k h rs)
+wanting_done k [] h fs = go (bit h.meta 4) refl
+  where
+    go : (b : Bool) → bit h.meta 4 ≡ b → Completes (fs, wanting k h [])
+    go true e = rw e (end_done h (empty_of k h.precision) fs (ended_done fs (empty_of k h.precision)))
+    go false e = rw e (begun_done k h fs)
+wanting_done k (r ∷ rs) h fs =
+    λ e. fill e (fs, AtOption k h r rs)
+    (fs, wanting k (with_option h r (filler_number r) (e.bytes + length (filler_bytes r))) rs)
+    r refl refl
+    (wanting_done k rs (with_option h r (filler_number r) (e.bytes + length (filler_bytes r))) fs (added e (filler r)))
+
+-- a stack that expects an item, or is finished
+abbrev pub IsProper : Stack → Type 0
+IsProper (fs, AtBody h f ids (Done v)) = ⊥
+IsProper (fs, Finished g) = fs ≡ []
+IsProper _ = ⊤
+
+-- fillers lead to the end from any such stack
+pub completes : (st : Stack) → IsProper st → Completes st
+completes (fs, AtHeader) p = header_done fs (ended_done fs)
+completes (fs, AtMetadata k q) p =
+    λ e. fill e (fs, AtMetadata k q) (
+      fs,
+      AtEnd (record { precision = q; meta = 16; size = None; from = e.bytes + 1 })
+          (empty_of k q),
+    ) (Metadata (kind_number k)) refl refl
+    (end_done (record { precision = q; meta = 16; size = None; from = e.bytes + 1 }) (empty_of k q)
+    fs (ended_done fs (empty_of k q)) (added e (filler (Metadata (kind_number k)))))
+completes (fs, AtOption k h r rs) p = wanting_done k (r ∷ rs) h fs
+completes (fs, AtCount m h) p = count_done m h fs
+completes (fs, AtId m h n ids left) p = ids_done m h fs n left ids
+completes (fs, AtBody h f ids (Want d a)) p = want_done h f ids fs d a (around_done h f ids fs a)
+completes (fs, AtBody h f ids (WantY a)) p = y_done h f ids fs a
+completes (fs, AtBody h f ids (Done v)) p = absurd p
+completes (fs, AtEnd h g) p = end_done h g fs (ended_done fs g)
+completes (fs, Finished g) p = λ e. record { roles = []; tree = g; runs = ap (λ l. (l, Finished g)) p }
+
+settled_proper : (fs : List Frame) (h : Head) (f : BodyForm) (ids : Ids) (b : Body (depth_of f))
+    → IsProper (fs, settled h f ids b)
+settled_proper fs h f ids (Want d a) = tt
+settled_proper fs h f ids (WantY a) = tt
+settled_proper fs h f ids (Done v) = tt
+
+members_proper : (m : Many) (h : Head) (fs : List Frame) (ids : Ids) (n : ℕ) → IsProper (members_begin m h fs ids n)
+members_proper ManyPoints h fs ids n = settled_proper fs h MultiPointForm ids (opened 0 n top)
+members_proper ManyLines h fs ids n = settled_proper fs h MultiLineForm ids (opened 1 n top)
+members_proper ManyPolygons h fs ids n = settled_proper fs h MultiPolygonForm ids (opened 2 n top)
+members_proper ManyGeometries h fs ids zero = tt
+members_proper ManyGeometries h fs ids (suc n) = tt
+
+counted_proper : (m : Many) (h : Head) (fs : List Frame) (n : ℕ) → IsProper (counted m h fs n)
+counted_proper m h fs zero = members_proper m h fs None 0
+counted_proper m h fs (suc n) = go (bit h.meta 2) refl
+  where
+    go : (b : Bool) → bit h.meta 2 ≡ b → IsProper (counted m h fs (suc n))
+    go true e = rw e tt
+    go false e = rw e (members_proper m h fs None (suc n))
+
+begun_proper : (k : Kind) (h : Head) (fs : List Frame) → IsProper (fs, begun k h)
+begun_proper (SimpleKind PointForm) h fs = tt
+begun_proper (SimpleKind LineForm) h fs = tt
+begun_proper (SimpleKind PolygonForm) h fs = tt
+begun_proper (SimpleKind MultiPointForm) h fs = tt
+begun_proper (SimpleKind MultiLineForm) h fs = tt
+begun_proper (SimpleKind MultiPolygonForm) h fs = tt
+begun_proper CollectionKind h fs = tt
+
+wanting_proper : (k : Kind) (rs : List Role) (h : Head) (fs : List Frame) → IsProper (fs, wanting k h rs)
+wanting_proper k [] h fs = go (bit h.meta 4) refl
+  where
+    go : (b : Bool) → bit h.meta 4 ≡ b → IsProper (fs, wanting k h [])
+    go true e = rw e tt
+    go false e = rw e (begun_proper k h fs)
+wanting_proper k (r ∷ rs) h fs = tt
+
+ended_proper : (fs : List Frame) (g : Tree) → IsProper (ended fs g)
+ended_proper [] g = refl
+ended_proper (f ∷ fs) g = go f.left
+  where
+    go : (n : ℕ) → IsProper (ended (frame f.head f.ids f.done n ∷ fs) g)
+    go zero = tt
+    go (suc n) = tt
+
+proper_after : (fs : List Frame) (ph : Phase) (e : Sums) (i : Item)
+    → role_at e (fs, ph) ≡ Some i.role → IsProper (stack_after e i (fs, ph))
+proper_after fs AtHeader e i r = tt
+proper_after fs (AtMetadata k q) e i r = wanting_proper k (asked i.number) _ fs
+proper_after fs (AtOption k h s rs) e i r = wanting_proper k rs _ fs
+proper_after fs (AtCount m h) e i r = counted_proper m h fs i.number
+proper_after fs (AtId m h n ids zero) e i r = members_proper m h fs _ n
+proper_after fs (AtId m h n ids (suc left)) e i r = tt
+proper_after fs (AtBody h f ids (Want zero a)) e i r = tt
+proper_after fs (AtBody h f ids (Want (suc d) a)) e i r = settled_proper fs h f ids (opened d i.number a)
+proper_after fs (AtBody h f ids (WantY a)) e i r = settled_proper fs h f ids (closed a _)
+proper_after fs (AtBody h f ids (Done v)) e i r = cc
+proper_after fs (AtEnd h g) e i r = ended_proper fs g
+proper_after fs (Finished g) e i r = cc
+
+-- the machine runs from a stack that expects an item, or is finished, to another such stack
+pub proper_run : (is : List Item) (e : Sums) (st last : Stack) → IsProper st → Runs e st is last → IsProper last
+proper_run [] e st last p r = subst (λ s. IsProper s) r p
+proper_run (i ∷ is) e st last p r = proper_run is (added e i) (stack_after e i st) last
+    (proper_after st.0 st.1 e i r.0) r.2
+
+-- ==== Bytes are a blob of at most one geometry, and no blob is a proper prefix of another.
+
+one_byte : (m n : ℕ) (a b x y : List ℕ) → a ≡ m ∷ [] → b ≡ n ∷ [] → a ++ x ≡ b ++ y → (m ≡ n) × (a ≡ b)
+one_byte m n a b x y ea eb e =
+    let f : m ∷ x ≡ n ∷ y = sym (ap (λ l. l ++ x) ea) ∙ (e ∙ ap (λ l. l ++ y) eb) in
+    let same : m ≡ n = cc in
+    (same, ea ∙ (ap (λ k. k ∷ []) same ∙ sym eb))
+
+-- bytes begin with one spelling of a role
+pub one_spelling : (r : Role) (m n : ℕ) (a b x y : List ℕ) → Spells r m a → Spells r n b
+    → a ++ x ≡ b ++ y → (m ≡ n) × (a ≡ b)
+one_spelling Header m n a b x y sa sb e = one_byte m n a b x y sa.3 sb.3 e
+one_spelling (Metadata k) m n a b x y sa sb e = one_byte m n a b x y sa.1 sb.1 e
+one_spelling Extended m n a b x y sa sb e = one_byte m n a b x y sa.2 sb.2 e
+one_spelling Size m n a b x y sa sb e = one_varint a b x y m n sa sb e
+one_spelling Box m n a b x y sa sb e = one_varint a b x y m n sa sb e
+one_spelling (Count c) m n a b x y sa sb e = one_varint a b x y m n sa sb e
+one_spelling Id m n a b x y sa sb e = one_varint a b x y m n sa sb e
+one_spelling X m n a b x y sa sb e = one_varint a b x y m n sa sb e
+one_spelling Y m n a b x y sa sb e = one_varint a b x y m n sa sb e
+one_spelling (End d c) m n a b x y sa sb e = (sa.0 ∙ sym sb.0, sa.1 ∙ sym sb.1)
+
+-- two items with one role at the start of the same bytes are equal
+pub one_item : (i j : Item) (x y : List ℕ) → i.role ≡ j.role → IsItem i → IsItem j → i.bytes ++ x ≡ j.bytes ++ y → i ≡ j
+one_item i j x y same si sj e =
+    let h = one_spelling j.role i.number j.number i.bytes j.bytes x y
+    (subst (λ r. Spells r i.number i.bytes) same si) sj e in
+    let r : i.role ≡ j.role = same in
+    let n : i.number ≡ j.number = h.0 in
+    let b : i.bytes ≡ j.bytes = h.1 in
+    λ t. record { role = r t; number = n t; bytes = b t }
+
+-- after equal bytes the rests of equal lists are equal
+pub peel : (a b x y : List ℕ) → a ≡ b → a ++ x ≡ b ++ y → x ≡ y
+peel a b x y same e = cancel b x y (subst (λ l. l ++ x ≡ b ++ y) same e)
+  where
+    cancel : (b x y : List ℕ) → b ++ x ≡ b ++ y → x ≡ y
+    cancel [] x y e = e
+    cancel (c ∷ b) x y e = let f : b ++ x ≡ b ++ y = cc in cancel b x y f
+
+-- two runs to a geometry over the same bytes are the same
+pub one_reading : (is js : List Item) (e : Sums) (st : Stack) (g h : Tree) (x y : List ℕ)
+    → Runs e st is ([], Finished g) → Runs e st js ([], Finished h)
+    → join is ++ x ≡ join js ++ y → (g ≡ h) × (join is ≡ join js)
+one_reading [] [] e st g h x y r s eq = (
+  let f : Finished g ≡ Finished h = ap (λ (t : Stack). t.1)
+      (sym r ∙ s) in cc,
+  refl,
+)
+one_reading [] (j ∷ js) e st g h x y r s eq = let f : None ≡ Some j.role = ap (role_at e) (sym r) ∙ s.0 in cc
+one_reading (i ∷ is) [] e st g h x y r s eq = let f : None ≡ Some i.role = ap (role_at e) (sym s) ∙ r.0 in cc
+one_reading (i ∷ is) (j ∷ js) e st g h x y r s eq =
+    let role : i.role ≡ j.role = cc in
+    let eq2 : i.bytes ++ (join is ++ x) ≡ j.bytes ++ (join js ++ y) =
+    sym (append_assoc i.bytes (join is) x) ∙ (eq ∙ append_assoc j.bytes (join js) y) in
+    let same = one_item i j (join is ++ x) (join js ++ y) role r.1 s.1 eq2 in
+    let next = one_reading is js (added e j) (stack_after e j st) g h x y
+    (subst (λ k. Runs (added e k) (stack_after e k st) is ([], Finished g)) same r.2) s.2
+    (peel i.bytes j.bytes (join is ++ x) (join js ++ y) (ap (λ k. k.bytes) same) eq2) in
+    (next.0, ap (λ k. k.bytes ++ join is) same ∙ ap (λ l. j.bytes ++ l) next.1)
+
+-- two blobs at the start of the same bytes are equal
+pub one_blob_lem : (limits : Allowance) (a b x y : List ℕ) (g h : Tree) → Blob limits a g
+    → Blob limits b h → a ++ x ≡ b ++ y → (g ≡ h) × (a ≡ b)
+one_blob_lem limits a b x y g h ba bb e =
+    let r = one_reading ba.items bb.items nothing started g h x y
+    (tree_runs g [] nothing ba.items ba.valid.tree ba.are_items)
+    (tree_runs h [] nothing bb.items bb.valid.tree bb.are_items)
+    (ap (λ l. l ++ x) ba.spelled ∙ (e ∙ sym (ap (λ l. l ++ y) bb.spelled))) in
+    (r.0, sym ba.spelled ∙ (r.1 ∙ bb.spelled))
+
+-- ==== Prefixes of items, and what the machine says about them.
 
 -- a run through a prefix, and one through the rest
 pub record Split (e : Sums) (st : Stack) (xs ys : List Item) (last : Stack) : Type 0 where

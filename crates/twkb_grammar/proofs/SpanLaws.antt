@@ -17,7 +17,7 @@ use Rattle.twkb_grammar.specs.Spans.{spans_of_blob, moved_span, geometries, geom
 use Rattle.twkb_grammar.specs.Spans.{CoversBlob}
 use Rattle.twkb_grammar.specs.Noting.{no_notes, noted}
 use Rattle.twkb_grammar.proofs.Trees.{tree_runs}
-use Rattle.twkb_grammar.proofs.TwoFronts.{Compared, longer, shorter, same, two_fronts, none_beyond}
+use Rattle.twkb_grammar.proofs.OneFault.{Compared, longer, shorter, same, two_fronts, none_beyond}
 use Rattle.twkb_grammar.proofs.NotedSpans.{blob_noted}
 
 below_many : (First : List Item → Type 0) (level offset : ℕ) (ids : Rattle.twkb_tree.specs.Tree.Ids)

@@ -1,25 +1,35 @@
--- The state of a reader of a stream is determined by the bytes alone, and so is its answer at
--- their end.
-use Rattle.std.proofs.Common.{◌≡◌, ℕ, ◌+◌, ◌<◌, List, [], ◌∷◌, ◌++◌, length, refl, sym, ap, ◌∙◌}
-use Rattle.std.proofs.Common.{subst, append_assoc, append-nil, arith, Option, Some, None, inl, inr}
+-- The state of a reader of a stream by the bytes alone, and what one more byte adds to it.
+use Rattle.std.proofs.Common.{◌≡◌, ℕ, ◌+◌, ◌<◌, List, [], ◌∷◌, ◌++◌, length, refl, sym, ap, ◌∙◌, subst, append_assoc}
+use Rattle.std.proofs.Common.{append-nil, arith, Option, Some, None, inl, inr, length-append, zero, suc, ◌-◌}
 use Rattle.std.specs.Prelude.{◌≢◌, ◌⊎◌}
 use Rattle.twkb_num.specs.Varint.{IsVarint}
-use Rattle.twkb_tree.specs.Tree.{Tree}
+use Rattle.twkb_tree.specs.Tree.{Tree, flat}
 use Rattle.twkb_tree.specs.Limits.{Allowance, IsAllowance}
-use Rattle.twkb_grammar.specs.Roles.{Role, Header, Metadata, Extended, Size, Box, Count, Id, X, Y}
-use Rattle.twkb_grammar.specs.Roles.{End, IsNumber, Item, Spells, join}
+use Rattle.twkb_grammar.specs.Roles.{Role, Header, Metadata, Extended, Size, Box, Count, Id, X, Y, End, IsNumber, Item}
+use Rattle.twkb_grammar.specs.Roles.{Spells, join, IsItem}
 use Rattle.twkb_grammar.specs.Blob.{Blob, Stream}
-use Rattle.twkb_grammar.specs.Fault.{Truncated, GoOn, FirstFault, StreamFault}
-use Rattle.twkb_grammar.specs.Machine.{Finished, Sums, nothing, sums_after, Stack, started, role_at, Runs}
-use Rattle.twkb_grammar.specs.Reading.{Stands}
-use Rattle.twkb_grammar.proofs.BodiesBack.{some_role}
+use Rattle.twkb_grammar.specs.Fault.{Truncated, GoOn, FirstFault, StreamFault, points_by}
+use Rattle.twkb_grammar.specs.Machine.{Finished, Sums, nothing, sums_after, Stack, started, role_at, Runs, stack_after}
+use Rattle.twkb_grammar.specs.Machine.{body_role, listed, first_count, phase_role, Body, Want, WantY, Done, Phase}
+use Rattle.twkb_grammar.specs.Machine.{AtHeader, AtMetadata, AtOption, AtCount, AtId, AtBody, AtEnd, kind_number, Frame}
+use Rattle.twkb_grammar.specs.Machine.{added}
+use Rattle.twkb_grammar.specs.Reading.{Stands, frame_count}
+use Rattle.twkb_grammar.specs.Noting.{Notes, no_notes, note_header, note_metadata, noted_by, noted, note_byte}
+use Rattle.twkb_grammar.specs.Noting.{note_ends, note_ends_to, IsQuiet, IsCalm, notes_of}
+use Rattle.twkb_grammar.specs.Spans.{spans_of_blob}
+use Rattle.twkb_grammar.proofs.BodiesBack.{some_role, sums_after-append}
 use Rattle.twkb_grammar.proofs.Dead.{run_ends}
-use Rattle.twkb_grammar.proofs.Trees.{tree_runs}
-use Rattle.twkb_grammar.proofs.Parts.{runs_split, runs_same}
-use Rattle.twkb_grammar.proofs.One.{peel, one_blob_lem}
-use Rattle.twkb_grammar.proofs.TwoFronts.{Beyond, Compared, longer, shorter, same, two_fronts}
-use Rattle.twkb_grammar.proofs.TwoFronts.{none_beyond, left_cancel, join-beyond}
-use Rattle.twkb_grammar.proofs.Reaching.{reached_nothing, role_behind, reached_bytes, reached_cut, reached_end}
+use Rattle.twkb_grammar.proofs.Trees.{tree_runs, tree_total, total}
+use Rattle.twkb_grammar.proofs.Parts.{runs_split, runs_same, Split, peel, one_blob_lem}
+use Rattle.twkb_grammar.proofs.OneFault.{Beyond, Compared, longer, shorter, same, two_fronts, none_beyond, left_cancel}
+use Rattle.twkb_grammar.proofs.OneFault.{join-beyond}
+use Rattle.twkb_grammar.proofs.Running.{reached_nothing, role_behind, reached_bytes, reached_cut, reached_end}
+use Rattle.twkb_grammar.proofs.Bodies.{Runs-append, bytes_after}
+use Rattle.twkb_grammar.proofs.NotedSpans.{AreEnds, ends_only, none_front, ends_noted, ends_add, all_open, ends_to}
+use Rattle.twkb_grammar.proofs.NotedSpans.{Same, blob_noted, noted-append, points_total, quiet}
+use Rattle.twkb_grammar.proofs.Frames.{reached_frames}
+
+-- ==== The state of a reader of a stream is determined by the bytes alone, and so is its answer at their end.
 
 -- no complete number is in bytes that all say that more follow
 no_number : (n : ℕ) (bytes more : List ℕ) → IsVarint bytes n → GoOn (bytes ++ more) → ⊥
@@ -245,3 +255,334 @@ stands_start limits bytes gs allowed s = record {
   few = omega arith;
   number = inl refl;
 }
+
+-- ==== One more byte ends an item, and with it some geometries.
+
+-- a list is empty, or has a last item
+data Ended (xs : List ℕ) : Type 0 where
+  is_empty : xs ≡ [] → Ended xs
+  has_last : (ys : List ℕ) (y : ℕ) → xs ≡ ys ++ y ∷ [] → Ended xs
+
+ended : (xs : List ℕ) → Ended xs
+ended [] = is_empty refl
+ended (x ∷ xs) = more (ended xs)
+  where
+    more : Ended xs → Ended (x ∷ xs)
+    more (is_empty e) = has_last [] x (ap (λ l. x ∷ l) e)
+    more (has_last ys y e) = has_last (x ∷ ys) y (ap (λ l. x ∷ l) e)
+
+-- lists that are equal with one more item are equal without it
+before_last : (xs ys : List ℕ) (a b : ℕ) → xs ++ a ∷ [] ≡ ys ++ b ∷ [] → xs ≡ ys
+before_last [] [] a b e = refl
+before_last [] (y ∷ ys) a b e = absurd (let z : length ((a ∷ [])) ≡ length (y ∷ (ys ++ b ∷ [])) =
+    ap length e in omega (arith, z, length-append ys (b ∷ [])))
+before_last (x ∷ xs) [] a b e = absurd (let z : length (x ∷ (xs ++ a ∷ [])) ≡ length (b ∷ []) =
+    ap length e in omega (arith, z, length-append xs (a ∷ [])))
+before_last (x ∷ xs) (y ∷ ys) a b e =
+    let h : x ≡ y = cc in
+    let t : xs ++ a ∷ [] ≡ ys ++ b ∷ [] = cc in
+    ap (λ k. k ∷ xs) h ∙ ap (λ l. y ∷ l) (before_last xs ys a b t)
+
+-- the byte ends an item, and with it some geometries
+pub record Taken (is js : List Item) (held : List ℕ) (byte : ℕ) : Type 0 where
+  pub next : Item
+  pub ends : List Item
+  pub whole : js ≡ is ++ next ∷ ends
+  pub are_ends : AreEnds ends
+  pub bytes : next.bytes ≡ held ++ byte ∷ []
+
+module _ (limits : Allowance) (bytes : List ℕ) (gs : List Tree) (e : Sums) (st : Stack)
+    (held : List ℕ) (s : Stands limits bytes gs e st held) where
+  -- the byte took an item
+  pub taken : (js : List Item) (su : Stack) (byte : ℕ) (kept : List ℕ) → Runs nothing started js su
+      → join js ++ kept ≡ (s.middle ++ held) ++ byte ∷ [] → Beyond js s.reached.items
+      → Taken s.reached.items js held byte
+  taken js su byte kept r at b = go (ended (join b.more ++ kept))
+    where
+      t : Split nothing started s.reached.items (b.next ∷ b.more) su
+      t = runs_split s.reached.items (b.next ∷ b.more) nothing started su
+          (subst (λ l. Runs nothing started l su) b.whole r)
+
+      here : b.next.bytes ++ (join b.more ++ kept) ≡ held ++ byte ∷ []
+      here = left_cancel s.middle (b.next.bytes ++ (join b.more ++ kept)) (held ++ byte ∷ [])
+          (ap (λ l. l ++ (b.next.bytes ++ (join b.more ++ kept))) (sym s.reached.spelled)
+          ∙ (ap (λ l. join s.reached.items ++ l) (sym (append_assoc b.next.bytes (join b.more) kept))
+          ∙ (sym (append_assoc (join s.reached.items) (b.next.bytes ++ join b.more) kept)
+          ∙ (ap (λ l. l ++ kept) (sym (join-beyond s.reached.items b.more b.next) ∙ ap join (sym b.whole))
+          ∙ (at ∙ append_assoc s.middle held (byte ∷ []))))))
+
+      go : Ended (join b.more ++ kept) → Taken s.reached.items js held byte
+      go (is_empty n) = record {
+        next = b.next;
+        ends = b.more;
+        whole = b.whole;
+        are_ends = ends_only b.more _ _ su t.rest.2 (none_front (join b.more) kept n);
+        bytes = sym (append-nil b.next.bytes) ∙ (ap (λ l. b.next.bytes ++ l) (sym n) ∙ here);
+      }
+      go (has_last ys y n) =
+          let whole : b.next.bytes ++ ys ≡ held = before_last (b.next.bytes ++ ys) held y byte
+          (append_assoc b.next.bytes ys (y ∷ []) ∙ (ap (λ l. b.next.bytes ++ l) (sym n) ∙ here))
+          in
+          let spelled : join (s.reached.items ++ b.next ∷ []) ++ ys ≡ s.middle ++ held =
+          ap (λ l. l ++ ys) (join-beyond s.reached.items [] b.next)
+          ∙ (append_assoc (join s.reached.items) (b.next.bytes ++ []) ys
+          ∙ (ap (λ l. l ++ ((b.next.bytes ++ []) ++ ys)) s.reached.spelled
+          ∙ ap (λ l. s.middle ++ l) (ap (λ l. l ++ ys) (append-nil b.next.bytes) ∙ whole))) in
+          absurd (none_longer limits bytes gs e st held s (s.reached.items ++ b.next ∷ [])
+          (stack_after (sums_after nothing s.reached.items) b.next t.mid) ys
+          (Runs-append s.reached.items nothing started t.mid (b.next ∷ [])
+          (stack_after (sums_after nothing s.reached.items) b.next t.mid) t.front
+          (t.rest.0, t.rest.1, refl)) spelled
+          (record { next = b.next; more = []; whole = refl }))
+
+  -- the role of the item taken
+  pub taken_role : (js : List Item) (su : Stack) (byte : ℕ) → Runs nothing started js su
+      → (t : Taken s.reached.items js held byte) → role_at e st ≡ Some t.next.role × IsItem t.next
+  taken_role js su byte r t =
+      let p = runs_split s.reached.items (t.next ∷ t.ends) nothing started su
+      (subst (λ l. Runs nothing started l su) t.whole r) in
+      let mid : p.mid ≡ st = runs_same s.reached.items nothing started p.mid st p.front s.reached.ran.runs in (
+        subst (λ x. role_at x st ≡ Some t.next.role) s.reached.sums
+            (subst (λ x. role_at (sums_after nothing s.reached.items) x ≡ Some t.next.role) mid
+            p.rest.0),
+        p.rest.1,
+      )
+
+-- ==== What one more byte adds to the notes of a reader.
+
+body_quiet : {whole : ℕ} (r : Role) (b : Body whole) → body_role b ≡ Some r → IsQuiet r
+body_quiet r (Want zero a) e = subst IsQuiet (sym (some_role X r e)) tt
+body_quiet r (Want (suc d) a) e = subst IsQuiet (sym (some_role (Count (listed d)) r e)) tt
+body_quiet r (WantY a) e = subst IsQuiet (sym (some_role Y r e)) tt
+body_quiet r (Done v) e = absurd cc
+
+no_held : (held : List ℕ) (r : Role) → (IsNumber r → ⊥) → (held ≡ []) ⊎ IsNumber r → held ≡ []
+no_held held r n (inl e) = e
+no_held held r n (inr h) = absurd (n h)
+
+head_is : (n b : ℕ) (held : List ℕ) (bytes : List ℕ) → bytes ≡ n ∷ [] → bytes ≡ held ++ b ∷ [] → held ≡ [] → n ≡ b
+head_is n b held bytes e f none = let z : n ∷ [] ≡ b ∷ [] = sym e ∙ (f ∙ ap (λ l. l ++ b ∷ []) none) in cc
+
+-- the note of an item is added by a header's byte at once
+item_noted : (start : ℕ) (e : Sums) (fs : List Frame) (p : Phase) (i : Item) (byte : ℕ)
+    (held : List ℕ) (w : Notes) → IsCalm p → role_at e (fs, p) ≡ Some i.role → IsItem i
+    → i.bytes ≡ held ++ byte ∷ []
+    → (held ≡ []) ⊎ IsNumber i.role → ((d : Option ℕ) (came : ℕ) → i.role ≡ End d came → ⊥)
+    → noted_by start e i.role i.number w ≡ note_byte p (start + e.bytes) e.points byte w
+item_noted start e fs AtHeader i byte held w calm r item says number some =
+    let is : i.role ≡ Header = some_role Header i.role r in
+    let sp : Spells Header i.number i.bytes = subst (λ x. Spells x i.number i.bytes) is item in
+    let none : held ≡ [] = no_held held Header (λ h. h) (subst (λ x. (held ≡ []) ⊎ IsNumber x) is number) in
+    ap (λ x. noted_by start e x i.number w) is
+    ∙ ap (λ n. note_header (start + e.bytes) e.points n w)
+    (head_is i.number byte held i.bytes sp.3 says none)
+item_noted start e fs (AtMetadata k q) i byte held w calm r item says number some =
+    let is : i.role ≡ Metadata (kind_number k) = some_role (Metadata (kind_number k)) i.role r in
+    let sp : Spells (Metadata (kind_number k)) i.number i.bytes = subst (λ x. Spells x i.number i.bytes) is item in
+    let none : held ≡ [] = no_held held (Metadata (kind_number k)) (λ h. h)
+    (subst (λ x. (held ≡ []) ⊎ IsNumber x) is number) in
+    ap (λ x. noted_by start e x i.number w) is ∙ ap (λ n. note_metadata n w)
+    (head_is i.number byte held i.bytes sp.1 says none)
+item_noted start e fs (AtOption k h o rs) i byte held w calm r item says number some = quiet start e
+    i.role i.number w (subst IsQuiet (sym (some_role o i.role r)) calm)
+item_noted start e fs (AtCount m h) i byte held w calm r item says number some = quiet start e
+    i.role i.number w (subst IsQuiet (sym (some_role (Count (first_count m (length fs))) i.role r))
+    tt)
+item_noted start e fs (AtId m h members ids left) i byte held w calm r item says number some =
+    quiet start e i.role i.number w (subst IsQuiet (sym (some_role Id i.role r)) tt)
+item_noted start e fs (AtBody h f ids b) i byte held w calm r item says number some = quiet start e
+    i.role i.number w (body_quiet i.role b r)
+item_noted start e fs (AtEnd h g) i byte held w calm r item says number some = absurd
+    (some h.size (e.bytes - h.from) (some_role (End h.size (e.bytes - h.from)) i.role r))
+item_noted start e fs (Finished g) i byte held w calm r item says number some = absurd cc
+
+byte_quiet : (level bytes : ℕ) (p : Phase) (r : Role) (offset points byte : ℕ) (w : Notes)
+    → phase_role level bytes p ≡ Some r → IsNumber r → note_byte p offset points byte w ≡ w
+byte_quiet level bytes AtHeader r offset points byte w e h = absurd (subst IsNumber (some_role Header r e) h)
+byte_quiet level bytes (AtMetadata k q) r offset points byte w e h = absurd
+    (subst IsNumber (some_role (Metadata (kind_number k)) r e) h)
+byte_quiet level bytes (AtOption k h o rs) r offset points byte w e n = refl
+byte_quiet level bytes (AtCount m h) r offset points byte w e n = refl
+byte_quiet level bytes (AtId m h members ids left) r offset points byte w e n = refl
+byte_quiet level bytes (AtBody h f ids b) r offset points byte w e n = refl
+byte_quiet level bytes (AtEnd h g) r offset points byte w e n = refl
+byte_quiet level bytes (Finished g) r offset points byte w e n = refl
+
+module _ (limits : Allowance) (bytes : List ℕ) (e : Sums) (st : Stack) (held : List ℕ)
+    (s : Stands limits bytes [] e st held) where
+  at_middle : s.middle ++ held ≡ bytes
+  at_middle = sym (s.whole ∙ ap (λ l. l ++ (s.middle ++ held)) s.blobs)
+
+  -- the notes after an item and the ends after it
+  after_byte : (start : ℕ) (js : List Item) (su : Stack) (byte : ℕ) → Runs nothing started js su
+      → (t : Taken s.reached.items js held byte) → IsCalm st.1
+      → noted start nothing no_notes js ≡ note_ends (length t.ends)
+      (start + (sums_after nothing js).bytes) (sums_after nothing js).points
+      (note_byte st.1 (start + e.bytes) e.points byte (notes_of start s))
+  after_byte start js su byte r t calm =
+      ap (λ l. noted start nothing no_notes l) t.whole
+      ∙ (noted-append start s.reached.items (t.next ∷ t.ends) nothing no_notes
+      ∙ (ap (λ x. noted start x (notes_of start s) (t.next ∷ t.ends)) s.reached.sums
+      ∙ (ap (λ v. noted start (added e t.next) v t.ends)
+      (item_noted start e st.0 st.1 t.next byte held (notes_of start s) calm role.0 role.1 t.bytes
+      number some)
+      ∙ ends_noted start t.ends (added e t.next) (start + (sums_after nothing js).bytes)
+      (sums_after nothing js).points (note_byte st.1 (start + e.bytes) e.points byte
+      (notes_of start s)) t.are_ends (ap (λ n. start + n) (sym behind.0)) (sym behind.1))))
+    where
+      role : role_at e st ≡ Some t.next.role × IsItem t.next
+      role = taken_role limits bytes [] e st held s js su byte r t
+
+      is : t.next.role ≡ s.role
+      is = some_role s.role t.next.role (sym s.wants ∙ role.0)
+
+      number : (held ≡ []) ⊎ IsNumber t.next.role
+      number = subst (λ x. (held ≡ []) ⊎ IsNumber x) (sym is) s.number
+
+      some : (d : Option ℕ) (came : ℕ) → t.next.role ≡ End d came → ⊥
+      some = λ d came z. s.spelled d came (sym is ∙ z)
+
+      sums : sums_after nothing js ≡ sums_after (added e t.next) t.ends
+      sums = ap (λ l. sums_after nothing l) t.whole
+          ∙ (sums_after-append s.reached.items (t.next ∷ t.ends) nothing
+          ∙ ap (λ x. sums_after x (t.next ∷ t.ends)) s.reached.sums)
+
+      behind : Same (sums_after nothing js) (added e t.next)
+      behind = let b = ends_add t.ends (added e t.next) t.are_ends in
+          (ap (λ x. x.bytes) sums ∙ b.0, ap (λ x. x.points) sums ∙ b.1)
+
+  -- one more byte with which the blob goes on
+  pub goes_on : (start byte : ℕ) (f : Sums) (su : Stack) (kept : List ℕ)
+      (t : Stands limits (bytes ++ byte ∷ []) [] f su kept) → IsCalm st.1
+      → notes_of start t ≡ note_ends_to (frame_count su) (start + f.bytes) f.points
+      (note_byte st.1 (start + e.bytes) e.points byte (notes_of start s))
+  goes_on start byte f su kept t calm = go (two_fronts s.reached.items t.reached.items nothing
+      started st su (held ++ byte ∷ []) kept s.reached.ran.runs t.reached.ran.runs
+      (left ∙ (at ∙ sym right)))
+    where
+      left : join s.reached.items ++ (held ++ byte ∷ []) ≡ (s.middle ++ held) ++ byte ∷ []
+      left = ap (λ l. l ++ (held ++ byte ∷ [])) s.reached.spelled ∙ sym (append_assoc s.middle held (byte ∷ []))
+
+      right : join t.reached.items ++ kept ≡ t.middle ++ kept
+      right = ap (λ l. l ++ kept) t.reached.spelled
+
+      at : (s.middle ++ held) ++ byte ∷ [] ≡ t.middle ++ kept
+      at = ap (λ l. l ++ byte ∷ []) at_middle ∙ (t.whole ∙ ap (λ l. l ++ (t.middle ++ kept)) t.blobs)
+
+      V : Notes
+      V = note_byte st.1 (start + e.bytes) e.points byte (notes_of start s)
+
+      counts : length (notes_of start t).begun ≡ frame_count su
+      counts = all_open start t.reached.items nothing no_notes ∙ sym (reached_frames limits t.middle f su t.reached)
+
+      grew : (x : Taken s.reached.items t.reached.items held byte)
+          → notes_of start t ≡ note_ends_to (frame_count su) (start + f.bytes) f.points V
+      grew x =
+          let a = after_byte start t.reached.items su byte t.reached.ran.runs x calm in
+          let b : notes_of start t ≡ note_ends (length x.ends) (start + f.bytes) f.points V =
+          subst (λ z. notes_of start t ≡ note_ends (length x.ends) (start + z.bytes) z.points V)
+          t.reached.sums a in
+          b ∙ (ends_to (length x.ends) (start + f.bytes) f.points V
+          ∙ ap (λ n. note_ends_to n (start + f.bytes) f.points V)
+          (ap (λ w. length w.begun) (sym b) ∙ counts))
+
+      -- a byte of a number that is not its last adds no note
+      stayed : s.reached.items ≡ t.reached.items → notes_of start t ≡ note_ends_to (frame_count su)
+          (start + f.bytes) f.points V
+      stayed alike = sym (ap (λ v. note_ends_to (frame_count su) (start + f.bytes) f.points v)
+          (quiet_one ∙ notes) ∙ ap (λ n. note_ends n (start + f.bytes) f.points (notes_of start t))
+          (let z : length (notes_of start t).begun - frame_count su ≡ 0 = omega (arith, counts) in
+          z))
+        where
+          notes : notes_of start s ≡ notes_of start t
+          notes = ap (λ l. noted start nothing no_notes l) alike
+
+          stack : st ≡ su
+          stack = runs_same t.reached.items nothing started st su
+              (subst (λ l. Runs nothing started l st) alike s.reached.ran.runs) t.reached.ran.runs
+
+          sums : e ≡ f
+          sums = sym s.reached.sums ∙ (ap (λ l. sums_after nothing l) alike ∙ t.reached.sums)
+
+          role : role_at e st ≡ Some t.role
+          role = ap (λ x. role_at x st) sums ∙ (ap (λ x. role_at f x) stack ∙ t.wants)
+
+          held_is : held ++ byte ∷ [] ≡ kept
+          held_is = peel (join s.reached.items) (join t.reached.items) (held ++ byte ∷ []) kept
+              (ap join alike) (left ∙ (at ∙ sym right))
+
+          number : (kept ≡ []) ⊎ IsNumber t.role → IsNumber t.role
+          number (inl z) = absurd (let y : length (held ++ byte ∷ []) ≡ 0 = ap length
+              (held_is ∙ z) in omega (arith, y, length-append held (byte ∷ [])))
+          number (inr z) = z
+
+          quiet_one : V ≡ notes_of start s
+          quiet_one = byte_quiet (length st.0) e.bytes st.1 t.role (start + e.bytes) e.points byte
+              (notes_of start s) role (number t.number)
+
+      go : Compared s.reached.items t.reached.items
+          → notes_of start t ≡ note_ends_to (frame_count su) (start + f.bytes) f.points V
+      go (longer n) = absurd (none_longer limits (bytes ++ byte ∷ []) [] f su kept t s.reached.items
+          st (held ++ byte ∷ []) s.reached.ran.runs (left ∙ at) n)
+      go (shorter n) = grew (taken limits bytes [] e st held s t.reached.items su byte kept
+          t.reached.ran.runs (right ∙ sym at) n)
+      go (same z) = stayed z
+
+  -- the last byte of a blob
+  pub ends_blob : (start byte : ℕ) (g : Tree) (b : Blob limits (bytes ++ byte ∷ []) g) → IsCalm st.1
+      → spans_of_blob start b ≡ (note_ends_to 0 (start + length (bytes ++ byte ∷ []))
+      (length (flat g)) (note_byte st.1 (start + e.bytes) e.points byte (notes_of start s))).spans
+  ends_blob start byte g b calm = go (two_fronts s.reached.items b.items nothing started st
+      ([], Finished g) (held ++ byte ∷ []) [] s.reached.ran.runs whole (left ∙ sym right))
+    where
+      whole : Runs nothing started b.items ([], Finished g)
+      whole = tree_runs g [] nothing b.items b.valid.tree b.are_items
+
+      left : join s.reached.items ++ (held ++ byte ∷ []) ≡ (s.middle ++ held) ++ byte ∷ []
+      left = ap (λ l. l ++ (held ++ byte ∷ [])) s.reached.spelled ∙ sym (append_assoc s.middle held (byte ∷ []))
+
+      right : join b.items ++ [] ≡ (s.middle ++ held) ++ byte ∷ []
+      right = append-nil (join b.items) ∙ (b.spelled ∙ ap (λ l. l ++ byte ∷ []) (sym at_middle))
+
+      V : Notes
+      V = note_byte st.1 (start + e.bytes) e.points byte (notes_of start s)
+
+      E : Sums
+      E = sums_after nothing b.items
+
+      size : start + E.bytes ≡ start + length (bytes ++ byte ∷ [])
+      size = let z : E.bytes ≡ 0 + length (join b.items) = bytes_after b.items nothing in
+          omega (arith, z, ap length b.spelled)
+
+      many : E.points ≡ length (flat g)
+      many = let z : E.points ≡ 0 + total points_by b.items = points_total b.items nothing in
+          omega (arith, z, (tree_total g 0 b.items b.valid.tree b.are_items).1)
+
+      noted_all : noted start nothing no_notes b.items ≡ record { spans = spans_of_blob start b; begun = [] }
+      noted_all = blob_noted limits (bytes ++ byte ∷ []) g start b
+
+      grew : (x : Taken s.reached.items b.items held byte)
+          → spans_of_blob start b ≡ (note_ends_to 0 (start + length (bytes ++ byte ∷ []))
+          (length (flat g)) V).spans
+      grew x =
+          let a = after_byte start b.items ([], Finished g) byte whole x calm in
+          let c : noted start nothing no_notes b.items ≡ note_ends (length x.ends)
+          (start + length (bytes ++ byte ∷ [])) (length (flat g)) V =
+          a ∙ (ap (λ o. note_ends (length x.ends) o E.points V) size
+          ∙ ap (λ p. note_ends (length x.ends) (start + length (bytes ++ byte ∷ [])) p V) many)
+          in
+          ap (λ w. w.spans) (sym noted_all
+          ∙ (c ∙ (ends_to (length x.ends) (start + length (bytes ++ byte ∷ []))
+          (length (flat g)) V
+          ∙ ap (λ n. note_ends_to n (start + length (bytes ++ byte ∷ [])) (length (flat g)) V)
+          (ap (λ w. length w.begun) (sym c ∙ noted_all)))))
+
+      go : Compared s.reached.items b.items → spans_of_blob start b
+          ≡ (note_ends_to 0 (start + length (bytes ++ byte ∷ [])) (length (flat g)) V).spans
+      go (longer n) = absurd (none_beyond b.items s.reached.items g st whole s.reached.ran.runs n)
+      go (shorter n) = grew (taken limits bytes [] e st held s b.items ([], Finished g) byte [] whole right n)
+      go (same z) =
+          let same_stack : ([], Finished g) ≡ st = runs_same b.items nothing started
+          ([], Finished g) st whole (subst (λ l. Runs nothing started l st) z
+          s.reached.ran.runs) in
+          let y : None ≡ Some s.role = ap (λ x. role_at e x) same_stack ∙ s.wants in absurd cc

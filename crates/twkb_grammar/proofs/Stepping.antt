@@ -1,28 +1,143 @@
--- One step of the plain reader: it takes an item that is allowed there, or refuses it for the
--- first reason.
-use Rattle.std.proofs.Common.{◌≡◌, ℕ, zero, suc, ◌+◌, ◌%◌, ◌<◌, ◌≤◌, Bool, true, false, List}
-use Rattle.std.proofs.Common.{[], ◌∷◌, ◌++◌, length, refl, sym, ap, ◌∙◌, subst, arith, Option, Some}
-use Rattle.std.proofs.Common.{None, inl, inr, length-append}
-use Rattle.std.specs.Prelude.{ℤ, pos, negsuc, nat_lt, nat_le, nat_eq, not, ◌&&◌, ◌||◌, ◌⊎◌, ◌≢◌, ◌+ℤ◌, ⊤}
-use Rattle.std.proofs.lemmas.Bool.{ltb-true, ltb-false}
+-- One step of the plain reader: it takes the next item, or refuses it for the first reason.
+use Rattle.std.proofs.Common.{◌≡◌, ℕ, zero, suc, ◌-◌, ◌*◌, ◌%◌, ◌<◌, ◌≤◌, List, [], ◌∷◌, ◌++◌, length, refl, ap, arith}
+use Rattle.std.proofs.Common.{◌+◌, Bool, true, false, sym, ◌∙◌, subst, Option, Some, None, inl, inr, length-append}
+use Rattle.std.specs.Prelude.{nat_lt, Ok, Err, ℤ, pos, negsuc, nat_le, nat_eq, not, ◌&&◌, ◌||◌, ◌⊎◌, ◌≢◌, ◌+ℤ◌, ⊤}
+use Rattle.std.proofs.lemmas.Bool.{cond_both, ltb-true, ltb-false}
 use Rattle.std.proofs.lemmas.Grind.{common_steps}
 use Rattle.std.proofs.lemmas.Int.{ints}
+use Rattle.twkb_num.specs.Varint.{HasMarks, seven_bit_sum, IsVarint}
 use Rattle.twkb_num.specs.Zigzag.{unzigzag_of}
-use Rattle.twkb_num.specs.Varint.{IsVarint}
 use Rattle.twkb_points.specs.declared.point.TheConstants.{COORDINATE_BOUND}
 use Rattle.twkb_points.specs.Point.{IsCoordinate}
 use Rattle.twkb_tree.specs.Limits.{Allowance}
-use Rattle.twkb_grammar.specs.Roles.{Counted, Vertices, Rings, Points, Components, Geometries, Item}
-use Rattle.twkb_grammar.specs.Roles.{Role, Header, Metadata, Extended, Count, X, Y, End}
+use Rattle.twkb_grammar.specs.Bits.{AreBytes}
+use Rattle.twkb_grammar.specs.Fault.{Truncated, BadVarint, GoOn, IsTooLong, Reason, BadType, ExtraDimensions, TooDeep}
+use Rattle.twkb_grammar.specs.Fault.{TooManyNodes, TooManyPoints, CoordinateRange, SizeMismatch, Refused, When}
+use Rattle.twkb_grammar.specs.Fault.{FirstByte, FirstNumber, IsCut, IsDeep, NumberFirst, announces_point}
+use Rattle.twkb_grammar.specs.Fault.{announced_points, announced_nodes, nodes_of, points_of, position}
+use Rattle.twkb_grammar.specs.PlainReader.{Cut, with_byte, varint_at, in_range, too_deep, unless, objection, cut}
+use Rattle.twkb_grammar.specs.PlainReader.{Answer, RefusedAt, after_objection, after_cut}
+use Rattle.twkb_grammar.specs.Roles.{Counted, Vertices, Rings, Points, Components, Geometries, Item, Role, Header}
+use Rattle.twkb_grammar.specs.Roles.{Metadata, Extended, Count, X, Y, End, Size, Box, Id, Spells}
 use Rattle.twkb_grammar.specs.Blob.{IsExact}
-use Rattle.twkb_grammar.specs.Fault.{Reason, BadType, ExtraDimensions, TooDeep, TooManyNodes}
-use Rattle.twkb_grammar.specs.Fault.{TooManyPoints, CoordinateRange, SizeMismatch, Refused, When}
-use Rattle.twkb_grammar.specs.Fault.{FirstByte, FirstNumber, IsCut, IsTooLong, IsDeep, NumberFirst}
-use Rattle.twkb_grammar.specs.Fault.{announces_point, announced_points, announced_nodes, nodes_of}
-use Rattle.twkb_grammar.specs.Fault.{points_of, position}
 use Rattle.twkb_grammar.specs.Machine.{Sums}
-use Rattle.twkb_grammar.specs.PlainReader.{in_range, too_deep, unless, objection}
 use Rattle.twkb_grammar.proofs.Dead.{Allowed, run_ends, not_long, number_not}
+
+-- ==== The varint that the plain reader cuts from bytes.
+
+-- one more than the greatest number that k + 1 bytes can spell
+abbrev pub top_number : ℕ → ℕ
+top_number zero = 2
+top_number (suc k) = 128 * top_number k
+
+-- there is a varint of at most k + 1 bytes at the start
+pub record Whole (k : ℕ) (bytes : List ℕ) (number : ℕ) (front rest : List ℕ) : Type 0 where
+  pub whole : bytes ≡ front ++ rest
+  pub marked : HasMarks front
+  pub within : length front ≤ suc k
+  pub sum : seven_bit_sum front ≡ number
+  pub fits : number < top_number k
+
+-- k bytes say that more follow, and the next is above 1
+pub record Long (k : ℕ) (bytes : List ℕ) : Type 0 where
+  pub nine : List ℕ
+  pub tenth : ℕ
+  pub more : List ℕ
+  pub whole : bytes ≡ nine ++ tenth ∷ more
+  pub length : length nine ≡ k
+  pub go_on : GoOn nine
+  pub above : 1 < tenth
+
+-- what the result of a cut says about the bytes
+abbrev pub CutSays : ℕ → List ℕ → Cut → Type 0
+CutSays k bytes (Ok r) = Whole k bytes r.0 r.1 r.2
+CutSays k bytes (Err Truncated) = (length bytes < suc k) × GoOn bytes
+CutSays k bytes (Err BadVarint) = Long k bytes
+CutSays k bytes (Err reason) = ⊥
+
+top_some : (k : ℕ) → 2 ≤ top_number k
+top_some zero = omega arith
+top_some (suc k) = omega (arith, top_some k)
+
+marks_more : (b : ℕ) (front : List ℕ) → 128 ≤ b → b < 256 → HasMarks front → HasMarks (b ∷ front)
+marks_more b [] h l m = absurd m
+marks_more b (c ∷ front) h l m = (h, l, m)
+
+with_byte_says : (k b : ℕ) (bytes : List ℕ) (c : Cut) → 128 ≤ b → b < 256 → CutSays k bytes c
+    → CutSays (suc k) (b ∷ bytes) (with_byte b c)
+with_byte_says k b bytes (Ok r) h l s = record {
+  whole = ap (λ bs. b ∷ bs) s.whole;
+  marked = marks_more b r.1 h l s.marked;
+  within = omega (arith, s.within);
+  sum = let low : b % 128 ≡ b - 128 = omega arith in let e : seven_bit_sum r.1 ≡ r.0 = s.sum in omega (arith, low, e);
+  fits = omega (arith, s.fits);
+}
+with_byte_says k b bytes (Err Truncated) h l s = (omega (arith, s.0), (h, s.1))
+with_byte_says k b bytes (Err BadVarint) h l s =
+    record {
+      nine = b ∷ s.nine;
+      tenth = s.tenth;
+      more = s.more;
+      whole = ap (λ bs. b ∷ bs) s.whole;
+      length = ap suc s.length;
+      go_on = (h, s.go_on);
+      above = s.above;
+    }
+with_byte_says k b bytes (Err reason) h l s = absurd s
+
+-- a cut says what is at the start of the bytes
+pub cut_says : (k : ℕ) (bytes : List ℕ) → AreBytes bytes → CutSays k bytes (varint_at (suc k) bytes)
+cut_says zero [] are = (omega arith, tt)
+cut_says zero (b ∷ bytes) are =
+    cond_both (nat_lt b 2) (Ok (b, b ∷ [], bytes)) (Err BadVarint) (λ c. CutSays 0 (b ∷ bytes) c)
+    (λ e. let h : b < 2 = ltb-true b 2 e in let low : b % 128 ≡ b = omega arith in
+    record { whole = refl; marked = omega (arith, h); within = omega arith; sum = omega (arith, low); fits = h })
+    (λ e. let h : 2 ≤ b = ltb-false b 2 e in record {
+      nine = [];
+      tenth = b;
+      more = bytes;
+      whole = refl;
+      length = refl;
+      go_on = tt;
+      above = omega (arith, h);
+    })
+cut_says (suc k) [] are = (omega arith, tt)
+cut_says (suc k) (b ∷ bytes) are =
+    cond_both (nat_lt b 128) (Ok (b, b ∷ [], bytes)) (with_byte b (varint_at (suc k) bytes))
+    (λ c. CutSays (suc k) (b ∷ bytes) c)
+    (λ e. let h : b < 128 = ltb-true b 128 e in let low : b % 128 ≡ b = omega arith in
+    record {
+      whole = refl;
+      marked = h;
+      within = omega arith;
+      sum = omega (arith, low);
+      fits = omega (arith, h, top_some k);
+    })
+    (λ e. let h : 128 ≤ b = ltb-false b 128 e in with_byte_says k b bytes (varint_at (suc k) bytes)
+    h are.0 (cut_says k bytes are.1))
+
+-- a cut of at most ten bytes is a varint
+pub whole_varint : (bytes : List ℕ) (n : ℕ) (front rest : List ℕ) → Whole 9 bytes n front rest → IsVarint front n
+whole_varint bytes n front rest w = record {
+  marked = w.marked;
+  within = w.within;
+  sum = w.sum;
+  fits = omega (arith, w.fits);
+}
+
+-- nine bytes that say that more follow, and a tenth above 1
+pub long_bytes : (bytes : List ℕ) → Long 9 bytes → IsTooLong bytes
+long_bytes bytes l = record {
+  nine = l.nine;
+  tenth = l.tenth;
+  more = l.more;
+  whole = l.whole;
+  length = l.length;
+  go_on = l.go_on;
+  above = l.above;
+}
+
+-- ==== One step of the plain reader: it takes an item that is allowed there, or refuses it for the first reason.
 
 -- ---- tests of numbers
 
@@ -303,3 +418,106 @@ module _ (limits : Allowance) (before : List Item) (rest : List ℕ) where
         unless_says (not (nat_eq n came)) SizeMismatch None (Objects (End (Some n) came) 0)
         (λ e. inl ((λ (h : n ≡ came). eq_false n came (not_true (nat_eq n came) e) h), refl))
         (λ e. (tt, tt, eq_true n came (not_false (nat_eq n came) e)))
+
+-- ==== The plain reader at one place: it takes the next item or refuses it.
+
+module _ (limits : Allowance) (before : List Rattle.twkb_grammar.specs.Roles.Item) (s : Sums)
+    (go : ℕ → List ℕ → List ℕ → Answer) where
+  -- the next item is taken
+  pub record Took (rest : List ℕ) (r : Role) (answer : Answer) : Type 0 where
+    pub number : ℕ
+    pub bytes : List ℕ
+    pub more : List ℕ
+    pub whole : rest ≡ bytes ++ more
+    pub spells : Spells r number bytes
+    pub allowed : Allowed limits before r number
+    pub exact : IsExact r
+    pub answer_is : answer ≡ go number bytes more
+
+  -- the next item is refused
+  pub record Refuses (rest : List ℕ) (r : Role) (answer : Answer) : Type 0 where
+    pub reason : Reason
+    pub refused : Refused limits before rest r reason
+    pub answer_is : answer ≡ RefusedAt s.bytes reason
+
+  -- the next item is taken or refused
+  abbrev pub Steps : List ℕ → Role → Answer → Type 0
+  Steps rest r answer = Took rest r answer ⊎ Refuses rest r answer
+
+  objected : (rest : List ℕ) (r : Role) (n : ℕ) (bytes more : List ℕ) (o : Option Reason)
+      → rest ≡ bytes ++ more → (Sound r n → Spells r n bytes) → Objects limits before rest r n o
+      → Steps rest r (after_objection s.bytes (go n bytes) more o)
+  objected rest r n bytes more None whole spell h = inl
+      (record {
+        number = n;
+        bytes = bytes;
+        more = more;
+        whole = whole;
+        spells = spell h.1;
+        allowed = h.0;
+        exact = h.2;
+        answer_is = refl;
+      })
+  objected rest r n bytes more (Some reason) whole spell h = inr
+      (record { reason = reason; refused = h; answer_is = refl })
+
+  -- the step of a number
+  number_step : (rest : List ℕ) (r : Role) (c : Cut) → CutSays 9 rest c
+      → ((n : ℕ) (bytes : List ℕ) → IsVarint bytes n → Spells r n bytes)
+      → ((n : ℕ) → Front limits before rest n → Objects limits before rest r n (objection limits s r n))
+      → (IsCut rest → Refused limits before rest r Truncated)
+      → (IsTooLong rest → Refused limits before rest r BadVarint)
+      → Steps rest r (after_cut s.bytes (λ n spelling. objection limits s r n) go c)
+  number_step rest r (Ok t) says spell objects cut long =
+      let v = whole_varint rest t.0 t.1 t.2 says in
+      objected rest r t.0 t.1 t.2 (objection limits s r t.0) says.whole (λ _. spell t.0 t.1 v)
+      (objects t.0 (record { front = t.1; more = t.2; whole = says.whole; spelled = v }))
+  number_step rest r (Err Truncated) says spell objects cut long = inr
+      (record { reason = Truncated; refused = cut says; answer_is = refl })
+  number_step rest r (Err BadVarint) says spell objects cut long = inr
+      (record { reason = BadVarint; refused = long (long_bytes rest says); answer_is = refl })
+  number_step rest r (Err reason) says spell objects cut long = absurd says
+
+  -- the step of any role
+  pub step : (rest : List ℕ) (r : Role) → Agree s before → AreBytes rest → (rest ≡ [] → before ≢ [])
+      → Steps rest r (after_cut s.bytes (λ n spelling. objection limits s r n) go (cut r rest))
+  step [] Header agree are some = inr
+      (record { reason = Truncated; refused = inl ((some refl, refl), refl); answer_is = refl })
+  step (b ∷ more) Header agree are some =
+      objected (b ∷ more) Header b (b ∷ []) more (objection limits s Header b) refl
+      (λ (h : Sound Header b). (are.0, h.0, h.1, refl))
+      (header_says limits before (b ∷ more) s agree b more refl)
+  step [] (Metadata k) agree are some = inr
+      (record { reason = Truncated; refused = inl (refl, refl); answer_is = refl })
+  step (b ∷ more) (Metadata k) agree are some =
+      objected (b ∷ more) (Metadata k) b (b ∷ []) more (objection limits s (Metadata k) b) refl
+      (λ _. (are.0, refl)) (metadata_says limits before (b ∷ more) s agree k b more refl)
+  step [] Extended agree are some = inr (record { reason = Truncated; refused = inl (refl, refl); answer_is = refl })
+  step (b ∷ more) Extended agree are some =
+      objected (b ∷ more) Extended b (b ∷ []) more (objection limits s Extended b) refl
+      (λ (h : Sound Extended b). (are.0, h, refl)) (extended_says limits before (b ∷ more) s
+      agree b more refl)
+  step rest Size agree are some = number_step rest Size (varint_at 10 rest) (cut_says 9 rest are)
+      (λ _ _ v. v) (λ _ _. (tt, tt, tt)) (λ h. inl (h, refl))
+      (λ h. inr (long_not_cut rest h, inl (h, refl)))
+  step rest Box agree are some = number_step rest Box (varint_at 10 rest) (cut_says 9 rest are)
+      (λ _ _ v. v) (λ _ _. (tt, tt, tt)) (λ h. inl (h, refl))
+      (λ h. inr (long_not_cut rest h, inl (h, refl)))
+  step rest Id agree are some = number_step rest Id (varint_at 10 rest) (cut_says 9 rest are)
+      (λ _ _ v. v) (λ _ _. (tt, tt, tt)) (λ h. inl (h, refl))
+      (λ h. inr (long_not_cut rest h, inl (h, refl)))
+  step rest (Count c) agree are some =
+      number_step rest (Count c) (varint_at 10 rest) (cut_says 9 rest are) (λ _ _ v. v)
+      (λ n f. count_says limits before rest s agree c n f) (λ h. inl (h, refl))
+      (λ h. inr (long_not_cut rest h, inl (h, refl)))
+  step rest X agree are some =
+      number_step rest X (varint_at 10 rest) (cut_says 9 rest are) (λ _ _ v. v)
+      (λ n f. x_says limits before rest s agree n f) (λ h. inl (h, refl))
+      (λ h. inr (long_not_cut rest h, inl (h, refl)))
+  step rest Y agree are some =
+      number_step rest Y (varint_at 10 rest) (cut_says 9 rest are) (λ _ _ v. v)
+      (λ n f. y_says limits before rest s agree n f) (λ h. inl (h, refl))
+      (λ h. inr (long_not_cut rest h, inl (h, refl)))
+  step rest (End d came) agree are some =
+      objected rest (End d came) 0 [] rest (objection limits s (End d came) 0) refl
+      (λ _. (refl, refl)) (end_says limits before rest s agree d came)

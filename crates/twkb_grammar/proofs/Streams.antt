@@ -17,10 +17,8 @@ use Rattle.twkb_grammar.specs.Machine.{Finished, AtHeader, nothing, started, Sta
 use Rattle.twkb_grammar.specs.PlainReader.{Answer, Made, RefusedAt, GoesOn, decode}
 use Rattle.twkb_grammar.proofs.BodiesBack.{some_role}
 use Rattle.twkb_grammar.proofs.Trees.{tree_runs}
-use Rattle.twkb_grammar.proofs.Parts.{front_runs}
-use Rattle.twkb_grammar.proofs.One.{peel, one_blob_lem}
-use Rattle.twkb_grammar.proofs.TwoFronts.{left_cancel}
-use Rattle.twkb_grammar.proofs.OneFault.{one_first_fault, no_fault}
+use Rattle.twkb_grammar.proofs.Parts.{front_runs, peel, one_blob_lem}
+use Rattle.twkb_grammar.proofs.OneFault.{left_cancel, one_first_fault, no_fault}
 use Rattle.twkb_grammar.proofs.WrittenBlobs.{written_blob}
 use Rattle.twkb_grammar.proofs.Decoding.{Outcome, bytes_left, decoded}
 

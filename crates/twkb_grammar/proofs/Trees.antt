@@ -1,22 +1,168 @@
--- The machine runs through the items of any geometry.
-use Rattle.std.proofs.Common.{Bool, true, false, ◌≡◌, ℕ, suc, ◌+◌, ◌<◌, List, [], ◌∷◌, ◌++◌, length}
-use Rattle.std.proofs.Common.{refl, ap, sym, ◌∙◌, subst, Some, None, arith}
-use Rattle.std.proofs.lemmas.Bool.{false≢true}
-use Rattle.std.specs.Prelude.{ℤ}
-use Rattle.twkb_tree.specs.Tree.{Simple, point, line, polygon, multi_point, multi_line}
-use Rattle.twkb_tree.specs.Tree.{multi_polygon, Tree, simple, collection, Trees, end, ◌▷◌, count}
-use Rattle.twkb_tree.specs.Tree.{Ids, HasIds, IdsFit, IsTree, AreTrees}
+-- The machine runs through the items of any geometry, which announce exactly its nodes and its points.
+use Rattle.std.proofs.Common.{Bool, true, false, ◌≡◌, ℕ, ◌+◌, List, [], ◌∷◌, ◌++◌, map, length, refl, ap, ◌∙◌, Option}
+use Rattle.std.proofs.Common.{Some, None, arith, suc, ◌<◌, sym, subst, length-append, ◌≤◌, inl, inr}
+use Rattle.std.proofs.lemmas.List.Sums.{sum_by-cons}
+use Rattle.std.specs.Prelude.{ℤ, flat_map, sum_by, ⊤, ◌+ℤ◌}
+use Rattle.std.proofs.lemmas.Bool.{false≢true, cases_lt}
+use Rattle.std.proofs.lemmas.List.Concat.{length-flat_map}
+use Rattle.std.specs.List.{AllByRecursion}
+use Rattle.twkb_num.specs.Zigzag.{unzigzag_of}
+use Rattle.twkb_points.specs.Point.{Point, origin, IsCoordinate, IsInRange}
+use Rattle.twkb_tree.specs.Tree.{Ids, Simple, point, line, polygon, multi_point, multi_line, multi_polygon, Tree}
+use Rattle.twkb_tree.specs.Tree.{simple, collection, Trees, end, ◌▷◌, count, HasIds, IdsFit, IsTree, AreTrees, nodes}
+use Rattle.twkb_tree.specs.Tree.{nodes_all, nodes_in, area_nodes, flat, flat_all, points_in, flatten, nest, nest_all}
 use Rattle.twkb_grammar.specs.Bits.{bit}
-use Rattle.twkb_grammar.specs.Roles.{Item, Count, Geometries, AreFields, join}
-use Rattle.twkb_grammar.specs.Items.{OfId, id_slots, filled, fields, Agrees, flags, flags_all}
-use Rattle.twkb_grammar.specs.Items.{BodyAt, Framed, Follow, Items, ItemsOfAll, kind_of, id_fields}
-use Rattle.twkb_grammar.specs.Machine.{SimpleKind, CollectionKind, kind_number, Head, Frame}
-use Rattle.twkb_grammar.specs.Machine.{AtHeader, AtEnd, AtCount, ManyGeometries, empty_of, wanting}
-use Rattle.twkb_grammar.specs.Machine.{ended, snoc, members_begin, Sums, Stack, Runs}
-use Rattle.twkb_grammar.proofs.Slots.{steps, fields_are}
-use Rattle.twkb_points.specs.Point.{origin}
-use Rattle.twkb_grammar.proofs.Bodies.{form_of, shape_run, first_run, finish, SaysIds}
-use Rattle.twkb_grammar.proofs.Headers.{sums_after, Runs-append, head, RunsBody, framed_run}
+use Rattle.twkb_grammar.specs.Roles.{Item, Role, Header, Metadata, Extended, Size, Box, Count, Counted, Id, X, Y, End}
+use Rattle.twkb_grammar.specs.Roles.{AreFields, HaveRoles, where_set, Geometries, join, item}
+use Rattle.twkb_grammar.specs.Items.{Slot, OfCount, OfId, OfPoint, id_slots, declared, end_item, Flags, Framed}
+use Rattle.twkb_grammar.specs.Items.{header_byte, filled, fields, Agrees, flags, flags_all, BodyAt, Follow, Items}
+use Rattle.twkb_grammar.specs.Items.{ItemsOfAll, kind_of, id_fields, slots, run_of, rings_of}
+use Rattle.twkb_grammar.specs.Machine.{SimpleKind, CollectionKind, kind_number, Head, Frame, AtHeader, AtEnd, AtCount}
+use Rattle.twkb_grammar.specs.Machine.{ManyGeometries, empty_of, wanting, ended, snoc, members_begin, Sums, Stack, Runs}
+use Rattle.twkb_grammar.specs.Machine.{Kind, added, sums_after}
+use Rattle.twkb_grammar.specs.Fault.{nodes_by, points_by, nodes_of, points_of, IsDeep}
+use Rattle.twkb_grammar.specs.Reading.{Here, Kept}
+use Rattle.twkb_grammar.proofs.Bodies.{steps, fields_are, slot_points, points_are, forth, form_of, shape_run, first_run}
+use Rattle.twkb_grammar.proofs.Bodies.{finish, SaysIds, moved_x, moved_y, moved_id, moved_count, Runs-append, head}
+use Rattle.twkb_grammar.proofs.Bodies.{RunsBody, framed_run, still_after, still_where}
+
+-- ==== Sums over items, and over slots, of what counts announce.
+
+-- the sum over the items
+abbrev pub total : (Role → ℕ → ℕ) → List Item → ℕ
+total f [] = 0
+total f (i ∷ is) = f i.role i.number + total f is
+
+-- the total is the sum
+pub total_is : (f : Role → ℕ → ℕ) (is : List Item) → sum_by (λ i. f i.role i.number) is ≡ total f is
+total_is f [] = refl
+total_is f (i ∷ is) = sum_by-cons (λ i. f i.role i.number) i is ∙ ap (λ n. f i.role i.number + n) (total_is f is)
+
+-- the total of joined items
+pub total-append : (f : Role → ℕ → ℕ) (is js : List Item) → total f (is ++ js) ≡ total f is + total f js
+total-append f [] js = omega arith
+total-append f (i ∷ is) js = omega (arith, total-append f is js)
+
+-- the sum over slots of what their counts announce
+abbrev pub by_slots : (Counted → ℕ → ℕ) → List Slot → ℕ
+by_slots c [] = 0
+by_slots c (OfCount k n ∷ ps) = c k n + by_slots c ps
+by_slots c (OfId id ∷ ps) = by_slots c ps
+by_slots c (OfPoint q ∷ ps) = by_slots c ps
+
+-- the total of joined slots
+pub by_slots-append : (c : Counted → ℕ → ℕ) (ps qs : List Slot)
+    → by_slots c (ps ++ qs) ≡ by_slots c ps + by_slots c qs
+by_slots-append c [] qs = omega arith
+by_slots-append c (OfCount k n ∷ ps) qs = omega (arith, by_slots-append c ps qs)
+by_slots-append c (OfId id ∷ ps) qs = by_slots-append c ps qs
+by_slots-append c (OfPoint q ∷ ps) qs = by_slots-append c ps qs
+
+pub by_points : (c : Counted → ℕ → ℕ) (ps : List Point) → by_slots c (map OfPoint ps) ≡ 0
+by_points c [] = refl
+by_points c (p ∷ ps) = by_points c ps
+
+by_ids : (c : Counted → ℕ → ℕ) (ids : List ℤ) → by_slots c (map OfId ids) ≡ 0
+by_ids c [] = refl
+by_ids c (id ∷ ids) = by_ids c ids
+
+pub by_names : (c : Counted → ℕ → ℕ) (ids : Ids) → by_slots c (id_slots ids) ≡ 0
+by_names c None = refl
+by_names c (Some ids) = by_ids c ids
+
+pub by_flat : {A : Type 0} (c : Counted → ℕ → ℕ) (f : A → List Slot) (g : A → ℕ)
+    → ((a : A) → by_slots c (f a) ≡ g a) → (xs : List A)
+    → by_slots c (flat_map f xs) ≡ sum_by g xs
+by_flat c f g h [] = refl
+by_flat c f g h (x ∷ xs) = omega (
+  arith,
+  by_slots-append c (f x) (flat_map f xs),
+  h x,
+  by_flat c f g h xs,
+  sum_by-cons g x xs,
+)
+
+module _ (f : Role → ℕ → ℕ) (c : Counted → ℕ → ℕ) (counts : (k : Counted) (n : ℕ) → f (Count k) n ≡ c k n)
+    (header : (n : ℕ) → f Header n ≡ 0) (extended : (n : ℕ) → f Extended n ≡ 0)
+    (size : (n : ℕ) → f Size n ≡ 0) (box : (n : ℕ) → f Box n ≡ 0)
+    (ids : (n : ℕ) → f Id n ≡ 0) (xs : (n : ℕ) → f X n ≡ 0) (ys : (n : ℕ) → f Y n ≡ 0)
+    (ends : (d : Option ℕ) (m n : ℕ) → f (End d m) n ≡ 0) where
+  -- the total of a body is that of its slots
+  pub body_total : (p : Point) (ps : List Slot) (is : List Item) → AreFields (steps p ps) is
+      → total f is ≡ by_slots c ps
+  body_total p [] [] are = refl
+  body_total p [] (i ∷ is) are = absurd are
+  body_total p (OfCount k n ∷ ps) [] are = absurd are
+  body_total p (OfCount k n ∷ ps) (i ∷ is) are = omega (
+    arith,
+    ap (λ r. f r i.number) are.0,
+    ap (λ m. f (Count k) m) are.1,
+    counts k n,
+    body_total p ps is are.3,
+  )
+  body_total p (OfId id ∷ ps) [] are = absurd are
+  body_total p (OfId id ∷ ps) (i ∷ is) are = omega
+      (arith, ap (λ r. f r i.number) are.0, ids i.number, body_total p ps is are.3)
+  body_total p (OfPoint q ∷ ps) [] are = absurd are
+  body_total p (OfPoint q ∷ ps) (i ∷ []) are = absurd are.3
+  body_total p (OfPoint q ∷ ps) (i ∷ j ∷ is) are = omega (
+    arith,
+    ap (λ r. f r i.number) are.0,
+    xs i.number,
+    ap (λ r. f r j.number) are.3.0,
+    ys j.number,
+    body_total q ps is are.3.3,
+  )
+
+  option_total : (b : Bool) (r : Role) (is : List Item) → ((n : ℕ) → f r n ≡ 0)
+      → HaveRoles (where_set b (r ∷ [])) is → total f is ≡ 0
+  option_total false r [] z have = refl
+  option_total false r (i ∷ is) z have = absurd have
+  option_total true r [] z have = absurd have
+  option_total true r (i ∷ []) z have = omega (arith, ap (λ r. f r i.number) have.0, z i.number)
+  option_total true r (i ∷ j ∷ is) z have = absurd have.2
+
+  box_total : (b : Bool) (is : List Item) → HaveRoles (where_set b (Box ∷ Box ∷ Box ∷ Box ∷ [])) is → total f is ≡ 0
+  box_total false [] have = refl
+  box_total false (i ∷ is) have = absurd have
+  box_total true [] have = absurd have
+  box_total true (i ∷ []) have = absurd have.2
+  box_total true (i ∷ j ∷ []) have = absurd have.2.2
+  box_total true (i ∷ j ∷ k ∷ []) have = absurd have.2.2.2
+  box_total true (i ∷ j ∷ k ∷ l ∷ m ∷ is) have = absurd have.2.2.2.2
+  box_total true (i ∷ j ∷ k ∷ l ∷ []) have =
+      omega (
+        arith,
+        ap (λ r. f r i.number) have.0,
+        box i.number,
+        ap (λ r. f r j.number) have.2.0,
+        box j.number,
+        ap (λ r. f r k.number) have.2.2.0,
+        box k.number,
+        ap (λ r. f r l.number) have.2.2.2.0,
+        box l.number,
+      )
+
+  -- the total of a frame is that of its metadata byte and its body
+  pub framed_total : (kind : ℕ) (p : ℤ) (own : Flags) (Body : List Item → Type 0) (is : List Item)
+      → (fr : Framed kind p own Body is) → total f is ≡ f (Metadata kind) fr.meta + total f fr.body
+  framed_total kind p own Body is fr =
+      let last = end_item (declared fr.size) (fr.box ++ fr.body) in
+      omega (
+        arith,
+        ap (total f) fr.whole,
+        header (header_byte kind p),
+        total-append f fr.extended (fr.size ++ ((fr.box ++ fr.body) ++ last ∷ [])),
+        total-append f fr.size ((fr.box ++ fr.body) ++ last ∷ []),
+        total-append f (fr.box ++ fr.body) (last ∷ []),
+        total-append f fr.box fr.body,
+        option_total (bit fr.meta 3) Extended fr.extended extended fr.optional.extended_is,
+        option_total (bit fr.meta 1) Size fr.size size fr.optional.size_is,
+        box_total (bit fr.meta 0) fr.box fr.optional.box_is,
+        ends (declared fr.size) (length (Rattle.twkb_grammar.specs.Roles.join (fr.box ++ fr.body))) 0,
+      )
+
+-- ==== The machine runs through the items of any geometry.
 
 -- the number of a shape's type is that of its form
 pub kind_is : (s : Simple) → kind_of s ≡ kind_number (SimpleKind (form_of s))
@@ -189,3 +335,439 @@ mutual
   members_run end fits = tt
   members_run (g ▷ gs) fits = member_then gs g (λ fs e is items. tree_runs g fs e is fits.0 items)
       (members_run gs fits.1)
+
+-- ==== The items of a geometry announce exactly its nodes and its points.
+
+nodes_runs : (ls : List (List Point)) → by_slots nodes_of (flat_map run_of ls) ≡ 0
+nodes_runs [] = refl
+nodes_runs (ps ∷ ls) = omega (
+  arith,
+  by_slots-append nodes_of (run_of ps) (flat_map run_of ls),
+  by_points nodes_of ps,
+  nodes_runs ls,
+)
+
+nodes_areas : (areas : List (List (List Point)))
+    → length areas + by_slots nodes_of (flat_map rings_of areas) ≡ area_nodes areas
+nodes_areas [] = refl
+nodes_areas (rings ∷ areas) =
+    let one : length (rings ∷ areas) ≡ suc (length areas) = refl in
+    omega (
+      arith,
+      one,
+      by_slots-append nodes_of (rings_of rings) (flat_map rings_of areas),
+      nodes_runs rings,
+      nodes_areas areas,
+    )
+
+shape_nodes : (s : Simple) → by_slots nodes_of (slots s) + 1 ≡ nodes_in s
+shape_nodes (point None) = refl
+shape_nodes (point (Some q)) = refl
+shape_nodes (line ps) = omega (arith, by_points nodes_of ps)
+shape_nodes (polygon rings) = omega (arith, nodes_runs rings)
+shape_nodes (multi_point ids ps) = omega (
+  arith,
+  by_slots-append nodes_of (id_slots ids)
+      (map OfPoint ps),
+  by_names nodes_of ids,
+  by_points nodes_of ps,
+)
+shape_nodes (multi_line ids ls) = omega (
+  arith,
+  by_slots-append nodes_of (id_slots ids)
+      (flat_map run_of ls),
+  by_names nodes_of ids,
+  nodes_runs ls,
+)
+shape_nodes (multi_polygon ids areas) = omega (
+  arith,
+  by_slots-append nodes_of (id_slots ids) (flat_map rings_of areas),
+  by_names nodes_of ids,
+  nodes_areas areas,
+)
+
+points_run : (ps : List Point) → by_slots points_of (run_of ps) ≡ length ps
+points_run ps = omega (arith, by_points points_of ps)
+
+points_rings : (ls : List (List Point)) → by_slots points_of (flat_map run_of ls) ≡ length (flatten ls)
+points_rings ls = by_flat points_of run_of length points_run ls ∙ sym (length-flat_map (λ ps. ps) ls)
+
+points_of_rings : (rings : List (List Point)) → by_slots points_of (rings_of rings) ≡ length (flatten rings)
+points_of_rings rings = omega (arith, points_rings rings)
+
+shape_points : (s : Simple) (meta : ℕ) → bit meta 4 ≡ false → Agrees (flags s) meta
+    → points_by (Metadata (kind_of s)) meta + by_slots points_of (slots s) ≡ length (points_in s)
+shape_points (point None) meta full agrees = absurd (false≢true (sym full ∙ agrees))
+shape_points (point (Some q)) meta full agrees = rw full refl
+shape_points (line ps) meta full agrees = omega (arith, by_points points_of ps)
+shape_points (polygon rings) meta full agrees = omega (arith, points_rings rings)
+shape_points (multi_point ids ps) meta full agrees = omega (
+  arith,
+  by_slots-append points_of (id_slots ids) (map OfPoint ps),
+  by_names points_of ids,
+  by_points points_of ps,
+)
+shape_points (multi_line ids ls) meta full agrees = omega (
+  arith,
+  by_slots-append points_of (id_slots ids) (flat_map run_of ls),
+  by_names points_of ids,
+  points_rings ls,
+)
+shape_points (multi_polygon ids areas) meta full agrees =
+    omega (
+      arith,
+      by_slots-append points_of (id_slots ids) (flat_map rings_of areas),
+      by_names points_of ids,
+      by_flat points_of rings_of (λ rings. length (flatten rings))
+          (λ rings. points_of_rings rings) areas,
+      length-flat_map flatten areas,
+    )
+
+empty_nodes : (k : Kind) (p : ℤ) → nodes (empty_of k p) ≡ 1
+empty_nodes (SimpleKind Rattle.twkb_grammar.specs.Machine.PointForm) p = refl
+empty_nodes (SimpleKind Rattle.twkb_grammar.specs.Machine.LineForm) p = refl
+empty_nodes (SimpleKind Rattle.twkb_grammar.specs.Machine.PolygonForm) p = refl
+empty_nodes (SimpleKind Rattle.twkb_grammar.specs.Machine.MultiPointForm) p = refl
+empty_nodes (SimpleKind Rattle.twkb_grammar.specs.Machine.MultiLineForm) p = refl
+empty_nodes (SimpleKind Rattle.twkb_grammar.specs.Machine.MultiPolygonForm) p = refl
+empty_nodes CollectionKind p = refl
+
+empty_points : (k : Kind) (p : ℤ) → length (flat (empty_of k p)) ≡ 0
+empty_points (SimpleKind Rattle.twkb_grammar.specs.Machine.PointForm) p = refl
+empty_points (SimpleKind Rattle.twkb_grammar.specs.Machine.LineForm) p = refl
+empty_points (SimpleKind Rattle.twkb_grammar.specs.Machine.PolygonForm) p = refl
+empty_points (SimpleKind Rattle.twkb_grammar.specs.Machine.MultiPointForm) p = refl
+empty_points (SimpleKind Rattle.twkb_grammar.specs.Machine.MultiLineForm) p = refl
+empty_points (SimpleKind Rattle.twkb_grammar.specs.Machine.MultiPolygonForm) p = refl
+empty_points CollectionKind p = refl
+
+no_point : (kind meta : ℕ) → bit meta 4 ≡ true → points_by (Metadata kind) meta ≡ 0
+no_point kind meta bare = go (Rattle.std.specs.Prelude.nat_eq kind 1) refl
+  where
+    go : (b : Bool) → Rattle.std.specs.Prelude.nat_eq kind 1 ≡ b → points_by (Metadata kind) meta ≡ 0
+    go true e = rw (e, bare) refl
+    go false e = rw e refl
+
+nodes_body : (p : Point) (ps : List Slot) (is : List Item) → AreFields (steps p ps) is
+    → total nodes_by is ≡ by_slots nodes_of ps
+nodes_body p ps is are = body_total nodes_by nodes_of (λ k n. refl) (λ n. refl) (λ n. refl)
+    (λ n. refl) (λ n. refl) (λ n. refl) (λ n. refl) (λ n. refl) (λ d m n. refl) p ps is are
+
+points_body : (p : Point) (ps : List Slot) (is : List Item) → AreFields (steps p ps) is
+    → total points_by is ≡ by_slots points_of ps
+points_body p ps is are = body_total points_by points_of (λ k n. refl) (λ n. refl) (λ n. refl)
+    (λ n. refl) (λ n. refl) (λ n. refl) (λ n. refl) (λ n. refl) (λ d m n. refl) p ps is are
+
+nodes_framed : (kind : ℕ) (p : ℤ) (own : Flags) (Body : List Item → Type 0) (is : List Item)
+    → (fr : Framed kind p own Body is) → total nodes_by is ≡ total nodes_by fr.body
+nodes_framed kind p own Body is fr = let h : total nodes_by is ≡ nodes_by (Metadata kind) fr.meta
+    + total nodes_by fr.body = framed_total nodes_by nodes_of (λ k n. refl) (λ n. refl) (λ n. refl)
+    (λ n. refl) (λ n. refl) (λ n. refl) (λ n. refl) (λ n. refl) (λ d m n. refl) kind p own Body is
+    fr in omega (arith, h)
+
+points_framed : (kind : ℕ) (p : ℤ) (own : Flags) (Body : List Item → Type 0) (is : List Item)
+    → (fr : Framed kind p own Body is) → total points_by is ≡ points_by (Metadata kind) fr.meta
+    + total points_by fr.body
+points_framed kind p own Body is fr = framed_total points_by points_of (λ k n. refl) (λ n. refl)
+    (λ n. refl) (λ n. refl) (λ n. refl) (λ n. refl) (λ n. refl) (λ n. refl) (λ d m n. refl) kind p
+    own Body is fr
+
+-- the nodes and points of a simple shape
+simple_nodes : (s : Simple) (p : ℤ) (meta : ℕ) (body : List Item) → IdsFit s → Agrees (flags s) meta
+    → (b : Bool) → bit meta 4 ≡ b → BodyAt b (AreFields (fields s)) body
+    → total nodes_by body + 1 ≡ nodes_in s
+simple_nodes s p meta body fit agrees true bare is = omega (
+  arith,
+  ap (total nodes_by) is,
+  ap nodes (left_out s p meta fit agrees bare),
+  empty_nodes (SimpleKind (form_of s)) p,
+)
+simple_nodes s p meta body fit agrees false full is = omega (
+  arith,
+  nodes_body origin (slots s) body (subst (λ fs. AreFields fs body) (fields_are s) is),
+  shape_nodes s,
+)
+
+simple_points : (s : Simple) (p : ℤ) (meta : ℕ) (body : List Item) → IdsFit s
+    → Agrees (flags s) meta → (b : Bool) → bit meta 4 ≡ b → BodyAt b (AreFields (fields s)) body
+    → points_by (Metadata (kind_of s)) meta + total points_by body ≡ length (points_in s)
+simple_points s p meta body fit agrees true bare is =
+    omega (
+      arith,
+      ap (total points_by) is,
+      no_point (kind_of s) meta bare,
+      ap (λ g. length (flat g))
+          (left_out s p meta fit agrees bare),
+      empty_points (SimpleKind (form_of s)) p,
+    )
+simple_points s p meta body fit agrees false full is = omega (
+  arith,
+  points_body origin (slots s) body (subst (λ fs. AreFields fs body) (fields_are s) is),
+  shape_points s meta full agrees,
+)
+
+abbrev MembersTotal : ℕ → Trees → Type 0
+MembersTotal level gs = (is : List Item) → ItemsOfAll level gs is
+    → (total nodes_by is + count gs ≡ nodes_all gs) × (total points_by is ≡ length (flat_all gs))
+
+gathered_total : (level : ℕ) (p : ℤ) (ids : Ids) (gs : Trees) (meta : ℕ) (body : List Item)
+    → HasIds ids (count gs) → Agrees (flags_all ids gs) meta → MembersTotal (suc level) gs
+    → (b : Bool) → bit meta 4 ≡ b
+    → BodyAt b (Follow (AreFields ((Count (Geometries level), count gs) ∷ id_fields ids))
+    (ItemsOfAll (suc level) gs)) body
+    → (total nodes_by body ≡ nodes_all gs) × (total points_by body ≡ length (flat_all gs))
+gathered_total level p ids end meta body fit agrees each true bare is =
+    (ap (total nodes_by) is, ap (total points_by) is)
+gathered_total level p None (g ▷ gs) meta body fit agrees each true bare is = absurd (false≢true (sym agrees.0 ∙ bare))
+gathered_total level p (Some ids) (g ▷ gs) meta body fit agrees each true bare is = absurd
+    (false≢true (sym agrees.0 ∙ bare))
+gathered_total level p ids gs meta body fit agrees each false full is =
+    let own_slots : List Slot = OfCount (Geometries level) (count gs) ∷ id_slots ids ++ [] in
+    let are : AreFields (steps origin own_slots) is.front =
+    subst (λ l. AreFields ((Count (Geometries level), count gs) ∷ l) is.front) (names_steps ids)
+    is.first in
+    let m = each is.rest is.second in (
+      omega (
+        arith,
+        ap (total nodes_by) is.whole,
+        total-append nodes_by is.front is.rest,
+        nodes_body origin own_slots is.front are,
+        by_slots-append nodes_of (id_slots ids) [],
+        by_names nodes_of ids,
+        m.0,
+      ),
+      omega (
+        arith,
+        ap (total points_by) is.whole,
+        total-append points_by is.front is.rest,
+        points_body origin own_slots is.front are,
+        by_slots-append points_of (id_slots ids) [],
+        by_names points_of ids,
+        m.1,
+      ),
+    )
+
+mutual
+  -- a geometry announces its nodes and points
+  pub tree_total : (g : Tree) (level : ℕ) (is : List Item) → IsTree g → Items level g is
+      → (total nodes_by is + 1 ≡ nodes g) × (total points_by is ≡ length (flat g))
+  tree_total (simple p s) level is fits items = (
+    omega (
+      arith,
+      nodes_framed (kind_of s) p (flags s) (AreFields (fields s)) is items,
+      simple_nodes s p items.meta items.body fits.1 items.agrees (bit items.meta 4) refl
+          items.body_is,
+    ),
+    points_framed (kind_of s) p (flags s) (AreFields (fields s)) is items
+        ∙ simple_points s p items.meta items.body fits.1 items.agrees (bit items.meta 4) refl
+        items.body_is,
+  )
+  tree_total (collection p ids gs) level is fits items =
+      let Body : List Item → Type 0 = Follow (AreFields
+      ((Count (Geometries level), count gs) ∷ id_fields ids)) (ItemsOfAll (suc level) gs) in
+      let t = gathered_total level p ids gs items.meta items.body fits.1 items.agrees
+      (members_total gs (suc level) fits.2) (bit items.meta 4) refl items.body_is in (
+        omega (arith, nodes_framed 7 p (flags_all ids gs) Body is items, t.0),
+        omega (arith, points_framed 7 p (flags_all ids gs) Body is items, t.1),
+      )
+
+  members_total : (gs : Trees) (level : ℕ) → AreTrees gs → MembersTotal level gs
+  members_total end level fits = λ is items. (omega (arith, ap (total nodes_by) items), ap (total points_by) items)
+  members_total (g ▷ gs) level fits = λ is items.
+      let t = tree_total g level items.front fits.0 items.first in
+      let m = members_total gs level fits.1 items.rest items.second in (
+        omega (arith, ap (total nodes_by) items.whole, total-append nodes_by items.front items.rest, t.0, m.0),
+        omega (
+          arith,
+          ap (total points_by) items.whole,
+          total-append points_by items.front
+              items.rest,
+          t.1,
+          m.1,
+          length-append (flat g) (flat_all gs),
+        ),
+      )
+
+-- ==== The items of a body that the machine ran through stay within the limits.
+
+-- if joined items are kept, so are the prefix and the rest
+pub kept_split : (most : ℕ) (is js : List Item) (e : Sums) → Kept most e (is ++ js) → Kept most e is
+    × Kept most (sums_after e is) js
+kept_split most [] js e k = (tt, k)
+kept_split most (i ∷ is) js e k = let t = kept_split most is js (added e i) k.1 in ((k.0, t.0), t.1)
+
+-- the counts and slots of a body that was kept
+abbrev SlotsKept : ℕ → List Slot → Type 0
+SlotsKept most [] = ⊤
+SlotsKept most (OfCount k n ∷ ps) = (IsDeep k most → n ≡ 0) × SlotsKept most ps
+SlotsKept most (OfId id ∷ ps) = SlotsKept most ps
+SlotsKept most (OfPoint q ∷ ps) = IsInRange q × SlotsKept most ps
+
+body_was : (most : ℕ) (p : Point) (ps : List Slot) (is : List Item) (e : Sums)
+    → AreFields (steps p ps) is → e.position ≡ p → Kept most e is → SlotsKept most ps
+body_was most p [] is e are here k = tt
+body_was most p (OfCount c n ∷ ps) [] e are here k = absurd are
+body_was most p (OfCount c n ∷ ps) (i ∷ is) e are here k =
+    let h : Here most e.position (Count c) i.number = subst (λ r. Here most e.position r i.number) are.0 k.0 in (
+      λ d. sym are.1 ∙ h d,
+      body_was most p ps is (added e i) are.3
+          (moved_count e.position c i.role i.number are.0 ∙ here) k.1,
+    )
+body_was most p (OfId id ∷ ps) [] e are here k = absurd are
+body_was most p (OfId id ∷ ps) (i ∷ is) e are here k = body_was most p ps is (added e i) are.3
+    (moved_id e.position i.role i.number are.0 ∙ here) k.1
+body_was most p (OfPoint q ∷ ps) [] e are here k = absurd are
+body_was most p (OfPoint q ∷ ps) (i ∷ []) e are here k = absurd are.3
+body_was most p (OfPoint q ∷ ps) (i ∷ j ∷ is) e are here k =
+    let x = moved_x e.position p q i.role i.number here are.0 are.1 in
+    let y = moved_y (added e i).position p q j.role j.number x are.3.0 are.3.1 in
+    let hx : IsCoordinate (e.position.x +ℤ unzigzag_of i.number) =
+    subst (λ r. Here most e.position r i.number) are.0 k.0 in
+    let hy : IsCoordinate ((added e i).position.y +ℤ unzigzag_of j.number) =
+    subst (λ r. Here most (added e i).position r j.number) are.3.0 k.1.0 in (
+      (
+        subst (λ z. IsCoordinate z) (ap (λ (r : Point). r.x +ℤ unzigzag_of i.number) here
+            ∙ (ap (λ n. p.x +ℤ unzigzag_of n) are.1 ∙ forth p.x q.x)) hx,
+        subst (λ z. IsCoordinate z) (ap (λ (r : Point). r.y +ℤ unzigzag_of j.number) x
+            ∙ (ap (λ n. p.y +ℤ unzigzag_of n) are.3.1 ∙ forth p.y q.y)) hy,
+      ),
+      body_was most q ps is (added (added e i) j) are.3.3 y k.1.1,
+    )
+
+all_slots : (most : ℕ) (ps : List Slot) → SlotsKept most ps → AllByRecursion IsInRange (slot_points ps)
+all_slots most [] k = tt
+all_slots most (OfCount c n ∷ ps) k = all_slots most ps k.1
+all_slots most (OfId id ∷ ps) k = all_slots most ps k
+all_slots most (OfPoint q ∷ ps) k = (k.0, all_slots most ps k.1)
+
+all_append : (xs ys : List Point) → AllByRecursion IsInRange xs → AllByRecursion IsInRange ys
+    → AllByRecursion IsInRange (xs ++ ys)
+all_append [] ys a b = b
+all_append (x ∷ xs) ys a b = (a.0, all_append xs ys a.1 b)
+
+-- the sums before the body of a frame
+before_body : (kind : ℕ) (p : ℤ) (own : Flags) (Body : List Item → Type 0) (is : List Item)
+    (e : Sums) → Framed kind p own Body is → Sums
+before_body kind p own Body is e f = sums_after
+    (sums_after (sums_after (added (added e (item Header (header_byte kind p)))
+    (item (Metadata kind) f.meta)) f.extended) f.size) f.box
+
+framed_was : (most kind : ℕ) (p : ℤ) (own : Flags) (Body : List Item → Type 0) (is : List Item)
+    (e : Sums) → (f : Framed kind p own Body is) → Kept most e is
+    → Kept most (before_body kind p own Body is e f) f.body × ((before_body kind p own Body is e f).position ≡ origin)
+unfolding before_body
+framed_was most kind p own Body is e f k = (d.1, there)
+  where
+    e1 : Sums
+    e1 = added (added e (item Header (header_byte kind p))) (item (Metadata kind) f.meta)
+
+    e2 : Sums
+    e2 = sums_after e1 f.extended
+
+    e3 : Sums
+    e3 = sums_after e2 f.size
+
+    last : Item
+    last = end_item (declared f.size) (f.box ++ f.body)
+
+    w : Kept most e (item Header (header_byte kind p) ∷ item (Metadata kind) f.meta ∷ f.extended
+        ++ (f.size ++ ((f.box ++ f.body) ++ last ∷ [])))
+    w = subst (λ l. Kept most e l) f.whole k
+
+    a : Kept most e1 f.extended × Kept most e2 (f.size ++ ((f.box ++ f.body) ++ last ∷ []))
+    a = kept_split most f.extended (f.size ++ ((f.box ++ f.body) ++ last ∷ [])) e1 w.1.1
+
+    b : Kept most e2 f.size × Kept most e3 ((f.box ++ f.body) ++ last ∷ [])
+    b = kept_split most f.size ((f.box ++ f.body) ++ last ∷ []) e2 a.1
+
+    c : Kept most e3 (f.box ++ f.body) × Kept most (sums_after e3 (f.box ++ f.body)) (last ∷ [])
+    c = kept_split most (f.box ++ f.body) (last ∷ []) e3 b.1
+
+    d : Kept most e3 f.box × Kept most (sums_after e3 f.box) f.body
+    d = kept_split most f.box f.body e3 c.0
+
+    there : (sums_after e3 f.box).position ≡ origin
+    there = still_after (where_set (bit f.meta 0) (Box ∷ Box ∷ Box ∷ Box ∷ [])) f.box e3
+        f.optional.box_is (still_where (bit f.meta 0) (Box ∷ Box ∷ Box ∷ Box ∷ [])
+        ((λ p n. refl), ((λ p n. refl), ((λ p n. refl), ((λ p n. refl), tt)))))
+        ∙ (still_after (where_set (bit f.meta 1) (Size ∷ [])) f.size e2 f.optional.size_is
+        (still_where (bit f.meta 1) (Size ∷ []) ((λ p n. refl), tt))
+        ∙ still_after (where_set (bit f.meta 3) (Extended ∷ [])) f.extended e1
+        f.optional.extended_is (still_where (bit f.meta 3) (Extended ∷ []) ((λ p n. refl), tt)))
+
+no_slots : (k : Kind) (p : ℤ) → AllByRecursion IsInRange (flat (Rattle.twkb_grammar.specs.Machine.empty_of k p))
+no_slots (SimpleKind Rattle.twkb_grammar.specs.Machine.PointForm) p = tt
+no_slots (SimpleKind Rattle.twkb_grammar.specs.Machine.LineForm) p = tt
+no_slots (SimpleKind Rattle.twkb_grammar.specs.Machine.PolygonForm) p = tt
+no_slots (SimpleKind Rattle.twkb_grammar.specs.Machine.MultiPointForm) p = tt
+no_slots (SimpleKind Rattle.twkb_grammar.specs.Machine.MultiLineForm) p = tt
+no_slots (SimpleKind Rattle.twkb_grammar.specs.Machine.MultiPolygonForm) p = tt
+no_slots CollectionKind p = tt
+
+simple_was : (most : ℕ) (s : Simple) (p : ℤ) (meta : ℕ) (body : List Item) (e : Sums) → IdsFit s
+    → Agrees (flags s) meta → (b : Bool) → bit meta 4 ≡ b → BodyAt b (AreFields (fields s)) body
+    → e.position ≡ origin → Kept most e body
+    → AllByRecursion IsInRange (points_in s)
+simple_was most s p meta body e fit agrees true bare is here k =
+    subst (λ g. AllByRecursion IsInRange (flat g)) (left_out s p meta fit agrees bare)
+    (no_slots (SimpleKind (form_of s)) p)
+simple_was most s p meta body e fit agrees false full is here k =
+    subst (λ l. AllByRecursion IsInRange l) (points_are s)
+    (all_slots most (slots s) (body_was most origin (slots s) body e
+    (subst (λ fs. AreFields fs body) (fields_are s) is) here k))
+
+abbrev MembersWere : ℕ → ℕ → Trees → Type 0
+MembersWere most level gs = (is : List Item) (e : Sums) → AreTrees gs → suc level ≤ most
+    → ItemsOfAll (suc level) gs is → Kept most e is → (nest_all gs + level ≤ most)
+    × AllByRecursion IsInRange (flat_all gs)
+
+inside : (most level n : ℕ) → (most ≤ level → suc n ≡ 0) → suc level ≤ most
+inside most level n deep = elim (cases_lt level most)
+    [ inl h ↦ h | inr h ↦ absurd (let z : suc n ≡ 0 = deep h in omega (arith, z)) ]
+
+gathered_was : (most level : ℕ) (ids : Ids) (gs : Trees) (meta : ℕ) (body : List Item) (e : Sums)
+    → AreTrees gs → level ≤ most → Agrees (flags_all ids gs) meta → MembersWere most level gs
+    → (b : Bool) → bit meta 4 ≡ b
+    → BodyAt b (Follow (AreFields ((Count (Geometries level), count gs) ∷ id_fields ids))
+    (ItemsOfAll (suc level) gs)) body → e.position ≡ origin → Kept most e body
+    → (nest_all gs + level ≤ most) × AllByRecursion IsInRange (flat_all gs)
+gathered_was most level ids end meta body e fits low agrees each b flag is here k = (omega (arith, low), tt)
+gathered_was most level None (g ▷ gs) meta body e fits low agrees each true bare is here k = absurd
+    (false≢true (sym agrees.0 ∙ bare))
+gathered_was most level (Some ids) (g ▷ gs) meta body e fits low agrees each true bare is here k =
+    absurd (false≢true (sym agrees.0 ∙ bare))
+gathered_was most level ids (g ▷ gs) meta body e fits low agrees each false full is here k =
+    let head : List Slot = OfCount (Geometries level) (suc (count gs)) ∷ id_slots ids ++ [] in
+    let two = kept_split most is.front is.rest e (subst (λ l. Kept most e l) is.whole k) in
+    let was = body_was most origin head is.front e
+    (subst (λ l. AreFields ((Count (Geometries level), suc (count gs)) ∷ l) is.front)
+    (names_steps ids) is.first) here two.0 in
+    let deep : most ≤ level → suc (count gs) ≡ 0 = was.0 in
+    each is.rest (sums_after e is.front) fits (inside most level (count gs) deep) is.second two.1
+
+mutual
+  pub tree_was : (g : Tree) (most level : ℕ) (is : List Item) (e : Sums) → IsTree g → level ≤ most
+      → Items level g is → Kept most e is → (nest g + level ≤ most)
+      × AllByRecursion IsInRange (flat g)
+  tree_was (simple p s) most level is e fits low items k =
+      let f = framed_was most (kind_of s) p (flags s) (AreFields (fields s)) is e items k in (
+        omega (arith, low),
+        simple_was most s p items.meta items.body
+            (before_body (kind_of s) p (flags s) (AreFields (fields s)) is e items) fits.1
+            items.agrees (bit items.meta 4) refl items.body_is f.1 f.0,
+      )
+  tree_was (collection p ids gs) most level is e fits low items k =
+      let Body : List Item → Type 0 = Follow (AreFields
+      ((Count (Geometries level), count gs) ∷ id_fields ids)) (ItemsOfAll (suc level) gs) in
+      let f = framed_was most 7 p (flags_all ids gs) Body is e items k in
+      gathered_was most level ids gs items.meta items.body
+      (before_body 7 p (flags_all ids gs) Body is e items) fits.2 low items.agrees
+      (members_were gs most level) (bit items.meta 4) refl items.body_is f.1 f.0
+
+  members_were : (gs : Trees) (most level : ℕ) → MembersWere most level gs
+  members_were end most level = λ is e fits low items k. (omega (arith, low), tt)
+  members_were (g ▷ gs) most level = λ is e fits low items k.
+      let two = kept_split most items.front items.rest e (subst (λ l. Kept most e l) items.whole k) in
+      let t = tree_was g most (suc level) items.front e fits.0 low items.first two.0 in
+      let m = members_were gs most level items.rest (sums_after e items.front) fits.1 low items.second two.1 in
+      (omega (arith, t.0, m.0), all_append (flat g) (flat_all gs) t.1 m.1)

@@ -13,7 +13,7 @@ use Rattle.twkb_tree.specs.Rows.{kind_in, own_points}
 use Rattle.twkb_grammar.specs.Items.{Slot, OfCount, OfId, OfPoint, fields, slots, run_of}
 use Rattle.twkb_grammar.specs.Items.{rings_of, id_slots, flags, members, parts}
 use Rattle.twkb_grammar.specs.Written.{varints, is_empty}
-use Rattle.twkb_grammar.proofs.Slots.{steps, slot_points, fields_are, points_are}
+use Rattle.twkb_grammar.proofs.Bodies.{steps, slot_points, fields_are, points_are}
 use Rattle.twkb_writer.specs.declared.totals.RowTotals.{RowTotals}
 use Rattle.twkb_writer.specs.Totals.{blank, lead_len, is_bare}
 use Rattle.twkb_writer.specs.Sizes.{parts_in, ids_in}

@@ -10,7 +10,7 @@ use Rattle.twkb_tree.specs.Tree.{Ids}
 use Rattle.twkb_tree.specs.Rows.{Row, plain_row, polygon_rows, ring_rows, rows_of_each, other_ids}
 use Rattle.twkb_grammar.specs.Items.{OfPoint, run_of, rings_of}
 use Rattle.twkb_grammar.specs.declared.style.Style.{Style}
-use Rattle.twkb_grammar.proofs.Slots.{reached, reached-append}
+use Rattle.twkb_grammar.proofs.Bodies.{reached, reached-append}
 use Rattle.twkb_writer.specs.declared.sizes.Entry.{Entry}
 use Rattle.twkb_writer.specs.Bytes.{rows_bytes, counts_bytes, members_below, step_bytes, way_bytes, way_end}
 use Rattle.twkb_writer.proofs.WayLemmas.{walked, walked-append, walked-points, reached-points}

@@ -18,7 +18,7 @@ use Rattle.twkb_grammar.specs.Items.{Slot, OfCount, OfPoint, id_slots, id_fields
 use Rattle.twkb_grammar.specs.Items.{run_of, rings_of, members as flags_of, flags_all}
 use Rattle.twkb_grammar.specs.Written.{varints, is_empty, canonical_blob, canonical_members}
 use Rattle.twkb_grammar.specs.declared.style.Style.{Style}
-use Rattle.twkb_grammar.proofs.Slots.{reached, fields_are}
+use Rattle.twkb_grammar.proofs.Bodies.{reached, fields_are}
 use Rattle.twkb_writer.specs.declared.sizes.Entry.{Entry}
 use Rattle.twkb_writer.specs.Bytes.{rows_bytes, counts_bytes, members_below, ids_bytes, way_bytes}
 use Rattle.twkb_writer.specs.Bytes.{way_end, is_bare, header}

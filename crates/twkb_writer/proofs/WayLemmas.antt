@@ -7,7 +7,7 @@ use Rattle.twkb_points.specs.Point.{Point}
 use Rattle.twkb_grammar.specs.Roles.{Field}
 use Rattle.twkb_grammar.specs.Items.{Slot, OfId, OfPoint, filled}
 use Rattle.twkb_grammar.specs.Written.{varints}
-use Rattle.twkb_grammar.proofs.Slots.{steps, reached}
+use Rattle.twkb_grammar.proofs.Bodies.{steps, reached}
 use Rattle.twkb_grammar.proofs.BodiesBack.{steps-append}
 use Rattle.twkb_writer.specs.Bytes.{signed, way_bytes, way_end}
 

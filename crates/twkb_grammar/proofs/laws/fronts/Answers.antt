@@ -1,5 +1,4 @@
-use Rattle.twkb_grammar.proofs.Parts.{front_runs, run_is_front}
-use Rattle.twkb_grammar.proofs.Completing.{filler}
+use Rattle.twkb_grammar.proofs.Parts.{front_runs, run_is_front, filler}
 use Rattle.std.specs.Prelude.{map}
 use Rattle.twkb_grammar.proofs.laws.fronts.Goals as goal
 

@@ -1,5 +1,5 @@
 use Rattle.twkb_grammar.proofs.NotedSpans.{blob_noted}
-use Rattle.twkb_grammar.proofs.Following.{goes_on, ends_blob}
+use Rattle.twkb_grammar.proofs.Standing.{goes_on, ends_blob}
 use Rattle.twkb_grammar.proofs.laws.noting.Goals as goal
 
 pub returns-clause-whole : goal.returns-clause-whole

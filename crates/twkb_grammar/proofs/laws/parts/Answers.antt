@@ -1,5 +1,5 @@
 use Rattle.twkb_grammar.proofs.Running.{ran_part, part_ran}
-use Rattle.twkb_grammar.proofs.PartBytes.{reached_part, blob_is_part, fault_behind}
+use Rattle.twkb_grammar.proofs.OneFault.{reached_part, blob_is_part, fault_behind}
 use Rattle.twkb_grammar.proofs.laws.parts.Goals as goal
 
 pub returns-clause-items : goal.returns-clause-items

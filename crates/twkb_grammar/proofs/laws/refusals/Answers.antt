@@ -1,5 +1,4 @@
-use Rattle.twkb_grammar.proofs.Refusing.{refusal_is_fault}
-use Rattle.twkb_grammar.proofs.Ranges.{allowed_else}
+use Rattle.twkb_grammar.proofs.Refusing.{refusal_is_fault, allowed_else}
 use Rattle.twkb_grammar.proofs.Running.{ran_fault}
 use Rattle.twkb_grammar.proofs.laws.refusals.Goals as goal
 

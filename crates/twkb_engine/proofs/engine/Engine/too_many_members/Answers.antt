@@ -1,5 +1,5 @@
 use Rattle.std.proofs.Common.{◌≡◌, ◌⊎◌, ◌<◌, ◌≤◌, ◌∙◌, [], length, true, inl, inr, sym, ap, arith, rules}
-use Rattle.twkb_grammar.proofs.Objections.{deep_refused}
+use Rattle.twkb_grammar.proofs.Running.{deep_refused}
 use Rattle.twkb_tree.specs.declared.kind.Kind.TheVariants.{Collection}
 use Rattle.twkb_body.specs.Head.{many_of}
 use Rattle.twkb_engine.specs.State.{sums_of}
