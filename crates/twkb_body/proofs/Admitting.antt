@@ -24,8 +24,8 @@ use Rattle.twkb_body.specs.Outline.{Outline, outline_role}
 use Rattle.twkb_body.specs.Growing.{Change, Nothing, NewRow, NewPoint, Takes, applied, change_of}
 use Rattle.twkb_body.specs.Reading.{Outlined, change_after, AtPoint}
 use Rattle.twkb_body.specs.Admitting.{Admits}
-use Rattle.twkb_body.proofs.PointPairs.{outlined_point, point_takes}
-use Rattle.twkb_body.proofs.LinePoints.{one_point_more}
+use Rattle.twkb_body.proofs.HeaderParts.{outlined_point, point_takes}
+use Rattle.twkb_body.proofs.PointRuns.{one_point_more}
 use Rattle.twkb_body.proofs.Outlined.{outlined_item, outlined_largest, outlined_takes, row_goes_on}
 
 -- valid rows have at most as many points as allowed

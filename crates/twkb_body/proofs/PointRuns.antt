@@ -1,31 +1,88 @@
--- Points that are complete at the start of bytes lead a body on; and the bytes up to one for which
--- there is no memory are a part.
-use Rattle.std.proofs.Common.{Result, Ok, Err, ◌≡◌, ℕ, zero, suc, ◌+◌, ◌-◌, ◌<◌, ◌≤◌, List, [], ◌∷◌, ◌++◌, length}
-use Rattle.std.proofs.Common.{take, drop, refl, sym, ap, ◌∙◌, subst, arith, length-append}
-use Rattle.std.proofs.lemmas.List.{length-take-le, take-take, take-append-le, take_all}
+-- Points and ids that are complete at the start of bytes lead on, and so do the bytes up to one for which there is
+-- no memory.
+use Rattle.std.proofs.Common.{◌≡◌, ℕ, zero, suc, ◌+◌, ◌-◌, ◌≤◌, List, ◌++◌, length, take, drop, subst, Result, Some, Ok}
+use Rattle.std.proofs.Common.{Err, OnErr, arith, ◌<◌, [], ◌∷◌, refl, sym, ap, ◌∙◌, length-append}
+use Rattle.std.proofs.lemmas.List.{length-take-le, take-take, take-append-le, take_all, take_rest}
 use Rattle.std.specs.Prelude.{Option, ℤ, IsErr}
 use Rattle.twkb_num.specs.Varint.{HasMarks}
+use Rattle.twkb_num.specs.Zigzag.{unzigzag_of}
 use Rattle.twkb_points.specs.Point.{Point}
-use Rattle.twkb_tree.specs.declared.kind.Kind.TheVariants as kinds
+use Rattle.twkb_points.specs.Steps.{AreStepsTo, last_of, varint_step}
+use Rattle.twkb_tree.specs.Limits.{Allowance}
+use Rattle.twkb_tree.specs.Rows.{Row, plain_row, first_id, other_ids, row_points}
 use Rattle.twkb_tree.specs.Tree.{Ids}
-use Rattle.twkb_tree.specs.Rows.{Row, plain_row, first_id, other_ids}
-use Rattle.twkb_tree.specs.RowGrowth.{point_added}
-use Rattle.twkb_grammar.specs.Machine.{BodyForm, PointForm, LineForm, PolygonForm, MultiPointForm, MultiLineForm}
-use Rattle.twkb_grammar.specs.Machine.{MultiPolygonForm}
-use Rattle.twkb_body.specs.Outline.{FrameOutline, Stage, OnBody, Wanted, shut, next_ids}
+use Rattle.twkb_tree.specs.RowGrowth.{point_added, EndsInLine, with_point, points_added}
+use Rattle.twkb_tree.specs.declared.kind.Kind.TheVariants as kinds
+use Rattle.twkb_tree.specs.declared.limits.TheConstants.{POINTS_CAP}
+use Rattle.twkb_tree.proofs.PointAdded.{point_last}
+use Rattle.twkb_tree.proofs.RowLaws.{row_points-append}
+use Rattle.twkb_grammar.specs.Roles.{Role, Item, Id}
+use Rattle.twkb_grammar.specs.Fault.{Reason}
+use Rattle.twkb_grammar.specs.Machine.{Sums, BodyForm, PointForm, LineForm, PolygonForm, MultiPointForm, MultiLineForm}
+use Rattle.twkb_grammar.specs.Machine.{MultiPolygonForm, added}
+use Rattle.twkb_grammar.proofs.OneFault.{NoEnd}
+use Rattle.twkb_body.specs.Outline.{Outline, Stage, OnHeader, OnMetadata, OnId, OnBody, OnFinished, Wanted, WantedY}
+use Rattle.twkb_body.specs.Outline.{Full, stage_role, FrameOutline, shut, next_ids}
+use Rattle.twkb_body.specs.Reading.{Outlined, OutlineLanded, Pair, sums_past}
+use Rattle.twkb_body.specs.JudgedParts.{IsJudged, PartIn, IsPastEnds, Passes}
 use Rattle.twkb_body.specs.Growing.{applied, NewPoint, point_change, id_in}
-use Rattle.twkb_body.specs.Reading.{Pair, sums_past}
 use Rattle.twkb_body.specs.Noting.{NotedOutline}
-use Rattle.twkb_body.specs.JudgedParts.{IsPastEnds, IsJudged}
-use Rattle.twkb_body.proofs.NotedPairs.{noted_x, noted_point}
-use Rattle.twkb_body.proofs.NotedJoins.{noted_still, noted_join}
-use Rattle.twkb_body.proofs.Judging.{outlined_judged, part_further}
-use Rattle.twkb_body.proofs.Pieces.{used_join, one_within}
-use Rattle.twkb_body.specs.Front.{PointInFront}
+use Rattle.twkb_body.specs.Front.{PointInFront, NumberInFront, PointsInFront}
 use Rattle.twkb_body.specs.Head.{head_of, IsHeadAt}
-use Rattle.twkb_body.specs.Running.{HasLists, StageRuns, StageStops, MembersLead, in_list}
+use Rattle.twkb_body.specs.Running.{HasLists, StageRuns, StageStops, MembersLead, in_list, IdsRun, IdsStop, ListGoesOn}
+use Rattle.twkb_body.specs.Running.{ListStops}
 use Rattle.twkb_body.specs.declared.head.Head.{Head}
 use Rattle.twkb_body.specs.declared.list_points.Taken.{Taken}
+use Rattle.twkb_body.proofs.Outlined.{outlined_part, noted_item, outlined_exact}
+use Rattle.twkb_body.proofs.InFront.{one_front, one_within, used_join, points_in_front}
+use Rattle.twkb_body.proofs.HeaderParts.{noted_x, noted_point, noted_still, noted_join, sums_same}
+
+-- ==== The bytes were judged if the ends after an item are passed, or if none comes; and a part that ends in the rest
+-- of a piece ends in the piece.
+
+-- no geometry's end comes next
+next_no_end : (level bytes : ℕ) (s : Stage) (role : Role) → IsPastEnds s
+    → stage_role level bytes s ≡ Some role → NoEnd role
+next_no_end level bytes OnHeader role past says = λ d c e. cc
+next_no_end level bytes (OnMetadata k p) role past says = λ d c e. cc
+next_no_end level bytes (OnId m h members ids left) role past says = λ d c e. cc
+next_no_end level bytes (OnBody h f ids (Wanted zero lefts)) role past says = λ d c e. cc
+next_no_end level bytes (OnBody h f ids (Wanted (suc inner) lefts)) role past says = λ d c e. cc
+next_no_end level bytes (OnBody h f ids (WantedY lefts)) role past says = λ d c e. cc
+next_no_end level bytes (OnBody h f ids Full) role past says = absurd cc
+next_no_end level bytes OnFinished role past says = absurd cc
+next_no_end level bytes _ role past says = absurd past
+
+pub outlined_judged : (limits : Allowance) (bytes : List ℕ) (e : Sums) (o : Outline) (rs : List Row)
+    → Outlined limits bytes e o rs → IsPastEnds o.1 → IsJudged limits bytes
+outlined_judged limits bytes e o rs r past = record {
+  part = outlined_part limits bytes e o rs r;
+  exact = λ more. outlined_exact limits bytes more e o rs r (λ role. next_no_end (length o.0) e.bytes o.1 role past);
+}
+
+pub landed_judged : (limits : Allowance) (bytes : List ℕ) (e : Sums) (rs : List Row)
+    (way : Result Outline Reason) → OutlineLanded limits bytes e rs way → Passes way
+    → IsJudged limits bytes
+landed_judged limits bytes e rs (Ok o) l past = outlined_judged limits bytes e o rs l past
+landed_judged limits bytes e rs (Err x) l past = absurd past
+
+-- what is true in any case is true if an error is returned
+pub on_err : {A E P : Type 0} (r : Result A E) → P → OnErr r P
+on_err (Ok x) p = tt
+on_err (Err e) p = p
+
+pub part_further : (limits : Allowance) (bs piece : List ℕ) (used : ℕ) → used ≤ length piece
+    → PartIn limits (bs ++ take used piece) (take (length piece - used) (drop used piece))
+    → PartIn limits bs piece
+part_further limits bs piece used within p = record {
+  used = used + p.used;
+  some = (let some = p.some in omega (arith, some));
+  within = one_within piece used p.used within p.within;
+  part = subst (IsJudged limits) (one_front bs piece used p.used) p.part;
+}
+
+-- ==== Points that are complete at the start of bytes lead a body on; and the bytes up to one for which there is no
+-- memory are a part.
 
 -- what every error has
 pub err_only : {A E : Type 0} (P : Result A E → Type 0) (r : Result A E) → IsErr r
@@ -234,3 +291,205 @@ members_stop rs mid ids between depth most left count from to bytes t l some cut
     (stage_judged h _ (in_members h (other_ids between) (left - 1)) mid _ t.position to _ count
     cut.some cut.within tt
     (member_runs h between (other_ids between) mid _ left count t.position to _ some cut refl refl))
+
+-- ==== Ids that are complete at the start of the bytes lead on; and the bytes up to one for which there is no memory
+-- are a part.
+
+-- no ids
+pub no_ids : (ids : List ℤ) (left : ℕ) → IdsRun ids left [] ids left
+no_ids ids left = λ h m members rs at. stage_none h (OnId m (head_of h) members ids left) rs at
+
+-- an id that others follow
+id_runs : (ids : List ℤ) (left n count : ℕ) (bytes : List ℕ) → 0 < left
+    → NumberInFront bytes n count
+    → IdsRun ids left (take count bytes) (ids ++ unzigzag_of n ∷ []) (left - 1)
+id_runs ids zero n count bytes some front = absurd (omega (arith, some))
+id_runs ids (suc left) n count bytes some front =
+    let less : suc left - 1 ≡ left = omega arith in
+    rw less (λ h m members rs at limits e before gs told there i.
+    let xs = take count bytes in
+    let item : Item = record { role = Id; number = n; bytes = xs } in
+    let next : Stage = OnId m (head_of h) members (ids ++ unzigzag_of n ∷ []) left in
+    let sums : added e item ≡ sums_past e xs at = sums_same refl there (omega arith) (omega arith) in
+    subst (λ s. NotedOutline limits (before ++ xs) s (gs, next) rs told) sums
+    (noted_item limits before e _ rs told item i.outlined refl front.spelled refl))
+
+-- ids, and then one more
+pub ids_more : (ids mid : List ℤ) (left between n used count : ℕ) (bytes : List ℕ)
+    → IdsRun ids left (take used bytes) mid between → 0 < between
+    → NumberInFront (take (length bytes - used) (drop used bytes)) n count
+    → IdsRun ids left (take (used + count) bytes) (mid ++ unzigzag_of n ∷ []) (between - 1)
+ids_more ids mid left between n used count bytes first some front = λ h m members rs at.
+    stage_more h _ _ _ _ _ _ _ _ _ bytes used count (first h m members rs at)
+    (id_runs mid between n count _ some front h m members rs at)
+
+-- ids, and then one for which there is no memory
+pub ids_stop : (ids mid : List ℤ) (left between used count n : ℕ) (bytes : List ℕ)
+    → used ≤ length bytes → IdsRun ids left (take used bytes) mid between → 0 < between
+    → NumberInFront (take (length bytes - used) (drop used bytes)) n count
+    → IdsStop ids left bytes
+ids_stop ids mid left between used count n bytes within first some front = λ h m members rs at.
+    stage_stops h _ _ _ _ _ _ bytes used within (first h m members rs at)
+    (stage_judged h _ _ rs rs at at _ count front.some front.within tt
+    (id_runs mid between n count _ some front h m members rs at))
+
+-- ==== The last row, that of a line, with one more point.
+
+-- the last row is still that of a line
+pub ends_again : (p : Point) (rs : List Row) → EndsInLine rs → EndsInLine (point_added p rs)
+ends_again p rs e = record {
+  front = e.front;
+  last = with_point e.last p;
+  line = e.line;
+  whole = ap (point_added p) e.whole ∙ point_last p e.front e.last;
+}
+
+-- there is one more point
+pub one_point_more : (p : Point) (rs : List Row) → EndsInLine rs
+    → length (row_points (point_added p rs)) ≡ length (row_points rs) + 1
+one_point_more p rs e =
+    let before : length (row_points rs) ≡ length (row_points e.front) + length (row_points (e.last ∷ [])) =
+    ap (λ (l : List Row). length (row_points l)) e.whole
+    ∙ (ap (λ (l : List Point). length l) (row_points-append e.front (e.last ∷ []))
+    ∙ length-append (row_points e.front) (row_points (e.last ∷ []))) in
+    let after : length (row_points (point_added p rs)) ≡ length (row_points e.front) + length
+    (row_points (with_point e.last p ∷ [])) =
+    ap (λ (l : List Row). length (row_points l)) (ap (point_added p) e.whole ∙ point_last p e.front e.last)
+    ∙ (ap (λ (l : List Point). length l) (row_points-append e.front (with_point e.last p ∷ []))
+    ∙ length-append (row_points e.front) (row_points (with_point e.last p ∷ []))) in
+    omega (
+      arith,
+      before,
+      after,
+      length-append e.last.points [],
+      length-append (e.last.points ++ p ∷ []) [],
+      length-append e.last.points (p ∷ []),
+    )
+
+-- ==== Points of a list that are complete at the start of bytes lead its body on; and the bytes up to one for which
+-- there is no memory are a part.
+
+-- no points
+pub list_none : (rs : List Row) (from : Point) (bytes : List ℕ) (most : ℕ) → EndsInLine rs
+    → length (row_points rs) + most ≤ POINTS_CAP
+    → ListGoesOn rs from bytes most (record { used = 0; position = from }) most rs
+list_none rs from bytes most line room = record {
+  leads = record {
+    within = omega arith;
+    few = omega arith;
+    long = omega arith;
+    run = λ h f ids outer others listed same.
+        stage_none h (in_list h f ids (most + others) outer) rs from;
+  };
+  line = line;
+  room = room;
+}
+
+-- points, and then others
+pub list_on : {rs mid more : List Row} {most left rest : ℕ} {from : Point} {bytes : List ℕ}
+    {t u : Taken} → ListGoesOn rs from bytes most t left mid
+    → ListGoesOn mid t.position (take (length bytes - t.used) (drop t.used bytes)) left u rest more
+    → (let both : Taken = record { used = t.used + u.used; position = u.position } in
+    ListGoesOn rs from bytes most both rest more)
+list_on {bytes = bytes} {t = t} {u = u} a b = record {
+  leads = record {
+    within = one_within bytes t.used u.used a.leads.within b.leads.within;
+    few = omega (arith, a.leads.few, b.leads.few);
+    long = omega (arith, a.leads.long, b.leads.long);
+    run = λ h f ids outer others listed same.
+        stage_more h _ _ _ _ _ _ _ _ _ bytes t.used u.used (a.leads.run h f ids outer others listed same)
+        (b.leads.run h f ids outer others listed same);
+  };
+  line = b.line;
+  room = b.room;
+}
+
+-- points, and then one for which there is no memory
+pub list_stops_on : {rs mid : List Row} {most left : ℕ} {from : Point} {bytes : List ℕ} {t : Taken}
+    → ListGoesOn rs from bytes most t left mid
+    → ListStops mid t.position left (take (length bytes - t.used) (drop t.used bytes))
+    → ListStops rs from most bytes
+list_stops_on {bytes = bytes} {t = t} a stops = λ h f ids outer others listed same.
+    stage_stops h _ _ _ _ _ _ bytes t.used a.leads.within (a.leads.run h f ids outer others listed same)
+    (stops h f ids outer others listed same)
+
+-- one point
+pub list_one : {rs more : List Row} {most count : ℕ} {from p : Point} {bytes : List ℕ}
+    → EndsInLine rs → length (row_points rs) + most ≤ POINTS_CAP → 0 < most
+    → PointInFront from bytes p count → more ≡ point_added p rs
+    → ListGoesOn rs from bytes most (record { used = count; position = p }) (most - 1) more
+list_one {rs = rs} {more = more} {most = most} {count = count} {from = from} {p = p} {bytes = bytes}
+    line room some cut added = record {
+      leads = record {
+        within = cut.within;
+        few = omega arith;
+        long = omega (arith, cut.some);
+        run = λ h f ids outer others listed same.
+            let less : (most + others) - 1 ≡ (most - 1) + others = omega (arith, some) in
+            subst (λ n. StageRuns h (in_list h f ids (most + others) outer) rs from (take count bytes)
+            (in_list h f ids n outer) more p) less
+            (list_runs h f ids outer rs more (most + others) count from p bytes (omega (arith, some))
+            listed same cut added);
+      };
+      line = subst EndsInLine (sym added) (ends_again p rs line);
+      room = omega (arith, room, ap (λ (l : List Row). length (row_points l)) added, one_point_more p rs line);
+    }
+
+-- a point for which there is no memory
+pub list_one_stop : (rs : List Row) (most count : ℕ) (from p : Point) (bytes : List ℕ) → 0 < most
+    → PointInFront from bytes p count → ListStops rs from most bytes
+list_one_stop rs most count from p bytes some cut = λ h f ids outer others listed same.
+    list_judged h f ids outer rs (most + others) count from p bytes (omega (arith, some)) same cut
+
+-- these points, at most as many as are left
+points_lead : (ps : List Point) (rs more : List Row) (most count : ℕ) (from : Point)
+    (bytes : List ℕ) → EndsInLine rs → length (row_points rs) + most ≤ POINTS_CAP → length ps ≤ most
+    → PointsInFront from bytes ps count → more ≡ points_added ps rs
+    → ListGoesOn rs from bytes most (record { used = count; position = last_of from ps })
+    (most - length ps) more
+points_lead [] rs more most count from bytes line room few none added =
+    let all : most - 0 ≡ most = omega arith in
+    rw (added, none, all) (list_none rs from bytes most line room)
+points_lead (p ∷ ps) rs more most count from bytes line room few (w, v, is, cut, rest) added =
+    let n = most - 1 in
+    let left : n - length ps ≡ most - suc (length ps) = omega arith in
+    let one : Taken = record { used = w; position = p } in
+    let first : ListGoesOn rs from bytes most one n (point_added p rs) =
+    list_one line room (omega (arith, few)) cut refl in
+    rw (is, ← left) (list_on first
+    (points_lead ps (point_added p rs) more n v p _ first.line first.room (omega arith)
+    (subst (λ bs. PointsInFront p bs ps v) (sym (take_rest bytes w)) rest) added))
+
+-- so many points, the last of them named
+pub list_points : (ps : List Point) (to : Point) (n : ℕ) (rs more : List Row) (most count : ℕ)
+    (from : Point) (bytes : List ℕ) → length ps ≡ n → last_of from ps ≡ to → EndsInLine rs
+    → length (row_points rs) + most ≤ POINTS_CAP → n ≤ most → PointsInFront from bytes ps count
+    → more ≡ points_added ps rs
+    → ListGoesOn rs from bytes most (record { used = count; position = to }) (most - n) more
+list_points ps to n rs more most count from bytes many last line room few cut added =
+    rw (← many, ← last)
+    (points_lead ps rs more most count from bytes line room (omega arith) cut added)
+
+-- two points, by their steps
+pub list_two : {rs more : List Row} {most count : ℕ} {from p q : Point} {bytes : List ℕ}
+    → EndsInLine rs → length (row_points rs) + most ≤ POINTS_CAP → 1 < most
+    → AreStepsTo varint_step from bytes (p ∷ q ∷ []) count → more ≡ point_added q (point_added p rs)
+    → ListGoesOn rs from bytes most (record { used = count; position = q }) (most - 2) more
+list_two {from = from} {p = p} {q = q} {bytes = bytes} line room some steps added =
+    points_lead (p ∷ q ∷ []) _ _ _ _ from bytes line room (omega arith)
+    (points_in_front (p ∷ q ∷ []) from bytes _ steps) added
+
+-- so many points for which there is no memory
+pub list_points_stop : (ps : List Point) (rs : List Row) (most count : ℕ) (from : Point)
+    (bytes : List ℕ) → 0 < length ps → length ps ≤ most → PointsInFront from bytes ps count
+    → ListStops rs from most bytes
+list_points_stop [] rs most count from bytes some few cut = absurd (omega (arith, some))
+list_points_stop (p ∷ ps) rs most count from bytes some few (w, v, is, cut, rest) =
+    list_one_stop rs most w from p bytes (omega (arith, few)) cut
+
+-- two points, by their steps, for which there is no memory
+pub list_two_stop : {rs : List Row} {most count : ℕ} {from p q : Point} {bytes : List ℕ} → 1 < most
+    → AreStepsTo varint_step from bytes (p ∷ q ∷ []) count → ListStops rs from most bytes
+list_two_stop {rs = rs} {most = most} {count = count} {from = from} {p = p} {q = q} {bytes = bytes} some steps =
+    list_points_stop (p ∷ q ∷ []) rs most count from bytes (omega arith) (omega (arith, some))
+    (points_in_front (p ∷ q ∷ []) from bytes count steps)

@@ -21,12 +21,12 @@ use Rattle.twkb_body.specs.Growing.{id_in}
 use Rattle.twkb_body.specs.Noting.{NotedOutline, notes_in}
 use Rattle.twkb_body.specs.JudgedParts.{IsJudged, PartIn}
 use Rattle.twkb_body.proofs.Outlined.{noted_item}
-use Rattle.twkb_body.proofs.Judging.{outlined_judged}
-use Rattle.twkb_body.proofs.Pieces.{used_join}
+use Rattle.twkb_body.proofs.PointRuns.{outlined_judged}
+use Rattle.twkb_body.proofs.InFront.{used_join}
 use Rattle.twkb_body.specs.Header.{HeaderInFront}
 use Rattle.twkb_body.specs.OptionalParts.{PartsInFront, sized_head}
 use Rattle.twkb_body.specs.declared.header.FrontHeader.{FrontHeader}
-use Rattle.twkb_body.proofs.PartsInFront.{read_ahead}
+use Rattle.twkb_body.proofs.HeaderParts.{read_ahead}
 use Rattle.twkb_body.specs.Head.{kind_of, IsHeadAt}
 use Rattle.twkb_engine.specs.State.{stage_at, outline_in, sums_of, IsPlaced}
 use Rattle.twkb_engine.specs.Collections.{frames_of}

@@ -15,8 +15,7 @@ use Rattle.twkb_grammar.specs.Roles.{Role}
 use Rattle.twkb_grammar.specs.Blob.{Blob}
 use Rattle.twkb_grammar.specs.Noting.{Notes}
 use Rattle.twkb_body.specs.JudgedParts.{IsJudged}
-use Rattle.twkb_body.proofs.FrontNumbers.{long_in_ten}
-use Rattle.twkb_body.proofs.Pieces.{one_front, one_within}
+use Rattle.twkb_body.proofs.InFront.{long_in_ten, one_front, one_within}
 use Rattle.twkb_engine.specs.Fits.{IsByte}
 use Rattle.twkb_engine.specs.Notes.{NotesGo, notes_with}
 use Rattle.twkb_engine.specs.State.{IsNext, IsPlaced}

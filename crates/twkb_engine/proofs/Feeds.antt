@@ -19,7 +19,7 @@ use Rattle.twkb_body.specs.Growing.{applied}
 use Rattle.twkb_body.specs.Noting.{NotedOutline, notes_in}
 use Rattle.twkb_body.specs.JudgedParts.{PartIn, Passes}
 use Rattle.twkb_body.proofs.Outlined.{outlined_bytes, outlined_long, outlined_ends, outlined_refused, noted_item}
-use Rattle.twkb_body.proofs.Judging.{landed_judged}
+use Rattle.twkb_body.proofs.PointRuns.{landed_judged}
 use Rattle.twkb_body.specs.Reading.{Outlined, OutlineLanded, outline_after, change_after}
 use Rattle.twkb_engine.specs.Fits.{IsByte}
 use Rattle.twkb_engine.specs.Notes.{NotesGo, notes_with, open_in}

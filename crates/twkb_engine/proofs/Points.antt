@@ -12,7 +12,7 @@ use Rattle.twkb_body.specs.Admitting.{Admits}
 use Rattle.twkb_body.specs.Reading.{Outlined}
 use Rattle.twkb_body.specs.Noting.{NotedOutline, notes_in}
 use Rattle.twkb_body.proofs.Admitting.{admitted_by, point_admitted}
-use Rattle.twkb_body.proofs.NotedPairs.{noted_point}
+use Rattle.twkb_body.proofs.HeaderParts.{noted_point}
 use Rattle.twkb_body.specs.Front.{PointInFront}
 use Rattle.twkb_body.specs.Head.{head_of, form_of}
 use Rattle.twkb_body.specs.Ids.{ids_of}

@@ -21,8 +21,8 @@ use Rattle.twkb_body.specs.Outline.{OnHeader, OnEnd, outline_of, outline_past_en
 use Rattle.twkb_body.specs.Reading.{Outlined, OutlineLanded}
 use Rattle.twkb_body.specs.JudgedParts.{PartIn, IsJudged}
 use Rattle.twkb_body.proofs.Outlined.{outlined_start, outlined_ends, outlined_whole, outlined_bytes}
-use Rattle.twkb_body.proofs.PointHeaders.{HeaderRead, sums_behind, bare_header_read, sized_header_read}
-use Rattle.twkb_body.proofs.PointHeaders.{header_point_read}
+use Rattle.twkb_body.proofs.HeaderParts.{HeaderRead, sums_behind, bare_header_read, sized_header_read}
+use Rattle.twkb_body.proofs.HeaderParts.{header_point_read}
 use Rattle.twkb_body.specs.Whole.{WholePoint, metadata_with, header_bytes}
 use Rattle.twkb_engine.specs.State.{sums_of, outline_in, stage_at}
 use Rattle.twkb_engine.specs.Taking.{BeginsAt}

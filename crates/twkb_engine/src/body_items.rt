@@ -37,7 +37,7 @@ impl Engine {
     // next. Returns false, as no blob ends with an x. Refused if x is then outside -2^62 to
     // 2^62 - 1. Takes no memory.
     #[inline(always)]
-    #[tactic(auto, using(twkb_body::proofs::Ranges::ranges))]
+    #[tactic(auto, using(twkb_body::proofs::InFront::ranges))]
     pub(crate) fn x(&mut self, number: u64, width: u64) -> Result<bool, Stop>
         requires next { self.old.next ≡ next.X }
         requires room { self.old.start + (self.old.bytes + width) ≤ place_cap }
@@ -58,7 +58,7 @@ impl Engine {
     // The position after the step along y that this number spells in zigzag form; `None` if y is
     // then outside -2^62 to 2^62 - 1.
     #[inline(always)]
-    #[tactic(auto, using(twkb_body::proofs::Ranges::ranges))]
+    #[tactic(auto, using(twkb_body::proofs::InFront::ranges))]
     fn moved_y(&self, number: u64) -> Option<Pt>
         ensures moved { IfSome result (λ to. to ≡ moved self.now.position role.Y number) }
         ensures free { IfSome result (λ to. IsFree role.Y number self.now) }

@@ -1,5 +1,5 @@
 use Rattle.std.proofs.Common.{refl}
-use Rattle.twkb_body.proofs.Growths.{stack_grows, rows_at_ends}
+use Rattle.twkb_body.proofs.Outlined.{stack_grows, rows_at_ends}
 use Rattle.twkb_body.proofs.laws.grows.Goals as goal
 
 pub returns-clause-item : goal.returns-clause-item

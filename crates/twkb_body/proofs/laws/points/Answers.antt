@@ -1,5 +1,4 @@
-use Rattle.twkb_body.proofs.PointPairs.{outlined_point, point_takes}
-use Rattle.twkb_body.proofs.NotedPairs.{noted_point}
+use Rattle.twkb_body.proofs.HeaderParts.{outlined_point, point_takes, noted_point}
 use Rattle.twkb_body.proofs.laws.points.Goals as goal
 
 pub returns-clause-taken : goal.returns-clause-taken

@@ -1,4 +1,4 @@
-use Rattle.twkb_body.proofs.Validity.{reached_valid, stack_takes}
+use Rattle.twkb_body.proofs.Outlined.{reached_valid, stack_takes}
 use Rattle.twkb_body.proofs.laws.valid.Goals as goal
 
 pub returns-clause-rows : goal.returns-clause-rows

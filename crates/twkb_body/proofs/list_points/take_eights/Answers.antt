@@ -1,9 +1,8 @@
 use Rattle.std.proofs.Common.{◌+◌, ◌-◌, ◌<◌, ◌^◌, arith, rules, length}
 use Rattle.twkb_num.proofs.BlockLemmas.{ends_after, no_ends}
 use Rattle.twkb_body.specs.Running.{ListGoesOn, GoesOn}
-use Rattle.twkb_body.proofs.PointRuns.{err_only}
-use Rattle.twkb_body.proofs.PointLists.{list_none, list_on, list_stops_on, list_points, list_points_stop}
-use Rattle.twkb_body.proofs.StepsInFront.{points_in_front}
+use Rattle.twkb_body.proofs.PointRuns.{err_only, list_none, list_on, list_stops_on, list_points, list_points_stop}
+use Rattle.twkb_body.proofs.InFront.{points_in_front}
 use Rattle.twkb_body.proofs.list_points.take_eights.Goals as goal
 
 pub loop-left-init : goal.loop-left-init

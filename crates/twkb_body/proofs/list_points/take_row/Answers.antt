@@ -1,7 +1,6 @@
 use Rattle.twkb_body.specs.Running.{TakesRow}
-use Rattle.twkb_body.proofs.PointRuns.{err_only}
-use Rattle.twkb_body.proofs.PointLists.{list_none, list_on, list_stops_on, list_one, list_one_stop}
-use Rattle.twkb_body.proofs.PointLists.{list_two, list_two_stop}
+use Rattle.twkb_body.proofs.PointRuns.{err_only, list_none, list_on, list_stops_on, list_one, list_one_stop, list_two}
+use Rattle.twkb_body.proofs.PointRuns.{list_two_stop}
 use Rattle.twkb_body.proofs.list_points.take_row.Goals as goal
 
 pub loop-left-init : goal.loop-left-init

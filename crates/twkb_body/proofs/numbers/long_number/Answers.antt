@@ -2,7 +2,7 @@ use Rattle.std.proofs.Common.{◌≡◌, ◌∙◌, ◌++◌, ◌∷◌, length,
 use Rattle.std.proofs.Math.Seq.{split_at, take-length}
 use Rattle.std.proofs.Math.ListN.{get_or}
 use Rattle.twkb_grammar.specs.Fault.{IsTooLong, IsCut}
-use Rattle.twkb_body.proofs.FrontNumbers.{open_is_cut, refused_is_long}
+use Rattle.twkb_body.proofs.InFront.{open_is_cut, refused_is_long}
 use Rattle.twkb_body.proofs.numbers.long_number.Goals as goal
 
 pub returns-in-TooLong : goal.returns-in-TooLong

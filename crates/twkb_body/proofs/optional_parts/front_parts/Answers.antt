@@ -1,5 +1,5 @@
 use Rattle.std.proofs.Common.{sym, ◌∙◌}
-use Rattle.twkb_body.proofs.PartsInFront.{parts_whole}
+use Rattle.twkb_body.proofs.HeaderParts.{parts_whole}
 use Rattle.twkb_body.proofs.optional_parts.front_parts.Goals as goal
 
 pub returns : goal.returns

@@ -1,5 +1,5 @@
 use Rattle.std.proofs.lemmas.Int.{to_z-of_z}
-use Rattle.twkb_body.proofs.StepsInFront.{step_if}
+use Rattle.twkb_body.proofs.InFront.{step_if}
 use Rattle.twkb_body.proofs.points.after_steps.Goals as goal
 
 pub returns : goal.returns

@@ -1,5 +1,5 @@
 use Rattle.std.proofs.Common.{rules, ◌+◌, ◌≤◌, length, arith}
-use Rattle.twkb_body.proofs.Pieces.{one_within}
+use Rattle.twkb_body.proofs.InFront.{one_within}
 use Rattle.twkb_engine.proofs.Answering.{none_fed, joined, ready_left, few_used, same_stop}
 use Rattle.twkb_engine.proofs.engine.Engine.feed_items.Goals as goal
 

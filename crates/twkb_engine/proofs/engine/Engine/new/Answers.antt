@@ -1,5 +1,5 @@
 use Rattle.std.proofs.Common.{rules, ap, [], sym, refl, inr}
-use Rattle.twkb_body.proofs.Starts.{starts_at}
+use Rattle.twkb_body.proofs.Outlined.{starts_at}
 use Rattle.twkb_engine.specs.Collections.{frames_of}
 use Rattle.twkb_engine.proofs.engine.Engine.new.Goals as goal
 

@@ -2,7 +2,7 @@ use Rattle.std.proofs.Common.{rules, ◌≡◌, ◌∙◌, ◌++◌, ◌∷◌, 
 use Rattle.std.proofs.Math.Logic.{∥∥₁_map}
 use Rattle.twkb_num.proofs.VarintLemmas.{varint_is}
 use Rattle.twkb_grammar.specs.Reading.{Gives}
-use Rattle.twkb_body.proofs.FrontNumbers.{refused_is_long}
+use Rattle.twkb_body.proofs.InFront.{refused_is_long}
 use Rattle.twkb_engine.specs.Fits.{IsByte}
 use Rattle.twkb_engine.specs.Standing.{held_in}
 use Rattle.twkb_engine.proofs.Steps.{next_role, byte_written, all_whole, stands_else}

@@ -6,7 +6,7 @@ use Rattle.twkb_grammar.specs.Machine as machine
 use Rattle.twkb_grammar.specs.Machine.{kind_at, kind_number}
 use Rattle.twkb_body.specs.Outline.{begins}
 use Rattle.twkb_body.specs.Growing.{id_in}
-use Rattle.twkb_body.proofs.Judging.{on_err}
+use Rattle.twkb_body.proofs.PointRuns.{on_err}
 use Rattle.twkb_body.specs.OptionalParts.{sized_head}
 use Rattle.twkb_body.specs.Head.{kind_of, IsHeadAt}
 use Rattle.twkb_body.specs.declared.head.Head as place
