@@ -16,8 +16,7 @@ use Rattle.twkb_engine.specs.Standing.{IsAlive, StandsAt, count_of, held_in}
 use Rattle.twkb_engine.specs.Taking.{BeginsAt}
 use Rattle.twkb_engine.specs.declared.engine.Engine.{Engine}
 use Rattle.twkb_engine.proofs.Feeds.{count_is}
-use Rattle.twkb_engine.proofs.RootPoints.{begins}
-use Rattle.twkb_engine.proofs.Steps.{stands_begun}
+use Rattle.twkb_engine.proofs.Steps.{begins, stands_begun}
 use Rattle.twkb_blob.specs.Feeding.{Reads}
 use Rattle.twkb_blob.specs.Located.{ReadsInto, ReadsWith}
 use Rattle.twkb_blob.specs.Readers.{IsAtBlob, reader_input, reader_limits}

@@ -23,7 +23,7 @@ use Rattle.twkb_io.specs.Inputs.{given, rest_of}
 use Rattle.twkb_engine.specs.Standing.{StandsAt, count_of, held_in, notes_at}
 use Rattle.twkb_engine.specs.declared.engine.Engine.{Engine}
 use Rattle.twkb_engine.proofs.Feeds.{count_is}
-use Rattle.twkb_engine.proofs.RootPoints.{blob_judged, noted_none}
+use Rattle.twkb_engine.proofs.Steps.{blob_judged, noted_none}
 use Rattle.twkb_blob.specs.Readers.{AreCutOff, HasNone, IsNextFlat, Left, Makes, PartAhead, StopsWithin}
 use Rattle.twkb_blob.specs.Located.{IsInto, IsSpanned, ReadsInto}
 use Rattle.twkb_blob.specs.Feeding.{Reads, ReadsBlob}

@@ -29,7 +29,7 @@ use Rattle.twkb_engine.specs.State.{allowance_of, stage_at, sums_of}
 use Rattle.twkb_engine.specs.Collections.{frames_of}
 use Rattle.twkb_engine.specs.Notes.{open_in}
 use Rattle.twkb_engine.specs.Standing.{StandsAt, IsEnd, held_in, offset_in}
-use Rattle.twkb_engine.proofs.Between.{few_open}
+use Rattle.twkb_engine.proofs.Items.{few_open}
 use Rattle.twkb_engine.proofs.Steps.{next_role, next_no_end, next_number}
 use Rattle.twkb_body.specs.Outline.{FrameOutline, outline_role}
 use Rattle.twkb_body.proofs.Outlined.{same_role}

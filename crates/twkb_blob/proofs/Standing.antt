@@ -16,7 +16,7 @@ use Rattle.twkb_grammar.proofs.Streams.{behind_stream, stream-append}
 use Rattle.twkb_body.specs.JudgedParts.{PartIn}
 use Rattle.twkb_engine.specs.Standing.{StandsAt, IsAlive, count_of}
 use Rattle.twkb_engine.proofs.Feeds.{count_is}
-use Rattle.twkb_engine.proofs.RootPoints.{blob_judged}
+use Rattle.twkb_engine.proofs.Steps.{blob_judged}
 use Rattle.twkb_engine.specs.declared.engine.Engine.{Engine}
 use Rattle.twkb_blob.specs.Feeding.{EndsAt, Feeds}
 use Rattle.twkb_blob.specs.Readers.{AreCutOff}

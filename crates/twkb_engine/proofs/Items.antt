@@ -1,30 +1,91 @@
--- An item that comes next: where it leads, and what it brings.
-use Rattle.std.proofs.Common.{◌≡◌, inr, ℕ, ◌+◌, ◌<◌, ◌^◌, List, length, sym, ap, ◌∙◌, subst, true, false, Bool}
-use Rattle.std.proofs.Common.{Result, Ok, Err, Some}
+-- An item that comes next, in a body or at its end: where it leads, and what it brings.
+use Rattle.std.proofs.Common.{◌≡◌, ℕ, ◌<◌, List, [], length, subst, arith, inr, ◌+◌, ◌^◌, sym, ap, ◌∙◌, true, false}
+use Rattle.std.proofs.Common.{Bool, Result, Ok, Err, Some, zero, suc, ◌-◌, ◌≤◌, refl, if◌then◌else◌, None, ◌∷◌, ◌&&◌}
+use Rattle.std.proofs.Common.{nat_eq, ◌⊎◌, inl}
 use Rattle.std.specs.Prelude.{ℤ, Option}
+use Rattle.std.proofs.Props.{props}
+use Rattle.std.proofs.Math.Logic.{∥∥₁_elim, ∥∥₁_map}
+use Rattle.std.proofs.Math.IntN.{ℤ_set}
 use Rattle.std.specs.Result.{IsErrAnd}
 use Rattle.std.proofs.lemmas.Result.{err_from_is_err_and}
-use Rattle.twkb_num.specs.Varint.{varint_of}
+use Rattle.std.proofs.lemmas.List.{nil_from_length}
+use Rattle.std.proofs.lemmas.Grind.{common_steps}
+use Rattle.twkb_num.specs.Varint.{varint_of, IsOpenVarint}
 use Rattle.twkb_num.proofs.VarintLemmas.{IsVarint-varint_of}
-use Rattle.twkb_tree.specs.Rows.{Row}
-use Rattle.twkb_grammar.specs.Roles.{Role, IsNumber}
-use Rattle.twkb_grammar.specs.Fault.{Reason, moved}
-use Rattle.twkb_grammar.specs.Machine.{Sums}
-use Rattle.twkb_grammar.specs.Reading.{Gives}
-use Rattle.twkb_grammar.proofs.OneFault.{number_gives}
-use Rattle.twkb_body.specs.Outline.{Outline, Stage, stage_role, outline_ends, outline_advanced}
-use Rattle.twkb_body.specs.Growing.{Change, id_in, applied, stage_change}
-use Rattle.twkb_body.specs.Admitting.{Admits}
-use Rattle.twkb_body.specs.JudgedParts.{Passes}
-use Rattle.twkb_engine.specs.Collections.{frames_of}
-use Rattle.twkb_engine.specs.State.{IsHere, IsPlaced, stage_at, outline_in, sums_of}
-use Rattle.twkb_engine.specs.Standing.{IsAlive}
-use Rattle.twkb_engine.specs.Taking.{Takes, Lands, IsFree, SameBlob, BeginsAt, way_of, brings, sums_with}
-use Rattle.twkb_engine.specs.declared.next_item.NextItem.{NextItem}
-use Rattle.twkb_engine.specs.Stops.{Stop}
+use Rattle.twkb_points.specs.Point.{Point}
+use Rattle.twkb_tree.specs.Rows.{Row, first_id}
+use Rattle.twkb_tree.specs.Tree.{Ids}
+use Rattle.twkb_tree.specs.declared.kind.Kind.{Kind}
+use Rattle.twkb_tree.specs.declared.kind.Kind.TheVariants as kinds
 use Rattle.twkb_flat.specs.declared.stop.Stop.TheVariants.{Memory, Refused}
+use Rattle.twkb_grammar.specs.Roles.{Role, IsNumber}
+use Rattle.twkb_grammar.specs.Roles as role
+use Rattle.twkb_grammar.specs.Reading.{Gives}
+use Rattle.twkb_grammar.specs.Fault.{Reason, moved, FirstFault, Truncated}
+use Rattle.twkb_grammar.specs.Machine.{Sums, listed}
+use Rattle.twkb_grammar.specs.Machine as machine
+use Rattle.twkb_grammar.proofs.OneFault.{number_gives}
+use Rattle.twkb_body.specs.Growing.{id_in, Change, applied, stage_change, NewPoint, point_change, NewRow, list_row}
+use Rattle.twkb_body.specs.Admitting.{Admits}
+use Rattle.twkb_body.specs.Head.{IsHeadAt, head_of, form_of}
+use Rattle.twkb_body.specs.declared.head.Head as place
+use Rattle.twkb_body.specs.Outline.{Outline, Stage, stage_role, outline_ends, outline_advanced, FrameOutline, OnBody}
+use Rattle.twkb_body.specs.Outline.{Wanted, shut, listing}
+use Rattle.twkb_body.specs.JudgedParts.{Passes}
+use Rattle.twkb_body.specs.Ids.{ids_of}
+use Rattle.twkb_body.specs.Reading.{open_count}
+use Rattle.twkb_body.proofs.Admitting.{somewhere_admitted}
+use Rattle.twkb_body.proofs.Outlined.{outlined_depth, outlined_bytes, outlined_cut, outlined_missing}
+use Rattle.twkb_engine.specs.State.{outline_in, sums_of, IsPlaced, IsNext, IsHere, stage_at, ids_in, body_at}
+use Rattle.twkb_engine.specs.State.{allowance_of}
+use Rattle.twkb_engine.specs.Collections.{frames_of}
+use Rattle.twkb_engine.specs.Caps.{depth_cap}
+use Rattle.twkb_engine.specs.Taking.{IsFree, brings, Takes, Lands, SameBlob, BeginsAt, way_of, sums_with, shut_at}
+use Rattle.twkb_engine.specs.Taking.{last_lists, point_row}
+use Rattle.twkb_engine.specs.Standing.{IsAlive, ComesNext, StandsAt, IsEnd, held_in, offset_in}
+use Rattle.twkb_engine.specs.declared.next_item.NextItem.{NextItem}
 use Rattle.twkb_engine.specs.declared.engine.Engine.{Engine}
-use Rattle.twkb_engine.proofs.Admitted.{admitted, alive_placed}
+use Rattle.twkb_engine.specs.Stops.{Stop}
+use Rattle.twkb_engine.specs.Fits.{lists_of, left_fit, lists_fit, has_lines, has_members, line_lists_of, area_lists_of}
+use Rattle.twkb_engine.specs.Fits.{item_fits, has_areas, IsByte}
+use Rattle.twkb_engine.specs.declared.next_item.NextItem.TheVariants as next
+use Rattle.twkb_engine.specs.Notes.{open_in}
+use Rattle.twkb_engine.proofs.Collections.{frames_length}
+use Rattle.twkb_engine.proofs.Steps.{next_role, next_number, next_no_end, all_whole}
+
+-- ==== What holds of an engine that some bytes lead to.
+
+-- the rows take what the next item brings
+pub admitted : (rs : List Row) (d : Engine) (r : Role) (n : ℕ) (bytes : List ℕ) → IsAlive rs d
+    → IsNext r d → Gives r n bytes → IsFree r n d → Admits (brings r n d) rs
+admitted rs d r n bytes alive says gives free = somewhere_admitted d.limits d.allowed (sums_of d)
+    (outline_in d) rs r n bytes (∥∥₁_map alive (λ s. (s.1.front, s.1.outlined))) says gives free
+
+head_prop : (depth : ℕ) (id : Option ℤ) (h : place.Head) → IsProp (IsHeadAt depth id h)
+head_prop depth id h = Prim.hlevel (ℤ_set, props)
+
+-- its header is that of the geometry in the open collections
+pub alive_placed : (rs : List Row) (d : Engine) (item : NextItem) → d.next ≡ item
+    → (let gs = frames_of d.collections in (IsPlaced item d
+    → IsHeadAt (length gs) (id_in gs) d.head) → IsAlive rs d
+    → IsHeadAt (length gs) (id_in gs) d.head)
+alive_placed rs d item is by alive =
+    let gs = frames_of d.collections in
+    ∥∥₁_elim alive (head_prop (length gs) (id_in gs) d.head) (λ s. by (subst (λ n. IsPlaced n d) is s.1.placed))
+
+-- one collection more may be open
+pub alive_room : (rs : List Row) (d : Engine) → IsAlive rs d → length d.collections < depth_cap
+alive_room rs d alive =
+    ∥∥₁_elim alive (Prim.hlevel props) (λ s. let cap = d.allowed.nest_cap in
+    omega (
+      arith,
+      cap,
+      outlined_depth d.limits s.1.front (sums_of d) (outline_in d) rs
+          s.1.outlined,
+      frames_length [] d.collections,
+    ))
+
+-- ==== An item that comes next: where it leads, and what it brings.
 
 -- past a stage after an item of this width
 abbrev pub past_with : (width : ℕ) → Engine → Stage → Result Outline Reason
@@ -133,3 +194,269 @@ module _ {rs : List Row} {d : Engine} {r : Role} {n width : ℕ} {way : Result O
   takes_none e more answer err passes =
       let p = err_from_is_err_and answer err in rw (p.1, p.2)
       (l.free, subst Passes (sym l.way_is) passes)
+
+-- ==== A y: where it leads, and what it brings.
+
+-- a kind with points left in a list has lists of points
+lines_left : (k : Kind) (p r m : ℕ) → 0 < p → left_fit k p r m ≡ true → has_lines k ≡ true
+lines_left k zero r m some fits = absurd (omega (arith, some))
+lines_left kinds.Linestring (suc p) r m some fits = refl
+lines_left k (suc p) r m some fits = grind arith
+
+-- there a point comes to the last row
+line_point : (k : Kind) (p : Point) (depth : ℕ) (id : Option ℤ) (precision : ℤ) (member : Option ℤ)
+    → has_lines k ≡ true → point_change p depth id precision (form_of k) member ≡ NewPoint p
+line_point kinds.Linestring p depth id precision member has = refl
+line_point k p depth id precision member has = cc
+
+-- and the next one comes
+line_goes_on : (k : Kind) (h : machine.Head) (ids : Ids) (gs : List FrameOutline) (bytes p r m : ℕ)
+    → has_lines k ≡ true → (let there = if has_members k then ids else None in
+    outline_ends bytes (gs, shut h (form_of k) there 0 (lists_of k (suc p) r m))
+    ≡ Ok (gs, OnBody h (form_of k) there (Wanted 0 (lists_of k p r m))))
+line_goes_on kinds.Linestring h ids gs bytes p r m has = refl
+line_goes_on k h ids gs bytes p r m has = cc
+
+module _ {rs : List Row} {d : Engine} {n width : ℕ} {p : Point} (at : ComesNext next.Y rs d n width)
+    (free : IsFree role.Y n d) (there : p ≡ moved d.position role.Y n) where
+  y_leads : Leads rs d role.Y n width (past_with width d (shut_at d 0 (lists_of d.head.kind
+      (d.points_left - 1) d.rings_left d.members_left))) (point_row p d)
+  y_leads =
+      leads_as (number_leads at.alive at.next role.Y n width refl (λ p. p) tt at.wide free) refl
+      (ap (λ q. point_row q d) (sym there))
+
+  -- the last point of a list, or one in none, leads past its end
+  pub y_last : d.points_left ≤ 1 → Leads rs d role.Y n width (past_with width d (shut_at d 0
+      (last_lists d))) (point_row p d)
+  y_last few =
+      let none : d.points_left - 1 ≡ 0 = omega (arith, few) in
+      leads_as y_leads (ap (λ k. past_with width d (shut_at d 0 (lists_of d.head.kind k d.rings_left
+      d.members_left))) none) refl
+
+  -- another to the next one, and it comes to the last row
+  pub y_more : 1 < d.points_left → Leads rs d role.Y n width
+      (Ok (
+        frames_of d.collections,
+        body_at d (Wanted 0
+            (lists_of d.head.kind ((d.points_left - 1) - 1) d.rings_left d.members_left)),
+      )) (NewPoint p)
+  y_more some =
+      let one : d.points_left - 1 ≡ suc ((d.points_left - 1) - 1) = omega (arith, some) in
+      let fits = subst (λ i. lists_fit i d.head.kind d.points_left d.rings_left d.members_left
+      ≡ true) at.next d.lists_fit in
+      let has = lines_left d.head.kind d.points_left d.rings_left d.members_left (omega (arith, some)) fits in
+      leads_as y_leads (ap (λ k. past_with width d (shut_at d 0 (lists_of d.head.kind k d.rings_left
+      d.members_left))) one
+      ∙ line_goes_on d.head.kind (head_of d.head) (ids_of d.ids) (frames_of d.collections) _ _
+      d.rings_left d.members_left has)
+      (line_point d.head.kind p d.head.depth d.head.id d.head.precision (first_id (ids_in d)) has)
+
+-- ==== The counts of a body: what they lead to, and the rows that they bring.
+
+-- ---- lists of a kind
+
+line_lists : (k : Kind) (p r m : ℕ) → has_lines k ≡ true → lists_of k p r m ≡ p ∷ line_lists_of k r m
+line_lists kinds.Linestring p r m has = refl
+line_lists k p r m has = cc
+
+area_lists : (k : Kind) (r m : ℕ) → has_areas k ≡ true → line_lists_of k r m ≡ r ∷ area_lists_of k m
+area_lists kinds.Polygon r m has = refl
+area_lists k r m has = cc
+
+areas_lined : (k : Kind) → has_areas k ≡ true → has_lines k ≡ true
+areas_lined kinds.Polygon has = refl
+areas_lined k has = cc
+
+-- the id of the open member is that of the kind's members, if it has any
+row_there : (k : Kind) (ids : Ids) (depth : ℕ) (id : Option ℤ) (precision : ℤ) (inner : ℕ)
+    → has_lines k ≡ true → list_row depth id precision (form_of k) (first_id (if has_members k then
+    ids else None)) inner ≡ list_row depth id precision (form_of k) (first_id ids) inner
+row_there kinds.Polygon ids depth id precision zero has = refl
+row_there kinds.Polygon ids depth id precision (suc inner) has = refl
+row_there k ids depth id precision inner has = cc
+
+-- ---- the count of a list
+
+-- no rings are left at one
+no_rings : (p r : ℕ) (b : Bool) → nat_eq p 0 && (nat_eq r 0 && b) ≡ true → r ≡ 0
+no_rings p zero b none = refl
+no_rings zero (suc r) b none = grind arith
+no_rings (suc p) (suc r) b none = grind arith
+
+module _ {i : NextItem} {rs : List Row} {d : Engine} {n width : ℕ} {member : Option ℤ} (row : Row)
+    (at : ComesNext i rs d n width) (first : member ≡ first_id (ids_of d.ids)) where
+  abbrev Made : ℕ → Type 0
+  Made inner = row ≡ list_row d.head.depth d.head.id d.head.precision (form_of d.head.kind) member
+      inner
+
+  -- the row is that of the engine
+  made_here : (inner : ℕ) → Made inner → has_lines d.head.kind ≡ true
+      → list_row d.head.depth d.head.id d.head.precision (form_of d.head.kind) (first_id (ids_in d))
+      inner ≡ row
+  made_here inner made has =
+      row_there d.head.kind (ids_of d.ids) d.head.depth d.head.id d.head.precision inner has
+      ∙ (ap (λ m. list_row d.head.depth d.head.id d.head.precision (form_of d.head.kind) m inner)
+      (sym first) ∙ sym made)
+
+  abbrev list_at : (inner k : ℕ) → List ℕ → Result Outline Reason
+  list_at inner k lists = past_with width d (listing (head_of d.head) (form_of d.head.kind)
+      (ids_in d) inner k lists)
+
+  -- a list of values of this depth, in these lists, to which a count leads
+  abbrev Counts : ℕ → List ℕ → Type 0
+  Counts inner lists = Leads rs d (role.Count (listed inner)) n width (list_at inner n lists)
+      (NewRow row)
+
+  -- with a count of 0 a list ends
+  abbrev Ends : ℕ → Type 0
+  Ends inner = n ≡ 0 → Leads rs d (role.Count (listed inner)) n width (past_with width d
+      (shut_at d 0 (last_lists d))) (NewRow row)
+
+  ends : (inner : ℕ) (lists : List ℕ) → Counts inner lists → shut_at d 0 (last_lists d) ≡ shut_at d
+      (suc inner) lists → Ends inner
+  ends inner lists l shuts none = leads_as l (ap (λ k. list_at inner k lists) none
+      ∙ ap (past_with width d) (sym shuts)) refl
+
+  -- with others it begins
+  abbrev Begins : ℕ → List ℕ → Type 0
+  Begins inner lists = 0 < n → Leads rs d (role.Count (listed inner)) n width
+      (Ok (frames_of d.collections, body_at d (Wanted inner lists))) (NewRow row)
+
+  begins : (inner : ℕ) (lists here : List ℕ) → Counts inner lists → here ≡ (n - 1) ∷ lists
+      → Begins inner here
+  begins inner lists here l same some =
+      let one : n ≡ suc (n - 1) = omega (arith, some) in
+      leads_as l (ap (λ k. list_at inner k lists) one ∙ ap (λ (ls : List ℕ). past_with width d
+      (body_at d (Wanted inner ls))) (sym same)) refl
+
+  module _ (is : i ≡ next.PointCount) (free : IsFree (role.Count (listed 0)) n d)
+      (made : Made 0) where
+    lined : has_lines d.head.kind ≡ true
+    lined = subst (λ i. item_fits i d.head.kind ≡ true) (at.next ∙ is) d.item_fits
+
+    points_lead : Counts 0 (line_lists_of d.head.kind d.rings_left d.members_left)
+    points_lead =
+        leads_as (number_leads at.alive (at.next ∙ is) (role.Count (listed 0)) n width refl (λ p. p)
+        tt at.wide free) refl (ap NewRow (made_here 0 made lined))
+
+    pub points_end : Ends 0
+    points_end =
+        ends 0 _ points_lead
+        (ap (shut_at d 0) (line_lists d.head.kind 0 d.rings_left d.members_left lined))
+
+    pub points_begin : Begins 0 (lists_of d.head.kind (n - 1) d.rings_left d.members_left)
+    points_begin = begins 0 _ _ points_lead (line_lists d.head.kind (n - 1) d.rings_left
+        d.members_left lined)
+
+  module _ (is : i ≡ next.RingCount) (free : IsFree (role.Count (listed 1)) n d)
+      (made : Made 1) where
+    area : has_areas d.head.kind ≡ true
+    area = subst (λ i. item_fits i d.head.kind ≡ true) (at.next ∙ is) d.item_fits
+
+    rings_lead : Counts 1 (area_lists_of d.head.kind d.members_left)
+    rings_lead =
+        leads_as (number_leads at.alive (at.next ∙ is) (role.Count (listed 1)) n width refl (λ p. p)
+        tt at.wide free) refl (ap NewRow (made_here 1 made (areas_lined d.head.kind area)))
+
+    no_rings_left : d.rings_left ≡ 0
+    no_rings_left =
+        no_rings d.points_left d.rings_left (left_fit d.head.kind d.points_left d.rings_left d.members_left)
+        (subst (λ i. lists_fit i d.head.kind d.points_left d.rings_left d.members_left ≡ true)
+        (at.next ∙ is) d.lists_fit)
+
+    pub rings_end : Ends 1
+    rings_end =
+        let lines = line_lists d.head.kind 0 d.rings_left d.members_left (areas_lined d.head.kind
+        area) in
+        let areas = area_lists d.head.kind d.rings_left d.members_left area in
+        ends 1 _ rings_lead (ap (shut_at d 0) (lines ∙ (ap (λ (l : List ℕ). 0 ∷ l) areas
+        ∙ ap (λ r. 0 ∷ r ∷ area_lists_of d.head.kind d.members_left) no_rings_left)))
+
+    pub rings_begin : Begins 1 (line_lists_of d.head.kind (n - 1) d.members_left)
+    rings_begin = begins 1 _ _ rings_lead (area_lists d.head.kind (n - 1) d.members_left area)
+
+-- ==== What an engine says of itself: whether the bytes may end, and how many geometries are open.
+
+-- ---- the end of the bytes
+
+-- what holds bytes waits for more of a number
+pub spelled_by : (d : Engine) → 0 < length (held_in d) → (IsByte d.next → ⊥) ⊎ (held_in d ≡ []) → IsByte d.next → ⊥
+spelled_by d some (inl s) = s
+spelled_by d some (inr e) = absurd (let none : length (held_in d) ≡ 0 =
+    ap (λ (l : List ℕ). length l) e in omega (arith, some, none))
+
+not_none : (bs : List ℕ) → 0 < length bs → bs ≡ [] → ⊥
+not_none bs some e = let none : length bs ≡ 0 = ap (λ (l : List ℕ). length l) e in omega (arith, some, none)
+
+is_zero : (n : ℕ) → n ≡ 0 → nat_eq n 0 ≡ true
+is_zero n at = grind (arith, common_steps)
+
+pub is_some : (n : ℕ) → 0 < n → nat_eq n 0 ≡ false
+is_some n some = grind (arith, common_steps)
+
+no_items : (bs : List ℕ) (rs : List Row) (d : Engine) (s : StandsAt bs rs d) → held_in d ≡ []
+    → (n : ℕ) → d.bytes ≡ n → IsEnd (allowance_of d) bs (offset_in d) (nat_eq d.bytes 0)
+no_items bs rs d s none zero at =
+    let front : s.front ≡ [] = nil_from_length s.front
+    (omega (
+      arith,
+      outlined_bytes d.limits s.front (sums_of d) (outline_in d) rs
+          s.outlined,
+      at,
+    )) in
+    subst (IsEnd (allowance_of d) bs (offset_in d)) (sym (is_zero d.bytes at)) (all_whole bs rs d none s ∙ front)
+no_items bs rs d s none (suc n) at =
+    let some : 0 < length s.front = omega (
+      arith,
+      outlined_bytes d.limits s.front (sums_of d)
+          (outline_in d) rs s.outlined,
+      at,
+    ) in
+    let r = next_role d in
+    subst (IsEnd (allowance_of d) bs (offset_in d)) (sym (is_some d.bytes (omega (arith, at))))
+    (subst (λ l. FirstFault d.limits l d.bytes Truncated) (sym (all_whole bs rs d none s))
+    (outlined_missing d.limits s.front (sums_of d) (outline_in d) rs r.0 s.outlined r.1
+    (not_none s.front some) (next_no_end d)))
+
+-- no byte is held
+pub at_end : (bs : List ℕ) (rs : List Row) (d : Engine) (s : StandsAt bs rs d)
+    → length (held_in d) ≡ 0 → IsEnd (allowance_of d) bs (offset_in d) (nat_eq d.bytes 0)
+at_end bs rs d s none = no_items bs rs d s (nil_from_length (held_in d) none) d.bytes refl
+
+-- the bytes end inside a number
+pub cut_end : (bs : List ℕ) (rs : List Row) (d : Engine) (s : StandsAt bs rs d)
+    → IsOpenVarint (held_in d) → (n : ℕ) → n ≡ length (held_in d) → 0 < n
+    → IsEnd (allowance_of d) bs (offset_in d) (nat_eq n 0)
+cut_end bs rs d s begun n many some =
+    let r = next_role d in
+    subst (IsEnd (allowance_of d) bs (offset_in d)) (sym (is_some n some))
+    (subst (λ l. FirstFault d.limits l d.bytes Truncated) (sym s.whole)
+    (outlined_cut d.limits s.front (sums_of d) (outline_in d) rs (held_in d) r.0 s.outlined r.1
+    (next_number d (spelled_by d (omega (arith, many, some)) s.spelled))
+    (omega (arith, begun.room), begun.high)))
+
+-- ---- open geometries
+
+pub few_open : (bs : List ℕ) (rs : List Row) (d : Engine) (s : StandsAt bs rs d) → length d.collections ≤ d.limits.nest
+few_open bs rs d s = omega (
+  arith,
+  frames_length [] d.collections,
+  outlined_depth d.limits s.front
+      (sums_of d) (outline_in d) rs s.outlined,
+)
+
+open_outside : (i : NextItem) (d : Engine) → i ≡ next.TypeByte
+    → open_count (frames_of d.collections, stage_at i d) ≡ length d.collections
+open_outside i d e = ap (λ j. open_count (frames_of d.collections, stage_at j d)) e
+    ∙ omega (arith, frames_length [] d.collections)
+
+open_inside : (i : NextItem) (d : Engine) → (i ≡ next.TypeByte → ⊥)
+    → open_count (frames_of d.collections, stage_at i d) ≡ suc (length (frames_of d.collections))
+open_inside next.TypeByte d n = absurd (n refl)
+open_inside _ d n = refl
+
+pub open_at_type : (d : Engine) → d.next ≡ next.TypeByte → length d.collections ≡ open_in d
+open_at_type d e = sym (open_outside d.next d e)
+
+pub open_past_type : (d : Engine) → (d.next ≡ next.TypeByte → ⊥) → length d.collections + 1 ≡ open_in d
+open_past_type d n = omega (arith, frames_length [] d.collections, open_inside d.next d n)

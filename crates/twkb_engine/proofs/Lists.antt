@@ -23,7 +23,7 @@ use Rattle.twkb_engine.specs.declared.next_item.NextItem.TheVariants as next
 use Rattle.twkb_engine.specs.declared.open_collections.OpenCollection.{OpenCollection}
 use Rattle.twkb_body.specs.declared.head.Head.{Head}
 use Rattle.twkb_engine.specs.declared.engine.Engine.{Engine}
-use Rattle.twkb_engine.proofs.Many.{place_at}
+use Rattle.twkb_engine.proofs.Points.{place_at}
 
 -- a kind of whose members some are left has members
 pub has_some : (k : Kind) (p r m : ℕ) → 0 < m → left_fit k p r m ≡ true → has_members k ≡ true

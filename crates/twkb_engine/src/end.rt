@@ -88,7 +88,7 @@ impl Engine {
     // Ends a geometry that has no body, or no members, as `end_geometry` does, and then pushes its
     // row, which the form must admit. Returns whether the blob ends with it. Refused if the size of
     // a geometry that ends here is not exact. The row takes memory.
-    #[tactic(auto, using(crate::proofs::Ends::headings))]
+    #[tactic(auto, using(crate::proofs::Parts::headings))]
     pub(crate) fn end_empty<S: SpanNotes>(
         &mut self,
         flat: &mut Flat,

@@ -5,7 +5,7 @@ use Rattle.twkb_body.specs.Growing.{Nothing, applied}
 use Rattle.twkb_body.specs.Head.{head_of, many_of}
 use Rattle.twkb_engine.specs.Collections.{frames_of}
 use Rattle.twkb_engine.specs.Taking.{own_row}
-use Rattle.twkb_engine.proofs.Members.{counted_bare, open_at}
+use Rattle.twkb_engine.proofs.Parts.{counted_bare, open_at}
 use Rattle.twkb_engine.proofs.engine.Engine.begin_ids_or_members.Goals as goal
 
 pub returns-clause-step : goal.returns-clause-step

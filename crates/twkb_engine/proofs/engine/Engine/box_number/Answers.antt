@@ -7,8 +7,7 @@ use Rattle.twkb_engine.specs.Standing.{IsAlive}
 use Rattle.twkb_engine.specs.Taking.{header_row}
 use Rattle.twkb_engine.specs.declared.next_item.NextItem.TheVariants as next
 use Rattle.twkb_engine.specs.declared.engine.Engine.{Engine}
-use Rattle.twkb_engine.proofs.Admitted.{alive_placed}
-use Rattle.twkb_engine.proofs.Items.{Leads, past_with, given_leads, number_leads, takes}
+use Rattle.twkb_engine.proofs.Items.{alive_placed, Leads, past_with, given_leads, number_leads, takes}
 use Rattle.twkb_engine.proofs.Parts.{sums_as, add_zero}
 use Rattle.twkb_engine.proofs.engine.Engine.box_number.Goals as goal
 

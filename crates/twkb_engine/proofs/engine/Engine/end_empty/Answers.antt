@@ -2,7 +2,7 @@ use Rattle.std.proofs.Common.{rules}
 use Rattle.twkb_flat.specs.declared.stop.Stop.TheVariants.{Refused}
 use Rattle.twkb_engine.specs.declared.blob_reason.BlobReason.TheVariants.{SizeMismatch}
 use Rattle.twkb_engine.specs.Taking.{past_end, own_row}
-use Rattle.twkb_engine.proofs.Ends.{empty_ended, lands_stopped}
+use Rattle.twkb_engine.proofs.Parts.{empty_ended, lands_stopped}
 use Rattle.twkb_engine.proofs.engine.Engine.end_empty.Goals as goal
 
 pub returns-in_err-ends-clause-ended : goal.returns-in_err-ends-clause-ended

@@ -1,7 +1,7 @@
 use Rattle.std.proofs.Common.{◌+◌, ◌-◌, ap, length, arith}
 use Rattle.twkb_grammar.specs.Machine.{Sums}
 use Rattle.twkb_engine.specs.Collections.{frames_of}
-use Rattle.twkb_engine.proofs.Ends.{all_ended, some_ended, end_noted}
+use Rattle.twkb_engine.proofs.Parts.{all_ended, some_ended, end_noted}
 use Rattle.twkb_engine.proofs.engine.Engine.end_geometry.Goals as goal
 
 pub returns-in-Blob-clause-noted : goal.returns-in-Blob-clause-noted

@@ -3,10 +3,9 @@ use Rattle.twkb_body.specs.Reading.{open_count}
 use Rattle.twkb_body.specs.Head.{head_of, many_of}
 use Rattle.twkb_engine.specs.State.{stage_at}
 use Rattle.twkb_engine.specs.Collections.{frames_of}
-use Rattle.twkb_engine.proofs.Admitted.{alive_room}
-use Rattle.twkb_engine.proofs.Items.{takes_on, takes_none}
-use Rattle.twkb_engine.proofs.Parts.{sums_as, add_zero}
-use Rattle.twkb_engine.proofs.Members.{id_leads, id_passes, id_more, id_last, members_begin, open_after}
+use Rattle.twkb_engine.proofs.Items.{alive_room, takes_on, takes_none}
+use Rattle.twkb_engine.proofs.Parts.{sums_as, add_zero, id_leads, id_passes, id_more, id_last, members_begin}
+use Rattle.twkb_engine.proofs.Parts.{open_after}
 use Rattle.twkb_engine.proofs.engine.Engine.id.Goals as goal
 
 pub returns-in_err-push_id-clause-taken : goal.returns-in_err-push_id-clause-taken

@@ -1,6 +1,6 @@
 use Rattle.std.proofs.Common.{arith}
 use Rattle.twkb_num.proofs.VarintLemmas.{open_varint_is}
-use Rattle.twkb_engine.proofs.Between.{at_end, cut_end}
+use Rattle.twkb_engine.proofs.Items.{at_end, cut_end}
 use Rattle.twkb_engine.proofs.engine.Engine.is_between.Goals as goal
 
 pub returns-then-len-eq0-clause-ended : goal.returns-then-len-eq0-clause-ended

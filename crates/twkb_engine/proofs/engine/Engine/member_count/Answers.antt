@@ -6,10 +6,8 @@ use Rattle.twkb_body.specs.Reading.{open_count}
 use Rattle.twkb_engine.specs.State.{stage_at}
 use Rattle.twkb_engine.specs.Collections.{frames_of}
 use Rattle.twkb_engine.specs.Taking.{own_row, count_role}
-use Rattle.twkb_engine.proofs.Admitted.{alive_room}
-use Rattle.twkb_engine.proofs.Items.{takes, takes_on, takes_none}
-use Rattle.twkb_engine.proofs.Members.{count_none, count_some, count_nodes, count_begins, open_after}
-use Rattle.twkb_engine.proofs.Parts.{sums_as}
+use Rattle.twkb_engine.proofs.Items.{alive_room, takes, takes_on, takes_none}
+use Rattle.twkb_engine.proofs.Parts.{count_none, count_some, count_nodes, count_begins, open_after, sums_as}
 use Rattle.twkb_engine.proofs.Steps.{quiet_noted}
 use Rattle.twkb_engine.proofs.engine.Engine.member_count.Goals as goal
 

@@ -1,5 +1,5 @@
 use Rattle.std.proofs.Common.{◌∙◌, arith, ap, ◌+◌}
-use Rattle.twkb_engine.proofs.Between.{few_open, open_at_type, open_past_type}
+use Rattle.twkb_engine.proofs.Items.{few_open, open_at_type, open_past_type}
 use Rattle.twkb_engine.proofs.engine.Engine.open_geometries.Goals as goal
 
 pub returns-in-TypeByte-clause-open : goal.returns-in-TypeByte-clause-open

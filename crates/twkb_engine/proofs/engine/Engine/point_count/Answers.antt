@@ -1,6 +1,5 @@
 use Rattle.std.proofs.Common.{sym, arith, refl}
-use Rattle.twkb_engine.proofs.Items.{takes, takes_on}
-use Rattle.twkb_engine.proofs.Counts.{points_end, points_begin}
+use Rattle.twkb_engine.proofs.Items.{takes, takes_on, points_end, points_begin}
 use Rattle.twkb_engine.proofs.Parts.{sums_as, add_zero}
 use Rattle.twkb_engine.proofs.engine.Engine.point_count.Goals as goal
 

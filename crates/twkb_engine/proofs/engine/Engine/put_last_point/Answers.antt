@@ -4,7 +4,7 @@ use Rattle.twkb_body.specs.Admitting.{Admits}
 use Rattle.twkb_flat.specs.declared.stop.Stop.TheVariants.{Refused}
 use Rattle.twkb_engine.specs.declared.blob_reason.BlobReason.TheVariants.{SizeMismatch}
 use Rattle.twkb_engine.specs.Taking.{last_lists, past_last, point_row}
-use Rattle.twkb_engine.proofs.Ends.{past_lists, lands_passed, lands_brought, lands_stopped, lands_unkept}
+use Rattle.twkb_engine.proofs.Parts.{past_lists, lands_passed, lands_brought, lands_stopped, lands_unkept}
 use Rattle.twkb_engine.proofs.Lists.{point_there}
 use Rattle.twkb_engine.proofs.engine.Engine.put_last_point.Goals as goal
 

@@ -1,6 +1,5 @@
 use Rattle.std.proofs.Common.{sym, arith, refl}
-use Rattle.twkb_engine.proofs.Items.{takes, takes_on}
-use Rattle.twkb_engine.proofs.Counts.{rings_end, rings_begin}
+use Rattle.twkb_engine.proofs.Items.{takes, takes_on, rings_end, rings_begin}
 use Rattle.twkb_engine.proofs.Parts.{sums_as, add_zero}
 use Rattle.twkb_engine.proofs.engine.Engine.ring_count.Goals as goal
 

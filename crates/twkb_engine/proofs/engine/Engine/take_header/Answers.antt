@@ -11,9 +11,8 @@ use Rattle.twkb_body.specs.OptionalParts.{sized_head}
 use Rattle.twkb_body.specs.Head.{kind_of, IsHeadAt}
 use Rattle.twkb_body.specs.declared.head.Head as place
 use Rattle.twkb_engine.specs.Collections.{frames_of}
-use Rattle.twkb_engine.proofs.Ahead.{leads_nowhere, kind_shown, stage_kind, stage_precision, any_placed, type_stops}
-use Rattle.twkb_engine.proofs.Ahead.{header_leads}
-use Rattle.twkb_engine.proofs.Parts.{sums_as}
+use Rattle.twkb_engine.proofs.Parts.{leads_nowhere, kind_shown, stage_kind, stage_precision, any_placed, type_stops}
+use Rattle.twkb_engine.proofs.Parts.{header_leads, sums_as}
 use Rattle.twkb_engine.proofs.engine.Engine.take_header.Goals as goal
 
 pub returns-in_default-clause-led : goal.returns-in_default-clause-led

@@ -1,6 +1,6 @@
 use Rattle.std.proofs.Common.{refl, arith}
 use Rattle.std.proofs.lemmas.Result.{err_from_is_err_and}
-use Rattle.twkb_engine.proofs.Many.{none_taken, ids_stop, ids_taken}
+use Rattle.twkb_engine.proofs.Points.{none_taken, ids_stop, ids_taken}
 use Rattle.twkb_engine.proofs.engine.Engine.take_ids.Goals as goal
 
 pub returns-then-most-eq0 : goal.returns-then-most-eq0

@@ -1,6 +1,6 @@
 use Rattle.std.proofs.Common.{refl}
 use Rattle.std.proofs.lemmas.Result.{err_from_is_err_and}
-use Rattle.twkb_engine.proofs.Many.{none_listed, list_unkept}
+use Rattle.twkb_engine.proofs.Points.{none_listed, list_unkept}
 use Rattle.twkb_engine.proofs.engine.Engine.take_list.Goals as goal
 
 pub returns-then-not-takes_points : goal.returns-then-not-takes_points

@@ -1,7 +1,7 @@
 use Rattle.std.proofs.Common.{rules, ◌≡◌, refl, arith}
 use Rattle.twkb_tree.specs.declared.kind.Kind.TheVariants as kinds
 use Rattle.std.proofs.lemmas.Result.{err_from_is_err_and}
-use Rattle.twkb_engine.proofs.Many.{none_taken, members_stop, members_taken}
+use Rattle.twkb_engine.proofs.Points.{none_taken, members_stop, members_taken}
 use Rattle.twkb_engine.proofs.engine.Engine.take_members.Goals as goal
 
 pub returns-then-ne-clause-taken : goal.returns-then-ne-clause-taken

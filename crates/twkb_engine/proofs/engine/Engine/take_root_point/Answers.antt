@@ -6,7 +6,7 @@ use Rattle.twkb_grammar.specs.Noting.{no_notes}
 use Rattle.twkb_engine.specs.Standing.{MadeIn}
 use Rattle.twkb_body.proofs.PointRuns.{on_err}
 use Rattle.twkb_engine.specs.Notes.{point_span}
-use Rattle.twkb_engine.proofs.RootPoints.{point_blob, root_stops, root_fed}
+use Rattle.twkb_engine.proofs.Steps.{point_blob, root_stops, root_fed}
 use Rattle.twkb_engine.proofs.engine.Engine.take_root_point.Goals as goal
 
 pub returns-in_err-put-clause-memory : goal.returns-in_err-put-clause-memory

@@ -8,8 +8,7 @@ use Rattle.twkb_engine.specs.declared.blob_reason.BlobReason.TheVariants.{SizeMi
 use Rattle.twkb_engine.specs.declared.engine.Engine.{Engine}
 use Rattle.twkb_engine.proofs.Answering.{none_fed, led_fed, stops_fed, many_fed, many_stopped, same_stop, ready_still}
 use Rattle.twkb_engine.proofs.Answering.{alone, answer_next}
-use Rattle.twkb_engine.proofs.Many.{list_stopped, list_goes_on}
-use Rattle.twkb_engine.proofs.Points.{line_fed}
+use Rattle.twkb_engine.proofs.Points.{list_stopped, list_goes_on, line_fed}
 use Rattle.twkb_engine.proofs.engine.Engine.take_some.Given.{Over}
 use Rattle.twkb_engine.proofs.engine.Engine.take_some.Goals as goal
 use Rattle.twkb_engine.proofs.engine.Engine.take_some.Goals.{Joined-self, Joined-self-gt0-2, in_default}

@@ -6,7 +6,7 @@ use Rattle.twkb_engine.specs.State.{sums_of}
 use Rattle.twkb_engine.specs.Collections.{frames_of}
 use Rattle.twkb_engine.specs.Fits.{item_fits, has_members}
 use Rattle.twkb_engine.proofs.Collections.{frames_length}
-use Rattle.twkb_engine.proofs.Members.{members_allowed, collection_is}
+use Rattle.twkb_engine.proofs.Parts.{members_allowed, collection_is}
 use Rattle.twkb_engine.proofs.engine.Engine.too_many_members.Goals as goal
 use Rattle.twkb_engine.proofs.engine.Engine.too_many_members.Goals.{else-eq-via-then-eq+then-count-gt0+else-len-nest}
 use Rattle.twkb_engine.proofs.engine.Engine.too_many_members.Goals.{else-eq-via-then-eq+else-count-gt0}

@@ -1,6 +1,5 @@
 use Rattle.std.proofs.Common.{arith, refl}
-use Rattle.twkb_engine.proofs.BodyItems.{y_last, y_more}
-use Rattle.twkb_engine.proofs.Items.{takes, takes_on, takes_none}
+use Rattle.twkb_engine.proofs.Items.{y_last, y_more, takes, takes_on, takes_none}
 use Rattle.twkb_engine.proofs.Parts.{sums_as, add_zero}
 use Rattle.twkb_engine.proofs.engine.Engine.y.Goals as goal
 
