@@ -23,8 +23,8 @@ use Rattle.twkb_writer.specs.Totals.{box_len, entry_for, blob_len}
 use Rattle.twkb_writer.specs.Precisions.{all_are}
 use Rattle.twkb_writer.specs.Sizes.{body_of, own_body, bounds_of, content_of, part_count, ids_of, entry_of}
 use Rattle.twkb_writer.specs.Tails.{number_len, from_origin}
-use Rattle.twkb_writer.proofs.HeaderLemmas.{box_is as box_is_written}
-use Rattle.twkb_writer.proofs.MeasuringBodies.{length-number}
+use Rattle.twkb_writer.proofs.TreeBytes.{box_is as box_is_written}
+use Rattle.twkb_writer.proofs.MeasuringParts.{length-number}
 
 -- ---- boxes
 

@@ -1,34 +1,301 @@
 -- The bytes of a geometry's rows, with its own entries, are its canonical blob.
-use Rattle.std.proofs.Common.{◌≡◌, ℕ, suc, List, [], ◌∷◌, ◌++◌, map, length, Option, Some, None}
-use Rattle.std.proofs.Common.{refl, subst, ap, sym, ◌∙◌, append_assoc, append-nil, arith}
-use Rattle.std.specs.Prelude.{ℤ, flat_map, if◌then◌else◌, is_some}
+use Rattle.std.proofs.Common.{◌≡◌, ℕ, ◌+◌, ◌*◌, ◌%◌, ◌≤◌, Bool, true, false, List, [], ◌∷◌, ◌++◌, length, Option, Some}
+use Rattle.std.proofs.Common.{None, refl, ap, sym, ◌∙◌, append_assoc, arith, suc, map, append-nil, subst, length-append}
+use Rattle.std.specs.Prelude.{ℤ, pos, negsuc, flat_map, not, ◌&&◌, if◌then◌else◌, is_some, ◌-ℤ◌}
+use Rattle.std.proofs.lemmas.Int.{ints}
+use Rattle.twkb_num.specs.Zigzag.{zigzag_of}
 use Rattle.twkb_num.specs.Varint.{varint_of}
 use Rattle.twkb_points.specs.Point.{Point, origin}
+use Rattle.twkb_points.specs.Extent.{Extent, extent, extent_of, joined_options, box_numbers, tight}
+use Rattle.twkb_io.specs.Sinks.{TookFront}
+use Rattle.twkb_tree.specs.Tree.{Simple, point, line, polygon, multi_point, multi_line, multi_polygon, Tree, simple}
+use Rattle.twkb_tree.specs.Tree.{collection, end, ◌▷◌, IsTree, IsPrecision, precision_of, flat, Ids, Trees, HasIds}
+use Rattle.twkb_tree.specs.Tree.{IdsFit, AreTrees, members, count}
+use Rattle.twkb_tree.specs.Rows.{own_row, own_points, kind_in, Row, plain_row, polygon_rows, ring_rows, rows_of_each}
+use Rattle.twkb_tree.specs.Rows.{other_ids, rows, rows_with, rows_below, member_rows, first_id}
+use Rattle.twkb_tree.specs.Uniform.{uniform}
+use Rattle.twkb_tree.specs.declared.kind.Kind.{Kind}
 use Rattle.twkb_tree.specs.declared.kind.Kind.TheVariants as kind
-use Rattle.twkb_tree.specs.Tree.{Simple, point, line, polygon, multi_point, multi_line}
-use Rattle.twkb_tree.specs.Tree.{multi_polygon, Tree, simple, collection, Trees, end, ◌▷◌, Ids}
-use Rattle.twkb_tree.specs.Tree.{HasIds, IdsFit, IsTree, AreTrees, members, count}
-use Rattle.twkb_tree.specs.Rows.{Row, plain_row, own_row, own_points, kind_in, rows, rows_with}
-use Rattle.twkb_tree.specs.Rows.{rows_below, member_rows, ring_rows, polygon_rows, rows_of_each}
-use Rattle.twkb_tree.specs.Rows.{first_id, other_ids}
+use Rattle.twkb_tree.proofs.RowForest.{both_true}
 use Rattle.twkb_tree.proofs.RowSteps.{own_row-depth, own_row-id}
-use Rattle.twkb_tree.proofs.RowLaws.{AreDeep}
-use Rattle.twkb_grammar.specs.Roles.{Counted, Points, Components, Count, Geometries}
-use Rattle.twkb_grammar.specs.Items.{Slot, OfCount, OfPoint, id_slots, id_fields, fields, slots}
-use Rattle.twkb_grammar.specs.Items.{run_of, rings_of, members as flags_of, flags_all}
-use Rattle.twkb_grammar.specs.Written.{varints, is_empty, canonical_blob, canonical_members}
+use Rattle.twkb_tree.proofs.RowLaws.{AreDeep, one_geometry}
+use Rattle.twkb_grammar.specs.Items.{header_byte, kind_of, flags, OfPoint, run_of, rings_of, Slot, OfCount, id_slots}
+use Rattle.twkb_grammar.specs.Items.{id_fields, fields, slots, members as flags_of, flags_all}
+use Rattle.twkb_grammar.specs.Written.{is_point, has_any, boxed, box_of, flag_bits, flags_of_tree, kind_of_tree}
+use Rattle.twkb_grammar.specs.Written.{metadata_byte, framed, written, canonical_blob, varints, is_empty}
+use Rattle.twkb_grammar.specs.Written.{canonical_members}
 use Rattle.twkb_grammar.specs.declared.style.Style.{Style}
-use Rattle.twkb_grammar.proofs.Bodies.{reached, fields_are}
+use Rattle.twkb_grammar.specs.declared.style.Style.TheVariants.{Full, Plain}
+use Rattle.twkb_grammar.specs.TypeByte.{type_of, type_byte}
+use Rattle.twkb_grammar.specs.Metadata.{bit_value}
+use Rattle.twkb_grammar.specs.Roles.{Counted, Points, Components, Count, Geometries}
+use Rattle.twkb_grammar.specs.Spans.{geometries, geometries_of_all}
+use Rattle.twkb_grammar.proofs.Bodies.{reached, reached-append, fields_are}
+use Rattle.twkb_writer.specs.Bytes.{is_bare, metadata_of, size_bytes, box_bytes, header, signed, rows_bytes}
+use Rattle.twkb_writer.specs.Bytes.{counts_bytes, members_below, step_bytes, way_bytes, way_end, ids_bytes, entries_in}
+use Rattle.twkb_writer.specs.Sizes.{body_of, own_body, bounds_of, content_of, entry_of, sizes_of, sizes_of_all}
+use Rattle.twkb_writer.specs.Sizes.{parts_in, ids_in, part_count, ids_of, AreSizes}
 use Rattle.twkb_writer.specs.declared.sizes.Entry.{Entry}
-use Rattle.twkb_writer.specs.Bytes.{rows_bytes, counts_bytes, members_below, ids_bytes, way_bytes}
-use Rattle.twkb_writer.specs.Bytes.{way_end, is_bare, header}
-use Rattle.twkb_writer.specs.Sizes.{own_body, entry_of, sizes_of, sizes_of_all, parts_in, ids_in, part_count, ids_of}
-use Rattle.twkb_writer.proofs.WayLemmas.{walked, walked-way, reached-way, walked-ids, reached-ids, filled-ids}
-use Rattle.twkb_writer.proofs.BelowLemmas.{Stops, stops_deeper, members-each, members-stop}
-use Rattle.twkb_writer.proofs.BelowLemmas.{ids-each, below_of, rows_with-below, deep-below}
-use Rattle.twkb_writer.proofs.BelowLemmas.{deep-rings, member_rows-each}
-use Rattle.twkb_writer.proofs.PartRows.{regroup, ring_rows-bytes, point_rows, run_rows, area_rows}
-use Rattle.twkb_writer.proofs.HeaderLemmas.{headed}
+use Rattle.twkb_writer.proofs.BelowLemmas.{walked, walked-append, walked-points, reached-points, walked-way}
+use Rattle.twkb_writer.proofs.BelowLemmas.{reached-way, walked-ids, reached-ids, filled-ids, Stops, members-each}
+use Rattle.twkb_writer.proofs.BelowLemmas.{members-stop, length-each, stops_deeper, ids-each, below_of, rows_with-below}
+use Rattle.twkb_writer.proofs.BelowLemmas.{deep-below, deep-rings, member_rows-each}
+
+-- ==== The header of a geometry by its entry is that of its canonical blob.
+
+-- ---- type byte
+
+-- four bits hold a precision
+precision_bits : (p : ℤ) → IsPrecision p → zigzag_of p % 16 ≡ zigzag_of p
+precision_bits (pos n) h = let high : n ≤ 7 = (let top = h.1 in omega (arith, ints, top)) in omega arith
+precision_bits (negsuc n) h = let high : n ≤ 7 = (let low = h.0 in omega (arith, ints, low)) in omega arith
+
+simple_type : (s : Simple) → type_of (kind_in s) ≡ kind_of s
+simple_type (point o) = refl
+simple_type (line ps) = refl
+simple_type (polygon rings) = refl
+simple_type (multi_point ids ps) = refl
+simple_type (multi_line ids lines) = refl
+simple_type (multi_polygon ids areas) = refl
+
+tree_type : (id : Option ℤ) (d : ℕ) (g : Tree) → type_of (own_row id d g).kind ≡ kind_of_tree g
+tree_type id d (simple p s) = simple_type s
+tree_type id d (collection p ids gs) = refl
+
+-- the precision of a geometry is in range
+tree_precision : (g : Tree) → IsTree g → IsPrecision (precision_of g)
+tree_precision (simple p s) t = t.0
+tree_precision (collection p ids gs) t = t.0
+
+pub type_is : (id : Option ℤ) (d : ℕ) (g : Tree) → IsTree g
+    → type_byte (own_row id d g).kind (precision_of g) ≡ header_byte (kind_of_tree g)
+    (precision_of g)
+type_is id d g t =
+    ap (λ n. n + 16 * (zigzag_of (precision_of g) % 16)) (tree_type id d g)
+    ∙ ap (λ n. kind_of_tree g + 16 * n) (precision_bits (precision_of g) (tree_precision g t))
+
+-- ---- box
+
+option_box : (o : Option Extent) → box_bytes o ≡ flat_map signed (elim o [ None ↦ [] | Some e ↦ box_numbers e ])
+option_box None = refl
+option_box (Some e) = refl
+
+box_where : (b : Bool) (ps : List Point) → box_bytes (if b then extent ps else None)
+    ≡ (if b then flat_map signed (tight ps) else [])
+box_where false ps = refl
+box_where true ps = option_box (extent ps)
+
+-- the box of the entry is the canonical box
+pub box_is : (g : Tree) → box_bytes (bounds_of Full g) ≡ box_of g
+box_is g = box_where (boxed g) (flat g)
+
+-- bit 0 of the metadata byte
+abbrev box_bit : Option Extent → ℕ
+box_bit None = 0
+box_bit (Some b) = 1
+
+some_bit : (e : Extent) (o : Option Extent) → box_bit (joined_options (Some e) o) ≡ 1
+some_bit e None = refl
+some_bit e (Some f) = refl
+
+bit_where : (b : Bool) (ps : List Point) → (b ≡ true → has_any ps ≡ true)
+    → box_bit (if b then extent ps else None) ≡ (if b then 1 else 0)
+bit_where false ps any = refl
+bit_where true [] any = cc (any refl)
+bit_where true (p ∷ ps) any = some_bit (extent_of p) (extent ps)
+
+boxed_any : (g : Tree) → boxed g ≡ true → has_any (flat g) ≡ true
+boxed_any g h = (both_true (has_any (flat g)) (uniform g)
+    (both_true (not (is_point g)) (has_any (flat g) && uniform g) h).1).0
+
+-- ---- metadata byte
+
+-- bits 4 and 2 of the metadata byte
+abbrev body_bits : ℕ → Entry → ℕ
+body_bits own e = if is_bare own e then 16 else if e.named then 4 else 0
+
+simple_bits : (style : Style) (p : ℤ) (s : Simple)
+    → body_bits (length (own_points s)) (entry_of style (simple p s)) ≡ flag_bits (flags s)
+simple_bits style p (point None) = refl
+simple_bits style p (point (Some q)) = refl
+simple_bits style p (line []) = refl
+simple_bits style p (line (q ∷ ps)) = refl
+simple_bits style p (polygon []) = refl
+simple_bits style p (polygon (ring ∷ rings)) = refl
+simple_bits style p (multi_point ids []) = refl
+simple_bits style p (multi_point None (q ∷ ps)) = refl
+simple_bits style p (multi_point (Some ids) (q ∷ ps)) = refl
+simple_bits style p (multi_line ids []) = refl
+simple_bits style p (multi_line None (ps ∷ lines)) = refl
+simple_bits style p (multi_line (Some ids) (ps ∷ lines)) = refl
+simple_bits style p (multi_polygon ids []) = refl
+simple_bits style p (multi_polygon None (rings ∷ areas)) = refl
+simple_bits style p (multi_polygon (Some ids) (rings ∷ areas)) = refl
+
+tree_bits : (style : Style) (id : Option ℤ) (d : ℕ) (g : Tree)
+    → body_bits (length (own_row id d g).points) (entry_of style g) ≡ flag_bits (flags_of_tree g)
+tree_bits style id d (simple p s) = simple_bits style p s
+tree_bits style id d (collection p ids end) = refl
+tree_bits style id d (collection p None (g ▷ gs)) = refl
+tree_bits style id d (collection p (Some ids) (g ▷ gs)) = refl
+
+-- the sum of the bits in a full blob
+full_bits : (bare named : Bool) (box : Option Extent)
+    → bit_value (is_some box) 0 + bit_value true 1 + bit_value (not bare && named) 2 + bit_value
+    bare 4 ≡ (if bare then 16 else if named then 4 else 0) + (box_bit box + 2)
+full_bits true named None = refl
+full_bits true named (Some e) = refl
+full_bits false true None = refl
+full_bits false true (Some e) = refl
+full_bits false false None = refl
+full_bits false false (Some e) = refl
+
+-- the sum of the bits in a plain blob
+plain_bits : (bare named : Bool) → bit_value false 0 + bit_value false 1 + bit_value
+    (not bare && named) 2 + bit_value bare 4 ≡ (if bare then 16 else if named then 4 else 0)
+plain_bits true named = refl
+plain_bits false true = refl
+plain_bits false false = refl
+
+pub meta_is : (style : Style) (id : Option ℤ) (d : ℕ) (g : Tree)
+    → metadata_of style (length (own_row id d g).points) (entry_of style g) ≡ metadata_byte style g
+meta_is Full id d g =
+    let own = length (own_row id d g).points in
+    full_bits (is_bare own (entry_of Full g)) (entry_of Full g).named (bounds_of Full g)
+    ∙ (ap (λ n. n + (box_bit (bounds_of Full g) + 2)) (tree_bits Full id d g)
+    ∙ ap (λ n. flag_bits (flags_of_tree g) + (n + 2)) (bit_where (boxed g) (flat g) (boxed_any g)))
+meta_is Plain id d g =
+    let own = length (own_row id d g).points in
+    plain_bits (is_bare own (entry_of Plain g)) (entry_of Plain g).named ∙ tree_bits Plain id d g
+
+-- ---- the complete header
+
+framed_is : (style : Style) (g : Tree) → (size_bytes style (entry_of style g) ++ box_bytes
+    (bounds_of style g)) ++ own_body style g ≡ framed style g (own_body style g)
+framed_is Full g =
+    let body = own_body Full g in
+    append_assoc (varint_of (length (content_of Full g))) (box_bytes (bounds_of Full g)) body
+    ∙ ap (λ (box : List ℕ). varint_of (length (box ++ body)) ++ (box ++ body)) (box_is g)
+framed_is Plain g = refl
+
+blob_is : (style : Style) (g : Tree) → canonical_blob style g ≡ written style g (body_of style g)
+blob_is style (simple p s) = refl
+blob_is style (collection p ids gs) = refl
+
+-- header and body are the canonical blob
+pub headed : (style : Style) (id : Option ℤ) (d : ℕ) (g : Tree) → IsTree g
+    → header style (own_row id d g).kind (precision_of g) (length (own_row id d g).points)
+    (entry_of style g) ++ own_body style g ≡ canonical_blob style g
+headed style id d g t =
+    let own = length (own_row id d g).points in
+    ap (λ (n : ℕ). n ∷ metadata_of style own (entry_of style g)
+    ∷ ((size_bytes style (entry_of style g) ++ box_bytes (bounds_of style g)) ++ own_body style
+    g)) (type_is id d g t)
+    ∙ ap (λ (n : ℕ). header_byte (kind_of_tree g) (precision_of g) ∷ n
+    ∷ ((size_bytes style (entry_of style g) ++ box_bytes (bounds_of style g)) ++ own_body style g))
+    (meta_is style id d g)
+    ∙ ap (λ (l : List ℕ). header_byte (kind_of_tree g) (precision_of g) ∷ metadata_byte style g ∷ l) (framed_is style g)
+    ∙ sym (blob_is style g)
+
+-- ==== The bytes of the rows that are parts of a geometry.
+
+-- a number, some bytes and what follows, regrouped
+pub regroup : (v w x a t : List ℕ) → x ≡ a ++ t → (v ++ w) ++ x ≡ (v ++ (w ++ a)) ++ t
+regroup v w x a t e =
+    ap (λ l. (v ++ w) ++ l) e ∙ append_assoc v w (a ++ t)
+    ∙ ap (λ l. v ++ l) (sym (append_assoc w a t)) ∙ sym (append_assoc v (w ++ a) t)
+
+-- a kind whose rows have a count of points
+abbrev pub IsRun : Kind → Type 0
+IsRun k = (own members : ℕ) (ids : List ℕ) → counts_bytes k own members ids ≡ varint_of own
+
+-- the bytes of the rows of rings or linestrings
+pub run_rows : (style : Style) (d : ℕ) (k : Kind) → IsRun k
+    → (ids : Ids) (lines : List (List Point)) (at : Point) (es : List Entry) (rs : List Row)
+    → rows_bytes style at es (rows_of_each (λ id ps. plain_row d k id ps ∷ []) ids lines ++ rs)
+    ≡ walked at (flat_map run_of lines) ++ rows_bytes style (reached at (flat_map run_of lines)) es rs
+run_rows style d k is ids [] at es rs = refl
+run_rows style d k is ids (ps ∷ lines) at es rs =
+    let ms = flat_map run_of lines in
+    let v = varint_of (length ps) in
+    let after = rows_of_each (λ id ps. plain_row d k id ps ∷ []) (other_ids ids) lines ++ rs in
+    let tail = rows_bytes style (reached at (map OfPoint ps ++ ms)) es rs in
+    let more = run_rows style d k is (other_ids ids) lines (way_end at ps) es rs
+    ∙ ap (λ q. walked (way_end at ps) ms ++ rows_bytes style q es rs) (sym (reached-points at ps ms)) in
+    ap (λ l. (l ++ way_bytes at ps) ++ rows_bytes style (way_end at ps) es after)
+    (is (length ps) (length (members_below d after)) [])
+    ∙ regroup v (way_bytes at ps) (rows_bytes style (way_end at ps) es after) (walked (way_end at ps) ms) tail more
+    ∙ ap (λ l. (v ++ l) ++ tail) (sym (walked-points at ps ms))
+
+-- the bytes of the rows of a polygon's rings
+pub ring_rows-bytes : (style : Style) (d : ℕ) (rings : List (List Point)) (at : Point) (es : List Entry) (rs : List Row)
+    → rows_bytes style at es (ring_rows d rings ++ rs) ≡ walked at (flat_map run_of rings)
+    ++ rows_bytes style (reached at (flat_map run_of rings)) es rs
+ring_rows-bytes style d rings at es rs = run_rows style d kind.Ring (λ own members ids. refl) None rings at es rs
+
+-- the bytes of one difference and those after it
+one_step : (at p : Point) (ps : List Point) → way_bytes at (p ∷ []) ++ way_bytes p ps ≡ way_bytes at (p ∷ ps)
+one_step at p ps = ap (λ l. l ++ way_bytes p ps) (append-nil (step_bytes (p.x -ℤ at.x, p.y -ℤ at.y)))
+
+-- the bytes of the rows of a multipoint's points
+pub point_rows : (style : Style) (d : ℕ) (ids : Ids) (ps : List Point) (at : Point) (es : List Entry) (rs : List Row)
+    → rows_bytes style at es (rows_of_each (λ id p. plain_row d kind.Point id (p ∷ []) ∷ []) ids ps
+    ++ rs) ≡ way_bytes at ps ++ rows_bytes style (way_end at ps) es rs
+point_rows style d ids [] at es rs = refl
+point_rows style d ids (p ∷ ps) at es rs =
+    let step = way_bytes at (p ∷ []) in
+    let after = rows_of_each (λ id p. plain_row d kind.Point id (p ∷ []) ∷ []) (other_ids ids) ps ++ rs in
+    ap (λ l. step ++ l) (point_rows style d (other_ids ids) ps p es rs)
+    ∙ sym (append_assoc step (way_bytes p ps) (rows_bytes style (way_end p ps) es rs))
+    ∙ ap (λ l. l ++ rows_bytes style (way_end p ps) es rs) (one_step at p ps)
+
+-- the rings of a polygon are its members
+pub ring_members : (d : ℕ) (rings : List (List Point)) (rs : List Row) → Stops d rs
+    → length (members_below d (ring_rows (suc d) rings ++ rs)) ≡ length rings
+ring_members d rings rs stops =
+    let own : Option ℤ → List Point → Row = λ id ps. plain_row (suc d) kind.Ring id ps in
+    ap length (members-each d (λ id ps. own id ps ∷ []) own (λ id ps. []) (λ id ps. refl)
+    (λ id ps. refl) (λ id ps. tt) None rings rs
+    ∙ ap (λ (l : List Row). rows_of_each (λ id ps. own id ps ∷ []) None rings ++ l) (members-stop d rs stops)
+    ∙ append-nil (rows_of_each (λ id ps. own id ps ∷ []) None rings))
+    ∙ length-each own None rings
+
+-- the rows of polygons stop at their depth
+stops_areas : (d : ℕ) (ids : Ids) (areas : List (List (List Point))) (rs : List Row) → Stops d rs
+    → Stops d (rows_of_each (polygon_rows d) ids areas ++ rs)
+stops_areas d ids [] rs h = h
+stops_areas d ids (rings ∷ areas) rs h = omega arith
+
+-- the bytes of the rows of a multipolygon's polygons
+pub area_rows : (style : Style) (d : ℕ) (ids : Ids) (areas : List (List (List Point))) (at : Point)
+    (es : List Entry) (rs : List Row) → Stops d rs
+    → rows_bytes style at es (rows_of_each (polygon_rows d) ids areas ++ rs) ≡ walked at
+    (flat_map rings_of areas) ++ rows_bytes style (reached at (flat_map rings_of areas)) es rs
+area_rows style d ids [] at es rs stops = refl
+area_rows style d ids (rings ∷ areas) at es rs stops =
+    let ms = flat_map run_of rings in
+    let more = flat_map rings_of areas in
+    let after = rows_of_each (polygon_rows d) (other_ids ids) areas ++ rs in
+    let v = varint_of (length rings) in
+    let tail = rows_bytes style (reached at (ms ++ more)) es rs in
+    let below : rows_bytes style at es (ring_rows (suc d) rings ++ after) ≡ walked at (ms ++ more) ++ tail =
+    ring_rows-bytes style (suc d) rings at es after
+    ∙ ap (λ l. walked at ms ++ l) (area_rows style d (other_ids ids) areas (reached at ms) es rs stops)
+    ∙ sym (append_assoc (walked at ms) (walked (reached at ms) more)
+    (rows_bytes style (reached (reached at ms) more) es rs))
+    ∙ ap (λ l. l ++ rows_bytes style (reached (reached at ms) more) es rs) (sym (walked-append at ms more))
+    ∙ ap (λ q. walked at (ms ++ more) ++ rows_bytes style q es rs) (sym (reached-append at ms more)) in
+    ap (λ (l : List Row). ((varint_of (length (members_below d l)) ++ []) ++ []) ++ rows_bytes style
+    at es l) (append_assoc (ring_rows (suc d) rings)
+    (rows_of_each (polygon_rows d) (other_ids ids) areas) rs)
+    ∙ ap (λ n. ((varint_of n ++ []) ++ []) ++ rows_bytes style at es
+    (ring_rows (suc d) rings ++ after)) (ring_members d rings after
+    (stops_areas d (other_ids ids) areas rs stops))
+    ∙ ap (λ l. l ++ rows_bytes style at es (ring_rows (suc d) rings ++ after)) (append-nil (v ++ []) ∙ append-nil v)
+    ∙ ap (λ l. v ++ l) below
+    ∙ sym (append_assoc v (walked at (ms ++ more)) tail)
+
+-- ==== The bytes of a geometry's rows, with its own entries, are its canonical blob.
 
 -- ---- id lists
 
@@ -295,3 +562,120 @@ rows_spell style g t =
     ap (λ (l : List Entry). rows_bytes style origin l (rows 0 g)) (sym (append-nil (sizes_of style g)))
     ∙ ap (λ (l : List Row). rows_bytes style origin (sizes_of style g ++ []) l) (sym (append-nil (rows 0 g)))
     ∙ all.1 ∙ append-nil (canonical_blob style g)
+
+-- ==== The rows of a flat form with its sizes.
+
+-- ---- there are as many entries as rows that are geometries
+
+entries-append : (xs ys : List Row) → entries_in (xs ++ ys) ≡ entries_in xs + entries_in ys
+entries-append [] ys = omega arith
+entries-append (x ∷ xs) ys = let more = entries-append xs ys in omega (arith, more)
+
+-- parts have no entries
+entries-each : {A : Type 0} (f : Option ℤ → A → List Row)
+    → ((id : Option ℤ) (x : A) → entries_in (f id x) ≡ 0) → (ids : Ids) (xs : List A)
+    → entries_in (rows_of_each f ids xs) ≡ 0
+entries-each f none ids [] = refl
+entries-each f none ids (x ∷ xs) =
+    let here = none (first_id ids) x in
+    let more = entries-each f none (other_ids ids) xs in
+    let both = entries-append (f (first_id ids) x) (rows_of_each f (other_ids ids) xs) in
+    omega (arith, here, more, both)
+
+entries-rings : (d : ℕ) (rings : List (List Point)) → entries_in (ring_rows d rings) ≡ 0
+entries-rings d rings = entries-each (λ none ring. plain_row d Kind.Ring none ring ∷ [])
+    (λ id x. omega arith) None rings
+
+entries-below : (d : ℕ) (s : Simple) → entries_in (rows_below d s) ≡ 0
+entries-below d (point o) = refl
+entries-below d (line ps) = refl
+entries-below d (polygon rings) = entries-rings d rings
+entries-below d (multi_point ids ps) = entries-each
+    (λ id p. plain_row d Kind.Point id (p ∷ []) ∷ []) (λ id x. omega arith) ids ps
+entries-below d (multi_line ids lines) = entries-each
+    (λ id ps. plain_row d Kind.Linestring id ps ∷ []) (λ id x. omega arith) ids lines
+entries-below d (multi_polygon ids areas) = entries-each (polygon_rows d)
+    (λ id x. let none = entries-rings (suc d) x in omega (arith, none)) ids areas
+
+mutual
+  entries-tree : (style : Style) (id : Option ℤ) (d : ℕ) (g : Tree)
+      → entries_in (rows_with id d g) ≡ length (sizes_of style g)
+  entries-tree style id d (simple p s) = let none = entries-below (suc d) s in omega (arith, none)
+  entries-tree style id d (collection p ids gs) = let all = entries-members style ids (suc d) gs in omega (arith, all)
+
+  entries-members : (style : Style) (ids : Ids) (d : ℕ) (gs : Trees)
+      → entries_in (member_rows d ids gs) ≡ length (sizes_of_all style gs)
+  entries-members style ids d end = refl
+  entries-members style ids d (g ▷ gs) =
+      let one = entries-tree style (first_id ids) d g in
+      let all = entries-members style (other_ids ids) d gs in
+      let both = entries-append (rows_with (first_id ids) d g) (member_rows d (other_ids ids) gs) in
+      omega (arith, one, all, both, length-append (sizes_of style g) (sizes_of_all style gs))
+
+-- there are as many sizes as the rows have entries
+pub sizes_suffice : (style : Style) (rs : List Row) (es : List Entry) → AreSizes style rs es → entries_in rs ≤ length es
+sizes_suffice style [] es sizes = omega arith
+sizes_suffice style (r ∷ rs) es sizes =
+    let count = entries-tree style None 0 sizes.0 in
+    omega (arith, count, ap entries_in sizes.2, ap length sizes.3)
+
+-- ---- the bytes of the rows
+
+-- a geometry has at least one row
+pub some_row : (g : Tree) → rows 0 g ≡ [] → ⊥
+some_row (simple p s) e = cc e
+some_row (collection p ids gs) e = cc e
+
+-- rows with their sizes are the canonical blob of the geometry whose rows they are
+pub rows_written : (style : Style) (rs : List Row) (es : List Entry) → AreSizes style rs es
+    → (g : Tree) → IsTree g → rows 0 g ≡ rs → rows_bytes style origin es rs ≡ canonical_blob style g
+rows_written style [] es sizes g t e = absurd (some_row g e)
+rows_written style (r ∷ rs) es sizes g t e =
+    let h = sizes.0 in
+    let same : h ≡ g = one_geometry h g sizes.1 t (sizes.2 ∙ sym e) in
+    ap (λ (l : List Entry). rows_bytes style origin l (r ∷ rs)) sizes.3
+    ∙ ap (λ (l : List Row). rows_bytes style origin (sizes_of style h) l) (sym sizes.2)
+    ∙ rows_spell style h sizes.1
+    ∙ ap (canonical_blob style) same
+
+-- a sink that took these bytes took the blob
+pub took_blob : {S : Type 0} (took : S → List ℕ → S → Type 0) (a b : S) (style : Style)
+    (rs : List Row) (es : List Entry) → AreSizes style rs es
+    → took a (rows_bytes style origin es rs) b
+    → (g : Tree) → IsTree g → rows 0 g ≡ rs → took a (canonical_blob style g) b
+took_blob took a b style rs es sizes taken g t e = subst (λ (l : List ℕ). took a l b)
+    (rows_written style rs es sizes g t e) taken
+
+-- a sink that took a prefix of these bytes took a prefix of the blob
+pub took_front : {S F : Type 0} (refused : S → List ℕ → F → S → Type 0) (a b : S) (fault : F)
+    (style : Style) (rs : List Row) (es : List Entry) → AreSizes style rs es
+    → TookFront refused a (rows_bytes style origin es rs) fault b → (g : Tree) → IsTree g
+    → rows 0 g ≡ rs → TookFront refused a (canonical_blob style g) fault b
+took_front refused a b fault style rs es sizes front g t e =
+    subst (λ (l : List ℕ). TookFront refused a l fault b)
+    (rows_written style rs es sizes g t e) front
+
+-- ==== The number of sizes.
+
+mutual
+  -- there is one entry for each TWKB geometry
+  length-sizes_of : (style : Style) (g : Tree) → length (sizes_of style g) ≡ geometries g
+  length-sizes_of style (simple p s) = refl
+  length-sizes_of style (collection p ids gs) = ap suc (length-sizes_of_all style gs)
+
+  length-sizes_of_all : (style : Style) (gs : Trees) → length (sizes_of_all style gs) ≡ geometries_of_all gs
+  length-sizes_of_all style end = refl
+  length-sizes_of_all style (g ▷ gs) = omega (
+    arith,
+    length-append (sizes_of style g) (sizes_of_all style gs),
+    length-sizes_of style g,
+    length-sizes_of_all style gs,
+  )
+
+-- the sizes of a geometry's rows
+pub one_size_each : (style : Style) (g : Tree) (flat : List Row) (sizes : List Entry) → IsTree g
+    → rows 0 g ≡ flat → AreSizes style flat sizes → length sizes ≡ geometries g
+one_size_each style g [] sizes tree same are = absurd (some_row g same)
+one_size_each style g (r ∷ rs) sizes tree same are =
+    let one : are.0 ≡ g = one_geometry are.0 g are.1 tree (are.2 ∙ sym same) in
+    ap length are.3 ∙ length-sizes_of style are.0 ∙ ap geometries one

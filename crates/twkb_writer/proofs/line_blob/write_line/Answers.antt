@@ -1,5 +1,5 @@
 use Rattle.std.proofs.Common.{◌∙◌, refl, rules, to_z-of_z}
-use Rattle.twkb_writer.proofs.LineBlobLemmas.{took_line, took_line_front, all_own, line_work}
+use Rattle.twkb_writer.proofs.LoneBlobLemmas.{took_line, took_line_front, all_own, line_work}
 use Rattle.twkb_writer.proofs.PutLemmas.{put_join, whole_run, cut_run}
 use Rattle.twkb_writer.proofs.line_blob.write_line.Goals as goal
 

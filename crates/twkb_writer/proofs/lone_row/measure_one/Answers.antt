@@ -1,10 +1,8 @@
 use Rattle.std.proofs.Common.{rules}
 use Rattle.std.proofs.lemmas.Result.{on_ok_weaker}
-use Rattle.twkb_writer.proofs.MeasuringCaps.{capped}
-use Rattle.twkb_writer.proofs.MeasuringOne.{root_whole, reads_point, sizes_of_point}
-use Rattle.twkb_writer.proofs.MeasuringPass.{points_of_one}
-use Rattle.twkb_writer.proofs.MeasuringWork.{reads_back}
-use Rattle.twkb_writer.proofs.ReadLemmas.{exactly_none}
+use Rattle.twkb_writer.proofs.MeasuringSteps.{capped}
+use Rattle.twkb_writer.proofs.MeasuringPass.{root_whole, reads_point, sizes_of_point, points_of_one}
+use Rattle.twkb_writer.proofs.ReadLemmas.{reads_back, exactly_none}
 use Rattle.twkb_writer.proofs.lone_row.measure_one.Goals as goal
 
 pub unreachable-requires : goal.unreachable-requires

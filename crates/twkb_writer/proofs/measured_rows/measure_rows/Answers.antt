@@ -1,8 +1,8 @@
 use Rattle.std.proofs.Common.{◌≡◌, ◌-◌, length, arith}
-use Rattle.twkb_writer.proofs.MeasuringCaps.{capped, capped_drop, node_depth}
+use Rattle.twkb_writer.proofs.MeasuringSteps.{capped, capped_drop, node_depth}
 use Rattle.twkb_writer.proofs.MeasuringPass.{pass_start, pass_small, tail_short, pass_step, points_back, pass_end}
-use Rattle.twkb_writer.proofs.MeasuringWork.{reads_behind, reads_back}
-use Rattle.twkb_writer.proofs.RowStep.{points_within}
+use Rattle.twkb_writer.proofs.ReadLemmas.{reads_behind, reads_back}
+use Rattle.twkb_writer.proofs.WalkLemmas.{points_within}
 use Rattle.twkb_writer.proofs.measured_rows.measure_rows.Goals as goal
 
 pub loop-back-init : goal.loop-back-init

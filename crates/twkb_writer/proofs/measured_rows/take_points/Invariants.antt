@@ -3,7 +3,7 @@ use Rattle.std.proofs.Common.{◌≡◌, ◌≤◌, ◌+◌, ◌*◌, ◌-◌, �
 use Rattle.twkb_points.specs.Point.{Point}
 use Rattle.twkb_writer.specs.Reads.{ReadsExactly}
 use Rattle.twkb_writer.specs.Tails.{tail_from, tail_of}
-use Rattle.twkb_writer.proofs.MeasuringPoints.{part}
+use Rattle.twkb_writer.proofs.PutLemmas.{part}
 use Rattle.twkb_writer.proofs.measured_rows.take_points.Given as goal
 
 abbrev pub invariant-loop-pair : goal.invariant-loop-pair

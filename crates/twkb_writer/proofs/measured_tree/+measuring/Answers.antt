@@ -9,10 +9,9 @@ use Rattle.twkb_tree.specs.Size.{member_smaller}
 use Rattle.twkb_grammar.specs.declared.style.Style.TheVariants.{Full}
 use Rattle.twkb_writer.specs.MeasuredRows.{totals}
 use Rattle.twkb_writer.proofs.MeasuringParts.{flat_map_ones}
-use Rattle.twkb_writer.proofs.MeasuringTrees.{with_tree, tree_counted}
-use Rattle.twkb_writer.proofs.TreeTotals.{each_back, member_more, geometry_more, nodes_back}
-use Rattle.twkb_writer.proofs.TreeTotals.{flat_back, fewer_nodes, fewer_flat, members_have_rows}
-use Rattle.twkb_writer.proofs.TreeTotals.{counted_from, members_are, own_within, by_shape}
+use Rattle.twkb_writer.proofs.MeasuringTrees.{with_tree, tree_counted, each_back, member_more, geometry_more}
+use Rattle.twkb_writer.proofs.MeasuringTrees.{nodes_back, flat_back, fewer_nodes, fewer_flat, members_have_rows}
+use Rattle.twkb_writer.proofs.MeasuringTrees.{counted_from, members_are, own_within, by_shape}
 use Rattle.twkb_writer.proofs.measured_tree.+measuring.Goals as goal
 
 pub members_totals-with_member-totals-requires : goal.members_totals-with_member-totals-requires

@@ -6,11 +6,9 @@ use Rattle.twkb_tree.specs.Rows.{ring_rows}
 use Rattle.twkb_tree.specs.declared.kind.Kind.TheVariants as kind
 use Rattle.twkb_grammar.specs.declared.style.Style.TheVariants.{Full}
 use Rattle.twkb_writer.specs.MeasuredRows.{totals}
-use Rattle.twkb_writer.proofs.MeasuringParts.{with_polygon, rings_totals}
-use Rattle.twkb_writer.proofs.MeasuringTotals.{component_counted}
-use Rattle.twkb_writer.proofs.TreeTotals.{each_back, polygon_more, count_back, fewer_points}
-use Rattle.twkb_writer.proofs.TreeTotals.{areas_back, fewer_areas, area_within, areas_have_rows}
-use Rattle.twkb_writer.proofs.TreeTotals.{counted_from, areas_are}
+use Rattle.twkb_writer.proofs.MeasuringParts.{with_polygon, rings_totals, component_counted}
+use Rattle.twkb_writer.proofs.MeasuringTrees.{each_back, polygon_more, count_back, fewer_points, areas_back}
+use Rattle.twkb_writer.proofs.MeasuringTrees.{fewer_areas, area_within, areas_have_rows, counted_from, areas_are}
 use Rattle.twkb_writer.proofs.measured_tree.areas_totals.Goals as goal
 
 pub components_totals-rings-requires-clause-few : goal.components_totals-rings-requires-clause-few

@@ -3,10 +3,9 @@ use Rattle.twkb_points.specs.Point.{Point}
 use Rattle.twkb_writer.specs.declared.totals.RowTotals.{RowTotals}
 use Rattle.twkb_writer.specs.Totals.{blank}
 use Rattle.twkb_writer.specs.MeasuredRows.{load}
-use Rattle.twkb_writer.proofs.MeasuringParts.{with_row_of}
-use Rattle.twkb_writer.proofs.MeasuringTotals.{component_counted}
-use Rattle.twkb_writer.proofs.TreeTotals.{each_back, component_more, count_back, fewer}
-use Rattle.twkb_writer.proofs.TreeTotals.{fewer_points, length_back, counted_from, parts_are}
+use Rattle.twkb_writer.proofs.MeasuringParts.{with_row_of, component_counted}
+use Rattle.twkb_writer.proofs.MeasuringTrees.{each_back, component_more, count_back, fewer, fewer_points, length_back}
+use Rattle.twkb_writer.proofs.MeasuringTrees.{counted_from, parts_are}
 use Rattle.twkb_writer.proofs.measured_tree.components_totals.Goals as goal
 
 pub overflow_cast-own : goal.overflow_cast-own

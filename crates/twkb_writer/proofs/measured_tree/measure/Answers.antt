@@ -1,6 +1,6 @@
 use Rattle.std.proofs.Common.{◌∙◌, None, ap}
 use Rattle.twkb_writer.specs.MeasuredTree.{tree_totals}
-use Rattle.twkb_writer.proofs.TreeTotals.{blob_is}
+use Rattle.twkb_writer.proofs.MeasuringTrees.{blob_is}
 use Rattle.twkb_writer.proofs.measured_tree.measure.Goals as goal
 
 pub returns : goal.returns

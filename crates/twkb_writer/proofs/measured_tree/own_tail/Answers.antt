@@ -3,7 +3,7 @@ use Rattle.std.specs.Prelude.{flat_map}
 use Rattle.twkb_tree.specs.Tree.{flatten}
 use Rattle.twkb_writer.specs.Tails.{tail_of}
 use Rattle.twkb_writer.specs.MeasuredTree.{way_of}
-use Rattle.twkb_writer.proofs.TreeTotals.{by_shape}
+use Rattle.twkb_writer.proofs.MeasuringTrees.{by_shape}
 use Rattle.twkb_writer.proofs.measured_tree.own_tail.Goals as goal
 
 pub returns-in-MultiPolygon-clause-value : goal.returns-in-MultiPolygon-clause-value

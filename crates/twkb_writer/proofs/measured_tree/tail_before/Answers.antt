@@ -1,5 +1,5 @@
 use Rattle.std.proofs.Common.{◌-◌, arith}
-use Rattle.twkb_writer.proofs.TreeTotals.{tail_back, tail_end, count_back, fewer_points}
+use Rattle.twkb_writer.proofs.MeasuringTrees.{tail_back, tail_end, count_back, fewer_points}
 use Rattle.twkb_writer.proofs.measured_tree.tail_before.Goals as goal
 
 pub in_front_of-tail-requires : goal.in_front_of-tail-requires

@@ -1,5 +1,5 @@
 use Rattle.std.proofs.Common.{◌∙◌}
-use Rattle.twkb_writer.proofs.PointBlobLemmas.{full_frame}
+use Rattle.twkb_writer.proofs.LoneBlobLemmas.{full_frame}
 use Rattle.twkb_writer.proofs.point_blob.push_frame.Goals as goal
 
 pub returns-in-Full-clause-value : goal.returns-in-Full-clause-value

@@ -1,6 +1,6 @@
 use Rattle.std.proofs.Common.{◌∙◌, rules, FitsSigned, w8}
 use Rattle.std.proofs.lemmas.Int.{to_z-of_z}
-use Rattle.twkb_writer.proofs.PointBlobLemmas.{point_put, both}
+use Rattle.twkb_writer.proofs.LoneBlobLemmas.{point_put, both}
 use Rattle.twkb_writer.proofs.point_blob.put_point.Goals as goal
 
 pub returns : goal.returns

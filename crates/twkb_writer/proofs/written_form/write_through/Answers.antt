@@ -1,6 +1,6 @@
 use Rattle.std.proofs.Common.{◌∙◌, refl, rules}
 use Rattle.twkb_writer.proofs.PutLemmas.{whole_run, cut_run}
-use Rattle.twkb_writer.proofs.WrittenRows.{sizes_suffice, some_row, took_blob, took_front}
+use Rattle.twkb_writer.proofs.TreeBytes.{sizes_suffice, some_row, took_blob, took_front}
 use Rattle.twkb_writer.proofs.written_form.write_through.Goals as goal
 
 pub put_rows-requires : goal.put_rows-requires
