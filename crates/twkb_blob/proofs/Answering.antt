@@ -1,6 +1,6 @@
--- The answers of a reader, of what was read into a form.
-use Rattle.std.proofs.Common.{◌≡◌, ℕ, ◌<◌, List, [], length, length-append, sym, ap, ◌∙◌, refl, subst, Bool}
-use Rattle.std.proofs.Common.{Option, Some, None, Result, Ok, Err, true, false, arith}
+-- The answers of a reader, of what was read into a form, and what every call says.
+use Rattle.std.proofs.Common.{◌≡◌, ℕ, ◌<◌, ◌++◌, List, [], ◌∷◌, length, sym, ◌∙◌, ap, arith, length-append, refl, subst}
+use Rattle.std.proofs.Common.{Bool, Option, Some, None, Result, Ok, Err, true, false, ◌+◌, ◌≤◌, is_err, ◌⊎◌, inl, inr}
 use Rattle.std.proofs.KnownBytes.{Consumes-whole}
 use Rattle.std.proofs.Math.Seq.{take-append_seam}
 use Rattle.std.proofs.lemmas.List.{nil_from_length}
@@ -8,28 +8,65 @@ use Rattle.std.proofs.lemmas.Option.{IfSome_then}
 use Rattle.std.specs.Prelude.{IfSome}
 use Rattle.std.specs.Io.KnownBytes.{Consumes, IsAtEnd}
 use Rattle.std.specs.declared.io.traits.Read.{Ghosts}
-use Rattle.twkb_tree.specs.Tree.{Tree}
-use Rattle.twkb_tree.specs.Rows.{Row}
-use Rattle.twkb_tree.specs.Limits.{Allowance}
-use Rattle.twkb_grammar.specs.Blob.{Blob}
-use Rattle.twkb_grammar.specs.Noting.{Notes, no_notes}
-use Rattle.twkb_grammar.specs.declared.span.Span.{Span}
-use Rattle.twkb_grammar.proofs.Streams.{blob_long}
-use Rattle.twkb_body.specs.JudgedParts.{IsJudged, PartIn}
+use Rattle.std.proofs.Math.Logic.{∥∥₁_elim}
+use Rattle.std.proofs.Props.{props}
 use Rattle.twkb_io.specs.declared.input.Input.{Input}
 use Rattle.twkb_io.specs.declared.input.InFault.{InFault}
 use Rattle.twkb_io.specs.declared.input.InFault.TheVariants.{Read, TooLong, Spent}
 use Rattle.twkb_io.specs.Inputs.{given, rest_of}
-use Rattle.twkb_engine.specs.Standing.{StandsAt, count_of, held_in, notes_at}
+use Rattle.twkb_io.specs.declared.TheConstants.{MAX_BYTES}
+use Rattle.twkb_tree.specs.Tree.{Tree, simple, collection, IsTree}
+use Rattle.twkb_tree.specs.Rows.{Row, rows}
+use Rattle.twkb_tree.specs.Limits.{Allowance, IsValid, largest_limits}
+use Rattle.twkb_grammar.specs.Blob.{Stream, Blob}
+use Rattle.twkb_grammar.specs.Noting.{Notes, no_notes}
+use Rattle.twkb_grammar.specs.declared.span.Span.{Span}
+use Rattle.twkb_grammar.proofs.Streams.{blob_long}
+use Rattle.twkb_body.specs.JudgedParts.{IsJudged, PartIn}
+use Rattle.twkb_engine.specs.Standing.{StandsAt, count_of, held_in, notes_at, IsAlive}
 use Rattle.twkb_engine.specs.declared.engine.Engine.{Engine}
+use Rattle.twkb_engine.specs.State.{allowance_of}
+use Rattle.twkb_engine.specs.Taking.{BeginsAt}
 use Rattle.twkb_engine.proofs.Feeds.{count_is}
-use Rattle.twkb_engine.proofs.Steps.{blob_judged, noted_none}
-use Rattle.twkb_blob.specs.Readers.{AreCutOff, HasNone, IsNextFlat, Left, Makes, PartAhead, StopsWithin}
-use Rattle.twkb_blob.specs.Located.{IsInto, IsSpanned, ReadsInto}
+use Rattle.twkb_engine.proofs.Steps.{blob_judged, noted_none, begins, stands_begun}
+use Rattle.twkb_blob.specs.Readers.{AreCutOff, HasNone, IsNextFlat, Left, Makes, PartAhead, StopsWithin, IsAtBlob}
+use Rattle.twkb_blob.specs.Readers.{reader_input, reader_limits, IfGoingOn, ReadsNext, ReadsRows, has_ended, is_spent}
+use Rattle.twkb_blob.specs.Located.{IsInto, IsSpanned, ReadsInto, ReadsWith, ReadsSpans}
 use Rattle.twkb_blob.specs.Feeding.{Reads, ReadsBlob}
 use Rattle.twkb_blob.specs.declared.fault.BlobFault.{BlobFault}
 use Rattle.twkb_blob.specs.declared.fault.BlobFault.TheVariants as fault
-use Rattle.twkb_blob.proofs.Trees.{some_row}
+use Rattle.twkb_blob.specs.declared.reader.Reader.{Reader}
+
+-- ==== The rows of a geometry, and the tree that is made of them.
+
+-- the law that rows tell one tree
+abbrev pub TreeLaw : Type 0
+TreeLaw = (g h : Tree) → IsTree g → IsTree h → rows 0 g ≡ rows 0 h → g ≡ h
+
+-- a geometry has a row
+pub has_row : (g : Tree) → 0 < length (rows 0 g)
+has_row (simple p s) = omega arith
+has_row (collection p ids gs) = omega arith
+
+-- and so have these rows, which are not none
+pub some_row : (rs : List Row) (g : Tree) → rs ≡ rows 0 g → 0 < length rs
+some_row rs g is = omega (arith, ap length is, has_row g)
+
+pub not_none : (rs : List Row) (g : Tree) → rs ≡ rows 0 g → rs ≡ [] → ⊥
+not_none rs g is none = absurd (omega (arith, ap length none, some_row rs g is))
+
+-- the tree that is made of the rows is the geometry
+pub tree_made : TreeLaw → (rs : List Row) (g h : Tree) → IsTree g → rs ≡ rows 0 g → rows 0 h ≡ rs
+    → IsValid largest_limits h → g ≡ h
+tree_made law rs g h tree is made valid = law g h tree valid.tree (sym (made ∙ is))
+
+-- the last geometry of a stream is one
+pub last_tree : (limits : Allowance) (bytes : List ℕ) (gs : List Tree) (g : Tree)
+    → Stream limits bytes (gs ++ g ∷ []) → IsTree g
+last_tree limits bytes [] g (front, rest, whole, blob, more) = blob.valid.tree
+last_tree limits bytes (f ∷ fs) g (front, rest, whole, blob, more) = last_tree limits rest fs g more
+
+-- ==== The answers of a reader, of what was read into a form.
 
 -- if no byte came, nothing was noted
 none_noted : (rs : List Row) (d : Engine) (s : StandsAt [] rs d) → notes_at s ≡ no_notes
@@ -140,3 +177,137 @@ module _ {R : Type 0} {read : Ghosts R} {limits : Allowance} {a c : Input R read
   -- there is no memory for its tree
   pub made_ahead : {g : Tree} → Makes limits [] a c g → PartAhead limits [] a
   made_ahead {g} made = blob_known (rest_of a) (rest_of c) made.left.consumed made.blob
+
+-- ==== An engine that keeps pace with a reader.
+
+-- an engine that took no byte is where a blob begins
+begun : (d : Engine) → IsAlive [] d → count_of d ≡ 0 → StandsAt [] [] d
+begun d alive none =
+    let alone : held_in d ≡ [] = nil_from_length (held_in d) (omega (arith, none)) in
+    let start : BeginsAt d.start d = ∥∥₁_elim alive (Prim.hlevel props)
+    (λ s. begins s.0 [] d s.1 (omega (arith, none)) alone) in
+    stands_begun d.start d start alone
+
+-- one that is made for the next blob keeps pace
+pub new_abreast : {R : Type 0} {read : Ghosts R} {limits : Allowance} {a : Input R read} {d : Engine}
+    → StandsAt [] [] d → d.start ≡ given a → allowance_of d ≡ limits → IsAtBlob limits a d
+new_abreast {d = d} stands start same = record {
+  alive = ∣ ([], stands) ∣₁;
+  none = sym (count_is [] [] d stands);
+  start = start;
+  same_limits = same;
+}
+
+module _ {R : Type 0} {read : Ghosts R} {limits : Allowance} {a c : Input R read} {d e : Engine}
+    (k : IsAtBlob limits a d) {S : Type 0} {holds : S → Notes → Type 0} {none more : List Row} {w v : S}
+    (cleared : none ≡ []) where
+  -- a blob that is read with it, into a form that was cleared, is read from its first byte on
+  pub read_abreast : {qs : List Row} (answer : Result Bool BlobFault) → holds w no_notes
+      → (answer ≡ Ok true → qs ≡ more) → Reads holds d none w a c answer e more v
+      → ReadsInto holds limits a c answer qs v
+  read_abreast answer noted kept run = read_next answer k.same_limits k.start (begun d k.alive k.none) cleared
+      noted kept run
+
+  -- and the engine keeps pace
+  pub still_abreast : {own : Allowance} → own ≡ limits → Reads holds d none w a c (Ok true) e more v → IsAtBlob own c e
+  still_abreast same run =
+      let (g, made, told, rows, stands, start) = run.blob []
+      (subst (λ l. StandsAt [] l d) (sym cleared) (begun d k.alive k.none)) in
+      new_abreast stands (omega (arith, start, made.left.counted, k.start)) (run.limits ∙ k.same_limits ∙ sym same)
+
+-- it took no byte more than the input may give
+pub few_taken : {R : Type 0} {read : Ghosts R} {limits : Allowance} {a : Input R read} {d : Engine}
+    → IsAtBlob limits a d → d.start + count_of d ≤ MAX_BYTES
+few_taken {a = a} k = let few = a.within in omega (arith, few, k.start, k.none)
+
+-- after a blob was read, the engine is where the next one begins
+pub past_blob : {R : Type 0} {read : Ghosts R} {old new : Reader R read} {S : Type 0} {holds : S → Notes → Type 0}
+    {more : List Row} {v : S} {e : Engine} (answer : Result Bool BlobFault) → answer ≡ Ok true
+    → ReadsWith holds old new answer more v e → IsAtBlob (reader_limits new) (reader_input new) e
+past_blob answer found r = r.abreast (r.shared.stays ∙ ap is_err found)
+    (r.shared.going_on (λ end. let both : Ok true ≡ Ok false = sym found ∙ end in cc))
+
+-- ==== What follows from what every call of a reader says.
+
+is_false : (b : Bool) → ¬ (b ≡ true) → b ≡ false
+is_false true not = absurd (not refl)
+is_false false not = refl
+
+is_true : (b : Bool) → ¬ (b ≡ false) → b ≡ true
+is_true true not = refl
+is_true false not = absurd (not refl)
+
+-- two facts that hold unless a third does
+pub both : {A B C : Type 0} → A ⊎ B → A ⊎ C → A ⊎ (B × C)
+both (inl a) other = inl a
+both (inr b) (inl a) = inl a
+both (inr b) (inr c) = inr (b, c)
+
+-- what was read of its input
+pub next_read : {R : Type 0} {read : Ghosts R} {old new : Reader R read} {S : Type 0}
+    {holds : S → Notes → Type 0} {d e : Engine} {none more : List Row} {w v : S} (answer : Result Bool BlobFault)
+    → Reads holds d none w (reader_input old) (reader_input new) answer e more v
+    → reader_limits new ≡ reader_limits old → is_spent old ≡ false → has_ended old ≡ false
+    → is_spent new ≡ is_err answer → (answer ≡ Ok false → has_ended new ≡ true)
+    → (¬ (answer ≡ Ok false) → has_ended new ≡ false) → ReadsNext false old new answer
+next_read answer run limits live going stays end on = record {
+  same_tap = run.same_tap;
+  limits = limits;
+  failures = run.failures;
+  spent = λ e. absurd (cc (e, live));
+  stays = stays;
+  unchanged = λ e. absurd (cc (e, live));
+  end = end;
+  going_on = on;
+  for_good = λ e. absurd (cc (e, going));
+}
+
+module _ {R : Type 0} {read : Ghosts R} {old new : Reader R read} {answer : Result Bool BlobFault}
+    (h : ReadsNext false old new answer) where
+  -- what is neither the end nor `Spent` comes from a reader that answered neither an error nor the end
+  pub going_on : {A : Type 0} → ¬ (answer ≡ Ok false) → ¬ (answer ≡ Err fault.Spent) → IfGoingOn old A → A
+  going_on not_end unspent fact = fact (is_false (is_spent old) (λ e. unspent (h.spent e)))
+      (is_false (has_ended old) (λ e. not_end (h.for_good e).0))
+
+  -- and so does a geometry
+  pub came : {A : Type 0} → answer ≡ Ok true → IfGoingOn old A → A
+  came is = going_on (λ e. cc (e, is)) (λ e. cc (e, is))
+
+  module _ {S : Type 0} {holds : S → Notes → Type 0} {rs : List Row} {v : S}
+      (run : IfGoingOn old (ReadsInto holds (reader_limits old) (reader_input old) (reader_input new)
+      answer rs v)) where
+    -- there is no memory for a part that is ahead
+    pub no_memory : answer ≡ Err fault.Memory → PartAhead (reader_limits old) [] (reader_input old)
+    no_memory is = part_ahead is (going_on (λ e. cc (e, is)) (λ e. cc (e, is)) run)
+
+    -- it is refused only for an error before
+    pub was_spent : answer ≡ Err fault.Spent → is_spent old ≡ true
+    was_spent is = is_true (is_spent old) (λ live. not_spent is (run live
+        (is_false (has_ended old) (λ e. absurd (let end = (h.for_good e).0 in cc (end, is))))))
+
+    -- a geometry has rows
+    pub some_came : answer ≡ Ok true → 0 < length rs
+    some_came is = some_rows is (came is run)
+
+    -- rows were read
+    pub rows_read : (answer ≡ Ok true) ⊎ (rs ≡ []) → ReadsRows old new answer rs
+    rows_read cleared = record {
+      shared = h;
+      next = λ live going. flat_next answer (run live going);
+      memory = no_memory;
+      cleared = cleared;
+      some = some_came;
+      spent = (was_spent, h.spent);
+    }
+
+  -- rows and spans were read
+  pub spans_read : {rs : List Row} {v : Notes} {spans : List Span}
+      → IfGoingOn old (ReadsInto (λ (o w : Notes). o ≡ w) (reader_limits old) (reader_input old)
+      (reader_input new) answer rs v) → (answer ≡ Ok true → spans ≡ v.spans)
+      → (answer ≡ Ok true) ⊎ ((rs ≡ []) × (spans ≡ [])) → ReadsSpans old new answer rs spans
+  spans_read run kept cleared = record {
+    shared = h;
+    next = λ live going. spanned_next answer (run live going) kept;
+    memory = no_memory run;
+    cleared = cleared;
+  }

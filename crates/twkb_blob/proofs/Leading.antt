@@ -1,37 +1,314 @@
--- The turns of a call that reads a blob of an input.
-use Rattle.std.proofs.Common.{◌≡◌, ◌≢◌, ℕ, ◌+◌, List, [], ◌++◌, length, length-append, take, drop}
-use Rattle.std.proofs.Common.{refl, sym, ap, ◌∙◌, subst, append_assoc, append-nil, take-append-drop, Bool, Result, Ok}
-use Rattle.std.proofs.Common.{Err, true, false, arith}
-use Rattle.std.proofs.KnownBytes.{Consumes-whole, starts_with_rest}
-use Rattle.std.proofs.lemmas.List.{length-take-le}
+-- The turns of a call that reads a blob of an input, piece by piece.
+use Rattle.std.proofs.Common.{◌≡◌, ℕ, ◌+◌, ◌≤◌, List, [], ◌++◌, length, take, length-append, Bool, true, false, Ok}
+use Rattle.std.proofs.Common.{arith, ◌-◌, ◌<◌, drop, take-append-drop, refl, sym, ap, ◌∙◌, subst, Result, Err, ◌∷◌}
+use Rattle.std.proofs.Common.{get_or, inl, inr, ◌≢◌, append_assoc, nat_eq, Option, Some, None, append-nil}
+use Rattle.std.specs.Prelude.{if◌then◌else◌, IfSome}
+use Rattle.std.proofs.lemmas.List.{length-take-le, length-take, take-append-le, nil_from_length}
+use Rattle.std.proofs.Math.Logic.{∥∥₁_elim, ∥∥₁_map}
+use Rattle.std.proofs.Props.{props}
+use Rattle.std.proofs.Math.Seq.{take-length, take-append-add}
+use Rattle.std.proofs.KnownBytes.{Consumes-kept, Consumes-nil, Consumes-trans, Consumes-whole, starts_with_rest}
+use Rattle.std.proofs.lemmas.Grind.{common_steps}
 use Rattle.std.proofs.lemmas.Option.{IfSome_then}
-use Rattle.std.specs.Prelude.{IfSome}
+use Rattle.std.specs.Io.KnownBytes.{Consumes, Keeps, IsAtEnd}
+use Rattle.std.specs.declared.io.traits.Read.{Ghosts}
 use Rattle.std.specs.Result.{result_and}
 use Rattle.std.specs.Io.{StartsWith}
-use Rattle.std.specs.Io.KnownBytes.{IsAtEnd}
-use Rattle.std.specs.declared.io.traits.Read.{Ghosts}
-use Rattle.twkb_tree.specs.Rows.{Row}
-use Rattle.twkb_tree.specs.Limits.{Allowance}
-use Rattle.twkb_grammar.specs.Blob.{Blob}
-use Rattle.twkb_grammar.specs.Fault.{FirstFault}
-use Rattle.twkb_grammar.specs.Noting.{Notes}
-use Rattle.twkb_body.specs.JudgedParts.{PartIn}
-use Rattle.twkb_io.specs.Taps.{count_failure, failures_of}
+use Rattle.twkb_io.specs.declared.TheConstants.{MAX_BYTES}
+use Rattle.twkb_io.specs.declared.input.InFault.TheVariants.{TooLong, Read, Spent}
 use Rattle.twkb_io.specs.declared.input.Input.{Input}
 use Rattle.twkb_io.specs.declared.input.InFault.{InFault}
-use Rattle.twkb_io.specs.Inputs.{input_failures, input_tap, is_read, is_spent, rest_of}
+use Rattle.twkb_io.specs.Inputs.{given, held_of, is_read, rest_of, is_spent, input_failures, input_tap}
+use Rattle.twkb_io.specs.Taps.{count_failure, failures_of}
+use Rattle.twkb_tree.specs.Rows.{Row}
+use Rattle.twkb_tree.specs.Limits.{Allowance}
+use Rattle.twkb_flat.specs.declared.stop.Stop.TheVariants.{Memory, Refused}
+use Rattle.twkb_flat.specs.declared.stop.Stop.TheVariants as stop
+use Rattle.twkb_grammar.specs.Noting.{Notes}
+use Rattle.twkb_grammar.specs.Blob.{Blob}
+use Rattle.twkb_grammar.specs.Fault.{FirstFault}
+use Rattle.twkb_body.specs.JudgedParts.{IsJudged, PartIn}
+use Rattle.twkb_engine.specs.Standing.{IsAlive, IsAnswer, count_of, StandsAt, IsEnd, IsFed, FedBy, HoldsSpans, TakesAll}
+use Rattle.twkb_engine.specs.Standing.{notes_at, offset_in, RefusedIn}
+use Rattle.twkb_engine.specs.declared.engine.Engine.{Engine}
 use Rattle.twkb_engine.specs.State.{allowance_of}
 use Rattle.twkb_engine.specs.Stops.{Stop, reason_of}
-use Rattle.twkb_engine.specs.Standing.{StandsAt, FedBy, IsAnswer, IsFed, HoldsSpans, RefusedIn, notes_at, offset_in}
-use Rattle.twkb_engine.specs.declared.engine.Engine.{Engine}
-use Rattle.twkb_flat.specs.declared.stop.Stop.TheVariants as stop
+use Rattle.twkb_engine.proofs.Feeds.{count_is}
 use Rattle.twkb_blob.specs.Faults.{fault_of}
-use Rattle.twkb_blob.specs.Feeding.{EndsAt, Goes, IsCutAt, Reads, ReadsBlob, ReadsNoBlob, Turns}
-use Rattle.twkb_blob.specs.Readers.{AreCutOff, HasNone, Left, failed_by_read}
-use Rattle.twkb_blob.specs.declared.fault.BlobFault.{BlobFault}
+use Rattle.twkb_blob.specs.Feeding.{Feeds, EndsAt, Goes, IsCutAt, Reads, ReadsBlob, ReadsNoBlob, Turns}
+use Rattle.twkb_blob.specs.Readers.{AreCutOff, HasNone, Left, failed_by_read, told_by}
+use Rattle.twkb_blob.specs.declared.fault.BlobFault.TheVariants.{Device}
 use Rattle.twkb_blob.specs.declared.fault.BlobFault.TheVariants as fault
-use Rattle.twkb_blob.proofs.Cuts.{grown}
-use Rattle.twkb_blob.proofs.Pieces.{known_after, left_join, none_from, part_after, read_failed}
+use Rattle.twkb_blob.specs.declared.fault.BlobFault.{BlobFault}
+
+-- ==== Engines that some bytes lead to, after a piece and before one.
+
+module _ {S : Type 0} {holds : S → Notes → Type 0} {rs more : List Row} {d e : Engine} {old new : S}
+    {piece : List ℕ} {used : ℕ} where
+  -- the form has the rows of the geometry that is read, unless it ended
+  pub alive_fed : (ends : Bool) → IsAnswer holds d rs old piece (Ok (used, ends)) e more new
+      → IsAlive rs d → IsAlive (if ends then [] else more) e
+  alive_fed false f alive = ∥∥₁_map alive (λ s. (s.0 ++ take used piece, (f.fed s.0 s.1).2))
+  alive_fed true f alive = ∥∥₁_map alive (λ s. ([], (f.fed s.0 s.1).2))
+
+  -- it took these bytes, and no more than there are
+  pub many_fed : (ends : Bool) → IsAnswer holds d rs old piece (Ok (used, ends)) e more new → IsAlive rs d
+      → (used ≤ length piece) × (e.start + count_of e ≡ (d.start + count_of d) + used)
+  many_fed false f alive = ∥∥₁_elim alive (Prim.hlevel props) (λ s.
+      let h = f.fed s.0 s.1 in (
+        h.0,
+        omega (
+          arith,
+          h.1,
+          count_is s.0 rs d s.1,
+          count_is (s.0 ++ take used piece) more e h.2,
+          length-append s.0 (take used piece),
+          length-take-le used piece h.0,
+        ),
+      ))
+  many_fed true f alive = ∥∥₁_elim alive (Prim.hlevel props) (λ s.
+      let h = f.fed s.0 s.1 in (h.0.within, omega (arith, h.3, count_is s.0 rs d s.1, count_is [] [] e h.2)))
+
+-- ==== An answer to a prefix of a piece is one to the piece.
+
+-- where an engine stands there are no bytes, or they end inside a blob
+pub are_cut_off : (limits : Allowance) (bs : List ℕ) (offset : ℕ) (between : Bool)
+    → IsEnd limits bs offset between → AreCutOff limits bs
+are_cut_off limits bs offset true none = inl none
+are_cut_off limits bs offset false cut = inr (offset, cut)
+
+module _ {S : Type 0} (holds : S → Notes → Type 0) (known : Type 0) (limits : Allowance) (start : ℕ)
+    (bs xs ys : List ℕ) (rs : List Row) (e : Engine) (new : S) where
+  longer : (used : ℕ) → used ≤ length xs → used ≤ length (xs ++ ys)
+  longer used few = omega (arith, few, length-append xs ys)
+
+  pub grown : (answer : Result (ℕ × Bool) Stop) → IsFed holds known limits start bs xs answer rs e new
+      → IsFed holds known limits start bs (xs ++ ys) answer rs e new
+  grown (Ok (used, false)) f =
+      let same : take used xs ≡ take used (xs ++ ys) = sym (take-append-le used xs ys f.0) in
+      let both = subst (λ l. (s : StandsAt (bs ++ l) rs e) × (known → holds new (notes_at s))) same (f.2, f.3) in
+      (longer used f.0, f.1, both.0, both.1)
+  grown (Ok (used, true)) f =
+      let m = f.0 in
+      let same : take used xs ≡ take used (xs ++ ys) = sym (take-append-le used xs ys m.within) in
+      let both = subst (λ l. (x : Blob limits (bs ++ l) m.geometry)
+      × (known → HoldsSpans holds new start x)) same (m.blob, f.1) in (
+        record {
+          some = m.some;
+          within = longer used m.within;
+          geometry = m.geometry;
+          blob = both.0;
+          made = m.made;
+        },
+        both.1,
+        f.2,
+        f.3,
+      )
+  grown (Err Memory) f = record {
+    used = f.used;
+    some = f.some;
+    within = longer f.used f.within;
+    part = rw (take-append-le f.used xs ys f.within) f.part;
+  }
+  grown (Err (Refused why)) f = record {
+    used = f.used;
+    some = f.some;
+    within = longer f.used f.within;
+    fault = λ more. rw (take-append-le f.used xs ys f.within) (f.fault more);
+  }
+
+piece_fed : {S : Type 0} (holds : S → Notes → Type 0) (d e : Engine) (rs more : List Row)
+    (old new : S) (piece : List ℕ) (count : ℕ) (answer : Result (ℕ × Bool) Stop)
+    → FedBy holds d rs old (take count piece) answer e more new → FedBy holds d rs old piece answer e more new
+piece_fed holds d e rs more old new piece count answer fed = λ bs s.
+    let known : Type 0 = holds old (notes_at s) in
+    subst (λ l. IsFed holds known (allowance_of d) d.start bs l answer more e new) (take-append-drop count piece)
+    (grown holds known (allowance_of d) d.start bs (take count piece) (drop count piece) more e new answer (fed bs s))
+
+-- a piece of one byte
+only_byte : (piece : List ℕ) (byte : ℕ) → length piece ≡ 1 → byte ≡ get_or piece 0 0 → take 1 piece ≡ byte ∷ []
+only_byte [] byte one is = absurd (omega (arith, one))
+only_byte (x ∷ []) byte one is = ap (λ y. y ∷ []) (sym is)
+only_byte (x ∷ y ∷ xs) byte one is = absurd (omega (arith, one))
+
+module _ {S : Type 0} {holds : S → Notes → Type 0} {d e : Engine} {rs more : List Row} {old new : S}
+    {piece : List ℕ} where
+  -- bytes of it were used
+  pub cut_feeds : (count used : ℕ) (ends : Bool) → IsAnswer holds d rs old (take count piece) (Ok (used, ends))
+      e more new → IsAlive rs d → (d.start + count_of d) + count ≤ MAX_BYTES
+      → (ends ≡ false → used ≡ length piece) → Feeds holds d rs old piece (Ok (used, ends)) e more new
+  cut_feeds count used ends f alive room all =
+      let whole : IsAnswer holds d rs old piece (Ok (used, ends)) e more new = record {
+        limits = f.limits;
+        fed = piece_fed holds d e rs more old new piece count (Ok (used, ends)) f.fed;
+      } in
+      let cut = many_fed ends f alive in
+      record {
+        limits = f.limits;
+        fed = whole.fed;
+        within = (many_fed ends whole alive).0;
+        all = all;
+        few = omega (arith, cut.0, cut.1, length-take count piece, room);
+        alive = alive_fed ends whole alive;
+        unread = refl;
+      }
+
+  -- the engine stopped
+  pub stopped : {place : ℕ} (count : ℕ) (stop : Stop) → IsAnswer holds d rs old (take count piece) (Err stop) e more new
+      → place ≡ d.start + offset_in e → Feeds holds d rs old piece (Err (fault_of place stop)) e more new
+  stopped count Memory f at = record {
+    limits = f.limits;
+    fed = piece_fed holds d e rs more old new piece count (Err Memory) f.fed;
+    within = tt;
+    all = tt;
+    few = tt;
+    alive = tt;
+    unread = refl;
+  }
+  stopped count (Refused why) f at = record {
+    limits = f.limits;
+    fed = (piece_fed holds d e rs more old new piece count (Err (Refused why)) f.fed, at);
+    within = tt;
+    all = tt;
+    few = tt;
+    alive = tt;
+    unread = refl;
+  }
+
+  -- the stream has no room for all of the piece
+  pub too_far : (used count : ℕ) (ends : Bool) → ends ≡ false
+      → TakesAll (length (take count piece)) (Ok (used, ends))
+      → FedBy holds d rs old (take count piece) (Ok (used, ends)) e more new
+      → (d.start + count_of d) + count ≡ MAX_BYTES → count < length piece → e.limits ≡ d.limits
+      → ((bs : List ℕ) (rs : List Row) → StandsAt bs rs e → AreCutOff (allowance_of e) bs)
+      → Feeds holds d rs old piece (Err (fault.Device TooLong)) e more new
+  too_far used count true off all fed full less limits cut = absurd cc
+  too_far used count false off all fed full less limits cut = record {
+    limits = limits;
+    fed = (
+      refl,
+      omega (arith, full, less),
+      λ bs s. let room : count ≡ MAX_BYTES - (d.start + count_of d) = omega (arith, full) in
+          let whole : take used (take count piece) ≡ take (MAX_BYTES - (d.start + count_of d)) piece =
+          ap (λ n. take n (take count piece)) all ∙ take-length (take count piece) ∙ ap (λ n. take n piece) room in
+          subst (λ l. AreCutOff l (bs ++ take (MAX_BYTES - (d.start + count_of d)) piece)) limits
+          (cut _ more (subst (λ l. StandsAt (bs ++ l) more e) whole (fed bs s).2)),
+    );
+    within = tt;
+    all = tt;
+    few = tt;
+    alive = tt;
+    unread = refl;
+  }
+
+  -- it is one byte, which was used
+  pub byte_feeds : {byte : ℕ} (ends : Bool) → e.limits ≡ d.limits → length piece ≡ 1 → byte ≡ get_or piece 0 0
+      → FedBy holds d rs old (byte ∷ []) (Ok (1, ends)) e more new → IsAlive rs d
+      → d.start + count_of d < MAX_BYTES → Feeds holds d rs old piece (Ok (1, ends)) e more new
+  byte_feeds {byte} ends limits one is fed alive room = cut_feeds 1 1 ends (record {
+    limits = limits;
+    fed = subst (λ l. FedBy holds d rs old l (Ok (1, ends)) e more new) (sym (only_byte piece byte one is)) fed;
+  }) alive (omega (arith, room)) (λ off. sym one)
+
+  -- it is one byte, at which the engine stopped
+  pub byte_stopped : {byte place : ℕ} (stop : Stop) → e.limits ≡ d.limits → length piece ≡ 1 → byte ≡ get_or piece 0 0
+      → FedBy holds d rs old (byte ∷ []) (Err stop) e more new
+      → place ≡ d.start + offset_in e → Feeds holds d rs old piece (Err (fault_of place stop)) e more new
+  byte_stopped {byte} stop limits one is fed at = stopped 1 stop (record {
+    limits = limits;
+    fed = subst (λ l. FedBy holds d rs old l (Err stop) e more new) (sym (only_byte piece byte one is)) fed;
+  }) at
+
+-- all bytes of it were used, if no blob ended
+pub all_used : (used many : ℕ) (ends : Bool) → TakesAll many (Ok (used, ends)) → ends ≡ false → used ≡ many
+all_used used many false all off = all
+all_used used many true all off = absurd cc
+
+-- ==== Bytes that leave an input one piece after another, and what is known of those that are left.
+
+-- what follows for all known bytes from what holds of those that are left
+pub known_after : {P : List ℕ → Type 0} (Q : List ℕ → Type 0) (a b : Option (List ℕ))
+    (bytes : List ℕ) → Consumes a b bytes → IfSome b P
+    → ((rest : List ℕ) → P rest → Q (bytes ++ rest)) → IfSome a Q
+known_after Q None b bytes loses h so = tt
+known_after Q (Some xs) None bytes loses h so = absurd loses
+known_after Q (Some xs) (Some ys) bytes loses h so = subst Q (sym loses) (so ys h)
+
+-- a part that ends in further bytes
+pub part_after : {limits : Allowance} (bs xs : List ℕ) {ys : List ℕ} → PartIn limits (bs ++ xs) ys
+    → PartIn limits bs (xs ++ ys)
+part_after {limits} bs xs {ys} h = record {
+  used = length xs + h.used;
+  some = (let some = h.some in omega (arith, some));
+  within = (let few = h.within in omega (arith, few, length-append xs ys));
+  part = subst (IsJudged limits) (append_assoc bs xs (take h.used ys)
+      ∙ ap (λ l. bs ++ l) (sym (take-append-add xs ys h.used))) h.part;
+}
+
+-- a piece without bytes
+pub none_in : (piece : List ℕ) (empty : Bool) → empty ≡ nat_eq (length piece) 0 → empty ≡ true → piece ≡ []
+none_in piece empty is on = nil_from_length piece (is_zero (length piece) (sym is ∙ on))
+  where
+    is_zero : (n : ℕ) → nat_eq n 0 ≡ true → n ≡ 0
+    is_zero n same = grind (arith, common_steps)
+
+-- whether a fault of an input is a failed read
+pub read_failed : (why : InFault) → is_read why ≡ failed_by_read {A = Bool} (Err (Device why))
+read_failed Read = refl
+read_failed TooLong = refl
+read_failed Spent = refl
+
+module _ {R : Type 0} {read : Ghosts R} {a b : Input R read} where
+  -- a fill loses nothing
+  pub left_none : Keeps (rest_of a) (rest_of b) → given b ≡ given a → Left a b []
+  left_none keeps same = record {
+    consumed = Consumes-kept (rest_of a) (rest_of a) (rest_of b) [] (Consumes-nil (rest_of a)) keeps;
+    counted = omega (arith, same);
+  }
+
+  -- bytes that leave one after another
+  pub left_join : {c : Input R read} {xs ys : List ℕ} → Left a b xs → Left b c ys → Left a c (xs ++ ys)
+  left_join {c} {xs} {ys} first second = record {
+    consumed = Consumes-trans (rest_of a) (rest_of b) (rest_of c) xs ys first.consumed second.consumed;
+    counted = omega (arith, first.counted, second.counted, length-append xs ys);
+  }
+
+  -- held bytes leave
+  pub held_left : {piece : List ℕ} {used : ℕ} → piece ≡ held_of a → used ≤ length piece
+      → Consumes (rest_of a) (rest_of b) (take used (held_of a))
+      → given b ≡ given a + used → Left a b (take used piece)
+  held_left {piece} {used} is within loses counted = record {
+    consumed = subst (λ l. Consumes (rest_of a) (rest_of b) (take used l)) (sym is) loses;
+    counted = omega (arith, counted, length-take-le used piece within);
+  }
+
+  -- why an input gave none, after bytes that left
+  pub none_from : {bytes : List ℕ} (c : Input R read) (why : InFault) → Left a b bytes
+      → is_spent b ≢ true → HasNone why b c → HasNone why a c
+  none_from c Read left live none = none
+  none_from {bytes} c TooLong left live none = (
+    none.0,
+    known_after (λ rest. MAX_BYTES < given a + length rest) (rest_of a) (rest_of b) bytes left.consumed none.1
+        (λ rest long. omega (arith, long, left.counted, length-append bytes rest)),
+  )
+  none_from c Spent left live none = absurd (live none)
+
+-- why a fill gave none
+pub fill_none : {A R : Type 0} {read : Ghosts R} {r : Result A InFault} (a b : Input R read)
+    (why : InFault) → r ≡ Err why → given b ≡ given a
+    → (r ≡ Err TooLong → (given a ≡ MAX_BYTES) × IfSome (rest_of a) (λ rest. rest ≢ []))
+    → (r ≡ Err Read → rest_of b ≡ told_by b)
+    → (r ≡ Err Spent → is_spent a ≡ true) → HasNone why a b
+fill_none a b Read is same long none spent = none is
+fill_none a b TooLong is same long none spent = let h = long is in
+    (same ∙ h.0, IfSome_then (rest_of a) h.1 (λ rest some. more rest h.0 some))
+  where
+    more : (rest : List ℕ) → given a ≡ MAX_BYTES → rest ≢ [] → MAX_BYTES < given a + length rest
+    more [] full some = absurd (some refl)
+    more (x ∷ rest) full some = omega (arith, full)
+fill_none a b Spent is same long none spent = spent is
+
+-- ==== The turns of a call that reads a blob of an input.
 
 -- the bytes end inside a blob
 pub halts_end : {R : Type 0} {read : Ghosts R} {a b : Input R read} (limits : Allowance) (start : ℕ)

@@ -1,11 +1,5 @@
-pub mod Trees
-pub mod Changing
-pub mod Cuts
-pub mod Standing
-pub mod Alive
-pub mod Counts
 pub mod Answering
-pub mod Abreast
-pub mod Calls
-pub mod Pieces
+pub mod Changing
 pub mod Leading
+pub mod Standing
+pub mod Counts

@@ -25,7 +25,7 @@ use Rattle.twkb_blob.specs.Sessions.{session_limits, session_rows}
 use Rattle.twkb_blob.specs.declared.session.Session.{Session}
 use Rattle.twkb_blob.specs.declared.fault.BlobFault.{BlobFault}
 use Rattle.twkb_blob.specs.declared.fault.BlobFault.TheVariants as fault
-use Rattle.twkb_blob.proofs.Trees.{TreeLaw, last_tree, tree_made}
+use Rattle.twkb_blob.proofs.Answering.{TreeLaw, last_tree, tree_made}
 
 -- after a stream, a stream of one geometry more has its blob
 pub blob_behind : (limits : Allowance) (bytes more : List ℕ) (gs : List Tree) (g : Tree)

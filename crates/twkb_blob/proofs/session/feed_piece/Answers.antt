@@ -2,7 +2,7 @@ use Rattle.std.proofs.Common.{length, take, arith, inl, inr}
 use Rattle.std.proofs.lemmas.List.{length-take}
 use Rattle.twkb_engine.specs.State.{allowance_of}
 use Rattle.twkb_engine.specs.Standing.{offset_in}
-use Rattle.twkb_blob.proofs.Cuts.{all_used, are_cut_off, cut_feeds, stopped, too_far}
+use Rattle.twkb_blob.proofs.Leading.{all_used, are_cut_off, cut_feeds, stopped, too_far}
 use Rattle.twkb_blob.proofs.session.feed_piece.Goals as goal
 
 pub returns-then-count-piece : goal.returns-then-count-piece

@@ -1,9 +1,7 @@
 use Rattle.std.proofs.Common.{rules, subst, ◌≡◌, Ok, true, []}
 use Rattle.twkb_tree.proofs.RowLaws.{one_geometry}
 use Rattle.twkb_blob.specs.Readers.{IsNextFlat, Makes, reader_input, reader_limits}
-use Rattle.twkb_blob.proofs.Answering.{made_ahead}
-use Rattle.twkb_blob.proofs.Calls.{came}
-use Rattle.twkb_blob.proofs.Trees.{tree_made}
+use Rattle.twkb_blob.proofs.Answering.{made_ahead, came, tree_made}
 use Rattle.twkb_blob.proofs.reader.Reader.next.Goals as goal
 
 pub returns-in_err-geometry-clause-memory : goal.returns-in_err-geometry-clause-memory

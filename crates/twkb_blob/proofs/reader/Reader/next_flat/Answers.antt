@@ -1,4 +1,4 @@
-use Rattle.twkb_blob.proofs.Calls.{rows_read}
+use Rattle.twkb_blob.proofs.Answering.{rows_read}
 use Rattle.twkb_blob.proofs.reader.Reader.next_flat.Goals as goal
 
 pub returns : goal.returns

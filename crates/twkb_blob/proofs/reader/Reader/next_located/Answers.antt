@@ -2,9 +2,7 @@ use Rattle.std.proofs.Common.{rules, subst, ◌≡◌, Ok, refl, true}
 use Rattle.twkb_tree.proofs.RowLaws.{one_geometry}
 use Rattle.twkb_blob.specs.Readers.{reader_input, reader_limits}
 use Rattle.twkb_blob.specs.Located.{HasSpans}
-use Rattle.twkb_blob.proofs.Answering.{made_ahead, same_answer, spanned_next}
-use Rattle.twkb_blob.proofs.Calls.{came, some_came}
-use Rattle.twkb_blob.proofs.Trees.{tree_made}
+use Rattle.twkb_blob.proofs.Answering.{made_ahead, same_answer, spanned_next, came, some_came, tree_made}
 use Rattle.twkb_blob.proofs.reader.Reader.next_located.Goals as goal
 
 pub tree_of-requires : goal.tree_of-requires

@@ -1,5 +1,5 @@
 use Rattle.std.proofs.Common.{◌≡◌, Ok, true, rules}
-use Rattle.twkb_blob.proofs.Abreast.{few_taken, past_blob}
+use Rattle.twkb_blob.proofs.Answering.{few_taken, past_blob}
 use Rattle.twkb_blob.proofs.session.Session.feed_from.Goals as goal
 
 pub invariant_of-self : goal.invariant_of-self

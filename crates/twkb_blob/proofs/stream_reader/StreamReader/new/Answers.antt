@@ -1,6 +1,6 @@
 use Rattle.std.proofs.Common.{arith, ap, rules}
 use Rattle.twkb_io.specs.Inputs.{given}
-use Rattle.twkb_blob.proofs.Abreast.{new_abreast}
+use Rattle.twkb_blob.proofs.Answering.{new_abreast}
 use Rattle.twkb_blob.proofs.stream_reader.StreamReader.new.Goals as goal
 
 pub invariant_of-result : goal.invariant_of-result

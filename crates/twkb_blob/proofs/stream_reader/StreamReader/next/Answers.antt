@@ -1,4 +1,4 @@
-use Rattle.twkb_blob.proofs.Calls.{rows_read}
+use Rattle.twkb_blob.proofs.Answering.{rows_read}
 use Rattle.twkb_blob.proofs.stream_reader.StreamReader.next.Goals as goal
 
 pub returns : goal.returns

@@ -1,5 +1,5 @@
 use Rattle.std.proofs.Common.{◌≡◌, Ok, inl, inr, refl, rules, true}
-use Rattle.twkb_blob.proofs.Calls.{both, spans_read}
+use Rattle.twkb_blob.proofs.Answering.{both, spans_read}
 use Rattle.twkb_blob.proofs.stream_reader.StreamReader.next_spans.Goals as goal
 
 pub returns-in-Ok-true : goal.returns-in-Ok-true
