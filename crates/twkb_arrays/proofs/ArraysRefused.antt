@@ -13,7 +13,7 @@ use Rattle.twkb_tree.proofs.RowLaws.{one_reading}
 use Rattle.twkb_tree.proofs.OpenLaws.{local_refusal, root_refusal, accepted_unrefused}
 use Rattle.twkb_tree.proofs.LimitLaws.{refused_begins_none}
 use Rattle.twkb_table.proofs.FieldLemmas.{ArePlain, IsPlain, head_same}
-use Rattle.twkb_table.proofs.Tables.{plain_rows, geometries}
+use Rattle.twkb_table.proofs.Verdicts.{plain_rows, geometries}
 use Rattle.twkb_buffer.specs.Polylines.{coordinates_of}
 use Rattle.twkb_buffer.specs.declared.point.BufferPoint.{BufferPoint}
 use Rattle.twkb_arrays.specs.JudgedRow.{RefusedAfter}

@@ -25,10 +25,8 @@ use Rattle.twkb_table.specs.Judged.{Verdict, Refused, When, Unless, UnlessFaulty
 use Rattle.twkb_table.specs.Judged.{Judged, JudgedByCount, JudgedByPlace, JudgedByPoints, JudgedByPrecision}
 use Rattle.twkb_table.specs.Judged.{JudgedHavingId, JudgedHavingPrecision, JudgedById}
 use Rattle.twkb_table.specs.declared.reason.RowReason.TheVariants.{BadDepth, BadKind, BadId, BadPrecision}
-use Rattle.twkb_table.proofs.AcceptedRecords.{precision_in_range-true}
+use Rattle.twkb_table.proofs.Verdicts.{precision_in_range-true, optional_precision_is, skip, pick}
 use Rattle.twkb_table.proofs.FieldLemmas.{one_depth, one_word, one_optional, precision-ids}
-use Rattle.twkb_table.proofs.RowsJudged.{optional_precision_is}
-use Rattle.twkb_table.proofs.Verdicts.{skip, pick}
 
 -- the verdict is this reason
 abbrev Says : Verdict → Refusal → Type 0

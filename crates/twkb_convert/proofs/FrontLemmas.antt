@@ -19,8 +19,8 @@ use Rattle.twkb_grammar.proofs.OneFault.{no_fault}
 use Rattle.twkb_grammar.proofs.Streams.{behind_stream}
 use Rattle.twkb_table.proofs.FaultLaws.{later_none}
 use Rattle.twkb_table.proofs.FieldLemmas.{head_same, tail_same}
-use Rattle.twkb_table.proofs.Tables.{geometries, one_table, split, table_front}
-use Rattle.twkb_table.proofs.TableReaderLemmas.{never_none}
+use Rattle.twkb_table.proofs.Verdicts.{geometries, one_table, split, table_front}
+use Rattle.twkb_table.proofs.TableSteps.{never_none}
 use Rattle.twkb_table.specs.TableReading.{NameSoFar}
 use Rattle.twkb_convert.proofs.RoundTrips.{one_records}
 use Rattle.twkb_convert.proofs.RowTexts.{table_text-append}

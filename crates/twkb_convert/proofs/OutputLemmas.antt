@@ -3,9 +3,7 @@ use Rattle.twkb_convert.proofs.Prelude.{◌⊎◌, ◌≡◌, ◌∙◌, ℕ, Li
 use Rattle.twkb_convert.proofs.Prelude.{AreBytes, Stream, Reason, StreamFault, canonical_stream, Style, Record, Named}
 use Rattle.twkb_convert.proofs.Prelude.{NamesNone, AreComplete, RowFault, RowReason, PackTo, UnpackTo, table_text}
 use Rattle.twkb_grammar.proofs.Streams.{one_stream_fault, stream_or_fault}
-use Rattle.twkb_table.proofs.Complete.{one_complete, some_complete}
-use Rattle.twkb_table.proofs.Deciding.{named_or_fault}
-use Rattle.twkb_table.proofs.FaultLaws.{fault_none}
+use Rattle.twkb_table.proofs.FaultLaws.{one_complete, some_complete, named_or_fault, fault_none}
 use Rattle.twkb_convert.proofs.RoundTrips.{packed_records, unpacked_stream}
 
 -- records with a fault name no geometries

@@ -8,7 +8,7 @@ use Rattle.twkb_convert.proofs.Prelude.{table_text, AreMovedLines, PackApart, Ro
 use Rattle.twkb_grammar.proofs.SpanLaws.{blob_moved}
 use Rattle.twkb_grammar.proofs.Streams.{fault-append, stream-append}
 use Rattle.twkb_table.specs.Parts.{BeginAtRoot}
-use Rattle.twkb_table.proofs.PartsLemmas.{named_cut, named_joined}
+use Rattle.twkb_table.proofs.Verdicts.{named_cut, named_joined}
 use Rattle.twkb_convert.proofs.LocatedLemmas.{located-append, located-stream}
 use Rattle.twkb_convert.proofs.RoundTrips.{packed_records, unpacked_stream}
 use Rattle.twkb_convert.proofs.RowTexts.{table_text-append, table_text-rows}

@@ -12,7 +12,7 @@ use Rattle.twkb_tree.specs.RowLists.{AreValid}
 use Rattle.twkb_grammar.proofs.Streams.{no_stream, one_stream, written_stream}
 use Rattle.twkb_table.proofs.FaultLaws.{fault_none}
 use Rattle.twkb_table.proofs.ReadBack.{text_read}
-use Rattle.twkb_table.proofs.Tables.{one_table}
+use Rattle.twkb_table.proofs.Verdicts.{one_table}
 
 -- ---- a text has one list of records
 

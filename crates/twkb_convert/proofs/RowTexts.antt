@@ -7,7 +7,7 @@ use Rattle.twkb_tree.specs.Tree.{Tree}
 use Rattle.twkb_tree.specs.Rows.{rows, rows_of}
 use Rattle.twkb_table.specs.Record.{header, record_of}
 use Rattle.twkb_table.specs.Text.{csvtext, joined}
-use Rattle.twkb_table.proofs.PartsLemmas.{records-append}
+use Rattle.twkb_table.proofs.Verdicts.{records-append}
 use Rattle.twkb_convert.specs.Outputs.{rows_text, table_text}
 
 -- the rows of one geometry

@@ -15,7 +15,7 @@ use Rattle.twkb_table.specs.TableReading.{GivesNext, HaveGiven, MeetsEnd, Stands
 use Rattle.twkb_table.specs.declared.table_fault.TableFault.{TableFault}
 use Rattle.twkb_table.specs.declared.table_fault.TableFault.TheVariants as fault
 use Rattle.twkb_table.specs.declared.table_reader.TableReader.{TableReader}
-use Rattle.twkb_table.proofs.TableReaderLemmas.{all_but_last-last, names_so_far, text_begins}
+use Rattle.twkb_table.proofs.TableSteps.{all_but_last-last, names_so_far, text_begins}
 use Rattle.twkb_convert.specs.WrittenBlob.{CutsBlob, WritesBlob}
 use Rattle.twkb_convert.specs.Causes.{cause_of_output, cause_of_table}
 use Rattle.twkb_convert.specs.CountedWork.{IsWorkOf, no_work}

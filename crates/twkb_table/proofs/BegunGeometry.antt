@@ -15,9 +15,9 @@ use Rattle.twkb_table.specs.declared.numbered_records.TheConstants.{RECORD_CAP}
 use Rattle.twkb_table.specs.declared.reason.RowReason.{RowReason}
 use Rattle.twkb_table.specs.declared.table_fault.TableFault.{TableFault}
 use Rattle.twkb_table.specs.declared.table_reader.TableReader.{TableReader}
-use Rattle.twkb_table.proofs.RecordJudged.{if_refused}
-use Rattle.twkb_table.proofs.HeaderCalls.{explained, no_record}
-use Rattle.twkb_table.proofs.TableReaderLemmas.{all_but_last-last, explains_from, extends_both, extends_one, gives_from}
+use Rattle.twkb_table.proofs.RowReaderLemmas.{if_refused}
+use Rattle.twkb_table.proofs.TableCalls.{explained, no_record}
+use Rattle.twkb_table.proofs.TableSteps.{all_but_last-last, explains_from, extends_both, extends_one, gives_from}
 use Rattle.twkb_table.proofs.TableSteps.{reads_end, reads_more, reads_next, reads_refused}
 
 -- the record is one more row

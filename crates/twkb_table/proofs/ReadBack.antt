@@ -14,7 +14,7 @@ use Rattle.twkb_table.specs.Named.{Named}
 use Rattle.twkb_table.specs.Record.{Record, record_of, header, table}
 use Rattle.twkb_table.specs.Text.{joined, csvtext}
 use Rattle.twkb_table.proofs.FieldLemmas.{IsPlain, ArePlain, precision-ids}
-use Rattle.twkb_table.proofs.Tables.{plain_rows}
+use Rattle.twkb_table.proofs.Verdicts.{plain_rows}
 use Rattle.twkb_table.proofs.Unquoted.{AreBare, bare_decimal, bare_optional, bare_text, bare_word, row_same}
 
 -- ---- records that are read back

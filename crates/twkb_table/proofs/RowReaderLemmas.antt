@@ -1,31 +1,287 @@
--- The next row and the rows of the geometry that is being read.
-use Rattle.std.proofs.Common.{◌≡◌, ℕ, zero, suc, ◌<◌, ◌≤◌, Bool, true, List, [], ◌∷◌, ◌++◌, length}
-use Rattle.std.proofs.Common.{Option, Some, None, refl, sym, ◌∙◌, ap, subst, arith, length-append}
-use Rattle.std.specs.Prelude.{reverse, is_some, ◌↔◌}
-use Rattle.std.proofs.lemmas.Bool.{false≢true}
+-- The next row of a record, judged by the open rows of the geometry that is being read.
+use Rattle.std.proofs.Common.{◌≡◌, ℕ, ◌<◌, ◌≤◌, Bool, true, false, List, [], length, Option, Some, None, sym, ◌∙◌, ap}
+use Rattle.std.proofs.Common.{subst, arith, zero, suc, ◌∷◌, ◌++◌, refl, inl, inr, ℤ, Result, Ok, Err, Bor}
+use Rattle.std.proofs.Common.{length-append, ◌≢◌, ◌-◌, ◌==◌}
+use Rattle.std.specs.Prelude.{is_some, nat_le, reverse, ◌&&◌, IsSome, IfOk, IfErr, option_map, ◌↔◌, IfSome}
+use Rattle.std.proofs.lemmas.Bool.Decides.{nat_tests}
 use Rattle.std.proofs.lemmas.List.{reverse-append, length-reverse}
+use Rattle.std.proofs.lemmas.Bool.{false≢true, eqb-true, true≢false}
+use Rattle.csv.specs.Records.{field_at}
 use Rattle.twkb_points.specs.Point.{Point}
+use Rattle.twkb_polyline.specs.Polyline.{AppendsDecoded, DecodesTo}
+use Rattle.twkb_polyline.specs.Fault.{IsRefused, IsTextFault}
+use Rattle.twkb_polyline.specs.declared.fault.PolyFault.{PolyFault}
+use Rattle.twkb_polyline.specs.declared.fault.PolyFault.TheVariants.{At}
+use Rattle.twkb_polyline.specs.declared.fault.PolyReason.{PolyReason}
+use Rattle.twkb_tree.specs.declared.kind.Kind.{Kind}
 use Rattle.twkb_tree.specs.declared.open_rows.OpenRow.{OpenRow}
 use Rattle.twkb_tree.specs.Limits.{Allowance}
 use Rattle.twkb_tree.specs.Rows.{Row, row_points}
-use Rattle.twkb_tree.specs.Admits.{parent, first_child, steps_to, fits, id_allowed, admits_after}
-use Rattle.twkb_tree.specs.Accepted.{Accepts, Continues, since_root, point_count}
+use Rattle.twkb_tree.specs.Admits.{parent, first_child, steps_to, has_place, fits, id_allowed, admits_after, has_points}
+use Rattle.twkb_tree.specs.Accepted.{geometry_rows, point_count, Accepts, Continues, since_root}
+use Rattle.twkb_tree.specs.Open.{ids_by, open_parent, row_of, child_of, count_at, AreOpen, opened}
+use Rattle.twkb_tree.specs.RowPlace.{row_place_at}
+use Rattle.twkb_tree.specs.Kind.{word_of}
+use Rattle.twkb_tree.specs.declared.row_place.RowPlace.{RowPlace}
 use Rattle.twkb_tree.specs.RowLists.{AreRowsOfOne, AreValidRowsOfOne}
-use Rattle.twkb_tree.specs.Open.{AreOpen, opened}
+use Rattle.twkb_tree.specs.declared.kind.Kind.TheVariants as kind
+use Rattle.twkb_tree.proofs.OpenLaws.{kind_by, head_kind, head_id, steps_open, kind_under, ids_under, nodes_under}
+use Rattle.twkb_tree.proofs.OpenLaws.{points_under, open_more, open_none, steps_within, continues_is, continues_true}
+use Rattle.twkb_tree.proofs.OpenLaws.{none_is, root_alone, open_last, since_last, point_count-reverse}
 use Rattle.twkb_tree.proofs.LimitLaws.{accepted_rows, continued, valid_list}
-use Rattle.twkb_tree.proofs.OpenLaws.{open_more, open_none, steps_within, continues_is, continues_true, none_is}
-use Rattle.twkb_tree.proofs.OpenLaws.{root_alone, open_last, since_last, point_count-reverse}
 use Rattle.twkb_tree.proofs.RowForest.{facts}
+use Rattle.twkb_flat.specs.declared.stop.Stop.{Stop}
+use Rattle.twkb_flat.specs.Stops.{IfRefused}
+use Rattle.twkb_flat.specs.declared.stop.Stop.TheVariants as stop
 use Rattle.twkb_flat.specs.Rows.{row_with}
 use Rattle.twkb_flat.specs.declared.node.Row.{Row as Bare}
+use Rattle.twkb_table.specs.Judged.{Verdict, place_of, JudgedByPlace, Accepted, Judged, Refused}
+use Rattle.twkb_table.specs.Standing.{place_seen, StandsAfter}
 use Rattle.twkb_table.specs.Record.{Record}
-use Rattle.twkb_table.specs.Judged.{Verdict, Accepted, Judged}
-use Rattle.twkb_table.specs.Standing.{StandsAfter}
-use Rattle.twkb_table.specs.Waiting.{may_wait, root_row}
+use Rattle.twkb_table.specs.Waiting.{point_row, IsPoint, may_wait, root_row}
+use Rattle.twkb_table.specs.declared.row_reader.RowReader.{RowReader}
+use Rattle.twkb_table.specs.RowReading.{limits_of, JudgedAfter, BeginsFirst, EndsBefore, with_points}
+use Rattle.twkb_table.specs.Fields.{IsDepthField}
+use Rattle.twkb_table.specs.declared.reason.RowReason.{RowReason}
+use Rattle.twkb_table.specs.declared.reason.RowReason.TheVariants.{BadKind, BadPlace, PolylineNotAllowed, Polyline}
 use Rattle.twkb_table.specs.declared.row_reader.Root.{Root}
-use Rattle.twkb_table.specs.RowReading.{with_points}
-use Rattle.twkb_table.proofs.AcceptedRecords.{judged_row, has_room}
-use Rattle.twkb_table.proofs.Verdicts.{both_true}
+use Rattle.twkb_table.specs.Head.{head_row, JudgedAs}
+use Rattle.twkb_table.specs.Places.{AllowsCount, RefusesCount}
+use Rattle.twkb_table.specs.declared.head.RowHead.{RowHead}
+use Rattle.twkb_table.proofs.Verdicts.{judged_row, has_room, both_true}
+
+-- ==== The verdict on a record by the open rows is the verdict by the rows so far.
+
+-- ---- the chain of reasons looks only at the kind of the parent and at whether the first child
+-- has an id
+
+-- a row of this kind
+abbrev of_kind : Kind → Row
+of_kind kind = record { depth = 0; kind = kind; id = None; precision = None; points = [] }
+
+-- a row with this id
+abbrev of_id : Option ℤ → Row
+of_id id = record { depth = 0; kind = Kind.Point; id = id; precision = None; points = [] }
+
+module _ (l : Allowance) (d : ℕ) (k : Kind) (id_field field text : List ℕ) (v : Verdict) where
+  -- the verdict on a record at this place
+  abbrev JudgedAt : Bool → Option Row → Option Row → ℕ → ℕ → Type 0
+  JudgedAt steps p f nodes points =
+      JudgedByPlace l (record {
+        depth = d;
+        steps = steps;
+        parent = p;
+        first = f;
+        nodes = nodes;
+        points = points;
+      }) k id_field field text v
+
+  parent_alike : (p q f : Option Row) (nodes points : ℕ) → kind_by p ≡ kind_by q
+      → JudgedAt true p f nodes points → JudgedAt true q f nodes points
+  parent_alike None None f nodes points e j = j
+  parent_alike None (Some q) f nodes points e j = cc e
+  parent_alike (Some p) None f nodes points e j = cc e
+  parent_alike (Some p) (Some q) f nodes points e j =
+      subst (λ (kind : Kind). JudgedAt true (Some (of_kind kind)) f nodes points) (head_kind p q e) j
+
+  id_alike : (p : Option Row) (a b : Option ℤ) (nodes points : ℕ) → is_some a ≡ is_some b
+      → JudgedAt true p (Some (of_id a)) nodes points → JudgedAt true p (Some (of_id b)) nodes points
+  id_alike p None None nodes points e j = j
+  id_alike p None (Some b) nodes points e j = cc e
+  id_alike p (Some a) None nodes points e j = cc e
+  id_alike p (Some a) (Some b) nodes points e j = j
+
+  first_alike : (p f g : Option Row) (nodes points : ℕ) → ids_by f ≡ ids_by g
+      → JudgedAt true p f nodes points → JudgedAt true p g nodes points
+  first_alike p None None nodes points e j = j
+  first_alike p None (Some g) nodes points e j = cc e
+  first_alike p (Some f) None nodes points e j = cc e
+  first_alike p (Some f) (Some g) nodes points e j = id_alike p f.id g.id nodes points (head_id f g e) j
+
+-- ---- the two places
+
+near : (d n : ℕ) → d ≤ n → nat_le d n ≡ true
+near d n le = grind (arith, nat_tests)
+
+pub far : (d n : ℕ) → n < d → nat_le d n ≡ false
+far d n lt = grind (arith, nat_tests)
+
+pub judged_there : (l : Allowance) (before : List Row) (rows : List OpenRow) (nodes points d : ℕ)
+    (k : Kind) (id_field field text : List ℕ) (v : Verdict) → StandsAfter before rows nodes points
+    → d ≤ length rows
+    → JudgedByPlace l (place_seen (row_place_at d rows nodes points)) k id_field field text v
+    → JudgedByPlace l (place_of d before) k id_field field text v
+judged_there l before rows nodes points d k id_field field text v stands le j =
+    let p = row_of (open_parent d rows) in
+    let f = child_of (open_parent d rows) in
+    let at = JudgedAt l d k id_field field text v in
+    let a = parent_alike l d k id_field field text v p (parent d before) f (count_at d nodes)
+    (count_at d points) (kind_under d before rows stands.open_rows le) j in
+    let b = first_alike l d k id_field field text v (parent d before) f (first_child d before)
+    (count_at d nodes) (count_at d points) (ids_under d before rows stands.open_rows le) a in
+    let steps : true ≡ steps_to d before = sym (steps_open d before rows stands.open_rows ∙ near d (length rows) le) in
+    let c = subst (λ n. at true (parent d before) (first_child d before) n (count_at d points))
+    (ap (count_at d) stands.node_count ∙ nodes_under d before) b in
+    let e = subst (λ n. at true (parent d before) (first_child d before) (length (geometry_rows d before)) n)
+    (ap (count_at d) stands.points_held ∙ points_under d before) c in
+    subst (λ s. at s (parent d before) (first_child d before) (length (geometry_rows d before))
+    (point_count (geometry_rows d before))) steps e
+
+-- a row may not be more than one level below the last row
+pub steps_missing : (before : List Row) (rows : List OpenRow) (nodes points d : ℕ)
+    → StandsAfter before rows nodes points → length rows < d → steps_to d before ≡ false
+steps_missing before rows nodes points d stands lt = steps_open d before rows stands.open_rows ∙ far d (length rows) lt
+
+-- ==== The record after a geometry that is a point is judged like the first one.
+
+-- a point has no child
+no_child : (p : ℤ) (q : Point) (earlier : List Row) (d : ℕ) (k : Kind)
+    → (steps_to (suc d) (point_row p q ∷ earlier) && has_place (parent (suc d) (point_row p q ∷ earlier)) k) ≡ false
+no_child p q earlier zero k = refl
+no_child p q earlier (suc d) k =
+    ap (λ (b : Bool). b && has_place (parent (suc (suc d)) (point_row p q ∷ earlier)) k)
+    (far (suc d) 0 (omega arith))
+
+by_place : (l : Allowance) (p : ℤ) (q : Point) (earlier : List Row) (d : ℕ) (k : Kind) (id precision text : List ℕ)
+    (v : Verdict) → JudgedByPlace l (place_of d []) k id precision text v
+    → JudgedByPlace l (place_of d (point_row p q ∷ earlier)) k id precision text v
+by_place l p q earlier zero k id precision text v j = j
+by_place l p q earlier (suc d) k id precision text v (inl (lacks, refused)) = inl (no_child p q earlier d k, refused)
+by_place l p q earlier (suc d) k id precision text v (inr (has, others)) = absurd (has refl)
+
+-- the verdict after a point is that on a record before any row
+after_point : (l : Allowance) (p : ℤ) (q : Point) (earlier : List Row) (fields : Record) (v : Verdict)
+    → Judged l [] fields v → Judged l (point_row p q ∷ earlier) fields v
+after_point l p q earlier [] v j = j
+after_point l p q earlier (a ∷ []) v j = j
+after_point l p q earlier (a ∷ b ∷ []) v j = j
+after_point l p q earlier (a ∷ b ∷ c ∷ []) v j = j
+after_point l p q earlier (a ∷ b ∷ c ∷ e ∷ []) v j = j
+after_point l p q earlier (a ∷ b ∷ c ∷ e ∷ f ∷ g ∷ more) v j = j
+after_point l p q earlier (a ∷ b ∷ c ∷ e ∷ f ∷ []) v (inl none) = inl none
+after_point l p q earlier (a ∷ b ∷ c ∷ e ∷ f ∷ []) v (inr (d, is, inl none)) = inr (d, is, inl none)
+after_point l p q earlier (a ∷ b ∷ c ∷ e ∷ f ∷ []) v (inr (d, is, inr (k, word, j))) =
+    inr (d, is, inr (k, word, by_place l p q earlier d k c e f v j))
+
+pub judged_past : (l : Allowance) (rows : List Row) (fields : Record) (v : Verdict) → IsPoint rows
+    → Judged l [] fields v → JudgedAfter l rows fields v
+judged_past l rows fields v (p, q, is) j earlier =
+    subst (λ (rs : List Row). Judged l (reverse (earlier ++ rs)) fields v) (sym is)
+    (subst (λ (before : List Row). Judged l before fields v) (sym (reverse-append earlier (point_row p q ∷ [])))
+    (after_point l p q (reverse earlier) fields v j))
+
+-- the first root of a table is the next root after a point
+pub ends_past : (old new : RowReader) (rows : List Row) (fields : Record) → IsPoint rows
+    → BeginsFirst old fields new → EndsBefore old rows fields new
+ends_past old new rows fields is first = record {
+  row = first.row;
+  waits = first.waits;
+  root = first.root;
+  judged = judged_past (limits_of old) rows fields (Accepted first.row) is first.judged;
+}
+
+-- ==== The verdict on a record of five fields, from its fields.
+
+-- a place within the record has a field
+pub field_there : (fs : Record) (i : ℕ) (o : Option (List ℕ)) → i < length fs → o ≡ field_at fs i → IsSome o
+unfolding field_at
+field_there [] i o lt e = absurd (omega arith)
+field_there (f ∷ fs) zero o lt e = subst IsSome (sym e) refl
+field_there (f ∷ fs) (suc i) o lt e = field_there fs i o (omega arith) e
+
+-- ---- five fields
+
+-- The fields of a record that has five.
+pub record AreFields (fs : Record) (a b c e f : List ℕ) : Type 0 where
+  pub count : length fs ≡ 5
+  pub first : field_at fs 0 ≡ Some a
+  pub second : field_at fs 1 ≡ Some b
+  pub third : field_at fs 2 ≡ Some c
+  pub fourth : field_at fs 3 ≡ Some e
+  pub fifth : field_at fs 4 ≡ Some f
+
+same_some : (x y : List ℕ) → Some x ≡ Some y → x ≡ y
+same_some x y e = cc e
+
+pub five_are : (fs : Record) (a b c e f : List ℕ) → AreFields fs a b c e f → fs ≡ a ∷ b ∷ c ∷ e ∷ f ∷ []
+unfolding field_at
+five_are [] a b c e f h = absurd (omega (arith, h.count))
+five_are (v ∷ []) a b c e f h = absurd (omega (arith, h.count))
+five_are (v ∷ w ∷ []) a b c e f h = absurd (omega (arith, h.count))
+five_are (v ∷ w ∷ x ∷ []) a b c e f h = absurd (omega (arith, h.count))
+five_are (v ∷ w ∷ x ∷ y ∷ []) a b c e f h = absurd (omega (arith, h.count))
+five_are (v ∷ w ∷ x ∷ y ∷ z ∷ u ∷ more) a b c e f h = absurd (omega (arith, h.count))
+five_are (v ∷ w ∷ x ∷ y ∷ z ∷ []) a b c e f h =
+    let one = same_some v a h.first in
+    let two = same_some w b h.second in
+    let three = same_some x c h.third in
+    let four = same_some y e h.fourth in
+    let five = same_some z f h.fifth in
+    ap (λ q. q ∷ w ∷ x ∷ y ∷ z ∷ []) one ∙ ap (λ q. a ∷ q ∷ x ∷ y ∷ z ∷ []) two
+    ∙ ap (λ q. a ∷ b ∷ q ∷ y ∷ z ∷ []) three ∙ ap (λ q. a ∷ b ∷ c ∷ q ∷ z ∷ []) four
+    ∙ ap (λ q. a ∷ b ∷ c ∷ e ∷ q ∷ []) five
+
+-- ---- what each refusal means
+
+pub bad_kind : (l : Allowance) (before : List Row) (a b c e f : List ℕ) (d : ℕ) → IsDepthField a d
+    → ((k : Kind) → b ≡ word_of k → ⊥) → Judged l before (a ∷ b ∷ c ∷ e ∷ f ∷ []) (Refused BadKind)
+bad_kind l before a b c e f d depth none = inr (d, depth, inl (none, refl))
+
+no_steps : (a b : Bool) → a ≡ false → (a && b) ≡ false
+no_steps a b e = rw e refl
+
+pub bad_place : (l : Allowance) (before : List Row) (rows : List OpenRow) (nodes points : ℕ)
+    (a b c e f : List ℕ) (d : ℕ) (k : Kind) → IsDepthField a d → b ≡ word_of k
+    → length rows < d → StandsAfter before rows nodes points
+    → Judged l before (a ∷ b ∷ c ∷ e ∷ f ∷ []) (Refused BadPlace)
+bad_place l before rows nodes points a b c e f d k depth word lt stands =
+    inr (
+      d,
+      depth,
+      inr (
+        k,
+        word,
+        inl (
+          no_steps (steps_to d before) (has_place (parent d before) k)
+              (steps_missing before rows nodes points d stands lt),
+          refl,
+        ),
+      ),
+    )
+
+-- the verdict by the place that the open rows give
+pub judged_of : (l : Allowance) (before : List Row) (rows : List OpenRow) (nodes points : ℕ)
+    (a b c e f : List ℕ) (d : ℕ) (k : Kind) (row_place : RowPlace) (v : Verdict) → IsDepthField a d
+    → b ≡ word_of k
+    → (d ≤ length rows) × (row_place ≡ row_place_at d rows nodes points)
+    → JudgedByPlace l (place_seen row_place) k c e f v → StandsAfter before rows nodes points
+    → Judged l before (a ∷ b ∷ c ∷ e ∷ f ∷ []) v
+judged_of l before rows nodes points a b c e f d k row_place v depth word at j stands =
+    let there = subst (λ (s : RowPlace). JudgedByPlace l (place_seen s) k c e f v) at.1 j in
+    inr (d, depth, inr (k, word, judged_there l before rows nodes points d k c e f v stands at.0 there))
+
+-- ---- answers
+
+pub if_ok : {T E : Type 0} (P Q : T → Type 0) (r : Result T E) → ((x : T) → P x → Q x) → IfOk r P → IfOk r Q
+if_ok P Q (Ok x) f h = f x h
+if_ok P Q (Err e) f h = tt
+
+pub if_err : {T E : Type 0} (P Q : E → Type 0) (r : Result T E) → ((x : E) → P x → Q x) → IfErr r P → IfErr r Q
+if_err P Q (Ok x) f h = tt
+if_err P Q (Err e) f h = f e h
+
+pub if_refused : (P Q : RowReason → Type 0) (why : Stop RowReason)
+    → ((reason : RowReason) → P reason → Q reason) → IfRefused P why → IfRefused Q why
+if_refused P Q stop.Memory f h = tt
+if_refused P Q (stop.Refused reason) f h = f reason h
+
+-- a field is found if the record has one
+pub some_field : (fs : Record) (i : ℕ) (o : Option (Bor (List ℕ))) → i < length fs
+    → option_map (λ s. s.now) o ≡ field_at fs i → IsSome o
+some_field fs i (Some s) lt e = refl
+some_field fs i None lt e = field_there fs i None lt e
+
+-- ==== The next row and the rows of the geometry that is being read.
 
 -- two ways to count the points of rows agree
 point_total : (rs : List Row) → length (row_points rs) ≡ point_count rs
@@ -185,3 +441,163 @@ pub judged_by_open : (l : Allowance) (rows : List Row) (os : List OpenRow) (node
     → (earlier : List Row) → Judged l (reverse (earlier ++ rows)) fields v
 judged_by_open l rows os nodes points fields v of_one some open_now nodes_are points_are j earlier =
     j (reverse (earlier ++ rows)) (rw (nodes_are, points_are) (stands_after l os rows earlier of_one some open_now))
+
+-- ==== The row of a record whose points are read after its other fields.
+
+-- points appended to an empty list are all points in it
+pub given_row : (head : RowHead) (row : Bare) (cleared points own : List Point)
+    → row ≡ head_row head → cleared ≡ [] → points ≡ cleared ++ own
+    → row_with (head_row head) own ≡ row_with row points
+given_row head row cleared points own row_is none put =
+    ap (row_with (head_row head)) (sym (put ∙ ap (λ (xs : List Point). xs ++ own) none))
+    ∙ ap (λ r. row_with r points) (sym row_is)
+
+-- The verdict on a record after the rows of one geometry is a row that they accept.
+pub record ComesNext (l : Allowance) (rows : List Row) (fields : Record) (row : Row) : Type 0 where
+  pub judged : JudgedAfter l rows fields (Accepted row)
+  pub accepts : Accepts l (reverse rows) row
+
+-- if the verdict on the record is that on its points, it is the row with the points given
+pub comes_next : (l : Allowance) (rows : List Row) (fields : Record) (head : RowHead) (row : Row)
+    (own : List Point) → AreValidRowsOfOne l rows
+    → ((v : Verdict) → JudgedAs head v → JudgedAfter l rows fields v)
+    → row_with (head_row head) own ≡ row → JudgedAs head (Accepted (row_with (head_row head) own))
+    → ComesNext l rows fields row
+comes_next l rows fields head row own of_one read row_is given =
+    let judged : JudgedAfter l rows fields (Accepted row) =
+    subst (λ r. JudgedAfter l rows fields (Accepted r)) row_is
+    (read (Accepted (row_with (head_row head) own)) given) in
+    record { judged = judged; accepts = accepts_next l rows fields row of_one (judged []) }
+
+-- the place of the row allows this many points
+abbrev pub AllowsMany : RowHead → ℕ → Type 0
+AllowsMany head count =
+    (ps : List Point) → length ps ≡ count → AllowsCount (place_seen head.row_place) head.kind ps
+
+-- a text of one point is that of a row of kind point, if its place allows it and there is room
+one_accepted : (head : RowHead) (p : Point) → head.kind ≡ kind.Point
+    → head.row_place.points < head.limits.points → AllowsMany head 1
+    → DecodesTo head.text.now 1 (p ∷ []) → JudgedAs head (Accepted (row_with (head_row head) (p ∷ [])))
+one_accepted head p is room allows read =
+    inr (
+      λ bare. true≢false (sym (ap has_points is) ∙ bare.1),
+      inr (
+        p ∷ [],
+        record {
+          spelled = read.spelled;
+          in_range = read.in_range;
+          few = omega (arith, room);
+        },
+        allows (p ∷ []) refl head.id head.precision,
+      ),
+    )
+
+pub one_judged : (head : RowHead) (r : Option Point) → head.kind ≡ kind.Point
+    → head.row_place.points < head.limits.points → AllowsMany head 1
+    → IfSome r (λ p. DecodesTo head.text.now 1 (p ∷ []))
+    → IfSome r (λ p. JudgedAs head (Accepted (row_with (head_row head) (p ∷ []))))
+one_judged head None is room allows read = tt
+one_judged head (Some p) is room allows read = one_accepted head p is room allows read
+
+-- ---- the points of a row
+
+-- the kind of the row has no points, but its record has a text of points
+abbrev pub HasNeedlessText : RowHead → Type 0
+HasNeedlessText head = (head.text.now ≢ []) × (has_points head.kind ≡ false)
+
+nil_of : (xs : List ℕ) → (length xs == 0) ≡ true → xs ≡ []
+nil_of [] e = refl
+nil_of (x ∷ xs) e = absurd (omega (arith, eqb-true (length (x ∷ xs)) 0 e))
+
+pub no_text : (head : RowHead) (empty : Bool) → empty ≡ (length head.text.now == 0) → empty ≡ true
+    → HasNeedlessText head → ⊥
+no_text head empty is none needless = needless.0 (nil_of head.text.now (sym is ∙ none))
+
+pub kind_has : (head : RowHead) (has : Bool) → has ≡ has_points head.kind → has ≡ true → HasNeedlessText head → ⊥
+kind_has head has is some needless = true≢false (sym some ∙ is ∙ needless.1)
+
+pub not_allowed : (head : RowHead) (empty has : Bool) → empty ≡ (length head.text.now == 0)
+    → empty ≡ false → has ≡ has_points head.kind → has ≡ false
+    → JudgedAs head (Refused PolylineNotAllowed)
+not_allowed head empty has is some of_kind none =
+    inl ((λ nil. true≢false (ap (λ (t : List ℕ). length t == 0) (sym nil) ∙ sym is ∙ some), sym of_kind ∙ none), refl)
+
+-- this many points are left for the row
+abbrev pub AreLeft : RowHead → ℕ → ℕ → Type 0
+AreLeft head points left = (points ≡ head.limits.points) × (left ≡ points - head.row_place.points)
+
+left_is : (head : RowHead) (points left : ℕ) → AreLeft head points left
+    → left ≡ head.limits.points - head.row_place.points
+left_is head points left (most, is) = is ∙ ap (λ m. m - head.row_place.points) most
+
+pub text_refused : (head : RowHead) (points left offset : ℕ) (why : PolyReason) (f : PolyFault)
+    → (HasNeedlessText head → ⊥) → AreLeft head points left → f ≡ At offset why
+    → IsRefused head.text.now left f → JudgedAs head (Refused (Polyline offset why))
+text_refused head points left offset why f needed are_left is refused =
+    let fault = subst (IsRefused head.text.now left) is refused in
+    inr (
+      needed,
+      inl (
+        offset,
+        why,
+        subst (λ m. IsTextFault head.text.now m offset why)
+            (left_is head points left are_left) fault,
+        refl,
+      ),
+    )
+
+-- the list grew by the points that were decoded
+pub has_grown : (text : List ℕ) (left start count : ℕ) (old new : List Point)
+    → AppendsDecoded text left old new → start ≡ length old → count ≡ length new → start ≤ count
+has_grown text left start count old new a before after = omega
+    (arith, before, after, ap length a.appended, length-append old a.ps)
+
+-- as many points were decoded as the list grew by
+grown_by : (text : List ℕ) (left start count : ℕ) (old new : List Point) (a : AppendsDecoded text left old new)
+    → start ≡ length old → count ≡ length new → length a.ps ≡ count - start
+grown_by text left start count old new a before after = omega
+    (arith, before, after, ap length a.appended, length-append old a.ps)
+
+decoded_left : (head : RowHead) (points left : ℕ) (ps : List Point) → AreLeft head points left
+    → DecodesTo head.text.now left ps → DecodesTo head.text.now
+    (head.limits.points - head.row_place.points) ps
+decoded_left head points left ps are_left = subst (λ m. DecodesTo head.text.now m ps)
+    (left_is head points left are_left)
+
+pub points_accepted : (head : RowHead) (points left start count : ℕ) (old new : List Point)
+    → (HasNeedlessText head → ⊥) → AreLeft head points left → AppendsDecoded head.text.now left old new
+    → start ≡ length old → count ≡ length new → AllowsMany head (count - start)
+    → (own : List Point) × (new ≡ old ++ own) × JudgedAs head (Accepted (row_with (head_row head) own))
+points_accepted head points left start count old new needed are_left a before after allows =
+    let many = grown_by head.text.now left start count old new a before after in (
+      a.ps,
+      a.appended,
+      inr (
+        needed,
+        inr (
+          a.ps,
+          decoded_left head points left a.ps are_left a.decoded,
+          allows a.ps many head.id head.precision,
+        ),
+      ),
+    )
+
+-- the place of the row refuses this many points for this reason
+abbrev pub RefusesMany : RowHead → ℕ → RowReason → Type 0
+RefusesMany head count reason =
+    (ps : List Point) → length ps ≡ count → RefusesCount (place_seen head.row_place) head.kind ps reason
+
+pub points_refused : (head : RowHead) (points left start count : ℕ) (old new : List Point) (reason : RowReason)
+    → (HasNeedlessText head → ⊥) → AreLeft head points left → AppendsDecoded head.text.now left old new
+    → start ≡ length old → count ≡ length new → RefusesMany head (count - start) reason
+    → JudgedAs head (Refused reason)
+points_refused head points left start count old new reason needed are_left a before after refuses =
+    let many = grown_by head.text.now left start count old new a before after in
+    inr (
+      needed,
+      inr (
+        a.ps,
+        decoded_left head points left a.ps are_left a.decoded,
+        refuses a.ps many head.id head.precision,
+      ),
+    )

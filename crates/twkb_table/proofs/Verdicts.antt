@@ -1,12 +1,53 @@
--- Steps along the chain of reasons.
-use Rattle.std.proofs.Common.{◌≡◌, Bool, true, false, List, [], ◌∷◌, None, refl, sym, ◌∙◌, subst, inl, inr}
-use Rattle.std.specs.Prelude.{◌&&◌}
-use Rattle.std.proofs.lemmas.Bool.{true≢false}
+-- The verdict on a record is its row exactly if that row may come next, and tables consist of such records.
+use mathlib.Core.List.{reverse_aux}
+use Rattle.std.proofs.Common.{◌≡◌, Bool, true, false, List, [], ◌∷◌, None, refl, sym, ◌∙◌, subst, inl, inr, ℕ, zero}
+use Rattle.std.proofs.Common.{suc, ◌+◌, ◌<◌, ◌≤◌, ◌==◌, length, Option, Some, ap, arith, ◌++◌}
+use Rattle.std.specs.Prelude.{◌&&◌, ℤ, decimal, IfSome, map, reverse, ◌↔◌}
+use Rattle.std.proofs.lemmas.Bool.{true≢false, cases_Bool}
+use Rattle.std.specs.List.{AllByRecursion}
+use Rattle.std.proofs.lemmas.Fmt.{decimal_injective}
+use Rattle.std.proofs.lemmas.List.{map-append}
+use Rattle.std.proofs.lemmas.Grind.{flat_map-append}
+use Rattle.twkb_points.specs.Point.{Point}
+use Rattle.twkb_polyline.specs.Polyline.{polyline, DecodesTo}
+use Rattle.twkb_polyline.specs.declared.fault.PolyReason.{PolyReason}
+use Rattle.twkb_polyline.proofs.FaultLemmas.{one_polyline, text_fault_none, text_fault_one}
 use Rattle.twkb_tree.specs.Refusal.{Refusal, Check, check}
-use Rattle.twkb_tree.specs.Rows.{Row}
-use Rattle.twkb_table.specs.Judged.{Verdict, Accepted, Refused, When, Unless}
+use Rattle.twkb_tree.specs.Rows.{Row, rows_of, rows}
+use Rattle.twkb_tree.specs.declared.kind.Kind.{Kind}
+use Rattle.twkb_tree.specs.Tree.{IsPrecision, Tree, IsId}
+use Rattle.twkb_tree.specs.Limits.{Allowance, IsAllowance, IsValid}
+use Rattle.twkb_tree.specs.Admits.{parent, first_child, steps_to, has_place, id_allowed, has_same_ids}
+use Rattle.twkb_tree.specs.Admits.{has_needed_precision, precision_allowed, is_geometry, points_fit, precision_in_range}
+use Rattle.twkb_tree.specs.Admits.{precision_fits, fits, has_points}
+use Rattle.twkb_tree.specs.Accepted.{nest_kept, geometry_rows, point_count, since_root, Accepts, AreAccepted}
+use Rattle.twkb_tree.specs.Kind.{word_of}
+use Rattle.twkb_tree.specs.RowLists.{AreValid, AreGeometries, AreShallow, AreValidRows, IsAtRoot, IsShallow}
+use Rattle.twkb_tree.proofs.OpenLaws.{precision_joined, precision_tested}
+use Rattle.twkb_tree.proofs.RowForest.{fits_by, id_in_range-true, is_precision-true, Facts, facts, no_points_of}
+use Rattle.twkb_tree.proofs.RowForest.{optional_id_is, precision_is}
+use Rattle.twkb_tree.proofs.RowDepths.{valid_depths}
+use Rattle.twkb_tree.proofs.RowLaws.{one_reading, first_all_ended}
+use Rattle.twkb_tree.proofs.LimitLaws.{accepted_rows, valid_front, row_accepted}
+use Rattle.twkb_tree.proofs.AllJoined.{all_apart, all_join}
+use Rattle.twkb_table.specs.Judged.{Verdict, Accepted, Refused, When, Unless, place_of, points_left, JudgedByPoints}
+use Rattle.twkb_table.specs.Judged.{JudgedByPrecision, JudgedByPlace, Judged, Place, UnlessFaulty, JudgedById}
+use Rattle.twkb_table.specs.Judged.{JudgedByCount}
 use Rattle.twkb_table.specs.RowRules.{first_reason, rule_reason}
 use Rattle.twkb_table.specs.declared.reason.RowReason.{RowReason}
+use Rattle.twkb_table.specs.Fields.{optional, IsDepthField, IsOptionalId, IsOptionalPrecision}
+use Rattle.twkb_table.specs.Record.{Record, record_of, header}
+use Rattle.twkb_table.specs.declared.reason.RowReason.TheVariants.{FieldCount, BadDepth, BadKind, BadPlace, TooDeep}
+use Rattle.twkb_table.specs.declared.reason.RowReason.TheVariants.{TooManyNodes, BadId, IdNotAllowed, MixedIds}
+use Rattle.twkb_table.specs.declared.reason.RowReason.TheVariants.{BadPrecision, PrecisionMissing, PrecisionNotAllowed}
+use Rattle.twkb_table.specs.declared.reason.RowReason.TheVariants.{PolylineNotAllowed, Polyline, PointCount}
+use Rattle.twkb_table.specs.declared.decimal.TheConstants.{GREATEST_DEPTH}
+use Rattle.twkb_table.specs.Named.{Named}
+use Rattle.twkb_table.specs.Parts.{BeginAtRoot}
+use Rattle.twkb_table.proofs.FieldLemmas.{one_depth, one_word, one_optional, precision-ids, ArePlain, one_list}
+use Rattle.twkb_table.proofs.FieldLemmas.{head_same, tail_same}
+
+-- ==== Steps along the chain of reasons.
 
 -- ---- tests
 
@@ -92,3 +133,488 @@ unless_one P V W v w reason one f (inl h) (inl g) = h.1 ∙ sym g.1
 unless_one P V W v w reason one f (inl h) (inr g) = absurd (h.0 g.0 g.1)
 unless_one P V W v w reason one f (inr h) (inl g) = absurd (g.0 h.0 h.1)
 unless_one P V W v w reason one f (inr h) (inr g) = f g.0 (subst V (one h.0 g.0 h.1 g.1) h.2) g.2
+
+-- ==== A record whose verdict is a row is the record of that row, and the row may come next.
+
+pub precision_in_range-true : (q : Option ℤ) → IfSome q IsPrecision → precision_in_range q ≡ true
+precision_in_range-true None h = refl
+precision_in_range-true (Some n) h = is_precision-true n h
+
+-- What an accepted record says.
+pub record Passed (l : Allowance) (before : List Row) (fields : Record) (r : Row) : Type 0 where
+  pub text : fields ≡ record_of r
+  pub accepts : Accepts l before r
+
+-- there are few enough points so far
+abbrev pub HasRoom : Allowance → List Row → Type 0
+HasRoom l before = (d : ℕ) → point_count (geometry_rows d before) ≤ l.points
+
+five_same : (a b c e f a' b' c' e' f' : List ℕ) → a ≡ a' → b ≡ b' → c ≡ c' → e ≡ e' → f ≡ f'
+    → Path (List (List ℕ)) (a ∷ b ∷ c ∷ e ∷ f ∷ []) (a' ∷ b' ∷ c' ∷ e' ∷ f' ∷ [])
+five_same a b c e f a' b' c' e' f' p q r s t = cc
+
+-- what the last field of an accepted record says
+record PointsPassed (l : Allowance) (before : List Row) (d : ℕ) (k : Kind) (id q : Option ℤ)
+    (text : List ℕ) (r : Row) : Type 0 where
+  points : List Point
+  decoded : DecodesTo text (points_left l (place_of d before)) points
+  fit : points_fit k (is_geometry (parent d before)) points ≡ true
+  row : r ≡ record { depth = d; kind = k; id = id; precision = q; points = points }
+
+judged_points : (l : Allowance) (before : List Row) (d : ℕ) (k : Kind) (id q : Option ℤ)
+    (text : List ℕ) (r : Row) → JudgedByPoints l (place_of d before) k id q text (Accepted r)
+    → PointsPassed l before d k id q text r
+judged_points l before d k id q text r h = elim (passed r PolylineNotAllowed h).1 [
+  | inl fault ↦ absurd (accepted_apart r (Polyline fault.0 fault.1) fault.3)
+  | inr some ↦
+      let last = passed r PointCount some.2 in
+      record {
+        points = some.0;
+        decoded = some.1;
+        fit = not_false (points_fit k (is_geometry (parent d before)) some.0) last.0;
+        row = same_accepted r (record { depth = d; kind = k; id = id; precision = q; points = some.0 }) last.1;
+      }
+]
+
+passed_row : (l : Allowance) (before : List Row) (a b c e f : List ℕ) (r : Row) (d : ℕ) (k : Kind)
+    (id q : Option ℤ) (points : PointsPassed l before d k id q f r)
+    → IsDepthField a d → b ≡ word_of k → IsOptionalId c id → IsOptionalPrecision e q
+    → steps_to d before ≡ true → has_place (parent d before) k ≡ true
+    → nest_kept l (parent d before) d ≡ true → length (geometry_rows d before) < l.nodes
+    → id_allowed (parent d before) k id ≡ true → has_same_ids (first_child d before) id ≡ true
+    → precision_fits (parent d before) q ≡ true → point_count (geometry_rows d before) ≤ l.points
+    → Passed l before (a ∷ b ∷ c ∷ e ∷ f ∷ []) r
+passed_row l before a b c e f r d k id q points depth word ids precisions steps place nest nodes
+    allowed same precision room =
+    let ps = points.points in
+    let row : Row = record { depth = d; kind = k; id = id; precision = q; points = ps } in
+    let fit = fits_by (parent d before) (first_child d before) row (record {
+      place = place;
+      id_range = id_in_range-true id ids.1;
+      id = allowed;
+      same = same;
+      range = precision_in_range-true q precisions.1;
+      precision = precision;
+      points = points.fit;
+    }) in
+    subst (λ (s : Row). Passed l before (a ∷ b ∷ c ∷ e ∷ f ∷ []) s) (sym points.row) (record {
+      text = five_same a b c e f (decimal d) (word_of k) (optional id) (optional q) (polyline ps)
+          depth.0 word ids.0 precisions.0 points.decoded.spelled;
+      accepts = record {
+        admitted = both (steps_to d before) (fits (parent d before) (first_child d before) row) steps fit;
+        nest = nest;
+        nodes = nodes;
+        in_range = points.decoded.in_range;
+        points = (let few = points.decoded.few in omega (arith, few, room));
+      };
+    })
+
+pub judged_row : (l : Allowance) (before : List Row) (fields : Record) (r : Row) → HasRoom l before
+    → Judged l before fields (Accepted r) → Passed l before fields r
+judged_row l before [] r room h = absurd (accepted_apart r FieldCount h)
+judged_row l before (a ∷ []) r room h = absurd (accepted_apart r FieldCount h)
+judged_row l before (a ∷ b ∷ []) r room h = absurd (accepted_apart r FieldCount h)
+judged_row l before (a ∷ b ∷ c ∷ []) r room h = absurd (accepted_apart r FieldCount h)
+judged_row l before (a ∷ b ∷ c ∷ e ∷ []) r room h = absurd (accepted_apart r FieldCount h)
+judged_row l before (a ∷ b ∷ c ∷ e ∷ f ∷ g ∷ more) r room h = absurd (accepted_apart r FieldCount h)
+judged_row l before (a ∷ b ∷ c ∷ e ∷ f ∷ []) r room h =
+    let at = found (IsDepthField a) (λ d. Unless (Accepted r) (λ k. b ≡ word_of k) BadKind
+    (λ k. JudgedByPlace l (place_of d before) k c e f (Accepted r))) r BadDepth h in
+    let d = at.0 in
+    let of = found (λ k. b ≡ word_of k) (λ k. JudgedByPlace l (place_of d before) k c e f
+    (Accepted r)) r BadKind at.2 in
+    let k = of.0 in
+    let p = parent d before in
+    let place = passed r BadPlace of.2 in
+    let nest = passed r TooDeep place.1 in
+    let nodes = passed r TooManyNodes nest.1 in
+    let ids = found (IsOptionalId c) (λ id. When (Accepted r) (id_allowed p k id ≡ false)
+    IdNotAllowed (When (Accepted r) (has_same_ids (first_child d before) id ≡ false) MixedIds
+    (JudgedByPrecision l (place_of d before) k id e f (Accepted r)))) r BadId nodes.1 in
+    let id = ids.0 in
+    let allowed = passed r IdNotAllowed ids.2 in
+    let same = passed r MixedIds allowed.1 in
+    let precisions = found (IsOptionalPrecision e)
+    (λ q. When (Accepted r) (has_needed_precision p q ≡ false) PrecisionMissing
+    (When (Accepted r) (precision_allowed p q ≡ false) PrecisionNotAllowed
+    (JudgedByPoints l (place_of d before) k id q f (Accepted r)))) r BadPrecision same.1 in
+    let q = precisions.0 in
+    let needed = passed r PrecisionMissing precisions.2 in
+    let extra = passed r PrecisionNotAllowed needed.1 in
+    let precise = precision_joined p q (not_false (has_needed_precision p q) needed.0)
+    (not_false (precision_allowed p q) extra.0) in
+    let stood = both_true (steps_to d before) (has_place p k)
+    (not_false (steps_to d before && has_place p k) place.0) in
+    passed_row l before a b c e f r d k id q (judged_points l before d k id q f r extra.1) at.1 of.1 ids.1 precisions.1
+    stood.0 stood.1 (not_false (nest_kept l p d) nest.0) (omega (arith, nodes.0))
+    (not_false (id_allowed p k id) allowed.0) (not_false
+    (has_same_ids (first_child d before) id) same.0)
+    precise (room d)
+
+-- ---- what the rows so far allow
+
+rows_there : (d : ℕ) (before : List Row) → (d == 0) ≡ false → geometry_rows d before ≡ since_root before
+rows_there zero before e = absurd (true≢false e)
+rows_there (suc d) before e = refl
+
+below_root : (l : Allowance) (r : Row) (before : List Row) → Accepts l before r
+    → (r.depth == 0) ≡ false → length r.points + point_count (since_root before) ≤ l.points
+below_root l r before a e =
+    let same = rows_there r.depth before e in
+    let few = a.points in
+    omega (arith, few, ap point_count same)
+
+-- accepted rows have at most as many points as a geometry may have
+pub has_room : (l : Allowance) (before : List Row) → AreAccepted l before → HasRoom l before
+has_room l before a zero = omega arith
+has_room l [] a (suc d) = omega arith
+has_room l (r ∷ before) a (suc d) = elim (cases_Bool (r.depth == 0)) [
+  | inl root ↦ let few = a.0.points in rw root (omega (arith, few))
+  | inr below ↦ rw below (below_root l r before a.0 below)
+]
+
+-- ==== A record has only one verdict.
+
+points_one : (text : List ℕ) (most : ℕ) (V W : List Point → Type 0) (v w : Verdict)
+    → ((ps : List Point) → V ps → W ps → v ≡ w) → UnlessFaulty text most v V
+    → UnlessFaulty text most w W → v ≡ w
+points_one text most V W v w f (inl h) (inl g) =
+    let same = text_fault_one text most h.0 g.0 h.1 g.1 h.2 g.2 in
+    h.3 ∙ ap (λ (o : ℕ). Refused (Polyline o h.1)) same.0
+    ∙ ap (λ (r : PolyReason). Refused (Polyline g.0 r)) same.1 ∙ sym g.3
+points_one text most V W v w f (inl h) (inr g) = absurd (text_fault_none text most h.0 h.1 g.0 h.2 g.1)
+points_one text most V W v w f (inr h) (inl g) = absurd (text_fault_none text most g.0 g.1 h.0 g.2 h.1)
+points_one text most V W v w f (inr h) (inr g) = f g.0
+    (subst V (one_polyline h.0 g.0 (sym h.1.spelled ∙ g.1.spelled)) h.2) g.2
+
+by_points : (l : Allowance) (here : Place) (k : Kind) (id q : Option ℤ) (text : List ℕ)
+    (v w : Verdict) → JudgedByPoints l here k id q text v
+    → JudgedByPoints l here k id q text w → v ≡ w
+by_points l here k id q text v w = when_one v w _
+    (points_one text (points_left l here) _ _ v w (λ ps. when_one v w _ (λ a b. a ∙ sym b)))
+
+by_precision : (l : Allowance) (here : Place) (k : Kind) (id : Option ℤ) (field text : List ℕ)
+    (v w : Verdict) → JudgedByPrecision l here k id field text v
+    → JudgedByPrecision l here k id field text w → v ≡ w
+by_precision l here k id field text v w =
+    unless_one (IsOptionalPrecision field) _ _ v w _
+    (λ a b p q. one_optional a b (precision-ids a p.1) (precision-ids b q.1) (sym p.0 ∙ q.0))
+    (λ q. when_one v w _ (when_one v w _ (by_points l here k id q text v w)))
+
+by_id : (l : Allowance) (here : Place) (k : Kind) (id_field field text : List ℕ) (v w : Verdict)
+    → JudgedById l here k id_field field text v → JudgedById l here k id_field field text w → v ≡ w
+by_id l here k id_field field text v w =
+    unless_one (IsOptionalId id_field) _ _ v w _ (λ a b p q. one_optional a b p.1 q.1 (sym p.0 ∙ q.0))
+    (λ id. when_one v w _ (when_one v w _ (by_precision l here k id field text v w)))
+
+by_place : (l : Allowance) (here : Place) (k : Kind) (id_field field text : List ℕ) (v w : Verdict)
+    → JudgedByPlace l here k id_field field text v
+    → JudgedByPlace l here k id_field field text w → v ≡ w
+by_place l here k id_field field text v w = when_one v w _
+    (when_one v w _ (when_one v w _ (by_id l here k id_field field text v w)))
+
+pub one_verdict : (l : Allowance) (before : List Row) (fields : Record) (v w : Verdict)
+    → Judged l before fields v → Judged l before fields w → v ≡ w
+one_verdict l before [] v w a b = a ∙ sym b
+one_verdict l before (x ∷ []) v w a b = a ∙ sym b
+one_verdict l before (x ∷ y ∷ []) v w a b = a ∙ sym b
+one_verdict l before (x ∷ y ∷ z ∷ []) v w a b = a ∙ sym b
+one_verdict l before (x ∷ y ∷ z ∷ t ∷ []) v w a b = a ∙ sym b
+one_verdict l before (x ∷ y ∷ z ∷ t ∷ u ∷ s ∷ more) v w a b = a ∙ sym b
+one_verdict l before (x ∷ y ∷ z ∷ t ∷ u ∷ []) v w a b =
+    unless_one (IsDepthField x) _ _ v w _ (λ d e p q. one_depth d e p.1 q.1 (sym p.0 ∙ q.0))
+    (λ d. unless_one (λ k. y ≡ word_of k) _ _ v w _ (λ j k p q. one_word j k (sym p ∙ q))
+    (λ k. by_place l (place_of d before) k z t u v w)) a b
+
+-- ==== The verdict on the record of a row that may come next is that row, and nothing else.
+
+pub optional_precision_is : (q : Option ℤ) → precision_in_range q ≡ true → IfSome q IsPrecision
+optional_precision_is None h = tt
+optional_precision_is (Some n) h = precision_is n h
+
+-- the row's points are the only ones to which its text decodes
+decoded : (l : Allowance) (before : List Row) (r : Row) → Accepts l before r
+    → DecodesTo (polyline r.points) (points_left l (place_of r.depth before)) r.points
+decoded l before r a = record {
+  spelled = refl;
+  in_range = a.in_range;
+  few = (let few = a.points in omega (arith, few));
+}
+
+judged_polyline : (l : Allowance) (before : List Row) (r : Row) (v : Verdict)
+    → Facts (parent r.depth before) (first_child r.depth before) r
+    → DecodesTo (polyline r.points) (points_left l (place_of r.depth before)) r.points
+    → JudgedByPoints l (place_of r.depth before) r.kind r.id r.precision (polyline r.points) v → v ≡ Accepted r
+judged_polyline l before r v h own j =
+    let k = r.kind in
+    let w = is_geometry (parent r.depth before) in
+    let Last : List Point → Type 0 = λ (ps : List Point).
+    JudgedByCount (place_of r.depth before) k r.id r.precision ps v in
+    let of : UnlessFaulty (polyline r.points) (points_left l (place_of r.depth before)) v Last =
+    skip v PolylineNotAllowed j (λ e. e.0 (ap polyline (no_points_of k k w r.points refl e.1 h.points))) in
+    let last : Last r.points = elim of [
+      | inl fault ↦ absurd (text_fault_none (polyline r.points)
+          (points_left l (place_of r.depth before)) fault.0 fault.1 r.points fault.2 own)
+      | inr some ↦ subst Last (one_polyline some.0 r.points (sym some.1.spelled)) some.2
+    ] in
+    skip v PointCount last (stays_true (points_fit k w r.points) h.points)
+
+pub judged_only : (l : Allowance) (before : List Row) (r : Row) (v : Verdict) → Accepts l before r
+    → r.depth ≤ GREATEST_DEPTH → Judged l before (record_of r) v → v ≡ Accepted r
+judged_only l before r v a le j =
+    let d = r.depth in
+    let k = r.kind in
+    let p = parent d before in
+    let f = first_child d before in
+    let two = both_true (steps_to d before) (fits p f r) a.admitted in
+    let h = facts p f r two.1 in
+    let id = optional_id_is r.id h.id_range in
+    let precise = optional_precision_is r.precision h.range in
+    let at = pick (IsDepthField (decimal d)) (λ e. Unless v (λ m. word_of k ≡ word_of m) BadKind
+    (λ m. JudgedByPlace l (place_of e before) m (optional r.id) (optional r.precision)
+    (polyline r.points) v)) v BadDepth d j (refl, le) (λ e q. one_depth e d q.1 le (sym q.0)) in
+    let of = pick (λ m. word_of k ≡ word_of m) (λ m. JudgedByPlace l (place_of d before) m
+    (optional r.id) (optional r.precision) (polyline r.points) v) v BadKind k at refl
+    (λ m q. sym (one_word k m q)) in
+    let place = skip v BadPlace of (stays_true (steps_to d before && has_place p k)
+    (both (steps_to d before) (has_place p k) two.0 h.place)) in
+    let nest = skip v TooDeep place (stays_true (nest_kept l p d) a.nest) in
+    let nodes = skip v TooManyNodes nest (λ over. (let under = a.nodes in omega (arith, over, under))) in
+    let ids = pick (IsOptionalId (optional r.id))
+    (λ i. When v (id_allowed p k i ≡ false) IdNotAllowed
+    (When v (has_same_ids f i ≡ false) MixedIds (JudgedByPrecision l (place_of d before) k i
+    (optional r.precision) (polyline r.points) v))) v BadId r.id nodes (refl, id)
+    (λ i q. sym (one_optional r.id i id q.1 q.0)) in
+    let allowed = skip v IdNotAllowed ids (stays_true (id_allowed p k r.id) h.id) in
+    let same = skip v MixedIds allowed (stays_true (has_same_ids f r.id) h.same) in
+    let precisions = pick (IsOptionalPrecision (optional r.precision))
+    (λ q. When v (has_needed_precision p q ≡ false) PrecisionMissing
+    (When v (precision_allowed p q ≡ false) PrecisionNotAllowed
+    (JudgedByPoints l (place_of d before) k r.id q (polyline r.points) v))) v BadPrecision
+    r.precision same (refl, precise)
+    (λ q e. sym (one_optional r.precision q (precision-ids r.precision precise) (precision-ids q e.1) e.0)) in
+    let tested = precision_tested p r.precision h.precision in
+    let needed = skip v PrecisionMissing precisions (stays_true (has_needed_precision p r.precision) tested.0) in
+    let extra = skip v PrecisionNotAllowed needed (stays_true (precision_allowed p r.precision) tested.1) in
+    judged_polyline l before r v h (decoded l before r a) extra
+
+pub row_judged : (l : Allowance) (before : List Row) (r : Row) → Accepts l before r → r.depth ≤ GREATEST_DEPTH
+    → Judged l before (record_of r) (Accepted r)
+row_judged l before r a le =
+    let d = r.depth in
+    let k = r.kind in
+    let p = parent d before in
+    let f = first_child d before in
+    let two = both_true (steps_to d before) (fits p f r) a.admitted in
+    let h = facts p f r two.1 in
+    let no_text : (polyline r.points ≡ [] → ⊥) × (has_points k ≡ false)
+    → ⊥ = λ e. e.0 (ap polyline (no_points_of k k (is_geometry p) r.points refl e.1 h.points)) in
+    let placed = stays_true (steps_to d before && has_place p k)
+    (both (steps_to d before) (has_place p k) two.0 h.place) in
+    let few : l.nodes ≤ length (geometry_rows d before)
+    → ⊥ = λ over. (let under = a.nodes in omega (arith, over, under)) in
+    let id = optional_id_is r.id h.id_range in
+    let precise = optional_precision_is r.precision h.range in
+    let counted = inr (stays_true (points_fit k (is_geometry p) r.points) h.points, refl) in
+    let points = inr (no_text, inr (r.points, decoded l before r a, counted)) in
+    let tested = precision_tested p r.precision h.precision in
+    let precisions = inr (
+      r.precision,
+      (refl, precise),
+      inr (
+        stays_true (has_needed_precision p r.precision) tested.0,
+        inr (stays_true (precision_allowed p r.precision) tested.1, points),
+      ),
+    ) in
+    let ids = inr (
+      r.id,
+      (refl, id),
+      inr (
+        stays_true (id_allowed p k r.id) h.id,
+        inr (stays_true (has_same_ids f r.id) h.same, precisions),
+      ),
+    ) in
+    inr (d, (refl, le), inr (k, refl, inr (placed, inr (stays_true (nest_kept l p d) a.nest, inr (few, ids)))))
+
+-- ==== Tables: each of their rows is plain, they are read in one way, and their prefixes are tables.
+
+-- ---- each row of valid geometries is plain
+
+-- the row's id and precision are in their ranges
+record IsRanged (r : Row) : Type 0 where
+  id : IfSome r.id IsId
+  precision : IfSome r.precision IsPrecision
+
+ranged_row : (l : Allowance) (before : List Row) (r : Row) → Accepts l before r → IsRanged r
+ranged_row l before r a =
+    let two = both_true (steps_to r.depth before)
+    (fits (parent r.depth before) (first_child r.depth before) r) a.admitted in
+    let h = facts (parent r.depth before) (first_child r.depth before) r two.1 in
+    record { id = optional_id_is r.id h.id_range; precision = optional_precision_is r.precision h.range }
+
+ranged_rows : (l : Allowance) (before : List Row) → AreAccepted l before → AllByRecursion IsRanged before
+ranged_rows l [] a = tt
+ranged_rows l (r ∷ before) a = (ranged_row l before r a.0, ranged_rows l before a.1)
+
+shallower : (m n : ℕ) (rs : List Row) → m ≤ n → AreShallow m rs → AreShallow n rs
+shallower m n [] le h = tt
+shallower m n (r ∷ rs) le h = (omega (arith, h.0), shallower m n rs le h.1)
+
+-- no row of valid geometries is deeper than a field can say
+pub shallow_rows : (l : Allowance) (gs : List Tree) → IsAllowance l → AreValid l gs
+    → AreShallow GREATEST_DEPTH (rows_of gs)
+shallow_rows l gs cap v = let most = cap.nest_cap in
+    shallower (l.nest + 2) GREATEST_DEPTH (rows_of gs) (omega (arith, most))
+    (valid_depths l (rows_of gs) (gs, v, refl))
+
+-- what is true of each row of a reversed list is true of each row of the list
+all_back : (P : Row → Type 0) (xs ys : List Row) → AllByRecursion P (reverse_aux xs ys)
+    → AllByRecursion P xs × AllByRecursion P ys
+all_back P [] ys h = (tt, h)
+all_back P (x ∷ xs) ys h = let t = all_back P xs (x ∷ ys) h in ((t.1.0, t.0), t.1.1)
+
+plain_each : (rs : List Row) → AreShallow GREATEST_DEPTH rs → AllByRecursion IsRanged rs → ArePlain rs
+plain_each [] s h = tt
+plain_each (r ∷ rs) s h = (record { depth = s.0; id = h.0.id; precision = h.0.precision }, plain_each rs s.1 h.1)
+
+pub plain_rows : (l : Allowance) (gs : List Tree) → IsAllowance l → AreValid l gs → ArePlain (rows_of gs)
+plain_rows l gs cap v =
+    let ranged = ranged_rows l (reverse (rows_of gs)) (accepted_rows l (rows_of gs) (gs, v, refl)) in
+    plain_each (rows_of gs) (shallow_rows l gs cap v) (all_back IsRanged (rows_of gs) [] ranged).0
+
+-- ---- one reading
+
+pub geometries : (l : Allowance) (gs : List Tree) → AreValid l gs → AreGeometries gs
+geometries l [] v = tt
+geometries l (g ∷ gs) v = (v.0.tree, geometries l gs v.1)
+
+pub one_table : (l : Allowance) (records : List Record) (gs hs : List Tree) → IsAllowance l
+    → Named l records gs → Named l records hs → gs ≡ hs
+one_table l records gs hs cap a b =
+    let tables : header ∷ map record_of (rows_of gs) ≡ header ∷ map record_of (rows_of hs) =
+    sym a.table_of ∙ b.table_of in
+    let lists = tail_same header header (map record_of (rows_of gs)) (map record_of (rows_of hs)) tables in
+    let same = one_list (rows_of gs) (rows_of hs) (plain_rows l gs cap a.valid) (plain_rows l hs cap b.valid) lists in
+    one_reading gs hs (geometries l gs a.valid) (geometries l hs b.valid) same
+
+-- ---- prefixes
+
+-- What splits a list of records splits the list of rows.
+pub record Split (rs : List Row) (xs ys : List Record) : Type 0 where
+  pub front : List Row
+  pub more : List Row
+  pub whole : rs ≡ front ++ more
+  pub fronts : map record_of front ≡ xs
+  pub others : map record_of more ≡ ys
+
+pub split : (rs : List Row) (xs ys : List Record) → map record_of rs ≡ xs ++ ys → Split rs xs ys
+split rs [] ys e = record { front = []; more = rs; whole = refl; fronts = refl; others = e }
+split [] (x ∷ xs) ys e = cc e
+split (r ∷ rs) (x ∷ xs) ys e =
+    let head = head_same (record_of r) x (map record_of rs) (xs ++ ys) e in
+    let rest = split rs xs ys (tail_same (record_of r) x (map record_of rs) (xs ++ ys) e) in
+    record {
+      front = r ∷ rest.front;
+      more = rest.more;
+      whole = ap (λ qs. r ∷ qs) rest.whole;
+      fronts = ap (λ qs. record_of r ∷ qs) rest.fronts ∙ ap (λ q. q ∷ xs) head;
+      others = rest.others;
+    }
+
+pub table_front : (l : Allowance) (front more : List Record) (gs : List Tree) → (front ≡ [] → ⊥)
+    → Named l (front ++ more) gs → (hs : List Tree) × Named l front hs
+table_front l [] more gs some n = absurd (some refl)
+table_front l (h ∷ front) more gs some n =
+    let head = head_same h header (front ++ more) (map record_of (rows_of gs)) n.table_of in
+    let rest = tail_same h header (front ++ more) (map record_of (rows_of gs)) n.table_of in
+    let s = split (rows_of gs) front more (sym rest) in
+    let v = valid_front l s.front s.more (gs, n.valid, s.whole) in (
+      v.0,
+      record {
+        table_of = ap (λ q. q ∷ front) head
+            ∙ ap (λ qs. header ∷ qs) (sym s.fronts ∙ ap (λ qs. map record_of qs) (sym v.2));
+        valid = v.1;
+      },
+    )
+
+-- ==== The verdict on a record is a row exactly if it is that row's record and the row may come next.
+
+last_shallow : (rs : List Row) (r : Row) → AreShallow GREATEST_DEPTH (rs ++ r ∷ []) → r.depth ≤ GREATEST_DEPTH
+last_shallow [] r h = h.0
+last_shallow (s ∷ rs) r h = last_shallow rs r h.1
+
+-- a row that may come next is no deeper than a field can say
+pub depth_fits : (l : Allowance) (rs : List Row) (r : Row) → IsAllowance l → AreValidRows l rs
+    → Accepts l (reverse rs) r → r.depth ≤ GREATEST_DEPTH
+depth_fits l rs r cap v a = let g = row_accepted l rs r v a in
+    last_shallow rs r (subst (AreShallow GREATEST_DEPTH) g.2 (shallow_rows l g.0 cap g.1))
+
+pub judged_rows : (l : Allowance) (rows : List Row) (fields : Record) (row : Row) → IsAllowance l
+    → AreValidRows l rows → Judged l (reverse rows) fields (Accepted row)
+    ↔ ((fields ≡ record_of row) × Accepts l (reverse rows) row)
+judged_rows l rows fields row cap v = (
+  λ j. (let p = judged_row l (reverse rows) fields row
+      (has_room l (reverse rows) (accepted_rows l rows v)) j in (p.text, p.accepts)),
+  λ h. subst (λ f. Judged l (reverse rows) f (Accepted row)) (sym h.0)
+      (row_judged l (reverse rows) row h.1 (depth_fits l rows row cap v h.1)),
+)
+
+-- ==== Tables that are joined, and tables that are cut before a root.
+
+-- the records of two lists of geometries, one after the other
+pub records-append : (gs hs : List Tree) → map record_of (rows_of (gs ++ hs)) ≡ map record_of
+    (rows_of gs) ++ map record_of (rows_of hs)
+records-append gs hs = ap (λ rs. map record_of rs) (flat_map-append (rows 0) gs hs)
+    ∙ map-append record_of (rows_of gs) (rows_of hs)
+
+-- the records below a header
+below_header : (l : Allowance) (records : List Record) (gs : List Tree)
+    → Named l (header ∷ records) gs → records ≡ map record_of (rows_of gs)
+below_header l records gs n = tail_same header header records (map record_of (rows_of gs)) n.table_of
+
+pub named_joined : (l : Allowance) (records more : List Record) (gs hs : List Tree)
+    → Named l (header ∷ records) gs → Named l (header ∷ more) hs
+    → Named l (header ∷ (records ++ more)) (gs ++ hs)
+named_joined l records more gs hs a b = record {
+  table_of =
+      ap (λ rs. header ∷ rs) (
+      ap (λ rs. rs ++ more) (below_header l records gs a)
+      ∙ ap (λ rs. map record_of (rows_of gs) ++ rs) (below_header l more hs b)
+      ∙ sym (records-append gs hs)
+      );
+  valid = all_join (IsValid l) gs hs a.valid b.valid;
+}
+
+-- a record of depth 0 is that of a root
+at_root : (rs : List Row) (records : List Record) → AreShallow GREATEST_DEPTH rs → map record_of rs ≡ records
+    → BeginAtRoot records → IsAtRoot rs
+at_root [] records shallow e root = tt
+at_root (r ∷ rs) records shallow e root = decimal_injective r.depth 0 (omega (arith, shallow.0))
+    (omega arith) (subst BeginAtRoot (sym e) root)
+
+pub named_cut : (l : Allowance) (records more : List Record) (ks : List Tree) → IsAllowance l
+    → BeginAtRoot more → Named l (header ∷ (records ++ more)) ks
+    → (gs hs : List Tree) × (ks ≡ gs ++ hs) × Named l (header ∷ records) gs × Named l (header ∷ more) hs
+named_cut l records more ks cap root n =
+    let s = split (rows_of ks) records more (sym (below_header l (records ++ more) ks n)) in
+    let (gs, valid, front) = valid_front l s.front s.more (ks, n.valid, s.whole) in
+    let shallow = all_apart (IsShallow GREATEST_DEPTH) s.front s.more
+    (subst (λ rs. AreShallow GREATEST_DEPTH rs) s.whole (shallow_rows l ks cap n.valid)) in
+    let (hs, whole, others) = first_all_ended gs s.more ks (geometries l gs valid)
+    (geometries l ks n.valid) (at_root s.more more shallow.1 s.others root)
+    (ap (λ rs. rs ++ s.more) front ∙ sym s.whole) in
+    let valid_both = all_apart (IsValid l) gs hs (subst (AreValid l) whole n.valid) in (
+      gs,
+      hs,
+      whole,
+      record {
+        table_of = ap (λ rs. header ∷ rs) (sym s.fronts
+            ∙ ap (λ rs. map record_of rs) (sym front));
+        valid = valid;
+      },
+      record {
+        table_of = ap (λ rs. header ∷ rs) (sym s.others
+            ∙ ap (λ rs. map record_of rs) (sym others));
+        valid = valid_both.1;
+      },
+    )

@@ -40,7 +40,7 @@ impl RowHead<'_> {
     // Fast path: reads the point of a row of kind point that has one, if its place allows one and
     // the limit leaves room for it. `None` proves nothing.
     #[inline(always)]
-    #[tactic(auto, using(crate::proofs::HeadLemmas::one_judged))]
+    #[tactic(auto, using(crate::proofs::RowReaderLemmas::one_judged))]
     fn one_point(&self) -> Option<Pt>
         ensures { IfSome result (λ point. JudgedAs self.now (Accepted (row_with (head_row self.now) (point ∷ [])))) }
     {

@@ -1,5 +1,5 @@
 use Rattle.csv.specs.Records.{fields_of}
-use Rattle.twkb_table.proofs.RecordJudged.{some_field}
+use Rattle.twkb_table.proofs.RowReaderLemmas.{some_field}
 use Rattle.twkb_table.proofs.fields.field.Goals as goal
 
 pub unwrap-requires : goal.unwrap-requires

@@ -1,6 +1,6 @@
 use Rattle.std.proofs.Common.{sym}
 use Rattle.csv.specs.Records.{fields_of}
-use Rattle.twkb_table.proofs.RecordJudged.{AreFields, five_are}
+use Rattle.twkb_table.proofs.RowReaderLemmas.{AreFields, five_are}
 use Rattle.twkb_table.proofs.fields.five_fields.Goals as goal
 
 pub returns : goal.returns

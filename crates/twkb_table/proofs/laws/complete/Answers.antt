@@ -1,4 +1,4 @@
-use Rattle.twkb_table.proofs.Complete.{some_complete, one_complete, early_none}
+use Rattle.twkb_table.proofs.FaultLaws.{some_complete, one_complete, early_none}
 use Rattle.twkb_table.proofs.laws.complete.Goals as goal
 
 pub returns : goal.returns

@@ -1,5 +1,4 @@
-use Rattle.twkb_table.proofs.Deciding.{named_or_fault}
-use Rattle.twkb_table.proofs.FaultLaws.{fault_none, one_fault}
+use Rattle.twkb_table.proofs.FaultLaws.{named_or_fault, fault_none, one_fault}
 use Rattle.twkb_table.proofs.laws.faults.Goals as goal
 
 pub returns : goal.returns

@@ -1,4 +1,4 @@
-use Rattle.twkb_table.proofs.Growing.{grows, refused_none}
+use Rattle.twkb_table.proofs.FaultLaws.{grows, refused_none}
 use Rattle.twkb_table.proofs.laws.judged.Goals as goal
 
 pub returns : goal.returns

@@ -1,4 +1,4 @@
-use Rattle.twkb_table.proofs.JudgedRows.{judged_rows}
+use Rattle.twkb_table.proofs.Verdicts.{judged_rows}
 use Rattle.twkb_table.proofs.laws.judged_rows.Goals as goal
 
 pub returns : goal.returns

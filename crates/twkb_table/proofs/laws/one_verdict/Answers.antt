@@ -1,5 +1,5 @@
-use Rattle.twkb_table.proofs.Deciding.{some_verdict}
-use Rattle.twkb_table.proofs.OneVerdict.{one_verdict}
+use Rattle.twkb_table.proofs.FaultLaws.{some_verdict}
+use Rattle.twkb_table.proofs.Verdicts.{one_verdict}
 use Rattle.twkb_table.proofs.laws.one_verdict.Goals as goal
 
 pub returns : goal.returns

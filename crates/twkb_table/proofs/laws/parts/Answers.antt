@@ -1,4 +1,4 @@
-use Rattle.twkb_table.proofs.PartsLemmas.{named_cut, named_joined}
+use Rattle.twkb_table.proofs.Verdicts.{named_cut, named_joined}
 use Rattle.twkb_table.proofs.laws.parts.Goals as goal
 
 pub returns : goal.returns

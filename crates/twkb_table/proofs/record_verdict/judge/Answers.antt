@@ -1,8 +1,7 @@
 use Rattle.std.proofs.Common.{subst}
 use Rattle.csv.specs.Records.{fields_of}
 use Rattle.twkb_table.specs.Judged.{Accepted, Refused, Judged}
-use Rattle.twkb_table.proofs.HeadLemmas.{given_row}
-use Rattle.twkb_table.proofs.RecordJudged.{if_refused}
+use Rattle.twkb_table.proofs.RowReaderLemmas.{given_row, if_refused}
 use Rattle.twkb_table.proofs.record_verdict.judge.Goals as goal
 
 pub returns-in-Err-append_to-clause-refused : goal.returns-in-Err-append_to-clause-refused

@@ -1,5 +1,5 @@
 use Rattle.twkb_table.specs.Judged.{Refused}
-use Rattle.twkb_table.proofs.RecordJudged.{bad_kind, bad_place, judged_of, if_ok, if_err}
+use Rattle.twkb_table.proofs.RowReaderLemmas.{bad_kind, bad_place, judged_of, if_ok, if_err}
 use Rattle.twkb_table.proofs.record_verdict.judge_fields.Goals as goal
 
 pub returns-in_default-parse_kind-clause-refused : goal.returns-in_default-parse_kind-clause-refused

@@ -1,6 +1,6 @@
 use Rattle.std.proofs.Common.{rules, [], ◌∷◌}
-use Rattle.twkb_table.proofs.HeadLemmas.{HasNeedlessText, has_grown, kind_has, no_text}
-use Rattle.twkb_table.proofs.HeadLemmas.{not_allowed, points_accepted, points_refused, text_refused}
+use Rattle.twkb_table.proofs.RowReaderLemmas.{HasNeedlessText, has_grown, kind_has, no_text, not_allowed}
+use Rattle.twkb_table.proofs.RowReaderLemmas.{points_accepted, points_refused, text_refused}
 use Rattle.twkb_table.proofs.head.RowHeadPointSource.append_to.Goals as goal
 use Rattle.twkb_table.proofs.head.RowHeadPointSource.append_to.Goals.{else-not-is_empty-via-else-not-is_empty}
 

@@ -3,8 +3,7 @@ use Rattle.std.specs.Prelude.{reverse}
 use Rattle.csv.specs.Records.{fields_of}
 use Rattle.twkb_tree.specs.Open.{AreOpen}
 use Rattle.twkb_table.specs.Judged.{Refused}
-use Rattle.twkb_table.proofs.RecordJudged.{if_ok, if_err}
-use Rattle.twkb_table.proofs.RowReaderLemmas.{judged_by_open}
+use Rattle.twkb_table.proofs.RowReaderLemmas.{if_ok, if_err, judged_by_open}
 use Rattle.twkb_table.proofs.row_reader.RowReader.judge_next.Goals as goal
 
 pub returns-clause-read : goal.returns-clause-read

@@ -1,8 +1,8 @@
 use Rattle.std.proofs.Common.{rules, ◌∙◌, ◌<◌, [], length, arith, subst, sym, Ok, ap, refl, inl, inr}
 use Rattle.csv.specs.Records.{fields_of}
-use Rattle.twkb_table.proofs.RecordJudged.{if_refused}
+use Rattle.twkb_table.proofs.RowReaderLemmas.{if_refused}
 use Rattle.twkb_table.proofs.TableSteps.{going_on, begins_next, first_refused, meets_end, none_before, not_ended}
-use Rattle.twkb_table.proofs.HeaderCalls.{explained, fault_fresh, missed_fresh, no_record}
+use Rattle.twkb_table.proofs.TableCalls.{explained, fault_fresh, missed_fresh, no_record}
 use Rattle.twkb_table.proofs.table_reader.TableReader.first_root.Goals as goal
 
 pub returns-in-Ok-false : goal.returns-in-Ok-false

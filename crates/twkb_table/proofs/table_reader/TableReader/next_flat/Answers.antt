@@ -7,8 +7,8 @@ use Rattle.twkb_table.specs.TableReading.{Faults}
 use Rattle.twkb_table.specs.declared.table_fault.TableFault.{TableFault}
 use Rattle.twkb_table.specs.declared.table_fault.TableFault.TheVariants as fault
 use Rattle.twkb_table.proofs.BegunGeometry.{row_read, root_read, end_read, row_missed, record_missed}
-use Rattle.twkb_table.proofs.HeaderCalls.{fault_fresh, missed_fresh}
-use Rattle.twkb_table.proofs.TableCalls.{answered_unspent, not_final, not_spent, spent_again, spent_now}
+use Rattle.twkb_table.proofs.TableCalls.{fault_fresh, missed_fresh, answered_unspent, not_final, not_spent, spent_again}
+use Rattle.twkb_table.proofs.TableCalls.{spent_now}
 use Rattle.twkb_table.proofs.table_reader.TableReader.next_flat.Goals as goal
 
 -- ---- before a record is read

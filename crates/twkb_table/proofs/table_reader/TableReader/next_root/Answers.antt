@@ -1,8 +1,7 @@
 use Rattle.std.proofs.Common.{rules, [], ◌∷◌, refl, sym, ◌∙◌}
 use Rattle.std.proofs.lemmas.Bool.{true≢false}
 use Rattle.twkb_table.specs.Record.{header}
-use Rattle.twkb_table.proofs.TableCalls.{none_waiting}
-use Rattle.twkb_table.proofs.HeaderCalls.{after_header, waited}
+use Rattle.twkb_table.proofs.TableCalls.{none_waiting, after_header, waited}
 use Rattle.twkb_table.proofs.table_reader.TableReader.next_root.Goals as goal
 
 pub returns-then-has_root : goal.returns-then-has_root

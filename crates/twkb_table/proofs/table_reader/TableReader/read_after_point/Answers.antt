@@ -3,11 +3,9 @@ use Rattle.csv.specs.Records.{fields_of}
 use Rattle.twkb_table.specs.Judged.{Refused}
 use Rattle.twkb_table.specs.RowReading.{waiting}
 use Rattle.twkb_table.specs.declared.table_reader.TableReader.{TableReader}
-use Rattle.twkb_table.proofs.AfterPoint.{ends_past, judged_past}
-use Rattle.twkb_table.proofs.RecordJudged.{if_refused}
-use Rattle.twkb_table.proofs.TableReaderLemmas.{all_but_last-last}
-use Rattle.twkb_table.proofs.TableSteps.{reads_next, reads_end, reads_refused}
-use Rattle.twkb_table.proofs.HeaderCalls.{explained, no_record}
+use Rattle.twkb_table.proofs.RowReaderLemmas.{ends_past, judged_past, if_refused}
+use Rattle.twkb_table.proofs.TableSteps.{all_but_last-last, reads_next, reads_end, reads_refused}
+use Rattle.twkb_table.proofs.TableCalls.{explained, no_record}
 use Rattle.twkb_table.proofs.table_reader.TableReader.read_after_point.Goals as goal
 
 pub returns-in-Ok-false-clause-gives : goal.returns-in-Ok-false-clause-gives

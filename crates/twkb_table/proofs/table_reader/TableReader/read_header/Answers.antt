@@ -2,7 +2,7 @@ use Rattle.std.proofs.Common.{◌∙◌, refl, sym, subst}
 use Rattle.std.proofs.lemmas.Bool.{false≢true}
 use Rattle.csv.specs.Records.{fields_of}
 use Rattle.twkb_table.specs.TableReading.{HaveGiven, is_ended}
-use Rattle.twkb_table.proofs.HeaderCalls.{fresh, no_header, other_header, the_header}
+use Rattle.twkb_table.proofs.TableCalls.{fresh, no_header, other_header, the_header}
 use Rattle.twkb_table.proofs.table_reader.TableReader.read_header.Goals as goal
 
 pub returns-then-not-is_header-clause-reads : goal.returns-then-not-is_header-clause-reads
