@@ -13,7 +13,7 @@ use Rattle.twkb_convert.specs.declared.report.Cause.{Cause}
 use Rattle.twkb_convert.specs.declared.report.Cause.TheVariants as cause
 use Rattle.twkb_convert.specs.declared.report.ConvertFault.{ConvertFault}
 use Rattle.twkb_convert.specs.declared.report.Report.{Report}
-use Rattle.twkb_convert.proofs.RefusedLemmas.{refused_output}
+use Rattle.twkb_convert.proofs.OutputLemmas.{refused_output}
 use Rattle.twkb_convert.proofs.RoundTrips.{one_records}
 use Rattle.twkb_buffer.specs.Calls.{Answers, IsRefusal, refused_length, whole_length_of}
 use Rattle.twkb_buffer.specs.Conversions.{Finished, HasLength, Stopped}

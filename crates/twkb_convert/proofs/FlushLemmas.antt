@@ -1,17 +1,155 @@
--- What an output is left like by an answer, before and after the flush.
-use Rattle.twkb_convert.proofs.Prelude.{◌≡◌, ◌≢◌, ◌∙◌, ◌⊎◌, ℕ, Bool, true, false, List, [], Option, Result, Ok, Err}
-use Rattle.twkb_convert.proofs.Prelude.{ap, refl, sym, subst, inl, inr, append-nil, count_failure, Refused, Sent}
-use Rattle.twkb_convert.proofs.Prelude.{Took, is_spent, output_tap, sent_join, Output, OutFault, Cause}
-use Rattle.twkb_convert.proofs.Prelude.{ConvertFault, Report, IfErr, IfOk}
+-- What an output and its devices are left like, before and after the flush.
+use Rattle.std.proofs.Common.{◌≤◌, ◌∷◌, append_assoc}
+use Rattle.std.proofs.KnownBytes.{Consumes-trans}
 use Rattle.std.specs.Prelude.{OnOk}
+use Rattle.twkb_io.specs.declared.TheConstants.{MAX_BYTES}
+use Rattle.twkb_io.specs.declared.output.OutFault.TheVariants as out
 use Rattle.twkb_io.specs.Outputs.{is_device}
 use Rattle.twkb_io.specs.Taps.{has_unflushed}
-use Rattle.twkb_io.specs.declared.output.OutFault.TheVariants as out
-use Rattle.twkb_convert.specs.Causes.{after_reads, cause_of_output}
+use Rattle.twkb_grammar.specs.Blob.{Stream}
+use Rattle.twkb_grammar.proofs.Streams.{blob_long}
+use Rattle.twkb_convert.specs.LocatedBlobs.{TellsSpans}
+use Rattle.twkb_convert.specs.BlobReading.{Misses, RefusesBlob, Used, is_read}
+use Rattle.twkb_convert.specs.Causes.{cause_of_output, after_reads}
 use Rattle.twkb_convert.specs.Devices.{is_write}
-use Rattle.twkb_convert.specs.LastFlush.{Flushes, Leaves, UnlessRefused, reported}
+use Rattle.twkb_convert.specs.LastFlush.{UnlessRefused, Flushes, Leaves, reported}
+use Rattle.twkb_convert.specs.Listed.{ExplainsListingCause}
 use Rattle.twkb_convert.specs.declared.report.Cause.TheVariants as cause
-use Rattle.twkb_convert.proofs.CauseLemmas.{put_refused}
+use Rattle.twkb_convert.proofs.Prelude.{◌≡◌, ◌≢◌, ◌+◌, ◌<◌, ℕ, false, List, [], ◌++◌, Option, Some, None, Err, IfSome}
+use Rattle.twkb_convert.proofs.Prelude.{length, ap, arith, refl, inl, inr, length-append, Consumes, OutFault, Allowance}
+use Rattle.twkb_convert.proofs.Prelude.{StreamFault, reason_of, Located, LocatedStream, geometries_of, listing_text}
+use Rattle.twkb_convert.proofs.Prelude.{Layout, IsDeviceCause, Cause, ◌∙◌, ◌⊎◌, Bool, true, Result, Ok, sym, subst}
+use Rattle.twkb_convert.proofs.Prelude.{append-nil, count_failure, Refused, Sent, Took, is_spent, output_tap, sent_join}
+use Rattle.twkb_convert.proofs.Prelude.{Output, ConvertFault, Report, IfErr, IfOk}
+
+-- ==== Blobs with their spans, one after another.
+
+-- a stream has at least one byte for each blob
+pub located_long : (l : Allowance) (offset : ℕ) (bytes : List ℕ) (bs : List Located)
+    → LocatedStream l offset bytes bs → length bs ≤ length bytes
+located_long l offset bytes [] s = omega arith
+located_long l offset bytes (b ∷ bs) s =
+    omega (
+      arith,
+      blob_long l s.0 b.geometry s.3.blob,
+      located_long l (offset + length s.0) s.1 bs
+          s.4,
+      ap length s.2,
+      length-append s.0 s.1,
+    )
+
+-- located blobs without their spans are a stream
+pub located-stream : (l : Allowance) (offset : ℕ) (bytes : List ℕ) (bs : List Located)
+    → LocatedStream l offset bytes bs → Stream l bytes (geometries_of bs)
+located-stream l offset bytes [] s = s
+located-stream l offset bytes (b ∷ bs) s = (s.0, s.1, s.2, s.3.blob, located-stream l (offset + length s.0) s.1 bs s.4)
+
+-- one blob is a stream
+pub located-one : (l : Allowance) (offset : ℕ) (bytes : List ℕ) (b : Located)
+    → TellsSpans l offset bytes b → LocatedStream l offset bytes (b ∷ [])
+located-one l offset bytes b tells = (bytes, [], sym (append-nil bytes), tells, refl)
+
+-- two streams, one after the other, are a stream
+pub located-append : (l : Allowance) (offset : ℕ) (xs ys : List ℕ) (bs cs : List Located)
+    → LocatedStream l offset xs bs → LocatedStream l (offset + length xs) ys cs
+    → LocatedStream l offset (xs ++ ys) (bs ++ cs)
+located-append l offset xs ys [] cs s t =
+    subst (λ zs. LocatedStream l offset (zs ++ ys) cs) (sym s)
+    (subst (λ n. LocatedStream l n ys cs) (let none : offset + length xs ≡ offset = omega
+    (arith, ap length s) in none) t)
+located-append l offset xs ys (b ∷ bs) cs s t =
+    let place : offset + length xs ≡ offset + length s.0 + length s.1 = omega
+    (arith, ap length s.2, length-append s.0 s.1) in (
+      s.0,
+      s.1 ++ ys,
+      ap (λ zs. zs ++ ys) s.2 ∙ append_assoc s.0 s.1 ys,
+      s.3,
+      located-append l (offset + length s.0) s.1 ys bs cs s.4 (subst (λ n. LocatedStream l n ys cs) place t),
+    )
+
+-- ==== What a cause says of the text that was sent, and of the devices.
+
+-- what a cause says after blobs with these bytes, if no further text was made
+pub explained : (layout : Layout) (l : Allowance) (old mid told : Option (List ℕ)) (middle : ℕ)
+    (bytes : List ℕ) (bs : List Located) (why : Cause) → LocatedStream l 0 bytes bs
+    → Used old 0 bytes mid middle → Misses l mid middle told why
+    → ExplainsListingCause geometries_of (listing_text layout) l old told bytes why bs [] []
+explained layout l old mid told middle bytes bs cause.Memory blobs used misses = (refl, refl)
+explained layout l old mid told middle bytes bs cause.ReadDevice blobs used misses = (
+  refl,
+  refl,
+  record {
+    cut = misses.cut;
+    consumed = Consumes-trans old mid told bytes misses.cut used.consumed misses.consumed;
+    cut_off = misses.cut_off;
+  },
+)
+explained layout l old mid told middle bytes bs cause.WriteDevice blobs used misses = absurd misses
+explained layout l old mid told middle bytes bs cause.TooManyRecords blobs used misses = absurd misses
+explained layout l old mid told middle bytes bs (cause.Row number reason) blobs used misses = absurd misses
+explained layout l old mid told middle bytes bs cause.TooLong blobs used misses =
+    inl (long old mid used.consumed misses)
+  where
+    long : (known left : Option (List ℕ)) → Consumes known left bytes
+        → IfSome left (λ rest. MAX_BYTES < middle + length rest) → IfSome known (λ all. MAX_BYTES < length all)
+    long None left c far = tt
+    long (Some all) None c far = absurd c
+    long (Some all) (Some rest) c far = omega (arith, far, used.counted, ap length c, length-append bytes rest)
+explained layout l old mid told middle bytes bs (cause.Blob offset reason) blobs used misses =
+    (refl, refl, fault old mid used.consumed misses)
+  where
+    fault : (known left : Option (List ℕ)) → Consumes known left bytes
+        → IfSome left (λ rest. RefusesBlob l rest middle offset reason)
+        → IfSome known (λ all. StreamFault l all (geometries_of bs) offset (reason_of reason))
+    fault None left c refused = tt
+    fault (Some all) None c refused = absurd c
+    fault (Some all) (Some rest) c refused = record {
+      front = bytes;
+      rest = rest;
+      within = refused.within;
+      whole = c;
+      blobs = located-stream l 0 bytes bs blobs;
+      first = refused.first;
+      place = omega (arith, refused.place, used.counted);
+    }
+
+-- no device but the reader's is a cause if no text was made
+pub told_missed : (l : Allowance) (old told : Option (List ℕ)) (before : ℕ) (why : Cause)
+    → Misses l old before told why → (is_write {A = Unit {0}} (Err why) ≡ false)
+    × IsDeviceCause (is_read why) (is_write {A = Unit {0}} (Err why)) why
+told_missed l old told before cause.Memory misses = (refl, (λ e. cc e, λ e. cc e))
+told_missed l old told before cause.ReadDevice misses = (refl, refl)
+told_missed l old told before cause.WriteDevice misses = absurd misses
+told_missed l old told before cause.TooManyRecords misses = absurd misses
+told_missed l old told before (cause.Row number reason) misses = absurd misses
+told_missed l old told before cause.TooLong misses = (refl, (λ e. cc e, λ e. cc e))
+told_missed l old told before (cause.Blob offset reason) misses = (refl, (λ e. cc e, λ e. cc e))
+
+-- what the cause of a refused put says
+pub put_explained : (layout : Layout) (l : Allowance) (old told : Option (List ℕ)) (bytes : List ℕ)
+    (f : OutFault) (whole later : List Located) (left : List ℕ)
+    → (f ≡ out.TooLong → MAX_BYTES < length (listing_text layout (whole ++ later))) → f ≢ out.Spent
+    → ExplainsListingCause geometries_of (listing_text layout) l old told bytes (cause_of_output f) whole later left
+put_explained layout l old told bytes out.Write whole later left long unspent = tt
+put_explained layout l old told bytes out.Stuck whole later left long unspent = tt
+put_explained layout l old told bytes out.TooLong whole later left long unspent = inr (long refl)
+put_explained layout l old told bytes out.Spent whole later left long unspent = absurd (unspent refl)
+
+pub told_put : (f : OutFault)
+    → IsDeviceCause false (is_write {A = Unit {0}} (Err (cause_of_output f))) (cause_of_output f)
+told_put out.Write = refl
+told_put out.Stuck = refl
+told_put out.TooLong = (λ e. cc e, λ e. cc e)
+told_put out.Spent = (λ e. cc e, λ e. cc e)
+
+-- nothing is said of an output that refused a put
+pub put_refused : (A : Type 0) (f : OutFault) (Fact : Type 0) → UnlessRefused {T = A} (Err (cause_of_output f)) Fact
+put_refused A out.Write Fact no_write no_length = absurd (no_write refl)
+put_refused A out.Stuck Fact no_write no_length = absurd (no_write refl)
+put_refused A out.TooLong Fact no_write no_length = absurd (no_length refl)
+put_refused A out.Spent Fact no_write no_length = absurd (no_length refl)
+
+-- ==== What an output is left like by an answer, before and after the flush.
 
 -- ---- before the flush
 

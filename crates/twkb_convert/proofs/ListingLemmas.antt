@@ -1,23 +1,236 @@
--- The exits of the loop over a stream's blobs.
+-- The text of a stream's blobs, joined from their parts, and the exits of the loop over them.
+use Rattle.std.specs.Prelude.{map, ◌/◌, ◌%◌}
+use Rattle.std.proofs.lemmas.List.{nil_from_length}
+use Rattle.std.proofs.lemmas.Grind.{flat_map-append}
+use Rattle.std.specs.Fmt.{digit_glyph}
+use Rattle.std.specs.Io.KnownBytes.{prepend_known}
+use Rattle.std.proofs.KnownBytes.{Consumes-nil, Consumes-trans}
+use Rattle.twkb_io.specs.Inputs.{unused}
+use Rattle.twkb_io.specs.Taps.{has_unflushed}
+use Rattle.twkb_io.specs.declared.input.InFault.TheVariants as input
+use Rattle.twkb_io.specs.declared.TheConstants.{MAX_BYTES}
+use Rattle.twkb_tree.specs.Tree.{Tree}
+use Rattle.twkb_tree.specs.Rows.{rows, rows_of, Row}
+use Rattle.twkb_grammar.specs.Spans.{spans_of_blob}
+use Rattle.twkb_grammar.specs.declared.span.Span.{Span}
+use Rattle.twkb_grammar.proofs.Streams.{blob_long}
+use Rattle.twkb_engine.specs.declared.blob_reason.BlobReason.{BlobReason}
+use Rattle.twkb_engine.specs.Stops.{reason_of}
+use Rattle.twkb_blob.specs.declared.fault.BlobFault.{BlobFault}
+use Rattle.twkb_blob.specs.Located.{ReadsSpans}
+use Rattle.twkb_blob.specs.Readers.{IfGoingOn, IsNext, ReadsNext, ReadsRows, RefusedKnown, failed_by_read, reader_input}
+use Rattle.twkb_blob.specs.declared.fault.BlobFault.TheVariants as blob
+use Rattle.twkb_table.specs.Record.{header, record_of}
+use Rattle.twkb_table.specs.Text.{csvtext, joined}
+use Rattle.twkb_table.proofs.Verdicts.{records-append}
+use Rattle.twkb_convert.specs.Outputs.{rows_text, table_text}
+use Rattle.twkb_convert.specs.Listings.{table_layout, lines_layout}
+use Rattle.twkb_convert.specs.BlobReading.{EndsBlobs, Follows, GivesText, IsBetween, Misses, MissesText, RefusesBlob}
+use Rattle.twkb_convert.specs.BlobReading.{given, is_input_spent, is_read, limits_of, reader_failures, rest_of, told_of}
+use Rattle.twkb_convert.specs.BlobReading.{GivesBlob, Used, reader_tap}
+use Rattle.twkb_convert.specs.Causes.{cause_of_blob, cause_of_output}
+use Rattle.twkb_convert.specs.SpanLines.{hex_of, span_lines}
+use Rattle.twkb_convert.specs.declared.report.Cause.TheVariants as cause
+use Rattle.twkb_convert.specs.Devices.{is_write}
+use Rattle.twkb_convert.specs.BlobsListed.{Ends, IsFresh, Lists, SentSoFar}
+use Rattle.twkb_convert.specs.LastFlush.{Finishes, Flushes, IsFlushed, UnlessRefused, reported}
+use Rattle.twkb_convert.specs.Listed.{ExplainsListingCause, Listed, StoppedListing}
 use Rattle.twkb_convert.proofs.Prelude.{◌≡◌, ◌∙◌, ◌+◌, ◌-◌, ◌<◌, ℕ, Bool, false, List, [], ◌∷◌, ◌++◌, Option, Some}
 use Rattle.twkb_convert.proofs.Prelude.{None, Result, Ok, Err, IfSome, length, ap, arith, refl, sym, subst, inl, inr}
 use Rattle.twkb_convert.proofs.Prelude.{append_assoc, length-append, append-nil, Consumes, IsAtEnd, Ghosts, BeginsWith}
-use Rattle.twkb_convert.proofs.Prelude.{Cut, Took, sent_of, refused_join, took_join}
-use Rattle.twkb_convert.proofs.Prelude.{Output, OutFault, Allowance, Reader}
-use Rattle.twkb_convert.proofs.Prelude.{Located, LocatedStream, TellsSpans, blobs_text}
-use Rattle.twkb_convert.proofs.Prelude.{listing_text, Layout, Cause}
-use Rattle.std.proofs.KnownBytes.{Consumes-nil, Consumes-trans}
-use Rattle.twkb_io.specs.declared.TheConstants.{MAX_BYTES}
-use Rattle.twkb_grammar.proofs.Streams.{blob_long}
-use Rattle.twkb_convert.specs.BlobReading.{EndsBlobs, Follows, GivesBlob, GivesText, Misses, MissesText, Used}
-use Rattle.twkb_convert.specs.BlobReading.{given, is_read, limits_of, rest_of, told_of}
-use Rattle.twkb_convert.specs.Causes.{cause_of_output}
-use Rattle.twkb_convert.specs.Devices.{is_write}
-use Rattle.twkb_convert.specs.BlobsListed.{Ends, IsFresh, Lists, SentSoFar}
-use Rattle.twkb_convert.proofs.CauseLemmas.{explained, put_explained, told_missed, told_put}
-use Rattle.twkb_convert.proofs.FlushLemmas.{leaves_refused, leaves_took}
-use Rattle.twkb_convert.proofs.LocatedLemmas.{located-append, located-one}
-use Rattle.twkb_convert.proofs.ListingTexts.{blobs_text-append, blobs_text-one}
+use Rattle.twkb_convert.proofs.Prelude.{Cut, Took, sent_of, refused_join, took_join, Output, OutFault, Allowance}
+use Rattle.twkb_convert.proofs.Prelude.{Reader, Located, LocatedStream, TellsSpans, blobs_text, listing_text, Layout}
+use Rattle.twkb_convert.proofs.Prelude.{Cause, ◌⊎◌, true, Appends, Sent, count_failure, device_of, failures_of}
+use Rattle.twkb_convert.proofs.Prelude.{is_spent, output_failures, output_tap, Tap, geometries_of, IsDeviceCause}
+use Rattle.twkb_convert.proofs.Prelude.{ConvertFault, Report, IfErr, IfOk}
+use Rattle.twkb_convert.proofs.FlushLemmas.{explained, put_explained, told_missed, told_put, leaves_refused}
+use Rattle.twkb_convert.proofs.FlushLemmas.{leaves_took, flushed_last, leaves_last, reports_err, reports_ok, when_err}
+use Rattle.twkb_convert.proofs.FlushLemmas.{when_ok, located-append, located-one}
+
+-- ==== Texts of rows, joined.
+
+-- the rows of one geometry
+pub rows_text-one : (g : Tree) → csvtext (map record_of (rows 0 g)) ≡ rows_text (g ∷ [])
+rows_text-one g = ap (λ l. csvtext (map record_of l)) (sym (append-nil (rows 0 g)))
+
+-- the rows of two lists of geometries, one after the other
+pub rows_text-append : (gs hs : List Tree) → rows_text (gs ++ hs) ≡ rows_text gs ++ rows_text hs
+rows_text-append gs hs = ap csvtext (records-append gs hs)
+    ∙ flat_map-append _ (map record_of (rows_of gs)) (map record_of (rows_of hs))
+
+-- the table is the header's line and the rows
+pub table_text-rows : (gs : List Tree) → csvtext (header ∷ []) ++ rows_text gs ≡ table_text gs
+table_text-rows gs = ap (λ l. l ++ rows_text gs) (append-nil (joined header ++ 10 ∷ []))
+
+-- the table of geometries, and then the rows of others
+pub table_text-append : (gs hs : List Tree) → table_text (gs ++ hs) ≡ table_text gs ++ rows_text hs
+table_text-append gs hs =
+    let line = csvtext (header ∷ []) in
+    sym (table_text-rows (gs ++ hs)) ∙ ap (λ k. line ++ k) (rows_text-append gs hs)
+    ∙ sym (append_assoc line (rows_text gs) (rows_text hs))
+    ∙ ap (λ k. k ++ rows_text hs) (table_text-rows gs)
+
+-- ==== Texts of blobs, joined.
+
+-- the texts of two lists of blobs, one after the other
+pub blobs_text-append : (layout : Layout) (bs cs : List Located)
+    → blobs_text layout (bs ++ cs) ≡ blobs_text layout bs ++ blobs_text layout cs
+blobs_text-append layout bs cs = flat_map-append layout.text_of bs cs
+
+pub blobs_text-one : (layout : Layout) (b : Located) → blobs_text layout (b ∷ []) ≡ layout.text_of b
+blobs_text-one layout b = append-nil (layout.text_of b)
+
+-- ---- tables
+
+rows_of_blobs : (bs : List Located) → blobs_text table_layout bs ≡ rows_text (geometries_of bs)
+rows_of_blobs [] = refl
+rows_of_blobs (b ∷ bs) =
+    ap (λ t. rows_text (b.geometry ∷ []) ++ t) (rows_of_blobs bs)
+    ∙ sym (rows_text-append (b.geometry ∷ []) (geometries_of bs))
+
+-- the text of a table is that of its geometries
+pub table_of_blobs : (bs : List Located) → listing_text table_layout bs ≡ table_text (geometries_of bs)
+table_of_blobs bs =
+    ap (λ t. csvtext (header ∷ []) ++ t) (rows_of_blobs bs) ∙ table_text-rows (geometries_of bs)
+
+-- ==== The text of one blob, from the parts that were appended.
+
+-- the seven words of a line, each appended with the byte after it, except that the space after
+-- the offset is appended with the kind
+pub words_put : (old space level offset kind precision metadata length points a b c d e f : List ℕ)
+    → a ≡ old ++ level → b ≡ a ++ offset → c ≡ b ++ (space ++ kind) → d ≡ c ++ precision
+    → e ≡ d ++ metadata → f ≡ e ++ length
+    → f ++ (points ++ 10 ∷ []) ≡ old
+    ++ ((level ++ ((offset ++ space) ++ (kind ++ (precision ++ (metadata ++ (length ++ points))))))
+    ++ 10 ∷ [])
+words_put old space level offset kind precision metadata length points a b c d e f ea eb ec ed ee ef =
+    let whole : f ≡ (((((old ++ level) ++ offset) ++ (space ++ kind)) ++ precision) ++ metadata) ++ length = cc in
+    ap (λ t. t ++ (points ++ 10 ∷ [])) whole ∙ simp (append_assoc)
+
+-- both digits of a byte were pushed, and a space
+pub hex_put : (old first both new : List ℕ) (byte : ℕ) → first ≡ old ++ digit_glyph true (byte / 16) ∷ []
+    → both ≡ first ++ digit_glyph true (byte % 16) ∷ [] → new ≡ both ++ 32 ∷ [] → new ≡ old ++ (hex_of byte ++ 32 ∷ [])
+hex_put old first both new byte high low space =
+    space ∙ ap (λ (t : List ℕ). t ++ 32 ∷ []) (low ∙ ap (λ (t : List ℕ). t ++ digit_glyph true (byte % 16) ∷ []) high)
+    ∙ append_assoc (old ++ digit_glyph true (byte / 16) ∷ []) (digit_glyph true (byte % 16) ∷ []) (32 ∷ [])
+    ∙ append_assoc old (digit_glyph true (byte / 16) ∷ []) (digit_glyph true (byte % 16) ∷ 32 ∷ [])
+
+-- the bytes left are refused
+refused_left : (limits : Allowance) (before : ℕ) (rest : Option (List ℕ)) (offset : ℕ)
+    (why : BlobReason) → IfSome rest (λ bytes. RefusedKnown limits before bytes offset
+    (reason_of why)) → IfSome rest (λ bytes. RefusesBlob limits bytes before offset why)
+refused_left limits before None offset why h = tt
+refused_left limits before (Some bytes) offset why h = record { within = h.within; place = h.place; first = h.first }
+
+-- a failed read of a blob is a failed read of its text
+read_stops : (why : BlobFault) → failed_by_read {A = Bool} (Err why) ≡ is_read (cause_of_blob why)
+read_stops blob.Memory = refl
+read_stops (blob.Device input.Read) = refl
+read_stops (blob.Device input.TooLong) = refl
+read_stops (blob.Device input.Spent) = refl
+read_stops blob.Spent = refl
+read_stops (blob.At offset reason) = refl
+
+-- a device gives nothing if no byte was left and none was lost
+told_none : (known told : Option (List ℕ)) (held : List ℕ) → IsAtEnd known
+    → Consumes known (prepend_known held told) [] → IfSome known (λ bytes. IsAtEnd told)
+told_none None told held end loses = tt
+told_none (Some xs) None held end loses = absurd loses
+told_none (Some xs) (Some ys) held end loses =
+    let none : held ++ ys ≡ [] = sym loses ∙ end in
+    nil_from_length ys (omega (arith, ap length none, length-append held ys))
+
+module _ {R : Type 0} {read : Ghosts R} (from to : Reader R read) where
+  -- the reader keeps its tap and its limits
+  follows : (answer : Result Bool BlobFault) (failed : Bool) → failed_by_read answer ≡ failed
+      → ReadsNext false from to answer → Follows from to failed
+  follows answer failed is shared = record {
+    same_tap = shared.same_tap;
+    limits = shared.limits;
+    failures = shared.failures ∙ ap (λ f. count_failure f (reader_failures from)) is;
+    within = to.input.within;
+  }
+
+  misses : (why : BlobFault) → IsNext (limits_of from) (reader_input from) (reader_input to) (Err why)
+      → is_input_spent from ≡ false
+      → Misses (limits_of from) (rest_of from) (given from) (told_of to) (cause_of_blob why)
+  misses blob.Memory h live = tt
+  misses (blob.Device input.Read) h live =
+      record {
+        cut = h.bytes;
+        consumed = subst (λ t. Consumes (rest_of from) t h.bytes) h.none_held
+            h.left.consumed;
+        cut_off = h.cut_off;
+      }
+  misses (blob.Device input.TooLong) h live = h.full.1
+  misses (blob.Device input.Spent) h live = absurd (cc (h, live))
+  misses blob.Spent h live = absurd h
+  misses (blob.At offset reason) h live = refused_left (limits_of from) (given from) (rest_of from) offset reason h
+
+  -- no blob was read, so no text was made
+  pub missed : (why : BlobFault) → IsBetween from → ReadsNext false from to (Err why)
+      → IfGoingOn from (IsNext (limits_of from) (reader_input from) (reader_input to) (Err why))
+      → MissesText from to (cause_of_blob why)
+  missed why ready shared next = record {
+    misses = misses why (next ready.fresh ready.going_on) ready.input;
+    follows = follows (Err why) (is_read (cause_of_blob why)) (read_stops why) shared;
+  }
+
+  -- a blob was read, and there was no memory for its text
+  pub missed_text : (found : Bool) → ReadsNext false from to (Ok found) → MissesText from to cause.Memory
+  missed_text found shared = record { misses = tt; follows = follows (Ok found) false refl shared }
+
+  -- no blob is left
+  pub ended : IsBetween from → ReadsNext false from to (Ok false)
+      → IfGoingOn from (IsNext (limits_of from) (reader_input from) (reader_input to) (Ok None))
+      → EndsBlobs from to
+  ended ready shared next =
+      let end = next ready.fresh ready.going_on in
+      record {
+        empty = end.0;
+        ended = told_none (rest_of from) (told_of to) (unused (reader_input to)) end.0 end.1.consumed;
+        follows = follows (Ok false) false refl shared;
+      }
+
+  -- the reader is between two blobs after one was read
+  between : ReadsNext false from to (Ok true) → is_input_spent to ≡ false → IsBetween to
+  between shared live = record { fresh = shared.stays; going_on = shared.going_on (λ e. cc e); input = live }
+
+  -- the rows of a geometry, from its flat form
+  pub rows_given : (rs : List Row) (text : List ℕ) → IsBetween from → ReadsRows from to (Ok true) rs
+      → text ≡ csvtext (map record_of rs) → GivesText table_layout from to text
+  rows_given rs text ready reads own =
+      let (g, made, rows) = reads.next ready.fresh ready.going_on in
+      record {
+        found = record { geometry = g; spans = spans_of_blob (given from) made.blob };
+        gives = record {
+          front = made.bytes;
+          tells = record { blob = made.blob; told = refl };
+          used = record { consumed = made.left.consumed; counted = made.left.counted };
+        };
+        own = own ∙ ap (λ (q : List Row). csvtext (map record_of q)) rows ∙ rows_text-one g;
+        follows = follows (Ok true) false refl reads.shared;
+        between = between reads.shared made.unspent;
+      }
+
+  -- the lines of a blob, from its spans
+  pub lines_given : (rs : List Row) (spans : List Span) (text : List ℕ) → IsBetween from
+      → ReadsSpans from to (Ok true) rs spans → text ≡ span_lines spans → GivesText lines_layout from to text
+  lines_given rs spans text ready reads own =
+      let (g, has, rows) = reads.next ready.fresh ready.going_on in
+      record {
+        found = record { geometry = g; spans = spans };
+        gives = record {
+          front = has.made.bytes;
+          tells = record { blob = has.made.blob; told = has.told };
+          used = record { consumed = has.made.left.consumed; counted = has.made.left.counted };
+        };
+        own = own;
+        follows = follows (Ok true) false refl reads.shared;
+        between = between reads.shared has.made.unspent;
+      }
+
+-- ==== The exits of the loop over a stream's blobs.
 
 -- ---- bytes
 
@@ -278,3 +491,177 @@ module _ {R W : Type 0} {read : Ghosts R} (layout : Layout) (contents : W → Op
             (given mid) sent.bytes sent.found why sent.blobs sent.used misses;
         tell = told.1;
       })
+
+-- ==== The flush after the text of a stream, and what the caller of the conversion learns.
+
+-- ---- the flush
+
+wrote : (failed : Bool) → IsDeviceCause failed true cause.WriteDevice
+wrote false = refl
+wrote true = refl
+
+-- what was sent, after the flush
+pub lists_last : {R W : Type 0} {read : Ghosts R} (layout : Layout) (contents : W → Option (List ℕ))
+    (from : Reader R read) (old : Output W) (to : Reader R read) (mid new : Output W) (done : ℕ)
+    (answer last : Result (Unit {0}) Cause) → Lists layout contents from old to mid done answer
+    → Flushes contents mid answer new last → Lists layout contents from old to new done last
+lists_last layout contents from old to mid new done answer last lists flushes =
+    let after = leaves_last contents old mid new lists.text answer last lists.leaves flushes in
+    record {
+      text = lists.text;
+      part = lists.part;
+      leaves = after.0;
+      count = lists.count;
+      read_failed = lists.read_failed;
+      follows = lists.follows;
+      ends = ends after.1;
+    }
+  where
+    ends : (last ≡ answer) ⊎ (last ≡ Err cause.WriteDevice)
+        → Ends layout from to lists.part.bytes lists.part.whole lists.part.later lists.part.left
+        lists.read_failed last
+    ends (inl same) = subst (Ends layout from to lists.part.bytes lists.part.whole lists.part.later lists.part.left
+        lists.read_failed) (sym same) lists.ends
+    ends (inr write) = subst (Ends layout from to lists.part.bytes lists.part.whole lists.part.later lists.part.left
+        lists.read_failed) (sym write) (record { explains = tt; tell = wrote lists.read_failed })
+
+-- what is flushed at the end
+module _ {W : Type 0} (contents : W → Option (List ℕ)) (mid new : Output W) (written : Tap W) (done : ℕ)
+    (sending : Result (Unit {0}) Cause) (report : Result Report ConvertFault)
+    (closes : (output_tap new).now ≡ written) (finishes : Finishes contents mid done sending new report)
+    (unspent : UnlessRefused sending (is_spent mid ≡ false)) where
+  held : (answer : Result (Unit {0}) Cause) → finishes.answer ≡ answer
+      → UnlessRefused answer (has_unflushed written ≡ false)
+  held answer is = subst (λ t. UnlessRefused answer (has_unflushed t ≡ false)) closes
+      (subst (λ a. UnlessRefused a (has_unflushed (output_tap new).now ≡ false)) is
+      (flushed_last contents mid new sending finishes.answer unspent finishes.flushes))
+
+  flushed_as : (r : Result Report ConvertFault) → r ≡ reported done (sent_of new) finishes.answer
+      → IsFlushed r written
+  flushed_as (Ok r) is = held (Ok tt) (reports_ok done (sent_of new) r finishes.answer is).0
+  flushed_as (Err fault) is = held (Err fault.cause) (reports_err done (sent_of new) fault finishes.answer is).0
+
+  pub flushed : IsFlushed report written
+  flushed = flushed_as report finishes.reports
+
+-- ---- the taps
+
+known_stream : (l : Allowance) (known : Option (List ℕ)) (bytes : List ℕ) (bs : List Located)
+    → IfSome known (λ whole. whole ≡ bytes) → LocatedStream l 0 bytes bs
+    → IfSome known (λ whole. LocatedStream l 0 whole bs)
+known_stream l None bytes bs all blobs = tt
+known_stream l (Some whole) bytes bs all blobs = subst (λ b. LocatedStream l 0 b bs) (sym all) blobs
+
+-- no text is left after that of all blobs
+whole_text : (layout : Layout) (whole later : List Located) (text left : List ℕ)
+    → listing_text layout (whole ++ later) ≡ text ++ left → later ≡ [] → left ≡ []
+    → text ≡ listing_text layout whole
+whole_text layout whole later text left cut no_later none_left =
+    sym (append-nil text) ∙ ap (λ l. text ++ l) (sym none_left) ∙ sym cut
+    ∙ ap (λ bs. listing_text layout (whole ++ bs)) no_later ∙ ap (listing_text layout) (append-nil whole)
+
+module _ {R W : Type 0} {read : Ghosts R} (layout : Layout) (remaining : R → Option (List ℕ))
+    (contents : W → Option (List ℕ)) (l : Allowance) (reader after : Tap R) (writer written : Tap W)
+    (from to : Reader R read) (old mid new : Output W) (done : ℕ) (sending : Result (Unit {0}) Cause)
+    (report : Result Report ConvertFault)
+    (limits : limits_of from ≡ l) (told : rest_of from ≡ remaining (device_of reader))
+    (failures : reader_failures from ≡ failures_of reader)
+    (borrowed : (output_tap old).now ≡ writer) (none : sent_of old ≡ 0)
+    (ends : (reader_tap to).now ≡ after) (closes : (output_tap new).now ≡ written)
+    (later_told : told_of to ≡ remaining (device_of after))
+    (finishes : Finishes contents mid done sending new report)
+    (sends : Lists layout contents from old to mid done sending) where
+  appended : (text : List ℕ) → Sent contents old text new
+      → Appends (contents (device_of writer)) (contents (device_of written)) text
+  appended text sent = subst (λ t. Appends (contents (device_of t)) (contents (device_of written)) text) borrowed
+      (subst (λ t. Appends (contents (device_of (output_tap old).now)) (contents (device_of t)) text)
+      closes sent.appends)
+
+  reads_as : (failed : Bool) → reader_failures to ≡ count_failure failed (reader_failures from)
+      → failures_of after ≡ count_failure failed (failures_of reader)
+  reads_as failed reads = ap failures_of (sym ends) ∙ reads ∙ ap (count_failure failed) failures
+
+  writes_as : (failed : Bool) → output_failures new ≡ count_failure failed (output_failures old)
+      → failures_of written ≡ count_failure failed (failures_of writer)
+  writes_as failed writes = ap failures_of (sym closes) ∙ writes
+      ∙ ap (λ t. count_failure failed (failures_of t)) borrowed
+
+  lists_with : (answer : Result (Unit {0}) Cause) → finishes.answer ≡ answer
+      → Lists layout contents from old to new done answer
+  lists_with answer is = subst (λ a. Lists layout contents from old to new done a) is
+      (lists_last layout contents from old to mid new done sending finishes.answer sends finishes.flushes)
+
+  listed_as : (r : Report) → Ok r ≡ reported done (sent_of new) finishes.answer
+      → Listed (LocatedStream l 0) (listing_text layout) remaining contents reader writer r after written
+  listed_as r is =
+      let (ok, same) = reports_ok done (sent_of new) r finishes.answer is in
+      let lists = lists_with (Ok tt) ok in
+      let p = lists.part in
+      let e = lists.ends in
+      let text = whole_text layout p.whole p.later lists.text p.left p.cut e.no_later e.none_left in
+      let blobs : LocatedStream l 0 p.bytes p.whole = subst (λ a. LocatedStream a 0 p.bytes p.whole) limits
+      (subst (λ bs. LocatedStream (limits_of from) 0 p.bytes bs)
+      (ap (λ bs. p.whole ++ bs) e.no_later ∙ append-nil p.whole) p.blobs) in
+      record {
+        found = p.whole;
+        stream = subst (λ k. IfSome k (λ bytes. LocatedStream l 0 bytes p.whole)) told
+            (known_stream l (rest_of from) p.bytes p.whole e.all blobs);
+        appends = subst (λ t. Appends (contents (device_of writer)) (contents (device_of written)) t) text
+            (appended lists.text lists.leaves.sends);
+        geometries = ap (λ (q : Report). q.geometries) same ∙ lists.count;
+        bytes = (let count = ap (λ (q : Report). q.bytes) same in
+            omega (arith, count, lists.leaves.sends.sent, none, ap length text));
+        end = subst (λ k. IfSome k (λ bytes. IsAtEnd (remaining (device_of after)))) told
+            (subst (λ t. IfSome (rest_of from) (λ bytes. IsAtEnd t)) later_told e.ended);
+        reads = reads_as false (subst (λ f. reader_failures to ≡ count_failure f (reader_failures from))
+            e.no_read lists.follows.failures);
+        writes = writes_as false lists.leaves.failures;
+      }
+
+  stopped_as : (fault : ConvertFault) → Err fault ≡ reported done (sent_of new) finishes.answer
+      → StoppedListing (LocatedStream l 0) geometries_of (listing_text layout) l remaining contents
+      reader writer fault after written
+  stopped_as fault is =
+      let (stops, same) = reports_err done (sent_of new) fault finishes.answer is in
+      let lists = lists_with (Err fault.cause) stops in
+      let p = lists.part in
+      record {
+        text = lists.text;
+        part = record {
+          whole = p.whole;
+          later = p.later;
+          bytes = p.bytes;
+          left = p.left;
+          blobs = subst (λ a. LocatedStream a 0 p.bytes (p.whole ++ p.later)) limits p.blobs;
+          begins = subst (λ k. BeginsWith k p.bytes) told p.begins;
+          cut = p.cut;
+          one = p.one;
+          holds = p.holds;
+        };
+        appends = appended lists.text lists.leaves.sends;
+        done = ap (λ (f : ConvertFault). f.done) same ∙ lists.count;
+        sent = (let count = ap (λ (f : ConvertFault). f.sent) same in
+            omega (arith, count, lists.leaves.sends.sent, none));
+        explains = subst (λ a. ExplainsListingCause geometries_of (listing_text layout) a
+            (remaining (device_of reader)) (remaining (device_of after)) p.bytes fault.cause p.whole p.later p.left)
+            limits
+            (subst (λ k. ExplainsListingCause geometries_of (listing_text layout) (limits_of from) k
+            (remaining (device_of after)) p.bytes fault.cause p.whole p.later p.left) told
+            (subst (λ t. ExplainsListingCause geometries_of (listing_text layout) (limits_of from)
+            (rest_of from) t p.bytes fault.cause p.whole p.later p.left) later_told lists.ends.explains));
+        devices = record {
+          read_failed = lists.read_failed;
+          write_failed = is_write {A = Unit {0}} (Err fault.cause);
+          reads = reads_as lists.read_failed lists.follows.failures;
+          writes = writes_as (is_write {A = Unit {0}} (Err fault.cause)) lists.leaves.failures;
+          tell = lists.ends.tell;
+        };
+      }
+
+  pub listed : IfOk report (λ r. Listed (LocatedStream l 0) (listing_text layout) remaining contents reader writer r
+      after written)
+  listed = when_ok report _ (λ r is. listed_as r (sym is ∙ finishes.reports))
+
+  pub stopped : IfErr report (λ fault. StoppedListing (LocatedStream l 0) geometries_of (listing_text layout) l
+      remaining contents reader writer fault after written)
+  stopped = when_err report _ (λ fault is. stopped_as fault (sym is ∙ finishes.reports))

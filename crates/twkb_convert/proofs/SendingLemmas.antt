@@ -1,32 +1,108 @@
--- The sending of a table, up to each place where it ends.
+-- The sending of a table and its result for the caller of a conversion.
+use lib.Dec.{eqb}
+use Rattle.std.proofs.Common.{◌*◌}
+use Rattle.std.specs.Prelude.{OnOk, not, ℤ}
+use Rattle.std.proofs.lemmas.Bool.{eqb-false, eqb-true}
+use Rattle.twkb_points.specs.Point.{Point}
 use Rattle.twkb_io.specs.declared.TheConstants.{MAX_BYTES}
-use Rattle.twkb_convert.proofs.Prelude.{◌≡◌, ◌≢◌, ◌∙◌, ◌⊎◌, ◌+◌, ◌<◌, ◌≤◌, ℕ, Bool, true, false, List, [], ◌∷◌}
-use Rattle.twkb_convert.proofs.Prelude.{◌++◌, Option, Result, Ok, Err, length, ap, arith, refl, sym, subst, inl, inr}
+use Rattle.twkb_io.specs.declared.output.OutFault.TheVariants as out
+use Rattle.twkb_io.specs.Taps.{has_unflushed}
+use Rattle.twkb_tree.specs.Tree.{flat, nodes, saturated, Simple, point, line, polygon, multi_point, multi_line}
+use Rattle.twkb_tree.specs.Tree.{multi_polygon, IsTree, IsPrecision}
+use Rattle.twkb_tree.specs.Rows.{row_points, own_row}
+use Rattle.twkb_grammar.specs.Spans.{geometries}
+use Rattle.twkb_writer.specs.declared.sizes.Entry.{Entry}
+use Rattle.twkb_writer.specs.MeasuredRows.{Counted, Measures}
+use Rattle.twkb_writer.specs.Reads.{Reads}
+use Rattle.twkb_writer.specs.PointBlob.{one_point}
+use Rattle.twkb_table.specs.RowReading.{waiting}
+use Rattle.twkb_table.specs.TableReading.{GivesNext, HaveGiven, MeetsEnd, StandsAfter, is_ended}
+use Rattle.twkb_table.specs.TableReading as Table
+use Rattle.twkb_table.specs.declared.table_fault.TableFault.{TableFault}
+use Rattle.twkb_table.specs.declared.table_reader.TableReader.{TableReader}
+use Rattle.twkb_table.specs.declared.table_fault.TableFault.TheVariants as table_fault
+use Rattle.twkb_table.specs.Waiting.{point_row}
+use Rattle.twkb_table.proofs.TableSteps.{all_but_last-last, names_so_far, text_begins}
+use Rattle.twkb_convert.specs.CountedWork.{AddsWork, IsWorkOf, points, total, no_work}
+use Rattle.twkb_convert.specs.WrittenBlob.{CutsBlob, WritesBlob}
+use Rattle.twkb_convert.specs.Causes.{cause_of_output, cause_of_table, after_reads}
+use Rattle.twkb_convert.specs.Devices.{is_write}
+use Rattle.twkb_convert.specs.ReaderEnd.{Drains}
+use Rattle.twkb_convert.specs.LastFlush.{Flushes, Finishes, UnlessRefused}
+use Rattle.twkb_convert.specs.SentGeometries.{Ends, SendsTable, SentSoFar, EndsTable}
+use Rattle.twkb_convert.specs.declared.sent_geometries.Sent.{Sent}
+use Rattle.twkb_convert.specs.declared.report.Cause.TheVariants as cause
+use Rattle.twkb_convert.specs.Packed.{ExplainsPackingCause, PackedWith, StoppedPacking}
+use Rattle.twkb_convert.proofs.Prelude.{◌≡◌, ◌≢◌, ◌∙◌, ◌⊎◌, ◌+◌, ◌<◌, ◌≤◌, ℕ, Bool, true, false, List, [], ◌∷◌, ◌++◌}
+use Rattle.twkb_convert.proofs.Prelude.{Option, Result, Ok, Err, length, ap, arith, refl, sym, subst, inl, inr}
 use Rattle.twkb_convert.proofs.Prelude.{length-append, IfSome, append-nil, flat_map-append, Cut, is_spent, sent_of}
 use Rattle.twkb_convert.proofs.Prelude.{refused_join, took_join, took_nothing, Output, OutFault, Tree, simple}
 use Rattle.twkb_convert.proofs.Prelude.{collection, Row, Allowance, Work, canonical_blob, canonical_stream, Style}
 use Rattle.twkb_convert.proofs.Prelude.{Record, AreRecordsOf, BeginWith, standing, all_but_last, MayBeWritten, Cause}
-use Rattle.twkb_convert.proofs.Prelude.{IsAtEnd, Named}
-use Rattle.std.specs.Prelude.{OnOk}
-use Rattle.twkb_io.specs.declared.output.OutFault.TheVariants as out
-use Rattle.twkb_table.specs.RowReading.{waiting}
-use Rattle.twkb_table.specs.TableReading as Table
-use Rattle.twkb_table.specs.TableReading.{GivesNext, HaveGiven, MeetsEnd, StandsAfter, is_ended}
-use Rattle.twkb_table.specs.declared.table_fault.TableFault.{TableFault}
-use Rattle.twkb_table.specs.declared.table_fault.TableFault.TheVariants as fault
-use Rattle.twkb_table.specs.declared.table_reader.TableReader.{TableReader}
-use Rattle.twkb_table.proofs.TableSteps.{all_but_last-last, names_so_far, text_begins}
-use Rattle.twkb_convert.specs.WrittenBlob.{CutsBlob, WritesBlob}
-use Rattle.twkb_convert.specs.Causes.{cause_of_output, cause_of_table}
-use Rattle.twkb_convert.specs.CountedWork.{IsWorkOf, no_work}
-use Rattle.twkb_convert.specs.Devices.{is_write}
-use Rattle.twkb_convert.specs.ReaderEnd.{Drains}
-use Rattle.twkb_convert.specs.LastFlush.{Flushes}
-use Rattle.twkb_convert.specs.SentGeometries.{Ends, SendsTable, SentSoFar}
-use Rattle.twkb_convert.specs.declared.report.Cause.TheVariants as cause
-use Rattle.twkb_convert.specs.declared.sent_geometries.Sent.{Sent}
-use Rattle.twkb_convert.proofs.FlushLemmas.{leaves_last, leaves_refused, leaves_took}
-use Rattle.twkb_convert.proofs.WorkLemmas.{work_more}
+use Rattle.twkb_convert.proofs.Prelude.{IsAtEnd, Named, ◌^◌, Appends, bytes_given, count_failure, device_of}
+use Rattle.twkb_convert.proofs.Prelude.{failures_of, output_tap, Tap, Changes, IsDeviceCause, ConvertFault, Report}
+use Rattle.twkb_convert.proofs.Prelude.{Some, None, Took, rows}
+use Rattle.twkb_convert.proofs.FlushLemmas.{leaves_last, leaves_refused, leaves_took, flushed_after, flushed_last}
+use Rattle.twkb_convert.proofs.FlushLemmas.{flushes_before, kept_last, ok_before, reports_err, reports_ok}
+
+-- ==== The work of geometries, one after another.
+
+-- ---- one geometry
+
+-- the work of measuring and writing a geometry
+pub adds_work : (g : Tree) (flat_rows : List Row) (sizes : List Entry) (old mid new : Work)
+    → rows 0 g ≡ flat_rows → length (rows 0 g) ≡ nodes g → row_points (rows 0 g) ≡ flat g
+    → length sizes ≡ geometries g
+    → Counted old (length (row_points flat_rows)) (length flat_rows) (length sizes) mid
+    → Reads mid (2 * length flat_rows) (length (row_points flat_rows)) new → AddsWork g old new
+adds_work g flat_rows sizes old mid new same of_nodes of_points entry_count counted reads =
+    let node_count : length flat_rows ≡ nodes g = ap length (sym same) ∙ of_nodes in
+    let point_count : length (row_points flat_rows) ≡ points g = ap (λ rs. length (row_points rs))
+    (sym same) ∙ ap length of_points in
+    record {
+      more_points = reads.same_points ∙ counted.more_points ∙ ap (λ n. saturated (old.points + n)) point_count;
+      more_nodes = reads.same_nodes ∙ counted.more_nodes ∙ ap (λ n. saturated (old.nodes + n)) node_count;
+      more_entries = reads.same_entries ∙ counted.more_entries ∙ ap (λ n. saturated (old.entries + n)) entry_count;
+      point_reads = (let a = counted.point_reads in let b = reads.point_reads in omega (arith, a, b, point_count));
+      node_reads = (let a = counted.node_reads in let b = reads.node_reads in omega (arith, a, b, node_count));
+    }
+
+-- ---- all geometries
+
+total-last : (count : Tree → ℕ) (gs : List Tree) (g : Tree) → total count (gs ++ g ∷ []) ≡ total count gs + count g
+total-last count [] g = omega arith
+total-last count (h ∷ gs) g = omega (arith, total-last count gs g)
+
+-- a sum capped twice is capped once
+saturated-twice : (a b : ℕ) → saturated (saturated a + b) ≡ saturated (a + b)
+saturated-twice a b = omega arith
+
+sum_more : (count : Tree → ℕ) (gs : List Tree) (g : Tree) (old new : ℕ)
+    → old ≡ saturated (total count gs) → new ≡ saturated (old + count g)
+    → new ≡ saturated (total count (gs ++ g ∷ []))
+sum_more count gs g old new before more =
+    more ∙ ap (λ n. saturated (n + count g)) before ∙ saturated-twice (total count gs) (count g)
+    ∙ ap saturated (sym (total-last count gs g))
+
+-- one more geometry
+pub work_more : (gs : List Tree) (g : Tree) (old new : Work) → IsWorkOf gs old → AddsWork g old new
+    → IsWorkOf (gs ++ g ∷ []) new
+work_more gs g old new before adds = record {
+  all_points = sum_more points gs g old.points new.points before.all_points adds.more_points;
+  all_nodes = sum_more nodes gs g old.nodes new.nodes before.all_nodes adds.more_nodes;
+  all_entries = sum_more geometries gs g old.entries new.entries before.all_entries adds.more_entries;
+  point_reads = (let a = before.point_reads in let b = adds.point_reads in omega (arith, a, b, total-last points gs g));
+  node_reads = (let a = before.node_reads in let b = adds.node_reads in omega (arith, a, b, total-last nodes gs g));
+}
+
+-- the reads are at most a multiple of the sum, even if it was capped
+pub read_twice : (reads sum all : ℕ) → reads < 2 ^ 64 → sum ≡ saturated all → reads ≤ 2 * all → reads ≤ 2 * sum
+read_twice reads sum all fits stopped within = omega arith
+
+pub read_thrice : (reads sum all : ℕ) → reads < 2 ^ 64 → sum ≡ saturated all → reads ≤ 3 * all → reads ≤ 3 * sum
+read_thrice reads sum all fits stopped within = omega arith
+
+-- ==== The sending of a table, up to each place where it ends.
 
 -- ---- geometries that may be written
 
@@ -151,9 +227,9 @@ module _ {R W : Type 0} (style : Style) (l : Allowance) (remaining : R → Optio
     pub ends_fault : (given : ℕ) (f : TableFault) → after.geometries ≡ before.geometries
         → Table.Explains l told s.records s.geometries f
         → SendsTable style l contents told given old mid after (Err (cause_of_table f))
-    ends_fault given (fault.At number reason) same e = sent_whole given (Err (cause.Row number reason)) same refl
+    ends_fault given (table_fault.At number reason) same e = sent_whole given (Err (cause.Row number reason)) same refl
         (refl, refl, record { seen = e.seen; begins = e.begins; none = e.none; fault = e.complete })
-    ends_fault given fault.TooManyRecords same e = sent_whole given (Err cause.TooManyRecords) same refl (
+    ends_fault given table_fault.TooManyRecords same e = sent_whole given (Err cause.TooManyRecords) same refl (
       refl,
       refl,
       record {
@@ -166,9 +242,9 @@ module _ {R W : Type 0} (style : Style) (l : Allowance) (remaining : R → Optio
         complete = e.complete;
       },
     )
-    ends_fault given fault.Source same e = sent_whole given (Err cause.ReadDevice) same refl (refl, refl)
-    ends_fault given fault.Memory same e = sent_whole given (Err cause.Memory) same refl (refl, refl)
-    ends_fault given fault.Spent same e = absurd e
+    ends_fault given table_fault.Source same e = sent_whole given (Err cause.ReadDevice) same refl (refl, refl)
+    ends_fault given table_fault.Memory same e = sent_whole given (Err cause.Memory) same refl (refl, refl)
+    ends_fault given table_fault.Spent same e = absurd e
 
     cut_ends : (given : ℕ) (f : OutFault) (later : List Tree) (front : List ℕ)
         → (f ≡ out.TooLong → MAX_BYTES < length (canonical_stream style (s.geometries ++ later))) → f ≢ out.Spent
@@ -221,7 +297,7 @@ module _ {R W : Type 0} (style : Style) (l : Allowance) (remaining : R → Optio
     ends_blob to new given why rows gives same (inl (memory, unsent)) =
         subst (λ o. SendsTable style l contents told given old o after (Err why)) (sym unsent)
         (subst (λ w. SendsTable style l contents told given old mid after (Err w)) (sym memory)
-        (ends_fault given fault.Memory same tt))
+        (ends_fault given table_fault.Memory same tt))
     ends_blob to new given why rows gives same (inr (f, is, cut)) =
         subst (λ w. SendsTable style l contents told given old new after (Err w)) (sym is)
         (ends_cut to new given f rows gives same cut)
@@ -330,3 +406,236 @@ module _ {W : Type 0} (style : Style) (l : Allowance) (contents : W → Option (
           s.ends
       ends (inr write) = subst (Ends style l told given sent.work s.part.whole s.part.later s.part.front) (sym write)
           tt
+
+-- ==== From an output to the result that a conversion's caller sees.
+
+-- ---- the cause
+
+-- what an answer says of the table and of the devices, once it is known whether a read failed
+abbrev Tells : Style → Allowance → Option (List ℕ) → ℕ → Work → List Tree → List Tree → List ℕ → Bool
+    → Result (Unit {0}) Cause → Result (Unit {0}) Cause → Type 0
+Tells style l told given work whole later front failed answer (Ok done) =
+    (failed ≡ false) × EndsTable l told work whole later front
+Tells style l told given work whole later front failed answer (Err why) =
+    ExplainsPackingCause style l told given why whole later front × IsDeviceCause failed (is_write answer) why
+
+module _ (style : Style) (l : Allowance) (told : Option (List ℕ)) (given : ℕ) (work : Work) (whole later : List Tree)
+    (front : List ℕ) where
+  tells : (failed : Bool) (answer : Result (Unit {0}) Cause) → Ends style l told given work whole later front answer
+      → Tells style l told given work whole later front failed answer (after_reads failed answer)
+  tells true (Ok done) e = (inl (e.no_later, e.no_front), refl)
+  tells true (Err (cause.Row number reason)) e = (inl (e.0, e.1), refl)
+  tells true (Err (cause.Blob offset reason)) e = absurd e
+  tells true (Err cause.ReadDevice) e = (inl e, refl)
+  tells true (Err cause.WriteDevice) e = (tt, refl)
+  tells true (Err cause.Memory) e = (inl e, refl)
+  tells true (Err cause.TooLong) (inl far) = (inr far, refl)
+  tells true (Err cause.TooLong) (inr e) = (inl (e.0, e.1), refl)
+  tells true (Err cause.TooManyRecords) e = (inl (e.0, e.1), refl)
+  tells false (Ok done) e = (refl, e)
+  tells false (Err (cause.Row number reason)) e = (e, (λ i. cc i, λ i. cc i))
+  tells false (Err (cause.Blob offset reason)) e = absurd e
+  tells false (Err cause.ReadDevice) e = (e, (λ i. cc i, λ i. cc i))
+  tells false (Err cause.WriteDevice) e = (tt, refl)
+  tells false (Err cause.Memory) e = (e, (λ i. cc i, λ i. cc i))
+  tells false (Err cause.TooLong) e = (e, (λ i. cc i, λ i. cc i))
+  tells false (Err cause.TooManyRecords) e = (e, (λ i. cc i, λ i. cc i))
+
+-- ---- the taps
+
+-- a count that was read twice
+changes_by : (before after : ℕ) → Changes (not (eqb after before)) before after
+changes_by before after = go (eqb after before) refl
+  where
+    go : (same : Bool) → eqb after before ≡ same → Changes (not same) before after
+    go true is = eqb-true after before is
+    go false is = λ e. eqb-false after before is e
+
+-- whether a count changed, by what it was before and after
+pub changes_as : (before after first last : ℕ) → before ≡ first → after ≡ last
+    → Changes (not (eqb after before)) first last
+changes_as before after first last was is = subst (λ n. Changes (not (eqb after before)) first n) is
+    (subst (λ n. Changes (not (eqb after before)) n after) was (changes_by before after))
+
+-- what is flushed at the end
+module _ {W : Type 0} (contents : W → Option (List ℕ)) (mid new : Output W) (written : Tap W) (failed : Bool)
+    (geometries : ℕ) (drained : Result (Unit {0}) Cause) (report : Result Report ConvertFault)
+    (closes : (output_tap new).now ≡ written)
+    (finishes : Finishes contents mid geometries (after_reads failed drained) new report)
+    (unspent : UnlessRefused drained (is_spent mid ≡ false)) where
+  flushes : (answer : Result (Unit {0}) Cause) × Flushes contents mid drained new answer
+      × (finishes.answer ≡ after_reads failed answer)
+  flushes = flushes_before contents failed mid new drained finishes.answer finishes.flushes
+
+  held : UnlessRefused flushes.0 (has_unflushed written ≡ false)
+  held = subst (λ t. UnlessRefused flushes.0 (has_unflushed t ≡ false)) closes
+      (flushed_last contents mid new drained flushes.0 unspent flushes.1)
+
+  pub flushed_ok : (done : Report) → report ≡ Ok done → has_unflushed written ≡ false
+  flushed_ok done is =
+      let (ok, same) = reports_ok geometries (sent_of new) done finishes.answer (sym is ∙ finishes.reports) in
+      subst (λ a. UnlessRefused a (has_unflushed written ≡ false))
+      (ok_before failed flushes.0 tt (sym ok ∙ flushes.2)) held
+
+  pub flushed_err : (fault : ConvertFault) → report ≡ Err fault → fault.cause ≢ cause.WriteDevice
+      → fault.cause ≢ cause.ReadDevice → fault.cause ≢ cause.TooLong → has_unflushed written ≡ false
+  flushed_err fault is no_write no_read no_length =
+      let (stops, same) = reports_err geometries (sent_of new) fault finishes.answer (sym is ∙ finishes.reports) in
+      flushed_after failed flushes.0 fault.cause (has_unflushed written ≡ false) (sym stops ∙ flushes.2) held
+      no_write no_read no_length
+
+module _ {R W : Type 0} (style : Style) (l : Allowance) (remaining : R → Option (List ℕ))
+    (contents : W → Option (List ℕ)) (reader read : Tap R) (writer written : Tap W) (old mid new : Output W)
+    (failed : Bool) (sent : Sent) (drained : Result (Unit {0}) Cause) (report : Result Report ConvertFault)
+    (borrowed : (output_tap old).now ≡ writer) (closes : (output_tap new).now ≡ written) (none : sent_of old ≡ 0)
+    (changes : Changes failed (failures_of reader) (failures_of read))
+    (end : OnOk drained (IsAtEnd (remaining (device_of read))))
+    (finishes : Finishes contents mid sent.geometries (after_reads failed drained) new report)
+    (sends : SendsTable style l contents (remaining (device_of reader)) (bytes_given read) old mid sent drained) where
+  flushed : (answer : Result (Unit {0}) Cause) × Flushes contents mid drained new answer
+      × (finishes.answer ≡ after_reads failed answer)
+  flushed = flushes_before contents failed mid new drained finishes.answer finishes.flushes
+
+  s : SendsTable style l contents (remaining (device_of reader)) (bytes_given read) old new sent flushed.0
+  s = sends_last style l contents (remaining (device_of reader)) (bytes_given read) old mid sent new drained
+      flushed.0 flushed.1 sends
+
+  told : Tells style l (remaining (device_of reader)) (bytes_given read) sent.work s.part.whole s.part.later
+      s.part.front failed flushed.0 finishes.answer
+  told = subst (Tells style l (remaining (device_of reader)) (bytes_given read) sent.work s.part.whole s.part.later
+      s.part.front failed flushed.0) (sym flushed.2) (tells style l (remaining (device_of reader)) (bytes_given read)
+      sent.work s.part.whole s.part.later s.part.front failed flushed.0 s.ends)
+
+  writes : failures_of written ≡ count_failure (is_write flushed.0) (failures_of writer)
+  writes = ap failures_of (sym closes) ∙ s.leaves.failures
+      ∙ ap (λ (t : Tap W). count_failure (is_write flushed.0) (failures_of t)) borrowed
+
+  appended : Appends (contents (device_of writer)) (contents (device_of written)) s.bytes
+  appended = subst (λ t. Appends (contents (device_of t)) (contents (device_of written)) s.bytes) borrowed
+      (subst (λ t. Appends (contents (device_of (output_tap old).now)) (contents (device_of t)) s.bytes) closes
+      s.leaves.sends.appends)
+
+  -- the whole table was sent, and no read failed
+  pub packed_with : (done : Report) → report ≡ Ok done → sent.work.point_reads < 2 ^ 64
+      → sent.work.node_reads < 2 ^ 64
+      → PackedWith style l remaining contents reader writer done sent.work read written
+  packed_with done is few_points few_nodes =
+      let (ok, same) = reports_ok sent.geometries (sent_of new) done finishes.answer (sym is ∙ finishes.reports) in
+      let all = ok_before failed flushed.0 tt (sym ok ∙ flushed.2) in
+      let (quiet, ends) = subst (Tells style l (remaining (device_of reader)) (bytes_given read) sent.work
+      s.part.whole s.part.later s.part.front failed flushed.0) ok told in
+      let stream : s.bytes ≡ canonical_stream style ends.table.geometries = s.part.bytes
+      ∙ ap (λ b. canonical_stream style s.part.whole ++ b) ends.no_front
+      ∙ append-nil (canonical_stream style s.part.whole) ∙ ap (canonical_stream style) (sym ends.same) in
+      record {
+        packed = record {
+          table = ends.table;
+          appends = subst (λ b. Appends (contents (device_of writer)) (contents (device_of written)) b) stream appended;
+          count = ap (λ (r : Report). r.geometries) same ∙ s.count ∙ ap length (sym ends.same);
+          bytes = (let more = s.leaves.sends.sent in let total = ap (λ (r : Report). r.bytes) same in
+              omega (arith, total, more, none, ap length stream));
+          end = kept_last contents mid new drained flushed.0 tt (IsAtEnd (remaining (device_of read))) flushed.1 end
+              all;
+          reads = subst (λ f. Changes f (failures_of reader) (failures_of read)) quiet changes;
+          writes = subst (λ a. failures_of written ≡ count_failure (is_write a) (failures_of writer)) all writes;
+        };
+        work_of = subst (λ gs. IsWorkOf gs sent.work) (sym ends.same) ends.work_of;
+        point_reads = read_twice sent.work.point_reads sent.work.points _ few_points
+            ends.work_of.all_points ends.work_of.point_reads;
+        node_reads = read_thrice sent.work.node_reads sent.work.nodes _ few_nodes
+            ends.work_of.all_nodes ends.work_of.node_reads;
+      }
+
+  -- not the whole table was sent, the flush failed, or a read failed
+  pub stopped_packing : (fault : ConvertFault) → report ≡ Err fault
+      → StoppedPacking style l remaining contents reader writer fault read written
+  stopped_packing fault is =
+      let (stops, same) = reports_err sent.geometries (sent_of new) fault finishes.answer (sym is ∙ finishes.reports) in
+      let (explains, device) = subst (Tells style l (remaining (device_of reader)) (bytes_given read) sent.work
+      s.part.whole s.part.later s.part.front failed flushed.0) stops told in
+      record {
+        bytes = s.bytes;
+        part = s.part;
+        one = s.one;
+        appends = appended;
+        sent = (let more = s.leaves.sends.sent in let total = ap (λ (f : ConvertFault). f.sent) same in
+            omega (arith, total, more, none));
+        done = ap (λ (f : ConvertFault). f.done) same ∙ s.count;
+        explains = explains;
+        devices = record {
+          read_failed = failed;
+          write_failed = is_write flushed.0;
+          reads = changes;
+          writes = writes;
+          tell = device;
+        };
+      }
+
+-- ==== A geometry that is a point, sent without a form.
+
+-- ---- the geometry
+
+-- the first row of a geometry is that of a point
+own_is : (g : Tree) (p : ℤ) (q : Point) → rows 0 g ≡ point_row p q ∷ [] → own_row None 0 g ≡ point_row p q
+own_is (simple r s) p q e = cc e
+own_is (collection r ids gs) p q e = cc e
+
+simple_point : (r : ℤ) (s : Simple) (p : ℤ) (q : Point) → own_row None 0 (simple r s) ≡ point_row p q
+    → simple r s ≡ one_point p q
+simple_point r (point None) p q e = (let none = ap (λ (o : Row). o.points) e in cc none)
+simple_point r (point (Some at)) p q e =
+    let precision : r ≡ p = (let some = ap (λ (o : Row). o.precision) e in cc some) in
+    let place : at ≡ q = (let some = ap (λ (o : Row). o.points) e in cc some) in
+    ap (λ (n : ℤ). one_point n at) precision ∙ ap (λ (a : Point). one_point p a) place
+simple_point r (line ps) p q e = (let kind = ap (λ (o : Row). o.kind) e in cc kind)
+simple_point r (polygon rings) p q e = (let kind = ap (λ (o : Row). o.kind) e in cc kind)
+simple_point r (multi_point ids ps) p q e = (let kind = ap (λ (o : Row). o.kind) e in cc kind)
+simple_point r (multi_line ids lines) p q e = (let kind = ap (λ (o : Row). o.kind) e in cc kind)
+simple_point r (multi_polygon ids areas) p q e = (let kind = ap (λ (o : Row). o.kind) e in cc kind)
+
+-- a geometry whose only row is that of a point
+point_tree : (g : Tree) (p : ℤ) (q : Point) → rows 0 g ≡ point_row p q ∷ [] → g ≡ one_point p q
+point_tree (simple r s) p q e = simple_point r s p q (own_is (simple r s) p q e)
+point_tree (collection r ids gs) p q e =
+    (let kind = ap (λ (o : Row). o.kind) (own_is (collection r ids gs) p q e) in cc kind)
+
+-- ---- its work
+
+-- a point that was measured and not read
+point_work : (p : ℤ) (q : Point) (old new : Work) → Measures old 1 1 1 new → AddsWork (one_point p q) old new
+point_work p q old new m = record {
+  more_points = m.more_points;
+  more_nodes = m.more_nodes;
+  more_entries = m.more_entries;
+  point_reads = (let same = m.same_point_reads in omega (arith, same));
+  node_reads = (let same = m.same_node_reads in omega (arith, same));
+}
+
+-- ---- its blob
+
+module _ {R W : Type 0} (style : Style) (l : Allowance) (remaining : R → Option (List ℕ))
+    (contents : W → Option (List ℕ)) (told : Option (List ℕ)) (records : List Record) (given : List Tree)
+    (p : ℤ) (q : Point) (to : TableReader R) (old new : Output W)
+    (gives : GivesNext l remaining told records given (point_row p q ∷ []) to) where
+  -- the geometry is the point
+  is_point : gives.geometry ≡ one_point p q
+  is_point = point_tree gives.geometry p q gives.rows
+
+  precise : IsPrecision p
+  precise = (subst IsTree is_point gives.valid.tree).0
+
+  -- the point was sent
+  pub writes_point : (before after : Work)
+      → (IsPrecision p → Took contents old (canonical_blob style (one_point p q)) new)
+      → Measures before 1 1 1 after → WritesBlob style contents gives.geometry old before new after
+  writes_point before after took measures = record {
+    took = subst (λ (g : Tree). Took contents old (canonical_blob style g) new) (sym is_point) (took precise);
+    work = subst (λ (g : Tree). AddsWork g before after) (sym is_point) (point_work p q before after measures);
+  }
+
+  -- the output refused a prefix of the point's blob
+  pub cuts_point : (fault : OutFault)
+      → (IsPrecision p → Cut contents old (canonical_blob style (one_point p q)) fault new)
+      → Cut contents old (canonical_blob style gives.geometry) fault new
+  cuts_point fault cut = subst (λ (g : Tree). Cut contents old (canonical_blob style g) fault new) (sym is_point)
+      (cut precise)

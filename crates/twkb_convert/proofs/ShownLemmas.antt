@@ -8,7 +8,7 @@ use Rattle.twkb_grammar.proofs.Parts.{one_blob_lem, peel}
 use Rattle.twkb_grammar.proofs.OneFault.{no_fault}
 use Rattle.twkb_grammar.proofs.SpanLaws.{one_list}
 use Rattle.twkb_grammar.proofs.Streams.{blob_long, stream_or_fault}
-use Rattle.twkb_convert.proofs.LocatedLemmas.{located-stream}
+use Rattle.twkb_convert.proofs.FlushLemmas.{located-stream}
 
 -- ---- one list of blobs
 

@@ -9,8 +9,8 @@ use Rattle.twkb_convert.specs.Listings.{table_layout}
 use Rattle.twkb_convert.specs.Listed.{ExplainsListingCause, Listed, StoppedListing}
 use Rattle.twkb_convert.specs.Unpacked.{StoppedUnpacking, Unpacked}
 use Rattle.twkb_convert.specs.declared.report.Cause.TheVariants as causes
-use Rattle.twkb_convert.proofs.LocatedLemmas.{located-stream}
-use Rattle.twkb_convert.proofs.ListingTexts.{table_of_blobs}
+use Rattle.twkb_convert.proofs.FlushLemmas.{located-stream}
+use Rattle.twkb_convert.proofs.ListingLemmas.{table_of_blobs}
 
 joined : (bs cs : List Located) → geometries_of (bs ++ cs) ≡ geometries_of bs ++ geometries_of cs
 joined bs cs = map-append (λ (b : Located). b.geometry) bs cs

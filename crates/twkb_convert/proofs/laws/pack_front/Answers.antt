@@ -1,4 +1,4 @@
-use Rattle.twkb_convert.proofs.FrontLemmas.{pack_front}
+use Rattle.twkb_convert.proofs.RoundTrips.{pack_front}
 use Rattle.twkb_convert.proofs.laws.pack_front.Goals as goal
 
 pub returns : goal.returns

@@ -1,4 +1,4 @@
-use Rattle.twkb_convert.proofs.PartsLemmas.{packed_cut, packed_joined}
+use Rattle.twkb_convert.proofs.RoundTrips.{packed_cut, packed_joined}
 use Rattle.twkb_convert.proofs.laws.packed_parts.Goals as goal
 
 pub returns : goal.returns

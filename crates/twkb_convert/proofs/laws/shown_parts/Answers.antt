@@ -1,4 +1,4 @@
-use Rattle.twkb_convert.proofs.PartsLemmas.{located_joined, shown_joined}
+use Rattle.twkb_convert.proofs.RoundTrips.{located_joined, shown_joined}
 use Rattle.twkb_convert.proofs.laws.shown_parts.Goals as goal
 
 pub returns : goal.returns

@@ -1,4 +1,4 @@
-use Rattle.twkb_convert.proofs.PartsLemmas.{unpacked_joined}
+use Rattle.twkb_convert.proofs.RoundTrips.{unpacked_joined}
 use Rattle.twkb_convert.proofs.laws.unpacked_parts.Goals as goal
 
 pub returns : goal.returns

@@ -1,6 +1,6 @@
 use Rattle.std.proofs.Common.{refl, rules}
 use Rattle.twkb_blob.specs.StreamReaders.{reader_in}
-use Rattle.twkb_convert.proofs.ListingEnds.{flushed, listed, stopped}
+use Rattle.twkb_convert.proofs.ListingLemmas.{flushed, listed, stopped}
 use Rattle.twkb_convert.proofs.listed_stream.list_stream.Goals as goal
 
 pub list_blobs-sending-requires : goal.list_blobs-sending-requires

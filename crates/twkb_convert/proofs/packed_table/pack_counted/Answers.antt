@@ -2,7 +2,7 @@ use Rattle.std.proofs.Common.{◌≡◌, false, refl, rules}
 use Rattle.twkb_io.specs.Outputs.{output_tap}
 use Rattle.twkb_io.specs.Taps.{has_unflushed}
 use Rattle.std.proofs.lemmas.Result.{err_from_is_err_and}
-use Rattle.twkb_convert.proofs.PackedLemmas.{changes_as, flushed_err, flushed_ok, packed_with, stopped_packing}
+use Rattle.twkb_convert.proofs.SendingLemmas.{changes_as, flushed_err, flushed_ok, packed_with, stopped_packing}
 use Rattle.twkb_convert.proofs.SendingLemmas.{drained, sends_drained, sent_none}
 use Rattle.twkb_convert.proofs.packed_table.pack_counted.Goals as goal
 
