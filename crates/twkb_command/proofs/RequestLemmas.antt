@@ -1,36 +1,92 @@
--- The fault of words asks only for help, only for the version, or for neither.
-use Rattle.std.proofs.Common.{◌≡◌, ◌∙◌, ◌&&◌, ◌||◌, ◌==◌, ℕ, zero, suc, Bool, true, false, true≢false, not, cond, inl}
-use Rattle.std.proofs.Common.{inr, refl, sym, codes, List, [], ◌∷◌, drop, length, Option, Some, None, is_some, find}
-use Rattle.std.proofs.Common.{bytes_eq, chars, encode_utf8, nat_lt, slice_get, subst}
-use Rattle.std.specs.Prelude.{⊤}
+-- The command line, its subcommand, and what a fault of its words asks for.
+use Rattle.std.proofs.Common.{◌≡◌, true, refl, subst, map, codes, [], ◌∷◌, List, Option, Some, None, ◌∙◌, ◌&&◌, ◌||◌}
+use Rattle.std.proofs.Common.{◌==◌, ℕ, zero, suc, Bool, false, true≢false, not, cond, inl, inr, sym, drop, length}
+use Rattle.std.proofs.Common.{is_some, find, bytes_eq, chars, encode_utf8, nat_lt, slice_get}
+use Rattle.std.specs.Borrow.{Bor}
+use Rattle.std.specs.Prelude.{Result, IfOk, option_map, ⊤}
+use Rattle.std.proofs.lemmas.Result.{IfOk-weaker}
+use Rattle.std.specs.Box.{box_value}
 use Rattle.std.specs.List.{list_any}
 use Rattle.std.specs.Option.{option_map_or}
-use Rattle.std.specs.Borrow.{Bor}
+use Rattle.clap.specs.Words.{App, FailsBy, HasMatchesOf, is_simple, is_simple_and_free, subcommand_of}
+use Rattle.clap.specs.Words.{subcommand_rows_of, found_of, rows_of, subcommand_name_of}
+use Rattle.clap.specs.declared.error.Error.{Error}
+use Rattle.clap.specs.declared.parser.matches.ArgMatches.{ArgMatches}
+use Rattle.clap.proofs.OnLiterals.{clap_on_literals}
+use Rattle.clap.specs.declared.parser.matches.ArgMatches.TheViews.{out-ArgMatches, out-SubCommand}
 use Rattle.clap.specs.Facts.{parser_of_value, unwrap_or_range}
-use Rattle.clap.specs.Faults.{action_fault, bundle_fault, bundle_step_fault, count_fault, default_fault}
-use Rattle.clap.specs.Faults.{defaults_fault, entered_fault, fault_of, flag_word_fault, flags_fault, level_fault}
-use Rattle.clap.specs.Faults.{long_fault, option_fault, other_fault, positional_fault, react_fault, set_fault}
-use Rattle.clap.specs.Faults.{settle_fault, short_fault, step_fault, stray_fault, turn_fault, use_fault, walk_fault}
+use Rattle.clap.specs.Faults.{action_fault, bundle_fault, bundle_step_fault, count_fault, default_fault, defaults_fault}
+use Rattle.clap.specs.Faults.{entered_fault, fault_of, flag_word_fault, flags_fault, level_fault, long_fault}
+use Rattle.clap.specs.Faults.{option_fault, other_fault, positional_fault, react_fault, set_fault, settle_fault}
+use Rattle.clap.specs.Faults.{short_fault, step_fault, stray_fault, turn_fault, use_fault, walk_fault}
 use Rattle.clap.specs.Kinds.{IsAmong, Kinds, check_kinds, or_else, range_kinds, request_kinds, value_kinds}
 use Rattle.clap.specs.Kinds.{values_kinds}
 use Rattle.clap.specs.Lexer.{long_of, short_of}
-use Rattle.clap.specs.Simple.{App, Shape, built, label_of}
+use Rattle.clap.specs.Simple.{Shape, built, label_of}
 use Rattle.clap.specs.Values.{refused_kind}
 use Rattle.clap.specs.ValueTests.{accepts}
 use Rattle.clap.specs.Walk.{Held, Names, Row, Rule, Step, Text, Walk, action_of, answers_to, arg_by_id, arg_by_index}
-use Rattle.clap.specs.Walk.{arg_by_long, arg_by_short, attached_value, has_row, is_empty, is_pending, most_values}
-use Rattle.clap.specs.Walk.{next, nothing_held, reacted, settled, subcommand, subcommand_met, takes_several}
-use Rattle.clap.specs.Walk.{takes_values, trailing, value, values_or_missing, walk, walk_from, walked, with_default}
-use Rattle.clap.specs.Walk.{word_met}
+use Rattle.clap.specs.Walk.{arg_by_long, arg_by_short, attached_value, has_row, is_empty, is_pending, most_values, next}
+use Rattle.clap.specs.Walk.{nothing_held, reacted, settled, subcommand, subcommand_met, takes_several, takes_values}
+use Rattle.clap.specs.Walk.{trailing, value, values_or_missing, walk, walk_from, walked, with_default, word_met}
 use Rattle.clap.specs.declared.builder.action.ArgAction.{ArgAction}
-use Rattle.clap.specs.declared.builder.action.ArgAction.TheVariants as action
 use Rattle.clap.specs.declared.builder.value_parser.ValueParser.{ValueParser}
-use Rattle.clap.specs.declared.builder.value_parser.ValueParser.TheVariants as parser
 use Rattle.clap.specs.declared.error.kind.ErrorKind.{ErrorKind}
+use Rattle.clap.specs.declared.builder.action.ArgAction.TheVariants as action
+use Rattle.clap.specs.declared.builder.value_parser.ValueParser.TheVariants as parser
 use Rattle.clap.specs.declared.error.kind.ErrorKind.TheVariants as kind
-use Rattle.clap.proofs.OnLiterals.{clap_on_literals}
-use Rattle.twkb_command.specs.CommandLine.{command_line}
+use Rattle.twkb_command.specs.CommandLine.{IsCommandLine, command_line}
 use Rattle.twkb_command.specs.Words.{IsOneRequest}
+
+-- ==== The command line is one whose matches `clap` specifies.
+
+pub simple_line : (styles : Bor (List (Bor Text))) → is_simple (command_line styles) ≡ true
+unfolding clap_on_literals command_line
+simple_line styles = refl
+
+pub free_line : (styles : Bor (List (Bor Text))) → is_simple_and_free (command_line styles) ≡ true
+unfolding clap_on_literals command_line
+free_line styles = refl
+
+pub kinds_line : {T : Type 0} (styles : Bor (List (Bor Text))) (result : Result T Error) (app : App)
+    (words : List Text) → app ≡ command_line styles
+    → (is_simple_and_free app ≡ true → FailsBy (fault_of app words) result)
+    → FailsBy (fault_of (command_line styles) words) result
+kinds_line {T} styles result app words line kinds =
+    let P : App → Type 0 = λ a. is_simple_and_free a ≡ true → FailsBy (fault_of a words) result in
+    subst P line kinds (free_line styles)
+
+pub matches_line : (styles : Bor (List (Bor Text))) (result : Result ArgMatches Error) (app : App)
+    (words : List Text) → app ≡ command_line styles
+    → IfOk result (HasMatchesOf app words) → IfOk result
+    (λ m. subcommand_rows_of m ≡ subcommand_of (command_line styles) words)
+matches_line styles result app words line matches =
+    let P : App → Type 0 = λ a. IfOk result (HasMatchesOf a words) in
+    IfOk-weaker result _ _ (λ m h. (h (simple_line styles)).1) (subst P line matches)
+
+-- what is true of the line for any styles with these names is true of a command line
+pub line_of_styles : {P : App → Type 0} (styles : Bor (List (Bor Text)))
+    → map (λ name. name.now) styles.now ≡ codes "full" ∷ codes "plain" ∷ []
+    → P (command_line styles) → (line : App) × IsCommandLine line × P line
+line_of_styles styles names holds = (command_line styles, record { styles = styles; names = names; is = refl }, holds)
+
+-- ==== The subcommand that the getters of `clap` return.
+
+both_parts : {X : Type 0} (used : Option X) (f : X → Text) (g : X → List Row) (name : Text) (rows : List Row)
+    → Some name ≡ option_map f used → Some rows ≡ option_map (λ (p : Text × List Row). p.1)
+    (option_map {U = Text × List Row} (λ b. (f b, g b)) used)
+    → option_map {U = Text × List Row} (λ b. (f b, g b)) used ≡ Some (name, rows)
+both_parts None f g name rows first second = cc first
+both_parts (Some x) f g name rows first second = cc (first, second)
+
+-- the subcommand that a parse entered
+pub used_is : (m : ArgMatches) (name : Text) (rows : List Row) → Some name ≡ subcommand_name_of m
+    → Some rows ≡ option_map (λ (p : Text × List Row). p.1) (subcommand_rows_of m)
+    → subcommand_rows_of m ≡ Some (name, rows)
+used_is m name rows = both_parts (out-ArgMatches m).subcommand (λ b. (out-SubCommand (box_value b)).name.now)
+    (λ b. rows_of (found_of (out-SubCommand (box_value b)).matches)) name rows
+
+-- ==== The fault of words asks only for help, only for the version, or for neither.
 
 none_one : IsOneRequest []
 none_one = inr (inr (λ h. h, λ v. v))

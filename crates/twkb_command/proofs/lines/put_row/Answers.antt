@@ -1,5 +1,4 @@
-use Rattle.twkb_command.proofs.PrintLemmas.{prints_join}
-use Rattle.twkb_command.proofs.ShortWords.{short_row_line}
+use Rattle.twkb_command.proofs.PrintLemmas.{prints_join, short_row_line}
 use Rattle.twkb_command.proofs.lines.put_row.Goals as goal
 
 pub returns-clause-prints : goal.returns-clause-prints

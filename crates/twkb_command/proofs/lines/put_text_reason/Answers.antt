@@ -1,5 +1,4 @@
-use Rattle.twkb_command.proofs.PrintLemmas.{prints_join}
-use Rattle.twkb_command.proofs.ShortWords.{short_text_reason}
+use Rattle.twkb_command.proofs.PrintLemmas.{prints_join, short_text_reason}
 use Rattle.twkb_command.proofs.lines.put_text_reason.Goals as goal
 
 pub returns-clause-prints : goal.returns-clause-prints

@@ -1,6 +1,5 @@
-use Rattle.twkb_command.proofs.CommandLineLemmas.{kinds_line, matches_line}
-use Rattle.twkb_command.proofs.NamedLemmas.{named_line}
-use Rattle.twkb_command.proofs.NestLemmas.{nest_line}
+use Rattle.twkb_command.proofs.RequestLemmas.{kinds_line, matches_line}
+use Rattle.twkb_command.proofs.PassedLemmas.{named_line, nest_line}
 use Rattle.twkb_command.proofs.words.matches_of.Goals as goal
 
 pub returns : goal.returns

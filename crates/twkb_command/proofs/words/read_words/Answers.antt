@@ -1,6 +1,5 @@
 use Rattle.std.proofs.Common.{◌≡◌, [], ◌∷◌, rules, map, codes}
-use Rattle.twkb_command.proofs.CommandLineLemmas.{line_of_styles}
-use Rattle.twkb_command.proofs.RequestLemmas.{line_one}
+use Rattle.twkb_command.proofs.RequestLemmas.{line_of_styles, line_one}
 use Rattle.twkb_command.proofs.words.read_words.Goals as goal
 
 pub returns : goal.returns
