@@ -1,26 +1,32 @@
--- The length of the whole output, as an answer counts it.
-use Rattle.std.proofs.Common.{◌≡◌, ◌∙◌, ℕ, List, [], ◌++◌, length, Some, Result, Ok, Err, ap, sym}
-use Rattle.std.proofs.Common.{subst, inl, inr}
+-- The length of the whole output, as an answer counts it and as the report of a call that measures gives it.
+use Rattle.std.proofs.Common.{◌≡◌, ◌∙◌, ℕ, List, [], ◌++◌, length, Some, Result, Ok, Err, ap, sym, subst, inl, inr}
+use Rattle.std.proofs.Common.{Option, None, arith, refl}
 use Rattle.std.proofs.lemmas.List.{append-nil}
+use Rattle.std.specs.Prelude.{◌≢◌}
 use Rattle.twkb_tree.specs.Limits.{Allowance}
 use Rattle.twkb_grammar.specs.Written.{canonical_stream}
 use Rattle.twkb_grammar.specs.declared.style.Style.{Style}
-use Rattle.twkb_table.specs.Named.{Named}
 use Rattle.twkb_engine.specs.Stops.{reason_of}
+use Rattle.twkb_table.specs.Named.{Named}
 use Rattle.twkb_convert.specs.LocatedBlobs.{LocatedStream, lines_text}
 use Rattle.twkb_convert.specs.Outputs.{PackTo, table_text}
 use Rattle.twkb_convert.specs.declared.report.Cause.{Cause}
-use Rattle.twkb_convert.specs.declared.report.Cause.TheVariants as cause
 use Rattle.twkb_convert.specs.declared.report.ConvertFault.{ConvertFault}
 use Rattle.twkb_convert.specs.declared.report.Report.{Report}
+use Rattle.twkb_convert.specs.declared.conversion.Conversion.{Conversion}
+use Rattle.twkb_convert.specs.declared.report.Cause.TheVariants as cause
+use Rattle.twkb_convert.specs.declared.conversion.Conversion.TheVariants as conversion
 use Rattle.twkb_convert.proofs.OutputLemmas.{refused_output}
 use Rattle.twkb_convert.proofs.RoundTrips.{one_records}
-use Rattle.twkb_buffer.specs.Calls.{Answers, IsRefusal, refused_length, whole_length_of}
+use Rattle.twkb_buffer.specs.Calls.{Answers, IsRefusal, refused_length, whole_length_of, Counts, Ends, Measures}
+use Rattle.twkb_buffer.specs.Calls.{MeasuresBy, Stops, count_of}
 use Rattle.twkb_buffer.specs.Conversions.{Finished, HasLength, Stopped}
 use Rattle.twkb_buffer.specs.Lengths.{PacksTo, ShowsTo, UnpacksTo}
 use Rattle.twkb_buffer.specs.Slices.{PackedFront, PackedSlice, ShownFront, ShownSlice, UnpackedFront, UnpackedSlice}
-use Rattle.twkb_convert.specs.declared.conversion.Conversion.{Conversion}
-use Rattle.twkb_convert.specs.declared.conversion.Conversion.TheVariants as conversion
+use Rattle.twkb_buffer.specs.Numbers.{status_of}
+use Rattle.twkb_buffer.specs.declared.report.BufferReport.{BufferReport}
+
+-- ==== The length of the whole output, as an answer counts it.
 
 packed_length : (style : Style) (l : Allowance) (table written : List ℕ) (done n : ℕ)
     → PackedSlice style l table written done → n ≡ length written → PacksTo style l table n
@@ -140,3 +146,54 @@ whole_length what l input written (Ok report) n agrees told =
 whole_length what l input written (Err fault) n agrees told =
     let refused = is_refused fault.cause fault.sent n told in
     refused_length_is what l input written fault.done n fault.cause agrees.0 refused.0 (refused.1 ∙ agrees.1)
+
+-- ==== From the answer of a conversion to the report of a call that measures.
+
+-- a stop does not have the status of an end
+never_done : (why : Cause) → status_of why ≡ 0 → ⊥
+never_done (cause.Row number reason) e = omega (arith, e)
+never_done (cause.Blob offset reason) e = omega (arith, e)
+never_done cause.ReadDevice e = omega (arith, e)
+never_done cause.WriteDevice e = omega (arith, e)
+never_done cause.Memory e = omega (arith, e)
+never_done cause.TooLong e = omega (arith, e)
+never_done cause.TooManyRecords e = omega (arith, e)
+
+-- a count that is not 0 was reported
+told_count : (found : Option ℕ) (n : ℕ) → n ≡ count_of found → n ≢ 0 → found ≡ Some n
+told_count None n e some = absurd (some e)
+told_count (Some m) n e some = ap (λ k. Some k) (sym e)
+
+-- if the input is refused, the count is the number of bytes sent
+refused_count : (why : Cause) (sent : ℕ) → IsRefusal why → count_of (refused_length why sent) ≡ sent
+refused_count (cause.Row number reason) sent refused = refl
+refused_count (cause.Blob offset reason) sent refused = refl
+refused_count cause.ReadDevice sent refused = absurd refused
+refused_count cause.WriteDevice sent refused = absurd refused
+refused_count cause.Memory sent refused = absurd refused
+refused_count cause.TooLong sent refused = absurd refused
+refused_count cause.TooManyRecords sent refused = absurd refused
+
+-- the length that was counted is measured
+pub measured : (Ended : Ends) (Halted : Stops) (HasLength : ℕ → Type 0)
+    (answer : Result Report ConvertFault) (report : BufferReport) → Counts Ended Halted answer
+    → MeasuresBy answer report
+    → ((n : ℕ) → whole_length_of answer ≡ Some n → HasLength n) → Measures Ended Halted HasLength report
+measured Ended Halted HasLength (Ok answer) report counts by known = record {
+  none = by.0;
+  finished = λ zero. (counts.0, subst (λ n. Ended counts.0 n) (sym by.2) counts.1.0, by.3 ∙ counts.1.1);
+  stopped = λ some. absurd (some by.1);
+  needed = λ some. known report.needed (ap (λ n. Some n) (sym by.3));
+}
+measured Ended Halted HasLength (Err fault) report counts by known = record {
+  none = by.0;
+  finished = λ zero. absurd (never_done fault.cause (sym by.1.status ∙ zero));
+  stopped = λ some. (
+    fault.cause,
+    counts.0,
+    by.1,
+    subst (λ n. Halted counts.0 n fault.cause) (sym by.2) counts.1.0,
+    λ refused. by.3 ∙ (refused_count fault.cause fault.sent refused ∙ counts.1.1),
+  );
+  needed = λ some. known report.needed (told_count (refused_length fault.cause fault.sent) report.needed by.3 some);
+}

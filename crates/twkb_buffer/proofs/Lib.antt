@@ -1,12 +1,8 @@
 pub mod RunLemmas
 pub mod FillLemmas
 pub mod LengthLemmas
-pub mod MeasureLemmas
 pub mod TextLemmas
 pub mod PolylineLemmas
 pub mod FractionLemmas
-pub mod NearestDoubles
-pub mod HalfLemmas
 pub mod RoundingLemmas
-pub mod DoubleLemmas
 pub mod SampleLemmas

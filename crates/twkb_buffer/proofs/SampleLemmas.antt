@@ -9,7 +9,7 @@ use Rattle.twkb_buffer.specs.Fractions.{IsNearest}
 use Rattle.twkb_buffer.specs.RoundedNumbers.{IsUnit, above, above_halfway, below, below_halfway}
 use Rattle.twkb_buffer.specs.Samples.{AreRounded, large_doubles, other_doubles, written_halves}
 use Rattle.twkb_buffer.specs.Scales.{divisor_at, factor_at}
-use Rattle.twkb_buffer.proofs.HalfLemmas.{AreScales, long_size, short_size}
+use Rattle.twkb_buffer.proofs.RoundingLemmas.{AreScales, long_size, short_size}
 
 -- the factor and the divisor are those of a scale
 abbrev are_scales : ℕ → ℕ → Bool

@@ -1,4 +1,4 @@
-use Rattle.twkb_buffer.proofs.DoubleLemmas.{double_other, double_value}
+use Rattle.twkb_buffer.proofs.RoundingLemmas.{double_other, double_value}
 use Rattle.twkb_buffer.proofs.laws.a_double_has_its_parts.Goals as goal
 
 pub returns-clause-finite : goal.returns-clause-finite

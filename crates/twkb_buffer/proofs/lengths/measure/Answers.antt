@@ -1,6 +1,5 @@
 use Rattle.twkb_buffer.specs.Conversions.{Finished, HasLength, Stopped}
-use Rattle.twkb_buffer.proofs.LengthLemmas.{whole_length}
-use Rattle.twkb_buffer.proofs.MeasureLemmas.{measured}
+use Rattle.twkb_buffer.proofs.LengthLemmas.{whole_length, measured}
 use Rattle.twkb_buffer.proofs.lengths.measure.Goals as goal
 
 pub returns : goal.returns
