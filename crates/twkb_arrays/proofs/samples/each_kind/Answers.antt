@@ -1,4 +1,4 @@
-use Rattle.twkb_arrays.proofs.SampleLemmas.{is_stream, is_written}
+use Rattle.twkb_arrays.proofs.WritingLaws.{is_stream, is_written}
 use Rattle.twkb_arrays.proofs.samples.each_kind.Goals as goal
 
 pub returns-clause-bytes : goal.returns-clause-bytes

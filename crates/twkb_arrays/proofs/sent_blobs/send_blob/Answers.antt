@@ -1,6 +1,6 @@
 use Rattle.std.proofs.Common.{ap, arith, refl}
 use Rattle.twkb_arrays.specs.declared.sent_blobs.Sent.{Sent}
-use Rattle.twkb_arrays.proofs.SendingLemmas.{lacking_room, not_sent_after, sent_one}
+use Rattle.twkb_arrays.proofs.WritingLemmas.{lacking_room, not_sent_after, sent_one}
 use Rattle.twkb_arrays.proofs.sent_blobs.send_blob.Goals as goal
 
 pub returns-then-sent-clause-sends : goal.returns-then-sent-clause-sends

@@ -2,7 +2,7 @@ use Rattle.std.proofs.Common.{pos}
 use Rattle.std.proofs.lemmas.Int.{to_z-of_z}
 use Rattle.twkb_points.proofs.PointLemmas.{coordinate_fits}
 use Rattle.twkb_buffer.specs.declared.point.BufferPoint.{BufferPoint}
-use Rattle.twkb_arrays.proofs.OwnPointsLemmas.{one_in_range}
+use Rattle.twkb_arrays.proofs.ArrayLemmas.{one_in_range}
 use Rattle.twkb_arrays.proofs.own_points.PointsInRangePointList.point.Goals as goal
 
 abbrev none : BufferPoint

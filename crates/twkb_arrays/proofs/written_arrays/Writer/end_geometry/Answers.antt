@@ -1,7 +1,6 @@
 use Rattle.std.proofs.Common.{◌∙◌, ℕ, List, ap, arith, length}
 use Rattle.twkb_tree.specs.Limits.{largest_limits}
-use Rattle.twkb_arrays.proofs.SendingLemmas.{some_bytes}
-use Rattle.twkb_arrays.proofs.WritingLemmas.{ended_one, one_of, not_empty}
+use Rattle.twkb_arrays.proofs.WritingLemmas.{some_bytes, ended_one, one_of, not_empty}
 use Rattle.twkb_arrays.proofs.written_arrays.Writer.end_geometry.Goals as goal
 
 pub send_blob-requires-clause-some : goal.send_blob-requires-clause-some

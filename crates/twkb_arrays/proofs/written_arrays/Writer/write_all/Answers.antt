@@ -1,7 +1,6 @@
 use Rattle.std.proofs.Common.{ap, take}
 use Rattle.twkb_arrays.specs.declared.written_arrays.Writer.{Writer}
-use Rattle.twkb_arrays.proofs.WritingEnds.{all_written, no_memory, points_left_over}
-use Rattle.twkb_arrays.proofs.WritingLemmas.{writing_within}
+use Rattle.twkb_arrays.proofs.WritingLemmas.{all_written, no_memory, points_left_over, writing_within}
 use Rattle.twkb_arrays.proofs.written_arrays.Writer.write_all.Goals as goal
 
 pub returns-then-used-points : goal.returns-then-used-points

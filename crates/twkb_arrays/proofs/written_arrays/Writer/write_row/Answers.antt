@@ -1,8 +1,7 @@
 use Rattle.std.proofs.Common.{ℕ, List, ap, arith, length, refl}
 use Rattle.twkb_arrays.specs.declared.written_arrays.Writer.{Writer}
-use Rattle.twkb_arrays.proofs.SendingLemmas.{some_bytes}
-use Rattle.twkb_arrays.proofs.WritingRows.{first_alone, first_is_root, first_made, first_written}
-use Rattle.twkb_arrays.proofs.WritingRows.{row_lacks_memory, row_not_read, row_read}
+use Rattle.twkb_arrays.proofs.WritingLemmas.{some_bytes, first_alone, first_is_root, first_made, first_written}
+use Rattle.twkb_arrays.proofs.WritingLemmas.{row_lacks_memory, row_not_read, row_read}
 use Rattle.twkb_arrays.proofs.written_arrays.Writer.write_row.Goals as goal
 
 pub returns-in_default-clause-stops : goal.returns-in_default-clause-stops

@@ -1,7 +1,6 @@
 use Rattle.std.proofs.Common.{arith, inl, inr, take}
 use Rattle.twkb_arrays.proofs.ArrayLemmas.{length-rest_of}
-use Rattle.twkb_arrays.proofs.WritingEnds.{next_read, next_root, root_ahead, row_stops}
-use Rattle.twkb_arrays.proofs.WritingLemmas.{writing_within}
+use Rattle.twkb_arrays.proofs.WritingLemmas.{next_read, next_root, root_ahead, row_stops, writing_within}
 use Rattle.twkb_arrays.proofs.written_arrays.Writer.write_rows.Goals as goal
 
 pub write_row-requires-clause-within : goal.write_row-requires-clause-within
