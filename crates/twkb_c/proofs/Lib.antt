@@ -1,2 +1,1 @@
-pub mod ArrayExports
 pub mod ExportLemmas

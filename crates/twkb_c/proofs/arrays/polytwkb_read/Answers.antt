@@ -1,5 +1,5 @@
 use Rattle.twkb_c.specs.Arguments.{allowance_of}
-use Rattle.twkb_c.proofs.ArrayExports.{never_arguments, reads_named}
+use Rattle.twkb_c.proofs.ExportLemmas.{never_arguments, reads_named}
 use Rattle.twkb_c.proofs.arrays.polytwkb_read.Goals as goal
 
 pub returns-clause-reads : goal.returns-clause-reads

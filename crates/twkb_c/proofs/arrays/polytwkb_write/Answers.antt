@@ -1,6 +1,6 @@
 use Rattle.twkb_c.specs.Arguments.{allowance_of}
 use Rattle.twkb_arrays.proofs.WritingLaws.{never_arguments}
-use Rattle.twkb_c.proofs.ArrayExports.{writes_named}
+use Rattle.twkb_c.proofs.ExportLemmas.{writes_named}
 use Rattle.twkb_c.proofs.arrays.polytwkb_write.Goals as goal
 
 pub returns-clause-writes : goal.returns-clause-writes
