@@ -65,8 +65,8 @@ pub fn one_reason()
         → Judged l (reverse rs) (record_of r) v → v ≡ Refused (rule_reason why) }
 {}
 
-/// If arrays are those of valid geometries, the geometries that `write_arrays` writes or counts are
-/// these, and it refuses nothing, unless memory is refused.
+/// If arrays are those of valid geometries, `write_arrays` writes or counts the blobs of exactly
+/// these geometries, and refuses nothing, unless memory is refused.
 pub fn one_writing()
     ensures { (l : Allowance) (style : Style) (in_rows : List InRow) (in_points : List InPoint)
         (old new : List ℕ) (report : InReport) (gs : List Tree)

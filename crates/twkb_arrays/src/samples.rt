@@ -14,8 +14,9 @@ ghost use Rattle.twkb_arrays.specs.Rows.{array_points, array_rows};
 ghost use Rattle.twkb_arrays.specs.Samples.{each_kind, each_kind_points, each_kind_rows, each_kind_stream};
 ghost use Rattle.twkb_arrays.specs.WrittenArrays.{WritesArrays};
 
-/// The geometries `each_kind`, one of each kind, have these rows and points in arrays, and these
-/// bytes as a canonical stream in full style, which is a stream of them.
+/// The geometries of `each_kind`, one of each kind, have the rows `each_kind_rows` and the points
+/// `each_kind_points` in arrays. The bytes `each_kind_stream` are their canonical stream in full
+/// style, and within the standard limits a stream of them.
 pub fn each_kind()
     ensures rows { array_rows each_kind ≡ each_kind_rows }
     ensures points { array_points each_kind ≡ each_kind_points }
@@ -24,7 +25,7 @@ pub fn each_kind()
 {}
 
 /// If `read_arrays`, with the standard limits, reads the bytes of `each_kind` with status 0, the
-/// arrays begin with the rows and points of `each_kind`, and their later places are as they were.
+/// arrays begin with the rows and points of `each_kind`, and their later places are unchanged.
 pub fn read()
     ensures { (old_rows new_rows : List InRow) (old_points new_points : List InPoint) (counts : InCounts)
         → ReadsArrays standard each_kind_stream old_rows old_points new_rows new_points counts
