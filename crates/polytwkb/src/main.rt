@@ -7,7 +7,7 @@ use std::process::ExitCode;
 use twkb_command::{report_no_memory, report_unread_words, run};
 use twkb_io::{Ending, Tap};
 
-// Runs the command over the standard streams, and exits with its status.
+// Runs the command with the program's words over the standard streams, and returns the exit status.
 fn main(rt: HostRuntime) -> ExitCode {
     // a terminal would go on after the end that it reported
     let mut reader = Tap::new(Ending::new(rt.stdin()));

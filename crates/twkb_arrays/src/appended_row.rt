@@ -16,7 +16,10 @@ use twkb_tree::Limits;
 // The number of the reason for which a row is refused that names more points than there are.
 const POINTS_MISSING: u32 = 71;
 
-// Appends a row that passes all tests, with its points, or finds the reason to refuse it.
+// Appends a row of an array, with as many of the points ahead as it names, to the form of its
+// geometry, and returns the number of these points. The form must have valid rows of one geometry,
+// and none if the row is a root. An `Err` is want of memory, or the number of the first reason to
+// refuse the row, and leaves the form as it was.
 #[inline(always)]
 pub(crate) fn push_judged(
     limits: &Limits,

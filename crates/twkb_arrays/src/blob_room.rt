@@ -1,4 +1,5 @@
-//! The canonical blob of a flat form, a point or a linestring, made in memory that is reused from one to the next.
+//! The canonical blob of a flat form, a point or a linestring, made in memory that is reused from
+//! one to the next.
 ghost use Rattle.std.specs.Prelude.{◌≡◌, ◌≤◌, OnOk, length};
 ghost use Rattle.twkb_tree.specs.declared.limits.TheConstants.{POINTS_CAP};
 ghost use Rattle.twkb_tree.specs.Tree.{Tree, IsPrecision, IsTree};
@@ -29,7 +30,7 @@ pub(crate) struct BlobRoom {
 impl BlobRoom {
     ghost use Rattle.twkb_arrays.specs.Blobs.{blob_in};
 
-    // Makes a room without a blob. Takes no memory.
+    // Makes a room without a blob, which grows as blobs need it. Takes no memory.
     pub(crate) fn new(alloc: Global) -> BlobRoom {
         BlobRoom {
             depths: Depths::new(),
@@ -39,7 +40,9 @@ impl BlobRoom {
         }
     }
 
-    // Makes the canonical blob of a flat form in a style, in place of the blob before it.
+    // Makes the canonical blob, in a style, of a flat form that has the rows of one whole geometry;
+    // `blob` then gives it in place of the one before. Takes memory; after an `Err` nothing is
+    // known of what `blob` gives.
     #[inline(always)]
     pub(crate) fn make(&mut self, form: &Flat, style: Style) -> Result<(), AllocError>
         ensures { OnOk result ((g : Tree) → IsTree g → rows 0 g ≡ form.now
@@ -58,8 +61,9 @@ impl BlobRoom {
         )
     }
 
-    // Makes the canonical blob of a point that is not empty in a style, in place of the blob before
-    // it. The precision is from -8 to 7.
+    // Makes the canonical blob, in a style, of a point that is not empty, with a precision from -8
+    // to 7; `blob` then gives it in place of the one before. Takes memory; after an `Err` nothing
+    // is known of what `blob` gives.
     #[inline(always)]
     pub(crate) fn make_point(
         &mut self,
@@ -82,8 +86,9 @@ impl BlobRoom {
         )
     }
 
-    // Makes the canonical blob of a linestring in a style, in place of the blob before it. The
-    // precision is from -8 to 7.
+    // Makes the canonical blob, in a style, of the linestring of these points, which must be at
+    // most 2^24, with a precision from -8 to 7; `blob` then gives it in place of the one before.
+    // Takes memory; after an `Err` nothing is known of what `blob` gives.
     #[inline(always)]
     pub(crate) fn make_line(
         &mut self,
@@ -107,7 +112,7 @@ impl BlobRoom {
         )
     }
 
-    // The blob that was made last.
+    // The bytes of the blob that was made last; none if none was made.
     #[inline(always)]
     pub(crate) fn blob(&self) -> &[u8]
         ensures { result.now ≡ blob_in self.now }

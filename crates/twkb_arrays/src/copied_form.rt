@@ -9,7 +9,7 @@ use twkb_buffer::{BufferPoint, as_coordinates};
 use twkb_flat::{NodeId, Rows, Work};
 use twkb_points::Pt;
 
-// Writes points over an array of the same length.
+// Writes the coordinates of points over an array, which must have as many places.
 #[inline(always)]
 fn put_points(own: &[Pt], points: &mut [BufferPoint])
     requires { length own.now ≡ length points.old }
@@ -20,7 +20,8 @@ fn put_points(own: &[Pt], points: &mut [BufferPoint])
     }
 }
 
-// Writes the rows of a form and their points over arrays of the same lengths.
+// Writes the rows of a form and their points over two arrays, which must have as many places as
+// there are rows and points.
 pub(crate) fn put_form(form: &Rows, rows: &mut [BufferRow], points: &mut [BufferPoint])
     requires rows { length rows.old ≡ length form.now.flat }
     requires points { length points.old ≡ length (row_points form.now.flat) }

@@ -39,7 +39,8 @@ pub struct BufferCounts {
     pub needed_points: u64,
 }
 
-// The status, the reason and the place of a reading that ended like this.
+// The status, the reason and the place to report for a reading with this result: status 4 if memory
+// was refused, else 5 if an array had too little room (`full`), else 1 with the refusal, or 0.
 fn outcome(full: bool, answer: Result<(), BlobFault>) -> (u32, u32, u64)
     ensures { result ≡ outcome_of full answer }
 {
@@ -54,7 +55,7 @@ fn outcome(full: bool, answer: Result<(), BlobFault>) -> (u32, u32, u64)
     }
 }
 
-// The counts of a reading that ended like this.
+// The counts to report for a reading with this result that took the geometries in `taken`.
 fn counted(taken: &Taken, answer: Result<(), BlobFault>) -> BufferCounts
     ensures { (start_rows new_rows : List InRow) (start_points new_points : List InPoint)
         (given later : List Tree) → HasTaken start_rows start_points given later new_rows new_points
@@ -73,8 +74,10 @@ fn counted(taken: &Taken, answer: Result<(), BlobFault>) -> BufferCounts
     }
 }
 
-// Reads up to the end of a geometry and takes that, or to the end of the bytes; returns how many
-// bytes were read then.
+// Reads on from the offset `used`, up to the end of a geometry, which is taken into the arrays, or
+// to the end of the bytes; returns the offset after what was read. The session must have read
+// exactly the bytes before `used`, at least one byte must be left, and the arrays must have what
+// `taken` says. An `Err` is the fault of the bytes, or want of memory.
 #[inline(always)]
 fn read_next(
     blobs: &[u8],
@@ -108,7 +111,9 @@ fn read_next(
     }
 }
 
-// Reads the blobs through a new session to their end or to a fault, and takes each geometry.
+// Reads blobs through a session to their end, or to a fault or want of memory, which is the `Err`,
+// and takes each geometry into the arrays. The session must be new, and nothing may be taken
+// before.
 fn read_all(
     blobs: &[u8],
     session: &mut Session,
@@ -133,7 +138,7 @@ fn read_all(
 
 /// Reads a stream of blobs into arrays: the rows of its geometries as a table has them (blobs:
 /// TWKB; rows: profile), each with the number of its points, and the points of all rows in one
-/// list. Each geometry must keep the limits. A refused blob stops it, after the geometries before
+/// list. A blob that is refused, as one past the limits is, stops it after the geometries before
 /// it. A geometry for which an array has too little room is not written, nor is any after it, but
 /// all are counted. Places of the arrays after what is written are unchanged. Takes memory for one
 /// geometry.

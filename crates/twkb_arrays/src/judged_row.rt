@@ -28,14 +28,15 @@ use twkb_table::{refused_count, refused_id, refused_place, refused_precision};
 use twkb_tree::row_rules::has_points;
 use twkb_tree::{GREATEST_PRECISION, Kind, LEAST_PRECISION, Limits, RowPlace};
 
-// The reason for which a row with a point out of range is refused. There is no text, and so no place
-// in one.
+// The reason for which a row with a point out of range is refused. There is no text, and so no
+// place in one.
 pub(crate) const OUT_OF_RANGE: RowReason = RowReason::Polyline(0, PolyReason::Range);
 
 // The reason for which a row with more points than the limit leaves is refused.
 const TOO_MANY_POINTS: RowReason = RowReason::Polyline(0, PolyReason::TooMany);
 
-// A row, or the points of one, are refused for the reason of the same row of a table.
+// The refusal of a row of an array, or of its points, for the reason for which a table's row is
+// refused: with the number of that reason.
 #[inline(always)]
 pub(crate) fn refused(reason: RowReason) -> Stop<u32>
     ensures { result ≡ Refused (row_number_of reason) }
@@ -43,7 +44,7 @@ pub(crate) fn refused(reason: RowReason) -> Stop<u32>
     Stop::Refused(row_number(reason))
 }
 
-// The kind with this number.
+// The kind with this number: 1 to 7 as in TWKB, and 8 for a ring; `None` for any other number.
 #[inline(always)]
 pub(crate) fn kind_of(number: u16) -> Option<Kind>
     ensures { MatchOption result ((k : Kind) → ¬ (kind_number k ≡ number)) (λ k. kind_number k ≡ number) }
@@ -61,7 +62,8 @@ pub(crate) fn kind_of(number: u16) -> Option<Kind>
     }
 }
 
-// Whether the row has an id and says so, or has none and a 0 in its place.
+// Whether a row says that it has an id, by 1 in `has_id`, or that it has none, by 0 there and in
+// `id`.
 #[inline(always)]
 pub(crate) fn has_right_id(row: &BufferRow) -> bool
     ensures { IsTrue result ↔ HasRightId row.now }
@@ -75,7 +77,7 @@ pub(crate) fn has_right_id(row: &BufferRow) -> bool
     row.id == 0
 }
 
-// The row of a geometry that this row stands for, without its points.
+// The row of a geometry that a row of an array stands for, which has this kind, without its points.
 #[inline(always)]
 pub(crate) fn bare_row(row: &BufferRow, kind: Kind) -> Row
     ensures { (own : List InPoint) → row_with result (points_of own) ≡ row_from_c kind row.now own }
@@ -94,7 +96,7 @@ pub(crate) fn bare_row(row: &BufferRow, kind: Kind) -> Row
     }
 }
 
-// Lets a proof know that an id is in range. Changes nothing.
+// Does nothing. Its contract states that an id is in the range of an i64.
 #[inline(always)]
 fn look_at_id(id: Option<i64>)
     ensures { id_in_range id ≡ true }
@@ -105,7 +107,8 @@ fn look_at_id(id: Option<i64>)
     }
 }
 
-// The reason why the row's id is refused at this place.
+// The reason why a row may not have its id at this place, or may not be without one; `None` if it
+// may.
 #[inline(always)]
 fn refused_row_id(row_place: &RowPlace, row: &Row) -> Option<RowReason>
     ensures { result ≡ first_reason (id_checks (row_of row_place.now.parent)
@@ -115,7 +118,7 @@ fn refused_row_id(row_place: &RowPlace, row: &Row) -> Option<RowReason>
     refused_id(row_place, row.kind, row.id.is_some())
 }
 
-// Whether the precision is in range, if there is one.
+// Whether a precision is from -8 to 7, or is missing.
 #[inline(always)]
 fn is_right_precision(precision: Option<i8>) -> bool
     ensures { result ≡ precision_in_range precision }
@@ -126,7 +129,8 @@ fn is_right_precision(precision: Option<i8>) -> bool
     }
 }
 
-// The reason why the row's precision is refused at this place.
+// The reason why a row may not have its precision at this place, or may not be without one; `None`
+// if it may.
 #[inline(always)]
 fn refused_row_precision(row_place: &RowPlace, row: &Row) -> Option<RowReason>
     ensures { result ≡ first_reason (precision_checks (row_of row_place.now.parent) (row_with row.now [])) }
@@ -137,7 +141,8 @@ fn refused_row_precision(row_place: &RowPlace, row: &Row) -> Option<RowReason>
     refused_precision(row_place, row.precision.is_some())
 }
 
-// A coordinate less the least one, if it is in range; else 2^63 or more.
+// A coordinate plus 2^62: below 2^63 if the coordinate is in range, -2^62 to 2^62 - 1, and 2^63 or
+// more if not.
 #[inline(always)]
 fn above_least(coordinate: i64) -> u64
     ensures { (result < 2 ^ 63) ↔ IsCoordinate coordinate }
@@ -145,7 +150,8 @@ fn above_least(coordinate: i64) -> u64
     coordinate.cast_unsigned().wrapping_add(COORDINATE_BOUND)
 }
 
-// The coordinates of a point less the least one, each if it is in range; else 2^63 or more.
+// Both coordinates of a point plus 2^62: each is below 2^63 if it is in range, and 2^63 or more if
+// not.
 #[inline(always)]
 fn both_above_least(point: &BufferPoint) -> u64x2
     ensures two { length result ≡ 2 }
@@ -154,8 +160,8 @@ fn both_above_least(point: &BufferPoint) -> u64x2
     u64x2::from_array([above_least(point.x), above_least(point.y)])
 }
 
-// Whether the coordinates of each point are in range. Both coordinates are looked at together, and
-// each point is, so that several are at once.
+// Whether the coordinates of all points are from -2^62 to 2^62 - 1. Every point is looked at, both
+// coordinates together, so that several points are tested at once.
 #[inline(always)]
 pub(crate) fn are_in_range(own: &[BufferPoint]) -> bool
     ensures { result ≡ are_in_range (points_of own.now) }
@@ -168,7 +174,7 @@ pub(crate) fn are_in_range(own: &[BufferPoint]) -> bool
     x | y < 1 << 63
 }
 
-// How many points in range a list begins with.
+// The number of points before the first one that is out of range; that of all points if none is.
 fn in_range_front(points: &[BufferPoint]) -> usize
     ensures { result ≡ in_range_front points.now }
 {
@@ -182,8 +188,8 @@ fn in_range_front(points: &[BufferPoint]) -> usize
     count
 }
 
-// The index of the first point out of range in a row that is refused for the reason with this number,
-// given the points from its first one on; 0 if the reason is another.
+// If a row is refused since a point is out of range, as this number says, the index of its first
+// such point, counted from 0; else 0. `ahead` has the points from the row's first one on.
 pub(crate) fn index_outside(number: u32, ahead: &[BufferPoint]) -> usize
     ensures { result ≡ index_outside number ahead.now }
 {
@@ -194,7 +200,8 @@ pub(crate) fn index_outside(number: u32, ahead: &[BufferPoint]) -> usize
     }
 }
 
-// Whether a row of this kind may have these points of its own.
+// Whether a row of this kind may have these points of its own: it has none, or is a point, a
+// linestring or a ring. Their number is not tested.
 #[inline(always)]
 fn may_have_points(kind: Kind, own: &[BufferPoint]) -> bool
     ensures { result ≡ (has_points kind || has_none (points_of own.now)) }
@@ -202,7 +209,8 @@ fn may_have_points(kind: Kind, own: &[BufferPoint]) -> bool
     own.is_empty() || has_points(kind)
 }
 
-// Whether the limits leave room for `count` points at this place.
+// Whether a row at this place may have `count` points without more points in its geometry than the
+// limits allow.
 #[inline(always)]
 fn has_room(limits: &Limits, row_place: &RowPlace, count: usize) -> bool
     ensures { result ≡ nat_le (row_place.now.points + count) limits.now.points }
@@ -210,7 +218,8 @@ fn has_room(limits: &Limits, row_place: &RowPlace, count: usize) -> bool
     row_place.points <= limits.points() && count <= (limits.points() - row_place.points) as usize
 }
 
-// The reason why a row of this kind may not have `count` points at this place.
+// The reason why a row of this kind may not have `count` points at this place, within the limits;
+// `None` if it may.
 #[inline(always)]
 fn refused_number(
     limits: &Limits,
@@ -227,8 +236,9 @@ fn refused_number(
     refused_count(row_place, kind, count)
 }
 
-// The reason why the row's points are refused at this place. The points themselves are only looked
-// at if their number is wrong.
+// The first reason why a row may not have these points at this place; `None` if it may, or if the
+// only reason is that one is out of range. The points themselves are only looked at if their number
+// is wrong.
 #[inline(always)]
 fn refused_points(
     limits: &Limits,
@@ -251,8 +261,8 @@ fn refused_points(
     Some(reason)
 }
 
-// The reason why the row with these points may not come at this place. `None` if there is none,
-// unless a coordinate is out of range.
+// The first reason why a row with these points may not come at this place; `None` if it may, or if
+// the only reason is that a point is out of range.
 #[inline(always)]
 pub(crate) fn refused_row(
     limits: &Limits,

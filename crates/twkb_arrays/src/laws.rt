@@ -1,5 +1,5 @@
-//! Laws of streams that are read into arrays and written from them, each stated as the contract of an
-//! empty function.
+//! Laws of streams that are read into arrays and written from them, each stated as the contract of
+//! an empty function.
 ghost use Rattle.std.specs.Prelude.{◌≡◌, ◌≢◌, ◌≤◌, ◌⊎◌, ℕ, List, ◌++◌, IfSome, Some, length, reverse, take};
 ghost use Rattle.twkb_io.specs.declared.TheConstants.{MAX_BYTES};
 ghost use Rattle.twkb_tree.specs.Tree.{IsId, Tree};
@@ -24,8 +24,8 @@ ghost use Rattle.twkb_arrays.specs.FilledArrays.{ReadsArrays};
 ghost use Rattle.twkb_arrays.specs.SameRows.{AreSameRows};
 ghost use Rattle.twkb_arrays.specs.WrittenArrays.{AreArrays, WritesArrays};
 
-/// If at most 2^62 bytes are a stream, the geometries that a call reads are those of the stream, and
-/// it refuses nothing, unless memory is refused.
+/// If at most 2^62 bytes are a stream, the geometries that `read_arrays` reads from them are those
+/// of the stream, and it refuses nothing, unless memory is refused.
 pub fn one_answer()
     ensures { (l : Allowance) (bytes : List ℕ) (old_rows new_rows : List InRow)
         (old_points new_points : List InPoint) (counts : InCounts) (gs : List Tree)
@@ -34,7 +34,8 @@ pub fn one_answer()
         → (counts.status ≡ 4) ⊎ ((read.given ++ read.later ≡ gs) × (counts.status ≢ 1)) }
 {}
 
-/// If a call refuses at most 2^62 bytes, and `unpack` refuses them, both give the same reason and place.
+/// If both `read_arrays` and `unpack` refuse at most 2^62 bytes, both report the same reason and
+/// place.
 pub fn one_refusal()
     ensures { (l : Allowance) (bytes : List ℕ) (old_rows new_rows : List InRow)
         (old_points new_points : List InPoint) (counts : InCounts) (text : List ℕ) (done : ℕ)
@@ -44,7 +45,8 @@ pub fn one_refusal()
         → Tells report why → (counts.reason ≡ report.reason) × (counts.place ≡ report.place) }
 {}
 
-/// The rows that a whole stream has in arrays are the rows of the table to which it is unpacked.
+/// The rows that `read_arrays` makes of a whole stream, with status 0, are the rows of the table to
+/// which the stream is unpacked.
 pub fn same_rows()
     ensures { (l : Allowance) (bytes : List ℕ) (old_rows new_rows : List InRow)
         (old_points new_points : List InPoint) (counts : InCounts) (text : List ℕ) (done : ℕ)
@@ -53,8 +55,9 @@ pub fn same_rows()
         → AreSameRows text old_rows old_points new_rows new_points }
 {}
 
-/// A row that is refused after others is refused as a record of a table too, and for the same reason, if
-/// its depth, id and precision fit a record, and its points are neither out of range nor too many.
+/// A row that is refused after others is refused as a record of a table too, for the same reason,
+/// if its depth, id and precision fit a record, and its points are neither out of range nor too
+/// many.
 pub fn one_reason()
     ensures { (l : Allowance) (rs : List TableRow) (r : TableRow) (why : Refusal) (v : Verdict)
         → r.depth ≤ 999 → IfSome r.id IsId → IfSome r.precision IsId
@@ -62,8 +65,8 @@ pub fn one_reason()
         → Judged l (reverse rs) (record_of r) v → v ≡ Refused (rule_reason why) }
 {}
 
-/// If arrays are those of valid geometries, the geometries that a call writes or counts are these,
-/// and it refuses nothing, unless memory is refused.
+/// If arrays are those of valid geometries, `write_arrays` writes or counts the blobs of exactly
+/// these geometries, and refuses nothing, unless memory is refused.
 pub fn one_writing()
     ensures { (l : Allowance) (style : Style) (in_rows : List InRow) (in_points : List InPoint)
         (old new : List ℕ) (report : InReport) (gs : List Tree)
@@ -72,16 +75,17 @@ pub fn one_writing()
         → (report.status ≡ 4) ⊎ ((wrote.given ++ wrote.later ≡ gs) × (report.status ≢ 1)) }
 {}
 
-/// At most 2^62 bytes that a call with status 0 wrote are read back to the same arrays, if there is
-/// room for them, unless memory is refused.
+/// At most 2^62 bytes that `write_arrays` wrote with status 0 are read back by `read_arrays` to the
+/// same arrays, if there is room for them, unless memory is refused.
 pub fn read_back()
     ensures { (l : Allowance) (given old new : Arrays) (counts : InCounts) → IsAllowance l
         → IsRoundTrip l given old new counts
         → (counts.status ≡ 4) ⊎ ((counts.status ≡ 0) × BeginAs given old new) }
 {}
 
-/// If the arrays that a call with status 0 read from a stream are written, these are the blobs of
-/// the stream's geometries, and nothing is refused, unless memory is.
+/// If `write_arrays` writes the arrays that `read_arrays` read from a stream with status 0, it
+/// writes or counts the blobs of the stream's geometries, and refuses nothing, unless memory is
+/// refused.
 pub fn written_again()
     ensures { (l : Allowance) (style : Style) (bytes : List ℕ) (old_rows new_rows : List InRow)
         (old_points new_points : List InPoint) (counts : InCounts) (gs : List Tree)

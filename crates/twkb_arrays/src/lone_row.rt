@@ -20,8 +20,9 @@ const POINT: u16 = 1;
 // The number of the kind of a linestring.
 const LINESTRING: u16 = 2;
 
-// Whether the row is a root with a precision and no id, and has no more points than are ahead and
-// than the limits allow: it may begin a geometry if its kind may have so many points, all in range.
+// Whether a row is a root with a precision from -8 to 7 and no id, and names no more points than
+// are ahead and than the limits allow. So it begins a geometry, if its kind may have so many
+// points, and all are in range.
 #[inline(always)]
 fn begins_alone(limits: &Limits, row: &BufferRow, ahead: &[BufferPoint]) -> bool
     ensures { result ≡ true → BeginsAlone limits.now row.now ahead.now }
@@ -37,8 +38,8 @@ fn begins_alone(limits: &Limits, row: &BufferRow, ahead: &[BufferPoint]) -> bool
     LEAST_PRECISION <= row.precision && row.precision <= GREATEST_PRECISION
 }
 
-// The first of the points ahead, if the row has it alone and begins the geometry of a point within
-// the limits. `None` proves nothing.
+// The first of the points ahead, if the row begins the geometry of this one point, within the
+// limits. `None` proves nothing.
 #[inline(always)]
 fn lone_point(limits: &Limits, row: &BufferRow, ahead: &[BufferPoint]) -> Option<Pt>
     ensures { IfSome result (λ point. BeginsPoint limits.now row.now ahead.now point) }
@@ -49,8 +50,8 @@ fn lone_point(limits: &Limits, row: &BufferRow, ahead: &[BufferPoint]) -> Option
     as_point(&ahead[0])
 }
 
-// Whether the row begins the geometry of a linestring within the limits, unless a point is out of
-// range. `false` proves nothing.
+// Whether a row begins the geometry of a linestring within the limits, unless one of its points is
+// out of range. `false` proves nothing.
 #[inline(always)]
 fn begins_line(limits: &Limits, row: &BufferRow, ahead: &[BufferPoint]) -> bool
     ensures { result ≡ true → BeginsLine limits.now row.now ahead.now }
@@ -58,8 +59,9 @@ fn begins_line(limits: &Limits, row: &BufferRow, ahead: &[BufferPoint]) -> bool
     row.kind == LINESTRING && begins_alone(limits, row, ahead)
 }
 
-// Makes the blob of the linestring that the row begins, if all points are in range. Returns how
-// many points it has.
+// Makes the blob of the linestring that a row begins, if all its points are in range, and returns
+// their number; else `None`. For the row `begins_line` must be true. An `Err` is want of memory;
+// after it nothing is known of the blob in `room`.
 #[inline(always)]
 fn make_line(
     limits: &Limits,
@@ -83,8 +85,9 @@ fn make_line(
     Ok(Some(count))
 }
 
-// Makes the blob of a row that is a whole geometry if nothing comes below it, that of a point or a
-// linestring. Returns how many points it has. `None` proves nothing.
+// Makes the blob of a row that is a root and a point or a linestring, as a geometry that has no
+// other row, and returns the number of its points. `None` proves nothing about the row. An `Err` is
+// want of memory. After a `None` or an `Err` nothing is known of the blob in `room`.
 #[inline(always)]
 fn make_row(
     limits: &Limits,
@@ -106,7 +109,7 @@ fn make_row(
     Ok(Some(1))
 }
 
-// Whether a root comes after the first row.
+// Whether there is a second row and it is a root.
 #[inline(always)]
 fn is_before_root(rows: &[BufferRow]) -> bool
     ensures { result ≡ true → BeginWithRoot (drop 1 rows.now) }
@@ -114,8 +117,10 @@ fn is_before_root(rows: &[BufferRow]) -> bool
     rows.len() > 1 && rows[1].depth == 0
 }
 
-// Fast path: makes the blob of the first row if it is a point or a linestring and a whole geometry,
-// since a root comes after it. Returns how many points it has. `None` proves nothing.
+// Fast path: makes the blob of the first row if that is a point or a linestring and a whole
+// geometry, since the second row is a root; returns the number of its points. `None` proves nothing
+// about the row. An `Err` is want of memory. After a `None` or an `Err` nothing is known of the
+// blob in `room`.
 #[inline(always)]
 pub(crate) fn make_first(
     limits: &Limits,

@@ -28,7 +28,7 @@ pub struct BufferRow {
 /// The precision of a row that has none.
 pub const NO_PRECISION: i8 = -128;
 
-// The number of a kind.
+// The number of a kind: that of its type in TWKB, 1 to 7, and 8 for a ring.
 #[inline(always)]
 fn number_of(kind: Kind) -> u16
     ensures { result ≡ kind_number kind }
@@ -45,7 +45,7 @@ fn number_of(kind: Kind) -> u16
     }
 }
 
-// A row with this number of points, in C's layout.
+// A row of a geometry that has `count` points of its own, in C's layout.
 #[inline(always)]
 pub(crate) fn in_layout(row: &Row, count: usize) -> BufferRow
     ensures { (own : List Point) → length own ≡ count → result ≡ row_in_c (row_with row.now own) }

@@ -1,4 +1,5 @@
-//! Samples of the definitions, checked by computation: bytes, rows and points worked by hand from TWKB.
+//! Samples of the definitions, checked by computation: bytes, rows and points worked by hand from
+//! TWKB.
 ghost use Rattle.std.specs.Prelude.{◌≡◌, ℕ, List, ◌++◌, drop, take};
 ghost use Rattle.twkb_grammar.specs.Blob.{Stream};
 ghost use Rattle.twkb_grammar.specs.Samples.{standard};
@@ -13,7 +14,9 @@ ghost use Rattle.twkb_arrays.specs.Rows.{array_points, array_rows};
 ghost use Rattle.twkb_arrays.specs.Samples.{each_kind, each_kind_points, each_kind_rows, each_kind_stream};
 ghost use Rattle.twkb_arrays.specs.WrittenArrays.{WritesArrays};
 
-/// A geometry of each kind in bytes, and in arrays of rows and points.
+/// The geometries of `each_kind`, one of each kind, have the rows `each_kind_rows` and the points
+/// `each_kind_points` in arrays. The bytes `each_kind_stream` are their canonical stream in full
+/// style, and within the standard limits a stream of them.
 pub fn each_kind()
     ensures rows { array_rows each_kind ≡ each_kind_rows }
     ensures points { array_points each_kind ≡ each_kind_points }
@@ -21,7 +24,8 @@ pub fn each_kind()
     ensures stream { Stream standard each_kind_stream each_kind }
 {}
 
-/// A call that reads these bytes with status 0 gives these rows and points.
+/// If `read_arrays`, with the standard limits, reads the bytes of `each_kind` with status 0, the
+/// arrays begin with the rows and points of `each_kind`, and their later places are unchanged.
 pub fn read()
     ensures { (old_rows new_rows : List InRow) (old_points new_points : List InPoint) (counts : InCounts)
         → ReadsArrays standard each_kind_stream old_rows old_points new_rows new_points counts
@@ -29,7 +33,8 @@ pub fn read()
         × (new_points ≡ each_kind_points ++ drop 16 old_points) }
 {}
 
-/// A call that writes these rows and points with status 0 gives these bytes.
+/// If `write_arrays`, in full style and with the standard limits, writes the rows and points of
+/// `each_kind` with status 0, the first `sent` bytes of its output are those of `each_kind`.
 pub fn written()
     ensures { (old new : List ℕ) (report : InReport)
         → WritesArrays standard Full each_kind_rows each_kind_points old new report

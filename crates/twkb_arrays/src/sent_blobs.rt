@@ -19,7 +19,7 @@ pub(crate) struct Sent {
 }
 
 impl Sent {
-    // Nothing is written yet.
+    // What was written before the first blob: nothing.
     pub(crate) fn nothing() -> Sent
         ensures { (style : Style) (output : List ℕ) → HasSent style output [] [] output result }
     {
@@ -31,7 +31,7 @@ impl Sent {
         }
     }
 
-    // Counts the bytes of a blob that was made.
+    // Adds the bytes of a blob that was made to `needed`, which stays at most `u64::MAX`.
     #[inline(always)]
     fn count(&mut self, bytes: usize)
         ensures { self.new ≡ record self.old { needed = saturated (self.old.needed + bytes) } }
@@ -40,7 +40,7 @@ impl Sent {
     }
 }
 
-// Writes a blob into a slice, from this place on.
+// Writes a blob into a slice, from the place `first` on; the slice must have room for it there.
 #[inline(always)]
 fn put_from(blob: &[u8], output: &mut [u8], first: usize)
     requires { first + length blob.now ≤ length output.old }
@@ -50,8 +50,9 @@ fn put_from(blob: &[u8], output: &mut [u8], first: usize)
     output[first..last].copy_from_slice(blob);
 }
 
-// Writes the next blob after those in the slice, if it has room for it and had for all blobs
-// before it.
+// Writes a blob, which must not be empty, after those in a slice, if there is room for it and was
+// for all blobs before it; else sets `full`. Counts its bytes in both cases. The slice must be the
+// one that `sent` counts the blobs of.
 pub(crate) fn send_blob(blob: &[u8], output: &mut [u8], sent: &mut Sent)
     requires some { 0 < length blob.now }
     requires within { IsSentWithin output.old sent.old }

@@ -2,7 +2,8 @@
 ghost use Rattle.std.specs.Prelude.{◌≡◌};
 ghost use Rattle.twkb_arrays.specs.Status.{unless_full};
 
-// The status, the reason and the place: 5 and none if there was too little room.
+// This status, reason and place; or, if there was too little room (`full`), status 5 and 0 for the
+// others.
 pub(crate) fn unless_full(full: bool, outcome: (u32, u32, u64)) -> (u32, u32, u64)
     ensures { result ≡ unless_full full outcome }
 {

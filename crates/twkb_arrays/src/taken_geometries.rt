@@ -31,7 +31,7 @@ pub(crate) struct Taken {
 }
 
 impl Taken {
-    // Nothing is taken yet.
+    // What was taken before the first geometry: nothing.
     pub(crate) fn nothing() -> Taken
         ensures { (in_rows : List InRow) (in_points : List InPoint)
             → HasTaken in_rows in_points [] [] in_rows in_points result }
@@ -46,7 +46,8 @@ impl Taken {
         }
     }
 
-    // Counts the rows and points of a geometry that was read.
+    // Adds the numbers of rows and points of a geometry that was read to `needed_rows` and
+    // `needed_points`, which stay at most `u64::MAX`.
     #[inline(always)]
     fn count(&mut self, rows: usize, points: usize)
         ensures { self.new ≡ record self.old {
@@ -59,7 +60,7 @@ impl Taken {
     }
 }
 
-// Whether there is room for this many rows and points.
+// Whether so many rows and so many points are no more than the room for each.
 #[inline(always)]
 fn has_room(rows: usize, points: usize, row_room: usize, point_room: usize) -> bool
     ensures has { result ≡ true → (rows ≤ row_room) × (points ≤ point_room) }
@@ -71,7 +72,8 @@ fn has_room(rows: usize, points: usize, row_room: usize, point_room: usize) -> b
     points <= point_room
 }
 
-// Writes the rows of a form and their points into arrays, from these places on.
+// Writes the rows of a form and their points into arrays, from these places on; each array must
+// have room for them there.
 #[inline(always)]
 fn put_from(
     form: &Rows,
@@ -95,8 +97,10 @@ fn put_from(
     put_form(form, rows, points);
 }
 
-// Writes the rows and points of the next geometry after those in the arrays, if both have room for
-// it and had for all geometries before it.
+// Writes the rows and points of a geometry, of which a form has all rows, and one at least, after
+// those in the arrays, if both have room for it and had for all geometries before it; else sets
+// `full`. Counts them in both cases. The arrays must be those that `taken` counts the geometries
+// of.
 pub(crate) fn take_geometry(
     form: &Rows,
     row_array: &mut [BufferRow],

@@ -29,7 +29,8 @@ use twkb_writer::Style;
 const POINTS_LEFT: u32 = 72;
 
 // The row at this place is refused for the reason with this number, or the points after the last
-// row are. The index is that of the row's first point out of range, if that is the reason, and else 0.
+// row are. The index is that of the row's first point out of range, if that is the reason, and else
+// 0.
 #[derive(Clone, Copy)]
 pub(crate) struct RefusedAt {
     place: u64,
@@ -59,8 +60,9 @@ impl Writer {
         }
     }
 
-    // Ends the open geometry, if there is one: makes its blob, writes that if there is room, and
-    // drops the rows. An `Err` changes nothing but the room.
+    // Ends the open geometry, if there is one: makes its blob, writes that if the output has room
+    // for it and had for all before, and drops the rows. The output must be that of the earlier
+    // blobs. An `Err` is want of memory, and changes nothing but `self.room`.
     #[inline(always)]
     fn end_geometry(&mut self, style: Style, output: &mut [u8]) -> Result<(), AllocError>
         requires { IsSentWithin output.old self.old.sent }
@@ -82,8 +84,8 @@ impl Writer {
         Ok(())
     }
 
-    // Ends the open geometry if the row is a root, which then begins the next one. An `Err` changes
-    // nothing but the room.
+    // Ends the open geometry, as `end_geometry` does, if the row is a root, which then begins the
+    // next one; else changes nothing.
     #[inline(always)]
     fn end_before(
         &mut self,
@@ -110,9 +112,10 @@ impl Writer {
         self.end_geometry(style, output)
     }
 
-    // Reads the first of the rows ahead, with as many of the points ahead as it names. If it is a
-    // root, the open geometry ends. If it is known to be a whole geometry, its blob is written at
-    // once; else it is appended to the open geometry. Returns the number of points that it has.
+    // Reads the first of the rows ahead, which must be one at least, with as many of the points
+    // ahead as it names, and returns their number. If it is a root, the open geometry ends. If it
+    // is known to be a whole geometry, its blob is written at once; else it is appended to the open
+    // geometry. An `Err` is want of memory, or the number of the reason to refuse the row.
     #[inline(always)]
     fn write_row(
         &mut self,
@@ -152,7 +155,10 @@ impl Writer {
         }
     }
 
-    // Reads the rows, each with its points; returns how many points they have.
+    // Reads rows, each with as many of the next points as it names, writes the blob of each
+    // geometry but the last one, as far as there is room, and returns the number of points that the
+    // rows have. The writer must be new. An `Err` is want of memory, or the first row that is
+    // refused.
     fn write_rows(
         &mut self,
         limits: &Limits,
@@ -179,7 +185,10 @@ impl Writer {
         Ok(used)
     }
 
-    // Reads the rows, each with its points, and ends the last geometry if no points are left.
+    // Reads rows, each with as many of the next points as it names, and writes the blob of each
+    // geometry, as far as there is room. The writer must be new. An `Err` is want of memory, the
+    // first row that is refused, or that points are left over; the blob of the last geometry is
+    // then not made.
     fn write_all(
         &mut self,
         limits: &Limits,
@@ -211,7 +220,9 @@ impl Writer {
     }
 }
 
-// Why arrays were not written past the row at a place, given the points from its first one on.
+// The reason why writing stopped at the row at this place, with the place and, if that is the
+// reason, the index of the row's first point out of range. `ahead` has the points from its first
+// one on.
 #[cold]
 fn at_row(place: usize, ahead: &[BufferPoint], stop: Stop<u32>) -> Stop<RefusedAt>
     ensures { result ≡ stopped_at place ahead.now stop }
@@ -226,7 +237,8 @@ fn at_row(place: usize, ahead: &[BufferPoint], stop: Stop<u32>) -> Stop<RefusedA
     }
 }
 
-// The status, the reason and the place of a writing that ended like this.
+// The status, the reason and the place to report for a writing with this result: status 4 if memory
+// was refused, else 5 if the output had too little room (`full`), else 1 with the refusal, or 0.
 fn outcome(full: bool, answer: Result<(), Stop<RefusedAt>>) -> (u32, u32, u64)
     ensures { result ≡ write_outcome_of full answer }
 {
@@ -237,7 +249,8 @@ fn outcome(full: bool, answer: Result<(), Stop<RefusedAt>>) -> (u32, u32, u64)
     }
 }
 
-// The index of the point for which a row was refused, of a writing that ended like this.
+// The index to report for a writing with this result: that of the refused row's first point out of
+// range, if that is the reason and the output had room (`full` is false); else 0.
 fn refused_index(full: bool, answer: Result<(), Stop<RefusedAt>>) -> u64
     ensures { result ≡ write_index_of full answer }
 {
@@ -248,7 +261,7 @@ fn refused_index(full: bool, answer: Result<(), Stop<RefusedAt>>) -> u64
     }
 }
 
-// The report of a writing that ended like this.
+// The report of a writing with this result that wrote the blobs in `sent`.
 fn reported(sent: &Sent, answer: Result<(), Stop<RefusedAt>>) -> BufferReport
     ensures { (style : InStyle) (start output : List ℕ) (given later : List Tree)
         → HasSent style start given later output sent.now
@@ -268,12 +281,12 @@ fn reported(sent: &Sent, answer: Result<(), Stop<RefusedAt>>) -> BufferReport
 
 /// Writes rows and points in arrays as a stream of canonical blobs in a style: the rows of one
 /// geometry after another as a table has them (blobs: TWKB; rows: profile), each with as many of
-/// the next points as it names. Each geometry must keep the limits. A refused row stops it, after
+/// the next points as it names. A row that is refused, as one past the limits is, stops it after
 /// the blobs of the complete geometries before it; so do points that are left over, which are
 /// refused at the number of rows, and before the blob of the last geometry. A blob for which the
 /// output has too little room is not written, nor is any after it, but the bytes of all are
-/// counted. Bytes of the output after what is written are unchanged. Takes memory for one
-/// geometry and its blob.
+/// counted. Bytes of the output after what is written are unchanged. Takes memory for one geometry
+/// and its blob.
 pub fn write_arrays(
     alloc: Global,
     rows: &[BufferRow],

@@ -14,10 +14,10 @@ use twkb_io::InFault;
 /// Why a reader of blobs gave no geometry.
 #[derive(Clone, Copy, Debug, PartialEq, Eq, Error)]
 pub enum BlobFault {
-    /// A growth was refused.
+    /// Memory was refused.
     #[error("out of memory")]
     Memory,
-    /// The input gave no byte, or the stream has more than 2^62 bytes.
+    /// A read failed, or the stream has more than 2^62 bytes.
     #[error("{0}")]
     Device(InFault),
     /// An earlier call returned an error, or the session was finished.
@@ -33,7 +33,8 @@ pub enum BlobFault {
     },
 }
 
-// The fault of an engine that stopped: `Memory`, or the refusal's reason at this offset.
+// The fault to report if an engine stops: `Memory` if memory was refused, else `At` with the reason
+// and this offset, in bytes from the stream's start.
 pub(crate) fn fault_at(offset: u64, stop: Stop) -> BlobFault
     ensures { result ≡ fault_of offset stop }
 {
@@ -43,8 +44,8 @@ pub(crate) fn fault_at(offset: u64, stop: Stop) -> BlobFault
     }
 }
 
-// Judges the end of a stream: `Ok` if no blob is begun, else `Truncated` at the offset of the item
-// that is cut or missing.
+// Whether a stream may end after the bytes that an engine was fed: `Ok` if no blob is begun there,
+// else `Truncated` at the offset of the item that is cut or missing.
 pub(crate) fn judge_end(engine: &Engine) -> Result<(), BlobFault>
     ensures end { (bs : List ℕ) (rs : List Row) → StandsAt bs rs engine.now
         → EndsAt (allowance_of engine.now) engine.now.start bs result }

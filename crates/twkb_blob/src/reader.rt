@@ -11,7 +11,7 @@ use twkb_flat::Flat;
 use twkb_io::Input;
 use twkb_tree::{Geometry, Limits};
 
-// What a reader does next.
+// What a reader does in the next call: it reads, or returns the end again, or `Spent`.
 #[derive(Clone, Copy)]
 pub(crate) enum State {
     Ready,
@@ -32,8 +32,8 @@ impl<'a, R: Read> Reader<'a, R> {
     ghost use Rattle.twkb_blob.specs.Readers.{IsAbreast, IsTreeOf, PartAhead, ReadsNext, ReadsRows, stopped_at};
     ghost use Rattle.twkb_blob.specs.Located.{IsLocated, ReadsWith};
 
-    /// Makes a reader of what the input still has, which reads nothing yet. The limits are those of
-    /// each geometry. Takes no memory.
+    /// Makes a reader of what the input still has, which has read nothing. It refuses a geometry
+    /// past the limits when it reads it. Takes no memory.
     #[inline(always)]
     pub fn new(input: Input<'a, R>, limits: Limits) -> Reader<'a, R>
         ensures input { reader_input result ≡ input.entry }
@@ -48,12 +48,11 @@ impl<'a, R: Read> Reader<'a, R> {
         }
     }
 
-    /// Reads the next geometry, or returns `None` at the input's end. The blob of the geometry
-    /// leaves the input, and no further byte does. An `Err` is want of memory, a fault of the
-    /// input, such as a failed read or more than 2^62 bytes, or the first fault of a blob that is
-    /// refused or cut. After an `Err` each call returns `Spent`, and after the end each call
-    /// returns `None`; neither reads. It takes memory for the geometry, and anew in each call for
-    /// rows, points, ids and open collections, but none for what a count announces before it comes.
+    /// Reads the next geometry, whose blob alone leaves the input, or returns `None` at the input's
+    /// end. An `Err` is `Memory`, a fault of the device, or the first fault of a blob that is
+    /// refused or cut. After an `Err` each call returns `Spent`, and after the end `None`; neither
+    /// reads. Takes memory for the geometry, and anew in each call for rows, points, ids and open
+    /// collections, but none for what a count announces before it comes.
     pub fn next(&mut self, alloc: Global) -> Result<Option<Geometry>, BlobFault>
         ensures shared { ReadsNext None self.old self.new result }
         ensures next { is_spent self.old ≡ false → has_ended self.old ≡ false
@@ -70,10 +69,10 @@ impl<'a, R: Read> Reader<'a, R> {
         Ok(Some(geometry))
     }
 
-    /// Reads the next geometry as `next` does, replaces the rows of a flat form by its rows, and
-    /// returns whether there was one; after a false and after an `Err` the form has no rows. Calls
-    /// of it and of the others may be mixed. It takes memory for rows and points past the room of
-    /// the form, and anew in each call for ids and open collections.
+    /// Reads the next geometry as `next` does, in place of the rows of a flat form, and returns
+    /// whether there was one; after a false and after an `Err` the form has no rows. Calls of it
+    /// and of the other methods may be mixed. Takes memory for rows and points past the room of the
+    /// form, and anew in each call for ids and open collections.
     pub fn next_flat(&mut self, alloc: Global, flat: &mut Flat) -> Result<bool, BlobFault>
         ensures { ReadsRows self.old self.new result flat.new }
     {
@@ -82,7 +81,8 @@ impl<'a, R: Read> Reader<'a, R> {
     }
 
     /// Reads the next geometry as `next` does, and returns it with the spans of its headers, whose
-    /// offsets count from where the input began. It takes memory as `next` does, and for the spans.
+    /// offsets are in bytes from where the input began. Takes memory as `next` does, and for the
+    /// spans.
     pub fn next_located(&mut self, alloc: Global) -> Result<Option<Located>, BlobFault>
         ensures shared { ReadsNext None self.old self.new result }
         ensures next { is_spent self.old ≡ false → has_ended self.old ≡ false
@@ -103,12 +103,11 @@ impl<'a, R: Read> Reader<'a, R> {
         Ok(Some(Located { geometry, spans }))
     }
 
-    // Reads the next blob with an engine that stands where the blob begins, and returns whether
-    // there was one. If so, the blob left the input, and no further byte did; the rows of the form
-    // are replaced by those of the blob, its spans are noted, and the engine stands where the next
-    // blob begins. An `Err` is as with `next`. After a false and after an `Err` the form has no
-    // rows, and nothing is known of the spans; after a false the reader has ended, and after an
-    // `Err` it is spent. Takes memory as `Engine::feed` does.
+    // Reads the next blob with an engine, which must have the reader's limits and be where the blob
+    // begins, and returns whether there was one: its bytes alone leave the input, the form has its
+    // rows, and `spans`, which must have noted nothing, notes its spans. After a false or an `Err`,
+    // which is as with `next`, the form has no rows, and nothing is known of the spans and the
+    // engine. Takes memory as `Engine::feed` does.
     #[inline(always)]
     pub(crate) fn read_with<S: SpanNotes>(
         &mut self,
@@ -150,8 +149,8 @@ impl<'a, R: Read> Reader<'a, R> {
         self.stop(flat, stopped)
     }
 
-    // Builds the geometry of the rows of a blob that was read. Takes memory; if memory is refused,
-    // returns `Memory`, and the reader is spent.
+    // Builds the geometry of the rows of a form, which must be one at least. Takes memory; if it is
+    // refused, returns `Memory`, and the reader is spent.
     fn tree_of(&mut self, alloc: Global, flat: &Flat) -> Result<Geometry, BlobFault>
         requires some { 0 < length flat.now }
         ensures tree { IsTreeOf flat.now result }

@@ -20,11 +20,10 @@ use twkb_flat::{Flat, Rows};
 use twkb_io::{InFault, MAX_BYTES};
 use twkb_tree::{Geometry, Limits};
 
-// Feeds a piece of a stream to an engine, up to the end of a blob, or all of it if none ends;
-// returns how many bytes were taken, and whether a blob ends with them. Rows, spans and memory are
-// as with `Engine::feed`. An `Err` is want of memory, a refusal with its offset in the stream, or
-// `TooLong`: the piece goes past 2^62 bytes of the stream, and no blob ends and nothing is refused
-// in the bytes up to there. After an `Err` the engine cannot be fed further.
+// Feeds a piece of a stream to an engine, up to the end of a blob, else all; returns how many bytes
+// were taken, and whether a blob ends with them. An `Err` is `Memory`, the first refusal, or
+// `TooLong` if the piece passes 2^62 bytes of the stream before a blob ends; the engine must not be
+// fed after it, and must be at most 2^62 bytes into the stream. The rest is as with `Engine::feed`.
 #[inline(always)]
 fn feed_piece<S: SpanNotes>(
     engine: &mut Engine,
@@ -59,7 +58,7 @@ pub struct Session {
     alloc: Global,
     engine: Engine,
     rows: Rows,
-    /// Whether `rows` still has the rows of the last geometry.
+    /// Whether the geometry in `rows` is complete.
     is_whole: bool,
     spent: bool,
     ghost taken_few: { spent ≡ false → engine.start + count_of engine ≤ MAX_BYTES },
@@ -71,8 +70,8 @@ impl Session {
     ghost use Rattle.twkb_blob.specs.Sessions.{with_end, is_spent, session_limits, session_held, session_open};
     ghost use Rattle.twkb_blob.specs.Sessions.{session_rows, FeedsOn};
 
-    /// Makes a session that has taken no byte. The limits are those of each geometry. Takes no
-    /// memory.
+    /// Makes a session at the start of a stream. It refuses a geometry past the limits when it
+    /// reads it. Takes no memory.
     pub fn new(alloc: Global, limits: Limits) -> Session
         ensures stands { Stands [] [] result }
         ensures limits { session_limits result ≡ limits }
@@ -90,12 +89,11 @@ impl Session {
         }
     }
 
-    /// Takes bytes of the piece up to the end of a geometry, else all of them; returns how many,
-    /// and the geometry if one ended. An `Err` is the first refusal of an item, want of memory, or
-    /// `TooLong` if the piece goes past 2^62 bytes of the stream and up to there no geometry ends
-    /// and nothing is refused. After an `Err` each feed and `finish` return `Spent`. It takes
-    /// memory for what it keeps and for the geometry, and none for what a count announces before it
-    /// comes.
+    /// Takes the next bytes of the stream from a piece, up to the end of a geometry, else all;
+    /// returns how many, and the geometry if one ended: then feed the rest of the piece. An `Err`
+    /// is `Memory`, the first refusal, or `TooLong` if the piece passes 2^62 bytes of the stream
+    /// before a geometry ends; after it each feed and `finish` return `Spent`. Takes memory for the
+    /// geometry and what the session keeps, and none for what a count announces before it comes.
     #[inline(always)]
     pub fn feed(&mut self, piece: &[u8]) -> Result<(usize, Option<Geometry>), BlobFault>
         ensures fed { (bytes : List ℕ) (gs : List Tree) → Stands bytes gs self.old
@@ -114,10 +112,10 @@ impl Session {
         Ok((used, Some(self.tree()?)))
     }
 
-    // Builds the geometry of the rows, of which there is one at least. Takes memory; if memory is
-    // refused, returns `Memory`, and the session is spent and has no rows. It is a function of its
-    // own, although it is inlined: if its code were written in `feed`, each call of `feed` would
-    // first clear the local variables of that code.
+    // Builds the geometry of the rows, which must be one at least; the session must not be spent.
+    // Takes memory; if it is refused, returns `Memory`, and the session is spent and has no rows.
+    // It is not written in `feed`, although it is inlined there, since each call of `feed` would
+    // then first clear its local variables.
     #[inline(always)]
     fn tree(&mut self) -> Result<Geometry, BlobFault>
         requires live { self.old.spent ≡ false }
@@ -135,9 +133,10 @@ impl Session {
         Ok(geometry)
     }
 
-    /// Takes bytes as `feed` does, and returns how many, and whether a geometry ends with them;
-    /// `flat` then gives its rows until the next feed. Calls of it and of `feed` may be mixed. It
-    /// takes memory for what it keeps, and none once that has room.
+    /// Takes the next bytes of the stream from a piece as `feed` does, with the same faults;
+    /// returns how many, and whether a geometry ends with them, whose rows `flat` then gives until
+    /// the next feed. Calls of it and of `feed` may be mixed. Takes memory for what the session
+    /// keeps, past the room that it has.
     #[inline(always)]
     pub fn feed_flat(&mut self, piece: &[u8]) -> Result<(usize, bool), BlobFault>
         ensures fed { (bytes : List ℕ) (gs : List Tree) → Stands bytes gs self.old
@@ -154,10 +153,9 @@ impl Session {
     }
 
     // Takes bytes as `feed_flat` does, and returns how many; `is_whole` then says whether a
-    // geometry ends with them. It is not inlined, and returns one number, which stays in a
-    // register. A piece of one byte goes to `take_byte`, unless the stream is within 16 bytes of
-    // 2^62, and has a return of its own: with one return for both ways it takes 3 in 100 more
-    // instructions.
+    // geometry ends with them. Not inlined, and returns one number, which stays in a register. A
+    // piece of one byte goes to `take_byte`, unless the stream is within 16 bytes of 2^62, and has
+    // a return of its own: with one return for both ways it takes 3 in 100 more instructions.
     #[inline(never)]
     fn feed_apart(&mut self, piece: &[u8]) -> Result<usize, BlobFault>
         ensures fed { (bytes : List ℕ) (gs : List Tree) → Stands bytes gs self.old
@@ -199,8 +197,9 @@ impl Session {
         }
     }
 
-    // Makes it the session of the rest of a stream, which begins at this offset, and forgets its
-    // rows, whose memory it keeps. Takes no memory.
+    // Starts the session afresh, even if it is spent, at this offset of a stream, which must be at
+    // most 2^62, and with these limits of each geometry. Forgets the rows and keeps their memory;
+    // frees that of ids and open collections. Takes no memory.
     pub(crate) fn restart(&mut self, limits: Limits, start: u64)
         requires few { start ≤ MAX_BYTES }
         ensures stands { StandsAt [] [] self.new.engine }
@@ -214,9 +213,10 @@ impl Session {
         self.spent = false;
     }
 
-    // Is fed what the input of a reader gives, up to the end of a blob, and returns whether one
-    // ended, as `read_with` of that reader does. At the end of the input, which `read_with` judges
-    // as `finish` does, and after an `Err` it is finished. Takes memory as `Engine::feed` does.
+    // Reads the next blob of a reader's input into the rows of the session, as `Reader::read_with`
+    // does, and returns whether there was one; after a false or an `Err` the session is spent.
+    // Unless the reader has ended or is spent, the session must have its limits and be where it is,
+    // between two blobs. `spans` must have noted nothing. Takes memory as `Engine::feed` does.
     #[inline(always)]
     pub(crate) fn feed_from<R: Read, S: SpanNotes>(
         &mut self,
@@ -236,15 +236,15 @@ impl Session {
         found
     }
 
-    /// The rows of the geometry that the last feed completed, if it completed one; else the rows so
-    /// far of the geometry that is read. After an `Err` nothing is known of them. Takes no memory.
+    /// The rows of the geometry that the last feed completed; if it completed none, the rows so far
+    /// of the geometry that is read. After an `Err` nothing is known of them. Takes no memory.
     pub fn flat(&self) -> &Flat
         ensures { result.now ≡ session_rows self.now }
     {
         &self.rows.flat
     }
 
-    /// The rows that `flat` gives, in a form that gives the points of each as a slice. Takes no
+    /// The rows that `flat` gives, in a form that gives the points of each row as a slice. Takes no
     /// memory.
     pub fn rows(&self) -> &Rows
         ensures { result.now.flat ≡ session_rows self.now }
@@ -252,8 +252,9 @@ impl Session {
         &self.rows
     }
 
-    /// Ends the stream: `Ok` if no blob is begun, else `Truncated`; `Spent` after an `Err` or an
-    /// earlier end. Afterwards each feed and `finish` return `Spent`. Takes no memory.
+    /// Ends the stream: `Ok` if no blob is begun, else `Truncated` at the offset of the item that
+    /// is cut or missing; `Spent` after an `Err` or an earlier `finish`. Each later feed and
+    /// `finish` return `Spent`. Takes no memory.
     #[tactic(auto, using(crate::proofs::Standing::finished))]
     pub fn finish(&mut self) -> Result<(), BlobFault>
         ensures unread { failed_by_read result ≡ false }
@@ -270,7 +271,8 @@ impl Session {
         judge_end(&self.engine)
     }
 
-    /// The number of bytes held of a number whose last byte has not come, 0 to 9. Takes no memory.
+    /// The number of bytes that the session holds of a varint whose last byte was not fed yet, 0 to
+    /// 9. Takes no memory.
     pub fn held(&self) -> usize
         ensures held { (bytes : List ℕ) (gs : List Tree) → Stands bytes gs self.now
             → HeldOf (session_limits self.now) bytes gs result }
@@ -282,7 +284,8 @@ impl Session {
         self.engine.held()
     }
 
-    /// The number of geometries whose header was begun and whose end did not come. Takes no memory.
+    /// The number of open geometries: their type byte was fed, and their end was not. It is 0
+    /// between two blobs, and at most one more than the limit of nesting. Takes no memory.
     pub fn frames(&self) -> usize
         ensures open { (bytes : List ℕ) (gs : List Tree) → Stands bytes gs self.now
             → FramesOf (session_limits self.now) bytes gs result }

@@ -33,14 +33,14 @@ impl Spans {
         Spans::from_vec(Vec::new(alloc))
     }
 
-    /// Forgets all spans, and keeps their room for others. Takes no memory.
+    /// Forgets all spans, and keeps their memory for others. Takes no memory.
     pub fn clear(&mut self)
         ensures { self.new ≡ [] }
     {
         self.notes.restart();
     }
 
-    /// Makes the list of these spans, in the memory of the vector. Takes no memory.
+    /// Makes a list of the spans in a vector, whose memory it keeps. Takes no memory.
     pub fn from_vec(items: Vec<Span>) -> Spans
         ensures { result ≡ items.items }
     {
@@ -53,14 +53,14 @@ impl Spans {
         }
     }
 
-    /// Returns the vector of the spans. Takes no memory.
+    /// Gives up the list, and returns the vector of its spans. Takes no memory.
     pub fn into_vec(self) -> Vec<Span>
         ensures { result.items ≡ self }
     {
         self.notes.spans
     }
 
-    /// The spans. Takes no memory.
+    /// The spans of the list as a slice. Takes no memory.
     pub fn as_slice(&self) -> &[Span]
         ensures { result.now ≡ self.now }
     {
@@ -96,7 +96,7 @@ impl Model for OpenSpans {
     ghost view = { λ o. record { spans = o.spans.items; begun = reverse o.begun.items } };
 }
 
-// Sets the metadata byte of the span at this place, if there is one.
+// Sets the metadata byte of the span at this index; changes nothing if there is no such span.
 fn set_metadata(spans: &mut Vec<Span>, index: usize, metadata: u8)
     ensures { spans.new.items ≡ changed_at index (λ s. record s { metadata = metadata }) spans.old.items }
 {
@@ -105,9 +105,9 @@ fn set_metadata(spans: &mut Vec<Span>, index: usize, metadata: u8)
     }
 }
 
-// Sets the length of the span at this place, if there is one, and replaces its `points`, so far the
-// number of points of the blob before its geometry, by the number of points of the geometry. The
-// geometry ends at this offset, after this many points of the blob.
+// Sets the length of the span at this index, whose geometry ends at this offset of the stream,
+// after this many points of its blob, and turns its `points`, those of the blob before the
+// geometry, into the number of the geometry's own. Changes nothing if there is no such span.
 fn set_end(spans: &mut Vec<Span>, index: usize, offset: u64, points: u64)
     ensures { spans.new.items ≡ changed_at index (measured offset points) spans.old.items }
 {
@@ -133,8 +133,8 @@ impl SpanNotes for OpenSpans {
 
     ghost holds = { λ o w. o ≡ w };
 
-    // Adds an open span, whose geometry begins at this offset, after this many points of the blob.
-    // After an `Err` a span may be left that is not open.
+    // Adds an open span, whose geometry begins at this offset of the stream, after this many points
+    // of its blob. After an `Err` a span may be left that is not open.
     #[inline(always)]
     fn begin(&mut self, offset: u64, points: u64, byte: TypeByte) -> Result<(), AllocError> {
         let level = self.begun.len().min(u32::MAX as usize) as u32;
@@ -163,8 +163,8 @@ impl SpanNotes for OpenSpans {
         }
     }
 
-    // Closes the innermost open span, and sets its length and its number of points; changes nothing
-    // if none is open.
+    // Closes the innermost open span, and sets its length and the number of its geometry's points;
+    // changes nothing if none is open.
     #[inline(always)]
     fn end(&mut self, offset: u64, points: u64) {
         if let Some(place) = self.begun.pop() {
@@ -172,7 +172,7 @@ impl SpanNotes for OpenSpans {
         }
     }
 
-    // Adds a span that is not open.
+    // Adds a complete span, which is not open; an `Err` changes nothing.
     #[inline(always)]
     fn put(&mut self, span: Span) -> Result<(), AllocError> {
         self.spans.reserve(1)?;

@@ -22,7 +22,7 @@ pub struct StreamRoom {
 }
 
 impl StreamRoom {
-    /// Makes room that has not grown yet. Takes no memory.
+    /// Makes an empty room, which grows when a `StreamReader` reads into it. Takes no memory.
     pub fn new(alloc: Global) -> StreamRoom {
         StreamRoom {
             session: Session::new(alloc, Limits::standard()),
@@ -30,9 +30,9 @@ impl StreamRoom {
     }
 }
 
-/// The blobs of an input, one after another, read into borrowed room, whose session is fed the bytes
-/// that the input holds, and keeps the rows of the last one. It is the quickest way through a whole
-/// stream; a `Reader` gives a geometry, or rows in a form of the caller's.
+/// The blobs of an input, one after another, of which a borrowed room keeps the rows of the last
+/// one. It is the quickest way through a whole stream; a `Reader` gives a geometry, or rows in a
+/// form of the caller's.
 #[derive(Drop)]
 pub struct StreamReader<'a, 'b, R: Read> {
     reader: Reader<'a, R>,
@@ -45,8 +45,8 @@ impl<'a, 'b, R: Read> StreamReader<'a, 'b, R> {
     ghost use Rattle.twkb_blob.specs.Located.{ReadsSpans};
     ghost use Rattle.twkb_blob.specs.StreamReaders.{reader_in, rows_in};
 
-    /// Makes a reader of what the input still has, which reads nothing yet, and forgets the rows in
-    /// the room. The limits are those of each geometry. Takes no memory.
+    /// Makes a reader of what the input still has, which has read nothing, and forgets the rows in
+    /// the room. It refuses a geometry past the limits when it reads it. Takes no memory.
     #[inline(always)]
     pub fn new(
         input: Input<'a, R>,
@@ -66,22 +66,21 @@ impl<'a, 'b, R: Read> StreamReader<'a, 'b, R> {
         }
     }
 
-    /// Reads the next geometry, and returns whether there was one. Its blob leaves the input, and
-    /// no further byte does. Its rows are in `rows` until the next call; after a false and after an
-    /// `Err` there are none. An `Err` is as with `Reader::next`. After an `Err` each call returns
-    /// `Spent`, and after the end each call returns false; neither reads. It takes memory for rows,
-    /// points, ids and open collections past its room, and none for a further geometry once there
-    /// is room for it.
+    /// Reads the next geometry, whose blob alone leaves the input, and returns whether there was
+    /// one. `rows` gives its rows until the next call, and none after a false or an `Err`. An `Err`
+    /// is as with `Reader::next`; after it each call returns `Spent`, and after the end false;
+    /// neither reads. Takes memory for rows, points, ids and open collections past the room that
+    /// there is.
     pub fn next(&mut self) -> Result<bool, BlobFault>
         ensures { ReadsRows (reader_in self.old) (reader_in self.new) result (rows_in self.new) }
     {
         self.room.session.feed_from(&mut self.reader, &mut NoSpans)
     }
 
-    /// Reads the next geometry as `next` does, and replaces what the list holds by the spans of its
+    /// Reads the next geometry as `next` does, and replaces the spans in the list by those of its
     /// headers, which are those that `Reader::next_located` gives. After a false and after an `Err`
-    /// the list is empty, and so are the rows. It takes memory as `next` does, and for spans past
-    /// the room of the list.
+    /// the list is empty, and so are the rows. Takes memory as `next` does, and for spans past the
+    /// room of the list.
     pub fn next_spans(&mut self, spans: &mut Spans) -> Result<bool, BlobFault>
         ensures { ReadsSpans (reader_in self.old) (reader_in self.new) result (rows_in self.new) spans.new }
     {
@@ -97,8 +96,8 @@ impl<'a, 'b, R: Read> StreamReader<'a, 'b, R> {
         found
     }
 
-    /// The rows of the geometry that the last call read, or none if it read none, in a form that
-    /// gives the points of each as a slice. Takes no memory.
+    /// The rows of the geometry that the last call read, none if it read none, in a form that gives
+    /// the points of each row as a slice. Takes no memory.
     pub fn rows(&self) -> &Rows
         ensures { result.now.flat ≡ rows_in self.now }
     {

@@ -1,4 +1,4 @@
-//! The parts of a number of 64 bits (IEEE 754-2019, 3.4, binary64).
+//! The parts of a double, given as the number that its 64 bits are (IEEE 754-2019, 3.4, binary64).
 ghost use Rattle.std.specs.Prelude.{◌≡◌, ◌^◌, ◌<◌, ◌≤◌, SomeIff};
 ghost use Rattle.twkb_points.specs.Point.{IsCoordinate};
 ghost use Rattle.twkb_buffer.specs.Binary64.{exponent, exponent_field, significand, with_sign};
@@ -17,14 +17,15 @@ const SIGN_BIT: u64 = 1 << 63;
 // The exponent of an infinity, and of what is no number.
 pub(crate) const NOT_FINITE: u64 = EXPONENTS - 1;
 
-// The eleven bits of the exponent.
+// The eleven bits of a double's exponent; `NOT_FINITE` if the double is an infinity or NaN.
 pub(crate) fn exponent_field(number: u64) -> u64
     ensures { result ≡ exponent_field number }
 {
     (number / LEADING_BIT) % EXPONENTS
 }
 
-// The whole number that is multiplied by a power of two.
+// The significand of a double as a whole number below 2^53: the size of a finite double is its
+// significand times 2^(exponent - 1075).
 pub(crate) fn significand(number: u64) -> u64
     ensures value { result ≡ significand number }
     ensures fits { result < 2 ^ 53 }
@@ -38,7 +39,8 @@ pub(crate) fn significand(number: u64) -> u64
     }
 }
 
-// The exponent of that power of two, and 1075 more.
+// The exponent of a double plus 1075: 1 or more, and below 2^11. The size of a finite double is its
+// significand times 2^(exponent - 1075).
 pub(crate) fn exponent(number: u64) -> u64
     ensures value { result ≡ exponent number }
     ensures fits { result < 2 ^ 11 }
@@ -46,7 +48,8 @@ pub(crate) fn exponent(number: u64) -> u64
     exponent_field(number).max(1)
 }
 
-// A size with the sign of a number, if it is in the range of a coordinate.
+// The coordinate that has this size and the sign of a double; `None` if that is not in the range of
+// a coordinate, -2^62 to 2^62 - 1.
 pub(crate) fn with_sign(number: u64, size: u64) -> Option<i64>
     ensures { SomeIff result (IsCoordinate (with_sign number size)) (with_sign number size) }
 {

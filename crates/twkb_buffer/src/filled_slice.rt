@@ -12,8 +12,9 @@ use std::alloc::Global;
 use std::mem;
 use twkb_convert::{Conversion, ConvertFault, Limits, Report, Tap, convert};
 
-// Converts a slice into the slice of a fresh filler. During the call the filler belongs to the
-// tap; then it is moved back, so that the caller can prove that it still holds the same borrow.
+// Converts a slice into the slice of a filler, which must have filled nothing, as far as there is
+// room. During the call the filler belongs to the tap; then it is moved back, so that the caller
+// can prove that it still holds the same borrow.
 fn run_into(
     alloc: Global,
     what: Conversion,
@@ -34,7 +35,8 @@ fn run_into(
     answer
 }
 
-// Converts a slice into another, as far as there is room; also returns whether the other is full then.
+// Converts a slice into another, from its start on and as far as there is room. Returns the result
+// of the conversion, `WriteDevice` if the room ended, and whether the other slice is full.
 fn fill_front(
     alloc: Global,
     what: Conversion,
@@ -50,8 +52,8 @@ fn fill_front(
     (answer, filler.is_full())
 }
 
-// Sets `needed` to the length of the whole output if the slice is full and that length is more than
-// its room, else to 0. A length that is not known is 0.
+// The report with `needed` set to `whole`, the length of the whole output, if the slice is full and
+// `whole` is more than its room; else to 0. A length that is not known is 0.
 fn with_needed(report: BufferReport, whole: u64, is_full: bool, room: usize) -> BufferReport
     ensures same { result ≡ record report { needed = result.needed } }
     ensures only { result.needed ≢ 0 → (is_full ≡ true) × (room < result.needed) × (result.needed ≡ whole) }
@@ -65,8 +67,9 @@ fn with_needed(report: BufferReport, whole: u64, is_full: bool, room: usize) -> 
     BufferReport { needed, ..report }
 }
 
-/// Converts a slice into another, as far as there is room. If there is too little, it measures the
-/// conversion to report the size needed. Takes memory for one geometry.
+/// Converts a slice into another, from its start on and as far as there is room. If there is too
+/// little, reports status 5, and converts again without an output, to report the size needed, or 0
+/// if that is not known. Takes memory for one geometry.
 pub fn fill(
     alloc: Global,
     what: Conversion,

@@ -17,7 +17,7 @@ pub(crate) struct Filler<'a> {
 impl<'a> Filler<'a> {
     ghost use Rattle.twkb_buffer.specs.Fillers.{buffer_of, filled_of};
 
-    // Makes a writer that has filled nothing.
+    // Makes a writer into a slice, of which it has filled nothing.
     pub(crate) fn new(buffer: &'a mut [u8]) -> Filler<'a>
         ensures same_buffer { (buffer_of result).ghost_name ≡ buffer.entry.ghost_name }
         ensures untouched { (buffer_of result).now ≡ buffer.old }
@@ -26,7 +26,7 @@ impl<'a> Filler<'a> {
         Filler { buffer, filled: 0 }
     }
 
-    // Whether no room is left.
+    // Whether the whole slice is filled.
     pub(crate) fn is_full(&self) -> bool
         ensures { (result ≡ true) ↔ (filled_of self.now ≡ length (buffer_of self.now).now) }
     {
@@ -34,7 +34,8 @@ impl<'a> Filler<'a> {
     }
 }
 
-// Copies bytes into a slice from a place on, as many as fit, and returns their number.
+// Copies bytes into a slice from the place `start` on, as many as fit, and returns their number.
+// `start` must be at most the slice's length.
 fn copy_at(start: usize, from: &[u8], to: &mut [u8]) -> usize
     requires { start ≤ length to.old }
     ensures given { result ≤ length from.now }

@@ -1,4 +1,5 @@
-//! Whole numbers nearest to fractions.
+//! Whole numbers nearest to fractions. If two are equally near, the result is the smaller one if
+//! `less` is 1, and the greater one if it is 0; `less` must be one of these.
 ghost use Rattle.std.specs.Prelude.{◌+◌, ◌-◌, ◌*◌, ◌%◌, ◌^◌, ◌<◌, ◌≤◌, SomeIff};
 ghost use Rattle.twkb_points.specs.declared.point.TheConstants.{COORDINATE_BOUND};
 ghost use Rattle.twkb_buffer.specs.Fractions.{FindsNearest, IsNearest};
@@ -18,14 +19,15 @@ const MOST_PLACES: u64 = 80;
 // A number over a power of two of more places than these is less than a half.
 const MOST_QUOTIENT_PLACES: u64 = 64;
 
-// A number with the leading bit of a significand that is multiplied by a greater power of two is beyond all
-// coordinates.
+// A number with the leading bit of a significand that is multiplied by a greater power of two is
+// beyond all coordinates.
 const GREATEST_POWER: u64 = 10;
 
 // Likewise if it is then divided.
 const GREATEST_QUOTIENT_POWER: u64 = 36;
 
-// The whole number nearest to a fraction; of two the smaller if `less` is 1.
+// The whole number nearest to `above / below`. `below` must be 1 to 2^27, and `2 * above + below`
+// must be below 2^64.
 fn rounded_quotient(above: u64, below: u64, less: u64) -> u64
     requires positive { 0 < below }
     requires below { below ≤ 2 ^ 27 }
@@ -36,8 +38,8 @@ fn rounded_quotient(above: u64, below: u64, less: u64) -> u64
     (2 * above + below - less) / (2 * below)
 }
 
-// The product, if it is not beyond the coordinates. A division tests it: WebAssembly has no product
-// of more than 64 bits.
+// The product of two numbers, the second of which must not be 0; `None` if it is above 2^62. A
+// division tests it: WebAssembly has no product of more than 64 bits.
 fn product(one: u64, other: u64) -> Option<u64>
     requires { 0 < other }
     ensures { SomeIff result (one * other ≤ COORDINATE_BOUND) (one * other) }
@@ -49,7 +51,9 @@ fn product(one: u64, other: u64) -> Option<u64>
     }
 }
 
-// The whole number nearest to a number times a factor over a divisor, one of which is small.
+// The whole number nearest to `number * factor / divisor`; `None` only if it is above 2^62. The
+// factor must not be 0, the divisor must be 1 to 2^27, and `divisor * factor + divisor` at most
+// 2^63.
 fn large(number: u64, factor: u64, divisor: u64, less: u64) -> Option<u64>
     requires some { 0 < factor }
     requires positive { 0 < divisor }
@@ -64,7 +68,8 @@ fn large(number: u64, factor: u64, divisor: u64, less: u64) -> Option<u64>
     Some(whole + rounded_quotient((number % divisor) * factor, divisor, less))
 }
 
-// The whole number nearest to a product over a power of two above 2^27.
+// The whole number nearest to `number * factor / 2^places`. The number must be below 2^54, the
+// factor 1 to 10^7, and `places` 28 to 80; `less` must be 0 if the number is even.
 fn small_product(number: u64, factor: u64, places: u64, less: u64) -> u64
     requires number { number < 2 ^ 54 }
     requires positive { 0 < factor }
@@ -79,7 +84,8 @@ fn small_product(number: u64, factor: u64, places: u64, less: u64) -> u64
     ((high >> (places - LOW_BITS - 1)) + 1) >> 1
 }
 
-// The whole number nearest to a number over a power of two and a divisor.
+// The whole number nearest to `number / (2^places * divisor)`. The number must be below 2^54, the
+// divisor 1 to 10^8, and `places` 1 to 64; `less` must be 0 if the number is even.
 fn small_quotient(number: u64, divisor: u64, places: u64, less: u64) -> u64
     requires number { number < 2 ^ 54 }
     requires positive { 0 < divisor }
@@ -92,8 +98,9 @@ fn small_quotient(number: u64, divisor: u64, places: u64, less: u64) -> u64
     (((number - less) >> (places - 1)) + divisor) / (2 * divisor)
 }
 
-// The whole number nearest to a number times a power of two and a factor; if it is odd and `less` is
-// 1, of two the smaller.
+// The whole number nearest to `number * 2^(exponent - 1075) * factor`; `None` only if it is above
+// 2^62. The number must be below 2^54, and 2^52 at least if the exponent is above 1; the factor
+// must be 1 to 10^7; `less` must be 0 if the number is even.
 pub(crate) fn multiplied(number: u64, exponent: u64, factor: u64, less: u64) -> Option<u64>
     requires number { number < 2 ^ 54 }
     requires leading { 1 < exponent → 2 ^ 52 ≤ number }
@@ -117,7 +124,9 @@ pub(crate) fn multiplied(number: u64, exponent: u64, factor: u64, less: u64) -> 
     large(number, factor << (exponent - WHOLE), 1, less)
 }
 
-// The whole number nearest to a number times a power of two over a divisor, in the same way.
+// The whole number nearest to `number * 2^(exponent - 1075) / divisor`; `None` only if it is above
+// 2^62. The number must be below 2^54, and 2^52 at least if the exponent is above 1; the divisor
+// must be 1 to 10^8; `less` must be 0 if the number is even.
 pub(crate) fn divided(number: u64, exponent: u64, divisor: u64, less: u64) -> Option<u64>
     requires number { number < 2 ^ 54 }
     requires leading { 1 < exponent → 2 ^ 52 ≤ number }

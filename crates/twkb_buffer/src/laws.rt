@@ -6,8 +6,8 @@ ghost use lib.Ieee.Exact.{HasValue};
 ghost use Rattle.twkb_buffer.specs.Binary64.{IsFinite, exponent, significand};
 ghost use Rattle.twkb_buffer.specs.RoundedNumbers.{IsUnit};
 
-/// The parts of a finite number's bits are the sign and the size of the double with these bits, and
-/// no other bits are those of a finite double.
+/// Bits of which `IsFinite` holds are those of the double with their sign, significand and
+/// exponent; all other bits are those of no finite double.
 pub fn a_double_has_its_parts()
     ensures finite { (bits : ℕ) → IsFinite bits → HasValue (of_bits binary64 bits) (nat_le (2 ^ 63) bits)
         (significand bits * 2 ^ (exponent bits - 1075)) (2 ^ (1075 - exponent bits)) }
@@ -15,7 +15,7 @@ pub fn a_double_has_its_parts()
         → of_bits binary64 bits ≢ fin sign m e }
 {}
 
-/// A number is rounded to only one coordinate.
+/// At one scale a double is rounded to at most one coordinate.
 pub fn one_unit()
     ensures { (factor divisor number : ℕ) (m n : ℤ) → IsUnit factor divisor number m
         → IsUnit factor divisor number n → m ≡ n }

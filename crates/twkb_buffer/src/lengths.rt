@@ -8,7 +8,8 @@ use std::alloc::Global;
 use std::io;
 use twkb_convert::{Cause, Conversion, ConvertFault, Limits, Report, Tap, convert};
 
-// Converts a slice and counts the output without keeping it.
+// Converts a slice, drops the output, and returns the result of the conversion, with the number of
+// bytes that the output has.
 fn count_output(
     alloc: Global,
     what: Conversion,
@@ -22,7 +23,8 @@ fn count_output(
     convert(alloc, what, &mut reader, &mut writer, limits)
 }
 
-// The length of the whole output, if the answer counted it; a refused input has one too.
+// The length in bytes of the whole output of a conversion with this result: of all input, or of
+// what is before a refused record or item; `None` if the conversion stopped for another cause.
 fn whole_length(answer: Result<Report, ConvertFault>) -> Option<u64>
     ensures { result ≡ whole_length_of answer }
 {
@@ -35,7 +37,8 @@ fn whole_length(answer: Result<Report, ConvertFault>) -> Option<u64>
     }
 }
 
-// The report for a caller who asked for the length.
+// The report of a conversion whose output was only counted, and which had this result: `sent` is 0,
+// and `needed` is the length of the whole output, or 0 if that is not known.
 fn measured(answer: Result<Report, ConvertFault>) -> BufferReport
     ensures { MeasuresBy answer result }
 {
@@ -52,7 +55,8 @@ fn measured(answer: Result<Report, ConvertFault>) -> BufferReport
 }
 
 /// Reports what a conversion would write, without writing it: `needed` is the length of its whole
-/// output, or 0 if that is not known. Takes memory for one geometry.
+/// output in bytes, also if the input is refused, or 0 if that is not known. Takes memory for one
+/// geometry.
 pub fn measure(alloc: Global, what: Conversion, input: &[u8], limits: Limits) -> BufferReport
     ensures { MeasuresOutput what limits input.now result }
 {

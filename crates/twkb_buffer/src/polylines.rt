@@ -11,7 +11,7 @@ use std::alloc::{AllocError, Global};
 use twkb_points::{PointTail, Pt};
 use twkb_polyline::{PolyFault, PolyReason, decode, encode};
 
-/// The point with these coordinates; `None` if they are out of range. Takes no memory.
+/// The point with these coordinates; `None` if one is outside -2^62 to 2^62 - 1. Takes no memory.
 #[inline(always)]
 pub fn as_point(coordinates: &BufferPoint) -> Option<Pt>
     ensures range { IsSome result ↔ IsInRange (point_at coordinates.now.x coordinates.now.y) }
@@ -21,7 +21,8 @@ pub fn as_point(coordinates: &BufferPoint) -> Option<Pt>
     Pt::try_new(coordinates.x, coordinates.y)
 }
 
-// The points with these coordinates, or the place of the first that is out of range.
+// The points with these coordinates. Takes memory. An `Err` is `Memory`, or `At` with the index of
+// the first point that is out of range, counted from 0, as its offset.
 fn points_at(alloc: Global, given: &[BufferPoint]) -> Result<Vec<Pt>, PolyFault>
     ensures points { IfOk result (λ points. ArePoints given.now points.items) }
     ensures refused { IfErr result (IsRefusedPoint given.now) }
@@ -39,7 +40,7 @@ fn points_at(alloc: Global, given: &[BufferPoint]) -> Result<Vec<Pt>, PolyFault>
     Ok(points)
 }
 
-/// The coordinates of a point. Takes no memory.
+/// The coordinates of a point, in C's layout. Takes no memory.
 #[inline(always)]
 pub fn as_coordinates(point: Pt) -> BufferPoint
     ensures { result ≡ coordinates_at point }
@@ -50,7 +51,7 @@ pub fn as_coordinates(point: Pt) -> BufferPoint
     }
 }
 
-// The coordinates of points.
+// The coordinates of points, in C's layout, in a vector that it makes. Takes memory.
 fn coordinates(alloc: Global, points: &[Pt]) -> Result<Vec<BufferPoint>, AllocError>
     ensures { IfOk result (λ coordinates. coordinates.items ≡ coordinates_of points.now) }
 {
@@ -61,7 +62,8 @@ fn coordinates(alloc: Global, points: &[Pt]) -> Result<Vec<BufferPoint>, AllocEr
     Ok(coordinates)
 }
 
-// The report of a call that wrote nothing.
+// The report of a call that wrote nothing, with this status and this size needed, and 0 for all
+// else.
 pub(crate) fn nothing_put(status: u32, needed: u64) -> BufferReport
     ensures { result ≡ nothing_report status needed }
 {
@@ -76,7 +78,8 @@ pub(crate) fn nothing_put(status: u32, needed: u64) -> BufferReport
     }
 }
 
-// Copies a list to the start of a slice, if there is room for all of it.
+// Copies a list to the start of a slice, if there is room for all of it, and reports status 0; else
+// writes nothing, and reports status 5. `needed` is the length of the list in both cases.
 fn put_whole<T: Copy>(whole: &[T], output: &mut [T]) -> BufferReport
     ensures { Puts whole.now output.old output.new result }
 {
@@ -92,9 +95,10 @@ fn put_whole<T: Copy>(whole: &[T], output: &mut [T]) -> BufferReport
     }
 }
 
-/// Writes the encoded polyline of points into a slice, if there is room for all of it. A
-/// refusal's place is that of the first point out of range, counted from 0. Takes memory for the
-/// points and the text.
+/// Writes the encoded polyline of points to the start of a slice, if there is room for all of it;
+/// else writes nothing, and reports status 5 and the bytes needed. If a point is out of range,
+/// reports status 1, and as the place the index of the first such point, counted from 0; if memory
+/// is refused, status 4. Takes memory for the points and the text.
 pub fn fill_polyline(alloc: Global, given: &[BufferPoint], output: &mut [u8]) -> BufferReport
     ensures { EncodesSlice given.now output.old output.new result }
 {
@@ -115,8 +119,10 @@ pub fn fill_polyline(alloc: Global, given: &[BufferPoint], output: &mut [u8]) ->
     }
 }
 
-/// Writes the points of an encoded polyline into a slice, if there is room for all of them. Takes
-/// memory for the points, twice.
+/// Writes the points of an encoded polyline to the start of a slice, if there is room for all of
+/// them; else writes nothing, and reports status 5 and the number of points. If the text is
+/// refused, reports status 1, the reason and the offset in the text; if memory is refused, status
+/// 4. Takes memory for the points, twice.
 pub fn fill_points(alloc: Global, text: &[u8], output: &mut [BufferPoint]) -> BufferReport
     ensures { DecodesSlice text.now output.old output.new result }
 {

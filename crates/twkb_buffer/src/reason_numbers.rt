@@ -23,7 +23,7 @@ pub(crate) const MEMORY: u32 = 4;
 // The output is too small.
 pub(crate) const TOO_SMALL: u32 = 5;
 
-// The reasons for which a polyline is refused are numbered from 21 to 27.
+// The number of the reason for which a polyline is refused, 21 to 27.
 pub(crate) fn point_text_number(reason: PolyReason) -> u32
     ensures { result ≡ point_text_number_of reason }
 {
@@ -38,8 +38,8 @@ pub(crate) fn point_text_number(reason: PolyReason) -> u32
     }
 }
 
-/// The number of the reason for which a record is refused, 1 to 16 but for 15: a fault of the
-/// record's polyline has that fault's own number, 21 to 27. Takes no memory.
+/// The number of the reason for which a record is refused, 1 to 14 or 16; if its polyline is
+/// refused, the number of the reason for that, 21 to 27. Takes no memory.
 pub fn row_number(reason: RowReason) -> u32
     ensures { result ≡ row_number_of reason }
 {
@@ -80,7 +80,8 @@ pub fn blob_number(reason: BlobReason) -> u32
     }
 }
 
-// The number of a cause's reason; 0 if the input is not refused.
+// The number of the reason for which a record or a blob is refused; 61 if the input or the output
+// is too long, 62 if there are too many records, and 0 for any other cause.
 pub(crate) fn reason_number(cause: Cause) -> u32
     ensures { result ≡ reason_number_of cause }
 {
@@ -93,7 +94,9 @@ pub(crate) fn reason_number(cause: Cause) -> u32
     }
 }
 
-// The status of a conversion that stopped.
+// The status of a conversion into a slice that stopped for this cause: 1 if the input is refused,
+// or input or output is too long, 3 if a read failed, 4 if memory was refused, and 5 if a write
+// failed, since the slice is then full.
 pub(crate) fn status(cause: Cause) -> u32
     ensures { result ≡ status_of cause }
 {
@@ -105,7 +108,8 @@ pub(crate) fn status(cause: Cause) -> u32
     }
 }
 
-// The number of the refused record, or the offset of the refused item; 0 for any other cause.
+// The number of the refused record, from 1, or the offset of the refused item, in bytes from the
+// stream's start; 0 for any other cause.
 pub(crate) fn place(cause: Cause) -> u64
     ensures { result ≡ place_of cause }
 {
@@ -116,8 +120,8 @@ pub(crate) fn place(cause: Cause) -> u64
     }
 }
 
-// The offset at which a record's polyline is refused, in bytes from the polyline's start; 0 if it
-// is not.
+// The offset at which a record's polyline is refused, in bytes from the polyline's start; 0 if
+// another part of the record is refused.
 fn row_text_offset(reason: RowReason) -> u64
     ensures { result ≡ row_text_offset_of reason }
 {
@@ -127,7 +131,8 @@ fn row_text_offset(reason: RowReason) -> u64
     }
 }
 
-// The offset at which a cause's polyline is refused; 0 if none is.
+// The offset at which a refused record's polyline is refused, in bytes from the polyline's start; 0
+// for any other cause.
 pub(crate) fn text_offset(cause: Cause) -> u64
     ensures { result ≡ text_offset_of cause }
 {

@@ -8,7 +8,8 @@ ghost use Rattle.twkb_buffer.specs.Texts.{array_words, with_text};
 
 use twkb_convert::{BlobReason, Cause, PolyReason, RowReason, VERSION};
 
-// The reason with this number for which a polyline is refused.
+// The reason with this number for which a polyline is refused; `None` for a number outside 21 to
+// 27.
 fn point_text_reason(number: u32) -> Option<PolyReason>
     ensures some { IfSome result (λ reason. (point_text_number_of reason ≡ number) × (number ≢ 0)) }
     ensures none { IsNone result → NamesNoPointText number }
@@ -25,7 +26,8 @@ fn point_text_reason(number: u32) -> Option<PolyReason>
     }
 }
 
-// The reason with this number for which a record is refused, but for its polyline.
+// The reason with this number for which a record is refused, if that is not its polyline; `None`
+// for a number other than 1 to 14 and 16.
 fn row_reason(number: u32) -> Option<RowReason>
     ensures some { IfSome result (λ reason. (row_number_of reason ≡ number) × (number ≢ 0)) }
     ensures none { IsNone result → NamesNoRow number }
@@ -50,7 +52,7 @@ fn row_reason(number: u32) -> Option<RowReason>
     }
 }
 
-// The reason with this number for which a blob is refused.
+// The reason with this number for which a blob is refused; `None` for a number outside 41 to 49.
 fn blob_reason(number: u32) -> Option<BlobReason>
     ensures some { IfSome result (λ reason. (blob_number_of reason ≡ number) × (number ≢ 0)) }
     ensures none { IsNone result → NamesNoBlob number }
@@ -69,7 +71,8 @@ fn blob_reason(number: u32) -> Option<BlobReason>
     }
 }
 
-// A cause whose reason has this number, with 0 for each place.
+// A cause whose reason has this number, with 0 for each place; `None` if no cause has such a
+// reason.
 #[tactic(auto, using(crate::proofs::TextLemmas::no_cause))]
 fn cause_of(number: u32) -> Option<Cause>
     ensures some { IfSome result (HasReason number) }
@@ -92,8 +95,8 @@ fn cause_of(number: u32) -> Option<Cause>
     }
 }
 
-// The words of the reason with this number for which rows and points in arrays are refused; none if
-// it is no such reason.
+// The words of the reason with this number, 71 or 72, for which rows and points in arrays are
+// refused; the empty text for any other number.
 fn array_words(number: u32) -> &'static str
     ensures words { result.now ≡ array_words number }
     ensures short { length result.now ≤ 31 }
@@ -105,7 +108,7 @@ fn array_words(number: u32) -> &'static str
     }
 }
 
-// The words of the reason with this number; none if there is no such reason.
+// The words of the reason with this number, at most 31 bytes; the empty text if no reason has it.
 #[tactic(auto, using(crate::proofs::TextLemmas::named, crate::proofs::TextLemmas::unnamed))]
 fn words_of(number: u32) -> &'static str
     ensures words { AreWordsOf number result.now }
@@ -117,7 +120,8 @@ fn words_of(number: u32) -> &'static str
     }
 }
 
-// Copies a text and a zero byte after it into a buffer, as far as there is room for both.
+// Copies a text, cut if there is too little room, and after it a zero byte, to the start of a
+// buffer; an empty buffer stays as it is.
 fn put(words: &[u8], text: &mut [u8])
     ensures { text.new ≡ with_text words.now text.old }
 {
@@ -129,9 +133,10 @@ fn put(words: &[u8], text: &mut [u8])
     text[..count].copy_from_slice(&words[..count]);
 }
 
-/// Copies the text of a reason and a zero byte into a buffer, cut if there is too little room,
-/// and returns its full length without that byte. A number that no reason has gives the empty
-/// text.
+/// Copies the text of the reason with this number, cut if there is too little room, and after it a
+/// zero byte, to the start of a buffer; an empty buffer stays as it is. Returns the length of the
+/// whole text without the zero byte, at most 31. A number that no reason has gives the empty text.
+/// Takes no memory.
 pub fn put_reason(reason: u32, text: &mut [u8]) -> usize
     ensures { PutsText (AreWordsOf reason) text.old text.new result }
 {
@@ -140,8 +145,9 @@ pub fn put_reason(reason: u32, text: &mut [u8]) -> usize
     words.len()
 }
 
-/// Copies the version of the command and of the library, and a zero byte, into a buffer, cut if
-/// there is too little room, and returns its full length without that byte.
+/// Copies the version of the command and of the library, cut if there is too little room, and after
+/// it a zero byte, to the start of a buffer; an empty buffer stays as it is. Returns the length of
+/// the whole text without the zero byte. Takes no memory.
 pub fn put_version(text: &mut [u8]) -> usize
     ensures { PutsText (λ words. words ≡ version_text) text.old text.new result }
 {

@@ -5,23 +5,25 @@ ghost use Rattle.twkb_buffer.specs.Reports.{Tells};
 use crate::reason_numbers::{DONE, place, reason_number, status, text_offset};
 use twkb_convert::{ConvertFault, Report};
 
-/// The result of a call.
+/// The result of a call that converts, measures or rounds.
 #[repr(C)]
 #[derive(Clone, Copy, Debug, PartialEq, Eq)]
 pub struct BufferReport {
-    /// 0: everything was converted. 1: the input is refused. 2: limits, style or conversion
-    /// are refused. 3: the input could not be read. 4: no memory. 5: the output is too small.
+    /// 0: everything was converted. 1: the input is refused. 2: limits, style, conversion or
+    /// precision are refused. 3: the input could not be read. 4: no memory. 5: the output is too
+    /// small.
     pub status: u32,
     /// The number of the reason for which the input is refused; 0 if it is not.
     pub reason: u32,
-    /// The number of the refused record, from 1, or the offset of the refused item, from 0;
-    /// otherwise 0.
+    /// The number of the refused record, from 1; or the offset of the refused item, or the index of
+    /// the refused row, point or number, from 0; otherwise 0.
     pub place: u64,
-    /// The offset at which a text of points is refused, in bytes from its start; otherwise 0.
+    /// The offset at which a text of points is refused, in bytes from its start; or the index in a
+    /// refused row of its point that is out of range; otherwise 0.
     pub text_offset: u64,
     /// The number of geometries whose output was written, or by `measure` counted, whole.
     pub done: u64,
-    /// The number of bytes written.
+    /// The number of bytes, points or coordinates written.
     pub sent: u64,
     /// From `measure`, the length of the whole output in bytes, or 0 if it is not known. From
     /// `fill`, the number of bytes written; but if the output is too small, the size needed, or 0
@@ -29,7 +31,8 @@ pub struct BufferReport {
     pub needed: u64,
 }
 
-// Makes the report of a conversion that reached its end.
+// The report of a conversion that reached its end: status 0, and its numbers of geometries and
+// bytes; `needed` is the number of bytes too.
 pub(crate) fn finished(report: Report) -> BufferReport
     ensures { result ≡ record {
       status = 0;
@@ -52,7 +55,8 @@ pub(crate) fn finished(report: Report) -> BufferReport
     }
 }
 
-// Makes the report of a conversion that stopped.
+// The report of a conversion that stopped: the status, the reason and the places of its cause, and
+// its numbers of geometries and bytes; `needed` is the number of bytes too.
 pub(crate) fn stopped(fault: ConvertFault) -> BufferReport
     ensures told { Tells result fault.cause }
     ensures done { result.done ≡ fault.done }

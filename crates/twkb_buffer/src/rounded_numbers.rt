@@ -1,4 +1,5 @@
-//! Numbers as coordinates in an array.
+//! Doubles rounded to coordinates in an array. Each double is given by its 64 bits, its `number`; a
+//! scale must be one that `scale_of` gives.
 ghost use Rattle.std.specs.Prelude.{◌≡◌, ◌-◌, ◌*◌, ◌%◌, ◌^◌, ◌<◌, ◌≤◌, length};
 ghost use Rattle.twkb_tree.specs.Tree.{IsPrecision};
 ghost use Rattle.twkb_buffer.specs.Binary64.{IsFinite, exponent, significand};
@@ -19,7 +20,10 @@ use twkb_polyline::PolyReason;
 // A double of fewer units than these that is the nearest to a half counts as that half.
 const SHORT: u64 = 100_000_000_000_000;
 
-// The whole number of units nearest to a number times a power of two.
+// The whole number of units nearest to `number * 2^(exponent - 1075)`, of two the smaller if `less`
+// is 1, else the greater; `None` only if it is above 2^62. The number, here a significand, must be
+// below 2^54, and 2^52 at least if the exponent is above 1; `less` must be 0, or 1 with an odd
+// number.
 fn nearest(number: u64, exponent: u64, scale: Scale, less: u64) -> Option<u64>
     requires scale { IsScale scale }
     requires number { number < 2 ^ 54 }
@@ -34,7 +38,8 @@ fn nearest(number: u64, exponent: u64, scale: Scale, less: u64) -> Option<u64>
     }
 }
 
-// The size of a number that is beyond those whose halves count. Out of line: few numbers are.
+// The whole number of units nearest to the exact size of a double, of two the greater; `None` only
+// if it is above 2^62. Out of line: few doubles are too large for the rule of `halfway_size`.
 #[inline(never)]
 fn exact_size(number: u64, scale: Scale) -> Option<u64>
     requires { IsScale scale }
@@ -43,8 +48,9 @@ fn exact_size(number: u64, scale: Scale) -> Option<u64>
     nearest(significand(number), exponent(number), scale, 0)
 }
 
-// The size of the point halfway to the next double: to each half up to there no double is nearer than
-// the number, and if the half is there, of the two doubles the even one counts.
+// The whole number of units nearest to the point halfway between a double and the next greater one
+// in size; `None` only if it is above 2^62. So a double reaches a half to which no double is
+// nearer; a half just as near to the next double is reached only by the even one of the two.
 fn halfway_size(number: u64, scale: Scale) -> Option<u64>
     requires { IsScale scale }
     ensures { FindsNearest (above_halfway (factor_of scale) number) (below_halfway (divisor_of scale) number)
@@ -59,7 +65,8 @@ fn halfway_size(number: u64, scale: Scale) -> Option<u64>
     )
 }
 
-// The size of a number in units; `None` if it is beyond all coordinates.
+// The size of a double, which must be finite, in whole units, rounded as `round_numbers` says;
+// `None` only if it is above 2^62.
 fn size_of(number: u64, scale: Scale) -> Option<u64>
     requires scale { IsScale scale }
     requires finite { IsFinite number }
@@ -74,7 +81,8 @@ fn size_of(number: u64, scale: Scale) -> Option<u64>
     Some(size)
 }
 
-// The coordinate that a number is rounded to; `None` if there is none.
+// The coordinate to which a double is rounded; `None` if the double is not finite, or the
+// coordinate would be outside -2^62 to 2^62 - 1.
 fn unit_of(number: u64, scale: Scale) -> Option<i64>
     requires { IsScale scale }
     ensures { FindsUnit (factor_of scale) (divisor_of scale) number result }
@@ -86,7 +94,8 @@ fn unit_of(number: u64, scale: Scale) -> Option<i64>
     with_sign(number, size)
 }
 
-// Rounds numbers up to the first that has no coordinate, and returns how many.
+// Rounds doubles into `units`, which must have a place for each, up to the first that has no
+// coordinate, and returns how many it has rounded. Later places stay as they were.
 fn round_front(numbers: &[u64], scale: Scale, units: &mut [i64]) -> usize
     requires scale { IsScale scale }
     requires room { length numbers.now ≤ length units.old }
@@ -101,7 +110,8 @@ fn round_front(numbers: &[u64], scale: Scale, units: &mut [i64]) -> usize
     numbers.len()
 }
 
-// The report of a call that rounded so many numbers of all.
+// The report of a call that rounded the first `count` of `all` doubles: status 0 if those are all,
+// else status 1, and `count` as the place of the one that is refused.
 fn rounded(all: usize, count: usize) -> BufferReport
     ensures { result ≡ rounded_report all count }
 {
@@ -122,10 +132,11 @@ fn rounded(all: usize, count: usize) -> BufferReport
     }
 }
 
-/// Rounds numbers, given by the bits of each, to whole numbers of units of 10^-precision: the
-/// nearest, of two the one farther from 0. Up to 10^14 units a number that is the double nearest to a
-/// half counts as that half. A refusal's place is that of the first number that is not finite, or
-/// whose unit is out of range, counted from 0; the units before it are written. Takes no memory.
+/// Rounds doubles, given by their bits, to whole numbers of units of 10^-precision: the nearest, of
+/// two the one farther from 0. Up to 10^14 units a double that is the nearest one to a half counts
+/// as that half. Status 1: `place` is the index of the first double that is not finite, or whose
+/// unit is out of range; the units before it are written. Nothing is written if the precision is
+/// not from -8 to 7 (status 2), or `units` is shorter than `numbers` (5). Takes no memory.
 pub fn round_numbers(numbers: &[u64], precision: i32, units: &mut [i64]) -> BufferReport
     ensures rounds { IsPrecision precision → length numbers.now ≤ length units.old
         → Rounds precision numbers.now units.old units.new result }

@@ -12,7 +12,8 @@ pub(crate) enum Scale {
     Over(u64),
 }
 
-// The scale that turns numbers into units of 10^-precision; `None` if there is no such precision.
+// The scale that turns numbers into counts of units of 10^-precision; `None` if the precision is
+// not from -8 to 7.
 pub(crate) fn scale_of(precision: i32) -> Option<Scale>
     ensures range { IsNone result ↔ ¬ IsPrecision precision }
     ensures factor { IfSome result (λ scale. factor_of scale ≡ factor_at precision) }

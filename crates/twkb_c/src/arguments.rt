@@ -21,7 +21,7 @@ pub struct BufferLimits {
 }
 
 impl BufferLimits {
-    // Checks the limits; `None` if one is out of its range.
+    // The limits with these numbers; `None` if one is out of its range.
     pub(crate) fn limits(self) -> Option<Limits>
         ensures accepted { IsSome result ↔ IsAllowance (allowance_of self) }
         ensures value { IfSome result (λ limits. limits ≡ allowance_of self) }
@@ -30,7 +30,7 @@ impl BufferLimits {
     }
 }
 
-// The style with a number: 0 is full, 1 is plain.
+// The style with a number: 0 is full, 1 is plain; `None` for any other.
 pub(crate) fn style_of(number: u32) -> Option<Style>
     ensures style { IfSome result (λ style. IsStyleNumber style number) }
     ensures other { IsNone result → (number ≢ 0) × (number ≢ 1) }
@@ -42,7 +42,7 @@ pub(crate) fn style_of(number: u32) -> Option<Style>
     }
 }
 
-// The conversion with a number: 0 packs in this style, 1 unpacks, 2 shows.
+// The conversion with a number: 0 packs in this style, 1 unpacks, 2 shows; `None` for any other.
 pub(crate) fn conversion_of(number: u32, style: Style) -> Option<Conversion>
     ensures some { IfSome result (λ what. IsConversionNumber style what number) }
     ensures other { IsNone result → (number ≢ 0) × (number ≢ 1) × (number ≢ 2) }
@@ -58,7 +58,7 @@ pub(crate) fn conversion_of(number: u32, style: Style) -> Option<Conversion>
 // The status for limits, a style or a conversion that does not exist.
 const ARGUMENTS: u32 = 2;
 
-// The report of refused arguments.
+// The report if an argument is out of range: status 2, and 0 for all else.
 pub(crate) fn refused_arguments() -> BufferReport
     ensures { result ≡ arguments_report }
 {
@@ -73,7 +73,7 @@ pub(crate) fn refused_arguments() -> BufferReport
     }
 }
 
-// The counts of refused arguments.
+// The counts if the limits are out of range: status 2, and 0 for all else.
 pub(crate) fn refused_counts() -> BufferCounts
     ensures { result ≡ arguments_counts }
 {

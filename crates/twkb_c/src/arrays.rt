@@ -12,7 +12,8 @@ use std::alloc::Global;
 use twkb_arrays::{BufferCounts, BufferRow, read_arrays, write_arrays};
 use twkb_buffer::{BufferPoint, BufferReport};
 
-/// Reads a stream into arrays of rows and points.
+/// Reads a stream of blobs into arrays of rows and points, as `read_arrays` does. If the limits are
+/// out of range, the status is 2, and the arrays are as they were. Takes memory for one geometry.
 #[unsafe(no_mangle)]
 pub extern "C" fn polytwkb_read(
     alloc: Global,
@@ -34,6 +35,9 @@ pub extern "C" fn polytwkb_read(
 }
 
 /// Writes arrays of rows and points as a stream.
+/// The style is 0 (full) or 1 (plain), and the report is that of `write_arrays`. If the limits or
+/// the style are out of range, the status is 2, and the output is as it was. Takes memory for one
+/// geometry and its blob.
 #[unsafe(no_mangle)]
 pub extern "C" fn polytwkb_write(
     alloc: Global,

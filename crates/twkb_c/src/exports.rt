@@ -19,7 +19,8 @@ use twkb_buffer::{
 };
 use twkb_tree::{NEST_STANDARD, NODES_CAP, POINTS_CAP};
 
-/// The standard limits: sixteen levels, 2^20 rows and 2^24 points. Takes no memory.
+/// The standard limits: at most 16 collections around a geometry, 2^20 rows and 2^24 points. Takes
+/// no memory.
 #[unsafe(no_mangle)]
 pub extern "C" fn polytwkb_standard_limits() -> BufferLimits
     ensures { allowance_of result ≡ standard_limits }
@@ -31,7 +32,9 @@ pub extern "C" fn polytwkb_standard_limits() -> BufferLimits
     }
 }
 
-/// Packs a table into a buffer.
+/// Packs a table into a buffer, in style 0 (full) or 1 (plain), as `fill` does. If the limits or
+/// the style are out of range, the status is 2, and the buffer is as it was. Takes memory for one
+/// geometry.
 #[unsafe(no_mangle)]
 pub extern "C" fn polytwkb_pack(
     alloc: Global,
@@ -55,7 +58,8 @@ pub extern "C" fn polytwkb_pack(
     fill(alloc, Conversion::Pack(style), input, output, limits)
 }
 
-/// Unpacks a stream into a buffer.
+/// Unpacks a stream into a buffer, as `fill` does. If the limits are out of range, the status is 2,
+/// and the buffer is as it was. Takes memory for one geometry.
 #[unsafe(no_mangle)]
 pub extern "C" fn polytwkb_unpack(
     alloc: Global,
@@ -74,7 +78,8 @@ pub extern "C" fn polytwkb_unpack(
     fill(alloc, Conversion::Unpack, input, output, limits)
 }
 
-/// Shows the headers of a stream in a buffer.
+/// Writes the lines that `show` prints for a stream into a buffer, as `fill` does. If the limits
+/// are out of range, the status is 2, and the buffer is as it was. Takes memory for one geometry.
 #[unsafe(no_mangle)]
 pub extern "C" fn polytwkb_show(
     alloc: Global,
@@ -92,8 +97,10 @@ pub extern "C" fn polytwkb_show(
     fill(alloc, Conversion::Show, input, output, limits)
 }
 
-/// Measures the output of a conversion in bytes: of packing (0) in a style, of unpacking (1) or
-/// of showing (2). Writes nothing.
+/// Measures the output of a conversion in bytes, as `measure` does, and writes nothing: of packing
+/// (0) in style 0 (full) or 1 (plain), of unpacking (1) or of showing (2). If the conversion, the
+/// limits or the style, which is always looked at, are out of range, the status is 2. Takes memory
+/// for one geometry.
 #[unsafe(no_mangle)]
 pub extern "C" fn polytwkb_measure(
     alloc: Global,
@@ -121,7 +128,8 @@ pub extern "C" fn polytwkb_measure(
     }
 }
 
-/// Writes the encoded polyline of points into a buffer.
+/// Writes the encoded polyline of points into a buffer if there is room for all of it, as
+/// `fill_polyline` does. Takes memory for the points and the text.
 #[unsafe(no_mangle)]
 pub extern "C" fn polytwkb_encode(
     alloc: Global,
@@ -133,7 +141,8 @@ pub extern "C" fn polytwkb_encode(
     fill_polyline(alloc, points, text)
 }
 
-/// Writes the points of an encoded polyline into a buffer.
+/// Writes the points of an encoded polyline into an array if there is room for all of them, as
+/// `fill_points` does. Takes memory for the points, twice.
 #[unsafe(no_mangle)]
 pub extern "C" fn polytwkb_decode(
     alloc: Global,
@@ -145,7 +154,8 @@ pub extern "C" fn polytwkb_decode(
     fill_points(alloc, text, points)
 }
 
-/// Rounds numbers of 64 bits to coordinates of a precision. Takes no memory.
+/// Rounds doubles, given by their bits, to coordinates of a precision, in units of 10^-precision,
+/// as `round_numbers` does. Takes no memory.
 #[unsafe(no_mangle)]
 pub extern "C" fn polytwkb_round(numbers: &[u64], precision: i32, units: &mut [i64]) -> BufferReport
     ensures rounds { IsPrecision precision → length numbers.now ≤ length units.old
@@ -158,7 +168,8 @@ pub extern "C" fn polytwkb_round(numbers: &[u64], precision: i32, units: &mut [i
     round_numbers(numbers, precision, units)
 }
 
-/// Writes the text of a reason, with a zero byte after it. Takes no memory.
+/// Writes the text of the reason with this number, and after it a zero byte, as `put_reason` does,
+/// and returns the length of the whole text. Takes no memory.
 #[unsafe(no_mangle)]
 pub extern "C" fn polytwkb_reason_text(reason: u32, text: &mut [u8]) -> usize
     ensures { PutsText (AreWordsOf reason) text.old text.new result }
@@ -166,7 +177,8 @@ pub extern "C" fn polytwkb_reason_text(reason: u32, text: &mut [u8]) -> usize
     put_reason(reason, text)
 }
 
-/// Writes the version of the library, with a zero byte after it. Takes no memory.
+/// Writes the version of the library, and after it a zero byte, as `put_version` does, and returns
+/// the length of the whole text. Takes no memory.
 #[unsafe(no_mangle)]
 pub extern "C" fn polytwkb_version(text: &mut [u8]) -> usize
     ensures { PutsText (λ words. words ≡ version_text) text.old text.new result }

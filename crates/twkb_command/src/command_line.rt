@@ -11,7 +11,7 @@ use std::alloc::{AllocError, Global};
 use twkb_convert::VERSION;
 use twkb_tree::NEST_CAP;
 
-// The option `--max-nest`.
+// The option `--max-nest`, whose value is a number from 0 to 32, with its help text.
 fn max_nest_option<'a>(alloc: Global) -> Arg<'a>
     ensures rule { rule_of result ≡ max_nest }
     ensures local { result.global ≡ false }
@@ -23,7 +23,7 @@ fn max_nest_option<'a>(alloc: Global) -> Arg<'a>
     described(nest, help::MAX_NEST)
 }
 
-// The option `--style`, whose values are these names.
+// The option `--style`, whose value is one of these names, with its help text.
 fn style_choice<'a>(alloc: Global, styles: &'a [&'a str]) -> Arg<'a>
     ensures rule { rule_of result ≡ style_option styles.entry }
     ensures local { result.global ≡ false }
@@ -35,7 +35,7 @@ fn style_choice<'a>(alloc: Global, styles: &'a [&'a str]) -> Arg<'a>
     described(style, help::STYLE)
 }
 
-// The option with its help text.
+// An option with this help text.
 fn described<'a>(option: Arg<'a>, help: &'a str) -> Arg<'a>
     ensures rule { rule_of result ≡ rule_of option.entry }
     ensures local { result.global ≡ option.entry.global }
@@ -43,7 +43,7 @@ fn described<'a>(option: Arg<'a>, help: &'a str) -> Arg<'a>
     option.help(help)
 }
 
-// A subcommand without options, with its help text and its usage.
+// A subcommand with this name, help text and usage, and without options.
 fn subcommand<'a>(alloc: Global, name: &'a str, about: &'a str, usage: &'a str) -> Command<'a>
     ensures app { app_of result ≡ new_app name.entry.now }
     ensures local { (out-Command result).has_globals ≡ false }
@@ -54,7 +54,7 @@ fn subcommand<'a>(alloc: Global, name: &'a str, about: &'a str, usage: &'a str) 
         .after_help(help::ELSEWHERE)
 }
 
-// A subcommand with the option `--max-nest`.
+// A subcommand with this name, help text and usage, whose only option is `--max-nest`.
 fn conversion_command<'a>(
     alloc: Global,
     name: &'a str,
@@ -67,7 +67,8 @@ fn conversion_command<'a>(
     subcommand(alloc, name, about, usage).arg(max_nest_option(alloc))
 }
 
-// The subcommand `pack`, which also has the option `--style`.
+// The subcommand `pack` with the options `--max-nest` and `--style`, whose value is one of these
+// names.
 fn pack_command<'a>(alloc: Global, styles: &'a [&'a str]) -> Result<Command<'a>, AllocError>
     ensures shape { IfOk result (λ command. shape_of command ≡ pack_shape styles.entry) }
     ensures local { IfOk result (λ command. (out-Command command).has_globals ≡ false) }
@@ -77,7 +78,7 @@ fn pack_command<'a>(alloc: Global, styles: &'a [&'a str]) -> Result<Command<'a>,
         .arg(style_choice(alloc, styles))
 }
 
-// The program's command with its help text.
+// The command `polytwkb` with its help text and usage, without version and subcommands.
 fn described_command<'a>(alloc: Global) -> Command<'a>
     ensures app { app_of result ≡ new_app (codes "polytwkb") }
     ensures local { (out-Command result).has_globals ≡ false }
@@ -88,7 +89,8 @@ fn described_command<'a>(alloc: Global) -> Command<'a>
         .after_long_help(help::MORE)
 }
 
-// The program's command, without its subcommands.
+// The command `polytwkb` with its help text and version, which requires a subcommand, but has none
+// yet.
 fn bare_command<'a>(alloc: Global) -> Command<'a>
     ensures app { app_of result ≡ bare_app }
     ensures local { (out-Command result).has_globals ≡ false }
@@ -99,7 +101,7 @@ fn bare_command<'a>(alloc: Global) -> Command<'a>
         .disable_help_subcommand(true)
 }
 
-// The program's command with the subcommand `pack`.
+// The command `polytwkb` with only the subcommand `pack`, whose styles have these names.
 fn packing_command<'a>(alloc: Global, styles: &'a [&'a str]) -> Result<Command<'a>, AllocError>
     ensures { IfOk result (λ command. app_of command ≡ with_subcommand bare_app (pack_shape styles.entry)) }
 {
@@ -107,7 +109,8 @@ fn packing_command<'a>(alloc: Global, styles: &'a [&'a str]) -> Result<Command<'
     bare_command(alloc).subcommand(pack)
 }
 
-// A command with one more subcommand, which has the option `--max-nest`.
+// A command with one more subcommand, which has this name, help text and usage, and only the option
+// `--max-nest`.
 fn with_conversion<'a>(
     alloc: Global,
     program: Command<'a>,
@@ -122,7 +125,8 @@ fn with_conversion<'a>(
     program.subcommand(conversion)
 }
 
-// The command line, which requires one of the subcommands.
+// The command `polytwkb`, which requires one of its subcommands `pack`, whose styles have these
+// names, `unpack` and `show`.
 #[tactic(auto, unfolding(crate::specs::CommandLine::command_line))]
 pub(crate) fn command<'a>(alloc: Global, styles: &'a [&'a str]) -> Result<Command<'a>, AllocError>
     ensures { IfOk result (λ command. app_of command ≡ command_line styles.entry) }

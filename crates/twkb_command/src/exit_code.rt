@@ -19,8 +19,9 @@ const DEVICE: u8 = 3;
 // Memory was refused.
 pub(crate) const MEMORY: u8 = 4;
 
-/// The status of a conversion that stopped: 1 if the input is refused or a length passes its
-/// bound, 3 if a device failed, 4 if memory was refused.
+/// The exit status after a conversion that stopped for this cause: 1 if the input is refused, or
+/// the input or the output is too long, 3 if a device failed, 4 if memory was refused. Takes no
+/// memory.
 pub fn status(cause: &Cause) -> u8
     ensures { result ≡ status_of cause.now }
 {

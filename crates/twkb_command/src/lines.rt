@@ -12,14 +12,14 @@ use twkb_io::{Output, Sink, Tap};
 use twkb_polyline::PolyReason;
 use twkb_table::RowReason;
 
-// Puts a text, unless an earlier put was refused.
+// Puts a text to an output, unless an earlier put was refused. A refusal is not reported.
 fn put_text<W: Write>(output: &mut Output<'_, W>, text: &str)
     ensures { Prints W.contents output.old text.now output.new }
 {
     let _ = output.put(text.as_bytes());
 }
 
-// Puts a number as a decimal.
+// Puts a number as a decimal, as `put_text` puts a text.
 fn put_decimal<W: Write>(output: &mut Output<'_, W>, number: u64)
     ensures prints { Prints W.contents output.old (decimal number) output.new }
     ensures short { length (decimal number) ≤ 40 }
@@ -28,7 +28,8 @@ fn put_decimal<W: Write>(output: &mut Output<'_, W>, number: u64)
     put_text(output, buffer.format(number));
 }
 
-// Puts the reason and the place of a fault in a text of points.
+// Puts why a polyline is refused: `polyline at `, the offset in the polyline in bytes, a colon, a
+// space and the reason.
 fn put_text_reason<W: Write>(output: &mut Output<'_, W>, offset: usize, reason: PolyReason)
     ensures prints { Prints W.contents output.old (text_reason offset reason) output.new }
     ensures short { length (text_reason offset reason) ≤ 100 }
@@ -39,7 +40,8 @@ fn put_text_reason<W: Write>(output: &mut Output<'_, W>, offset: usize, reason: 
     put_text(output, reason.text());
 }
 
-// Puts the reason for which a record is refused.
+// Puts the reason for which a record is refused, with the offset in its polyline if that is
+// refused.
 fn put_row_reason<W: Write>(output: &mut Output<'_, W>, reason: RowReason)
     ensures prints { Prints W.contents output.old (reason_text reason) output.new }
     ensures short { length (reason_text reason) ≤ 100 }
@@ -50,7 +52,8 @@ fn put_row_reason<W: Write>(output: &mut Output<'_, W>, reason: RowReason)
     }
 }
 
-// Puts the number and the reason of a refused record.
+// Puts why a record is refused: `record `, the number of the record, a colon, a space and the
+// reason.
 fn put_row<W: Write>(output: &mut Output<'_, W>, number: u64, reason: RowReason)
     ensures prints { Prints W.contents output.old
         (codes "record " ++ (decimal number ++ (codes ": " ++ reason_text reason))) output.new }
@@ -62,7 +65,8 @@ fn put_row<W: Write>(output: &mut Output<'_, W>, number: u64, reason: RowReason)
     put_row_reason(output, reason);
 }
 
-// Puts the offset and the reason of a refused item.
+// Puts why an item of a stream is refused: `byte `, the offset of the item, a colon, a space and
+// the reason.
 fn put_blob<W: Write>(output: &mut Output<'_, W>, offset: u64, reason: BlobReason)
     ensures prints { Prints W.contents output.old
         (codes "byte " ++ (decimal offset ++ (codes ": " ++ blob_words reason))) output.new }
@@ -74,7 +78,8 @@ fn put_blob<W: Write>(output: &mut Output<'_, W>, offset: u64, reason: BlobReaso
     put_text(output, reason.text());
 }
 
-// Puts the place and the reason of a stop.
+// Puts why a conversion stopped, with the number of the record or the offset if the input is
+// refused.
 fn put_cause<W: Write>(output: &mut Output<'_, W>, cause: Cause)
     ensures prints { Prints W.contents output.old (cause_text cause) output.new }
     ensures short { length (cause_text cause) ≤ 160 }
@@ -86,7 +91,7 @@ fn put_cause<W: Write>(output: &mut Output<'_, W>, cause: Cause)
     }
 }
 
-// Puts the line of a cause.
+// Puts the line that says why a conversion stopped: `polytwkb: `, the cause with its place, and LF.
 fn put_line<W: Write>(output: &mut Output<'_, W>, cause: Cause)
     ensures prints { Prints W.contents output.old (line_of cause) output.new }
     ensures short { length (line_of cause) ≤ 200 }
@@ -96,7 +101,7 @@ fn put_line<W: Write>(output: &mut Output<'_, W>, cause: Cause)
     put_text(output, "\n");
 }
 
-// Puts a text and flushes.
+// Puts a text and flushes the output, unless a put was refused. A failure is not reported.
 fn put_flushed<W: Write>(output: &mut Output<'_, W>, text: &str)
     ensures { Prints W.contents output.old text.now output.new }
 {
@@ -104,7 +109,8 @@ fn put_flushed<W: Write>(output: &mut Output<'_, W>, text: &str)
     let _ = output.flush();
 }
 
-// Prints a text and flushes, up to the first write that fails. Takes no memory.
+// Writes a text to a device, up to the first write that fails, and flushes the device if none
+// fails. A failure is not reported. Takes no memory.
 pub(crate) fn print_text<W: Write>(device: &mut Tap<W>, text: &str)
     ensures { length text.now ≤ MAX_BYTES → IsPrinted W.contents device.old text.now device.new }
 {
@@ -112,7 +118,8 @@ pub(crate) fn print_text<W: Write>(device: &mut Tap<W>, text: &str)
     put_flushed(&mut output, text);
 }
 
-/// Prints the line of a cause, up to the first write that fails. Takes no memory.
+/// Writes the line that says why a conversion stopped to a device, up to the first write that
+/// fails: a failure is not reported. Does not flush. Takes no memory.
 pub fn print_line<W: Write>(device: &mut Tap<W>, cause: Cause)
     ensures { IsPrinted W.contents device.old (line_of cause) device.new }
 {

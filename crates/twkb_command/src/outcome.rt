@@ -13,9 +13,10 @@ use std::io::{ErrorKind, Read, Write};
 use twkb_convert::{Cause, convert};
 use twkb_io::Tap;
 
-// Carries out a request, and returns the status: 0 if all was converted, 1 if the input is
-// refused or a length passes its bound, 3 if a device failed, 4 if memory was refused. A fault is
-// reported to `errors`; a failure there changes nothing else.
+// Carries out a request, and returns the exit status: 0 if all was converted, 1 if the input is
+// refused, or the input or the output is too long, 3 if a device failed, 4 if memory was refused.
+// If the conversion stopped, the line that says why is written to `errors`; a failure there changes
+// nothing else.
 pub(crate) fn carry_out<R: Read, W: Write, E: Write>(
     alloc: Global,
     request: Request,
@@ -35,7 +36,7 @@ pub(crate) fn carry_out<R: Read, W: Write, E: Write>(
     }
 }
 
-// Prints the text that was asked for, and returns the status.
+// Prints the text of help or of the version, and returns the exit status 0, even if a write fails.
 fn print_requested<W: Write>(writer: &mut Tap<W>, text: &str) -> u8
     ensures { result ≡ 0 }
 {
@@ -43,9 +44,9 @@ fn print_requested<W: Write>(writer: &mut Tap<W>, text: &str) -> u8
     DONE
 }
 
-// Answers words that ask for no conversion: help and the version go to `writer`, everything else
-// to `errors`. The status is 0 for help and the version, 2 if the words are refused, 4 if memory
-// was refused. Takes no memory.
+// Answers words that ask for no conversion: help and the version go to `writer`, everything else to
+// `errors`. Returns the exit status: 0 for help and the version, 2 if the words are refused, 4 if
+// memory was refused. Takes no memory.
 pub(crate) fn refuse<W: Write, E: Write>(
     refusal: &Refusal,
     writer: &mut Tap<W>,
@@ -64,7 +65,7 @@ pub(crate) fn refuse<W: Write, E: Write>(
     }
 }
 
-/// Reports that memory was refused, and returns the status. Takes no memory.
+/// Prints to `errors` that memory was refused, and returns the exit status 4. Takes no memory.
 pub fn report_no_memory<E: Write>(errors: &mut Tap<E>) -> u8
     ensures status { result ≡ 4 }
     ensures line { IsPrinted E.contents errors.old (line_of Cause.Memory) errors.new }
@@ -73,8 +74,9 @@ pub fn report_no_memory<E: Write>(errors: &mut Tap<E>) -> u8
     MEMORY
 }
 
-/// Reports why the words were not read, and returns the status. A word that is not UTF-8 is
-/// refused like any other bad word. Takes no memory.
+/// Prints to `errors` why the words of the command line could not be read, and returns the exit
+/// status: for `OutOfMemory` that memory was refused, and 4; for any other kind that a word is not
+/// UTF-8, and 2. Takes no memory.
 pub fn report_unread_words<E: Write>(errors: &mut Tap<E>, kind: ErrorKind) -> u8
     ensures memory { kind ≡ ErrorKind.OutOfMemory → (result ≡ 4)
         × IsPrinted E.contents errors.old (line_of Cause.Memory) errors.new }

@@ -13,7 +13,7 @@ pub struct Request {
     pub limits: Limits,
 }
 
-// The standard limits with a nesting of 0 to 32; `None` if it is greater. Takes no memory.
+// The standard limits, but with this limit of nesting; `None` if it is above 32.
 pub(crate) fn nested_limits(nest: u32) -> Option<Limits>
     ensures accepted { IsSome result ↔ (nest ≤ NEST_CAP) }
     ensures value { IfSome result (λ l. l ≡ record standard_limits { nest = nest }) }

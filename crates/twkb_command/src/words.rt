@@ -16,7 +16,8 @@ use std::alloc::Global;
 use twkb_convert::{Conversion, Style};
 use twkb_tree::Limits;
 
-// What `clap` finds in the words.
+// What `clap` finds in the words of the command line, if the styles have these names. An `Err` is
+// why `clap` refuses the words, that help or the version is asked for, or want of memory.
 fn matches_of<'a>(
     alloc: Global,
     styles: &'a [&'a str],
@@ -31,8 +32,8 @@ fn matches_of<'a>(
     command(alloc, styles)?.try_get_matches_from(words)
 }
 
-// The standard limits with the nesting that a subcommand's matches give, or `None` if that is out
-// of range.
+// The standard limits, with the nesting that the option `--max-nest` has in a subcommand's matches,
+// if it is there; `None` if that is no number from 0 to 32.
 fn given_limits(matches: &ArgMatches<'_>) -> Option<Limits>
     ensures some { IfSome result (AreLimits (one_text (found_of matches.now) (codes "max-nest"))) }
     ensures none { IfNone result (GivesNoNest (one_text (found_of matches.now) (codes "max-nest"))) }
@@ -44,7 +45,8 @@ fn given_limits(matches: &ArgMatches<'_>) -> Option<Limits>
     }
 }
 
-// The standard limits with the nesting that a subcommand's matches give.
+// The standard limits, with the nesting that the option `--max-nest` has in a subcommand's matches,
+// if it is there; it must be a number from 0 to 32.
 fn limits_of(matches: &ArgMatches<'_>) -> Limits
     requires { GivesNest (one_text (found_of matches.now) (codes "max-nest")) }
     ensures { AreLimits (one_text (found_of matches.now) (codes "max-nest")) result }
@@ -55,7 +57,7 @@ fn limits_of(matches: &ArgMatches<'_>) -> Limits
     }
 }
 
-// The style that a subcommand's matches give.
+// The style that the option `--style` has in a subcommand's matches: plain for `plain`, else full.
 fn style_of(matches: &ArgMatches<'_>) -> Style
     ensures { IsStyle (first_value (found_of matches.now) (codes "style")) result }
 {
@@ -65,7 +67,8 @@ fn style_of(matches: &ArgMatches<'_>) -> Style
     }
 }
 
-// The conversion of the subcommand with this name, in the style that its matches give.
+// The conversion of the subcommand with this name, which must be `pack`, `unpack` or `show`; that
+// of `pack` is in the style that its matches give.
 fn conversion_of(name: &str, matches: &ArgMatches<'_>) -> Conversion
     requires { IsConversionName name.now }
     ensures { Names name.now (first_value (found_of matches.now) (codes "style")) result }
@@ -78,7 +81,8 @@ fn conversion_of(name: &str, matches: &ArgMatches<'_>) -> Conversion
     }
 }
 
-// The request that the matches make.
+// The request that matches of `clap` make: the conversion of their subcommand, which must be
+// `pack`, `unpack` or `show`, and the limits, whose nesting must be 0 to 32.
 fn request_of(matches: &ArgMatches<'_>) -> Request
     requires named { NamesConversion (subcommand_rows_of matches.now) }
     requires nest { HasNest (subcommand_rows_of matches.now) }
@@ -93,7 +97,8 @@ fn request_of(matches: &ArgMatches<'_>) -> Request
     }
 }
 
-// The refusal for an error of `clap`, with its text.
+// The refusal for an error of `clap`, with the text that `clap` prints for it. Takes memory for the
+// text; `Memory` if that is refused, or if the error is want of memory.
 fn refusal_of(alloc: Global, error: &Error) -> Refusal
     ensures memory { kind_of error.now ≡ ErrorKind.OutOfMemory → result ≡ Refusal.Memory }
     ensures kind { IsRefusal (kind_of error.now) result }
@@ -112,7 +117,7 @@ fn refusal_of(alloc: Global, error: &Error) -> Refusal
     }
 }
 
-// Reads the request that the words make, if the styles have these names.
+// Reads the words of a command line as `read_words` does, if the styles have these names.
 fn read_styled_words(alloc: Global, styles: &[&str], words: &[String]) -> Result<Request, Refusal>
     ensures asked { IfOk result (AsksFor (command_line styles.entry) (map string_bytes words.now)) }
     ensures fits { OnOk result (fault_of (command_line styles.entry) (map string_bytes words.now) ≡ []) }
@@ -125,8 +130,9 @@ fn read_styled_words(alloc: Global, styles: &[&str], words: &[String]) -> Result
     }
 }
 
-/// Reads the request that the words make, or why they make none. The first word is the program's
-/// name. Takes memory to read them, and for the text of a refusal.
+/// Reads the words of a command line, the first of which is the program's name, and returns the
+/// request that they make. An `Err` is why they make none, such as that help is asked for. Takes
+/// memory to read them, and for the text of a refusal.
 pub fn read_words(alloc: Global, words: &[String]) -> Result<Request, Refusal>
     ensures { (line : App) × IsCommandLine line × Reads line (map string_bytes words.now) result }
 {

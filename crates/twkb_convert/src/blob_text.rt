@@ -23,8 +23,8 @@ pub(crate) trait BlobText {
 
     // Reads the next blob, makes its text in place of what `text` holds, and returns true; false if
     // there is none. An `Err` is why there is no text: a fault of the reader, or want of memory.
-    // Takes memory. After a false or an `Err` it may not be called again, and `text` is empty, has
-    // the text of the blob before, or has a prefix of that of this blob.
+    // After a false or an `Err` it must not be called again, and `text` is empty, has the text of
+    // the blob before, or has a prefix of that of this blob. Takes memory.
     fn read_next<R: Read>(
         &mut self,
         blobs: &mut StreamReader<'_, '_, R>,

@@ -21,8 +21,8 @@ pub enum Conversion {
     Show,
 }
 
-/// Converts all that a reader gives, as `pack_styled`, `unpack` or `show` does, whichever `what`
-/// asks for; the answer and the memory are those of that call.
+/// Converts all that a reader gives as `pack_styled`, `unpack` or `show` does, whichever `what`
+/// names; the result and the memory that it takes are those of that function.
 pub fn convert<R: Read, W: Write>(
     alloc: Global,
     what: Conversion,

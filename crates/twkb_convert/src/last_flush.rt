@@ -5,9 +5,9 @@ use crate::report::{Cause, ConvertFault, Report};
 use std::io::Write;
 use twkb_io::{OutFault, Output};
 
-// Flushes the output of a conversion, which reached its end or stopped for a cause (`sending`), and
-// reports the number of geometries and of bytes. An `Err` has that cause or, if the writer fails in
-// the flush, the cause of this. An output that refused a call before is not flushed.
+// Flushes the output of a conversion, unless it refused a call before, and reports `geometries` and
+// the number of bytes that the writer took. An `Err` has the cause in `sending`, for which the
+// conversion stopped, or in its place, if the flush fails, the cause of that.
 pub(crate) fn finish<W: Write>(
     output: &mut Output<'_, W>,
     geometries: u64,

@@ -21,8 +21,8 @@ ghost use Rattle.twkb_convert.specs.Outputs.{IsTable, PackTextTo, PackTo, Unpack
 ghost use Rattle.twkb_convert.specs.Parts.{AreMovedLines, PackApart, RowsName, all_moved};
 ghost use Rattle.twkb_convert.specs.RefusedRows.{IsRefusedText};
 
-/// If a table's records are those of valid geometries, packing it, in either style, and unpacking the
-/// result gives a table from which `csv` reads the same records.
+/// If a table's records are those of valid geometries, packing the table, in either style, and
+/// unpacking the result gives a table from which `csv` reads the same records.
 pub fn unpack_of_pack()
     ensures { (style : Style) (l : Allowance) (table bytes text : List ℕ) (records : List Record) → IsAllowance l
         → IsTable l table records → PackTo style l records bytes → UnpackTo l bytes text → AreRecordsOf text records }
@@ -112,8 +112,8 @@ pub fn show_front()
 // ---- parts, converted separately
 
 /// Two tables of valid geometries may be packed separately: their outputs, joined, are the output
-/// of the rows of both below one header. A table of valid geometries may be cut into two such before
-/// any row of depth 0.
+/// of the rows of both below one header. A table of valid geometries may be cut into two such
+/// tables before any row of depth 0.
 pub fn packed_parts()
     ensures joined { (style : Style) (l : Allowance) (rows more : List Record) → IsAllowance l
         → RowsName l rows → RowsName l more → PackApart style l rows more }

@@ -19,11 +19,11 @@ use twkb_blob::{Spans, StreamReader, StreamRoom};
 use twkb_io::{Input, Output, Sink, Tap};
 use twkb_tree::Limits;
 
-/// Writes the table of a stream of blobs: the header's line, then the rows of each blob, after it
-/// was read whole, before the reader is read again (blobs: TWKB; polylines: Encoded Polyline
+/// Writes the table of a stream of blobs: the header's line, and then the rows of each blob, after
+/// it was read whole, before the reader is read again (blobs: TWKB; polylines: Encoded Polyline
 /// Algorithm Format; records: RFC 4180; the columns, and LF alone after each record: profile).
 /// Returns the number of blobs whose rows were all written and the number of bytes written, and
-/// with an `Err` why it stopped. Each geometry must keep the limits. A refused blob stops it, after
+/// with an `Err` why it stopped. A blob that is refused, as one past the limits is, stops it after
 /// the rows of the blobs before. The writer is flushed last, unless it failed or more than 2^62
 /// bytes would be written. Takes memory for one geometry and its text.
 pub fn unpack<R: Read, W: Write>(
@@ -48,7 +48,7 @@ pub fn unpack<R: Read, W: Write>(
 /// number of its points, those of members included (headers: TWKB; the line: profile). The lines of
 /// a blob are written after it was read whole, before the reader is read again. Returns the number
 /// of blobs whose lines were all written and the number of bytes written, and with an `Err` why it
-/// stopped. Each geometry must keep the limits. A refused blob stops it, after the lines of the
+/// stopped. A blob that is refused, as one past the limits is, stops it after the lines of the
 /// blobs before. The writer is flushed last, unless it failed or more than 2^62 bytes would be
 /// written. Takes memory for one geometry, its spans and their text.
 pub fn show<R: Read, W: Write>(
@@ -70,11 +70,9 @@ pub fn show<R: Read, W: Write>(
 }
 
 // Writes the text of a stream of blobs, as `maker` makes it: the text before the first blob, and
-// then that of each blob before the reader is read again. Returns the number of blobs whose text
-// was written whole and the number of bytes written, and with an `Err` why it stopped; a refused
-// blob stops it after the texts of the blobs before. Each geometry must keep the limits. The writer
-// is flushed last, unless it failed or more than 2^62 bytes would be written. Takes memory for one
-// geometry and its text, and for what `maker` keeps of it.
+// then that of each blob, before the reader is read again. The result and the flush are as with
+// `unpack`, with the texts of blobs in place of their rows. Takes memory for one geometry and its
+// text, and for what `maker` keeps of it.
 pub(crate) fn list_stream<R: Read, W: Write, T: BlobText>(
     maker: &mut T,
     alloc: Global,
@@ -98,10 +96,10 @@ pub(crate) fn list_stream<R: Read, W: Write, T: BlobText>(
     finish(&mut output, done, sending)
 }
 
-// Sends the text before the first blob, and then the text of each blob that a reader gives, each
-// in one put. The text of a blob is made in `text`, in place of what that holds. Counts in `done`
-// the blobs whose text was sent whole. An `Err` is the cause for which it stopped. Takes memory as
-// `read_next` does.
+// Sends the text before the first blob, and then the text of each blob that a reader gives, each in
+// one put. The text of a blob is made in `text`, in place of what that holds. Counts in `done`,
+// which must be 0, the blobs whose text was sent whole. The reader and the output must be unused.
+// An `Err` is the cause for which it stopped. Takes memory as `read_next` does.
 fn list_blobs<R: Read, W: Write, T: BlobText>(
     maker: &mut T,
     blobs: &mut StreamReader<'_, '_, R>,

@@ -35,11 +35,11 @@ pub fn pack<R: Read, W: Write>(
     pack_styled(alloc, reader, writer, limits, Style::Full)
 }
 
-/// Packs a table into a stream in a style. Reads the records to the reader's end, and writes the
+/// Packs a table into a stream in a style: reads the records to the reader's end, and writes the
 /// canonical blob of each geometry when the row after it was accepted or the table's end was
 /// reached (records: RFC 4180; their polylines: Encoded Polyline Algorithm Format; blobs: TWKB; the
 /// columns, and which blob is canonical: profile). Returns how many geometries and bytes were
-/// written, and with an `Err` why it stopped. Each geometry must keep the limits. A refused record
+/// written, and with an `Err` why it stopped. A record that is refused, as one past the limits is,
 /// stops it; the geometry before that record is not written, since the record might have belonged
 /// to it. The writer is flushed last, unless it failed or more than 2^62 bytes would be written.
 /// Takes memory for one record and one geometry with its sizes. After the table's end, the reader
@@ -63,7 +63,7 @@ pub fn pack_styled<R: Read, W: Write>(
 }
 
 /// Packs a table as `pack_styled` does, and returns with its report the work of measuring and
-/// writing the geometries; an `Err` comes without it.
+/// writing the geometries, as `Work` counts it; an `Err` comes without it.
 pub fn pack_counted<R: Read, W: Write>(
     alloc: Global,
     reader: &mut Tap<R>,
@@ -97,8 +97,8 @@ pub fn pack_counted<R: Read, W: Write>(
 // The number of bytes that one read asks for.
 const PIECE: usize = 64;
 
-// Reads a reader to its end, and drops the bytes, if all was sent; else returns why not, and reads
-// nothing. `ReadDevice` if a read fails; `TooLong` if 2^64 - 1 reads gave bytes and no end. Takes
+// Returns `sending` if it is an error, and reads nothing; else reads a tap to its end, and drops
+// the bytes. `ReadDevice` if a read fails; `TooLong` if 2^64 - 1 reads gave bytes and no end. Takes
 // no memory.
 fn drain<R: Read>(tap: &mut Tap<R>, sending: Result<(), Cause>) -> Result<(), Cause>
     ensures drains { Drains (R.remaining (device_of tap.new)) (bytes_given tap.new) sending result }
@@ -116,8 +116,8 @@ fn drain<R: Read>(tap: &mut Tap<R>, sending: Result<(), Cause>) -> Result<(), Ca
     Err(Cause::TooLong)
 }
 
-// The answer if the whole table was sent: the report and the work. A function of its own, since its
-// contract lets the proof know that the counts of reads fit 64 bits.
+// Returns the report and the work. It is a function of its own for its contract, which states that
+// the numbers of reads fit 64 bits.
 fn packed(report: Report, work: Work) -> (Report, Work)
     ensures is { result ≡ (report, work) }
     ensures fits { (work.point_reads < 2 ^ 64) × (work.node_reads < 2 ^ 64) }

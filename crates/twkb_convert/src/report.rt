@@ -40,7 +40,7 @@ pub enum Cause {
 }
 
 impl Cause {
-    /// The cause in a few words, without its place. Takes no memory.
+    /// The cause in a few words, at most 31 bytes, without its place. Takes no memory.
     #[tactic(auto, using(crate::proofs::ShortTexts::short_cause))]
     pub fn text(self) -> &'static str
         ensures words { result.now ≡ cause_words self }

@@ -23,7 +23,7 @@ pub(crate) struct Room {
 }
 
 impl Room {
-    // Makes an empty room. Takes no memory.
+    // Makes an empty room, which grows as geometries need it. Takes no memory.
     pub(crate) fn new(alloc: Global) -> Room {
         Room {
             form: Flat::new(alloc),
@@ -42,11 +42,11 @@ pub(crate) struct Sent {
     pub(crate) work: Work,
 }
 
-// Sends the geometries of a table in a style, each when the row after it was accepted or the
-// table's end was reached, and adds them and their work to `sent`. An `Err` is a fault of the table
-// or of the output, want of memory, or `TooLong` after 2^64 - 1 geometries; want of memory in `csv`
-// is `ReadDevice` here, which `after_reads` corrects. Takes memory for one record and one geometry
-// with its sizes.
+// Sends the geometries of a table to an output in a style, each when the row after it was accepted
+// or the table's end was reached, and adds them and their work to `sent`. An `Err` is a fault of
+// the table or of the output, want of memory, or `TooLong` after 2^64 - 1 geometries; want of
+// memory in `csv` is `ReadDevice` here, which `after_reads` corrects. Takes memory for one record
+// and one geometry with its sizes.
 pub(crate) fn send_table<R: Read, W: Write>(
     table: &mut TableReader<'_, R>,
     style: Style,
@@ -69,11 +69,11 @@ pub(crate) fn send_table<R: Read, W: Write>(
     Err(Cause::TooLong)
 }
 
-// Fast path: sends the geometries that come next, in a style, as long as they are known to be
-// points that are not empty, and adds them and their work to `sent`. An `Err` is as with
-// `send_table`. Takes memory as `TableReader::next_point` does. Out of line, and a loop of its own:
-// inlined, it adds 1 in 100 to the instructions of other geometries; a call for each point adds 150
-// instructions to each point.
+// Fast path: sends the geometries that come next, as long as they are known to be points that are
+// not empty, and adds them and their work to `sent`. An `Err` is as with `send_table`. Takes memory
+// as `TableReader::next_point` does. Out of line, and a loop of its own: inlined, it adds 1 in 100
+// to the instructions of other geometries; a call for each point adds 150 instructions to each
+// point.
 #[inline(never)]
 fn send_points<R: Read, W: Write>(
     table: &mut TableReader<'_, R>,
@@ -103,10 +103,10 @@ fn send_points<R: Read, W: Write>(
     Err(Cause::TooLong)
 }
 
-// Writes the canonical blob of the form in a room, in a style, and adds its work to `work`. Takes
-// memory for the sizes if they have too little room; if memory is refused, the output took nothing.
-// If the output refuses, it took a prefix of the blob. After an `Err` some of the work may have
-// been added.
+// Writes the canonical blob of the geometry whose rows are in the form of a room, in a style, and
+// adds its work to `work`. Takes memory for the sizes past their room; if it is refused, the output
+// took nothing. If the output refuses, it took a prefix of the blob. After an `Err` `work` may have
+// some of the work.
 fn write_blob<W: Write>(
     style: Style,
     room: &mut Room,

@@ -1,4 +1,4 @@
-//! The lines of TWKB headers.
+//! The lines that `show` prints, one for each span.
 ghost use Rattle.std.specs.Prelude.{◌≡◌, ◌<◌, ◌≤◌, ◌+◌, [], ◌∷◌, ◌++◌, OnOk, decimal, length, true};
 ghost use Rattle.std.specs.Fmt.{digit_glyph, signed_decimal};
 ghost use Rattle.twkb_convert.specs.SpanLines.{Adds, span_line, span_lines};
@@ -9,7 +9,8 @@ use twkb_blob::Span;
 use twkb_num::Piece;
 use twkb_table::push_kind;
 
-// Appends a line for each span. Takes memory; after an `Err` the lines appended so far stay.
+// Appends the lines of spans, one for each, in order. Takes memory; after an `Err` the lines
+// appended so far stay.
 pub(crate) fn put_lines(spans: &[Span], text: &mut Vec<u8>) -> Result<(), AllocError>
     ensures appended { OnOk result (text.new.items ≡ text.old.items ++ span_lines spans.now) }
 {
@@ -19,8 +20,9 @@ pub(crate) fn put_lines(spans: &[Span], text: &mut Vec<u8>) -> Result<(), AllocE
     Ok(())
 }
 
-// Appends the line of a span. Takes memory; an `Err` leaves the text as it was. The seven words of
-// the line and their ends have at most 124 bytes.
+// Appends the line of a span: its level, offset, kind, precision, metadata byte in hexadecimal,
+// length and number of points, with a space between them and LF at the end. Takes memory; an `Err`
+// leaves the text as it was. The seven words and their ends have at most 124 bytes.
 fn put_line(span: &Span, text: &mut Vec<u8>) -> Result<(), AllocError>
     ensures appended { OnOk result (text.new.items ≡ text.old.items ++ span_line span.now) }
 {
@@ -37,7 +39,8 @@ fn put_line(span: &Span, text: &mut Vec<u8>) -> Result<(), AllocError>
     text.extend_from_slice(line.as_slice())
 }
 
-// Appends a precision as a decimal, and a space. Few are negative.
+// Appends a precision as a decimal, and a space, to a line, which must have room for 21 bytes. Few
+// are negative.
 #[inline(always)]
 fn push_precision(precision: i8, line: &mut Piece<128>)
     requires room { length line.old + 21 ≤ 128 }
@@ -51,7 +54,8 @@ fn push_precision(precision: i8, line: &mut Piece<128>)
     }
 }
 
-// Appends a count as a decimal, and a byte after it. Most counts have one or two digits.
+// Appends a count as a decimal, and a byte after it, to a line, which must have room for 21 bytes.
+// Most counts have one or two digits.
 #[inline(always)]
 fn push_count(count: u64, end: u8, line: &mut Piece<128>)
     requires room { length line.old + 21 ≤ 128 }
@@ -68,7 +72,8 @@ fn push_count(count: u64, end: u8, line: &mut Piece<128>)
     line.push(end);
 }
 
-// Appends a number as a decimal. Out of line, so that callers have no buffer on their stack.
+// Appends a number as a decimal to a line, which must have room for the longest decimal of the
+// number's type. Out of line, so that the buffer of `itoa` is not on the stack of its callers.
 #[inline(never)]
 fn push_number<I: Integer>(number: I, line: &mut Piece<128>)
     requires room { length line.old + I.MAX_STR_LEN ≤ 128 }
@@ -79,7 +84,7 @@ fn push_number<I: Integer>(number: I, line: &mut Piece<128>)
     line.push_all(buffer.format(number).as_bytes());
 }
 
-// The upper-case hexadecimal digit of a number below 16.
+// The upper-case hexadecimal digit of a number, which must be below 16.
 fn hex_digit(number: u8) -> u8
     requires { number < 16 }
     ensures { result ≡ digit_glyph true number }

@@ -39,7 +39,8 @@ pub fn parse_depth(field: &[u8]) -> Option<u32>
     }
 }
 
-// Reads a depth of any length. Out of line: few depths have more than one digit.
+// Reads a depth from 0 to 999 from its canonical decimal of any length; `None` for any other field.
+// Out of line: few depths have more than one digit.
 #[inline(never)]
 fn long_depth(field: &[u8]) -> Option<u32>
     ensures reads { Reads (IsDepthField field.now) result }
@@ -63,7 +64,8 @@ pub fn parse_id(field: &[u8]) -> Option<i64>
     }
 }
 
-// Fast path: reads a field of digits whose first is not 0. `None` proves nothing about the field.
+// Fast path: reads an i64 above 0 from its canonical decimal, unless it is one of the greatest.
+// `None` proves nothing about the field.
 #[inline(always)]
 fn digits_of(field: &[u8]) -> Option<i64>
     ensures some { IfSome result (λ id. IsIdField field.now id) }
@@ -87,8 +89,8 @@ fn digits_of(field: &[u8]) -> Option<i64>
     Some(number.cast_signed())
 }
 
-// Fast path: reads a minus sign and digits whose first is not 0. `None` proves nothing about the
-// field.
+// Fast path: reads an i64 below 0 from its canonical decimal, unless it is one of the least. `None`
+// proves nothing about the field.
 #[inline(always)]
 fn negative_of(field: &[u8]) -> Option<i64>
     ensures some { IfSome result (λ id. IsIdField field.now id) }
@@ -103,8 +105,9 @@ fn negative_of(field: &[u8]) -> Option<i64>
     Some(-size)
 }
 
-// The number of the first digits, eight if there are as many and else one, and how many they are;
-// `None` if one is no digit. The first digit is not 0.
+// The number that the first eight bytes of a field spell as decimal digits, and 8, or `None` if one
+// of them is no digit; of a shorter field, the number of the first byte, and 1. The field must
+// begin with a digit from 1 to 9.
 #[inline(always)]
 fn first_digits(field: &[u8]) -> Option<(u64, usize)>
     requires some { 0 < length field.now }
@@ -125,7 +128,8 @@ fn first_digits(field: &[u8]) -> Option<(u64, usize)>
     Some((number_of_eight(digits), EIGHT))
 }
 
-// The number of eight digits, the highest first: two digits in each lane, then all four lanes.
+// The number with these eight decimal digits, the highest first; each must be below 10. Two digits
+// are joined in each lane, then all four lanes.
 #[inline(always)]
 fn number_of_eight(digits: u8x8) -> u64
     requires { Each1 (λ digit. digit < 10) digits }
@@ -137,7 +141,7 @@ fn number_of_eight(digits: u8x8) -> u64
     ((u64::from(a) * 100 + u64::from(b)) * 100 + u64::from(c)) * 100 + u64::from(d)
 }
 
-// Reads an id from its canonical decimal of any length.
+// Reads an id as `parse_id` does, by the fast paths first. Out of line: most fields have one digit.
 #[inline(never)]
 fn read_number(field: &[u8]) -> Option<i64>
     ensures reads { Reads (IsIdField field.now) result }
@@ -151,8 +155,8 @@ fn read_number(field: &[u8]) -> Option<i64>
     read_decimal(field)
 }
 
-// Reads an id from its canonical decimal, by std's reader and printer. Out of line: few fields need
-// it.
+// Reads an id as `parse_id` does: parses it with std, and compares the field with the decimal that
+// `itoa` prints. Out of line: few fields need it.
 #[inline(never)]
 fn read_decimal(field: &[u8]) -> Option<i64>
     ensures reads { Reads (IsIdField field.now) result }
@@ -184,7 +188,8 @@ pub fn parse_precision(field: &[u8]) -> Option<i8>
     }
 }
 
-// Reads a precision of any length. Out of line: few precisions have more than one digit.
+// Reads a precision from -8 to 7 from its canonical decimal of any length; `None` for any other
+// field. Out of line: few precisions have more than one digit.
 #[inline(never)]
 fn long_precision(field: &[u8]) -> Option<i8>
     ensures reads { Reads (IsPrecisionField field.now) result }
@@ -195,8 +200,8 @@ fn long_precision(field: &[u8]) -> Option<i8>
     }
 }
 
-/// Reads an optional id: `Some(None)` if the field is empty, `None` if it is neither empty nor an
-/// id (profile). Takes no memory.
+/// Reads an id that may be missing: `Some(None)` for an empty field, `None` for a field that is
+/// neither empty nor the canonical decimal of an i64 (profile). Takes no memory.
 #[inline(always)]
 pub fn parse_optional_id(field: &[u8]) -> Option<Option<i64>>
     ensures reads { Reads (IsOptionalId field.now) result }
@@ -210,8 +215,8 @@ pub fn parse_optional_id(field: &[u8]) -> Option<Option<i64>>
     }
 }
 
-/// Reads an optional precision: `Some(None)` if the field is empty, `None` if it is neither empty
-/// nor a precision (profile). Takes no memory.
+/// Reads a precision that may be missing: `Some(None)` for an empty field, `None` for a field that
+/// is neither empty nor a canonical decimal from -8 to 7 (profile). Takes no memory.
 #[inline(always)]
 pub fn parse_optional_precision(field: &[u8]) -> Option<Option<i8>>
     ensures reads { Reads (IsOptionalPrecision field.now) result }

@@ -18,7 +18,7 @@ pub(crate) struct Fields<'a> {
     pub(crate) polyline: &'a [u8],
 }
 
-// The field at this place, counted from 0; the record must have it.
+// The field at this place of a record, counted from 0; the record must have it.
 #[inline(always)]
 fn field(row: &ByteRecord, place: usize) -> &[u8]
     requires { place < length (fields_of row.now) }
@@ -27,7 +27,7 @@ fn field(row: &ByteRecord, place: usize) -> &[u8]
     row.get(place).unwrap()
 }
 
-// The fields of a record that has five.
+// The fields of a record, which must have exactly five.
 #[inline(always)]
 pub(crate) fn five_fields(row: &ByteRecord) -> Fields<'_>
     requires { length (fields_of row.now) ≡ 5 }

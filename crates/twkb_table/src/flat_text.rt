@@ -10,8 +10,9 @@ use std::alloc::AllocError;
 use twkb_flat::{NodeId, Rows, Work};
 
 /// Appends the lines of the rows of a flat form, each ended by LF, without the header's line
-/// (profile; their polylines: Encoded Polyline Algorithm Format). Counts its reads in `work`.
-/// Takes memory for the text alone; if it is refused, the text is as it was.
+/// (profile; their polylines: Encoded Polyline Algorithm Format). Adds the numbers of rows and
+/// points that it reads to `work`, after an `Err` too. Takes memory for the text alone; if it is
+/// refused, the text is as it was.
 pub fn put_flat_rows(rows: &Rows, work: &mut Work, text: &mut Vec<u8>) -> Result<(), AllocError>
     ensures appended { OnOk result (text.new.items ≡ text.old.items ++ csvtext (map record_of rows.now.flat)) }
     ensures counted { OnOk result (work.new

@@ -1,4 +1,5 @@
-//! The rows of a geometry as text, written by the writer of `csv`.
+//! The rows of a geometry as text, written by the writer of `csv`. Each private function must get a
+//! writer that is between two records, and that is not used any more after an `Err`.
 ghost use Rattle.std.specs.Prelude.{◌≡◌, ◌≤◌, ◌<◌, ◌+◌, ◌^◌, ◌∷◌, [], ◌++◌, map, OnOk, OnErr, IfOk};
 ghost use Rattle.twkb_tree.specs.Limits.{largest_limits};
 ghost use Rattle.twkb_tree.specs.Tree.{nest, nest_all, trees};
@@ -16,10 +17,10 @@ use twkb_flat::{Row, own_row};
 use twkb_points::Pt;
 use twkb_tree::{Geometry, Ids, Kind, Lines, Members, Pts, Shape, id_at};
 
-/// The lines of the geometry's rows, each ended by LF, without the header's line (profile; their
-/// polylines: Encoded Polyline Algorithm Format). The geometry must nest no deeper than the
-/// largest limits allow: at most 32 collections around a member. Takes memory for the text and
-/// for the longest polyline.
+/// Returns the lines of a geometry's rows, each ended by LF, without the header's line (profile;
+/// their polylines: Encoded Polyline Algorithm Format). The geometry must nest no deeper than the
+/// largest limits allow: at most 32 collections around a member. Takes memory for the text and for
+/// the longest polyline.
 #[tactic(auto, unfolding(crate::specs::RowLines::row_lines))]
 pub fn rows_text(alloc: Global, geometry: &Geometry) -> Result<Vec<u8>, AllocError>
     requires nest { nest geometry.now ≤ largest_limits.nest }
@@ -30,8 +31,9 @@ pub fn rows_text(alloc: Global, geometry: &Geometry) -> Result<Vec<u8>, AllocErr
     records.into_text()
 }
 
-/// Appends the lines of the geometry's rows, as `rows_text` returns them. Takes memory as
-/// `rows_text` does, and for the text; if it is refused, the text is as it was.
+/// Appends the lines of a geometry's rows that `rows_text` returns, with the same bound on its
+/// nesting. Takes memory as `rows_text` does, and for the text; if it is refused, the text is as it
+/// was.
 pub fn put_rows(geometry: &Geometry, text: &mut Vec<u8>) -> Result<(), AllocError>
     requires nest { nest geometry.now ≤ largest_limits.nest }
     ensures appended { OnOk result (text.new.items ≡ text.old.items ++ csvtext (map record_of (rows 0 geometry.now))) }
@@ -41,7 +43,8 @@ pub fn put_rows(geometry: &Geometry, text: &mut Vec<u8>) -> Result<(), AllocErro
     text.extend_from_slice(&lines)
 }
 
-// Writes the records of the rows of a geometry with this id at this depth.
+// Writes the records of a geometry with this id at this depth, and of its parts and members below
+// it. Its depth and its nesting must together be below 2^31. Takes memory.
 #[cycle(lines)]
 fn write_geometry(
     geometry: &Geometry,
@@ -68,7 +71,8 @@ fn write_geometry(
     }
 }
 
-// Writes the record of a part, which has no precision.
+// Writes the record of a row with this depth, kind and id and with these points, and with no
+// precision: a part of a geometry has none.
 fn write_part(
     depth: u32,
     kind: Kind,
@@ -89,7 +93,8 @@ fn write_part(
     records.write_row(&row, points)
 }
 
-// Writes the records of the members of a collection.
+// Writes the records of the members of a collection, with these ids, at this depth, and of all that
+// is below them. The depth and the nesting of the members must together be at most 2^31.
 #[cycle(lines)]
 #[tactic(auto, using(twkb_tree::specs::Size::member_smaller))]
 fn write_members(
@@ -112,7 +117,8 @@ fn write_members(
     Ok(())
 }
 
-// Writes the records of the polygons of a multipolygon.
+// Writes the records of the polygons of a multipolygon, with these ids, at this depth, which must
+// be below 2^32 - 1, and of their rings, one deeper.
 fn write_areas(
     depth: u32,
     areas: &[Lines],
@@ -134,8 +140,8 @@ fn write_areas(
     Ok(())
 }
 
-// Writes the records of parts of this kind, each a list of points: rings, or the linestrings of a
-// multilinestring.
+// Writes the records of parts of this kind, with these ids, at this depth, each a list of points:
+// the rings of a polygon, or the linestrings of a multilinestring.
 fn write_lines(
     depth: u32,
     kind: Kind,
@@ -157,7 +163,7 @@ fn write_lines(
     Ok(())
 }
 
-// Writes the records of the points of a multipoint.
+// Writes the records of the points of a multipoint, with these ids, at this depth.
 fn write_points(
     depth: u32,
     points: &[Pt],

@@ -37,8 +37,9 @@ impl RowHead<'_> {
         }
     }
 
-    // Fast path: reads the point of a row of kind point that has one, if its place allows one and
-    // the limit leaves room for it. `None` proves nothing.
+    // Fast path: reads the point of the row, if the row is of kind point and its text is exactly
+    // one point, if its place allows one, and if the limit leaves room for it. `None` proves
+    // nothing.
     #[inline(always)]
     #[tactic(auto, using(crate::proofs::RowReaderLemmas::one_judged))]
     fn one_point(&self) -> Option<Pt>

@@ -17,7 +17,7 @@ pub fn header_text() -> &'static [u8]
 // The fields of the header.
 const HEADER: [&[u8]; FIELD_COUNT] = [b"depth", b"kind", b"id", b"precision", b"polyline"];
 
-// Whether the record is the header.
+// Whether a record is the header: exactly the five names of the columns, in order.
 pub(crate) fn is_header(csv_record: &ByteRecord) -> bool
     ensures { IsTrue result ↔ (fields_of csv_record.now ≡ header) }
 {

@@ -7,9 +7,9 @@ ghost use Rattle.twkb_tree.specs.Kind.{word_of};
 use twkb_num::{Piece, eight_bytes, four_bytes};
 use twkb_tree::Kind;
 
-/// Reads the kind whose word the field is, if it is one: `point`, `linestring`, `polygon`,
-/// `ring`, `multipoint`, `multilinestring`, `multipolygon` or `collection` (profile). Takes no
-/// memory.
+/// Reads a kind from its word, `point`, `linestring`, `polygon`, `ring`, `multipoint`,
+/// `multilinestring`, `multipolygon` or `collection` (profile); `None` for any other field. Takes
+/// no memory.
 #[inline(always)]
 pub fn parse_kind(field: &[u8]) -> Option<Kind>
     ensures reads { Reads (λ kind. field.now ≡ word_of kind) result }
@@ -25,7 +25,8 @@ pub fn parse_kind(field: &[u8]) -> Option<Kind>
     }
 }
 
-// The only kind whose word can have ten letters and this first one.
+// The only kind whose word can have ten letters and this first letter: a linestring for `l`, a
+// multipoint for `m`, and a collection for any other.
 #[inline(always)]
 fn kind_of_ten(first: u8) -> Kind
     ensures { result ≡ kind_of_ten first }
@@ -37,7 +38,7 @@ fn kind_of_ten(first: u8) -> Kind
     }
 }
 
-// The only kind whose word the field can be, if it is that.
+// This kind, if the field is its word; else `None`. The word must have as many bytes as the field.
 #[inline(always)]
 fn only_kind(field: &[u8], kind: Kind) -> Option<Kind>
     requires { length field.now ≡ length (word_of kind) }
@@ -52,8 +53,8 @@ fn only_kind(field: &[u8], kind: Kind) -> Option<Kind>
     }
 }
 
-// Whether two words of as many bytes are equal, compared as words of memory: by the first and the
-// last four bytes, or eight bytes if they have as many.
+// Whether two words are equal, which must have the same number of bytes, from 4 to 16. They are
+// compared by the first and the last four bytes, or eight bytes if they have as many.
 // Not `inline(always)`: with it, what is inlined in `judge` passes the size from which the kit
 // drops that word from `judge` without a message.
 #[inline]
@@ -72,7 +73,8 @@ fn is_word(field: &[u8], word: &[u8]) -> bool
     front == eight_bytes(word) && back == eight_bytes(&word[count - 8..])
 }
 
-/// Appends the word of a kind, with this byte before and after it. Takes no memory.
+/// Appends the word of a kind, with this byte before and after it, to a piece, which must have room
+/// for 17 bytes. Takes no memory.
 #[inline(always)]
 pub fn push_kind(kind: Kind, around: u8, piece: &mut Piece<128>)
     requires room { length piece.old + 17 ≤ 128 }

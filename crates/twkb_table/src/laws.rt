@@ -30,8 +30,9 @@ pub fn fronts()
         → Named l (front ++ more) gs → (hs : List Tree) × Named l front hs }
 {}
 
-/// The rows of two tables, one after the other below one header, name the geometries of both. A
-/// table that is cut before a row of depth 0 is two such tables.
+/// The rows of two tables of valid geometries, one after the other below one header, name the
+/// geometries of both. A table of valid geometries that is cut before a row of depth 0 is two such
+/// tables.
 pub fn parts()
     ensures joined { (l : Allowance) (rows more : List Record) (gs hs : List Tree)
         → Named l (header ∷ rows) gs → Named l (header ∷ more) hs
@@ -48,22 +49,23 @@ pub fn read_back()
         (strip_bom (csvtext records)) records }
 {}
 
-/// The verdict on a record is a row exactly if it is that row's record and the row may come next.
+/// After valid rows a record is accepted as a row exactly if it is that row's record and the row
+/// may come next.
 pub fn judged_rows()
     ensures { (l : Allowance) (rows : List Row) (fields : Record) (row : Row) → IsAllowance l
         → AreValidRows l rows → Judged l (reverse rows) fields (Accepted row)
         ↔ ((fields ≡ record_of row) × Accepts l (reverse rows) row) }
 {}
 
-/// Each record has exactly one verdict.
+/// After given rows each record has exactly one verdict.
 pub fn one_verdict()
     ensures some { (l : Allowance) (before : List Row) (fields : Record) → (v : Verdict) × Judged l before fields v }
     ensures one { (l : Allowance) (before : List Row) (fields : Record) (v w : Verdict)
         → Judged l before fields v → Judged l before fields w → v ≡ w }
 {}
 
-/// After records that name geometries, a record with a row as its verdict gives records that name
-/// geometries with that row; a refused record gives records that name none.
+/// Records that name geometries, and after them a record that is accepted as a row, name geometries
+/// that have that row too; with a record that is refused they name none.
 pub fn judged()
     ensures grows { (l : Allowance) (records : List Record) (fields : Record) (gs : List Tree)
         (row : Row) → Named l records gs → JudgedBehind l gs fields (Accepted row)
@@ -85,8 +87,8 @@ pub fn faults()
         × (why ≡ reason) }
 {}
 
-/// A fault leaves one list of geometries complete, and none if it is at one of the first two
-/// records.
+/// Before a fault exactly one list of geometries is complete: none of them if the fault is at one
+/// of the first two records.
 pub fn complete()
     ensures some { (l : Allowance) (records : List Record) (number : ℕ) (reason : RowReason)
         → RowFault l records number reason → (gs : List Tree)
@@ -98,14 +100,15 @@ pub fn complete()
         (gs : List Tree) → number ≤ 2 → AreComplete l records number reason gs → gs ≡ [] }
 {}
 
-/// With any correct judge of records, the plain reader reads the geometries that records name, or
-/// their fault.
+/// The plain reader `read_table`, with a judge that gives each record its verdict, reads from
+/// records the geometries that they name, or their fault.
 pub fn plain_reading()
     ensures { (l : Allowance) (judge : List Row → Record → Verdict) (records : List Record)
         → IsAllowance l → Judges l judge → IsReading l records (read_table judge records) }
 {}
 
-/// Checks by computation that the definitions give the records of worked tables.
+/// The definitions give the records of worked tables, and the text of one of them, which is checked
+/// by computation.
 pub fn samples()
     ensures point { PointTable }
     ensures text { PointText }

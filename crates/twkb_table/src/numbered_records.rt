@@ -16,8 +16,9 @@ use twkb_io::Tap;
 /// Each record of a table has a number below this (profile).
 pub const RECORD_CAP: u64 = 1 << 32;
 
-// Reads the next record and counts it; returns whether there was one. A record whose number would be
-// RECORD_CAP is refused.
+// Reads the next record into `last`, adds 1 to `number`, and returns whether there was a record; if
+// not, sets `ended`, and reads nothing in later calls. An `Err` is `TooManyRecords` if the record's
+// number would be 2^32, or `Source` if the device failed or memory was refused.
 #[inline(always)]
 pub(crate) fn next_record<R: Read>(
     reader: &mut Reader<&mut Tap<R>>,
@@ -49,7 +50,8 @@ pub(crate) fn next_record<R: Read>(
     Ok(true)
 }
 
-// The fault of a record with this number that gave no row.
+// The fault to report for the record with this number, which gave no row: `Memory` if memory was
+// refused, else `At` with the number and the reason.
 pub(crate) fn fault_at(number: u32, stop: Stop<RowReason>) -> TableFault
     ensures value { result ≡ fault_of number stop }
 {

@@ -32,8 +32,8 @@ impl Model for OpenRows {
     ghost invariant = { λ rows. rows.open_count ≤ length rows.places.items };
 }
 
-// Opens a row of this kind at this depth, and records at its parent that it has a child, with an id
-// or without.
+// Writes an open row of this kind over the place at this depth, which must be there. Its parent,
+// unless the row is a root, then has a child, with an id or without.
 #[inline(always)]
 fn write(places: &mut [OpenRow], depth: usize, kind: Kind, has_id: bool)
     requires { depth < length places.old }
@@ -50,8 +50,9 @@ fn write(places: &mut [OpenRow], depth: usize, kind: Kind, has_id: bool)
     }
 }
 
-// Opens a row as `write` does, if its depth has no place yet or the places are on the heap. Takes
-// memory only for a new place; an `Err` changes nothing.
+// Writes an open row as `write` does, at a depth that may be one past the last place, which is then
+// added; it must not be deeper. Takes memory only for a place past the sixteenth; an `Err` changes
+// nothing. Out of line: most places are inline, and are used again.
 #[cold]
 #[inline(never)]
 fn write_apart(
@@ -86,7 +87,7 @@ impl OpenRows {
         }
     }
 
-    // The open rows.
+    // The open rows, the root first.
     #[inline(always)]
     pub(crate) fn as_slice(&self) -> &[OpenRow]
         ensures { result.now ≡ self.now }
@@ -94,9 +95,10 @@ impl OpenRows {
         &self.places.as_slice()[..self.open_count]
     }
 
-    // Opens a row that was read: rows at its depth and below are complete, its parent gets a child,
-    // and it becomes the last open row. Takes memory only if more rows are open than ever before,
-    // and more than sixteen; an `Err` changes nothing.
+    // Opens a row that was read, whose depth must be at most the number of open rows: rows at its
+    // depth and deeper are complete, its parent gets a child, and it becomes the last open row.
+    // Takes memory only if more rows are open than ever before, and more than sixteen; an `Err`
+    // changes nothing.
     #[inline(always)]
     pub(crate) fn open_row(&mut self, row: &Row) -> Result<(), AllocError>
         requires { row.now.depth ≤ length self.old }

@@ -19,7 +19,8 @@ use twkb_tree::row_rules::{
 };
 use twkb_tree::{Kind, Limits, RowPlace};
 
-/// The reason why a row of this kind may not come at this place, if there is one. Takes no memory.
+/// The first reason why a row of this kind may not come at this place: its parent, its nesting or
+/// the number of rows; `None` if it may. Takes no memory.
 #[inline(always)]
 pub fn refused_place(limits: &Limits, row_place: &RowPlace, kind: Kind) -> Option<RowReason>
     ensures first { result ≡ first_reason (kind_checks limits.now row_place.now kind) }
@@ -38,8 +39,8 @@ pub fn refused_place(limits: &Limits, row_place: &RowPlace, kind: Kind) -> Optio
     None
 }
 
-/// The reason why a row of this kind at this place may not have an id, or none, if there is one.
-/// Takes no memory.
+/// The reason why a row of this kind at this place may not have an id, if `has_id`, or may not be
+/// without one, if not; `None` if it may. Takes no memory.
 #[inline(always)]
 pub fn refused_id(row_place: &RowPlace, kind: Kind, has_id: bool) -> Option<RowReason>
     ensures first { (r : TableRow) → r.kind ≡ kind → is_some r.id ≡ has_id → id_in_range r.id ≡ true
@@ -57,8 +58,8 @@ pub fn refused_id(row_place: &RowPlace, kind: Kind, has_id: bool) -> Option<RowR
     None
 }
 
-/// The reason why a row at this place may not have a precision, or none, if there is one. Takes no
-/// memory.
+/// The reason why a row at this place may not have a precision, if `has_precision`, or may not be
+/// without one, if not; `None` if it may. Takes no memory.
 #[inline(always)]
 pub fn refused_precision(row_place: &RowPlace, has_precision: bool) -> Option<RowReason>
     ensures first { (r : TableRow) → is_some r.precision ≡ has_precision
@@ -77,8 +78,8 @@ pub fn refused_precision(row_place: &RowPlace, has_precision: bool) -> Option<Ro
     None
 }
 
-/// The reason why a row of this kind at this place may not have `count` points, if there is one.
-/// Takes no memory.
+/// The reason why a row of this kind at this place may not have `count` points of its own, whatever
+/// the limits are; `None` if it may. Takes no memory.
 #[inline(always)]
 pub fn refused_count(row_place: &RowPlace, kind: Kind, count: usize) -> Option<RowReason>
     ensures first { (r : TableRow) → r.kind ≡ kind → length r.points ≡ count
@@ -93,7 +94,8 @@ pub fn refused_count(row_place: &RowPlace, kind: Kind, count: usize) -> Option<R
     None
 }
 
-// Reads the id of a row of this kind at this place, or returns the reason to refuse it.
+// Reads the id of a row of this kind at this place, `None` if the field is empty; an `Err` is the
+// reason to refuse the field.
 #[inline(always)]
 pub(crate) fn read_id(
     row_place: &RowPlace,
@@ -112,7 +114,8 @@ pub(crate) fn read_id(
     }
 }
 
-// Reads the precision of a row at this place, or returns the reason to refuse it.
+// Reads the precision of a row at this place, `None` if the field is empty; an `Err` is the reason
+// to refuse the field.
 #[inline(always)]
 pub(crate) fn read_precision(row_place: &RowPlace, field: &[u8]) -> Result<Option<i8>, RowReason>
     ensures read { IfOk result (λ precision. HasPrecision (place_seen row_place.now) field.now precision) }

@@ -13,8 +13,9 @@ impl<'a, R: Read> TableReader<'a, R> {
     ghost use Rattle.twkb_table.specs.TableReading.{Gives, Faults, Completes, FaultsIn, HasPoint, is_spent};
     ghost use Rattle.twkb_table.specs.Waiting.{point_row, IsPoint};
 
-    /// Whether the next geometry is known to be a point that is not empty, which `next_point` gives:
-    /// its row was read when the geometry before it was returned.
+    /// Whether the next geometry is known to be a point that is not empty, which `next_point`
+    /// gives: its row was read when the geometry before it was returned. False after an `Err`.
+    /// Takes no memory.
     #[inline(always)]
     pub fn has_point(&self) -> bool
         ensures { IsTrue result ↔ HasPoint self.now }
@@ -25,12 +26,11 @@ impl<'a, R: Read> TableReader<'a, R> {
         self.rows.waiting_point().is_some()
     }
 
-    /// Fast path: reads the next geometry if it is known to be a point that is not empty, and
-    /// returns its precision and the point, with no flat form. `None` proves nothing and reads
-    /// nothing: `next_flat` reads any geometry, and calls of the two may be mixed. Like any
-    /// geometry, the point is returned after the next root was accepted, or at the table's end.
-    /// After an `Err` each call returns `Spent`. Takes memory for the reader of `csv`, one record
-    /// and one root's points.
+    /// Fast path: if `has_point`, returns the precision and the point of the next geometry; else
+    /// `None`, reading nothing: `next_flat` reads any geometry, and calls of the two may be mixed.
+    /// The point is returned after the next root was accepted, or at the table's end; an `Err` is
+    /// as with `next_flat`, and after it each call returns `Spent`. Takes memory for the reader of
+    /// `csv`, one record and one root's points.
     #[inline(always)]
     pub fn next_point(&mut self) -> Result<Option<(i8, Pt)>, TableFault>
         ensures gives { IfOk result (λ found. IfSome found
@@ -60,7 +60,9 @@ impl<'a, R: Read> TableReader<'a, R> {
         }
     }
 
-    // Reads the record after the point that waits: the next root, or the table's end.
+    // Reads the record after the root that waits, which must be a point that is not empty. The
+    // record is the next root, and waits then; at the table's end none waits. An `Err` is the
+    // reason to refuse the record, or why it could not be read.
     #[inline(always)]
     fn read_after_point(&mut self) -> Result<(), TableFault>
         requires point { IsPoint (waiting self.old.rows) }

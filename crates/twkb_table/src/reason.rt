@@ -46,7 +46,8 @@ pub enum RowReason {
 }
 
 impl RowReason {
-    /// The reason in a few words, without the place in a polyline. Takes no memory.
+    /// The reason in a few words, at most 31 bytes, without the place in a polyline. Takes no
+    /// memory.
     #[tactic(auto, using(crate::proofs::ShortTexts::short_row))]
     pub fn text(self) -> &'static str
         ensures words { result.now ≡ row_words self }

@@ -10,7 +10,8 @@ use std::alloc::Global;
 use std::io::Read;
 use twkb_io::Tap;
 
-/// The records that `csv` reads from a tap, with any number of fields, unchanged (RFC 4180).
+/// The records that `csv` reads from a tap, one at a time, each with any number of fields, and the
+/// fields as they are (RFC 4180).
 #[derive(Drop)]
 pub struct RecordSource<'a, R> {
     reader: Reader<&'a mut Tap<R>>,
@@ -23,7 +24,8 @@ impl<'a, R: Read> RecordSource<'a, R> {
     ghost use Rattle.twkb_table.specs.SourceStanding.{StandsAfter, GivesRecord, Ends, Faults};
     ghost use Rattle.twkb_table.specs.SourceStanding.{is_ended, is_spent, record_in};
 
-    /// Makes a source that has read nothing. Takes no memory.
+    /// Makes a source of the records that the tap still has, which has read nothing. Takes no
+    /// memory.
     pub fn new(alloc: Global, tap: &'a mut Tap<R>) -> RecordSource<'a, R>
         ensures { StandsAfter R.remaining (R.remaining (device_of tap.old)) [] result }
     {
@@ -35,16 +37,18 @@ impl<'a, R: Read> RecordSource<'a, R> {
         }
     }
 
-    /// The last record read.
+    /// The record that the last call of `read` read. After a call that returned false or an `Err`,
+    /// nothing is known of it. Takes no memory.
     pub fn record(&self) -> &ByteRecord
         ensures { result.now ≡ record_in self.now }
     {
         &self.last
     }
 
-    /// Reads the next record, and returns whether there was one. `Source` says that the reader
-    /// failed or memory was refused. After an `Err` each call returns `Spent`; after the end each
-    /// call returns that there is none. Takes memory for the reader of `csv` and one record.
+    /// Reads the next record, which `record` then gives, and returns whether there was one. The
+    /// `Err` is `Source` if the device failed or memory was refused. After an `Err` each call
+    /// returns `Spent`, and after the end false. Takes memory for the reader of `csv` and one
+    /// record.
     pub fn read(&mut self) -> Result<bool, TableFault>
         ensures gives { IfOk result (λ found. found ≡ true → GivesRecord R.remaining self.old self.new) }
         ensures ends { IfOk result (λ found. found ≡ false → Ends R.remaining self.old self.new) }
@@ -65,8 +69,9 @@ impl<'a, R: Read> RecordSource<'a, R> {
     }
 }
 
-// Reads the next record, and returns whether there was one. After the end each call returns that
-// there is none.
+// Reads the next record into `last`, and returns whether there was one; if not, sets `ended`. If
+// `ended` is set before, returns false and reads nothing. The `Err` is `Source`: the device failed,
+// or memory was refused; nothing is then known of `last`.
 #[inline(always)]
 pub(crate) fn read_next<R: Read>(
     reader: &mut Reader<&mut Tap<R>>,
@@ -93,7 +98,8 @@ pub(crate) fn read_next<R: Read>(
     Ok(found)
 }
 
-// Makes a reader of records of any length, unchanged.
+// Makes a reader of `csv` over a tap, which has read nothing. It gives all records, the first one
+// too, with any number of fields, and the fields as they are.
 pub(crate) fn new_reader<'a, R: Read>(alloc: Global, tap: &'a mut Tap<R>) -> Reader<&'a mut Tap<R>>
     ensures { HasGiven R.remaining (R.remaining (device_of tap.old)) [] result }
 {

@@ -20,8 +20,8 @@ use twkb_flat::{PointSource, Row, Stop};
 use twkb_points::Pt;
 use twkb_tree::{Kind, Limits, OpenRow, RowPlace};
 
-// Reads the row of these fields except for its points, given its kind and place, or finds the
-// reason to refuse it.
+// Judges a row of this kind by its place, its id and its precision. Returns the row, whose points
+// are still to be read from `text`, or the first reason to refuse it.
 #[inline(always)]
 fn judge_at<'a>(
     limits: &Limits,
@@ -58,8 +58,8 @@ fn judge_at<'a>(
     })
 }
 
-// Reads the row of a record of these five fields except for its points, or finds the reason to
-// refuse it.
+// Judges a record of five fields as `judge_head` does: returns its row, whose points are still to
+// be read, or the first reason to refuse it.
 #[inline(always)]
 fn judge_fields<'a>(
     limits: &Limits,
@@ -94,10 +94,10 @@ fn judge_fields<'a>(
     )
 }
 
-// Reads a record after the first except for its points, given the open rows of the rows so far,
-// the root first, and the counts of rows and points since the last root. Returns its row, or the
-// first reason to refuse it (profile); the verdict on its points is then the verdict on the
-// record.
+// Judges a record after the header, except for its points, given the open rows, the root first, and
+// the numbers of rows and of points since the last root. Returns its row, whose points are still to
+// be read, or the first reason to refuse it (profile); if the row is returned, the verdict on its
+// points is the verdict on the record.
 #[inline(always)]
 pub(crate) fn judge_head<'a>(
     limits: &Limits,
@@ -120,10 +120,10 @@ pub(crate) fn judge_head<'a>(
     judge_fields(limits, rows, nodes, points_before, &fields)
 }
 
-/// Reads a record after the first, given the open rows of the rows so far, the root first, and
-/// the counts of rows and points since the last root. Returns its row, or the first reason to
-/// refuse it (profile). The row's points replace those in `points`, which alone takes memory.
-/// After an `Err` the contents of `points` are not specified.
+/// Judges a record after the header, given the open rows, the root first, and the numbers of rows
+/// and of points since the last root. Returns its row, whose points replace those in `points`. An
+/// `Err` is `Memory` or the first reason to refuse the record (profile); after it nothing is known
+/// of `points`. Takes memory for the points alone.
 #[inline(always)]
 pub fn judge(
     limits: &Limits,

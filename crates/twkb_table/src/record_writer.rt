@@ -23,7 +23,7 @@ pub(crate) struct RecordWriter {
 }
 
 impl RecordWriter {
-    // Makes a writer that wrote no record. Takes no memory.
+    // Makes a writer that has written no record. Takes no memory.
     pub(crate) fn new(alloc: Global) -> RecordWriter
         ensures ready { IsReady result.writer }
         ensures empty { text_of result.writer ≡ [] }
@@ -34,7 +34,9 @@ impl RecordWriter {
         }
     }
 
-    // Writes the record of a row with its points.
+    // Appends the record of a row with its points to the text; the writer must be between two
+    // records. Takes memory; after an `Err` nothing is known of the text, and the writer must not
+    // be used again.
     pub(crate) fn write_row(&mut self, row: &Row, points: &[Pt]) -> Result<(), AllocError>
         requires ready { IsReady self.old.writer }
         ensures { OnOk result (Writes self.old.writer self.new.writer (row_lines (row_with row.now points.now ∷ []))) }
@@ -54,7 +56,7 @@ impl RecordWriter {
         write_record(&mut self.writer, &fields)
     }
 
-    // Returns the text of all records.
+    // Gives up the writer, and returns the text of all records. An `Err` is want of memory.
     pub(crate) fn into_text(self) -> Result<Vec<u8>, AllocError>
         ensures { IfOk result (λ text. text.items ≡ text_of self.writer) }
     {
@@ -65,8 +67,8 @@ impl RecordWriter {
     }
 }
 
-// Writes one record. It fails only if memory for the text is refused, since each record has five
-// fields.
+// Appends a record of five fields to the text of a writer, which must be between two records. It
+// fails only if memory for the text is refused, since all records have as many fields.
 fn write_record(writer: &mut Writer<Vec<u8>>, fields: &Fields<'_>) -> Result<(), AllocError>
     requires ready { IsReady writer.old }
     ensures { OnOk result (Writes writer.old writer.new (row_text default_writer (record_seen fields.now))) }
@@ -83,7 +85,7 @@ fn write_record(writer: &mut Writer<Vec<u8>>, fields: &Fields<'_>) -> Result<(),
     Ok(())
 }
 
-// The canonical decimal of a number, or an empty field if there is none.
+// The canonical decimal of a number, made in the buffer, or an empty field if there is no number.
 fn number_field(number: Option<i64>, buffer: &mut Buffer) -> &[u8]
     ensures spelled { result.now ≡ optional number }
     ensures bare { IsBare result.now }
@@ -94,7 +96,7 @@ fn number_field(number: Option<i64>, buffer: &mut Buffer) -> &[u8]
     }
 }
 
-// A precision as an i64.
+// A precision, if there is one, as an i64.
 fn widened(precision: Option<i8>) -> Option<i64>
     ensures { result ≡ precision }
 {

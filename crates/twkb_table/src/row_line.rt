@@ -14,9 +14,9 @@ use twkb_num::Piece;
 use twkb_points::Pt;
 use twkb_polyline::{encode_into, encode_point};
 
-// Appends the line of a row with its points, or a prefix of it if memory is refused. The fields
-// before the points are gathered first and appended together, with one test for memory; so is the
-// complete line of a row of one point.
+// Appends the line of a row with its points, ended by LF. Takes memory; if it is refused, a prefix
+// of the line may be appended. The fields before the points are gathered first and appended
+// together, with one test for memory; so is the complete line of a row of one point.
 pub(crate) fn put_row(row: &Row, points: &[Pt], text: &mut Vec<u8>) -> Result<(), AllocError>
     ensures appended { OnOk result (text.new.items ≡ text.old.items ++ row_lines (row_with row.now points.now ∷ [])) }
     ensures grown { Grows text.old.items text.new.items }
@@ -33,7 +33,8 @@ pub(crate) fn put_row(row: &Row, points: &[Pt], text: &mut Vec<u8>) -> Result<()
     text.extend_from_slice(b"\n")
 }
 
-// Gathers the depth, the kind, the id and the precision of a row, each followed by a comma.
+// Writes the depth, the kind, the id and the precision of a row, each followed by a comma, into a
+// piece, which must be empty: at most 79 bytes.
 #[inline(always)]
 fn push_head(row: &Row, head: &mut Piece<128>)
     requires empty { head.old ≡ [] }
@@ -49,8 +50,8 @@ fn push_head(row: &Row, head: &mut Piece<128>)
     head.push(b',');
 }
 
-// Gathers the canonical decimal of a number. Most have one digit, and pushing a byte is cheaper
-// than pushing a slice.
+// Appends the canonical decimal of a number to a piece, which must have room for 20 bytes. Most
+// numbers have one digit, and pushing a byte is cheaper than pushing a slice.
 #[inline(always)]
 fn push_number(number: i64, head: &mut Piece<128>)
     requires room { length head.old + 20 ≤ 128 }
@@ -64,7 +65,8 @@ fn push_number(number: i64, head: &mut Piece<128>)
     }
 }
 
-// Gathers the canonical decimal of an id, if there is one.
+// Appends the canonical decimal of an id, if there is one, to a piece, which must have room for 20
+// bytes.
 #[inline(always)]
 fn push_id(id: Option<i64>, head: &mut Piece<128>)
     requires room { length head.old + 20 ≤ 128 }
@@ -77,7 +79,8 @@ fn push_id(id: Option<i64>, head: &mut Piece<128>)
     }
 }
 
-// Gathers the canonical decimal of a precision, if there is one.
+// Appends the canonical decimal of a precision, if there is one, to a piece, which must have room
+// for 20 bytes.
 #[inline(always)]
 fn push_precision(precision: Option<i8>, head: &mut Piece<128>)
     requires room { length head.old + 20 ≤ 128 }

@@ -41,7 +41,7 @@ impl RowReader {
     ghost use Rattle.twkb_table.specs.RowReading.{limits_of, waiting, BeginsFirst, JudgedAfter};
     ghost use Rattle.twkb_table.specs.RowReading.{Keeps, GoesOn, EndsBefore};
 
-    // Makes a state with no rows. Takes no memory.
+    // Makes a reader that has read no row, and in which no root waits. Takes no memory.
     pub(crate) fn new(alloc: Global, limits: Limits) -> RowReader
         ensures limits { limits_of result ≡ limits }
         ensures none { waiting result ≡ [] }
@@ -54,7 +54,7 @@ impl RowReader {
         }
     }
 
-    // Whether a root waits.
+    // Whether the root of the next geometry waits.
     #[inline(always)]
     pub(crate) fn has_root(&self) -> bool
         ensures { IsTrue result ↔ (0 < length (waiting self.now)) }
@@ -62,9 +62,10 @@ impl RowReader {
         self.waiting.is_some()
     }
 
-    // Reads a record while no row is open that may have children: before the first geometry, and
-    // after a point. It is the root of the next geometry, and then waits. An `Err` is the first
-    // reason to refuse it, or want of memory for its points.
+    // Reads a record as the root of the next geometry, which then waits, in place of any root that
+    // did. That is right if no open row may have children: before the first geometry, and after a
+    // point. An `Err` is the first reason to refuse the record, or want of memory for its points;
+    // then no root waits.
     #[inline(always)]
     pub(crate) fn read_root(&mut self, csv_record: &ByteRecord) -> Result<(), Stop<RowReason>>
         ensures read { OnOk result (BeginsFirst self.old (fields_of csv_record.now) self.new) }
@@ -90,7 +91,8 @@ impl RowReader {
         }
     }
 
-    // The precision and the point of the root that waits, if that is a point that is not empty.
+    // The precision and the point of the root that waits, if it is a point that is not empty; else
+    // `None`.
     #[inline(always)]
     pub(crate) fn waiting_point(&self) -> Option<(i8, Pt)>
         ensures point { IfSome result (λ found. waiting self.now ≡ point_row found.0 found.1 ∷ []) }
@@ -105,7 +107,7 @@ impl RowReader {
         }
     }
 
-    // Lets go of the root that waits, whose geometry is complete.
+    // Forgets the root that waits, if one does.
     #[inline(always)]
     pub(crate) fn forget_root(&mut self)
         ensures none { waiting self.new ≡ [] }
@@ -114,8 +116,9 @@ impl RowReader {
         self.waiting = None;
     }
 
-    // Moves the root that waits into a flat form, in place of the form's rows. Takes memory; the
-    // root waits no more, after an `Err` too.
+    // Moves the root that waits, of which there must be one, into a flat form, in place of the
+    // form's rows. Takes memory. After an `Err` too no root waits, and nothing is known of the
+    // form.
     #[inline(always)]
     pub(crate) fn begin(&mut self, flat: &mut Flat) -> Result<(), AllocError>
         requires waits { 0 < length (waiting self.old) }
@@ -140,9 +143,10 @@ impl RowReader {
         Ok(())
     }
 
-    // Reads a record after the rows of the flat form. A row of the same geometry is appended there,
-    // and the answer is `true`; the root of the next geometry waits, and the answer is `false`. An
-    // `Err` is the first reason to refuse the record, or want of memory.
+    // Reads a record after the rows of a flat form, which must be those that `begin` and earlier
+    // calls put there. Appends a row of the same geometry to them and returns true, or keeps the
+    // root of the next geometry, which then waits, and returns false. An `Err` is the first reason
+    // to refuse the record, or want of memory; after it nothing is known of the form.
     #[inline(always)]
     pub(crate) fn read_row(
         &mut self,
@@ -190,7 +194,8 @@ impl RowReader {
         Ok(true)
     }
 
-    // Judges a record after the rows of the flat form, except for its points.
+    // Judges a record, except for its points, after the rows of a flat form, which must be those of
+    // the open geometry: returns its row, or the first reason to refuse it.
     #[inline(always)]
     fn judge_next<'a>(
         &self,

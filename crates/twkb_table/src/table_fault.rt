@@ -5,7 +5,7 @@ use thiserror::Error;
 /// Why a reader of tables gave no geometry.
 #[derive(Clone, Copy, Debug, PartialEq, Eq, Error)]
 pub enum TableFault {
-    /// No memory for the rows or the tree of a geometry.
+    /// Memory was refused for the rows or the tree of a geometry.
     #[error("out of memory")]
     Memory,
     /// `csv` returned an error: the device failed, or memory was refused.

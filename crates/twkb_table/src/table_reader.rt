@@ -49,7 +49,8 @@ impl<'a, R: Read> TableReader<'a, R> {
     ghost use Rattle.twkb_table.specs.TableReading.{Faults, ShowsHeader, ShowsRoot, IsOver, IsGoing};
     ghost use Rattle.twkb_table.specs.TableReading.{is_spent, records_read};
 
-    /// Makes a reader that has read nothing. Each geometry must keep the limits. Takes no memory.
+    /// Makes a reader of the table that the tap still has, which has read nothing. It refuses a
+    /// geometry past the limits when it reads it. Takes no memory.
     pub fn new(alloc: Global, tap: &'a mut Tap<R>, limits: Limits) -> TableReader<'a, R>
         ensures { StandsAfter limits R.remaining (R.remaining (device_of tap.old)) [] [] result }
     {
@@ -66,10 +67,11 @@ impl<'a, R: Read> TableReader<'a, R> {
     }
 
     /// Reads the next geometry into a flat form, in place of its rows, and returns whether there
-    /// was one; after `false` and after an `Err` the form is empty. A geometry is returned after
-    /// the next root was accepted, or at the table's end. After the end each call returns
-    /// `false`, after an `Err` each call returns `Spent`, and neither reads more. Takes memory
-    /// for the reader of `csv`, one record, one root's points, the open rows, and the flat form.
+    /// was one, after the next root was accepted, or at the table's end. After a false or an `Err`
+    /// the form is empty. An `Err` is `Source`, `Memory`, `TooManyRecords` or the first refused
+    /// record; after it each call returns `Spent`, and after the end false; neither reads. Takes
+    /// memory for the reader of `csv`, one record, one root's points, the open rows, and the flat
+    /// form.
     pub fn next_flat(&mut self, flat: &mut Flat) -> Result<bool, TableFault>
         ensures gives { IfOk result (λ found. found ≡ true → Gives R.remaining self.old flat.new self.new) }
         ensures ends { IfOk result (λ found. found ≡ false → Ends R.remaining self.old self.new) }
@@ -109,8 +111,9 @@ impl<'a, R: Read> TableReader<'a, R> {
         }
     }
 
-    /// Returns the next geometry, or `None` at the table's end, as `next_flat` reads them; calls
-    /// of the two may be mixed. Takes memory for the geometry too.
+    /// Reads the next geometry as `next_flat` does, with the same faults, and returns it, or `None`
+    /// at the table's end. Calls of the two may be mixed. Takes memory as `next_flat` does, and for
+    /// the geometry.
     pub fn next(&mut self) -> Result<Option<Geometry>, TableFault>
         ensures gives { IfOk result (λ found. IfSome found
             (λ geometry. GivesGeometry R.remaining self.old geometry self.new)) }
@@ -147,8 +150,9 @@ impl<'a, R: Read> TableReader<'a, R> {
         !self.rows.has_root()
     }
 
-    // Reads the next geometry into a flat form, builds it, and returns it; `None` at the table's
-    // end. An `Err` is as with `next_flat`, or `Memory` if there is none for the geometry.
+    // Reads the next geometry into a flat form, in place of its rows, and returns it built; `None`
+    // at the table's end. An `Err` is as with `next_flat`, or `Memory` if it is refused for the
+    // geometry.
     #[inline(never)]
     fn next_tree(&mut self, flat: &mut Flat) -> Result<Option<Geometry>, TableFault>
         ensures gives { IfOk result (λ found. IfSome found
@@ -172,7 +176,8 @@ impl<'a, R: Read> TableReader<'a, R> {
     }
 
     // Moves the root of the next geometry into a flat form, in place of its rows, and returns
-    // whether there is one.
+    // whether there is one; reads the header and the first root before, if need be. `Spent` if the
+    // reader is spent; any other `Err` does not mark it as spent.
     #[inline(always)]
     fn begin_geometry(&mut self, flat: &mut Flat) -> Result<bool, TableFault>
         ensures begins { IfOk result (λ found. found ≡ true → Begins R.remaining self.old flat.new self.new) }
@@ -204,7 +209,7 @@ impl<'a, R: Read> TableReader<'a, R> {
         }
     }
 
-    // Marks that a call returned an error, and empties the form.
+    // Marks the reader as spent because of a fault, empties the form, and returns the fault.
     #[cold]
     fn spend(&mut self, flat: &mut Flat, fault: TableFault) -> TableFault
         ensures fault { result ≡ fault }
@@ -218,7 +223,7 @@ impl<'a, R: Read> TableReader<'a, R> {
     }
 
     // Makes sure that the root of the next geometry waits, and returns whether there is one. If
-    // none waits, the first root is read, after the header if need be.
+    // none waits, reads the first root, and before it the header if no record was read.
     #[inline(always)]
     fn next_root(&mut self) -> Result<bool, TableFault>
         ensures reads { ShowsRoot R.remaining self.old self.new result }
@@ -239,7 +244,8 @@ impl<'a, R: Read> TableReader<'a, R> {
         self.first_root()
     }
 
-    // Reads the first record, which must be the header.
+    // Reads the first record of the table. An `Err` is `BadHeader` at record 1 if it is missing or
+    // is not the header, or `Source`. No record may have been read before, and no root may wait.
     #[inline(never)]
     fn read_header(&mut self) -> Result<(), TableFault>
         requires first { records_read self.old ≡ 0 }
@@ -262,8 +268,8 @@ impl<'a, R: Read> TableReader<'a, R> {
         Ok(())
     }
 
-    // Reads the root of the first geometry, after the header, and returns whether there is one; it
-    // then waits.
+    // Reads the next record as the root of the first geometry, which then waits, and returns
+    // whether there is one. The header must have been read, and no root may wait.
     #[inline(never)]
     fn first_root(&mut self) -> Result<bool, TableFault>
         requires begun { 0 < records_read self.old }
