@@ -4,10 +4,11 @@ the box of all points.
 
     twkb_info.py [--headers NUMBER] [--svg FILE] STREAM
 
-It runs 'polytwkb show' and 'polytwkb unpack' on the file STREAM and holds one geometry at a time, so the stream may be
-of any size; a million points in long lines take 2 s. The first NUMBER headers are listed, 20 if it is not given. The box is that of
-the points, and not what headers say. With --svg a picture of all points goes to FILE, with x to the right and y up. If
-the stream is refused, the totals are of the blobs before, and the status is that of 'polytwkb show'.
+It runs 'polytwkb show' and 'polytwkb unpack' on the file STREAM and holds one geometry at a time, so the stream may
+be of any size; a million points in long lines take 2 s. The first NUMBER headers are listed, 20 if it is not given.
+The box is that of the points, and not what headers say. With --svg a picture of all points goes to FILE, with x to
+the right and y up. If the stream is refused, the totals are of the blobs before, and the status is that of 'polytwkb
+show'.
 """
 import os
 import subprocess
