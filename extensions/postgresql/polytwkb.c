@@ -107,14 +107,16 @@ static Datum kind_value(uint16_t kind, kind_text *value) {
     return PointerGetDatum(value);
 }
 
-/* Begins a set whose rows are as the statement expects them. They are made so, and the server need not compare. */
+/*
+ * Begins a set with the columns that the statement expects. The server's own function for this also copies their
+ * description, compares the copy and frees it, for each blob; it is called for its errors if no set can be given.
+ */
 static Tuplestorestate *begin_set(FunctionCallInfo fcinfo, TupleDesc *columns) {
     ReturnSetInfo *set = (ReturnSetInfo *)fcinfo->resultinfo;
-    MemoryContext before;
     if (!set || !IsA(set, ReturnSetInfo) || !(set->allowedModes & SFRM_Materialize) || !set->expectedDesc) {
-        ereport(ERROR, (errcode(ERRCODE_FEATURE_NOT_SUPPORTED), errmsg("polytwkb: a set cannot be given here")));
+        InitMaterializedSRF(fcinfo, MAT_SRF_USE_EXPECTED_DESC);
     }
-    before = MemoryContextSwitchTo(set->econtext->ecxt_per_query_memory);
+    MemoryContext before = MemoryContextSwitchTo(set->econtext->ecxt_per_query_memory);
     set->setResult = tuplestore_begin_heap((set->allowedModes & SFRM_Materialize_Random) != 0, false, work_mem);
     MemoryContextSwitchTo(before);
     set->returnMode = SFRM_Materialize;

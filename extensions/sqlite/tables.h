@@ -148,7 +148,7 @@ static void result_of_row(const cursor *at, sqlite3_context *context, int column
     const polytwkb_row *row = &at->found.rows[at->row];
     switch (column) {
     case 0: sqlite3_result_int64(context, row->depth); break;
-    case 1: sqlite3_result_text(context, twkb_kinds[row->kind].word, (int)twkb_kinds[row->kind].length, SQLITE_STATIC); break;
+    case 1: sqlite3_result_text(context, twkb_kinds[row->kind].word, -1, SQLITE_STATIC); break;
     case 2: if (row->has_id) sqlite3_result_int64(context, row->id); break;
     case 3: if (row->precision != POLYTWKB_NO_PRECISION) sqlite3_result_int(context, row->precision); break;
     default: if (twkb_has_points(row->kind)) result_polyline(context, at->found.points + at->point, row->points);
