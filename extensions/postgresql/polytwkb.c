@@ -38,10 +38,10 @@ static void check_end(twkb_end end, const twkb_fault_text *fault, int state) {
 
 static const uint8_t *bytes_of(const bytea *blob) { return (const uint8_t *)VARDATA_ANY(blob); }
 
-static twkb_arrays arrays_of(const bytea *blob) {
+static twkb_arrays arrays_of(const bytea *blob, twkb_small *small) {
     twkb_arrays found;
     twkb_fault_text fault;
-    check_end(twkb_read(bytes_of(blob), VARSIZE_ANY_EXHDR(blob), &found, &fault), &fault, REFUSED_BLOB);
+    check_end(twkb_read(bytes_of(blob), VARSIZE_ANY_EXHDR(blob), small, &found, &fault), &fault, REFUSED_BLOB);
     return found;
 }
 
@@ -74,62 +74,93 @@ Datum twkb_fault(PG_FUNCTION_ARGS) {
 
 PG_FUNCTION_INFO_V1(twkb_polyline);
 Datum twkb_polyline(PG_FUNCTION_ARGS) {
-    twkb_arrays found = arrays_of(PG_GETARG_BYTEA_PP(0));
+    twkb_small small;
+    twkb_arrays found = arrays_of(PG_GETARG_BYTEA_PP(0), &small);
     twkb_output output = {.front = VARHDRSZ};
     bool is_line = twkb_has_points(found.rows[0].kind);
     Datum polyline = is_line ? polyline_of(found.points, found.point_count, &output) : (Datum)0;
-    pfree(found.block);
+    twkb_free_arrays(&found);
     if (!is_line) PG_RETURN_NULL();
     PG_RETURN_DATUM(polyline);
 }
 
 PG_FUNCTION_INFO_V1(twkb_geojson);
 Datum twkb_geojson(PG_FUNCTION_ARGS) {
-    twkb_arrays found = arrays_of(PG_GETARG_BYTEA_PP(0));
+    twkb_small small;
+    twkb_arrays found = arrays_of(PG_GETARG_BYTEA_PP(0), &small);
     twkb_text text = {.bytes = palloc(256), .length = VARHDRSZ, .room = 256};
     check_end(twkb_put_geojson(&text, &found), NULL, REFUSED_BLOB);
-    pfree(found.block);
+    twkb_free_arrays(&found);
     PG_RETURN_DATUM(value_of(text.bytes, text.length - VARHDRSZ));
 }
 
 /* ---- sets */
 
+/* A word of a kind as a value: it is short, so the header has one byte. */
+typedef struct {
+    char header_and_word[24];
+} kind_text;
+
+static Datum kind_value(uint16_t kind, kind_text *value) {
+    SET_VARSIZE_SHORT(value, VARHDRSZ_SHORT + twkb_kinds[kind].length);
+    memcpy(VARDATA_SHORT(value), twkb_kinds[kind].word, twkb_kinds[kind].length);
+    return PointerGetDatum(value);
+}
+
+/*
+ * Begins a set with the columns that the statement expects. The server's own function for this also copies their
+ * description, compares the copy and frees it, for each blob; it is called for its errors if no set can be given.
+ */
+static Tuplestorestate *begin_set(FunctionCallInfo fcinfo, TupleDesc *columns) {
+    ReturnSetInfo *set = (ReturnSetInfo *)fcinfo->resultinfo;
+    if (!set || !IsA(set, ReturnSetInfo) || !(set->allowedModes & SFRM_Materialize) || !set->expectedDesc) {
+        InitMaterializedSRF(fcinfo, MAT_SRF_USE_EXPECTED_DESC);
+    }
+    MemoryContext before = MemoryContextSwitchTo(set->econtext->ecxt_per_query_memory);
+    set->setResult = tuplestore_begin_heap((set->allowedModes & SFRM_Materialize_Random) != 0, false, work_mem);
+    MemoryContextSwitchTo(before);
+    set->returnMode = SFRM_Materialize;
+    *columns = set->expectedDesc;
+    return set->setResult;
+}
+
 PG_FUNCTION_INFO_V1(twkb_rows);
 Datum twkb_rows(PG_FUNCTION_ARGS) {
-    twkb_arrays found = arrays_of(PG_GETARG_BYTEA_PP(0));
-    ReturnSetInfo *set = (ReturnSetInfo *)fcinfo->resultinfo;
+    twkb_small small;
+    twkb_arrays found = arrays_of(PG_GETARG_BYTEA_PP(0), &small);
     twkb_output output = {.front = VARHDRSZ};
     const polytwkb_point *points = found.points;
-    InitMaterializedSRF(fcinfo, MAT_SRF_USE_EXPECTED_DESC);
+    kind_text kind;
+    TupleDesc columns;
+    Tuplestorestate *set = begin_set(fcinfo, &columns);
     for (uint64_t place = 0; place < found.row_count; place++) {
         const polytwkb_row *row = &found.rows[place];
         bool nulls[] = {
             false, false, !row->has_id, row->precision == POLYTWKB_NO_PRECISION, !twkb_has_points(row->kind),
         };
         Datum values[] = {
-            Int32GetDatum((int32)row->depth), CStringGetTextDatum(twkb_kinds[row->kind]), Int64GetDatum(row->id),
+            Int32GetDatum((int32)row->depth), kind_value(row->kind, &kind), Int64GetDatum(row->id),
             Int32GetDatum(row->precision), nulls[4] ? (Datum)0 : polyline_of(points, row->points, &output),
         };
-        tuplestore_putvalues(set->setResult, set->setDesc, values, nulls);
-        pfree(DatumGetPointer(values[1]));
+        tuplestore_putvalues(set, columns, values, nulls);
         points += row->points;
         CHECK_FOR_INTERRUPTS();
     }
     if (output.memory) pfree(output.memory);
-    pfree(found.block);
+    twkb_free_arrays(&found);
     return (Datum)0;
 }
 
 PG_FUNCTION_INFO_V1(twkb_show);
 Datum twkb_show(PG_FUNCTION_ARGS) {
     bytea *blob = PG_GETARG_BYTEA_PP(0);
-    ReturnSetInfo *set = (ReturnSetInfo *)fcinfo->resultinfo;
     twkb_output lines = {0};
     twkb_fault_text fault;
     twkb_header header;
     bool nulls[7] = {false};
     check_end(twkb_put_headers(bytes_of(blob), VARSIZE_ANY_EXHDR(blob), &lines, &fault), &fault, REFUSED_BLOB);
-    InitMaterializedSRF(fcinfo, MAT_SRF_USE_EXPECTED_DESC);
+    TupleDesc columns;
+    Tuplestorestate *set = begin_set(fcinfo, &columns);
     for (const char *at = (const char *)lines.memory, *end = at + lines.length; at < end;) {
         at = twkb_take_header(at, &header);
         text *kind = cstring_to_text_with_len(header.kind, (int)header.kind_length);
@@ -138,7 +169,7 @@ Datum twkb_show(PG_FUNCTION_ARGS) {
             Int32GetDatum((int32)header.precision), Int32GetDatum((int32)header.metadata), Int64GetDatum(header.length),
             Int64GetDatum(header.points),
         };
-        tuplestore_putvalues(set->setResult, set->setDesc, values, nulls);
+        tuplestore_putvalues(set, columns, values, nulls);
         pfree(kind);
         CHECK_FOR_INTERRUPTS();
     }
@@ -173,11 +204,17 @@ static Datum packed(FunctionCallInfo fcinfo, const twkb_packing *packing, bool i
     return value_of(output.memory, output.length);
 }
 
+/* A polyline of up to so many points, or twice as many characters, is decoded into memory of the stack. */
+#define SMALL_LINE 1024
+
 PG_FUNCTION_INFO_V1(twkb_pack_one);
 Datum twkb_pack_one(PG_FUNCTION_ARGS) {
-    twkb_packing packing = {0};
+    polytwkb_row only;
+    polytwkb_point points[SMALL_LINE];
+    twkb_packing packing = {.rows = &only, .row_room = 1};
     twkb_values row = {0};
     take_common(fcinfo, 0, 1, 2, &row);
+    if (row.polyline_length / 2 <= SMALL_LINE) packing.points = points, packing.point_room = SMALL_LINE;
     check_end(twkb_put_row(&packing, &row), NULL, REFUSED_VALUE);
     return packed(fcinfo, &packing, true);
 }

@@ -31,14 +31,19 @@ typedef struct {
 static const char twkb_bytes_after[] = "bytes after the blob";
 
 /* Words of kinds, by their numbers. */
-static const char *const twkb_kinds[] = {
-    "", "point", "linestring", "polygon", "multipoint", "multilinestring", "multipolygon", "collection", "ring",
+#define TWKB_WORD(word) {word, sizeof(word) - 1}
+static const struct {
+    const char *word;
+    size_t length;
+} twkb_kinds[] = {
+    TWKB_WORD(""), TWKB_WORD("point"), TWKB_WORD("linestring"), TWKB_WORD("polygon"), TWKB_WORD("multipoint"),
+    TWKB_WORD("multilinestring"), TWKB_WORD("multipolygon"), TWKB_WORD("collection"), TWKB_WORD("ring"),
 };
 
 /* The number of a kind, 0 if the word is none. */
 static uint16_t twkb_kind_of(const char *word, size_t length) {
     for (uint16_t kind = POLYTWKB_KIND_POINT; kind <= POLYTWKB_KIND_RING; kind++) {
-        if (strlen(twkb_kinds[kind]) == length && memcmp(twkb_kinds[kind], word, length) == 0) return kind;
+        if (twkb_kinds[kind].length == length && memcmp(twkb_kinds[kind].word, word, length) == 0) return kind;
     }
     return 0;
 }
@@ -124,60 +129,72 @@ static twkb_end twkb_check_prefixes(const uint8_t *blob, size_t length, twkb_fau
     return TWKB_DONE;
 }
 
-/* The rows and points of a blob, in one block of memory. */
+/* Room for the rows and points of most blobs, on the stack. */
 typedef struct {
-    void *block;
-    polytwkb_row *rows;
-    polytwkb_point *points;
+    polytwkb_row rows[256];
+    polytwkb_point points[1024];
+} twkb_small;
+
+/* The rows and points of a blob: in the room that the caller gives, or in one block of memory if that is too small. */
+typedef struct {
+    void *block; /* NULL if there is none */
+    const polytwkb_row *rows;
+    const polytwkb_point *points;
     uint64_t row_count, point_count;
 } twkb_arrays;
 
-/* Blobs up to this length are read into arrays that always do; those of longer ones are counted first. */
-#define TWKB_SHORT 4096
+static void twkb_free_arrays(twkb_arrays *found) {
+    if (found->block) twkb_give_back(found->block);
+    found->block = NULL;
+}
 
-/* Takes memory for rows and points. What one blob may have always does, however many blobs the value has. */
-static bool twkb_take_arrays(twkb_arrays *found, uint64_t *row_room, uint64_t *point_room) {
+static polytwkb_counts twkb_read_small(const uint8_t *blob, size_t length, twkb_small *small) {
+    const size_t rows = sizeof small->rows / sizeof *small->rows, points = sizeof small->points / sizeof *small->points;
+    return polytwkb_read(blob, length, small->rows, rows, small->points, points, polytwkb_standard_limits());
+}
+
+/* Reads a blob into a block for as many rows and points as are needed, and no more than one blob may have. */
+static twkb_end twkb_read_large(const uint8_t *blob, size_t length, polytwkb_counts *counts, twkb_arrays *found) {
     polytwkb_limits limits = polytwkb_standard_limits();
-    if (*row_room > limits.nodes) *row_room = limits.nodes;
-    if (*point_room > limits.points) *point_room = limits.points;
-    found->block = twkb_take(*row_room * sizeof(polytwkb_row) + *point_room * sizeof(polytwkb_point) + 1);
-    found->rows = found->block;
-    found->points = (polytwkb_point *)(found->rows + *row_room);
-    return found->block != NULL;
+    uint64_t row_room = counts->needed_rows < limits.nodes ? counts->needed_rows : limits.nodes;
+    uint64_t point_room = counts->needed_points < limits.points ? counts->needed_points : limits.points;
+    found->block = twkb_take(row_room * sizeof(polytwkb_row) + point_room * sizeof(polytwkb_point) + 1);
+    if (!found->block) return TWKB_NO_MEMORY;
+    polytwkb_row *rows = found->block;
+    polytwkb_point *points = (polytwkb_point *)(rows + row_room);
+    *counts = polytwkb_read(blob, length, rows, row_room, points, point_room, limits);
+    found->rows = rows, found->points = points;
+    return TWKB_DONE;
 }
 
 /* Reads a value that is exactly one blob. On any other end there is no block to give back. */
-static twkb_end twkb_read(const uint8_t *blob, size_t length, twkb_arrays *found, twkb_fault_text *fault) {
-    polytwkb_limits limits = polytwkb_standard_limits();
-    uint64_t row_room = length, point_room = length / 2;
-    polytwkb_counts counts;
+static twkb_end twkb_read(const uint8_t *blob, size_t length, twkb_small *small, twkb_arrays *found,
+                          twkb_fault_text *fault) {
     twkb_end end = twkb_check_prefixes(blob, length, fault);
-    found->block = NULL;
+    *found = (twkb_arrays){.rows = small->rows, .points = small->points};
     if (end != TWKB_DONE) return end;
-    if (length > TWKB_SHORT) {
-        counts = polytwkb_read(blob, length, NULL, 0, NULL, 0, limits);
-        if (counts.status == POLYTWKB_MEMORY) return TWKB_NO_MEMORY;
-        row_room = counts.needed_rows, point_room = counts.needed_points;
+    polytwkb_counts counts = twkb_read_small(blob, length, small);
+    if (counts.status == POLYTWKB_TOO_SMALL && counts.done == 0) {
         twkb_pause();
+        if (twkb_read_large(blob, length, &counts, found) != TWKB_DONE) return TWKB_NO_MEMORY;
     }
-    if (!twkb_take_arrays(found, &row_room, &point_room)) return TWKB_NO_MEMORY;
-    counts = polytwkb_read(blob, length, found->rows, row_room, found->points, point_room, limits);
     found->row_count = counts.rows, found->point_count = counts.points;
     end = twkb_one_blob(blob, length, counts.status, counts.reason, counts.place, counts.done, fault);
-    if (end != TWKB_DONE) {
-        twkb_give_back(found->block);
-        found->block = NULL;
-    }
+    if (end != TWKB_DONE) twkb_free_arrays(found);
     return end;
 }
+
+/* Values up to this length are short. */
+#define TWKB_SHORT 4096
 
 /* Whether a value is exactly one blob. To read a short one takes less time than to measure its headers. */
 static twkb_end twkb_check(const uint8_t *blob, size_t length, twkb_fault_text *fault) {
     if (length <= TWKB_SHORT) {
-        twkb_arrays found;
-        twkb_end read = twkb_read(blob, length, &found, fault);
-        if (read == TWKB_DONE) twkb_give_back(found.block);
-        return read;
+        twkb_small small;
+        polytwkb_counts counts = twkb_read_small(blob, length, &small);
+        if (counts.status != POLYTWKB_TOO_SMALL || counts.done > 0) {
+            return twkb_one_blob(blob, length, counts.status, counts.reason, counts.place, counts.done, fault);
+        }
     }
     twkb_end end = twkb_check_prefixes(blob, length, fault);
     if (end != TWKB_DONE) return end;

@@ -72,12 +72,12 @@ static void twkb_fault(sqlite3_context *context, int count, sqlite3_value **valu
 }
 
 /* Reads a value that is one blob; on any other end the error of the statement is set. */
-static bool read_value(sqlite3_context *context, sqlite3_value *value, twkb_arrays *found) {
+static bool read_value(sqlite3_context *context, sqlite3_value *value, twkb_small *small, twkb_arrays *found) {
     twkb_fault_text fault;
     bytes_of_value blob;
     if (is_null(value)) return false;
     twkb_end end = take_blob(value, &blob, &fault);
-    if (end == TWKB_DONE) end = twkb_read(blob.bytes, blob.length, found, &fault);
+    if (end == TWKB_DONE) end = twkb_read(blob.bytes, blob.length, small, found, &fault);
     fail_by(context, end, &fault);
     return end == TWKB_DONE;
 }
@@ -93,25 +93,27 @@ static void result_polyline(sqlite3_context *context, const polytwkb_point *poin
 }
 
 static void twkb_polyline(sqlite3_context *context, int count, sqlite3_value **values) {
+    twkb_small small;
     twkb_arrays found;
     (void)count;
-    if (!read_value(context, values[0], &found)) return;
+    if (!read_value(context, values[0], &small, &found)) return;
     if (twkb_has_points(found.rows[0].kind)) result_polyline(context, found.points, found.point_count);
-    sqlite3_free(found.block);
+    twkb_free_arrays(&found);
 }
 
 static void twkb_geojson(sqlite3_context *context, int count, sqlite3_value **values) {
+    twkb_small small;
     twkb_arrays found;
     twkb_text text = {0};
     (void)count;
-    if (!read_value(context, values[0], &found)) return;
+    if (!read_value(context, values[0], &small, &found)) return;
     if (twkb_put_geojson(&text, &found) == TWKB_DONE) {
         sqlite3_result_text64(context, text.bytes, text.length, sqlite3_free, SQLITE_UTF8);
     } else {
         sqlite3_free(text.bytes);
         sqlite3_result_error_nomem(context);
     }
-    sqlite3_free(found.block);
+    twkb_free_arrays(&found);
 }
 
 /* ---- functions that pack */

@@ -31,6 +31,7 @@ typedef struct {
     twkb_header header;
     uint64_t row, point;
     bool is_end;
+    twkb_small small; /* the last field, which is not cleared */
 } cursor;
 
 static const table_form *form_of(const cursor *at) { return ((const table *)at->base.pVtab)->form; }
@@ -72,15 +73,15 @@ static int table_open(sqlite3_vtab *base, sqlite3_vtab_cursor **made) {
     cursor *at = sqlite3_malloc64(sizeof *at);
     (void)base;
     if (!at) return SQLITE_NOMEM;
-    memset(at, 0, sizeof *at);
+    memset(at, 0, offsetof(cursor, small));
     *made = &at->base;
     return SQLITE_OK;
 }
 
 static void clear(cursor *at) {
-    sqlite3_free(at->found.block);
+    twkb_free_arrays(&at->found);
     sqlite3_free(at->lines.memory);
-    memset((char *)at + sizeof at->base, 0, sizeof *at - sizeof at->base);
+    memset((char *)at + sizeof at->base, 0, offsetof(cursor, small) - sizeof at->base);
     at->is_end = true;
 }
 
@@ -115,7 +116,7 @@ static twkb_end read_table(cursor *at, sqlite3_value *value, twkb_fault_text *fa
     bytes_of_value blob;
     twkb_end end = take_blob(value, &blob, fault);
     if (end != TWKB_DONE) return end;
-    if (!form_of(at)->has_headers) return twkb_read(blob.bytes, blob.length, &at->found, fault);
+    if (!form_of(at)->has_headers) return twkb_read(blob.bytes, blob.length, &at->small, &at->found, fault);
     end = twkb_put_headers(blob.bytes, blob.length, &at->lines, fault);
     at->next_line = (const char *)at->lines.memory;
     if (end == TWKB_DONE) at->next_line = twkb_take_header(at->next_line, &at->header);
@@ -147,7 +148,7 @@ static void result_of_row(const cursor *at, sqlite3_context *context, int column
     const polytwkb_row *row = &at->found.rows[at->row];
     switch (column) {
     case 0: sqlite3_result_int64(context, row->depth); break;
-    case 1: sqlite3_result_text(context, twkb_kinds[row->kind], -1, SQLITE_STATIC); break;
+    case 1: sqlite3_result_text(context, twkb_kinds[row->kind].word, -1, SQLITE_STATIC); break;
     case 2: if (row->has_id) sqlite3_result_int64(context, row->id); break;
     case 3: if (row->precision != POLYTWKB_NO_PRECISION) sqlite3_result_int(context, row->precision); break;
     default: if (twkb_has_points(row->kind)) result_polyline(context, at->found.points + at->point, row->points);
