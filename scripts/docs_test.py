@@ -219,7 +219,7 @@ def main(words):
 
 def page_faults():
     """How many faults pages have that can be found without a program, each reported."""
-    return callers() + lines_not_run() + pages.main() + promises.main([]) + reasons.main()
+    return callers() + lines_not_run() + pages.main() + promises.main() + reasons.main()
 
 
 if __name__ == "__main__":

@@ -1,10 +1,6 @@
 #!/usr/bin/env python3
-"""Makes the tables of promises in docs/PROOFS.md from the READMEs of the crates and their folders must-fail/.
-
-    scripts/promises.py            reports what is wrong or stale; status 1 if anything is
-    scripts/promises.py --docs     writes the tables into docs/PROOFS.md, between their marks
-
-A table of promises in a README has the heads Promise, Clause and Edits; a crate without edits has no third column.
+"""Compares the tables of promises in the READMEs of crates with the code and the folders must-fail/; status 1 if a name is
+wrong. A table has the heads Promise, Clause and Edits; a crate without edits has no third column.
 
 - The names in a cell of Clause are in backticks. Each is, of the crate itself,
   - a public function that has a clause, or a function of a public trait or of an implementation of one;
@@ -21,10 +17,7 @@ import sys
 
 from pages import REPO, report, text_of
 
-DOCUMENT = "docs/PROOFS.md"
-MADE = re.compile(r"(?<=<!-- promises: begin -->\n).*(?=\n<!-- promises: end -->)", re.S)
-HEAD = ["Promise", "Clause", "Edits"]
-
+TABLE = re.compile(r"^\| Promise \| Clause \|(?: Edits \|)?\n\|[-| ]*\n((?:\|.*\n)+)", re.M)
 BLOCK = re.compile(r"(pub )?(?:unsafe )?(trait|impl)\b(.*)")
 FUNCTION = re.compile(r'\s*(pub(?:\([a-z]+\))? |)(?:const |unsafe |extern "C" )*fn (\w+)')
 CLAUSE = re.compile(r"\s*(?:ensures|requires)\*?\s+(?:(\w+)\s+)?\{")
@@ -68,22 +61,11 @@ def edits_of(crate):
     return {os.path.basename(path).removesuffix(".edit") for path in paths}
 
 
-def cells_of(line):
-    """The cells of a line of a table."""
-    return [cell.strip() for cell in line.strip().strip("|").split("|")]
-
-
 def rows_of(crate):
-    """The rows of the tables of promises in a crate's README: the line's number, promise, clause and edits of each."""
-    rows, inside = [], False
-    for number, line in enumerate(text_of(f"crates/{crate}/README.md").split("\n"), 1):
-        if not line.startswith("|"):
-            inside = False
-        elif cells_of(line) in (HEAD, HEAD[:2]):
-            inside = True
-        elif inside and not line.startswith("|---"):
-            rows.append((number, *(cells_of(line) + [""])[:3]))
-    return rows
+    """The rows of the tables of promises in a crate's README: promise, clause and edits of each."""
+    for table in TABLE.findall(text_of(f"crates/{crate}/README.md")):
+        for line in table.splitlines():
+            yield [cell.strip() for cell in line.strip("|").split("|")]
 
 
 def backticked(cell):
@@ -93,48 +75,26 @@ def backticked(cell):
 
 def faults_of(crate, rows):
     """What is wrong with the rows of a crate, a line each."""
-    here = f"crates/{crate}/README.md"
     names, shown, edits = citable(crate), set(), edits_of(crate)
-    for number, promise, clause, cell in rows:
+    for promise, clause, *cells in rows:
+        here = f"crates/{crate}/README.md, {promise}"
         if not backticked(clause):
-            yield f"{here}:{number}: no clause beside '{promise}'"
-        for name in backticked(clause):
-            if name not in names:
-                yield f"{here}:{number}: no public clause or definition is called `{name}`"
-        for name in backticked(cell):
+            yield f"{here}: no clause"
+        yield from (f"{here}: no public clause or definition is called `{name}`" for name in backticked(clause) if name not in names)
+        for name in backticked("".join(cells)):
             other, _, edit = name.rpartition("/")
             shown.add(name)
             if edit not in (edits_of(other) if other else edits):
-                yield f"{here}:{number}: no edit is called `{name}`"
-    for name in sorted(edits - shown):
-        yield f"crates/{crate}/must-fail/{name}.edit: is beside no promise of {here}"
+                yield f"{here}: no edit is called `{name}`"
+    yield from (f"crates/{crate}/must-fail/{name}.edit: is beside no promise" for name in sorted(edits - shown))
 
 
-def tables(rows):
-    """The tables for the document: one for each crate that has promises."""
-    parts = []
-    for crate, own in rows.items():
-        if own:
-            link = f"[README](../crates/{crate}/README.md)"
-            table = [HEAD, ["---"] * len(HEAD), *(row[1:] for row in own)]
-            parts.append("\n".join([f"### {crate}", "", link, "", *(f"| {' | '.join(row)} |" for row in table)]))
-    return "\n\n".join(parts)
-
-
-def main(words):
-    # in the order of crates.txt
-    rows = {crate: rows_of(crate) for crate in re.findall(r"^(\w+)[ :]", text_of("crates.txt"), re.M)}
+def main():
+    rows = {crate: list(rows_of(crate)) for crate in re.findall(r"^(\w+)[ :]", text_of("crates.txt"), re.M)}
     faults = [fault for crate, own in rows.items() for fault in faults_of(crate, own)]
-    text = text_of(DOCUMENT)
-    made = MADE.sub(lambda _: tables(rows), text)
-    if "--docs" in words:
-        with open(os.path.join(REPO, DOCUMENT), "w", encoding="utf-8") as file:
-            file.write(made)
-    elif made != text:
-        faults.append("docs/PROOFS.md: the tables of promises are stale; scripts/promises.py --docs makes them anew")
     promises, edits = sum(map(len, rows.values())), sum(len(edits_of(crate)) for crate in rows)
-    return report(f"docs/PROOFS.md: {promises} promises, {edits} edits", faults)
+    return report(f"crates/*/README.md: {promises} promises, {edits} edits", faults)
 
 
 if __name__ == "__main__":
-    sys.exit(1 if main(sys.argv[1:]) else 0)
+    sys.exit(1 if main() else 0)
