@@ -1,10 +1,11 @@
 #!/usr/bin/env python3
-"""Compares the completions for bash, zsh and fish with the built program's help: each must have the lines that follow
-from help, and no others of their form. Status 1 if one differs; the lines that it lacks, or has too many, are printed.
+"""Compares the completions for bash, zsh and fish, and the manual page, with the help of the built program.
 
     scripts/completions.py [PROGRAM]
 
-An option with a value has possible values in help, or a range in the place of the value.
+Each file of completions must have the lines that follow from help, and no others of their form. An option with a value
+has possible values in help, or a range in the place of the value. The page must name each word of the command line and
+no other option, and have each text of a run's end but those of reasons, which scripts/reasons.py compares.
 """
 import difflib
 import os
@@ -13,7 +14,8 @@ import subprocess
 import sys
 from typing import NamedTuple
 
-REPO = os.path.abspath(os.path.join(os.path.dirname(__file__), ".."))
+from pages import REPO, report, text_of
+
 # The lines of each file that follow from help.
 FORMS = {
     "polytwkb.bash": r" +\w*,\S+\) words=.*",
@@ -32,7 +34,7 @@ class Option(NamedTuple):
     names: str
 
     def forms(self):
-        return " ".join(form for form in (self.long, self.short) if form)
+        return [form for form in (self.long, self.short) if form]
 
 
 def help_of(program, *words):
@@ -43,16 +45,16 @@ def options_of(shown):
     """The options that a help text lists."""
     for short, long, value, rest in re.findall(r"^ +(?:(-\w), )?(--[a-z-]+)(?: <([^>]+)>)? {2,}(.*)$", shown, re.M):
         names = re.search(r"\[possible values: (.*)\]", rest)
-        span = ("%s %s" % tuple(value.split(" to "))) if " to " in value else ""
-        yield Option(short, long, re.sub(r" [\[(].*", "", rest), span, names.group(1).replace(", ", " ") if names else "")
+        span = value.replace(" to ", " ") if " to " in value else ""
+        yield Option(short, long, re.sub(r" [\[(].*", "", rest), span, names[1].replace(", ", " ") if names else "")
 
 
-def bash(command, options):
+def bash(command, options, names=()):
     for option in options:
-        words = "$(echo {%s..%s})" % tuple(option.span.split()) if option.span else option.names
+        words = f"$(echo {{{option.span.replace(' ', '..')}}})" if option.span else option.names
         if words:
             yield f'    {command},{option.long}) words="{words}" ;;'
-    yield f"    {command},*) words='{' '.join(option.forms() for option in options)}' ;;"
+    yield f"    {command},*) words='{' '.join([*names, *(form for option in options for form in option.forms())])}' ;;"
 
 
 def zsh(command, options):
@@ -63,8 +65,9 @@ def zsh(command, options):
         if option.span:
             first, last = map(int, option.span.split())
             words = " ".join(map(str, range(first, last + 1)))
-        line = f"'{option.long}=[{option.means}]:{option.long[2:]}:({words})'" if words else f"'(- *)'{{{option.short},{option.long}}}'[{option.means}]'"
-        yield f"{' ' * (10 if command else 2)}{line}{end}"
+        given = f"'{option.long}=[{option.means}]:{option.long[2:]}:({words})'"
+        plain = f"'(- *)'{{{option.short},{option.long}}}'[{option.means}]'"
+        yield f"{' ' * (10 if command else 2)}{given if words else plain}{end}"
 
 
 def fish(command, options):
@@ -75,27 +78,44 @@ def fish(command, options):
         yield f"complete -c polytwkb -n {when}{short} -l {option.long[2:]}{given} -d '{option.means}'"
 
 
+def lines_of(make, pairs):
+    return [line for pair in pairs for line in make(*pair)]
+
+
+def differences(file, wanted):
+    """The lines of a file of completions that it lacks, or has too many."""
+    found = [line for line in text_of(f"completions/{file}").split("\n") if re.fullmatch(FORMS[file], line)]
+    return [f"    {line}" for line in difflib.unified_diff(found, wanted, "found", "from help", n=0, lineterm="")]
+
+
+def page_faults(words):
+    """What the manual page lacks of the words and of the texts of a run's end, and the options that help has not."""
+    page = re.sub(r'^\.[A-Z]+ *|[" ]*$', "", text_of("man/polytwkb.1").replace(r"\-", "-"), flags=re.M)
+    texts = re.findall(r'=> "([a-z][^"]*[a-z0-9])",$', text_of("crates/twkb_convert/src/report.rt"), re.M) or ["no text"]
+    lacks = [word for word in words if not re.search(rf"(?<!\w){re.escape(word)}(?!\w)", page)]
+    lacks += [text for text in texts if not re.search(f"^(polytwkb: )?{re.escape(text)}$", page, re.M)]
+    more = sorted(set(re.findall("--[a-z][a-z-]*", page)) - set(words))
+    return [f"    lacks {said}" for said in lacks] + [f"    has {option}, which help has not" for option in more]
+
+
 def main(program=os.path.join(REPO, "bin/polytwkb")):
     shown = help_of(program)
-    does = dict(re.findall(r"^  (\w+) +(.*)$", re.search(r"^Commands:\n((?:  .*\n)+)", shown, re.M).group(1), re.M))
+    does = dict(re.findall(r"^  (\w+) +(.*)$", re.search(r"^Commands:\n((?:  .*\n)+)", shown, re.M)[1], re.M))
     own = list(options_of(shown))
-    options = {command: list(options_of(help_of(program, command))) for command in does}
-    first = " ".join([*does, *(option.forms() for option in own)])
-    wanted = {
-        "polytwkb.bash": [*(line for pair in options.items() for line in bash(*pair)), f"    ,*) words='{first}' ;;"],
-        "_polytwkb": [f"  '{name}:{text}'" for name, text in does.items()] + [line for pair in [("", own), *options.items()] for line in zsh(*pair)],
-        "polytwkb.fish": [f"complete -c polytwkb -n __fish_use_subcommand -a {name} -d '{text}'" for name, text in does.items()]
-        + [line for pair in [("", own), *options.items()] for line in fish(*pair)],
+    options = [(command, list(options_of(help_of(program, command)))) for command in does]
+    every = [("", own), *options]
+    command = "complete -c polytwkb -n __fish_use_subcommand -a {0[0]} -d '{0[1]}'"
+    lines = {
+        "polytwkb.bash": [*lines_of(bash, options), *bash("", own, does)],
+        "_polytwkb": [*map("  '{0[0]}:{0[1]}'".format, does.items()), *lines_of(zsh, every)],
+        "polytwkb.fish": [*map(command.format, does.items()), *lines_of(fish, every)],
     }
     wrong = 0
-    for file, lines in wanted.items():
-        with open(os.path.join(REPO, "completions", file), encoding="utf-8") as opened:
-            found = [line for line in opened.read().split("\n") if re.fullmatch(FORMS[file], line)]
-        wrong += found != lines
-        print(f"{'ok  ' if found == lines else 'FAIL'}  completions/{file}: {len(lines)} lines that follow from help")
-        print("".join(f"    {line}\n" for line in difflib.unified_diff(found, lines, "found", "from help", n=0, lineterm="")), end="")
-    return 1 if wrong else 0
+    for file, some in lines.items():
+        wrong += report(f"completions/{file}: {len(some)} lines that follow from help", differences(file, some))
+    words = {*does, *(form for _, some in every for option in some for form in option.forms())}
+    return wrong + report(f"man/polytwkb.1: {len(words)} words of the command line", page_faults(sorted(words)))
 
 
 if __name__ == "__main__":
-    sys.exit(main(*sys.argv[1:]))
+    sys.exit(1 if main(*sys.argv[1:]) else 0)

@@ -1,63 +1,37 @@
 #!/usr/bin/env bash
-# Compares the completions, the words that bash offers and the manual page with the built program's help, types lines
-# with a tab into bash on a terminal, and checks the syntax of the files for shells that are installed.
-# Status 1 if anything differs.
+# Compares the completions and the manual page with the built program's help, types lines with a tab into bash on a
+# terminal, and checks the syntax of the files for shells that are installed. Status 1 if anything differs.
 # shellcheck source=scripts/checks.bash
 source "$(dirname "$0")/checks.bash"
 
-program=bin/polytwkb
-[ -x "$program" ] || { echo "completions: $program is not there" >&2; exit 1; }
+[ -x bin/polytwkb ] || { echo "completions: bin/polytwkb is not there" >&2; exit 1; }
 scripts/completions.py || touch "$work/failed"
 
-# compare NAME EXPECTED FOUND: compares two lists of words, in any order.
-compare() {
-  local difference
-  if difference=$(diff <(tr -s ' ' '\n' <<< "$2" | sort) <(tr -s ' ' '\n' <<< "$3" | sort)); then
-    passed "$1: $(tr '\n' ' ' <<< "$2" | cut -c 1-60)"
-  else
-    failed "$1: $(grep '^[<>]' <<< "$difference" | sed 's/^</only help has/; s/^>/help has not/' | tr '\n' ' ')"
-  fi
+# Lines, and what the tab adds to each: words of the program and of each command, values, and names of files after a
+# redirection, of which some begin others, and one has a blank.
+typed=(
+  "polytwkb unp|ack " "polytwkb --ver|sion " "polytwkb pack < table.csv --sty|le " "polytwkb pack --style=f|ull "
+  "polytwkb unpack --max|-nest " "polytwkb show --he|lp " "polytwkb pack < tab|le" "polytwkb pack < tablexy|z.csv "
+  "polytwkb pack <tablexy|z.csv " "polytwkb pack < two|\\ words.csv " "polytwkb pack < table.csv > tablexy|z.csv "
+  "polytwkb show 2> tablexy|z.csv " "polytwkb unpack >> tablexy|z.csv "
+)
+# Types them into bash. Control-A and control-E go to the ends of the line, where it is quoted and printed after a mark.
+on_terminal() {
+  mkdir "$work/files" && touch "$work/files/"{table,tablex,tablexyz,"two words"}.csv || return 1
+  {
+    printf 'stty cols 500; bind "set enable-bracketed-paste off"; source "%s"\r' "$PWD/completions/polytwkb.bash"
+    printf "%s\t\1printf '@@%%s\\\\n' '\5'\r" "${typed[@]%|*}"
+    printf 'exit\r'
+  } > "$work/keys"
+  (cd "$work/files" && SHELL=/bin/sh TERM=dumb INPUTRC=/dev/null HISTFILE='' timeout 60 \
+    script -qec "bash --norc --noprofile -i" /dev/null < "$work/keys") > "$work/screen"
+  diff <(printf '%s\n' "${typed[@]//|/}") <(sed -n 's/^@@\(.*\)\r$/\1/p' "$work/screen")
 }
+needing script "bash on a terminal: lines with a tab, names of files after < and > too" on_terminal
 
-# ---- the words that bash offers
-
-commands=$("$program" -h | sed -n '/^Commands:/,/^$/s/^  \([a-z]*\) .*/\1/p')
-options() { "$program" "$@" -h | sed -n 's/^ \{2,6\}\(-.*\)/\1/p' | sed 's/  .*//' | tr -s ', ' '\n' | grep '^-'; }
-source completions/polytwkb.bash
-offered() { # WORD..: the words that may follow these
-  COMP_WORDS=(polytwkb "$@" "")
-  COMP_CWORD=$(($# + 1))
-  _polytwkb polytwkb "" "${COMP_WORDS[$#]}"
-  printf '%s\n' "${COMPREPLY[@]}"
-}
-compare "bash, commands and options" "$commands $(options)" "$(offered)"
-for command in $commands; do compare "bash, options of $command" "$(options "$command")" "$(offered "$command")"; done
-report "bash on a terminal: lines with a tab, names of files after < and > too" scripts/typed_in_bash.py
-
-# ---- the page: each word of the command line, and each text of a run's end; scripts/reasons.py makes those of reasons
-
-page=$(sed 's/\\-/-/g; s/^\.[A-Z]* *//; s/[" ]*$//' man/polytwkb.1)
-texts=$(sed -n 's/.*=> "\([a-z][^"]*[a-z0-9]\)",$/\1/p' crates/twkb_convert/src/report.rt)
-words=$({ echo "$commands"; options; for command in $commands; do options "$command"; done; } | sort -u)
-compare "the page, long options" "$(grep -e '^--' <<< "$words")" "$(grep -oE -e '--[a-z][a-z-]*' <<< "$page" | sort -u)"
-missing=
-for word in $words; do
-  grep -qwF -- "$word" <<< "$page" || missing+=" $word"
-done
-while IFS= read -r text; do
-  grep -qxF -e "$text" -e "polytwkb: $text" <<< "$page" || missing+=" '$text'"
-done <<< "$texts"
-if [ -n "$texts" ] && [ -z "$missing" ]; then
-  passed "the page names every word and the $(sort -u <<< "$texts" | wc -l) texts of a run's end"
-else
-  failed "the page lacks$missing"
-fi
-
-# ---- the syntax
-
-for check in "bash -n completions/polytwkb.bash" "zsh -n completions/_polytwkb" "fish --no-execute completions/polytwkb.fish"; do
+for check in "bash -n completions/polytwkb.bash" "zsh -n completions/_polytwkb" \
+  "fish --no-execute completions/polytwkb.fish"; do
   read -ra words <<< "$check"
   needing "${words[0]}" "$check" "${words[@]}"
 done
-
 passed_all
