@@ -8,7 +8,7 @@ program=$PWD/bin/polytwkb
 megabytes=${MEGABYTES:-200}
 peak_allowed=16384 # kB
 header=depth,kind,id,precision,polyline
-for tool in "$program" awk cmp od perl python3 timeout; do
+for tool in "$program" awk cmp od perl script timeout; do
   is_there "$tool" || { echo "smoke: $tool is not there" >&2; exit 1; }
 done
 # the commands, and those of them that read a stream
@@ -251,11 +251,16 @@ flat "its peak memory"
 
 # ---- a terminal
 
-same "$work/point.twkb" "pack on a terminal: one end is enough, and what is typed after it stays" \
-  scripts/on_terminal.py "$work/point.csv" "$program" pack
+# typed FILE COMMAND: types a file, an end of input and a word; the command takes all but the word.
+typed() {
+  local taken="'$program' $2 > '$work/taken' && read -r word && [ \"\$word\" = 'typed after' ]"
+  printf '\004typed after\n' | cat "$1" - | SHELL=/bin/sh timeout 300 script -qec "$taken" /dev/null > "$work/screen" &&
+    cat "$work/taken"
+}
 echo "$header" > "$work/expected"
 : > "$work/empty"
-same "$work/expected" "unpack on a terminal: the same" scripts/on_terminal.py "$work/empty" "$program" unpack
-same "$work/empty" "show on a terminal: the same" scripts/on_terminal.py "$work/empty" "$program" show
+same "$work/point.twkb" "pack on a terminal: one end is enough, and what is typed after it stays" typed "$work/point.csv" pack
+same "$work/expected" "unpack on a terminal: the same" typed "$work/empty" unpack
+same "$work/empty" "show on a terminal: the same" typed "$work/empty" show
 
 passed_all
