@@ -3,6 +3,7 @@
 that docs/FORMATS.md names.
 
     scripts/pages.py            reports faults; status 1 if there are any
+    scripts/pages.py FOLDER     the links of the pages in and below an installed folder alone
 
 The first block of README.md is the lines that do all the set-up: `make demo` and `make test`. Each `make TARGET` there
 is a target of the Makefile, and beside each of the two the page names the script that it calls.
@@ -41,11 +42,10 @@ def report(name, faults):
     return len(faults)
 
 
-def pages():
-    """All pages of the repository, as paths from its root."""
+def pages(top):
+    """All pages of a repository, or of an installed folder, as paths from it."""
     patterns = ("*.md", "docs/*.md", "*/README.md", "*/*/README.md")
-    found = [path for pattern in patterns for path in glob.glob(os.path.join(REPO, pattern))]
-    return sorted({os.path.relpath(path, REPO) for path in found})
+    return sorted({path for pattern in patterns for path in glob.glob(pattern, root_dir=top)})
 
 
 def anchors_of(page):
@@ -55,15 +55,16 @@ def anchors_of(page):
     return {re.sub(r"[^\w\- ]", "", heading).strip().lower().replace(" ", "-") for heading in headings}
 
 
-def lost_links():
+def lost_links(top):
     """The links of pages whose targets do not exist."""
-    for page in pages():
-        for target in LINK.findall(re.sub(r"`[^`\n]*`", "", FENCED.sub("", text_of(page)))):
+    for page in pages(top):
+        here = os.path.join(top, page)
+        for target in LINK.findall(re.sub(r"`[^`\n]*`", "", FENCED.sub("", text_of(here)))):
             path, _, anchor = target.partition("#")
-            where = os.path.normpath(os.path.join(os.path.dirname(page), path)) if path else page
+            where = os.path.join(os.path.dirname(here), path) if path else here
             if re.match(r"[a-z]+:", target):
                 continue
-            if not os.path.exists(os.path.join(REPO, where)):
+            if not os.path.exists(where):
                 yield f"{page}: nothing is at {target}"
             elif anchor and anchor not in anchors_of(where):
                 yield f"{page}: no heading is at {target}"
@@ -86,7 +87,7 @@ def front_faults():
 
 
 def said_by():
-    """The words in the column "Said by" of docs/FORMATS.md, each with the number of its line and the crate meant, if one is."""
+    """The words in the column "Said by" of docs/FORMATS.md: the line's number, the word, the crate meant if one is."""
     inside, crate = False, "*"
     for number, line in enumerate(text_of("docs/FORMATS.md").split("\n"), 1):
         crate = "*" if line.startswith("## ") else (BELOW.findall(line) or [crate])[0]
@@ -113,10 +114,10 @@ def lost_definitions():
             yield f"docs/FORMATS.md:{number}: crates/{crate}/specs/ defines no {word}"
 
 
-def main():
-    faults = [*lost_links(), *front_faults(), *lost_definitions()]
-    return report(f"{len(pages())} pages: links, set-up and definitions", faults)
+def main(top=REPO):
+    of_repository = [*front_faults(), *lost_definitions()] if top == REPO else []
+    return report(f"{len(pages(top))} pages: links, set-up and definitions", [*lost_links(top), *of_repository])
 
 
 if __name__ == "__main__":
-    sys.exit(1 if main() else 0)
+    sys.exit(1 if main(*sys.argv[1:]) else 0)

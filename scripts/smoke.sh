@@ -8,7 +8,7 @@ program=$PWD/bin/polytwkb
 megabytes=${MEGABYTES:-200}
 peak_allowed=16384 # kB
 header=depth,kind,id,precision,polyline
-for tool in "$program" awk cmp od perl script timeout; do
+for tool in "$program" cmp od perl script timeout; do
   is_there "$tool" || { echo "smoke: $tool is not there" >&2; exit 1; }
 done
 # the commands, and those of them that read a stream
@@ -59,23 +59,15 @@ printf '%s\n0,point,,0,AC\n' "$header" > "$work/point.csv"
 printf '\001\002\002\004\002' > "$work/point.twkb"
 
 # some 1 MB of rows, each a point somewhere on the earth
-awk 'BEGIN {
-  srand(1)
-  while (size < 1000000) {
-    row = "0,point,,5," spelled(int(rand() * 18000000) - 9000000) spelled(int(rand() * 36000000) - 18000000)
-    size += length(row) + 1
-    print row
+perl -e '
+  srand 1;
+  while (($size += length $row) < 1000000) {
+    $row = "0,point,,5," . spelled(int rand 18000000) . spelled(int rand 36000000) . "\n";
+    print $row;
   }
-}
-function spelled(number, text, unit) {
-  number = number < 0 ? -2 * number - 1 : 2 * number
-  for (;;) {
-    unit = number % 32
-    number = int(number / 32)
-    text = text sprintf("%c", unit + (number > 0 ? 95 : 63))
-    if (number == 0) return text
-  }
-}' > "$work/rows"
+  # a coordinate whose sign is the last bit of this number, five bits a character
+  sub spelled { my $rest = $_[0] >> 5; return chr(($_[0] & 31) + ($rest ? 95 : 63)) . ($rest ? spelled($rest) : "") }
+' > "$work/rows"
 { echo "$header"; cat "$work/rows"; } > "$work/rows.csv"
 "$program" pack < "$work/rows.csv" > "$work/rows.twkb"
 
@@ -90,31 +82,23 @@ same "$collection" "so it is with --style plain" through "$collection" --style p
 same "$work/point.twkb" "a blob is unpacked and packed" back "$work/point.twkb"
 same "$work/rows.csv" "1 MB of points is packed and unpacked" through "$work/rows.csv"
 
-# Checks for every blob of other tools that show, pack and unpack give the results that were worked out without
-# our code.
+# For every blob of other tools: show, pack and unpack give the results that were worked out without our code.
 slashed() { tr '\n' '/'; }
 hex() { od -An -v -tx1 | tr -d ' \n'; }
 from_hex() { perl -ne 'chomp; print pack "H*", $_'; }
-expect() { # LABEL BLOB: the next line worked out is this label, two counts and standard input
-  local line got
-  IFS= read -r line <&3
-  got="$(cat)"
-  [[ $line =~ ^"  $1 "[0-9]+" "[0-9]+" "(.*)$ && ${BASH_REMATCH[1]} == "$got" ]] || echo "$1 of blob $2"
-}
 blobs_of_others() {
-  local line count=0
-  while IFS= read -r line <&3; do
-    [[ $line == "blob "* ]] || continue
-    count=$((count + 1))
-    from_hex <<< "${line#blob }" > "$work/blob"
+  local blob
+  # each blob, and below it four results, each after two counts
+  grep -A 4 '^blob ' crates/vector_runner/stdout | sed -E 's/^(  [a-z]+) [0-9]+ [0-9]+ /\1 /' > "$work/worked_out"
+  sed -n 's/^blob //p' "$work/worked_out" | while read -r blob; do
+    from_hex <<< "$blob" > "$work/blob"
     "$program" unpack < "$work/blob" > "$work/table"
-    "$program" show < "$work/blob" | slashed | expect show $count
-    slashed < "$work/table" | expect unpack $count
-    "$program" pack < "$work/table" | hex | expect full $count
-    "$program" pack --style plain < "$work/table" | hex | expect plain $count
-    through "$work/table" | cmp -s - "$work/table" || echo "round trip of blob $count"
-  done 3< crates/vector_runner/stdout
-  [ "$count" -gt 0 ] || echo "no blobs"
+    printf 'blob %s\n  show %s\n' "$blob" "$("$program" show < "$work/blob" | slashed)"
+    printf '  unpack %s\n' "$(slashed < "$work/table")"
+    printf '  full %s\n' "$("$program" pack < "$work/table" | hex)"
+    printf '  plain %s\n' "$("$program" pack --style plain < "$work/table" | hex)"
+    through "$work/table" | cmp - "$work/table"
+  done | diff "$work/worked_out" - && [ -s "$work/worked_out" ]
 }
 ends 0 "" "" "the blobs of crates/vector_runner are shown, unpacked and packed" blobs_of_others
 
@@ -169,7 +153,9 @@ done
 
 all_of_yes() { yes 2> /dev/null | timeout 300 "$program" "$1"; }
 front_of_yes() { yes 2> /dev/null | head -c 1000000 | timeout 300 "$program" "$1"; }
-table_without_end() { { echo "$header"; yes 0,point,,0,AC 2> /dev/null; } | timeout 300 "$program" pack | head -c 1000000 > "$work/front"; }
+table_without_end() {
+  { echo "$header"; yes 0,point,,0,AC 2> /dev/null; } | timeout 300 "$program" pack | head -c 1000000 > "$work/front"
+}
 no_table="polytwkb: record 1: bad header"
 no_blob="polytwkb: byte 0: unknown type"
 
@@ -259,7 +245,8 @@ typed() {
 }
 echo "$header" > "$work/expected"
 : > "$work/empty"
-same "$work/point.twkb" "pack on a terminal: one end is enough, and what is typed after it stays" typed "$work/point.csv" pack
+same "$work/point.twkb" "pack on a terminal: one end is enough, and what is typed after it stays" \
+  typed "$work/point.csv" pack
 same "$work/expected" "unpack on a terminal: the same" typed "$work/empty" unpack
 same "$work/empty" "show on a terminal: the same" typed "$work/empty" show
 
