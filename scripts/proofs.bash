@@ -6,20 +6,11 @@ repository=$(cd "$(dirname "${BASH_SOURCE[0]}")/.." && pwd)
 # shellcheck source=scripts/kit.bash
 source "$repository/scripts/kit.bash"
 
-# with_below CRATE..: prints the lines of crates.txt of these crates and of all crates that they use.
+# with_below CRATE..: prints the lines of crates.txt, the lowest first, of these crates and of all that they use.
 with_below() {
-  awk -v wanted="$*" '
-    BEGIN { count = split(wanted, names, " "); for (place = 1; place <= count; place++) needed[names[place]] = 1 }
-    /^[a-z]/ { line[++lines] = $0 }
-    END {
-      for (place = lines; place > 0; place--) {
-        name = line[place]; sub(/[ :].*/, "", name)
-        if (!(name in needed)) { line[place] = ""; continue }
-        uses = line[place]; sub(/.*:/, "", uses)
-        count = split(uses, names, " "); for (use = 1; use <= count; use++) needed[names[use]] = 1
-      }
-      for (place = 1; place <= lines; place++) if (line[place] != "") print line[place]
-    }' "$repository/crates.txt"
+  tac "$repository/crates.txt" | awk -v FS='[ :]+' -v wanted="$*" '
+    BEGIN { count = split(wanted, names, " "); for (place = 1; place <= count; place++) needed[names[place]] }
+    /^[a-z]/ && $1 in needed { print; for (place = 2; place <= NF; place++) needed[$place] }' | tac
 }
 
 # names_of FILE: prints the names of crates in such lines.
@@ -42,15 +33,12 @@ keeps_proofs() {
   [ -O "$beside/rattle-kept" ] || [ -w "$beside" ]
 }
 
-# shown COUNT: passes the lines of `rt ci` on to a log, and reports at each crate how many of COUNT are proved after which
-# time.
+# shown COUNT: reports at each crate in the lines of `rt ci` how many of COUNT are proved after which time.
 shown() {
-  local line proved=0
-  while IFS= read -r line; do
-    printf '%s\n' "$line"
-    [[ $line =~ ^rt:\ ([a-z_]+)\ (proved$|is\ kept) ]] || continue
+  local name proved=0
+  sed -un -E 's/^rt: ([a-z_]+) (proved$|is kept.*)/\1/p' | while read -r name; do
     proved=$((proved + 1))
-    printf '%3d:%02d  %d of %d crates proved: %s\n' $((SECONDS / 60)) $((SECONDS % 60)) $proved "$1" "${BASH_REMATCH[1]}" >&3
+    printf '%3d:%02d  %d of %d crates proved: %s\n' $((SECONDS / 60)) $((SECONDS % 60)) $proved "$1" "$name"
   done
 }
 
@@ -67,10 +55,8 @@ prove() {
     engine=$!
     sleep 5
   fi
-  if ! (cd "$copy" && exec ${engine:+nice} rt ci) 2>&1 | shown "$(names_of "$copy/crates.txt" | wc -l)" 3>&1 > "$copy.log"; then
-    cat "$copy.log"
-    return 1
-  fi
+  (cd "$copy" && exec ${engine:+nice} rt ci) 2>&1 | tee "$copy.log" | shown "$(names_of "$copy/crates.txt" | wc -l)" ||
+    { cat "$copy.log"; return 1; }
   [ -z "$engine" ] || wait "$engine" || { cat "$copy-engine.log"; return 1; }
 }
 
@@ -89,7 +75,8 @@ take() {
   for name in "${names[@]}"; do
     mkdir "$1/crates/$name/out"
     # by links if both are on one disk: `rt` never writes into a library
-    cp -al "$PROVED/crates/$name/out/rlib" "$1/crates/$name/out/" 2> /dev/null || cp -a --remove-destination "$PROVED/crates/$name/out/rlib" "$1/crates/$name/out/"
+    cp -al "$PROVED/crates/$name/out/rlib" "$1/crates/$name/out/" 2> /dev/null ||
+      cp -a --remove-destination "$PROVED/crates/$name/out/rlib" "$1/crates/$name/out/"
   done
 }
 
@@ -102,8 +89,9 @@ add_crate() {
   tar -c -C "$repository" --exclude=out --exclude=must-fail "crates/$2" | tar -x -C "$1"
 }
 
-# over COPY CRATE VERB: runs `rt lib` or `rt run` of one more crate over these libraries. What it checks stays in out/checked, so
-# that the next build of the crate, as for another kind of machine, checks only what differs. If it fails, all its output is shown.
+# over COPY CRATE VERB: runs `rt lib` or `rt run` of one more crate over these libraries, and shows all its output if it
+# fails. What it checks stays in out/checked, so that the next build of the crate, as for another machine, checks only
+# what differs.
 over() {
   local status=0 kept=$repository/out/checked/$2 own=$1/crates/$2/out
   mkdir -p "$own"

@@ -169,19 +169,6 @@ fails "$write_fault" "pack of a table without end, its output cut" table_without
 yes 0102020402 | head -n 200000 | from_hex > "$work/expected"
 same "$work/expected" "and what was written before is right" cat "$work/front"
 
-# ---- refused input
-
-without_header() { printf '0,point,,0,AC\n' | "$program" pack; }
-empty_table() { "$program" pack < /dev/null; }
-cut_polyline() { printf '%s\n0,point,,0,AC\n0,point,,0,A_\n' "$header" | "$program" pack; }
-cut_blob() { printf '\001\002\002\004\002\001\002' | "$program" "$1"; }
-
-refused "$no_table" "a table without its header" without_header
-refused "$no_table" "an empty table" empty_table
-refused "polytwkb: record 3: polyline at 1: number cut short" "a polyline that is cut" cut_polyline
-refused "polytwkb: byte 7: truncated" "unpack of a blob that is cut" cut_blob unpack
-refused "polytwkb: byte 7: truncated" "show of a blob that is cut" cut_blob show
-
 # ---- words
 
 ends 2 "" "polytwkb: a word is not UTF-8" "a word that is not UTF-8" "$program" $'\xff'

@@ -5,25 +5,24 @@
 #
 # As root, and unless SYSTEM=no, it meanwhile installs the Debian packages that it lacks, and tests the package
 # that `make dist` makes.
-set -uo pipefail
-cd "$(dirname "$0")/.." || exit 1
+# shellcheck source=scripts/checks.bash
+source "$(dirname "$0")/checks.bash"
 # shellcheck source=scripts/kit.bash
 source scripts/kit.bash
 exec < /dev/null
 unset MAKEFLAGS MAKELEVEL
 parts="lint smoke completions fuzz library databases machines documents dist hostile arm64 javascript"
-work=$(mktemp -d)
-trap 'rm -rf "$work"' EXIT
 
-# The packages of the tools that the parts need and that are not there. Most have the tool's name; for the others the list
-# has a tool or a file, with * for any text. There is no sshd among them, which would let others in.
+# The packages of the tools that the parts need and that are not there. Most have the tool's name; for the others the
+# list has a tool or a file, with * for any text. There is no sshd among them, which would let others in.
 lacking() {
   local tool package
-  for tool in make pkg-config lintian shellcheck pyflakes3 mypy valgrind zsh fish sqlite3 jq xxd parallel pv chromium firefox-esr esbuild debootstrap; do
-    command -v "$tool" > /dev/null || echo "$tool"
+  for tool in make pkg-config lintian shellcheck pyflakes3 mypy valgrind zsh fish sqlite3 jq xxd parallel pv chromium \
+    firefox-esr esbuild debootstrap; do
+    is_there "$tool" || echo "$tool"
   done
   while read -r tool package; do
-    compgen -G "$tool" > /dev/null || command -v "$tool" > /dev/null || echo "$package"
+    compgen -G "$tool" > /dev/null || is_there "$tool" || echo "$package"
   done << 'END'
 cc gcc
 /usr/include/stdio.h libc6-dev
@@ -54,7 +53,7 @@ END
 install_lacking() {
   local package packages apt=(apt-get -y -q -o DPkg::Lock::Timeout=300 -o Acquire::http::Timeout=20)
   packages=$(lacking)
-  if [ -z "$packages" ] || [ "${SYSTEM:-yes}" = no ] || [ "$(id -u)" -ne 0 ] || ! command -v apt-get > /dev/null; then return; fi
+  if [ -z "$packages" ] || [ "${SYSTEM:-yes}" = no ] || [ "$(id -u)" -ne 0 ] || ! is_there apt-get; then return; fi
   export DEBIAN_FRONTEND=noninteractive
   policy=/usr/sbin/policy-rc.d # not local: the trap outlives the function
   if [ ! -e "$policy" ]; then
@@ -74,27 +73,23 @@ take_programs() {
 
 # gate: runs `rt ci`, and leaves its counts and what it built.
 gate() {
-  local status own counts
+  local own counts status
   own=$(compgen -G 'crates/*/out/rlib')
   rt ci 2>&1 | tee "$work/gate.log"
-  status=${PIPESTATUS[0]}
-  counts=$(tail -n 1 "$work/gate.log")
-  [[ $counts =~ ^([0-9]+)" passed, "([0-9]+)" failed"$ ]] || counts="0 passed, 1 failed"
-  [ "$status" -eq 0 ] || [[ $counts != *" 0 failed" ]] || counts="${counts% 0 failed} 1 failed"
+  [ "${PIPESTATUS[0]}" -eq 0 ] && take_programs
+  status=$?
+  counts=$(tail -n 1 "$work/gate.log" | grep -xE '[0-9]+ passed, [0-9]+ failed') || counts="0 passed, 1 failed"
+  [ $status -eq 0 ] || counts=${counts/% 0 failed/ 1 failed}
   echo "$counts" > "$work/gate.counts"
-  [[ $counts == *" 0 failed" ]] || return 1
-  take_programs || { echo "${counts% 0 failed} 1 failed" > "$work/gate.counts"; return 1; }
   # Libraries of other runs were there, and are back: those of the gate are gone.
   [ -n "$own" ] || export PROVED=$PWD
+  [[ $counts == *" 0 failed" ]]
 }
 
 # lacks WHAT TOOL..: reports that this is skipped, if one of the tools is missing.
 lacks() {
-  local what=$1 tool
-  shift
-  for tool in "$@"; do
-    command -v "$tool" > /dev/null || { echo "skip  $what: $tool is not there"; return 0; }
-  done
+  local tool
+  for tool in "${@:2}"; do is_there "$tool" || { skip "$1: $tool is not there"; return; }; done
   return 1
 }
 
@@ -105,24 +100,26 @@ lint() { scripts/lint.sh; }
 smoke() { MEGABYTES=${MEGABYTES:-50} scripts/smoke.sh; }
 completions() { scripts/completions_test.sh; }
 fuzz() {
-  if lacks "reading in pieces" make cc; then tests/fuzz/fuzz.py --cases "$cases" --seed "$seed"; else made fuzz "${random[@]}"; fi
+  lacks "reading in pieces" make cc || { made fuzz "${random[@]}"; return; }
+  tests/fuzz/fuzz.py --cases "$cases" --seed "$seed"
 }
 hostile() {
   if lacks "calls that fail in turn" make cc; then tests/hostile/sizes.py bin/polytwkb; else made hostile; fi
 }
 documents() {
   python3 tests/vectors/make.py --check && scripts/docs_test.py || return 1
-  tests/recipes/scripts.py && echo "ok    the scripts of the recipes" || return 1
-  tests/recipes/installed.sh && echo "ok    the recipes of an archive"
+  tests/recipes/scripts.py && passed "the scripts of the recipes" || return 1
+  tests/recipes/installed.sh && passed "the recipes of an archive"
 }
 machines() {
   local check said
   for check in dask ssh; do
-    if said=$("examples/scale/check_$check.sh" 20 2>&1); then
-      if [[ $said == "skipped: "* ]]; then echo "skip  many machines, $check: ${said#skipped: }"; else echo "ok    many machines, $check"; fi
-    else
-      echo "FAIL  many machines, $check: $said"
-    fi
+    said=$("examples/scale/check_$check.sh" 20 2>&1)
+    case $?$said in
+      "0skipped: "*) skip "many machines, $check: ${said#skipped: }" ;;
+      0*) passed "many machines, $check" ;;
+      *) failed "many machines, $check: $said" ;;
+    esac
   done
 }
 javascript() { lacks JavaScript make cc node || made wasm-test "${random[@]}"; }
@@ -131,17 +128,17 @@ dist() { lacks dist make cc dpkg-deb || made dist-test; }
 arm64() {
   lacks "64-bit ARM" make cc aarch64-linux-gnu-gcc qemu-aarch64-static && return
   # programs linked with other functions may do anything, so none is run
-  packaging/arm64/shims/compare.sh || { echo "FAIL  arm64: the functions of C are not the kit's"; return 1; }
-  echo "ok    arm64: the functions of C are the kit's"
+  packaging/arm64/shims/compare.sh || { failed "arm64: the functions of C are not the kit's"; return 1; }
+  passed "arm64: the functions of C are the kit's"
   made arm64-test
 }
 library() {
   lacks library make cc && return
   made lib-test || return 1
-  echo "ok    the library in C and in Python"
-  if command -v go > /dev/null; then echo "ok    the library in Go"; fi
+  passed "the library in C and in Python"
+  if is_there go; then passed "the library in Go"; fi
   made python-test || return 1
-  echo "ok    the package for Python"
+  passed "the package for Python"
   made fuzz-library "${random[@]}" || return 1
   lacks "memory of the library" valgrind || return 0
 }
@@ -170,12 +167,12 @@ part() {
 # lane NAME..: runs parts one after the other.
 lane() { for name in "$@"; do part "$name"; done; }
 
-# programs_for_arm64: makes the command, and then vector_runner, which the tests alone need, and whose proof is long. Who needs
-# one of them too waits for its lock, so that it is made once.
+# programs_for_arm64: makes the command, and then vector_runner, which the tests alone need, and whose proof is long. Who
+# needs one of them too waits for its lock, so that it is made once.
 programs_for_arm64() {
   mkdir -p out/arm64
   flock out/arm64/command.lock make -s out/arm64/static/polytwkb
-  ! command -v qemu-aarch64-static > /dev/null || flock out/arm64/vector_runner.lock make -s out/arm64/vector_runner
+  ! is_there qemu-aarch64-static || flock out/arm64/vector_runner.lock make -s out/arm64/vector_runner
 }
 
 install_lacking > "$work/install.log" 2>&1 &
@@ -192,11 +189,11 @@ if [ $status -eq 0 ]; then
   lane fuzz &
   lane hostile &
   # Of what several parts would build at the same time, first what needs nothing of the others.
-  if command -v aarch64-linux-gnu-gcc > /dev/null; then programs_for_arm64 > "$work/arm64_programs.log" 2>&1 & fi
+  if is_there aarch64-linux-gnu-gcc; then programs_for_arm64 > "$work/arm64_programs.log" 2>&1 & fi
   make -s lib static wasm databases > "$work/build.log" 2>&1 || tail -n 20 "$work/build.log"
   lane documents machines library &
   lane javascript databases &
-  if command -v aarch64-linux-gnu-gcc > /dev/null; then
+  if is_there aarch64-linux-gnu-gcc; then
     # begins with what was checked for the library of this processor
     mkdir -p out/arm64
     flock out/arm64/command.lock make -s arm64 > "$work/arm64_build.log" 2>&1 || tail -n 20 "$work/arm64_build.log"
@@ -208,4 +205,5 @@ if [ $status -eq 0 ]; then
 else
   echo "the gate failed, so the other parts were not run"
 fi
-awk '{ passed += $1; failed += $3 } END { print passed + 0 " passed, " failed + 0 " failed"; exit failed > 0 }' "$work"/*.counts
+awk '{ passed += $1; failed += $3 } END { print passed + 0 " passed, " failed + 0 " failed"; exit failed > 0 }' \
+  "$work"/*.counts
