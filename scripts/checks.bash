@@ -1,6 +1,6 @@
 # What scripts that make checks share. Sourced by such a script as its first command: it works at the top of the
-# repository, and has a folder of its own, `work`. It may set `about`, a text before the name of each check. `passed_all`,
-# at its end, is whether no check failed, of those in the background too.
+# repository, and has a folder of its own, `work`. It may set `about`, a text before the name of each check.
+# `passed_all`, at its end, is whether no check failed, of those in the background too.
 set -uo pipefail
 cd "$(dirname "${BASH_SOURCE[0]}")/.." || exit 1
 work=$(mktemp -d)
@@ -9,26 +9,15 @@ about=
 
 # report NAME COMMAND..: prints the line of a check, with the end of the command's output if it fails.
 report() {
-  local name=$1 said
-  shift
+  local said
   said=$(mktemp "$work/said.XXXXXX")
-  if "$@" > "$said" 2>&1; then
-    passed "$name"
-  else
-    failed "$name: $(tail -c 700 "$said" | tr '\n' '/')"
-  fi
+  if "${@:2}" > "$said" 2>&1; then passed "$1"; else failed "$1: $(tail -c 700 "$said" | tr '\n' '/')"; fi
 }
-# told NAME COMMAND..: the same, with the last line that the command says, or the end of its output below it if it fails.
+# told NAME COMMAND..: the same, with the last line that the command says, or if it fails the end of its output below.
 told() {
-  local name=$1 said
-  shift
+  local said
   said=$(mktemp "$work/said.XXXXXX")
-  if "$@" > "$said" 2>&1; then
-    passed "$name: $(tail -n 1 "$said")"
-  else
-    failed "$name"
-    tail -n 40 "$said"
-  fi
+  if "${@:2}" > "$said" 2>&1; then passed "$1: $(tail -n 1 "$said")"; else failed "$1" && tail -n 40 "$said"; fi
 }
 # needing TOOL NAME COMMAND..: reports a check, or that the tool is not there.
 needing() { if is_there "$1"; then report "${@:2}"; else skip "$2: $1 is not there"; fi; }

@@ -6,11 +6,11 @@
 A function is counted from its `fn` line to its closing brace, with its clauses. EXCEPTIONS has what may be longer.
 """
 import glob
-import os
 import re
 import sys
 
-REPO = os.path.abspath(os.path.join(os.path.dirname(__file__), ".."))
+from pages import REPO, report, text_of
+
 FILE_MOST, PROOFS_MOST, FUNCTION_MOST, WIDTH_MOST = 350, 800, 40, 120
 FUNCTION = re.compile(r"\s*(pub(\([a-z]+\))? )?(const )?(unsafe )?(extern \"C\" )?fn (\w+)")
 CLAUSE = re.compile(r"\s*(requires|ensures)\b")
@@ -36,31 +36,27 @@ def ends_at(lines, start):
 
 
 def faults_of(path):
-    """What is too long in a file: its place, what it is, how long, and the limit."""
-    with open(os.path.join(REPO, path), encoding="utf-8") as file:
-        lines = file.read().rstrip("\n").split("\n")
+    """What is too long in a file: its place, how long it is, and the limit."""
+    lines = text_of(path).rstrip("\n").split("\n")
     most = PROOFS_MOST if "/proofs/" in path else FILE_MOST
     if len(lines) > most:
-        yield path, f"{len(lines)} lines, {most} at most"
+        yield f"{path}: {len(lines)} lines, {most} at most"
     for place, line in enumerate(lines):
         if len(line) > WIDTH_MOST:
-            yield f"{path}:{place + 1}", f"{len(line)} columns, {WIDTH_MOST} at most"
+            yield f"{path}:{place + 1}: {len(line)} columns, {WIDTH_MOST} at most"
         function = path.endswith(".rt") and FUNCTION.match(line)
         end = ends_at(lines, place) if function else None
         if end is not None and end - place >= FUNCTION_MOST and f"{path}:{function.group(6)}" not in EXCEPTIONS:
-            yield f"{path}:{place + 1}", f"{function.group(6)} has {end - place + 1} lines, {FUNCTION_MOST} at most"
+            yield f"{path}:{place + 1}: {function.group(6)} has {end - place + 1} lines, {FUNCTION_MOST} at most"
 
 
 def main():
     """How many things are too long, each reported on standard output."""
     patterns = ("src/**/*.rt", "specs/**/*.antt", "proofs/**/*.antt")
-    paths = sorted(os.path.relpath(path, REPO) for pattern in patterns
-                   for path in glob.glob(os.path.join(REPO, "crates", "*", pattern), recursive=True))
+    found = [glob.glob(f"crates/*/{pattern}", root_dir=REPO, recursive=True) for pattern in patterns]
+    paths = sorted(sum(found, []))
     faults = [fault for path in paths if path not in EXCEPTIONS for fault in faults_of(path)]
-    for place, fault in faults:
-        print(f"{place}: {fault}")
-    print(f"{'FAIL' if faults else 'ok  '}  crates/: {len(paths)} files, {len(faults)} things too long")
-    return len(faults)
+    return report(f"crates/: {len(paths)} files, what is too long", faults)
 
 
 if __name__ == "__main__":
