@@ -72,16 +72,12 @@ def lost_links(top):
 
 def front_faults():
     """What README.md says to type, and the Makefile or a script has not."""
-    page = text_of("README.md")
-    targets = TARGET.findall(text_of("Makefile"))
+    page, targets = text_of("README.md"), TARGET.findall(text_of("Makefile"))
     first = re.search(r"(?:^    .*\n)+", page, re.M)
-    if not first or SHOWN.findall(first.group()) != SET_UP:
+    if not first or SHOWN.findall(first[0]) != SET_UP:
         yield f"README.md: its first block is not {' and '.join('make ' + name for name in SET_UP)}"
-    for name in SHOWN.findall(page):
-        if name not in targets:
-            yield f"README.md: the Makefile has no {name}"
-    for name in SET_UP:
-        script = f"scripts/{name}.sh"
+    yield from (f"README.md: the Makefile has no {name}" for name in SHOWN.findall(page) if name not in targets)
+    for script in (f"scripts/{name}.sh" for name in SET_UP):
         if f"`{script}`" not in page or not os.access(os.path.join(REPO, script), os.X_OK):
             yield f"README.md: {script} is not named, or no program"
 

@@ -106,27 +106,22 @@ ends 0 "" "" "the blobs of crates/vector_runner are shown, unpacked and packed" 
 
 write_fault="polytwkb: write failed"
 read_fault="polytwkb: read failed"
-to_full_disk() { "$program" "$1" < "$2" > /dev/full; }
-to_closed_pipe() { "$program" "$1" < "$2" | head -c 1 > /dev/null; }
-to_no_output() { "$program" "$1" < "$2" >&-; }
-refused_to_full_disk() { "$program" pack < /dev/null 2> /dev/full; }
-help_to_full_disk() { "$program" --help > /dev/full; }
-from_directory() { "$program" "$1" < .; }
-from_no_input() { "$program" "$1" <&-; }
+# a line of the shell, whose status is that of the program in it
+line() { bash -o pipefail -c "$1"; }
 
 for command in "${commands[@]}"; do
-  small=$work/point.twkb
-  large=$work/rows.twkb
+  small=$work/point.twkb large=$work/rows.twkb
   if [ "$command" = pack ]; then small=$work/point.csv large=$work/rows.csv; fi
-  fails "$write_fault" "$command to a full disk, a few bytes" to_full_disk "$command" "$small"
-  fails "$write_fault" "$command to a full disk, many bytes" to_full_disk "$command" "$large"
-  fails "$write_fault" "$command to a closed pipe" to_closed_pipe "$command" "$large"
-  fails "$read_fault" "$command from a directory" from_directory "$command"
-  fails "$read_fault" "$command without an input" from_no_input "$command"
-  fails "$write_fault" "$command without an output" to_no_output "$command" "$small"
+  run="'$program' $command"
+  fails "$write_fault" "$command to a full disk, a few bytes" line "$run < '$small' > /dev/full"
+  fails "$write_fault" "$command to a full disk, many bytes" line "$run < '$large' > /dev/full"
+  fails "$write_fault" "$command to a closed pipe" line "$run < '$large' | head -c 1 > /dev/null"
+  fails "$read_fault" "$command from a directory" line "$run < ."
+  fails "$read_fault" "$command without an input" line "$run <&-"
+  fails "$write_fault" "$command without an output" line "$run < '$small' >&-"
 done
-refused "" "standard error on a full disk changes no status" refused_to_full_disk
-ends 0 "" "" "help to a full disk has status 0" help_to_full_disk
+refused "" "standard error on a full disk changes no status" line "'$program' pack < /dev/null 2> /dev/full"
+ends 0 "" "" "help to a full disk has status 0" line "'$program' --help > /dev/full"
 
 # from_open_pipe COMMAND FILE: gives a command the bytes of a file, from a pipe that stays open after them.
 from_open_pipe() {
@@ -151,21 +146,16 @@ done
 
 # ---- inputs without end
 
-all_of_yes() { yes 2> /dev/null | timeout 300 "$program" "$1"; }
-front_of_yes() { yes 2> /dev/null | head -c 1000000 | timeout 300 "$program" "$1"; }
-table_without_end() {
-  { echo "$header"; yes 0,point,,0,AC 2> /dev/null; } | timeout 300 "$program" pack | head -c 1000000 > "$work/front"
-}
-no_table="polytwkb: record 1: bad header"
-no_blob="polytwkb: byte 0: unknown type"
-
-refused "$no_table" "pack of a text without end" all_of_yes pack
-refused "$no_table" "pack of a text without end, cut" front_of_yes pack
-for command in "${readers[@]}"; do
-  refused "$no_blob" "$command of a text without end" all_of_yes "$command"
-  refused "$no_blob" "$command of a text without end, cut" front_of_yes "$command"
+for command in "${commands[@]}"; do
+  fault="polytwkb: byte 0: unknown type"
+  if [ "$command" = pack ]; then fault="polytwkb: record 1: bad header"; fi
+  run="timeout 300 '$program' $command"
+  refused "$fault" "$command of a text without end" line "yes 2> /dev/null | $run"
+  refused "$fault" "$command of a text without end, cut" line "yes 2> /dev/null | head -c 1000000 | $run"
 done
-fails "$write_fault" "pack of a table without end, its output cut" table_without_end
+table="{ echo $header; yes 0,point,,0,AC 2> /dev/null; }"
+fails "$write_fault" "pack of a table without end, its output cut" \
+  line "$table | timeout 300 '$program' pack | head -c 1000000 > '$work/front'"
 yes 0102020402 | head -n 200000 | from_hex > "$work/expected"
 same "$work/expected" "and what was written before is right" cat "$work/front"
 

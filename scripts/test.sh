@@ -21,6 +21,9 @@ lacking() {
     firefox-esr esbuild debootstrap; do
     is_there "$tool" || echo "$tool"
   done
+  for package in polyline numpy shapely geopandas distributed; do
+    [ -e "/usr/lib/python3/dist-packages/$package" ] || echo "python3-$package"
+  done
   while read -r tool package; do
     compgen -G "$tool" > /dev/null || is_there "$tool" || echo "$package"
   done << 'END'
@@ -33,11 +36,6 @@ node nodejs
 wasm-validate wabt
 tsc node-typescript
 /usr/share/javascript/leaflet libjs-leaflet
-/usr/lib/python3/dist-packages/polyline python3-polyline
-/usr/lib/python3/dist-packages/numpy python3-numpy
-/usr/lib/python3/dist-packages/shapely python3-shapely
-/usr/lib/python3/dist-packages/geopandas python3-geopandas
-/usr/lib/python3/dist-packages/distributed python3-distributed
 /usr/share/postgresql/*/extension/postgis.control postgresql-postgis
 /usr/include/postgresql/15/server/postgres.h postgresql-server-dev-15
 ogr2ogr gdal-bin
