@@ -91,7 +91,8 @@ def differences(file, wanted):
 def page_faults(words):
     """What the manual page lacks of the words and of the texts of a run's end, and the options that help has not."""
     page = re.sub(r'^\.[A-Z]+ *|[" ]*$', "", text_of("man/polytwkb.1").replace(r"\-", "-"), flags=re.M)
-    texts = re.findall(r'=> "([a-z][^"]*[a-z0-9])",$', text_of("crates/twkb_convert/src/report.rt"), re.M) or ["no text"]
+    causes = text_of("crates/twkb_convert/src/report.rt")
+    texts = re.findall(r'=> "([a-z][^"]*[a-z0-9])",$', causes, re.M) or ["a text of a run's end"]
     lacks = [word for word in words if not re.search(rf"(?<!\w){re.escape(word)}(?!\w)", page)]
     lacks += [text for text in texts if not re.search(f"^(polytwkb: )?{re.escape(text)}$", page, re.M)]
     more = sorted(set(re.findall("--[a-z][a-z-]*", page)) - set(words))

@@ -1,6 +1,6 @@
 #!/usr/bin/env python3
-"""Compares the tables of promises in the READMEs of crates with the code and the folders must-fail/; status 1 if a name is
-wrong. A table has the heads Promise, Clause and Edits; a crate without edits has no third column.
+"""Compares the tables of promises in the READMEs of crates with the code and the folders must-fail/; status 1 if a name
+is wrong. A table has the heads Promise, Clause and Edits; a crate without edits has no third column.
 
 - The names in a cell of Clause are in backticks. Each is, of the crate itself,
   - a public function that has a clause, or a function of a public trait or of an implementation of one;
@@ -78,9 +78,10 @@ def faults_of(crate, rows):
     names, shown, edits = citable(crate), set(), edits_of(crate)
     for promise, clause, *cells in rows:
         here = f"crates/{crate}/README.md, {promise}"
-        if not backticked(clause):
+        cited = backticked(clause)
+        yield from (f"{here}: no public clause or definition is called `{name}`" for name in cited if name not in names)
+        if not cited:
             yield f"{here}: no clause"
-        yield from (f"{here}: no public clause or definition is called `{name}`" for name in backticked(clause) if name not in names)
         for name in backticked("".join(cells)):
             other, _, edit = name.rpartition("/")
             shown.add(name)
