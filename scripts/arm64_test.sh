@@ -4,7 +4,7 @@
 #
 #   scripts/arm64_test.sh        after `make build lib arm64`
 #
-# The program vector_runner is proved and built for this processor beside the other checks, which takes as long as they do.
+# The program vector_runner is proved and built for this processor beside the other checks, which takes as long as they all do.
 # CASES is the number of cases of tests/fuzz. A program under qemu gets any limit of memory granted and keeps none,
 # so tests/hostile/sizes.py and the package's test of little memory are not run. A wrong program may do anything: each
 # run under qemu has the limits below, and each check that makes many runs `patience` seconds; fuzz one more for each
@@ -49,9 +49,13 @@ starter "$built/polytwkb" "$tree/bin/polytwkb" || exit 1
 $cross-gcc -O1 -shared -fPIC -o "$tree/bin/refuse.so" tests/hostile/refuse.c || exit 1
 
 # scripts/test.sh may be making the program already
-vectors() {
-  flock "$built/vector_runner.lock" make -s out/arm64/vector_runner &&
-    arm "$built/vector_runner" < crates/vector_runner/stdin | cmp - crates/vector_runner/stdout
+vectors() { flock "$built/vector_runner.lock" make -s out/arm64/vector_runner && arm "$built/vector_runner" < crates/vector_runner/stdin | cmp - crates/vector_runner/stdout; }
+same() { cmp <(bin/polytwkb "$@" < "$work/input" 2>&1) <("$tree/bin/polytwkb" "$@" < "$work/input" 2>&1); }
+as_here() {
+  cp examples/collection.csv "$work/input"
+  same pack && same pack --style plain && same --help && same pack --help && same --version && same unpack || return 1
+  bin/polytwkb pack < examples/collection.csv > "$work/input"
+  same show && same unpack
 }
 smoke() { (cd "$tree" && MEGABYTES=2 timeout "$patience" scripts/smoke.sh); }
 fuzz() {
@@ -59,11 +63,8 @@ fuzz() {
   (cd "$tree" && timeout $((patience + cases)) python3 -B tests/fuzz/fuzz.py --cases "$cases" --seed "$seed" \
     --processes 2 --program bin/polytwkb --library bin/refuse.so)
 }
-# Fewer rows than on x86-64, where the same code is made by the same compiler: they reach each place that calls the
-# functions of C.
-each_failing() {
-  (cd "$tree" && timeout "$patience" python3 -B tests/hostile/each_failing.py bin/polytwkb bin/refuse.so few)
-}
+# Fewer rows than on x86-64, where the same code is made by the same compiler: they reach each place that calls the functions of C.
+each_failing() { (cd "$tree" && timeout "$patience" python3 -B tests/hostile/each_failing.py bin/polytwkb bin/refuse.so few); }
 
 # The functions of C, one by one: the program seldom asks what an alignment is.
 shims() { compile shims tests/arm64/shims.c "$built/shims.a" && arm "$work/shims" one two; }
@@ -82,6 +83,7 @@ pages() {
 
 of_program() {
   report "each of the functions of C" shims
+  report "the example and the texts of help, as here" as_here
   report "segments fit pages of 64 kB" pages
   report "each call of the program failing" each_failing
 }
@@ -94,9 +96,8 @@ in_c() {
 }
 growths() {
   local wraps=("-Wl,--wrap=malloc" "-Wl,--wrap=realloc")
-  compile growths tests/arm64/growths.c "$built/libpolytwkb.a" "${wraps[@]}" &&
-    cc -std=c11 -O1 -Iinclude -o "$work/growths_here" tests/arm64/growths.c out/libpolytwkb.a "${wraps[@]}" &&
-    cmp <(arm "$work/growths" < examples/collection.csv) <("$work/growths_here" < examples/collection.csv)
+  compile growths tests/arm64/growths.c "$built/libpolytwkb.a" "${wraps[@]}" && arm "$work/growths" < examples/collection.csv > "$work/arm" &&
+    cc -std=c11 -O1 -Iinclude -o "$work/growths_here" tests/arm64/growths.c out/libpolytwkb.a "${wraps[@]}" && "$work/growths_here" < examples/collection.csv | cmp - "$work/arm"
 }
 of_library() {
   report "the example in C, static and shared" in_c
@@ -106,9 +107,7 @@ of_library() {
 # ---- archive, package and wheel
 
 # What scripts/dist.sh makes of this build; `make dist` makes the same.
-packed() {
-  scripts/dist.sh "$work/dist" arm64 && scripts/dist.sh "$work/again" arm64 && cmp "$work"/{dist,again}/SHA256SUMS
-}
+packed() { scripts/dist.sh "$work/dist" arm64 && scripts/dist.sh "$work/again" arm64 && cmp "$work/dist/SHA256SUMS" "$work/again/SHA256SUMS"; }
 
 # through COMMAND..: packs and unpacks the example.
 through() { cmp <("$@" pack < examples/collection.csv | "$@" unpack) examples/collection.csv; }
@@ -120,10 +119,9 @@ c_root() {
 by_dpkg() {
   local at=$work/package
   c_root "$at" && mkdir -p "$at"/var/lib/dpkg/{info,updates} && touch "$at/var/lib/dpkg/status" &&
-    dpkg --root="$at" --log=/dev/null --path-include='*' --force-{architecture,depends,not-root} \
-      --install "$work"/dist/polytwkb_*_arm64.deb &&
+    dpkg --root="$at" --log=/dev/null --path-include='*' --force-architecture --force-depends --force-not-root --install "$work"/dist/polytwkb_*_arm64.deb &&
     through under_qemu "$at" "$at/usr/bin/polytwkb" &&
-    $cross-gcc -o "$at/tmp/shared" examples/c/convert.c -I"$at/usr/include" -L"$at/usr/lib/$cross" -lpolytwkb &&
+    $cross-gcc -std=c11 -o "$at/tmp/shared" examples/c/convert.c -I"$at/usr/include" -L"$at/usr/lib/$cross" -lpolytwkb &&
     under_qemu "$at" -E LD_LIBRARY_PATH="$at/usr/lib/$cross" "$at/tmp/shared"
 }
 by_archive() {
@@ -132,7 +130,7 @@ by_archive() {
   # nothing but the command: no C library
   through under_qemu /nonexistent "$at/bin/polytwkb" || return 1
   read -ra words <<< "$(PKG_CONFIG_PATH="$at/lib/pkgconfig" pkg-config --cflags --libs polytwkb)"
-  $cross-gcc -o "$work/archived" examples/c/convert.c "${words[@]}" && arm -E LD_LIBRARY_PATH="$at/lib" "$work/archived"
+  $cross-gcc -std=c11 -o "$work/archived" examples/c/convert.c "${words[@]}" && arm -E LD_LIBRARY_PATH="$at/lib" "$work/archived"
 }
 # The wheel by the pip and the Python of ARM, in a root that debootstrap filled; then the package's tests over it, with
 # fewer random values.
@@ -141,7 +139,7 @@ by_pip() {
   debootstrap --foreign --arch=arm64 --variant=minbase --include=python3 bookworm "$at" || return 1
   for package in "$at"/var/cache/apt/archives/*.deb; do dpkg-deb -x "$package" "$at" || return 1; done
   seconds=$patience megabytes=2048 starter "$(realpath "$at/usr/bin/python3")" "$work/python3" "$at" || return 1
-  pip=$(echo "$(python3 -c 'import ensurepip; print(ensurepip.__path__[0])')"/_bundled/pip-*.whl)
+  pip=$(python3 -c 'import ensurepip, glob, os; print(glob.glob(os.path.join(os.path.dirname(ensurepip.__file__), "_bundled", "pip-*.whl"))[0])')
   export PYTHONHOME=$at/usr
   timeout "$patience" "$work/python3" -B "$pip/pip" install -q --disable-pip-version-check --root-user-action=ignore \
     --no-index --no-compile --target "$work/wheel" "$work"/dist/polytwkb-*_aarch64.whl &&
