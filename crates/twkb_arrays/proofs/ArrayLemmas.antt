@@ -223,22 +223,15 @@ kind_at n =
 
 kind_back : (k : Kind) → kind_at (kind_number k) ≡ k
 kind_back kind.Point = refl
-kind_back kind.Linestring = refl
-kind_back kind.Polygon = refl
-kind_back kind.MultiPoint = refl
-kind_back kind.MultiLinestring = refl
-kind_back kind.MultiPolygon = refl
-kind_back kind.Collection = refl
-kind_back kind.Ring = refl
+kind_back _ = refl
 
 one_kind : (k j : Kind) → kind_number k ≡ kind_number j → k ≡ j
 one_kind k j same = sym (kind_back k) ∙ ap kind_at same ∙ kind_back j
 
 one_id : (a b : Option ℤ) → id_flag a ≡ id_flag b → id_number a ≡ id_number b → a ≡ b
 one_id None None flags ids = refl
-one_id None (Some b) flags ids = absurd (omega (arith, flags))
-one_id (Some a) None flags ids = absurd (omega (arith, flags))
 one_id (Some a) (Some b) flags ids = ap (λ (n : ℤ). Some n) ids
+one_id _ _ flags ids = absurd (omega (arith, flags))
 
 -- no precision is -128
 never : (n : ℤ) → IsPrecision n → n ≡ negsuc 127 → ⊥
@@ -284,14 +277,13 @@ right_in r (Some id) is = inl (ap id_flag (sym is))
 
 precision_in : (o : Option ℤ) → IfSome o IsPrecision
     → (if is_no_precision (precision_number o) then None else Some (precision_number o)) ≡ o
-precision_in None p = refl
-precision_in (Some (pos n)) p = refl
 precision_in (Some (negsuc n)) p = by_test n (n == 127) refl p
   where
     by_test : (n : ℕ) (b : Bool) → (n == 127) ≡ b → IsPrecision (negsuc n)
         → (if b then None else Some (negsuc n)) ≡ Some (negsuc n)
     by_test n true is p = absurd (never (negsuc n) p (ap negsuc (eqb-true n 127 is)))
     by_test n false is p = refl
+precision_in _ p = refl
 
 -- a row in C's layout stands for the row itself
 row_from : (r : Row) (k : Kind) (own : List BufferPoint) → IsPlain r → kind_number k ≡ kind_number r.kind

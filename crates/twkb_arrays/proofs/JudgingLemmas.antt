@@ -180,8 +180,6 @@ by_points l s r answer place id precision h =
 -- two lists of as many numbers, joined by `or`, are below 2^63 if and only if both are
 both_below : (xs ys : List ℕ) → length xs ≡ length ys → AreBelow (zip2 bit_or xs ys) ↔ (AreBelow xs × AreBelow ys)
 both_below [] [] same = (λ below. (tt, tt), λ both. tt)
-both_below [] (y ∷ ys) same = absurd (omega (arith, same))
-both_below (x ∷ xs) [] same = absurd (omega (arith, same))
 both_below (x ∷ xs) (y ∷ ys) same =
     let more = both_below xs ys (omega (arith, same)) in (
       λ below.
@@ -191,6 +189,7 @@ both_below (x ∷ xs) (y ∷ ys) same =
           ),
       λ both. (or_lt 63 x y both.0.0 both.1.0, more.1 (both.0.1, both.1.1)),
     )
+both_below _ _ same = absurd (omega (arith, same))
 
 -- Numbers of the points looked at so far are joined by `or`, those of x and those of y. The points are
 -- in range if and only if what is joined is below 2^63 and the points left are in range.
@@ -245,10 +244,8 @@ decided_by own left x y all none = elim (cases_Bool (nat_lt (bit_or x y) (2 ^ 63
 pub decided : (own left : List BufferPoint) (joined : List ℕ) → Decides own left joined → left ≡ []
     → nat_lt (bit_or (slice_index_or joined 0 0) (slice_index_or joined 1 0)) (2 ^ 63)
     ≡ are_in_range (points_of own)
-decided own left [] all none = absurd (omega (arith, all.two))
-decided own left (x ∷ []) all none = absurd (omega (arith, all.two))
 decided own left (x ∷ y ∷ []) all none = decided_by own left x y all none
-decided own left (x ∷ y ∷ z ∷ more) all none = absurd (omega (arith, all.two))
+decided own left _ all none = absurd (omega (arith, all.two))
 
 -- ---- the first point out of range
 

@@ -41,14 +41,13 @@ by_answer l bytes hs gs false (Ok done) status is ends s few = inr
     (one_stream l bytes hs gs ends s, λ e. omega (arith, is, e))
 by_answer l bytes hs gs true (Ok done) status is ends s few = inr
     (one_stream l bytes hs gs ends s, λ e. omega (arith, is, e))
-by_answer l bytes hs gs full (Err fault.Memory) status is ends s few = inl is
-by_answer l bytes hs gs full (Err fault.Spent) status is ends s few = inl is
 by_answer l bytes hs gs full (Err (fault.Device why)) status is ends s few =
     let long = ends.0 in
     absurd (omega (arith, long, few))
 by_answer l bytes hs gs full (Err (fault.At offset reason)) status is ends s few =
     absurd (no_stream l ends.front ends.rest hs gs ends.within (reason_of reason) ends.blobs ends.first.fault
     (subst (λ (b : List ℕ). Stream l b gs) ends.whole s))
+by_answer l bytes hs gs full (Err _) status is ends s few = inl is
 
 pub all_read : (l : Allowance) (bytes : List ℕ) (old_rows new_rows : List BufferRow)
     (old_points new_points : List BufferPoint) (counts : BufferCounts) (gs : List Tree)
@@ -66,11 +65,8 @@ pub status_zero : (l : Allowance) (bytes : List ℕ) (gs : List Tree) (full : Bo
 status_zero l bytes gs false (Ok done) e ends = (refl, ends)
 status_zero l bytes gs true (Ok done) e ends = absurd (omega (arith, e))
 status_zero l bytes gs full (Err fault.Memory) e ends = absurd (omega (arith, e))
-status_zero l bytes gs full (Err fault.Spent) e ends = absurd (omega (arith, e))
-status_zero l bytes gs false (Err (fault.Device why)) e ends = absurd (omega (arith, e))
-status_zero l bytes gs true (Err (fault.Device why)) e ends = absurd (omega (arith, e))
-status_zero l bytes gs false (Err (fault.At offset reason)) e ends = absurd (omega (arith, e))
-status_zero l bytes gs true (Err (fault.At offset reason)) e ends = absurd (omega (arith, e))
+status_zero l bytes gs false (Err _) e ends = absurd (omega (arith, e))
+status_zero l bytes gs full (Err _) e ends = absurd (omega (arith, e))
 
 pub rows_of_text : (l : Allowance) (bytes : List ℕ) (old_rows new_rows : List BufferRow)
     (old_points new_points : List BufferPoint) (counts : BufferCounts) (text : List ℕ) (done : ℕ)
@@ -123,15 +119,13 @@ by_fault : (l : Allowance) (bytes : List ℕ) (gs hs : List Tree) (full : Bool)
 by_fault l bytes gs hs false (Ok done) offset r e ends few f = absurd (omega (arith, e))
 by_fault l bytes gs hs true (Ok done) offset r e ends few f = absurd (omega (arith, e))
 by_fault l bytes gs hs full (Err fault.Memory) offset r e ends few f = absurd (omega (arith, e))
-by_fault l bytes gs hs full (Err fault.Spent) offset r e ends few f = absurd (omega (arith, e))
 by_fault l bytes gs hs false (Err (fault.Device why)) offset r e ends few f =
     let long = ends.0 in
     absurd (omega (arith, long, few))
-by_fault l bytes gs hs true (Err (fault.Device why)) offset r e ends few f = absurd (omega (arith, e))
 by_fault l bytes gs hs false (Err (fault.At place q)) offset r e ends few f =
     let one = one_stream_fault l bytes gs hs place offset (reason_of q) (reason_of r) ends f in
     (number_is q ∙ ap fault_number one.2 ∙ sym (number_is r), one.1)
-by_fault l bytes gs hs true (Err (fault.At place q)) offset r e ends few f = absurd (omega (arith, e))
+by_fault l bytes gs hs full (Err _) offset r e ends few f = absurd (omega (arith, e))
 
 pub refused_alike : (l : Allowance) (bytes : List ℕ) (old_rows new_rows : List BufferRow)
     (old_points new_points : List BufferPoint) (counts : BufferCounts) (text : List ℕ) (done : ℕ) (why : Cause)
@@ -147,13 +141,5 @@ refused_alike l bytes old_rows new_rows old_points new_points counts text done (
     )
 refused_alike l bytes old_rows new_rows old_points new_points counts text done (cause.Row number r) report read one
     few front refused tells = absurd front.explains
-refused_alike l bytes old_rows new_rows old_points new_points counts text done cause.ReadDevice report read one few
-    front refused tells = absurd refused
-refused_alike l bytes old_rows new_rows old_points new_points counts text done cause.WriteDevice report read one few
-    front refused tells = absurd refused
-refused_alike l bytes old_rows new_rows old_points new_points counts text done cause.Memory report read one few front
-    refused tells = absurd refused
-refused_alike l bytes old_rows new_rows old_points new_points counts text done cause.TooLong report read one few
-    front refused tells = absurd refused
-refused_alike l bytes old_rows new_rows old_points new_points counts text done cause.TooManyRecords report read one
-    few front refused tells = absurd refused
+refused_alike l bytes old_rows new_rows old_points new_points counts text done _ report read one few front refused tells =
+    absurd refused

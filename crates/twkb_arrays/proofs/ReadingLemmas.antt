@@ -64,10 +64,8 @@ stopped l blobs piece used gs old new (fault.At offset reason) is at limits kept
 pub finished : {A : Type 0} (l : Allowance) (blobs : List ℕ) (gs : List Tree) (answer : Result A BlobFault)
     → Finished l blobs gs answer → EndsReading l blobs gs answer
 finished l blobs gs (Ok done) f = f
-finished l blobs gs (Err fault.Memory) f = absurd f
-finished l blobs gs (Err (fault.Device why)) f = absurd f
-finished l blobs gs (Err fault.Spent) f = absurd f
 finished l blobs gs (Err (fault.At offset reason)) f = f
+finished l blobs gs (Err _) f = absurd f
 
 -- a geometry was read to its end, and was taken or counted
 pub took : (start_rows : List BufferRow) (start_points : List BufferPoint) (blobs piece : List ℕ) (used more : ℕ)
@@ -124,9 +122,7 @@ fed_all bytes gs piece n true s fed e = absurd (false≢true (sym e))
 pub same_end : (l : Allowance) (bytes : List ℕ) (gs : List Tree) (why : BlobFault)
     → EndsReading {A = ℕ} l bytes gs (Err why) → EndsReading {A = Unit {0}} l bytes gs (Err why)
 same_end l bytes gs fault.Memory e = e
-same_end l bytes gs (fault.Device why) e = e
-same_end l bytes gs fault.Spent e = e
-same_end l bytes gs (fault.At offset reason) e = e
+same_end l bytes gs _ e = e
 
 -- the end of a session is the end of the reading of all bytes
 pub ended : {A : Type 0} (l : Allowance) (blobs : List ℕ) (used : ℕ) (gs : List Tree) (s : Session)

@@ -117,10 +117,9 @@ by_status : (l : Allowance) (bytes : List ℕ) (gs : List Tree) (answer : Result
     → status ≡ (outcome_of false answer).0 → EndsReading l bytes gs answer → status ≢ 1
     → (status ≡ 4) ⊎ (status ≡ 0)
 by_status l bytes gs (Ok done) status is ends not = inr is
-by_status l bytes gs (Err reading.Memory) status is ends not = inl is
-by_status l bytes gs (Err reading.Spent) status is ends not = inl is
 by_status l bytes gs (Err (reading.Device why)) status is ends not = absurd (not is)
 by_status l bytes gs (Err (reading.At offset reason)) status is ends not = absurd (not is)
+by_status l bytes gs (Err _) status is ends not = inl is
 
 -- the first of geometries have no more rows and points than all
 room_for_first : (in_rows : List BufferRow) (in_points : List BufferPoint) (given later : List Tree) (g : Tree)

@@ -135,9 +135,8 @@ module _ {R : Type 0} {read : Ghosts R} {limits : Allowance} {a c : Input R read
     pub flat_next : (answer : Result Bool BlobFault) → ReadsInto holds limits a c answer rs v
         → IsNextFlat limits a c answer rs
     flat_next (Ok true) h = (h.is.0, h.is.1, h.is.3)
-    flat_next (Ok false) h = h.is
     flat_next (Err fault.Memory) h = tt
-    flat_next (Err why) h = h.is
+    flat_next _ h = h.is
 
     pub same_answer : {answer other : Result Bool BlobFault} → answer ≡ other
         → ReadsInto holds limits a c answer rs v → ReadsInto holds limits a c other rs v
@@ -170,9 +169,8 @@ module _ {R : Type 0} {read : Ghosts R} {limits : Allowance} {a c : Input R read
     },
     h.is.3,
   )
-  spanned_next (Ok false) h kept = h.is
   spanned_next (Err fault.Memory) h kept = tt
-  spanned_next (Err why) h kept = h.is
+  spanned_next _ h kept = h.is
 
   -- there is no memory for its tree
   pub made_ahead : {g : Tree} → Makes limits [] a c g → PartAhead limits [] a

@@ -127,9 +127,8 @@ piece_fed holds d e rs more old new piece count answer fed = λ bs s.
 
 -- a piece of one byte
 only_byte : (piece : List ℕ) (byte : ℕ) → length piece ≡ 1 → byte ≡ get_or piece 0 0 → take 1 piece ≡ byte ∷ []
-only_byte [] byte one is = absurd (omega (arith, one))
 only_byte (x ∷ []) byte one is = ap (λ y. y ∷ []) (sym is)
-only_byte (x ∷ y ∷ xs) byte one is = absurd (omega (arith, one))
+only_byte _ byte one is = absurd (omega (arith, one))
 
 module _ {S : Type 0} {holds : S → Notes → Type 0} {d e : Engine} {rs more : List Row} {old new : S}
     {piece : List ℕ} where
@@ -255,8 +254,7 @@ none_in piece empty is on = nil_from_length piece (is_zero (length piece) (sym i
 -- whether a fault of an input is a failed read
 pub read_failed : (why : InFault) → is_read why ≡ failed_by_read {A = Bool} (Err (Device why))
 read_failed Read = refl
-read_failed TooLong = refl
-read_failed Spent = refl
+read_failed _ = refl
 
 module _ {R : Type 0} {read : Ghosts R} {a b : Input R read} where
   -- a fill loses nothing

@@ -74,12 +74,7 @@ is_line _ = false
 line_is : (k : Kind) → is_line k ≡ true → (k ≡ kinds.Linestring) ⊎ (k ≡ kinds.Ring)
 line_is kinds.Linestring h = inl refl
 line_is kinds.Ring h = inr refl
-line_is kinds.Point h = absurd cc
-line_is kinds.Polygon h = absurd cc
-line_is kinds.MultiPoint h = absurd cc
-line_is kinds.MultiLinestring h = absurd cc
-line_is kinds.MultiPolygon h = absurd cc
-line_is kinds.Collection h = absurd cc
+line_is _ h = absurd cc
 
 line_true : (k : Kind) → (k ≡ kinds.Linestring) ⊎ (k ≡ kinds.Ring) → is_line k ≡ true
 line_true k (inl e) = ap is_line e
@@ -98,9 +93,8 @@ ends_is (r ∷ s ∷ rs) h = let e = ends_is (s ∷ rs) h in
     record { front = r ∷ e.front; last = e.last; line = e.line; whole = ap (λ l. r ∷ l) e.whole }
 
 ends_behind : (front : List Row) (r : Row) → is_line r.kind ≡ true → ends_line (front ++ r ∷ []) ≡ true
-ends_behind [] r h = h
-ends_behind (s ∷ []) r h = h
 ends_behind (s ∷ t ∷ front) r h = ends_behind (t ∷ front) r h
+ends_behind _ r h = h
 
 ends_true : (rs : List Row) → EndsInLine rs → ends_line rs ≡ true
 ends_true rs e = ap ends_line e.whole ∙ ends_behind e.front e.last (line_true e.last.kind e.line)

@@ -3,8 +3,7 @@ use Rattle.std.proofs.Common.{◌≡◌, ℕ, suc, [], ◌∷◌, refl, sym, ap}
 use Rattle.std.proofs.lemmas.List.{length-map}
 use Rattle.std.specs.Prelude.{List}
 use Rattle.twkb_grammar.specs.Noting.{Notes, note_byte, IsCalm}
-use Rattle.twkb_grammar.specs.Machine.{Frame, Phase, AtHeader, AtMetadata, AtOption, AtCount, AtId, AtBody, AtEnd}
-use Rattle.twkb_grammar.specs.Machine.{Finished, Want, WantY, Done}
+use Rattle.twkb_grammar.specs.Machine.{Frame, Phase, AtHeader, AtOption, AtBody, Finished, Want}
 use Rattle.twkb_grammar.specs.Reading.{frame_count}
 use Rattle.twkb_body.specs.Outline.{Stage, frame_outline, stage_of, outline_of}
 use Rattle.twkb_body.specs.Reading.{open_count}
@@ -12,38 +11,18 @@ use Rattle.twkb_body.specs.Noting.{note_stage, note_first, IsCalmStage}
 
 pub same_note : (ph : Phase) (offset points byte : ℕ) (w : Notes)
     → note_byte ph offset points byte w ≡ note_stage (stage_of ph) offset points byte w
-same_note AtHeader offset points byte w = refl
-same_note (AtMetadata k p) offset points byte w = refl
-same_note (AtOption k h r rs) offset points byte w = refl
-same_note (AtCount m h) offset points byte w = refl
-same_note (AtId m h n ids left) offset points byte w = refl
 same_note (AtBody h f ids (Want d a)) offset points byte w = refl
-same_note (AtBody h f ids (WantY a)) offset points byte w = refl
-same_note (AtBody h f ids (Done v)) offset points byte w = refl
-same_note (AtEnd h g) offset points byte w = refl
-same_note (Finished g) offset points byte w = refl
+same_note _ offset points byte w = refl
 
 pub same_calm : (ph : Phase) → IsCalmStage (stage_of ph) → IsCalm ph
 same_calm (AtOption k h r rs) c = c
-same_calm AtHeader c = tt
-same_calm (AtMetadata k p) c = tt
-same_calm (AtCount m h) c = tt
-same_calm (AtId m h n ids left) c = tt
-same_calm (AtBody h f ids b) c = tt
-same_calm (AtEnd h g) c = tt
-same_calm (Finished g) c = tt
+same_calm _ c = tt
 
 pub same_count : (fs : List Frame) (ph : Phase) → frame_count (fs, ph) ≡ open_count (outline_of (fs, ph))
 same_count fs AtHeader = sym (length-map fs frame_outline)
 same_count fs (Finished g) = sym (length-map fs frame_outline)
-same_count fs (AtMetadata k p) = ap suc (sym (length-map fs frame_outline))
-same_count fs (AtOption k h r rs) = ap suc (sym (length-map fs frame_outline))
-same_count fs (AtCount m h) = ap suc (sym (length-map fs frame_outline))
-same_count fs (AtId m h n ids left) = ap suc (sym (length-map fs frame_outline))
 same_count fs (AtBody h f ids (Want d a)) = ap suc (sym (length-map fs frame_outline))
-same_count fs (AtBody h f ids (WantY a)) = ap suc (sym (length-map fs frame_outline))
-same_count fs (AtBody h f ids (Done v)) = ap suc (sym (length-map fs frame_outline))
-same_count fs (AtEnd h g) = ap suc (sym (length-map fs frame_outline))
+same_count fs _ = ap suc (sym (length-map fs frame_outline))
 
 -- ---- the first of some bytes
 

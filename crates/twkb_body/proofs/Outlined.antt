@@ -20,14 +20,14 @@ use Rattle.twkb_tree.specs.declared.kind.Kind as row
 use Rattle.twkb_tree.proofs.PointAdded.{point_last}
 use Rattle.twkb_tree.proofs.LimitLaws.{continued, continues_row, one_valid_front, continues_largest}
 use Rattle.twkb_grammar.specs.Bits.{bit}
-use Rattle.twkb_grammar.specs.Roles.{Role, Header, Metadata, Extended, Size, Box, Count, Id, X, Y, End, Item, IsNumber}
+use Rattle.twkb_grammar.specs.Roles.{Role, Extended, Size, Count, End, Item, IsNumber}
 use Rattle.twkb_grammar.specs.PlainReader.{is_exact, objection}
 use Rattle.twkb_grammar.specs.Machine.{top, Want, PointForm, LineForm, PolygonForm, MultiPointForm, MultiLineForm}
 use Rattle.twkb_grammar.specs.Machine.{MultiPolygonForm, Kind, SimpleKind, CollectionKind, Head, Frame, snoc, Many}
 use Rattle.twkb_grammar.specs.Machine.{ManyPoints, ManyLines, ManyPolygons, ManyGeometries, Phase, AtHeader, AtMetadata}
 use Rattle.twkb_grammar.specs.Machine.{AtOption, AtCount, AtId, AtBody, AtEnd, Finished, Stack, begun, empty_of}
 use Rattle.twkb_grammar.specs.Machine.{wanting, asked, with_option, members_begin, counted, ended, advanced, Around}
-use Rattle.twkb_grammar.specs.Machine.{within, WantY, Done, BodyForm, depth_of, Sums, nothing, added, sums_after}
+use Rattle.twkb_grammar.specs.Machine.{within, WantY, BodyForm, depth_of, Sums, nothing, added, sums_after}
 use Rattle.twkb_grammar.specs.Machine.{started, stack_after, Runs, first_count, role_at}
 use Rattle.twkb_grammar.specs.Reading.{past_end, ends, Ran, Reached, Gives, Landed, Leads}
 use Rattle.twkb_grammar.specs.Fault.{Part, moved, Reason, Truncated, BadVarint, FirstFault, IsPart, IsCut, IsTooLong}
@@ -62,21 +62,11 @@ first_row front r = ap (λ rs. rs ++ r ∷ []) (sym (append-nil front))
 empty_rows : (d : ℕ) (id : Option ℤ) (k : Kind) (precision : ℤ)
     → rows_with id d (empty_of k precision) ≡ own_of d id k precision ∷ []
 empty_rows d id (SimpleKind PointForm) precision = refl
-empty_rows d id (SimpleKind LineForm) precision = refl
-empty_rows d id (SimpleKind PolygonForm) precision = refl
-empty_rows d id (SimpleKind MultiPointForm) precision = refl
-empty_rows d id (SimpleKind MultiLineForm) precision = refl
-empty_rows d id (SimpleKind MultiPolygonForm) precision = refl
-empty_rows d id CollectionKind precision = refl
+empty_rows d id _ precision = refl
 
 begun_rows : (d : ℕ) (id : Option ℤ) (k : Kind) (h : Head) → phase_rows d id (begun k h) ≡ []
 begun_rows d id (SimpleKind PointForm) h = refl
-begun_rows d id (SimpleKind LineForm) h = refl
-begun_rows d id (SimpleKind PolygonForm) h = refl
-begun_rows d id (SimpleKind MultiPointForm) h = refl
-begun_rows d id (SimpleKind MultiLineForm) h = refl
-begun_rows d id (SimpleKind MultiPolygonForm) h = refl
-begun_rows d id CollectionKind h = refl
+begun_rows d id _ h = refl
 
 wanting_rows : (front : List Row) (d : ℕ) (id : Option ℤ) (k : Kind) (h : Head) (rs : List Role)
     → front ++ phase_rows d id (wanting k h rs) ≡ applied
@@ -95,16 +85,9 @@ option_rows : (front : List Row) (d : ℕ) (id : Option ℤ) (k : Kind) (h : Hea
     (rs : List Role) (n bytes : ℕ) → front ++ phase_rows d id
     (wanting k (with_option h r n bytes) rs) ≡ applied (header_change d id k h.precision h.meta rs)
     (front ++ [])
-option_rows front d id k h Header rs n bytes = wanting_rows front d id k h rs
-option_rows front d id k h (Metadata kind) rs n bytes = wanting_rows front d id k h rs
 option_rows front d id k h Extended rs n bytes = wanting_rows front d id k (with_option h Extended n bytes) rs
 option_rows front d id k h Size rs n bytes = wanting_rows front d id k (with_option h Size n bytes) rs
-option_rows front d id k h Box rs n bytes = wanting_rows front d id k h rs
-option_rows front d id k h (Count c) rs n bytes = wanting_rows front d id k h rs
-option_rows front d id k h Id rs n bytes = wanting_rows front d id k h rs
-option_rows front d id k h X rs n bytes = wanting_rows front d id k h rs
-option_rows front d id k h Y rs n bytes = wanting_rows front d id k h rs
-option_rows front d id k h (End declared came) rs n bytes = wanting_rows front d id k h rs
+option_rows front d id k h _ rs n bytes = wanting_rows front d id k h rs
 
 -- ---- members
 
@@ -213,17 +196,15 @@ rows_at_ends bytes fs (Finished g) st e = let same : (fs, Finished g) ≡ st = c
 pub item_grows : (p : Point) (bytes n : ℕ) (fs : List Frame) (ph : Phase)
     → rows_so_far (advanced p bytes n fs ph) ≡ applied
     (stage_change p n (length fs) (id_within fs) (stage_of ph)) (rows_so_far (fs, ph))
-item_grows p bytes n fs AtHeader = refl
 item_grows p bytes n fs (AtMetadata k precision) = wanting_rows (frame_rows fs) (length fs)
     (id_within fs) k (record { precision = precision; meta = n; size = None; from = bytes })
     (asked n)
 item_grows p bytes n fs (AtOption k h r rs) = option_rows (frame_rows fs) (length fs) (id_within fs) k h r rs n bytes
 item_grows p bytes n fs (AtCount m h) = counted_rows p m h fs n
 item_grows p bytes n fs (AtId m h members ids zero) = members_rows p m h fs (Some (ids ++ unzigzag_of n ∷ [])) members
-item_grows p bytes n fs (AtId m h members ids (suc left)) = refl
 item_grows p bytes n fs (AtBody h f ids b) = body_grows (frame_rows fs) (length fs) (id_within fs) h ids p n f b
 item_grows p bytes n fs (AtEnd h g) = ended_rows fs g
-item_grows p bytes n fs (Finished g) = refl
+item_grows p bytes n fs _ = refl
 
 -- the id of the open geometry is determined by the outline
 pub same_id : (fs : List Frame) → id_in (map frame_outline fs) ≡ id_within fs
@@ -342,7 +323,6 @@ module _ (front : List Row) (d : ℕ) (id : Option ℤ) (h : Head) (ids : Ids) w
   point_takes : (p : Point) (n : ℕ) (f : BodyForm) (a : Around (depth_of f) 0)
       → Takes (stage_change p n d id (body_stage h f ids (WantY a)))
       (front ++ value_rows d id h f ids (cut_before a))
-  point_takes p n PointForm a = tt
   point_takes p n LineForm (within ps left top) =
       record {
         front = front;
@@ -356,7 +336,6 @@ module _ (front : List Row) (d : ℕ) (id : Option ℤ) (h : Head) (ids : Ids) w
       (ring-snoc (suc d) rings ps) (inr refl)
   point_takes p n PolygonForm (within ps left (within others more (within further most a))) = absurd
       (omega (arith, around_within a))
-  point_takes p n MultiPointForm a = tt
   point_takes p n MultiLineForm (within ps left (within lines more top)) = line_below front
       (own kinds.MultiLinestring) (rows_of_each line_rows ids lines) _
       (plain_row (suc d) kinds.Linestring (first_id (ids_behind ids lines)) ps)
@@ -370,23 +349,19 @@ module _ (front : List Row) (d : ℕ) (id : Option ℤ) (h : Head) (ids : Ids) w
   point_takes p n MultiPolygonForm (within ps left
       (within others more (within further most (within last least a)))) = absurd
       (omega (arith, around_within a))
+  point_takes p n _ a = tt
 
 pub item_takes : (p : Point) (n : ℕ) (fs : List Frame) (ph : Phase)
     → Takes (stage_change p n (length fs) (id_within fs) (stage_of ph)) (rows_so_far (fs, ph))
-item_takes p n fs AtHeader = tt
 item_takes p n fs (AtMetadata k precision) = header_takes (length fs) (id_within fs) k precision n
     (asked n) (rows_so_far (fs, AtMetadata k precision))
 item_takes p n fs (AtOption k h r rs) = header_takes (length fs) (id_within fs) k h.precision h.meta
     rs (rows_so_far (fs, AtOption k h r rs))
 item_takes p n fs (AtCount m h) = count_takes (length fs) (id_within fs) m h n (rows_so_far (fs, AtCount m h))
 item_takes p n fs (AtId m h members ids zero) = tt
-item_takes p n fs (AtId m h members ids (suc left)) = tt
 item_takes p n fs (AtBody h f ids (Want zero a)) = tt
-item_takes p n fs (AtBody h f ids (Want (suc k) a)) = tt
 item_takes p n fs (AtBody h f ids (WantY a)) = point_takes (frame_rows fs) (length fs) (id_within fs) h ids p n f a
-item_takes p n fs (AtBody h f ids (Done v)) = tt
-item_takes p n fs (AtEnd h g) = tt
-item_takes p n fs (Finished g) = tt
+item_takes p n fs _ = tt
 
 -- ---- runs
 
@@ -438,17 +413,9 @@ stack_takes p n fs ph = subst (λ c. Takes c (rows_so_far (fs, ph))) (change_sam
 -- ---- the role
 
 same_stage_role : (e : Sums) (fs : List Frame) (ph : Phase) → role_at e (fs, ph) ≡ outline_role e (outline_of (fs, ph))
-same_stage_role e fs AtHeader = refl
-same_stage_role e fs (AtMetadata k p) = refl
-same_stage_role e fs (AtOption k h r rs) = refl
 same_stage_role e fs (AtCount m h) = ap (λ n. Some (Count (first_count m n))) (sym (length-map fs frame_outline))
-same_stage_role e fs (AtId m h n ids left) = refl
 same_stage_role e fs (AtBody h f ids (Want zero a)) = refl
-same_stage_role e fs (AtBody h f ids (Want (suc d) a)) = refl
-same_stage_role e fs (AtBody h f ids (WantY a)) = refl
-same_stage_role e fs (AtBody h f ids (Done v)) = refl
-same_stage_role e fs (AtEnd h g) = refl
-same_stage_role e fs (Finished g) = refl
+same_stage_role e fs _ = refl
 
 pub same_role : (e : Sums) (st : Stack) → role_at e st ≡ outline_role e (outline_of st)
 same_role e st = same_stage_role e st.0 st.1
@@ -553,17 +520,9 @@ module _ (limits : Allowance) where
   finished_stack : (bytes : List ℕ) (e : Sums) (fs : List Frame) (ph : Phase) → map frame_outline fs ≡ []
       → stage_of ph ≡ OnFinished → Reached limits bytes e (fs, ph) → (g : Tree) × Blob limits bytes g
       × (rows 0 g ≡ rows_so_far (fs, ph))
-  finished_stack bytes e (f ∷ fs) ph none same r = absurd cc
   finished_stack bytes e [] (Finished g) none same r = (g, reached_blob limits bytes e g r, refl)
-  finished_stack bytes e [] AtHeader none same r = absurd cc
-  finished_stack bytes e [] (AtMetadata k p) none same r = absurd cc
-  finished_stack bytes e [] (AtOption k h o rs) none same r = absurd cc
-  finished_stack bytes e [] (AtCount m h) none same r = absurd cc
-  finished_stack bytes e [] (AtId m h n ids left) none same r = absurd cc
   finished_stack bytes e [] (AtBody h f ids (Want d a)) none same r = absurd cc
-  finished_stack bytes e [] (AtBody h f ids (WantY a)) none same r = absurd cc
-  finished_stack bytes e [] (AtBody h f ids (Done v)) none same r = absurd cc
-  finished_stack bytes e [] (AtEnd h g) none same r = absurd cc
+  finished_stack bytes e _ _ none same r = absurd cc
 
   pub outlined_whole : (bytes : List ℕ) (e : Sums) (rs : List Row)
       → Outlined limits bytes e ([], OnFinished) rs → (g : Tree) × Blob limits bytes g
@@ -638,16 +597,9 @@ lefts_fit top = omega arith
 lefts_fit (within done left a) = omega (arith, lefts_fit a)
 
 stage_fits : (ph : Phase) → StageFits (stage_of ph)
-stage_fits AtHeader = tt
-stage_fits (AtMetadata k p) = tt
-stage_fits (AtOption k h r rs) = tt
-stage_fits (AtCount m h) = tt
-stage_fits (AtId m h n ids left) = tt
 stage_fits (AtBody h f ids (Want d a)) = lefts_fit a
 stage_fits (AtBody h f ids (WantY a)) = omega (arith, lefts_fit a)
-stage_fits (AtBody h f ids (Done v)) = tt
-stage_fits (AtEnd h g) = tt
-stage_fits (Finished g) = tt
+stage_fits _ = tt
 
 pub outlined_fits : (limits : Allowance) (bytes : List ℕ) (e : Sums) (o : Outline) (rs : List Row)
     → Outlined limits bytes e o rs → StageFits o.1

@@ -14,13 +14,12 @@ use Rattle.twkb_tree.proofs.PointAdded.{point_last}
 use Rattle.twkb_grammar.specs.Bits.{bit}
 use Rattle.twkb_grammar.specs.Roles.{Role}
 use Rattle.twkb_grammar.specs.PlainReader.{is_exact}
-use Rattle.twkb_grammar.specs.Machine.{Nested, Around, top, within, Body, Want, WantY, Done, closed, opened, body_after}
-use Rattle.twkb_grammar.specs.Machine.{BodyForm, depth_of, PointForm, LineForm, PolygonForm, MultiPointForm}
-use Rattle.twkb_grammar.specs.Machine.{MultiLineForm, MultiPolygonForm, Kind, SimpleKind, CollectionKind, Head, Frame}
-use Rattle.twkb_grammar.specs.Machine.{snoc, Many, ManyPoints, ManyLines, ManyPolygons, ManyGeometries, Phase, AtHeader}
-use Rattle.twkb_grammar.specs.Machine.{AtMetadata, AtOption, AtCount, AtId, AtBody, AtEnd, Finished, settled, begun}
-use Rattle.twkb_grammar.specs.Machine.{empty_of, wanting, asked, with_option, members_begin, counted, ended, advanced}
-use Rattle.twkb_grammar.specs.Machine.{shape_of}
+use Rattle.twkb_grammar.specs.Machine.{Nested, Around, top, within, Body, Want, WantY, Done, closed, opened}
+use Rattle.twkb_grammar.specs.Machine.{body_after, BodyForm, depth_of, PointForm, LineForm, PolygonForm}
+use Rattle.twkb_grammar.specs.Machine.{MultiPointForm, MultiLineForm, MultiPolygonForm, Kind, SimpleKind, Head, Frame}
+use Rattle.twkb_grammar.specs.Machine.{snoc, Many, ManyPoints, ManyLines, ManyPolygons, ManyGeometries, Phase}
+use Rattle.twkb_grammar.specs.Machine.{AtMetadata, AtOption, AtCount, AtId, AtBody, AtEnd, settled, begun, empty_of}
+use Rattle.twkb_grammar.specs.Machine.{wanting, asked, with_option, members_begin, counted, ended, advanced, shape_of}
 use Rattle.twkb_grammar.specs.Reading.{past_end, ends}
 use Rattle.twkb_body.specs.Outline.{ids_behind, ids_after, FrameOutline, Stage, Wanted, WantedY, OnHeader, OnId, OnBody}
 use Rattle.twkb_body.specs.Outline.{OnEnd, frame_outline, lefts_of, ids_left, body_stage, stage_of, outline_of}
@@ -52,8 +51,7 @@ place_stage h f ids (Done v) = OnEnd h
 settled_stage : (h : Head) (f : BodyForm) (ids : Ids) (b : Body (depth_of f))
     → stage_of (settled h f ids b) ≡ place_stage h f ids b
 settled_stage h f ids (Want d a) = refl
-settled_stage h f ids (WantY a) = refl
-settled_stage h f ids (Done v) = refl
+settled_stage h f ids _ = refl
 
 -- the ids when the next value of a list is expected
 next_left : {whole d : ℕ} (ids : Ids) (done : List (Nested d)) (v : Nested d) (left : ℕ)
@@ -91,30 +89,23 @@ listing_stage h f ids d (suc n) a = ap (λ js. OnBody h f js (Wanted d (n ∷ le
 body_advanced : (p : Point) (n : ℕ) (h : Head) (f : BodyForm) (ids : Ids) (b : Body (depth_of f))
     (bytes : ℕ) (gs : List FrameOutline) → stage_of (settled h f ids (body_after p n b))
     ≡ (outline_advanced bytes n (gs, body_stage h f ids b)).1
-body_advanced p n h f ids (Want zero a) bytes gs = refl
 body_advanced p n h f ids (Want (suc d) a) bytes gs = settled_stage h f ids (opened d n a) ∙ listing_stage h f ids d n a
 body_advanced p n h f ids (WantY a) bytes gs = settled_stage h f ids (closed a p) ∙ shut_stage h f ids a p
-body_advanced p n h f ids (Done v) bytes gs = refl
+body_advanced p n h f ids _ bytes gs = refl
 
 -- the outline of a body with the collections around it
 body_outline : (p : Point) (bytes n : ℕ) (fs : List Frame) (h : Head) (f : BodyForm) (ids : Ids)
     (b : Body (depth_of f)) → outline_of (fs, settled h f ids (body_after p n b)) ≡ outline_advanced
     bytes n (outline_of (fs, AtBody h f ids b))
-body_outline p bytes n fs h f ids (Want zero a) = refl
 body_outline p bytes n fs h f ids (Want (suc d) a) = ap (λ (s : Stage). (map frame_outline fs, s))
     (body_advanced p n h f ids (Want (suc d) a) bytes [])
 body_outline p bytes n fs h f ids (WantY a) = ap (λ (s : Stage). (map frame_outline fs, s))
     (body_advanced p n h f ids (WantY a) bytes [])
-body_outline p bytes n fs h f ids (Done v) = refl
+body_outline p bytes n fs h f ids _ = refl
 
 begun_stage : (k : Kind) (h : Head) → stage_of (begun k h) ≡ begins k h
 begun_stage (SimpleKind PointForm) h = refl
-begun_stage (SimpleKind LineForm) h = refl
-begun_stage (SimpleKind PolygonForm) h = refl
-begun_stage (SimpleKind MultiPointForm) h = refl
-begun_stage (SimpleKind MultiLineForm) h = refl
-begun_stage (SimpleKind MultiPolygonForm) h = refl
-begun_stage CollectionKind h = refl
+begun_stage _ h = refl
 
 wanting_stage : (k : Kind) (h : Head) (rs : List Role) → stage_of (wanting k h rs) ≡ options k h rs
 wanting_stage k h (r ∷ rs) = refl
@@ -164,7 +155,6 @@ ended_outline (f ∷ fs) g = go f.left
 -- the outline after each item
 pub outline_steps : (p : Point) (bytes n : ℕ) (fs : List Frame) (ph : Phase)
     → outline_of (advanced p bytes n fs ph) ≡ outline_advanced bytes n (outline_of (fs, ph))
-outline_steps p bytes n fs AtHeader = refl
 outline_steps p bytes n fs (AtMetadata k precision) = ap (λ (s : Stage). (map frame_outline fs, s))
     (wanting_stage k (record { precision = precision; meta = n; size = None; from = bytes })
     (asked n))
@@ -173,16 +163,13 @@ outline_steps p bytes n fs (AtOption k h r rs) = ap (λ (s : Stage). (map frame_
 outline_steps p bytes n fs (AtCount m h) = counted_outline m h fs n
 outline_steps p bytes n fs (AtId m h members ids zero) = members_outline m h fs
     (Some (ids ++ unzigzag_of n ∷ [])) members
-outline_steps p bytes n fs (AtId m h members ids (suc left)) = refl
 outline_steps p bytes n fs (AtBody h f ids b) = body_outline p bytes n fs h f ids b
 outline_steps p bytes n fs (AtEnd h g) = ended_outline fs g
-outline_steps p bytes n fs (Finished g) = refl
+outline_steps p bytes n fs _ = refl
 
 -- the outline after the ends of geometries
 past_end_outline : (exact : Bool) (bytes : ℕ) (g : Tree) (fs : List Frame)
     → outline_in (past_end exact bytes g fs) ≡ outline_past_end exact bytes (map frame_outline fs)
-past_end_outline false bytes g fs = refl
-past_end_outline true bytes g [] = refl
 past_end_outline true bytes g (f ∷ fs) = go f.left
     (past_end_outline (is_exact f.head.size (bytes - f.head.from)) bytes
     (collection f.head.precision f.ids (snoc f.done g)) fs)
@@ -199,20 +186,14 @@ past_end_outline true bytes g (f ∷ fs) = go f.left
       record { head = f.head; ids = js; left = n } ∷ map frame_outline fs,
       OnHeader,
     )) (ids_after-snoc f.ids f.done g)
+past_end_outline _ bytes g _ = refl
 
 -- the outline after the ends that follow an item
 pub outline_at_ends : (bytes : ℕ) (fs : List Frame) (ph : Phase)
     → outline_in (ends bytes fs ph) ≡ outline_ends bytes (outline_of (fs, ph))
-outline_at_ends bytes fs AtHeader = refl
-outline_at_ends bytes fs (AtMetadata k p) = refl
-outline_at_ends bytes fs (AtOption k h r rs) = refl
-outline_at_ends bytes fs (AtCount m h) = refl
-outline_at_ends bytes fs (AtId m h n ids left) = refl
 outline_at_ends bytes fs (AtBody h f ids (Want d a)) = refl
-outline_at_ends bytes fs (AtBody h f ids (WantY a)) = refl
-outline_at_ends bytes fs (AtBody h f ids (Done v)) = refl
 outline_at_ends bytes fs (AtEnd h g) = past_end_outline (is_exact h.size (bytes - h.from)) bytes g fs
-outline_at_ends bytes fs (Finished g) = refl
+outline_at_ends bytes fs _ = refl
 
 -- ==== The change that an item makes to the rows.
 
@@ -285,9 +266,8 @@ around_within (within done left a) = omega (arith, around_within a)
 
 -- the contents of a body when a value is complete, and when a list begins
 cut-closed : {whole d : ℕ} (a : Around whole d) (v : Nested d) → cut (closed a v) ≡ Some (cut_behind a v)
-cut-closed top v = refl
 cut-closed (within done zero a) v = cut-closed a (done ++ v ∷ [])
-cut-closed (within done (suc left) a) v = refl
+cut-closed _ v = refl
 
 cut-opened : {whole : ℕ} (d n : ℕ) (a : Around whole (suc d)) → cut (opened d n a) ≡ Some (cut_behind a [])
 cut-opened d zero a = cut-closed a []
@@ -296,8 +276,7 @@ cut-opened d (suc n) a = refl
 settled_rows : (d : ℕ) (id : Option ℤ) (h : Head) (f : BodyForm) (ids : Ids) (b : Body (depth_of f))
     → phase_rows d id (settled h f ids b) ≡ value_rows d id h f ids (cut b)
 settled_rows d id h f ids (Want k a) = refl
-settled_rows d id h f ids (WantY a) = refl
-settled_rows d id h f ids (Done v) = refl
+settled_rows d id h f ids _ = refl
 
 module _ (front : List Row) (d : ℕ) (id : Option ℤ) (h : Head) (ids : Ids) where
   -- the rows of a body with this value
@@ -396,10 +375,9 @@ module _ (front : List Row) (d : ℕ) (id : Option ℤ) (h : Head) (ids : Ids) w
   pub body_grows : (p : Point) (n : ℕ) (f : BodyForm) (b : Body (depth_of f))
       → front ++ phase_rows d id (settled h f ids (body_after p n b)) ≡ applied
       (stage_change p n d id (body_stage h f ids b)) (front ++ value_rows d id h f ids (cut b))
-  body_grows p n f (Want zero a) = refl
   body_grows p n f (Want (suc k) a) = ap (λ rs. front ++ rs)
       (settled_rows d id h f ids (opened k n a)) ∙ (ap (λ v. front ++ value_rows d id h f ids v)
       (cut-opened k n a) ∙ list_begins f k a)
   body_grows p n f (WantY a) = ap (λ rs. front ++ rs) (settled_rows d id h f ids (closed a p))
       ∙ (ap (λ v. front ++ value_rows d id h f ids v) (cut-closed a p) ∙ point_comes p f a)
-  body_grows p n f (Done v) = refl
+  body_grows p n f _ = refl

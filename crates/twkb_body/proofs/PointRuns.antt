@@ -18,8 +18,7 @@ use Rattle.twkb_tree.proofs.PointAdded.{point_last}
 use Rattle.twkb_tree.proofs.RowLaws.{row_points-append}
 use Rattle.twkb_grammar.specs.Roles.{Role, Item, Id}
 use Rattle.twkb_grammar.specs.Fault.{Reason}
-use Rattle.twkb_grammar.specs.Machine.{Sums, BodyForm, PointForm, LineForm, PolygonForm, MultiPointForm, MultiLineForm}
-use Rattle.twkb_grammar.specs.Machine.{MultiPolygonForm, added}
+use Rattle.twkb_grammar.specs.Machine.{Sums, BodyForm, PointForm, MultiPointForm, added}
 use Rattle.twkb_grammar.proofs.OneFault.{NoEnd}
 use Rattle.twkb_body.specs.Outline.{Outline, Stage, OnHeader, OnMetadata, OnId, OnBody, OnFinished, Wanted, WantedY}
 use Rattle.twkb_body.specs.Outline.{Full, stage_role, FrameOutline, shut, next_ids}
@@ -191,11 +190,8 @@ point_judged h f ids rs from to bytes lefts used cut = λ limits e front gs told
 comes : (f : BodyForm) (to : Point) (d : ℕ) (id : Option ℤ) (precision : ℤ) (member : Option ℤ)
     → HasLists f → point_change to d id precision f member ≡ NewPoint to
 comes PointForm to d id precision member h = absurd h
-comes LineForm to d id precision member h = refl
-comes PolygonForm to d id precision member h = refl
 comes MultiPointForm to d id precision member h = absurd h
-comes MultiLineForm to d id precision member h = refl
-comes MultiPolygonForm to d id precision member h = refl
+comes _ to d id precision member h = refl
 
 -- one point leads on to the next of its list, or to the end of the list
 pub list_runs : (h : Head) (f : BodyForm) (ids : Ids) (lefts : List ℕ) (rs more : List Row)

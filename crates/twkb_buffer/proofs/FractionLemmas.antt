@@ -266,9 +266,8 @@ FindsNearest-whole number factor exponent less found fits some few finds =
 
 -- a value has one size
 value_one : (x : Float) (s t : Bool) (a b c : ℕ) → HasValue x s a c → HasValue x t b c → a ≡ b
-value_one nan s t a b c v w = absurd v
-value_one (inf _) s t a b c v w = absurd v
 value_one (fin u m e) s t a b c v w = eq_of_mul-eq-mul_right (down e) (down_pos e) a b (sym v.1 ∙ w.1)
+value_one _ s t a b c v w = absurd v
 
 -- a value with a sign is the one without it, negated
 negated : (x : Float) (a c : ℕ) → HasValue x false a c → HasValue (neg x) true a c

@@ -55,11 +55,7 @@ refused_table_length style l table written done n (cause.Row number reason) f re
       e,
     )
 refused_table_length style l table written done n (cause.Blob offset reason) f refused e = absurd f.explains
-refused_table_length style l table written done n cause.ReadDevice f refused e = absurd refused
-refused_table_length style l table written done n cause.WriteDevice f refused e = absurd refused
-refused_table_length style l table written done n cause.Memory f refused e = absurd refused
-refused_table_length style l table written done n cause.TooLong f refused e = absurd refused
-refused_table_length style l table written done n cause.TooManyRecords f refused e = absurd refused
+refused_table_length style l table written done n _ f refused e = absurd refused
 
 -- no output is left, so all output of the complete geometries was written
 all_written : {A : Type 0} (text_of : List A → List ℕ) (whole later : List A)
@@ -83,11 +79,7 @@ refused_stream_length l stream written done n (cause.Blob offset reason) f refus
     p.cut f.explains.0 f.explains.1 in
     (written, inr (offset, reason_of reason, p.whole, f.explains.2, text), e)
 refused_stream_length l stream written done n (cause.Row number reason) f refused e = absurd f.explains
-refused_stream_length l stream written done n cause.ReadDevice f refused e = absurd refused
-refused_stream_length l stream written done n cause.WriteDevice f refused e = absurd refused
-refused_stream_length l stream written done n cause.Memory f refused e = absurd refused
-refused_stream_length l stream written done n cause.TooLong f refused e = absurd refused
-refused_stream_length l stream written done n cause.TooManyRecords f refused e = absurd refused
+refused_stream_length l stream written done n _ f refused e = absurd refused
 
 shown_length : (l : Allowance) (stream written : List ℕ) (done n : ℕ)
     → ShownSlice l stream written done → n ≡ length written → ShowsTo l stream n
@@ -103,21 +95,13 @@ refused_lines_length l stream written done n (cause.Blob offset reason) f refuse
     let begin : LocatedStream l 0 p.bytes p.whole = subst (λ blobs. LocatedStream l 0 p.bytes blobs) none p.blobs in
     (written, inr (offset, reason_of reason, p.whole, f.explains.2, (p.bytes, p.begins.0, p.begins.1, begin), text), e)
 refused_lines_length l stream written done n (cause.Row number reason) f refused e = absurd f.explains
-refused_lines_length l stream written done n cause.ReadDevice f refused e = absurd refused
-refused_lines_length l stream written done n cause.WriteDevice f refused e = absurd refused
-refused_lines_length l stream written done n cause.Memory f refused e = absurd refused
-refused_lines_length l stream written done n cause.TooLong f refused e = absurd refused
-refused_lines_length l stream written done n cause.TooManyRecords f refused e = absurd refused
+refused_lines_length l stream written done n _ f refused e = absurd refused
 
 -- if a length is reported, the input is refused
 is_refused : (why : Cause) (sent n : ℕ) → refused_length why sent ≡ Some n → IsRefusal why × (n ≡ sent)
 is_refused (cause.Row number reason) sent n e = (tt, cc)
 is_refused (cause.Blob offset reason) sent n e = (tt, cc)
-is_refused cause.ReadDevice sent n e = absurd cc
-is_refused cause.WriteDevice sent n e = absurd cc
-is_refused cause.Memory sent n e = absurd cc
-is_refused cause.TooLong sent n e = absurd cc
-is_refused cause.TooManyRecords sent n e = absurd cc
+is_refused _ sent n e = absurd cc
 
 refused_length_is : (what : Conversion) (l : Allowance) (input written : List ℕ) (done n : ℕ)
     (why : Cause) → Stopped what l input written done why → IsRefusal why → n ≡ length written
@@ -152,12 +136,7 @@ whole_length what l input written (Err fault) n agrees told =
 -- a stop does not have the status of an end
 never_done : (why : Cause) → status_of why ≡ 0 → ⊥
 never_done (cause.Row number reason) e = omega (arith, e)
-never_done (cause.Blob offset reason) e = omega (arith, e)
-never_done cause.ReadDevice e = omega (arith, e)
-never_done cause.WriteDevice e = omega (arith, e)
-never_done cause.Memory e = omega (arith, e)
-never_done cause.TooLong e = omega (arith, e)
-never_done cause.TooManyRecords e = omega (arith, e)
+never_done _ e = omega (arith, e)
 
 -- a count that is not 0 was reported
 told_count : (found : Option ℕ) (n : ℕ) → n ≡ count_of found → n ≢ 0 → found ≡ Some n
@@ -168,11 +147,7 @@ told_count (Some m) n e some = ap (λ k. Some k) (sym e)
 refused_count : (why : Cause) (sent : ℕ) → IsRefusal why → count_of (refused_length why sent) ≡ sent
 refused_count (cause.Row number reason) sent refused = refl
 refused_count (cause.Blob offset reason) sent refused = refl
-refused_count cause.ReadDevice sent refused = absurd refused
-refused_count cause.WriteDevice sent refused = absurd refused
-refused_count cause.Memory sent refused = absurd refused
-refused_count cause.TooLong sent refused = absurd refused
-refused_count cause.TooManyRecords sent refused = absurd refused
+refused_count _ sent refused = absurd refused
 
 -- the length that was counted is measured
 pub measured : (Ended : Ends) (Halted : Stops) (HasLength : ℕ → Type 0)

@@ -45,8 +45,6 @@ same_size q x l =
 -- a value as another fraction
 pub rescaled : (x : Float) (sign : Bool) (a c b d : ℕ)
     → 0 < c → b * c ≡ a * d → HasValue x sign a c → HasValue x sign b d
-rescaled nan sign a c b d some same value = value
-rescaled (inf t) sign a c b d some same value = value
 rescaled (fin t m e) sign a c b d some same value = (
   value.0,
   eq_of_mul-eq-mul_right c some (m * up e * d) (b * down e)
@@ -56,6 +54,7 @@ rescaled (fin t m e) sign a c b d some same value = (
       ∙ ap (λ (n : ℕ). n * down e) (sym same)
       ∙ mul_right_comm b c (down e)),
 )
+rescaled _ sign a c b d some same value = value
 
 -- the value of a finite number's fields
 fields_value : (sign : Bool) (field fraction : ℕ) → field < 2047
@@ -487,9 +486,8 @@ pub record RoundsBefore (factor divisor : ℕ) (numbers : List ℕ) (old new : L
 AllZip-more : {A B : Type 0} (R : A → B → Type 0) (xs : List A) (ys : List B) (x : A) (y : B) → AllZip R xs ys
     → R x y → AllZip R (xs ++ x ∷ []) (ys ++ y ∷ [])
 AllZip-more R [] [] x y all more = (more, tt)
-AllZip-more R [] (b ∷ ys) x y all more = absurd all
-AllZip-more R (a ∷ xs) [] x y all more = absurd all
 AllZip-more R (a ∷ xs) (b ∷ ys) x y all more = (all.0, AllZip-more R xs ys x y all.1 more)
+AllZip-more R _ _ x y all more = absurd all
 
 -- one more number is rounded
 pub rounds_more : (factor divisor : ℕ) (numbers : List ℕ) (old new : List ℤ) (count : ℕ) (unit : ℤ)

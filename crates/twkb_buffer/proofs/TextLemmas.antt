@@ -62,42 +62,12 @@ words_at (why ∷ rest) n = if eqb (reason_number_of why) n then cause_words why
 
 -- the words are found by the number
 found : (why : Cause) → reason_number_of why ≢ 0 → words_at all_causes (reason_number_of why) ≡ cause_words why
-found (cause.Row number row.BadHeader) some = refl
-found (cause.Row number row.FieldCount) some = refl
-found (cause.Row number row.BadDepth) some = refl
-found (cause.Row number row.BadKind) some = refl
-found (cause.Row number row.BadPlace) some = refl
-found (cause.Row number row.TooDeep) some = refl
-found (cause.Row number row.TooManyNodes) some = refl
-found (cause.Row number row.BadId) some = refl
-found (cause.Row number row.IdNotAllowed) some = refl
-found (cause.Row number row.MixedIds) some = refl
-found (cause.Row number row.BadPrecision) some = refl
-found (cause.Row number row.PrecisionMissing) some = refl
-found (cause.Row number row.PrecisionNotAllowed) some = refl
-found (cause.Row number row.PolylineNotAllowed) some = refl
-found (cause.Row number row.PointCount) some = refl
 found (cause.Row number (row.Polyline offset text.BadChar)) some = refl
-found (cause.Row number (row.Polyline offset text.Cut)) some = refl
-found (cause.Row number (row.Polyline offset text.TooLong)) some = refl
-found (cause.Row number (row.Polyline offset text.Padded)) some = refl
-found (cause.Row number (row.Polyline offset text.Half)) some = refl
-found (cause.Row number (row.Polyline offset text.Range)) some = refl
-found (cause.Row number (row.Polyline offset text.TooMany)) some = refl
 found (cause.Blob offset blob.Truncated) some = refl
-found (cause.Blob offset blob.BadType) some = refl
-found (cause.Blob offset blob.ExtraDimensions) some = refl
-found (cause.Blob offset blob.BadVarint) some = refl
-found (cause.Blob offset blob.TooDeep) some = refl
-found (cause.Blob offset blob.TooManyNodes) some = refl
-found (cause.Blob offset blob.TooManyPoints) some = refl
-found (cause.Blob offset blob.CoordinateRange) some = refl
-found (cause.Blob offset blob.SizeMismatch) some = refl
 found cause.ReadDevice some = absurd (some refl)
 found cause.WriteDevice some = absurd (some refl)
 found cause.Memory some = absurd (some refl)
-found cause.TooLong some = refl
-found cause.TooManyRecords some = refl
+found _ some = refl
 
 -- the cause with a number has its words
 found_at : (n : ℕ) (why : Cause) → HasReason n why → words_at all_causes n ≡ cause_words why
@@ -162,11 +132,9 @@ pub no_cause : (n : ℕ) → NamesNoRow n → NamesNoPointText n → NamesNoBlob
     → (why : Cause) → HasReason n why → ⊥
 no_cause n rows points items long many (cause.Row number reason) has = no_row n rows points reason has.0
 no_cause n rows points items long many (cause.Blob offset reason) has = no_blob n items reason has.0
-no_cause n rows points items long many cause.ReadDevice has = has.1 (sym has.0)
-no_cause n rows points items long many cause.WriteDevice has = has.1 (sym has.0)
-no_cause n rows points items long many cause.Memory has = has.1 (sym has.0)
 no_cause n rows points items long many cause.TooLong has = long (sym has.0)
 no_cause n rows points items long many cause.TooManyRecords has = many (sym has.0)
+no_cause n rows points items long many _ has = has.1 (sym has.0)
 
 -- in a buffer of at least one byte: the words as far as there is room, then a zero byte
 over : (words bs : List ℕ) (b m : ℕ) → m ≡ min (length words) (length bs)

@@ -23,10 +23,9 @@ apart n a b = omega (arith, a, b)
 
 -- each number is that of at most one style
 pub one_style : (s t : Style) (n : ℕ) → IsStyleNumber s n → IsStyleNumber t n → s ≡ t
-one_style Full Full n a b = refl
 one_style Full Plain n a b = absurd (apart n a b)
 one_style Plain Full n a b = absurd (apart n b a)
-one_style Plain Plain n a b = refl
+one_style _ _ n a b = refl
 
 pub packs_named : (style : Style) (l m : Allowance) (number : ℕ) (table slice : List ℕ)
     (report : BufferReport) → l ≡ m → IsStyleNumber style number
@@ -61,11 +60,8 @@ not_two : (full : Bool) (answer : Result (Unit {0}) BlobFault) → (outcome_of f
 not_two true (Ok done) e = omega (arith, e)
 not_two false (Ok done) e = omega (arith, e)
 not_two full (Err fault.Memory) e = omega (arith, e)
-not_two full (Err fault.Spent) e = omega (arith, e)
-not_two true (Err (fault.Device why)) e = omega (arith, e)
-not_two false (Err (fault.Device why)) e = omega (arith, e)
-not_two true (Err (fault.At offset reason)) e = omega (arith, e)
-not_two false (Err (fault.At offset reason)) e = omega (arith, e)
+not_two true (Err _) e = omega (arith, e)
+not_two full (Err _) e = omega (arith, e)
 
 pub never_arguments : (l : Allowance) (blobs : List ℕ) (old_rows : List BufferRow) (old_points : List BufferPoint)
     (new_rows : List BufferRow) (new_points : List BufferPoint) (counts : BufferCounts)

@@ -16,11 +16,11 @@ use Rattle.std.proofs.lemmas.Str.Parse.{digit_from_value}
 use Rattle.clap.specs.Kinds.{Kinds, or_else, FailsBy, check_kinds, value_kinds, values_kinds}
 use Rattle.clap.specs.Walk.{Held, Names, Outcome, Row, Rule, Step, Text, Waiting, Walk, after_flag, after_step}
 use Rattle.clap.specs.Walk.{answers_to, arg_by_id, arg_by_index, arg_by_long, arg_by_short, attached_value, bundle}
-use Rattle.clap.specs.Walk.{bundle_met, bundle_step, default_rows, done, finished, flag_met, has_row, idle, is_pending}
-use Rattle.clap.specs.Walk.{long_met, long_or_other, next, nothing_held, option, option_met, option_word, plain}
-use Rattle.clap.specs.Walk.{plain_word, positional, positional_held, reacted, reading_by, refused, settled}
-use Rattle.clap.specs.Walk.{settled_rows, short_met, short_or_plain, subcommand, subcommand_met, subcommand_or_other}
-use Rattle.clap.specs.Walk.{takes_several, takes_values, to_positional, trailing, used, used_by_id, value, waits, walk}
+use Rattle.clap.specs.Walk.{bundle_met, bundle_step, default_rows, done, finished, flag_met, has_row, is_pending}
+use Rattle.clap.specs.Walk.{long_met, long_or_other, nothing_held, option, option_met, option_word, plain}
+use Rattle.clap.specs.Walk.{plain_word, positional_held, reacted, reading_by, refused, settled}
+use Rattle.clap.specs.Walk.{settled_rows, short_met, short_or_plain, subcommand_met, subcommand_or_other}
+use Rattle.clap.specs.Walk.{takes_several, takes_values, to_positional, trailing, used, used_by_id, value, walk}
 use Rattle.clap.specs.Walk.{walk_from, walked, walked_from, with_default, word_met, action_of, at_row, more_values}
 use Rattle.clap.specs.Walk.{one_of, row_text, used_as, values_or_missing, with_values, without}
 use Rattle.clap.specs.Lexer.{long_of, short_of, without_minus}
@@ -186,16 +186,14 @@ module _ (Holds : List Row → Type 0) (s : Shape) (each : EachKeeps Holds s.arg
 
   plain_holds : (waiting : Waiting) (word : Text) (h : Held) → Holds h.rows
       → Holds (plain_word s.rules waiting word h).0.rows
-  plain_holds idle word h holds = holds
   plain_holds (option id) word h holds = value_holds (arg_by_id s.rules id) id word h holds
-  plain_holds positional word h holds = holds
+  plain_holds _ word h holds = holds
 
   after_holds : (waiting : Waiting) (word : Text) (h : Held) (o : Outcome) → Holds h.rows
       → Holds (after_flag s.rules waiting word h o).0.rows
-  after_holds waiting word h done holds = holds
-  after_holds waiting word h (waits id) holds = holds
   after_holds waiting word h plain holds = plain_holds waiting word h holds
   after_holds waiting word h refused holds = plain_holds waiting word h holds
+  after_holds waiting word h _ holds = holds
 
   short_word_holds : (flags : Option Text) (waiting : Waiting) (word : Text) (h : Held) → Holds h.rows
       → option_map_or (λ f. bundle_fault s.rules s.args_override_self f h) flags [] ≡ []
@@ -251,10 +249,8 @@ module _ (Holds : List Row → Type 0) (s : Shape) (each : EachKeeps Holds s.arg
 
   step_holds : (word : Text) (w : Walk) (h : Held) (step : Step) → Holds h.rows
       → step_fault s w.position h step ≡ [] → Holds (after_step s.rules word w h step).held.rows
-  step_holds word w h (next waiting) holds none = holds
-  step_holds word w h (trailing position) holds none = holds
-  step_holds word w h (subcommand name) holds none = holds
   step_holds word w h value holds none = to_positional_holds (arg_by_index s.rules w.position) word w h holds _ none
+  step_holds word w h _ holds none = holds
 
   turn_holds : (names : Names) (w : Walk) (word : Text) (stopped : Option (Text × List Text)) → Holds w.held.rows
       → cond (is_some stopped) [] (or_else (word_fault s names w.is_trailing w.waiting word w.held)
@@ -282,9 +278,8 @@ module _ (Holds : List Row → Type 0) (s : Shape) (each : EachKeeps Holds s.arg
     where
       go : (b : Bool) (values : List Text) → values ≡ []
           → Holds (cond b rows (default_rows a.id (reading_by a) values rows))
-      go true values none = holds
-      go false [] none = holds
       go false (v ∷ vs) none = absurd (cc none)
+      go _ _ none = holds
 
   defaults_hold : (others : List Rule) (rows : List Row) → HasNoDefaults others → Holds rows
       → Holds (fold with_default rows others)
@@ -355,9 +350,8 @@ module _ (Holds : List Row → Type 0) where
 was_entered : (help has required argument : Bool) → check_kinds help (not has && required) argument
     ≡ [] → required ≡ true → has ≡ true
 was_entered help true required argument none needed = refl
-was_entered true false required argument none needed = absurd (cc none)
-was_entered false false true argument none needed = absurd (cc none)
 was_entered false false false argument none needed = absurd (cc needed)
+was_entered _ false _ argument none needed = absurd (cc none)
 
 check_entered : (s : Shape) (rows : List Row) (has : Bool) → s.subcommand_required ≡ true
     → check_fault s rows has ≡ [] → has ≡ true

@@ -15,9 +15,8 @@ use Rattle.twkb_command.specs.Words.{IsRefusal, IsRefusalAmong}
 among : (kinds : Kinds) (kind : ErrorKind) (r : Refusal) → IsAmong kind kinds → IsRefusal kind r
     → IsRefusalAmong kinds r
 among kinds kind refusal.Memory listed is = tt
-among kinds kind (refusal.Help text) listed is = subst (λ k. IsAmong k kinds) is listed
-among kinds kind (refusal.Version text) listed is = subst (λ k. IsAmong k kinds) is listed
 among kinds kind (refusal.Usage text) listed is = (kind, listed, is.0, is.1)
+among kinds kind _ listed is = subst (λ k. IsAmong k kinds) is listed
 
 -- an error of one of these kinds is refused as one of these kinds
 pub refusal_among : (kinds : Kinds) (e : Error) (r : Refusal) → HasKind kinds e

@@ -26,9 +26,9 @@ use Rattle.clap.specs.Simple.{Shape, built, label_of}
 use Rattle.clap.specs.Values.{refused_kind}
 use Rattle.clap.specs.ValueTests.{accepts}
 use Rattle.clap.specs.Walk.{Held, Names, Row, Rule, Step, Text, Walk, action_of, answers_to, arg_by_id, arg_by_index}
-use Rattle.clap.specs.Walk.{arg_by_long, arg_by_short, attached_value, has_row, is_empty, is_pending, most_values, next}
+use Rattle.clap.specs.Walk.{arg_by_long, arg_by_short, attached_value, has_row, is_empty, is_pending, most_values}
 use Rattle.clap.specs.Walk.{nothing_held, reacted, settled, subcommand, subcommand_met, takes_several, takes_values}
-use Rattle.clap.specs.Walk.{trailing, value, values_or_missing, walk, walk_from, walked, with_default, word_met}
+use Rattle.clap.specs.Walk.{value, values_or_missing, walk, walk_from, walked, with_default, word_met}
 use Rattle.clap.specs.declared.builder.action.ArgAction.{ArgAction}
 use Rattle.clap.specs.declared.builder.value_parser.ValueParser.{ValueParser}
 use Rattle.clap.specs.declared.error.kind.ErrorKind.{ErrorKind}
@@ -140,10 +140,7 @@ refused_one p = plain_one (refused_kind p ∷ []) (go p)
   where
     go : (q : ValueParser) → list_any is_asked (refused_kind q ∷ []) ≡ false
     go parser.NonEmptyString = refl
-    go parser.Bool = refl
-    go (parser.Names names) = refl
-    go (parser.Values values) = refl
-    go other = refl
+    go _ = refl
 
 value_one : (i : Bool) (p : ValueParser) (t : Text) → IsOneRequest (value_kinds i p t)
 value_one i p t = if_one (accepts i p t) [] (refused_kind p ∷ []) none_one (refused_one p)
@@ -259,17 +256,13 @@ module _ (s : Shape) (no_help : s.disable_help_subcommand ≡ true) where
     where
       go : (a b : Bool) → b ≡ true
           → IsOneRequest (cond (a && not b) (kind.DisplayHelp ∷ kind.InvalidSubcommand ∷ []) [])
-      go true true e = none_one
       go true false e = absurd (true≢false (sym e))
-      go false b e = none_one
+      go _ _ e = none_one
   other_one None word h =
       if_one (bytes_eq word (45 ∷ 45 ∷ [])) _ _ none_one
       (flag_word_one s.rules s.args_override_self (long_of word) word h)
 
   step_one : (position : ℕ) (h : Held) (step : Step) → IsOneRequest (step_fault s position h step)
-  step_one position h (next waiting) = none_one
-  step_one position h (trailing p) = none_one
-  step_one position h (subcommand name) = none_one
   step_one position h value = go (arg_by_index s.rules position)
     where
       go : (found : Option Rule)
@@ -279,6 +272,7 @@ module _ (s : Shape) (no_help : s.disable_help_subcommand ≡ true) where
           (plain_one (kind.UnknownArgument ∷ kind.InvalidSubcommand ∷ []) refl)
       go (Some a) = if_one (is_pending a h.pending && takes_several a) _ _ none_one
           (settle_one s.rules s.args_override_self h)
+  step_one position h _ = none_one
 
   turn_one : (names : Names) (w : Walk) (word : Text) → IsOneRequest (turn_fault s names w word)
   turn_one names w word =

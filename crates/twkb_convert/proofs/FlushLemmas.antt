@@ -84,9 +84,6 @@ explained layout l old mid told middle bytes bs cause.ReadDevice blobs used miss
     cut_off = misses.cut_off;
   },
 )
-explained layout l old mid told middle bytes bs cause.WriteDevice blobs used misses = absurd misses
-explained layout l old mid told middle bytes bs cause.TooManyRecords blobs used misses = absurd misses
-explained layout l old mid told middle bytes bs (cause.Row number reason) blobs used misses = absurd misses
 explained layout l old mid told middle bytes bs cause.TooLong blobs used misses =
     inl (long old mid used.consumed misses)
   where
@@ -112,42 +109,38 @@ explained layout l old mid told middle bytes bs (cause.Blob offset reason) blobs
       first = refused.first;
       place = omega (arith, refused.place, used.counted);
     }
+explained layout l old mid told middle bytes bs _ blobs used misses = absurd misses
 
 -- no device but the reader's is a cause if no text was made
 pub told_missed : (l : Allowance) (old told : Option (List ℕ)) (before : ℕ) (why : Cause)
     → Misses l old before told why → (is_write {A = Unit {0}} (Err why) ≡ false)
     × IsDeviceCause (is_read why) (is_write {A = Unit {0}} (Err why)) why
-told_missed l old told before cause.Memory misses = (refl, (λ e. cc e, λ e. cc e))
 told_missed l old told before cause.ReadDevice misses = (refl, refl)
 told_missed l old told before cause.WriteDevice misses = absurd misses
 told_missed l old told before cause.TooManyRecords misses = absurd misses
 told_missed l old told before (cause.Row number reason) misses = absurd misses
-told_missed l old told before cause.TooLong misses = (refl, (λ e. cc e, λ e. cc e))
-told_missed l old told before (cause.Blob offset reason) misses = (refl, (λ e. cc e, λ e. cc e))
+told_missed l old told before _ misses = (refl, (λ e. cc e, λ e. cc e))
 
 -- what the cause of a refused put says
 pub put_explained : (layout : Layout) (l : Allowance) (old told : Option (List ℕ)) (bytes : List ℕ)
     (f : OutFault) (whole later : List Located) (left : List ℕ)
     → (f ≡ out.TooLong → MAX_BYTES < length (listing_text layout (whole ++ later))) → f ≢ out.Spent
     → ExplainsListingCause geometries_of (listing_text layout) l old told bytes (cause_of_output f) whole later left
-put_explained layout l old told bytes out.Write whole later left long unspent = tt
-put_explained layout l old told bytes out.Stuck whole later left long unspent = tt
 put_explained layout l old told bytes out.TooLong whole later left long unspent = inr (long refl)
 put_explained layout l old told bytes out.Spent whole later left long unspent = absurd (unspent refl)
+put_explained layout l old told bytes _ whole later left long unspent = tt
 
 pub told_put : (f : OutFault)
     → IsDeviceCause false (is_write {A = Unit {0}} (Err (cause_of_output f))) (cause_of_output f)
-told_put out.Write = refl
-told_put out.Stuck = refl
 told_put out.TooLong = (λ e. cc e, λ e. cc e)
 told_put out.Spent = (λ e. cc e, λ e. cc e)
+told_put _ = refl
 
 -- nothing is said of an output that refused a put
 pub put_refused : (A : Type 0) (f : OutFault) (Fact : Type 0) → UnlessRefused {T = A} (Err (cause_of_output f)) Fact
-put_refused A out.Write Fact no_write no_length = absurd (no_write refl)
-put_refused A out.Stuck Fact no_write no_length = absurd (no_write refl)
 put_refused A out.TooLong Fact no_write no_length = absurd (no_length refl)
 put_refused A out.Spent Fact no_write no_length = absurd (no_length refl)
+put_refused A _ Fact no_write no_length = absurd (no_write refl)
 
 -- ==== What an output is left like by an answer, before and after the flush.
 
@@ -159,9 +152,7 @@ always (Err why) P p = λ no_write no_length. p
 
 write_refused : (A : Type 0) (f : OutFault) → is_write {A = A} (Err (cause_of_output f)) ≡ is_device f
 write_refused A out.Write = refl
-write_refused A out.Stuck = refl
-write_refused A out.TooLong = refl
-write_refused A out.Spent = refl
+write_refused A _ = refl
 
 -- no call was refused
 pub leaves_took : {A W : Type 0} (contents : W → Option (List ℕ)) (old new : Output W) (bytes : List ℕ)

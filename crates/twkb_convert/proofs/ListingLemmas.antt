@@ -124,12 +124,8 @@ refused_left limits before (Some bytes) offset why h = record { within = h.withi
 
 -- a failed read of a blob is a failed read of its text
 read_stops : (why : BlobFault) → failed_by_read {A = Bool} (Err why) ≡ is_read (cause_of_blob why)
-read_stops blob.Memory = refl
 read_stops (blob.Device input.Read) = refl
-read_stops (blob.Device input.TooLong) = refl
-read_stops (blob.Device input.Spent) = refl
-read_stops blob.Spent = refl
-read_stops (blob.At offset reason) = refl
+read_stops _ = refl
 
 -- a device gives nothing if no byte was left and none was lost
 told_none : (known told : Option (List ℕ)) (held : List ℕ) → IsAtEnd known

@@ -186,14 +186,13 @@ first_and g k gs (r ∷ rest) hs whole some first = record {
 -- if rows of geometries begin with the rows of others
 come_first : (gs hs : List Tree) (more : List Row) → AreGeometries gs → AreGeometries hs
     → rows_of hs ≡ rows_of gs ++ more → ComeFirst gs hs
-come_first [] hs more a b e = record { in_all = (hs, refl); in_complete = (all_but_last hs, refl) }
-come_first (g ∷ []) hs more a b e = record { in_all = (hs, refl); in_complete = (all_but_last hs, refl) }
 come_first (g ∷ k ∷ gs) hs more a b e =
     let (rest, whole, others) = first_ended g (rows_of (k ∷ gs) ++ more) hs a.0 b
     (at_root k gs more a.1) (sym (append_assoc (rows 0 g) (rows_of (k ∷ gs)) more) ∙ sym e) in
     let are : AreGeometries (g ∷ rest) = subst AreGeometries whole b in
     first_and g k gs rest hs whole (λ none. no_row k gs more a.1 (ap rows_of (sym none) ∙ others))
     (come_first (k ∷ gs) rest more a.1 are.1 others)
+come_first _ hs more a b e = record { in_all = (hs, refl); in_complete = (all_but_last hs, refl) }
 
 -- if records of geometries begin with the records of others, so do the rows
 named_first : (l : Allowance) (seen tail : List Record) (gs hs : List Tree) → IsAllowance l

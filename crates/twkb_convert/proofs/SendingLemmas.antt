@@ -7,8 +7,7 @@ use Rattle.twkb_points.specs.Point.{Point}
 use Rattle.twkb_io.specs.declared.TheConstants.{MAX_BYTES}
 use Rattle.twkb_io.specs.declared.output.OutFault.TheVariants as out
 use Rattle.twkb_io.specs.Taps.{has_unflushed}
-use Rattle.twkb_tree.specs.Tree.{flat, nodes, saturated, Simple, point, line, polygon, multi_point, multi_line}
-use Rattle.twkb_tree.specs.Tree.{multi_polygon, IsTree, IsPrecision}
+use Rattle.twkb_tree.specs.Tree.{flat, nodes, saturated, Simple, point, IsTree, IsPrecision}
 use Rattle.twkb_tree.specs.Rows.{row_points, own_row}
 use Rattle.twkb_grammar.specs.Spans.{geometries}
 use Rattle.twkb_writer.specs.declared.sizes.Entry.{Entry}
@@ -249,10 +248,9 @@ module _ {R W : Type 0} (style : Style) (l : Allowance) (remaining : R → Optio
     cut_ends : (given : ℕ) (f : OutFault) (later : List Tree) (front : List ℕ)
         → (f ≡ out.TooLong → MAX_BYTES < length (canonical_stream style (s.geometries ++ later))) → f ≢ out.Spent
         → Ends style l told given after.work s.geometries later front (Err (cause_of_output f))
-    cut_ends given out.Write later front long unspent = tt
-    cut_ends given out.Stuck later front long unspent = tt
     cut_ends given out.TooLong later front long unspent = inl (long refl)
     cut_ends given out.Spent later front long unspent = absurd (unspent refl)
+    cut_ends given _ later front long unspent = tt
 
     -- the output refused a prefix of the next blob
     pub ends_cut : (to : TableReader R) (new : Output W) (given : ℕ) (f : OutFault) (rows : List Row)
@@ -426,20 +424,15 @@ module _ (style : Style) (l : Allowance) (told : Option (List ℕ)) (given : ℕ
   tells true (Ok done) e = (inl (e.no_later, e.no_front), refl)
   tells true (Err (cause.Row number reason)) e = (inl (e.0, e.1), refl)
   tells true (Err (cause.Blob offset reason)) e = absurd e
-  tells true (Err cause.ReadDevice) e = (inl e, refl)
   tells true (Err cause.WriteDevice) e = (tt, refl)
-  tells true (Err cause.Memory) e = (inl e, refl)
   tells true (Err cause.TooLong) (inl far) = (inr far, refl)
   tells true (Err cause.TooLong) (inr e) = (inl (e.0, e.1), refl)
   tells true (Err cause.TooManyRecords) e = (inl (e.0, e.1), refl)
+  tells true (Err _) e = (inl e, refl)
   tells false (Ok done) e = (refl, e)
-  tells false (Err (cause.Row number reason)) e = (e, (λ i. cc i, λ i. cc i))
   tells false (Err (cause.Blob offset reason)) e = absurd e
-  tells false (Err cause.ReadDevice) e = (e, (λ i. cc i, λ i. cc i))
   tells false (Err cause.WriteDevice) e = (tt, refl)
-  tells false (Err cause.Memory) e = (e, (λ i. cc i, λ i. cc i))
-  tells false (Err cause.TooLong) e = (e, (λ i. cc i, λ i. cc i))
-  tells false (Err cause.TooManyRecords) e = (e, (λ i. cc i, λ i. cc i))
+  tells false (Err _) e = (e, (λ i. cc i, λ i. cc i))
 
 -- ---- the taps
 
@@ -587,11 +580,7 @@ simple_point r (point (Some at)) p q e =
     let precision : r ≡ p = (let some = ap (λ (o : Row). o.precision) e in cc some) in
     let place : at ≡ q = (let some = ap (λ (o : Row). o.points) e in cc some) in
     ap (λ (n : ℤ). one_point n at) precision ∙ ap (λ (a : Point). one_point p a) place
-simple_point r (line ps) p q e = (let kind = ap (λ (o : Row). o.kind) e in cc kind)
-simple_point r (polygon rings) p q e = (let kind = ap (λ (o : Row). o.kind) e in cc kind)
-simple_point r (multi_point ids ps) p q e = (let kind = ap (λ (o : Row). o.kind) e in cc kind)
-simple_point r (multi_line ids lines) p q e = (let kind = ap (λ (o : Row). o.kind) e in cc kind)
-simple_point r (multi_polygon ids areas) p q e = (let kind = ap (λ (o : Row). o.kind) e in cc kind)
+simple_point r _ p q e = (let kind = ap (λ (o : Row). o.kind) e in cc kind)
 
 -- a geometry whose only row is that of a point
 point_tree : (g : Tree) (p : ℤ) (q : Point) → rows 0 g ≡ point_row p q ∷ [] → g ≡ one_point p q

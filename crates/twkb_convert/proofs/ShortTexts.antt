@@ -10,8 +10,4 @@ use Rattle.twkb_convert.specs.Texts.{cause_words}
 pub short_cause : (c : Cause) → length (cause_words c) ≤ 31
 short_cause (cause.Row number reason) = short_row reason
 short_cause (cause.Blob offset reason) = short_blob reason
-short_cause cause.ReadDevice = omega arith
-short_cause cause.WriteDevice = omega arith
-short_cause cause.Memory = omega arith
-short_cause cause.TooLong = omega arith
-short_cause cause.TooManyRecords = omega arith
+short_cause _ = omega arith

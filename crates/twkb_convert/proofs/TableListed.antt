@@ -41,7 +41,6 @@ explains_without : (l : Allowance) (old told : Option (List ℕ)) (bytes : List 
     → ExplainsListingCause geometries_of (listing_text table_layout) l old told bytes why whole later left
     → ExplainsListingCause (λ (trees : List Tree). trees) table_text l old told bytes why
     (geometries_of whole) (geometries_of later) left
-explains_without l old told bytes (causes.Row number reason) whole later left e = e
 explains_without l old told bytes (causes.Blob offset reason) whole later left e = (ap geometries_of e.0, e.1, e.2)
 explains_without l old told bytes causes.ReadDevice whole later left e = (ap geometries_of e.0, e.1, e.2)
 explains_without l old told bytes causes.WriteDevice whole later left e = tt
@@ -49,7 +48,7 @@ explains_without l old told bytes causes.Memory whole later left e = (ap geometr
 explains_without l old told bytes causes.TooLong whole later left (inl long) = inl long
 explains_without l old told bytes causes.TooLong whole later left (inr long) = inr
     (subst (λ (t : List ℕ). MAX_BYTES < length t) (all_text whole later) long)
-explains_without l old told bytes causes.TooManyRecords whole later left e = e
+explains_without l old told bytes _ whole later left e = e
 
 module _ {R W : Type 0} (l : Allowance) (remaining : R → Option (List ℕ))
     (contents : W → Option (List ℕ)) (reader : Tap R) (writer : Tap W) where

@@ -58,11 +58,9 @@ going_up bytes old rest f up o z u = rw (o, frames_pushed [] rest f, z, u) refl
 -- the id that the last frame gives
 pub last_id : (below : List outline.FrameOutline) (gs : List OpenCollection) (i : ℕ) (d : OpenCollection)
     → i + 1 ≡ length gs → id_in (frames_from below gs) ≡ first_id (ids_of (get_or gs i d).ids)
-last_id below [] i d at = absurd (omega arith)
 last_id below (g ∷ []) zero d at = refl
-last_id below (g ∷ []) (suc i) d at = absurd (omega arith)
-last_id below (g ∷ f ∷ gs) zero d at = absurd (omega arith)
 last_id below (g ∷ f ∷ gs) (suc i) d at = last_id (frame_outline g ∷ below) (f ∷ gs) i d (omega arith)
+last_id below _ _ d at = absurd (omega arith)
 
 -- ---- a collection that ends, or whose member does, in the places of all
 

@@ -195,14 +195,13 @@ end_noted holds new w k many offset points o p eo ep em held =
 -- past the ends an item comes next, or none
 pub past_ends : (exact : Bool) (bytes : ℕ) (gs : List FrameOutline)
     → IfOk (outline_past_end exact bytes gs) (λ o. IsPastEnds o.1)
-past_ends false bytes gs = tt
-past_ends true bytes [] = tt
 past_ends true bytes (g ∷ gs) = elim g.left as
     (λ (n : ℕ). IfOk (outline_past_end true bytes
     (record { head = g.head; ids = g.ids; left = n } ∷ gs)) (λ o. IsPastEnds o.1)) [
       | zero ↦ past_ends (is_exact g.head.size (bytes - g.head.from)) bytes gs
       | suc n ↦ tt
     ]
+past_ends _ bytes _ = tt
 
 -- a way that leads past them
 ok_passes : (way : Result Outline Reason) (o : Outline) → IfOk way (λ o. IsPastEnds o.1) → way ≡ Ok o → Passes way
@@ -477,9 +476,8 @@ leads_nowhere holds rs d old = λ front s. (
 
 -- a header is of a kind that is shown as the code shows it
 pub kind_shown : (k : machine.Kind) → kind_of (shown k) ≡ k
-kind_shown machine.CollectionKind = refl
 kind_shown (machine.SimpleKind machine.PointForm) = refl
-kind_shown (machine.SimpleKind f) = refl
+kind_shown _ = refl
 
 -- the byte names a type
 type_free : (n : ℕ) → 0 < n → n < 8 → unless (nat_eq n 0 || nat_lt 7 n) BadType None ≡ None

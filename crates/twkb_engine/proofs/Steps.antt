@@ -17,7 +17,7 @@ use Rattle.twkb_grammar.specs.Roles as role
 use Rattle.twkb_grammar.specs.Blob.{Blob}
 use Rattle.twkb_grammar.specs.Fault.{Reason, SizeMismatch, points_by}
 use Rattle.twkb_grammar.specs.PlainReader.{is_exact, unless}
-use Rattle.twkb_grammar.specs.Machine.{Head, Frame, Phase, AtBody, Finished, Want, WantY, Done, Sums, nothing, added}
+use Rattle.twkb_grammar.specs.Machine.{Head, Frame, Phase, AtBody, Finished, Want, Sums, nothing, added}
 use Rattle.twkb_grammar.specs.Machine.{kind_number, first_count, listed, Stack, Runs, started, sums_after}
 use Rattle.twkb_grammar.specs.Reading.{Ran, Reached, Gives}
 use Rattle.twkb_grammar.specs.Noting.{Notes, no_notes, noted, note_end, note_ends, note_ends_to, IsQuiet}
@@ -243,9 +243,7 @@ finished : (limits : Allowance) (bytes : List ℕ) (e : Sums) (fs : List Frame) 
 finished limits bytes e [] (Finished g) none same r = let told = blob_told limits bytes g r.items
     r.ran r.spelled in (g, refl, told.0, told.1)
 finished limits bytes e fs (AtBody h f ids (Want d a)) none same r = absurd cc
-finished limits bytes e fs (AtBody h f ids (WantY a)) none same r = absurd cc
-finished limits bytes e fs (AtBody h f ids (Done v)) none same r = absurd cc
-finished limits bytes e fs ph none same r = absurd cc
+finished limits bytes e fs _ none same r = absurd cc
 
 pub outlined_blob : (limits : Allowance) (bytes : List ℕ) (e : Sums) (rs : List Row)
     (r : Outlined limits bytes e ([], OnFinished) rs) → Whole limits bytes r.reached.items rs

@@ -30,9 +30,8 @@ use Rattle.twkb_flat.specs.Rows.{row_with}
 -- dropping one more row
 drop_suc : (rows : List Row) (at : ℕ) (r : Row) (more : List Row) → drop at rows ≡ r ∷ more → drop (suc at) rows ≡ more
 drop_suc [] zero r more e = cc e
-drop_suc [] (suc at) r more e = cc e
-drop_suc (s ∷ rows) zero r more e = cc e
 drop_suc (s ∷ rows) (suc at) r more e = drop_suc rows at r more e
+drop_suc _ _ r more e = cc e
 
 -- dropping one more row, with the place as a sum
 pub drop_more : (rows : List Row) (at : ℕ) (r : Row) (more : List Row) → drop at rows ≡ r ∷ more
@@ -118,21 +117,18 @@ others_for (Some (id ∷ ids)) n h = omega arith
 -- the first number, and the numbers after it
 first_number : (ids : Ids) (n : ℕ) → AreFor ids (suc n)
     → numbers ids ≡ id_list (first_id ids) ++ numbers (other_ids ids)
-first_number None n h = refl
 first_number (Some []) n h = absurd (omega arith)
-first_number (Some (id ∷ ids)) n h = refl
+first_number _ n h = refl
 
 -- there are no numbers for no items
 no_numbers : (ids : Ids) → AreFor ids 0 → numbers ids ≡ []
-no_numbers None h = refl
-no_numbers (Some []) h = refl
 no_numbers (Some (id ∷ ids)) h = absurd (omega arith)
+no_numbers _ h = refl
 
 -- the ids made from their numbers are the ids
 pub ids_again : (ids : Ids) (n : ℕ) → HasIds ids n → ids_in (numbers ids) ≡ ids
-ids_again None n h = refl
 ids_again (Some []) n h = absurd (omega (arith, h.0, h.1))
-ids_again (Some (id ∷ ids)) n h = refl
+ids_again _ n h = refl
 
 -- ---- items
 
@@ -317,90 +313,51 @@ pub is_point : (id : Option ℤ) (d : ℕ) (g : Tree) → (own_row id d g).kind 
     → simple (precision_of g) (point (point_in (own_row id d g).points)) ≡ g
 is_point id d (simple p (point None)) e = refl
 is_point id d (simple p (point (Some q))) e = refl
-is_point id d (simple p (line ps)) e = cc e
-is_point id d (simple p (polygon rings)) e = cc e
-is_point id d (simple p (multi_point ids ps)) e = cc e
-is_point id d (simple p (multi_line ids lines)) e = cc e
-is_point id d (simple p (multi_polygon ids areas)) e = cc e
-is_point id d (collection p ids gs) e = cc e
+is_point id d _ e = cc e
 
 -- a geometry whose row is a linestring's is a linestring
 pub is_line : (id : Option ℤ) (d : ℕ) (g : Tree) → (own_row id d g).kind ≡ kind.Linestring
     → simple (precision_of g) (line (own_row id d g).points) ≡ g
-is_line id d (simple p (point o)) e = cc e
 is_line id d (simple p (line ps)) e = refl
-is_line id d (simple p (polygon rings)) e = cc e
-is_line id d (simple p (multi_point ids ps)) e = cc e
-is_line id d (simple p (multi_line ids lines)) e = cc e
-is_line id d (simple p (multi_polygon ids areas)) e = cc e
-is_line id d (collection p ids gs) e = cc e
+is_line id d _ e = cc e
 
 -- a geometry whose row is a polygon's is a polygon
 pub is_polygon : (id : Option ℤ) (d : ℕ) (g : Tree) → (own_row id d g).kind ≡ kind.Polygon
     → simple (precision_of g) (polygon (lines_below g)) ≡ g
-is_polygon id d (simple p (point o)) e = cc e
-is_polygon id d (simple p (line ps)) e = cc e
 is_polygon id d (simple p (polygon rings)) e = refl
-is_polygon id d (simple p (multi_point ids ps)) e = cc e
-is_polygon id d (simple p (multi_line ids lines)) e = cc e
-is_polygon id d (simple p (multi_polygon ids areas)) e = cc e
-is_polygon id d (collection p ids gs) e = cc e
+is_polygon id d _ e = cc e
 
 -- a geometry whose row is a multipoint's is a multipoint
 pub is_multi_point : (id : Option ℤ) (d : ℕ) (g : Tree) → (own_row id d g).kind ≡ kind.MultiPoint
     → simple (precision_of g) (multi_point (ids_below g) (points_below g)) ≡ g
-is_multi_point id d (simple p (point o)) e = cc e
-is_multi_point id d (simple p (line ps)) e = cc e
-is_multi_point id d (simple p (polygon rings)) e = cc e
 is_multi_point id d (simple p (multi_point ids ps)) e = refl
-is_multi_point id d (simple p (multi_line ids lines)) e = cc e
-is_multi_point id d (simple p (multi_polygon ids areas)) e = cc e
-is_multi_point id d (collection p ids gs) e = cc e
+is_multi_point id d _ e = cc e
 
 -- a geometry whose row is a multilinestring's is a multilinestring
 pub is_multi_line : (id : Option ℤ) (d : ℕ) (g : Tree)
     → (own_row id d g).kind ≡ kind.MultiLinestring
     → simple (precision_of g) (multi_line (ids_below g) (lines_below g)) ≡ g
-is_multi_line id d (simple p (point o)) e = cc e
-is_multi_line id d (simple p (line ps)) e = cc e
-is_multi_line id d (simple p (polygon rings)) e = cc e
-is_multi_line id d (simple p (multi_point ids ps)) e = cc e
 is_multi_line id d (simple p (multi_line ids lines)) e = refl
-is_multi_line id d (simple p (multi_polygon ids areas)) e = cc e
-is_multi_line id d (collection p ids gs) e = cc e
+is_multi_line id d _ e = cc e
 
 -- a geometry whose row is a multipolygon's is a multipolygon
 pub is_multi_polygon : (id : Option ℤ) (d : ℕ) (g : Tree)
     → (own_row id d g).kind ≡ kind.MultiPolygon → simple (precision_of g)
     (multi_polygon (ids_below g) (areas_below g)) ≡ g
-is_multi_polygon id d (simple p (point o)) e = cc e
-is_multi_polygon id d (simple p (line ps)) e = cc e
-is_multi_polygon id d (simple p (polygon rings)) e = cc e
-is_multi_polygon id d (simple p (multi_point ids ps)) e = cc e
-is_multi_polygon id d (simple p (multi_line ids lines)) e = cc e
 is_multi_polygon id d (simple p (multi_polygon ids areas)) e = refl
-is_multi_polygon id d (collection p ids gs) e = cc e
+is_multi_polygon id d _ e = cc e
 
 -- a geometry whose row is a collection's is a collection
 pub is_members : (id : Option ℤ) (d : ℕ) (g : Tree) → (own_row id d g).kind ≡ kind.Collection
     → collection (precision_of g) (ids_below g) (trees (members_below g)) ≡ g
 is_members id d (simple p (point o)) e = cc e
-is_members id d (simple p (line ps)) e = cc e
-is_members id d (simple p (polygon rings)) e = cc e
-is_members id d (simple p (multi_point ids ps)) e = cc e
-is_members id d (simple p (multi_line ids lines)) e = cc e
-is_members id d (simple p (multi_polygon ids areas)) e = cc e
+is_members id d (simple p _) e = cc e
 is_members id d (collection p ids gs) e = ap (λ hs. collection p ids hs) (trees-members gs)
 
 -- no geometry's row is a ring's
 pub is_no_ring : (id : Option ℤ) (d : ℕ) (g : Tree) → (own_row id d g).kind ≡ kind.Ring → ⊥
 is_no_ring id d (simple p (point o)) e = cc e
-is_no_ring id d (simple p (line ps)) e = cc e
-is_no_ring id d (simple p (polygon rings)) e = cc e
-is_no_ring id d (simple p (multi_point ids ps)) e = cc e
-is_no_ring id d (simple p (multi_line ids lines)) e = cc e
-is_no_ring id d (simple p (multi_polygon ids areas)) e = cc e
-is_no_ring id d (collection p ids gs) e = cc e
+is_no_ring id d _ e = cc e
 
 -- ==== The rows of a geometry at a place of a form, and what is built from them.
 
@@ -526,22 +483,14 @@ areas_at rows at d id g rest row it told k =
 -- the members of a geometry are geometries, and their ids fit
 sound_members : (g : Tree) → IsTree g → AllByRecursion IsTree (members_below g)
 sound_members (simple p (point o)) t = tt
-sound_members (simple p (line ps)) t = tt
-sound_members (simple p (polygon rings)) t = tt
-sound_members (simple p (multi_point ids ps)) t = tt
-sound_members (simple p (multi_line ids lines)) t = tt
-sound_members (simple p (multi_polygon ids areas)) t = tt
+sound_members (simple p _) t = tt
 sound_members (collection p ids gs) t = geometries_are gs t.2
 
 -- the ids of a collection fit its members
 fit_members : (id : Option ℤ) (d : ℕ) (g : Tree) → (own_row id d g).kind ≡ kind.Collection
     → IsTree g → HasIds (ids_below g) (length (members_below g))
 fit_members id d (simple p (point o)) e t = cc e
-fit_members id d (simple p (line ps)) e t = cc e
-fit_members id d (simple p (polygon rings)) e t = cc e
-fit_members id d (simple p (multi_point ids ps)) e t = cc e
-fit_members id d (simple p (multi_line ids lines)) e t = cc e
-fit_members id d (simple p (multi_polygon ids areas)) e t = cc e
+fit_members id d (simple p _) e t = cc e
 fit_members id d (collection p ids gs) e t = subst (HasIds ids) (sym (length-members gs)) t.1
 
 -- the geometries of a collection come after its own row

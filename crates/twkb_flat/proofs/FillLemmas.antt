@@ -216,13 +216,8 @@ members_valid d ids gs hs old e v = subst (λ rs. AreFlatRows (old ++ rs))
 -- a geometry that is not a collection has no members
 pub is_simple : (p : ℤ) (shape : Shape) (g : Tree) → tree_of p shape ≡ g
     → ((gs : List Tree) (ids : Ids) → shape ≡ Shape.Collection gs ids → ⊥) → IsSimple g
-is_simple p (Shape.Point o) g whole none = subst IsSimple whole tt
-is_simple p (Shape.Line ps) g whole none = subst IsSimple whole tt
-is_simple p (Shape.Polygon rings) g whole none = subst IsSimple whole tt
-is_simple p (Shape.MultiPoint ps ids) g whole none = subst IsSimple whole tt
-is_simple p (Shape.MultiLine lines ids) g whole none = subst IsSimple whole tt
-is_simple p (Shape.MultiPolygon areas ids) g whole none = subst IsSimple whole tt
 is_simple p (Shape.Collection gs ids) g whole none = absurd (none gs ids refl)
+is_simple p _ g whole none = subst IsSimple whole tt
 
 pub no_members : (p : ℤ) (shape : Shape) (gs : List Tree) (ids : Ids) (g : Tree)
     → tree_of p shape ≡ g → shape ≡ Shape.Collection gs ids → IsSimple g → ⊥

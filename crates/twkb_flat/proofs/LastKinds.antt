@@ -14,19 +14,15 @@ use Rattle.twkb_flat.specs.Lasts.{IsLineKind, LastIsLine}
 
 pub last_of : (es : List KeptNode) (i : ℕ) (d : KeptNode) → i + 1 ≡ length es → LastIsLine es
     → IsLineKind (get_or es i d).placed.row.kind
-last_of [] i d at h = absurd (omega arith)
 last_of (e ∷ []) zero d at h = h
-last_of (e ∷ []) (suc i) d at h = absurd (omega arith)
-last_of (e ∷ f ∷ es) zero d at h = absurd (omega arith)
 last_of (e ∷ f ∷ es) (suc i) d at h = last_of (f ∷ es) i d (omega arith) h
+last_of _ _ d at h = absurd (omega arith)
 
 pub last_is : (es : List KeptNode) (i : ℕ) (d : KeptNode) → i + 1 ≡ length es
     → IsLineKind (get_or es i d).placed.row.kind → LastIsLine es
-last_is [] i d at h = absurd (omega arith)
 last_is (e ∷ []) zero d at h = h
-last_is (e ∷ []) (suc i) d at h = absurd (omega arith)
-last_is (e ∷ f ∷ es) zero d at h = absurd (omega arith)
 last_is (e ∷ f ∷ es) (suc i) d at h = last_is (f ∷ es) i d (omega arith) h
+last_is _ _ d at h = absurd (omega arith)
 
 -- the rows end in a line if the last kept node is a line's
 pub rows_end : (es : List KeptNode) (ps : List Point) → LastIsLine es → EndsInLine (listed (map placed_of es) ps)

@@ -139,11 +139,9 @@ reads_join n more = omega arith
 
 pub last_room : (es : List KeptNode) (i : ℕ) (d : KeptNode) → i + 1 ≡ length es → LastHasRoom es
     → (get_or es i d).placed.points + 1 < 2 ^ 32
-last_room [] i d at h = absurd (omega arith)
 last_room (e ∷ []) zero d at h = h
-last_room (e ∷ []) (suc i) d at h = absurd (omega arith)
-last_room (e ∷ f ∷ es) zero d at h = absurd (omega arith)
 last_room (e ∷ f ∷ es) (suc i) d at h = last_room (f ∷ es) i d (omega arith) h
+last_room _ _ d at h = absurd (omega arith)
 
 pub last_fits : (es : List KeptNode) (i : ℕ) (d : KeptNode) → i + 1 ≡ length es → LastHasRoom es
     → Fits w32 ((get_or es i d).placed.points + 1)
@@ -155,18 +153,15 @@ node_longer e = record { placed = longer e.placed; next = e.next }
 
 pub longer_placed : (es : List KeptNode) (i : ℕ) (d : KeptNode) → i + 1 ≡ length es
     → map placed_of (set es i (node_longer (get_or es i d))) ≡ last_longer (map placed_of es)
-longer_placed [] i d at = absurd (omega arith)
 longer_placed (e ∷ []) zero d at = refl
-longer_placed (e ∷ []) (suc i) d at = absurd (omega arith)
-longer_placed (e ∷ f ∷ es) zero d at = absurd (omega arith)
 longer_placed (e ∷ f ∷ es) (suc i) d at = ap (λ (ss : List PlacedRow). e.placed ∷ ss)
     (longer_placed (f ∷ es) i d (omega arith))
+longer_placed _ _ d at = absurd (omega arith)
 
 pub same_links : (es : List KeptNode) (i : ℕ) (d : KeptNode)
     → links_in (set es i (node_longer (get_or es i d))) ≡ links_in es
-same_links [] i d = refl
-same_links (e ∷ es) zero d = refl
 same_links (e ∷ es) (suc i) d = ap (λ (ns : List ℕ). e.next.0 ∷ ns) (same_links es i d)
+same_links _ _ d = refl
 
 -- ---- placed rows and rows
 
@@ -178,9 +173,8 @@ longer_laid at total (s ∷ t ∷ ss) some (first, rest) =
     (first, longer_laid (at + s.points) total (t ∷ ss) (omega arith) rest)
 
 longer_depths : (ss : List PlacedRow) → map placed_depth (last_longer ss) ≡ map placed_depth ss
-longer_depths [] = refl
-longer_depths (s ∷ []) = refl
 longer_depths (s ∷ t ∷ ss) = ap (λ (ds : List ℕ). placed_depth s ∷ ds) (longer_depths (t ∷ ss))
+longer_depths _ = refl
 
 longer_listed : (at : ℕ) (ss : List PlacedRow) (ps : List Point) (p : Point)
     → Laid at ss (at + length ps) → listed (last_longer ss) (ps ++ p ∷ []) ≡ point_added p
@@ -351,11 +345,9 @@ can_count rows es was ps s is = subst LastHasRoom (sym is) (point_fits es ps row
 
 last_room_for : (n : ℕ) (es : List KeptNode) (i : ℕ) (d : KeptNode) → i + 1 ≡ length es
     → LastHasRoomFor n es → (get_or es i d).placed.points + n < 2 ^ 32
-last_room_for n [] i d at h = absurd (omega arith)
 last_room_for n (e ∷ []) zero d at h = h
-last_room_for n (e ∷ []) (suc i) d at h = absurd (omega arith)
-last_room_for n (e ∷ f ∷ es) zero d at h = absurd (omega arith)
 last_room_for n (e ∷ f ∷ es) (suc i) d at h = last_room_for n (f ∷ es) i d (omega arith) h
+last_room_for n _ _ d at h = absurd (omega arith)
 
 pub last_fits_for : (n : ℕ) (es : List KeptNode) (i : ℕ) (d : KeptNode) → i + 1 ≡ length es
     → LastHasRoomFor n es → Fits w32 ((get_or es i d).placed.points + n)
@@ -368,18 +360,15 @@ node_longer_by n e = record { placed = longer_by n e.placed; next = e.next }
 
 pub longer_placed_by : (n : ℕ) (es : List KeptNode) (i : ℕ) (d : KeptNode) → i + 1 ≡ length es
     → map placed_of (set es i (node_longer_by n (get_or es i d))) ≡ last_longer_by n (map placed_of es)
-longer_placed_by n [] i d at = absurd (omega arith)
 longer_placed_by n (e ∷ []) zero d at = refl
-longer_placed_by n (e ∷ []) (suc i) d at = absurd (omega arith)
-longer_placed_by n (e ∷ f ∷ es) zero d at = absurd (omega arith)
 longer_placed_by n (e ∷ f ∷ es) (suc i) d at = ap (λ (ss : List PlacedRow). e.placed ∷ ss)
     (longer_placed_by n (f ∷ es) i d (omega arith))
+longer_placed_by n _ _ d at = absurd (omega arith)
 
 pub same_links_by : (n : ℕ) (es : List KeptNode) (i : ℕ) (d : KeptNode)
     → links_in (set es i (node_longer_by n (get_or es i d))) ≡ links_in es
-same_links_by n [] i d = refl
-same_links_by n (e ∷ es) zero d = refl
 same_links_by n (e ∷ es) (suc i) d = ap (λ (ns : List ℕ). e.next.0 ∷ ns) (same_links_by n es i d)
+same_links_by n _ _ d = refl
 
 -- the last kept node has few points if all kept nodes together have few
 laid_room_for : (n at total : ℕ) (es : List KeptNode) → Laid at (map placed_of es) total

@@ -306,8 +306,7 @@ ends_in_two zero (o ∷ p ∷ []) b blank size parent member =
       whole = ap (λ x. x ∷ p ∷ []) parent
           ∙ ap (λ x. record { kind = Kind.MultiPoint; child_ids = Some b } ∷ x ∷ []) member;
     }
-ends_in_two zero (o ∷ p ∷ q ∷ os) b blank size parent member = absurd (omega (arith, size))
-ends_in_two zero (o ∷ []) b blank size parent member = absurd (omega (arith, size))
+ends_in_two zero (o ∷ _) b blank size parent member = absurd (omega (arith, size))
 ends_in_two n [] b blank size parent member = absurd (omega (arith, size))
 ends_in_two (suc n) (o ∷ os) b blank size parent member =
     let rest = ends_in_two n os b blank (omega (arith, size)) parent member in

@@ -21,7 +21,7 @@ use Rattle.twkb_grammar.specs.Machine.{Nested, Around, top, within, Body, Want, 
 use Rattle.twkb_grammar.specs.Machine.{depth_of, Head, Frame, settled, Many, members_begin, ManyPoints, ManyLines}
 use Rattle.twkb_grammar.specs.Machine.{ManyPolygons, begun, SimpleKind, shape_of, PointForm, LineForm, PolygonForm}
 use Rattle.twkb_grammar.specs.Machine.{MultiPointForm, MultiLineForm, MultiPolygonForm, AtEnd, AtBody, first_count}
-use Rattle.twkb_grammar.specs.Machine.{counted, AtId, AtCount, Sums, added, Stack, Runs, Kind, CollectionKind}
+use Rattle.twkb_grammar.specs.Machine.{counted, AtId, AtCount, Sums, added, Stack, Runs, Kind}
 use Rattle.twkb_grammar.specs.Machine.{kind_number, kind_at, AtHeader, AtMetadata, wanting, asked, ended, stack_after}
 pub use Rattle.twkb_grammar.specs.Machine.{sums_after}
 
@@ -88,9 +88,8 @@ steps p (OfPoint q ∷ ps) = (X, zigzag_of (q.x -ℤ p.x)) ∷ (Y, zigzag_of (q.
 -- the points of slots
 abbrev pub slot_points : List Slot → List Point
 slot_points [] = []
-slot_points (OfCount c n ∷ ps) = slot_points ps
-slot_points (OfId id ∷ ps) = slot_points ps
 slot_points (OfPoint q ∷ ps) = q ∷ slot_points ps
+slot_points (_ ∷ ps) = slot_points ps
 
 -- slots filled with the differences of their points
 pub filled_is : (ps : List Slot) (p : Point) → filled ps (differences_from p (slot_points ps)) ≡ steps p ps
@@ -103,9 +102,8 @@ filled_is (OfPoint q ∷ ps) p = ap (λ fs. (X, zigzag_of (q.x -ℤ p.x)) ∷ (Y
 -- the points of joined slots
 pub slot_points-append : (ps qs : List Slot) → slot_points (ps ++ qs) ≡ slot_points ps ++ slot_points qs
 slot_points-append [] qs = refl
-slot_points-append (OfCount c n ∷ ps) qs = slot_points-append ps qs
-slot_points-append (OfId id ∷ ps) qs = slot_points-append ps qs
 slot_points-append (OfPoint q ∷ ps) qs = ap (λ xs. q ∷ xs) (slot_points-append ps qs)
+slot_points-append (_ ∷ ps) qs = slot_points-append ps qs
 
 -- the points of points
 pub slot_points-map : (ps : List Point) → slot_points (map OfPoint ps) ≡ ps
@@ -160,16 +158,14 @@ forth p q = rw (unzigzag_of-zigzag_of (q -ℤ p)) (back p q)
 -- the position after these slots
 abbrev pub reached : Point → List Slot → Point
 reached p [] = p
-reached p (OfCount c n ∷ ps) = reached p ps
-reached p (OfId id ∷ ps) = reached p ps
 reached p (OfPoint q ∷ ps) = reached q ps
+reached p (_ ∷ ps) = reached p ps
 
 -- the position after joined slots
 pub reached-append : (p : Point) (xs ys : List Slot) → reached p (xs ++ ys) ≡ reached (reached p xs) ys
 reached-append p [] ys = refl
-reached-append p (OfCount c n ∷ xs) ys = reached-append p xs ys
-reached-append p (OfId id ∷ xs) ys = reached-append p xs ys
 reached-append p (OfPoint q ∷ xs) ys = reached-append q xs ys
+reached-append p (_ ∷ xs) ys = reached-append p xs ys
 
 -- ==== The machine runs through a body.
 
@@ -457,11 +453,10 @@ Still (r ∷ rs) = ((p : Point) (n : ℕ) → moved p r n ≡ p) × Still rs
 pub still_after : (rs : List Role) (is : List Item) (e : Sums) → HaveRoles rs is → Still rs
     → (sums_after e is).position ≡ e.position
 still_after [] [] e have still = refl
-still_after [] (i ∷ is) e have still = absurd have
-still_after (r ∷ rs) [] e have still = absurd have
 still_after (r ∷ rs) (i ∷ is) e have still =
     still_after rs is (added e i) have.2 still.1 ∙ (ap (λ s. moved e.position s i.number) have.0
     ∙ still.0 e.position i.number)
+still_after _ _ e have still = absurd have
 
 -- optional roles of this sort leave the position unchanged, asked for or not
 pub still_where : (b : Bool) (rs : List Role) → Still rs → Still (where_set b rs)
@@ -476,24 +471,21 @@ module _ (k : Kind) (p : ℤ) (meta : ℕ) (fs : List Frame) where
   extended_run : (b : Bool) (is : List Item) (rs : List Role) (e : Sums) → HaveRoles (where_set b (Extended ∷ [])) is
       → Runs e (fs, wanting k (head p meta None e.bytes) (where_set b (Extended ∷ []) ++ rs)) is
       (fs, wanting k (head p meta None (sums_after e is).bytes) rs)
-  extended_run true [] rs e have = absurd have
   extended_run true (i ∷ []) rs e have = (ap Some (sym have.0), have.1, refl)
   extended_run true (i ∷ j ∷ is) rs e have = absurd have.2
   extended_run false [] rs e have = refl
-  extended_run false (i ∷ is) rs e have = absurd have
+  extended_run _ _ rs e have = absurd have
 
   size_run : (b : Bool) (is : List Item) (rs : List Role) (e : Sums) → HaveRoles (where_set b (Size ∷ [])) is
       → Runs e (fs, wanting k (head p meta None e.bytes) (where_set b (Size ∷ []) ++ rs)) is
       (fs, wanting k (head p meta (declared is) (sums_after e is).bytes) rs)
-  size_run true [] rs e have = absurd have
   size_run true (i ∷ []) rs e have = (ap Some (sym have.0), have.1, refl)
   size_run true (i ∷ j ∷ is) rs e have = absurd have.2
   size_run false [] rs e have = refl
-  size_run false (i ∷ is) rs e have = absurd have
+  size_run _ _ rs e have = absurd have
 
   box_run : (b : Bool) (is : List Item) (h : Head) (e : Sums) → HaveRoles (where_set b (Box ∷ Box ∷ Box ∷ Box ∷ [])) is
       → Runs e (fs, wanting k h (where_set b (Box ∷ Box ∷ Box ∷ Box ∷ []))) is (fs, wanting k h [])
-  box_run true [] h e have = absurd have
   box_run true (i ∷ []) h e have = absurd have.2
   box_run true (i ∷ j ∷ []) h e have = absurd have.2.2
   box_run true (i ∷ j ∷ l ∷ []) h e have = absurd have.2.2.2
@@ -512,27 +504,17 @@ module _ (k : Kind) (p : ℤ) (meta : ℕ) (fs : List Frame) where
   )
   box_run true (i ∷ j ∷ l ∷ m ∷ n ∷ is) h e have = absurd have.2.2.2.2
   box_run false [] h e have = refl
-  box_run false (i ∷ is) h e have = absurd have
+  box_run _ _ h e have = absurd have
 
 -- the number of a kind is a type's number
 pub kind_small : (k : Kind) → (0 < kind_number k) × (kind_number k < 8)
 kind_small (SimpleKind PointForm) = (omega arith, omega arith)
-kind_small (SimpleKind LineForm) = (omega arith, omega arith)
-kind_small (SimpleKind PolygonForm) = (omega arith, omega arith)
-kind_small (SimpleKind MultiPointForm) = (omega arith, omega arith)
-kind_small (SimpleKind MultiLineForm) = (omega arith, omega arith)
-kind_small (SimpleKind MultiPolygonForm) = (omega arith, omega arith)
-kind_small CollectionKind = (omega arith, omega arith)
+kind_small _ = (omega arith, omega arith)
 
 -- a kind is that of its number
 pub kind_again : (k : Kind) → kind_at (kind_number k) ≡ k
 kind_again (SimpleKind PointForm) = refl
-kind_again (SimpleKind LineForm) = refl
-kind_again (SimpleKind PolygonForm) = refl
-kind_again (SimpleKind MultiPointForm) = refl
-kind_again (SimpleKind MultiLineForm) = refl
-kind_again (SimpleKind MultiPolygonForm) = refl
-kind_again CollectionKind = refl
+kind_again _ = refl
 
 -- a run through the body, for which the geometry is responsible
 abbrev pub RunsBody : Kind → ℤ → List Frame → ℕ → List Item → Tree → Type 0

@@ -33,9 +33,8 @@ use Rattle.twkb_grammar.proofs.Bodies.{sums_after, head, id_small}
 pub AreFields-append : (fs : List Field) (is : List Item) (gs : List Field) (js : List Item)
     → AreFields fs is → AreFields gs js → AreFields (fs ++ gs) (is ++ js)
 AreFields-append [] [] gs js a b = b
-AreFields-append [] (i ∷ is) gs js a b = absurd a
-AreFields-append (f ∷ fs) [] gs js a b = absurd a
 AreFields-append (f ∷ fs) (i ∷ is) gs js a b = (a.0, a.1, a.2, AreFields-append fs is gs js a.3 b)
+AreFields-append _ _ gs js a b = absurd a
 
 -- the fields of joined slots
 pub steps-append : (p : Point) (xs ys : List Slot) → steps p (xs ++ ys) ≡ steps p xs ++ steps (reached p xs) ys
@@ -215,14 +214,9 @@ module _ (h : Head) (f : BodyForm) (ids : Ids) (fs : List Frame) (tree : Tree) w
 -- a kind found by its number has that number
 pub kind_number_at : (n : ℕ) → 0 < n → n < 8 → kind_number (kind_at n) ≡ n
 kind_number_at zero a b = absurd (omega arith)
-kind_number_at (suc zero) a b = refl
-kind_number_at (suc (suc zero)) a b = refl
-kind_number_at (suc (suc (suc zero))) a b = refl
-kind_number_at (suc (suc (suc (suc zero)))) a b = refl
-kind_number_at (suc (suc (suc (suc (suc zero))))) a b = refl
-kind_number_at (suc (suc (suc (suc (suc (suc zero)))))) a b = refl
 kind_number_at (suc (suc (suc (suc (suc (suc (suc n))))))) a b = let z : n ≡ 0 = omega arith in
     ap (λ k. suc (suc (suc (suc (suc (suc (suc k))))))) (sym z)
+kind_number_at (suc _) a b = refl
 
 module _ (tree : Tree) where
   -- the machine has finished this geometry

@@ -7,7 +7,7 @@ use Rattle.twkb_num.specs.Zigzag.{unzigzag_of}
 use Rattle.twkb_num.specs.Varint.{HasMarks, seven_bit_sum, IsVarint}
 use Rattle.twkb_points.specs.Point.{IsCoordinate}
 use Rattle.twkb_tree.specs.Limits.{Allowance}
-use Rattle.twkb_grammar.specs.Roles.{Item, Role, Header, Metadata, Extended, Size, Box, Count, Id, X, Y, End, Spells}
+use Rattle.twkb_grammar.specs.Roles.{Item, Role, Header, Metadata, Extended, Count, X, Y, End, Spells}
 use Rattle.twkb_grammar.specs.Blob.{IsExact}
 use Rattle.twkb_grammar.specs.Fault.{Reason, Truncated, BadType, ExtraDimensions, BadVarint}
 use Rattle.twkb_grammar.specs.Fault.{TooDeep, TooManyNodes, TooManyPoints, CoordinateRange}
@@ -119,9 +119,6 @@ no_reason limits before rest Extended reason n bs other s e a x =
     when_not reason Truncated (λ h. some_byte n bs other rest s.2 e h)
     (when_not reason ExtraDimensions (byte_not n bs other rest (λ b. b % 4 ≢ 0) s.2 e
     (λ h. h s.1)) (λ z. z))
-no_reason limits before rest Size reason n bs other s e a x = varint_not bs other n rest reason s e (λ z. z)
-no_reason limits before rest Box reason n bs other s e a x = varint_not bs other n rest reason s e (λ z. z)
-no_reason limits before rest Id reason n bs other s e a x = varint_not bs other n rest reason s e (λ z. z)
 no_reason limits before rest (Count c) reason n bs other s e a x =
     varint_not bs other n rest reason s e
     (when_not reason TooDeep (number_not bs other n rest (λ n. IsDeep c limits.nest × (0 < n)) s e
@@ -141,3 +138,4 @@ no_reason limits before rest Y reason n bs other s e a x = varint_not bs other n
     (λ n. IsCoordinate ((position before).y +ℤ unzigzag_of n) → ⊥) s e (λ h. h a)) (λ z. z))
 no_reason limits before rest (End d c) reason n bs other s e a x = when_not reason SizeMismatch
     (λ (h : IsExact (End d c) → ⊥). h x) (λ z. z)
+no_reason limits before rest _ reason n bs other s e a x = varint_not bs other n rest reason s e (λ z. z)

@@ -8,9 +8,8 @@ use Rattle.twkb_tree.specs.Limits.{Allowance, IsAllowance}
 use Rattle.twkb_grammar.specs.Roles.{Item, Role, IsItem, join}
 use Rattle.twkb_grammar.specs.Blob.{IsExact, BlobInFront}
 use Rattle.twkb_grammar.specs.Fault.{Reason, FirstFault, Refused, moved}
-use Rattle.twkb_grammar.specs.Machine.{Want, WantY, Done, AtHeader, AtMetadata, AtOption, AtCount}
-use Rattle.twkb_grammar.specs.Machine.{AtId, AtBody, AtEnd, Finished, Sums, nothing, added}
-use Rattle.twkb_grammar.specs.Machine.{sums_after, Stack, started, role_at, stack_after}
+use Rattle.twkb_grammar.specs.Machine.{Want, Done, AtBody, Finished, Sums, nothing, added, sums_after, Stack, started}
+use Rattle.twkb_grammar.specs.Machine.{role_at, stack_after}
 use Rattle.twkb_grammar.specs.PlainReader.{Answer, Made, RefusedAt, GoesOn, made, cut, objection}
 use Rattle.twkb_grammar.specs.PlainReader.{after_cut, decode_from, decode}
 use Rattle.twkb_grammar.proofs.Bodies.{bytes_after}
@@ -36,17 +35,10 @@ record IsFinished (st : Stack) : Type 0 where
   pub is : st ≡ ([], Finished tree)
 
 finished : (e : Sums) (st : Stack) → IsProper st → role_at e st ≡ None → IsFinished st
-finished e (fs, AtHeader) p says = absurd cc
-finished e (fs, AtMetadata k q) p says = absurd cc
-finished e (fs, AtOption k h r rs) p says = absurd cc
-finished e (fs, AtCount m h) p says = absurd cc
-finished e (fs, AtId m h n ids left) p says = absurd cc
 finished e (fs, AtBody h f ids (Want zero a)) p says = absurd cc
-finished e (fs, AtBody h f ids (Want (suc d) a)) p says = absurd cc
-finished e (fs, AtBody h f ids (WantY a)) p says = absurd cc
 finished e (fs, AtBody h f ids (Done v)) p says = absurd p
-finished e (fs, AtEnd h g) p says = absurd cc
 finished e (fs, Finished g) p says = record { tree = g; is = ap (λ l. (l, Finished g)) p }
+finished e (fs, _) p says = absurd cc
 
 -- what is known before each item
 record State (limits : Allowance) (bytes : List ℕ) (before : List Item) (st : Stack) (rest : List ℕ) : Type 0 where

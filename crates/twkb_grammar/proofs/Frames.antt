@@ -12,14 +12,13 @@ use Rattle.twkb_grammar.specs.Bits.{bit}
 use Rattle.twkb_grammar.specs.Roles.{Role, Count, Geometries, Item, Header, Metadata, Extended, Size, Box, Id, X, Y}
 use Rattle.twkb_grammar.specs.Roles.{End, where_set, Spells}
 use Rattle.twkb_grammar.specs.Fault.{moved}
-use Rattle.twkb_grammar.specs.Machine.{BodyForm, PointForm, LineForm, PolygonForm, MultiPointForm, MultiLineForm}
-use Rattle.twkb_grammar.specs.Machine.{MultiPolygonForm, depth_of, Kind, SimpleKind, CollectionKind, Body, Want, WantY}
-use Rattle.twkb_grammar.specs.Machine.{Done, opened, top, Head, Frame, Many, ManyPoints, ManyLines, ManyPolygons}
-use Rattle.twkb_grammar.specs.Machine.{ManyGeometries, Phase, AtHeader, AtMetadata, AtOption, AtCount, AtId, AtBody}
-use Rattle.twkb_grammar.specs.Machine.{AtEnd, Finished, Sums, nothing, added, Stack, started, settled, begun, wanting}
-use Rattle.twkb_grammar.specs.Machine.{asked, with_option, body_after, members_begin, counted, ended, role_at}
-use Rattle.twkb_grammar.specs.Machine.{stack_after, Runs, kind_number, listed, body_role, first_count, phase_role}
-use Rattle.twkb_grammar.specs.Machine.{advanced}
+use Rattle.twkb_grammar.specs.Machine.{BodyForm, PointForm, MultiPointForm, MultiLineForm, MultiPolygonForm, depth_of}
+use Rattle.twkb_grammar.specs.Machine.{Kind, SimpleKind, Body, Want, WantY, Done, opened, top, Head, Frame, Many}
+use Rattle.twkb_grammar.specs.Machine.{ManyPoints, ManyLines, ManyPolygons, ManyGeometries, Phase, AtHeader}
+use Rattle.twkb_grammar.specs.Machine.{AtMetadata, AtOption, AtCount, AtId, AtBody, AtEnd, Finished, Sums, nothing}
+use Rattle.twkb_grammar.specs.Machine.{added, Stack, started, settled, begun, wanting, asked, with_option, body_after}
+use Rattle.twkb_grammar.specs.Machine.{members_begin, counted, ended, role_at, stack_after, Runs, kind_number, listed}
+use Rattle.twkb_grammar.specs.Machine.{body_role, first_count, phase_role, advanced}
 use Rattle.twkb_grammar.specs.Reading.{Here, Kept, Reached, open_by, open_after, frame_count}
 use Rattle.twkb_grammar.proofs.BodiesBack.{some_role}
 use Rattle.twkb_grammar.proofs.Trees.{frame}
@@ -36,17 +35,11 @@ Shallow nest (fs, ph) = length fs ≤ nest
 shallow_settled : (nest : ℕ) (fs : List Frame) (h : Head) (f : BodyForm) (ids : Ids)
     (b : Body (depth_of f)) → length fs ≤ nest → Shallow nest (fs, settled h f ids b)
 shallow_settled nest fs h f ids (Want d a) few = few
-shallow_settled nest fs h f ids (WantY a) few = few
-shallow_settled nest fs h f ids (Done v) few = few
+shallow_settled nest fs h f ids _ few = few
 
 shallow_begun : (nest : ℕ) (fs : List Frame) (k : Kind) (h : Head) → length fs ≤ nest → Shallow nest (fs, begun k h)
 shallow_begun nest fs (SimpleKind PointForm) h few = few
-shallow_begun nest fs (SimpleKind LineForm) h few = few
-shallow_begun nest fs (SimpleKind PolygonForm) h few = few
-shallow_begun nest fs (SimpleKind MultiPointForm) h few = few
-shallow_begun nest fs (SimpleKind MultiLineForm) h few = few
-shallow_begun nest fs (SimpleKind MultiPolygonForm) h few = few
-shallow_begun nest fs CollectionKind h few = few
+shallow_begun nest fs _ h few = few
 
 shallow_wanting : (nest : ℕ) (fs : List Frame) (k : Kind) (h : Head) (rs : List Role)
     → length fs ≤ nest → Shallow nest (fs, wanting k h rs)
@@ -71,17 +64,12 @@ shallow_ids : (nest : ℕ) (fs : List Frame) (m : Many) (h : Head) (n a b : ℕ)
     (ids more : List Rattle.std.specs.Prelude.ℤ) → Shallow nest (fs, AtId m h n ids a)
     → Shallow nest (fs, AtId m h n more b)
 shallow_ids nest fs ManyPoints h n a b ids more few = few
-shallow_ids nest fs ManyLines h n a b ids more few = few
-shallow_ids nest fs ManyPolygons h n a b ids more few = few
-shallow_ids nest fs ManyGeometries h n a b ids more few = few
+shallow_ids nest fs _ h n a b ids more few = few
 
 -- a count of members keeps the limit on depth
 shallow_count : (nest : ℕ) (fs : List Frame) (m : Many) (h : Head) (n : ℕ) → length fs ≤ nest
     → ((level : ℕ) → m ≡ ManyGeometries → level ≡ length fs → nest ≤ level → n ≡ 0)
     → Shallow nest (fs, AtId m h n [] 0)
-shallow_count nest fs ManyPoints h n few kept = few
-shallow_count nest fs ManyLines h n few kept = few
-shallow_count nest fs ManyPolygons h n few kept = few
 shallow_count nest fs ManyGeometries h n few kept = (
   (λ (some : 0 < n). elim (cases_lt (length fs) nest) [
     | inl low ↦ low
@@ -90,6 +78,7 @@ shallow_count nest fs ManyGeometries h n few kept = (
   ]),
   few,
 )
+shallow_count nest fs _ h n few kept = few
 
 shallow_counted : (nest : ℕ) (fs : List Frame) (m : Many) (h : Head) (n : ℕ)
     → Shallow nest (fs, AtId m h n [] 0) → Shallow nest (counted m h fs n)
@@ -142,17 +131,8 @@ shallow_run nest (i ∷ is) e st last few r k = shallow_run nest is (added e i) 
     last (shallow_after nest e i st.0 st.1 r.0 k.0 few) r.2 k.1
 
 shallow_stack : (nest : ℕ) (fs : List Frame) (ph : Phase) → Shallow nest (fs, ph) → length fs ≤ nest
-shallow_stack nest fs AtHeader few = few
-shallow_stack nest fs (AtMetadata k p) few = few
-shallow_stack nest fs (AtOption k h r rs) few = few
-shallow_stack nest fs (AtCount m h) few = few
-shallow_stack nest fs (AtId ManyPoints h n ids left) few = few
-shallow_stack nest fs (AtId ManyLines h n ids left) few = few
-shallow_stack nest fs (AtId ManyPolygons h n ids left) few = few
 shallow_stack nest fs (AtId ManyGeometries h n ids left) few = few.1
-shallow_stack nest fs (AtBody h f ids b) few = few
-shallow_stack nest fs (AtEnd h g) few = few
-shallow_stack nest fs (Finished g) few = few
+shallow_stack nest fs _ few = few
 
 -- at most as many collections are open as allowed
 pub reached_depth : (limits : Allowance) (bytes : List ℕ) (e : Sums) (st : Stack)
@@ -206,17 +186,11 @@ Has n (fs, ph) = suc (length fs) ≡ n
 has_settled : (fs : List Frame) (h : Head) (f : BodyForm) (ids : Ids) (b : Body (depth_of f))
     → Has (suc (length fs)) (fs, settled h f ids b)
 has_settled fs h f ids (Want d a) = refl
-has_settled fs h f ids (WantY a) = refl
-has_settled fs h f ids (Done v) = refl
+has_settled fs h f ids _ = refl
 
 has_begun : (fs : List Frame) (k : Kind) (h : Head) → Has (suc (length fs)) (fs, begun k h)
 has_begun fs (SimpleKind PointForm) h = refl
-has_begun fs (SimpleKind LineForm) h = refl
-has_begun fs (SimpleKind PolygonForm) h = refl
-has_begun fs (SimpleKind MultiPointForm) h = refl
-has_begun fs (SimpleKind MultiLineForm) h = refl
-has_begun fs (SimpleKind MultiPolygonForm) h = refl
-has_begun fs CollectionKind h = refl
+has_begun fs _ h = refl
 
 has_wanting : (fs : List Frame) (k : Kind) (h : Head) (rs : List Role) → Leaves rs
     → Has (suc (length fs)) (fs, wanting k h rs)
@@ -302,14 +276,8 @@ has_run n (i ∷ is) e st last h r = has_run (open_by n i.role) is (added e i) (
     last (has_after n e i st.0 st.1 r.0 h) r.2
 
 has_frames : (n : ℕ) (fs : List Frame) (ph : Phase) → Has n (fs, ph) → frame_count (fs, ph) ≡ n
-has_frames n fs AtHeader h = h
-has_frames n fs (AtMetadata k p) h = h
 has_frames n fs (AtOption k o r rs) h = h.0
-has_frames n fs (AtCount m o) h = h
-has_frames n fs (AtId m o members ids left) h = h
-has_frames n fs (AtBody o f ids b) h = h
-has_frames n fs (AtEnd o g) h = h
-has_frames n fs (Finished g) h = h
+has_frames n fs _ h = h
 
 -- the number of frames is the number of open geometries
 pub reached_frames : (limits : Allowance) (bytes : List ℕ) (e : Sums) (st : Stack)
@@ -319,13 +287,7 @@ reached_frames limits bytes e st r = has_frames (open_after 0 r.items) st.0 st.1
 
 most_frames : (nest : ℕ) (fs : List Frame) (ph : Phase) → length fs ≤ nest → frame_count (fs, ph) ≤ nest + 1
 most_frames nest fs AtHeader few = omega (arith, few)
-most_frames nest fs (AtMetadata k p) few = omega (arith, few)
-most_frames nest fs (AtOption k o r rs) few = omega (arith, few)
-most_frames nest fs (AtCount m o) few = omega (arith, few)
-most_frames nest fs (AtId m o members ids left) few = omega (arith, few)
-most_frames nest fs (AtBody o f ids b) few = omega (arith, few)
-most_frames nest fs (AtEnd o g) few = omega (arith, few)
-most_frames nest fs (Finished g) few = omega (arith, few)
+most_frames nest fs _ few = omega (arith, few)
 
 -- there is at most one frame more than the collections allowed around a member
 pub reached_few : (limits : Allowance) (bytes : List ℕ) (e : Sums) (st : Stack)
@@ -339,11 +301,7 @@ abbrev pub pending : Stack → ℕ
 pending (fs, AtHeader) = length fs
 pending (fs, Finished g) = length fs
 pending (fs, AtOption k h r rs) = length fs + (2 + length rs)
-pending (fs, AtMetadata k p) = length fs + 1
-pending (fs, AtCount m h) = length fs + 1
-pending (fs, AtId m h n ids left) = length fs + 1
-pending (fs, AtBody h f ids b) = length fs + 1
-pending (fs, AtEnd h g) = length fs + 1
+pending (fs, _) = length fs + 1
 
 some_marks : (bytes : List ℕ) → HasMarks bytes → 1 ≤ length bytes
 some_marks [] m = absurd m
@@ -355,8 +313,7 @@ one_byte n bytes e = omega (arith, ap length e)
 pending-settled : (fs : List Frame) (h : Head) (f : BodyForm) (ids : Ids) (b : Body (depth_of f))
     → pending (fs, settled h f ids b) ≡ length fs + 1
 pending-settled fs h f ids (Want d a) = refl
-pending-settled fs h f ids (WantY a) = refl
-pending-settled fs h f ids (Done v) = refl
+pending-settled fs h f ids _ = refl
 
 pending-members_begin : (m : Many) (h : Head) (fs : List Frame) (ids : Ids) (n : ℕ)
     → pending (members_begin m h fs ids n) ≤ length fs + 1
@@ -378,12 +335,7 @@ pending-counted m h fs (suc n) = go (bit h.meta 2)
 
 pending-begun : (k : Kind) (h : Head) (fs : List Frame) → pending (fs, begun k h) ≡ length fs + 1
 pending-begun (SimpleKind PointForm) h fs = refl
-pending-begun (SimpleKind LineForm) h fs = refl
-pending-begun (SimpleKind PolygonForm) h fs = refl
-pending-begun (SimpleKind MultiPointForm) h fs = refl
-pending-begun (SimpleKind MultiLineForm) h fs = refl
-pending-begun (SimpleKind MultiPolygonForm) h fs = refl
-pending-begun CollectionKind h fs = refl
+pending-begun _ h fs = refl
 
 pending-wanting : (k : Kind) (h : Head) (rs : List Role) (fs : List Frame)
     → pending (fs, wanting k h rs) ≤ length fs + (1 + length rs)

@@ -7,11 +7,11 @@ use Rattle.twkb_num.specs.Varint.{IsVarint}
 use Rattle.twkb_num.specs.Zigzag.{zigzag_of, unzigzag_of}
 use Rattle.twkb_num.proofs.ZigzagLemmas.{unzigzag_of-zigzag_of}
 use Rattle.twkb_tree.specs.declared.kind.Kind.{Kind}
-use Rattle.twkb_tree.specs.Tree.{Simple, point, line, polygon, multi_point, multi_line, multi_polygon, Tree, simple}
+use Rattle.twkb_tree.specs.Tree.{Simple, point, Tree, simple}
 use Rattle.twkb_tree.specs.Tree.{collection, Trees, end, ◌▷◌, count, Ids, flat, IsPrecision, IsTree, AreTrees}
 use Rattle.twkb_tree.specs.Limits.{Allowance}
 use Rattle.twkb_tree.specs.declared.kind.Kind.TheVariants as kind
-use Rattle.twkb_grammar.specs.Roles.{Role, Header, Metadata, Extended, Size, Box, Count, Id, X, Y, End, Item, IsItem}
+use Rattle.twkb_grammar.specs.Roles.{Role, Header, Metadata, Extended, Size, Box, Count, End, Item, IsItem}
 use Rattle.twkb_grammar.specs.Roles.{Spells, join, Field, AreFields, HaveRoles, where_set, Counted, Geometries, item}
 use Rattle.twkb_grammar.specs.Fault.{points_by}
 use Rattle.twkb_grammar.specs.Machine.{Sums, added, sums_after, Stack, stack_after, Runs, kind_at, nothing}
@@ -47,13 +47,8 @@ end_role : (r : Role) (n : ℕ) (bytes : List ℕ) → Spells r n bytes → byte
 end_role Header n bytes s e = let z : n ∷ [] ≡ [] = sym s.3 ∙ e in absurd cc
 end_role (Metadata k) n bytes s e = let z : n ∷ [] ≡ [] = sym s.1 ∙ e in absurd cc
 end_role Extended n bytes s e = let z : n ∷ [] ≡ [] = sym s.2 ∙ e in absurd cc
-end_role Size n bytes s e = absurd (no_varint n bytes s e)
-end_role Box n bytes s e = absurd (no_varint n bytes s e)
-end_role (Count c) n bytes s e = absurd (no_varint n bytes s e)
-end_role Id n bytes s e = absurd (no_varint n bytes s e)
-end_role X n bytes s e = absurd (no_varint n bytes s e)
-end_role Y n bytes s e = absurd (no_varint n bytes s e)
 end_role (End d c) n bytes s e = (d, c, refl)
+end_role _ n bytes s e = absurd (no_varint n bytes s e)
 
 pub none_front : (a b : List ℕ) → a ++ b ≡ [] → a ≡ []
 none_front [] b e = refl
@@ -111,24 +106,8 @@ ends_add (i ∷ is) e (d, came, role, item, are) =
 one_open : (start : ℕ) (e : Sums) (r : Role) (n : ℕ) (ss : List Span) (b : List ℕ)
     → length (noted_by start e r n (record { spans = ss; begun = b })).begun ≡ open_by (length b) r
 one_open start e Header n ss b = refl
-one_open start e (Metadata k) n ss [] = refl
-one_open start e (Metadata k) n ss (x ∷ b) = refl
-one_open start e Extended n ss [] = refl
-one_open start e Extended n ss (x ∷ b) = refl
-one_open start e Size n ss [] = refl
-one_open start e Size n ss (x ∷ b) = refl
-one_open start e Box n ss [] = refl
-one_open start e Box n ss (x ∷ b) = refl
-one_open start e (Count c) n ss [] = refl
-one_open start e (Count c) n ss (x ∷ b) = refl
-one_open start e Id n ss [] = refl
-one_open start e Id n ss (x ∷ b) = refl
-one_open start e X n ss [] = refl
-one_open start e X n ss (x ∷ b) = refl
-one_open start e Y n ss [] = refl
-one_open start e Y n ss (x ∷ b) = refl
-one_open start e (End d c) n ss [] = refl
-one_open start e (End d c) n ss (x ∷ b) = refl
+one_open start e _ n ss (x ∷ b) = refl
+one_open start e _ n ss _ = refl
 
 pub all_open : (start : ℕ) (is : List Item) (e : Sums) (w : Notes)
     → length (noted start e w is).begun ≡ open_after (length w.begun) is
@@ -211,14 +190,8 @@ points_total is e = points_after is e ∙ ap (λ n. e.points + n) (total_is poin
 pub quiet : (start : ℕ) (e : Sums) (r : Role) (n : ℕ) (w : Notes) → IsQuiet r → noted_by start e r n w ≡ w
 quiet start e Header n w q = absurd q
 quiet start e (Metadata k) n w q = absurd q
-quiet start e Extended n w q = refl
-quiet start e Size n w q = refl
-quiet start e Box n w q = refl
-quiet start e (Count c) n w q = refl
-quiet start e Id n w q = refl
-quiet start e X n w q = refl
-quiet start e Y n w q = refl
 quiet start e (End d c) n w q = absurd q
+quiet start e _ n w q = refl
 
 abbrev AreQuiet : List Role → Type 0
 AreQuiet [] = ⊤
@@ -231,31 +204,28 @@ quiet_where false rs q = tt
 pub quiet_roles : (start : ℕ) (rs : List Role) (is : List Item) (e : Sums) (w : Notes)
     → HaveRoles rs is → AreQuiet rs → noted start e w is ≡ w
 quiet_roles start [] [] e w h q = refl
-quiet_roles start [] (i ∷ is) e w h q = absurd h
-quiet_roles start (r ∷ rs) [] e w h q = absurd h
 quiet_roles start (r ∷ rs) (i ∷ is) e w h q =
     quiet_roles start rs is (added e i) (noted_by start e i.role i.number w) h.2 q.1
     ∙ quiet start e i.role i.number w (subst IsQuiet (sym h.0) q.0)
+quiet_roles start _ _ e w h q = absurd h
 
 abbrev QuietFields : List Field → Type 0
 QuietFields [] = ⊤
 QuietFields (f ∷ fs) = IsQuiet f.0 × QuietFields fs
 
 pub quiet_filled : (ps : List Slot) (ds : List (ℤ × ℤ)) → QuietFields (filled ps ds)
-quiet_filled [] ds = tt
 quiet_filled (OfCount c n ∷ ps) ds = (tt, quiet_filled ps ds)
 quiet_filled (OfId id ∷ ps) ds = (tt, quiet_filled ps ds)
-quiet_filled (OfPoint p ∷ ps) [] = tt
 quiet_filled (OfPoint p ∷ ps) (d ∷ ds) = (tt, (tt, quiet_filled ps ds))
+quiet_filled _ _ = tt
 
 pub quiet_fields : (start : ℕ) (fs : List Field) (is : List Item) (e : Sums) (w : Notes)
     → AreFields fs is → QuietFields fs → noted start e w is ≡ w
 quiet_fields start [] [] e w h q = refl
-quiet_fields start [] (i ∷ is) e w h q = absurd h
-quiet_fields start (f ∷ fs) [] e w h q = absurd h
 quiet_fields start (f ∷ fs) (i ∷ is) e w h q =
     quiet_fields start fs is (added e i) (noted_by start e i.role i.number w) h.3 q.1
     ∙ quiet start e i.role i.number w (subst IsQuiet (sym h.0) q.0)
+quiet_fields start _ _ e w h q = absurd h
 
 -- ==== The notes of a geometry's items are its spans.
 
@@ -426,19 +396,11 @@ none_more w = ap (λ l. notes l w.begun) (sym (append-nil w.spans))
 
 shape_kind : (s : Simple) → shown (kind_at (kind_of s)) ≡ kind_of_shape s
 shape_kind (point o) = refl
-shape_kind (line ps) = refl
-shape_kind (polygon rings) = refl
-shape_kind (multi_point ids ps) = refl
-shape_kind (multi_line ids lines) = refl
-shape_kind (multi_polygon ids areas) = refl
+shape_kind _ = refl
 
 shape_low : (s : Simple) → kind_of s < 8
 shape_low (point o) = omega arith
-shape_low (line ps) = omega arith
-shape_low (polygon rings) = omega arith
-shape_low (multi_point ids ps) = omega arith
-shape_low (multi_line ids lines) = omega arith
-shape_low (multi_polygon ids areas) = omega arith
+shape_low _ = omega arith
 
 simple_body : (start : ℕ) (s : Simple) (b : Bool) (body : List Item) (e : Sums) (w : Notes)
     → BodyAt b (AreFields (fields s)) body → noted start e w body ≡ w

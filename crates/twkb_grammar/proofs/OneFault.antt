@@ -146,9 +146,6 @@ neither r s a b = absurd a
 -- the first reason at a place is unique
 pub one_reason : (limits : Allowance) (before : List Item) (rest : List ℕ) (role : Role)
     (r s : Reason) → Refused limits before rest role r → Refused limits before rest role s → r ≡ s
-one_reason limits before rest Header r s a b = when_same r s _ (when_same r s _ (neither r s)) a b
-one_reason limits before rest (Metadata k) r s a b = when_same r s _ (when_same r s _ (neither r s)) a b
-one_reason limits before rest Extended r s a b = when_same r s _ (when_same r s _ (neither r s)) a b
 one_reason limits before rest Size r s a b = number_same r s rest (neither r s) a b
 one_reason limits before rest Box r s a b = number_same r s rest (neither r s) a b
 one_reason limits before rest Id r s a b = number_same r s rest (neither r s) a b
@@ -157,6 +154,7 @@ one_reason limits before rest (Count c) r s a b = number_same r s rest
 one_reason limits before rest X r s a b = number_same r s rest (when_same r s _ (neither r s)) a b
 one_reason limits before rest Y r s a b = number_same r s rest (when_same r s _ (neither r s)) a b
 one_reason limits before rest (End d c) r s a b = when_same r s _ (neither r s) a b
+one_reason limits before rest _ r s a b = when_same r s _ (when_same r s _ (neither r s)) a b
 
 -- the machine runs through the items before a fault
 pub fault_runs : (limits : Allowance) (bytes : List ℕ) (offset : ℕ) (reason : Reason)
@@ -252,9 +250,6 @@ never x = x
 -- a size is found to be wrong only at an end
 size_at_end : (limits : Allowance) (before : List Item) (rest : List ℕ) (role : Role) → NoEnd role
     → Refused limits before rest role SizeMismatch → ⊥
-size_at_end limits before rest Header n h = not_this _ (λ e. cc) (not_this _ (λ e. cc) never) h
-size_at_end limits before rest (Metadata k) n h = not_this _ (λ e. cc) (not_this _ (λ e. cc) never) h
-size_at_end limits before rest Extended n h = not_this _ (λ e. cc) (not_this _ (λ e. cc) never) h
 size_at_end limits before rest Size n h = no_number rest never h
 size_at_end limits before rest Box n h = no_number rest never h
 size_at_end limits before rest Id n h = no_number rest never h
@@ -263,6 +258,7 @@ size_at_end limits before rest (Count c) n h = no_number rest
 size_at_end limits before rest X n h = no_number rest (not_this _ (λ e. cc) never) h
 size_at_end limits before rest Y n h = no_number rest (not_this _ (λ e. cc) never) h
 size_at_end limits before rest (End d c) n h = n d c refl
+size_at_end limits before rest _ n h = not_this _ (λ e. cc) (not_this _ (λ e. cc) never) h
 
 -- an item that is not an end has bytes
 marked_some : (bytes : List ℕ) → HasMarks bytes → 0 < length bytes
@@ -276,13 +272,8 @@ item_some : (role : Role) (n : ℕ) (bytes : List ℕ) → NoEnd role → Spells
 item_some Header n bytes apart s = one_some n bytes s.3
 item_some (Metadata k) n bytes apart s = one_some n bytes s.1
 item_some Extended n bytes apart s = one_some n bytes s.2
-item_some Size n bytes apart s = marked_some bytes s.marked
-item_some Box n bytes apart s = marked_some bytes s.marked
-item_some (Count c) n bytes apart s = marked_some bytes s.marked
-item_some Id n bytes apart s = marked_some bytes s.marked
-item_some X n bytes apart s = marked_some bytes s.marked
-item_some Y n bytes apart s = marked_some bytes s.marked
 item_some (End d c) n bytes apart s = absurd (apart d c refl)
+item_some _ n bytes apart s = marked_some bytes s.marked
 
 -- if no end comes next, no size is found to be wrong after the bytes, whatever follows
 pub no_size_wrong : (limits : Allowance) (bytes more : List ℕ) (e : Sums) (st : Stack)

@@ -7,7 +7,7 @@ use Rattle.twkb_num.proofs.VarintLemmas.{one_varint}
 use Rattle.twkb_tree.specs.Tree.{Tree, Trees, Ids, simple, collection, IsTree}
 use Rattle.twkb_tree.specs.Limits.{Allowance}
 use Rattle.twkb_grammar.specs.Bits.{bit}
-use Rattle.twkb_grammar.specs.Roles.{Item, Role, Header, Metadata, Extended, Size, Box, Count, Id, X, Y, End, IsItem}
+use Rattle.twkb_grammar.specs.Roles.{Item, Role, Header, Metadata, Extended, Count, Id, X, Y, End, IsItem}
 use Rattle.twkb_grammar.specs.Roles.{Spells, join}
 use Rattle.twkb_grammar.specs.Machine.{Nested, Around, top, within, Body, Want, WantY, Done, closed, opened, listed}
 use Rattle.twkb_grammar.specs.Machine.{BodyForm, depth_of, shape_of, Kind, SimpleKind, CollectionKind, PointForm}
@@ -53,13 +53,8 @@ pub filler_is : (r : Role) → IsItem (filler r)
 filler_is Header = (omega arith, omega arith, omega arith, refl)
 filler_is (Metadata k) = (omega arith, refl)
 filler_is Extended = (omega arith, refl, refl)
-filler_is Size = zero_varint
-filler_is Box = zero_varint
-filler_is (Count c) = zero_varint
-filler_is Id = zero_varint
-filler_is X = zero_varint
-filler_is Y = zero_varint
 filler_is (End d c) = (refl, refl)
+filler_is _ = zero_varint
 
 -- fillers that lead to the end of the geometry
 pub record Completion (e : Sums) (st : Stack) : Type 0 where
@@ -219,8 +214,7 @@ completes (fs, Finished g) p = λ e. record { roles = []; tree = g; runs = ap (�
 settled_proper : (fs : List Frame) (h : Head) (f : BodyForm) (ids : Ids) (b : Body (depth_of f))
     → IsProper (fs, settled h f ids b)
 settled_proper fs h f ids (Want d a) = tt
-settled_proper fs h f ids (WantY a) = tt
-settled_proper fs h f ids (Done v) = tt
+settled_proper fs h f ids _ = tt
 
 members_proper : (m : Many) (h : Head) (fs : List Frame) (ids : Ids) (n : ℕ) → IsProper (members_begin m h fs ids n)
 members_proper ManyPoints h fs ids n = settled_proper fs h MultiPointForm ids (opened 0 n top)
@@ -239,12 +233,7 @@ counted_proper m h fs (suc n) = go (bit h.meta 2) refl
 
 begun_proper : (k : Kind) (h : Head) (fs : List Frame) → IsProper (fs, begun k h)
 begun_proper (SimpleKind PointForm) h fs = tt
-begun_proper (SimpleKind LineForm) h fs = tt
-begun_proper (SimpleKind PolygonForm) h fs = tt
-begun_proper (SimpleKind MultiPointForm) h fs = tt
-begun_proper (SimpleKind MultiLineForm) h fs = tt
-begun_proper (SimpleKind MultiPolygonForm) h fs = tt
-begun_proper CollectionKind h fs = tt
+begun_proper _ h fs = tt
 
 wanting_proper : (k : Kind) (rs : List Role) (h : Head) (fs : List Frame) → IsProper (fs, wanting k h rs)
 wanting_proper k [] h fs = go (bit h.meta 4) refl
@@ -264,18 +253,16 @@ ended_proper (f ∷ fs) g = go f.left
 
 proper_after : (fs : List Frame) (ph : Phase) (e : Sums) (i : Item)
     → role_at e (fs, ph) ≡ Some i.role → IsProper (stack_after e i (fs, ph))
-proper_after fs AtHeader e i r = tt
 proper_after fs (AtMetadata k q) e i r = wanting_proper k (asked i.number) _ fs
 proper_after fs (AtOption k h s rs) e i r = wanting_proper k rs _ fs
 proper_after fs (AtCount m h) e i r = counted_proper m h fs i.number
 proper_after fs (AtId m h n ids zero) e i r = members_proper m h fs _ n
-proper_after fs (AtId m h n ids (suc left)) e i r = tt
-proper_after fs (AtBody h f ids (Want zero a)) e i r = tt
 proper_after fs (AtBody h f ids (Want (suc d) a)) e i r = settled_proper fs h f ids (opened d i.number a)
 proper_after fs (AtBody h f ids (WantY a)) e i r = settled_proper fs h f ids (closed a _)
 proper_after fs (AtBody h f ids (Done v)) e i r = cc
 proper_after fs (AtEnd h g) e i r = ended_proper fs g
 proper_after fs (Finished g) e i r = cc
+proper_after fs _ e i r = tt
 
 -- the machine runs from a stack that expects an item, or is finished, to another such stack
 pub proper_run : (is : List Item) (e : Sums) (st last : Stack) → IsProper st → Runs e st is last → IsProper last
@@ -297,13 +284,8 @@ pub one_spelling : (r : Role) (m n : ℕ) (a b x y : List ℕ) → Spells r m a 
 one_spelling Header m n a b x y sa sb e = one_byte m n a b x y sa.3 sb.3 e
 one_spelling (Metadata k) m n a b x y sa sb e = one_byte m n a b x y sa.1 sb.1 e
 one_spelling Extended m n a b x y sa sb e = one_byte m n a b x y sa.2 sb.2 e
-one_spelling Size m n a b x y sa sb e = one_varint a b x y m n sa sb e
-one_spelling Box m n a b x y sa sb e = one_varint a b x y m n sa sb e
-one_spelling (Count c) m n a b x y sa sb e = one_varint a b x y m n sa sb e
-one_spelling Id m n a b x y sa sb e = one_varint a b x y m n sa sb e
-one_spelling X m n a b x y sa sb e = one_varint a b x y m n sa sb e
-one_spelling Y m n a b x y sa sb e = one_varint a b x y m n sa sb e
 one_spelling (End d c) m n a b x y sa sb e = (sa.0 ∙ sym sb.0, sa.1 ∙ sym sb.1)
+one_spelling _ m n a b x y sa sb e = one_varint a b x y m n sa sb e
 
 -- two items with one role at the start of the same bytes are equal
 pub one_item : (i j : Item) (x y : List ℕ) → i.role ≡ j.role → IsItem i → IsItem j → i.bytes ++ x ≡ j.bytes ++ y → i ≡ j

@@ -11,9 +11,8 @@ use Rattle.twkb_tree.specs.Tree.{Tree, Simple, point, line, polygon, multi_point
 use Rattle.twkb_tree.specs.Tree.{collection, Trees, end, ◌▷◌, count, Ids, flat, flat_all, points_in, nest, nest_all}
 use Rattle.twkb_tree.specs.Tree.{nodes}
 use Rattle.twkb_tree.specs.Limits.{Allowance, IsValid}
-use Rattle.twkb_grammar.specs.Roles.{Item, Role, Header, Metadata, Extended, Size, Box, Count, Id, X, Y, End, join}
-use Rattle.twkb_grammar.specs.Roles.{Vertices, Rings, Points, Components, Geometries, AreFields, HaveRoles, where_set}
-use Rattle.twkb_grammar.specs.Roles.{item, Counted}
+use Rattle.twkb_grammar.specs.Roles.{Item, Role, Header, Metadata, Extended, Size, Box, Count, X, Y, join, Vertices}
+use Rattle.twkb_grammar.specs.Roles.{Geometries, AreFields, HaveRoles, where_set, item, Counted}
 use Rattle.twkb_grammar.specs.Items.{Items, Slot, OfCount, OfId, OfPoint, id_slots, fields, slots, run_of, rings_of}
 use Rattle.twkb_grammar.specs.Items.{declared, end_item, header_byte, Flags, flags, flags_all, BodyAt, Framed, Follow}
 use Rattle.twkb_grammar.specs.Items.{ItemsOfAll, kind_of, id_fields}
@@ -61,23 +60,18 @@ allowed limits before i more g valid items rest = go i.role refl rest
         omega (arith, valid.points_kept, t.1, within points_by before i more (total points_by (before ++ i ∷ more)) h)
 
     go : (r : Role) → i.role ≡ r → AllowedElse limits before r i.number → Allowed limits before r i.number
-    go Header e a = tt
     go (Metadata k) e a = λ h. omega (arith, p, ap (λ r. points_by r i.number) e, one k i.number h)
       where
         one : (k m : ℕ) → announces_point k m ≡ true → points_by (Metadata k) m ≡ 1
         one k m h = rw h refl
-    go Extended e a = tt
-    go Size e a = tt
-    go Box e a = tt
     go (Count c) e a = (
       a,
       omega (arith, n, ap (λ r. nodes_by r i.number) e),
       omega (arith, p, ap (λ r. points_by r i.number) e),
     )
-    go Id e a = tt
     go X e a = a
     go Y e a = a
-    go (End d c) e a = tt
+    go _ e a = tt
 
 exact_last : (before : List Item) (i : Item) → AreExact (before ++ i ∷ []) → IsExact i.role
 exact_last [] i h = h.0
@@ -162,12 +156,11 @@ easy_where most false rs e = tt
 
 roles_kept : (most : ℕ) (rs : List Role) (is : List Item) (e : Sums) → HaveRoles rs is → Easy most rs → Kept most e is
 roles_kept most [] [] e have easy = tt
-roles_kept most [] (i ∷ is) e have easy = absurd have
-roles_kept most (r ∷ rs) [] e have easy = absurd have
 roles_kept most (r ∷ rs) (i ∷ is) e have easy = (
   subst (λ s. Here most e.position s i.number) (sym have.0) (easy.0 e.position i.number),
   roles_kept most rs is (added e i) have.2 easy.1,
 )
+roles_kept most _ _ e have easy = absurd have
 
 -- the counts and points of a body's slots are allowed there
 abbrev SlotsFit : ℕ → List Slot → Type 0
@@ -179,20 +172,16 @@ SlotsFit most (OfPoint q ∷ ps) = IsInRange q × SlotsFit most ps
 body_kept : (most : ℕ) (p : Point) (ps : List Slot) (is : List Item) (e : Sums)
     → AreFields (steps p ps) is → e.position ≡ p → SlotsFit most ps → Kept most e is
 body_kept most p [] [] e are here fit = tt
-body_kept most p [] (i ∷ is) e are here fit = absurd are
-body_kept most p (OfCount k n ∷ ps) [] e are here fit = absurd are
 body_kept most p (OfCount k n ∷ ps) (i ∷ is) e are here fit = (
   subst (λ r. Here most e.position r i.number) (sym are.0) (λ h. are.1 ∙ fit.0 h),
   body_kept most p ps is (added e i) are.3 (moved_count e.position k i.role i.number are.0
       ∙ here) fit.1,
 )
-body_kept most p (OfId id ∷ ps) [] e are here fit = absurd are
 body_kept most p (OfId id ∷ ps) (i ∷ is) e are here fit = (
   subst (λ r. Here most e.position r i.number) (sym are.0) tt,
   body_kept most p ps is (added e i)
       are.3 (moved_id e.position i.role i.number are.0 ∙ here) fit,
 )
-body_kept most p (OfPoint q ∷ ps) [] e are here fit = absurd are
 body_kept most p (OfPoint q ∷ ps) (i ∷ []) e are here fit = absurd are.3
 body_kept most p (OfPoint q ∷ ps) (i ∷ j ∷ is) e are here fit =
     let x = moved_x e.position p q i.role i.number here are.0 are.1 in
@@ -207,25 +196,18 @@ body_kept most p (OfPoint q ∷ ps) (i ∷ j ∷ is) e are here fit =
         body_kept most q ps is (added (added e i) j) are.3.3 y fit.1,
       ),
     )
+body_kept most p _ _ e are here fit = absurd are
 
 -- none of the slots is a count of geometries
 abbrev Plain : List Slot → Type 0
 Plain [] = ⊤
-Plain (OfCount Vertices n ∷ ps) = Plain ps
-Plain (OfCount Rings n ∷ ps) = Plain ps
-Plain (OfCount Points n ∷ ps) = Plain ps
-Plain (OfCount Components n ∷ ps) = Plain ps
 Plain (OfCount (Geometries l) n ∷ ps) = ⊥
-Plain (OfId id ∷ ps) = Plain ps
-Plain (OfPoint q ∷ ps) = Plain ps
+Plain (_ ∷ ps) = Plain ps
 
 plain_fit : (most : ℕ) (ps : List Slot) → Plain ps → AllByRecursion IsInRange (slot_points ps) → SlotsFit most ps
 plain_fit most [] plain all = tt
-plain_fit most (OfCount Vertices n ∷ ps) plain all = (λ h. absurd h, plain_fit most ps plain all)
-plain_fit most (OfCount Rings n ∷ ps) plain all = (λ h. absurd h, plain_fit most ps plain all)
-plain_fit most (OfCount Points n ∷ ps) plain all = (λ h. absurd h, plain_fit most ps plain all)
-plain_fit most (OfCount Components n ∷ ps) plain all = (λ h. absurd h, plain_fit most ps plain all)
 plain_fit most (OfCount (Geometries l) n ∷ ps) plain all = absurd plain
+plain_fit most (OfCount _ n ∷ ps) plain all = (λ h. absurd h, plain_fit most ps plain all)
 plain_fit most (OfId id ∷ ps) plain all = plain_fit most ps plain all
 plain_fit most (OfPoint q ∷ ps) plain all = (all.0, plain_fit most ps plain all.1)
 
@@ -397,16 +379,10 @@ allowed_else limits before i more g valid items = go i.role
     nothing (omega (arith, valid.nest_kept)) valid.in_range items)))
   where
     go : (r : Role) → Here limits.nest (position before) r i.number → AllowedElse limits before r i.number
-    go Header h = tt
-    go (Metadata k) h = tt
-    go Extended h = tt
-    go Size h = tt
-    go Box h = tt
     go (Count c) h = h
-    go Id h = tt
     go X h = h
     go Y h = h
-    go (End d c) h = tt
+    go _ h = tt
 
 -- ==== A part can go on to a valid geometry: fillers complete it.
 
@@ -416,27 +392,15 @@ stays z = omega (arith, ints)
 
 filler_moves : (p : Point) (r : Role) → IsInRange p → IsInRange (moved p r (filler_number r))
 filler_moves p Header h = (omega arith, omega arith)
-filler_moves p (Metadata k) h = h
-filler_moves p Extended h = h
-filler_moves p Size h = h
-filler_moves p Box h = h
-filler_moves p (Count c) h = h
-filler_moves p Id h = h
 filler_moves p X h = (subst (λ z. IsCoordinate z) (sym (stays p.x)) h.0, h.1)
 filler_moves p Y h = (h.0, subst (λ z. IsCoordinate z) (sym (stays p.y)) h.1)
-filler_moves p (End d c) h = h
+filler_moves p _ h = h
 
 filler_here : (most : ℕ) (p : Point) (r : Role) → IsInRange p → Here most p r (filler_number r)
-filler_here most p Header h = tt
-filler_here most p (Metadata k) h = tt
-filler_here most p Extended h = tt
-filler_here most p Size h = tt
-filler_here most p Box h = tt
 filler_here most p (Count c) h = λ d. refl
-filler_here most p Id h = tt
 filler_here most p X h = subst (λ z. IsCoordinate z) (sym (stays p.x)) h.0
 filler_here most p Y h = subst (λ z. IsCoordinate z) (sym (stays p.y)) h.1
-filler_here most p (End d c) h = tt
+filler_here most p _ h = tt
 
 fillers_kept : (most : ℕ) (rs : List Role) (e : Sums) → IsInRange e.position → Kept most e (map filler rs)
 fillers_kept most [] e h = tt
@@ -453,15 +417,9 @@ place_after most (i ∷ is) e h k = place_after most is (added e i) (go i.role k
   where
     go : (r : Role) → Here most e.position r i.number → IsInRange (moved e.position r i.number)
     go Header k = (omega arith, omega arith)
-    go (Metadata m) k = h
-    go Extended k = h
-    go Size k = h
-    go Box k = h
-    go (Count c) k = h
-    go Id k = h
     go X k = (k, h.1)
     go Y k = (h.0, k)
-    go (End d c) k = h
+    go _ k = h
 
 filler_nodes : (rs : List Role) → (total nodes_by (map filler rs) ≡ 0) × (total points_by (map filler rs) ≡ 0)
 filler_nodes [] = (refl, refl)
@@ -476,22 +434,12 @@ filler_nodes (r ∷ rs) = let t = filler_nodes rs in (omega (arith, t.0, (one r)
 
     count : (c : Counted) → (nodes_by (Count c) 0 ≡ 0) × (points_by (Count c) 0 ≡ 0)
     count Counted.Vertices = (refl, refl)
-    count Counted.Rings = (refl, refl)
-    count Counted.Points = (refl, refl)
-    count Counted.Components = (refl, refl)
-    count (Geometries l) = (refl, refl)
+    count _ = (refl, refl)
 
     one : (r : Role) → (nodes_by r (filler_number r) ≡ 0) × (points_by r (filler_number r) ≡ 0)
-    one Header = (refl, refl)
     one (Metadata k) = (refl, bare k)
-    one Extended = (refl, refl)
-    one Size = (refl, refl)
-    one Box = (refl, refl)
     one (Count c) = count c
-    one Id = (refl, refl)
-    one X = (refl, refl)
-    one Y = (refl, refl)
-    one (End d c) = (refl, refl)
+    one _ = (refl, refl)
 
 -- items run through within the limits, with exact sizes, can go on to a valid geometry
 pub alive : (limits : Allowance) (before : List Item) (st : Stack) → Runs nothing started before st

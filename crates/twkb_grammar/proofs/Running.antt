@@ -9,15 +9,14 @@ use Rattle.std.proofs.lemmas.Grind.{common_steps}
 use Rattle.twkb_points.specs.Point.{Point}
 use Rattle.twkb_tree.specs.Limits.{Allowance, IsAllowance, IsValid}
 use Rattle.twkb_tree.specs.Tree.{Tree, collection}
-use Rattle.twkb_grammar.specs.Roles.{Role, Header, Metadata, Extended, Size, Box, Count, Id, X, Y, End, Item, IsItem}
+use Rattle.twkb_grammar.specs.Roles.{Role, Header, Metadata, Extended, Count, X, Y, End, Item, IsItem}
 use Rattle.twkb_grammar.specs.Roles.{join, IsNumber, Spells}
 use Rattle.twkb_grammar.specs.Fault.{Reason, TooDeep, TooManyNodes, TooManyPoints, announces_point, nodes_by, points_by}
 use Rattle.twkb_grammar.specs.Fault.{nodes_of, points_of, Part, FirstFault, Refused, announced_nodes, announced_points}
 use Rattle.twkb_grammar.specs.Fault.{position, Truncated, BadVarint, SizeMismatch, IsCut, IsTooLong}
 use Rattle.twkb_grammar.specs.PlainReader.{objection, unless, too_deep, is_exact}
-use Rattle.twkb_grammar.specs.Machine.{Sums, Finished, nothing, added, sums_after, Stack, started, role_at, stack_after}
-use Rattle.twkb_grammar.specs.Machine.{Runs, Head, Frame, Phase, AtHeader, AtMetadata, AtOption, AtCount, AtId, AtBody}
-use Rattle.twkb_grammar.specs.Machine.{AtEnd, snoc, ended}
+use Rattle.twkb_grammar.specs.Machine.{Sums, Finished, nothing, added, sums_after, Stack, started, role_at}
+use Rattle.twkb_grammar.specs.Machine.{stack_after, Runs, Head, Frame, Phase, AtHeader, AtEnd, snoc, ended}
 use Rattle.twkb_grammar.specs.Blob.{IsExact, Blob}
 use Rattle.twkb_grammar.specs.Reading.{Here, Kept, Ran, Reached, Gives, past_end, ends, Landed, Leads}
 use Rattle.twkb_grammar.proofs.Trees.{tree_runs, tree_total, total, total_is, total-append, kept_split}
@@ -62,10 +61,8 @@ sum_fits limit a b h = grind (arith, nat_tests)
 count_passes : (deep nodes points : Bool) → unless deep TooDeep
     (unless nodes TooManyNodes (unless points TooManyPoints None)) ≡ None → (nodes ≡ false)
     × (points ≡ false)
-count_passes true nodes points h = cc
-count_passes false true points h = cc
-count_passes false false true h = cc
 count_passes false false false h = (refl, refl)
+count_passes _ _ _ h = cc
 
 one_fits : (b : Bool) (limit p : ℕ) → p ≤ limit → (b && nat_le limit p) ≡ false → p + (if b then 1 else 0) ≤ limit
 one_fits true limit p low h = grind (arith, nat_tests)
@@ -84,14 +81,7 @@ kept limits e (Metadata k) n a b h = (
   one_fits (announces_point k n) limits.points
       e.points b (unless_none _ _ _ h).0,
 )
-kept limits e Header n a b h = (omega (arith, a), omega (arith, b))
-kept limits e Extended n a b h = (omega (arith, a), omega (arith, b))
-kept limits e Size n a b h = (omega (arith, a), omega (arith, b))
-kept limits e Box n a b h = (omega (arith, a), omega (arith, b))
-kept limits e Id n a b h = (omega (arith, a), omega (arith, b))
-kept limits e X n a b h = (omega (arith, a), omega (arith, b))
-kept limits e Y n a b h = (omega (arith, a), omega (arith, b))
-kept limits e (End d came) n a b h = (omega (arith, a), omega (arith, b))
+kept limits e _ n a b h = (omega (arith, a), omega (arith, b))
 
 -- ==== Items that the machine ran through within the limits: a part, a blob once the geometry is complete, and a
 -- first fault if it refuses.
@@ -170,48 +160,27 @@ ran_fault limits before rest st role reason r says refused =
 
 here_of : (limits : Allowance) (before : List Item) (p : Point) (r : Role) (n : ℕ)
     → p ≡ position before → Allowed limits before r n → Here limits.nest p r n
-here_of limits before p Header n e a = tt
-here_of limits before p (Metadata k) n e a = tt
-here_of limits before p Extended n e a = tt
-here_of limits before p Size n e a = tt
-here_of limits before p Box n e a = tt
 here_of limits before p (Count c) n e a = a.0
-here_of limits before p Id n e a = tt
 here_of limits before p X n e a = rw e a
 here_of limits before p Y n e a = rw e a
-here_of limits before p (End d came) n e a = tt
+here_of limits before p _ n e a = tt
 
 more_nodes : (limits : Allowance) (before : List Item) (r : Role) (n : ℕ)
     → Allowed limits before r n → announced_nodes before ≤ limits.nodes
     → announced_nodes before + nodes_by r n ≤ limits.nodes
-more_nodes limits before Header n a h = omega (arith, h)
-more_nodes limits before (Metadata k) n a h = omega (arith, h)
-more_nodes limits before Extended n a h = omega (arith, h)
-more_nodes limits before Size n a h = omega (arith, h)
-more_nodes limits before Box n a h = omega (arith, h)
 more_nodes limits before (Count c) n a h = a.1
-more_nodes limits before Id n a h = omega (arith, h)
-more_nodes limits before X n a h = omega (arith, h)
-more_nodes limits before Y n a h = omega (arith, h)
-more_nodes limits before (End d came) n a h = omega (arith, h)
+more_nodes limits before _ n a h = omega (arith, h)
 
 more_points : (limits : Allowance) (before : List Item) (r : Role) (n : ℕ)
     → Allowed limits before r n → announced_points before ≤ limits.points
     → announced_points before + points_by r n ≤ limits.points
-more_points limits before Header n a h = omega (arith, h)
 more_points limits before (Metadata k) n a h = go (announces_point k n) refl
   where
     go : (b : Bool) → announces_point k n ≡ b → announced_points before + (if b then 1 else 0) ≤ limits.points
     go true e = omega (arith, a e)
     go false e = omega (arith, h)
-more_points limits before Extended n a h = omega (arith, h)
-more_points limits before Size n a h = omega (arith, h)
-more_points limits before Box n a h = omega (arith, h)
 more_points limits before (Count c) n a h = a.2
-more_points limits before Id n a h = omega (arith, h)
-more_points limits before X n a h = omega (arith, h)
-more_points limits before Y n a h = omega (arith, h)
-more_points limits before (End d came) n a h = omega (arith, h)
+more_points limits before _ n a h = omega (arith, h)
 
 -- the items and one more that is allowed there
 pub ran_item : (limits : Allowance) (before : List Item) (st : Stack) (i : Item)
@@ -328,13 +297,8 @@ cut_refused : (limits : Allowance) (before : List Item) (rest : List ℕ) (r : R
 cut_refused limits before rest Header n c = absurd n
 cut_refused limits before rest (Metadata k) n c = absurd n
 cut_refused limits before rest Extended n c = absurd n
-cut_refused limits before rest Size n c = inl (c, refl)
-cut_refused limits before rest Box n c = inl (c, refl)
-cut_refused limits before rest (Count k) n c = inl (c, refl)
-cut_refused limits before rest Id n c = inl (c, refl)
-cut_refused limits before rest X n c = inl (c, refl)
-cut_refused limits before rest Y n c = inl (c, refl)
 cut_refused limits before rest (End d came) n c = absurd n
+cut_refused limits before rest _ n c = inl (c, refl)
 
 -- bytes that end inside a number are truncated there, as the first fault
 pub reached_cut : (limits : Allowance) (bytes : List ℕ) (e : Sums) (st : Stack) (rest : List ℕ)
@@ -349,13 +313,8 @@ long_refused : (limits : Allowance) (before : List Item) (rest : List ℕ) (r : 
 long_refused limits before rest Header n h = absurd n
 long_refused limits before rest (Metadata k) n h = absurd n
 long_refused limits before rest Extended n h = absurd n
-long_refused limits before rest Size n h = inr (long_not_cut rest h, inl (h, refl))
-long_refused limits before rest Box n h = inr (long_not_cut rest h, inl (h, refl))
-long_refused limits before rest (Count k) n h = inr (long_not_cut rest h, inl (h, refl))
-long_refused limits before rest Id n h = inr (long_not_cut rest h, inl (h, refl))
-long_refused limits before rest X n h = inr (long_not_cut rest h, inl (h, refl))
-long_refused limits before rest Y n h = inr (long_not_cut rest h, inl (h, refl))
 long_refused limits before rest (End d came) n h = absurd n
+long_refused limits before rest _ n h = inr (long_not_cut rest h, inl (h, refl))
 
 -- a number that is too long is the first fault
 pub reached_long : (limits : Allowance) (bytes : List ℕ) (e : Sums) (st : Stack) (rest : List ℕ)
@@ -370,13 +329,8 @@ end_refused : (limits : Allowance) (before : List Item) (r : Role) → before �
 end_refused limits before Header some n = inl ((some, refl), refl)
 end_refused limits before (Metadata k) some n = inl (refl, refl)
 end_refused limits before Extended some n = inl (refl, refl)
-end_refused limits before Size some n = inl ((omega arith, tt), refl)
-end_refused limits before Box some n = inl ((omega arith, tt), refl)
-end_refused limits before (Count k) some n = inl ((omega arith, tt), refl)
-end_refused limits before Id some n = inl ((omega arith, tt), refl)
-end_refused limits before X some n = inl ((omega arith, tt), refl)
-end_refused limits before Y some n = inl ((omega arith, tt), refl)
 end_refused limits before (End d came) some n = absurd (n d came refl)
+end_refused limits before _ some n = inl ((omega arith, tt), refl)
 
 -- bytes that end there are truncated, as the first fault
 pub reached_end : (limits : Allowance) (bytes : List ℕ) (e : Sums) (st : Stack) (role : Role)
@@ -397,11 +351,8 @@ objects limits before e (Metadata k) n bytes more agree g = metadata_says limits
     (bytes ++ more) e agree k n more (ap (λ l. l ++ more) g.1)
 objects limits before e Extended n bytes more agree g = extended_says limits before (bytes ++ more)
     e agree n more (ap (λ l. l ++ more) g.1)
-objects limits before e Size n bytes more agree g = (tt, tt, tt)
-objects limits before e Box n bytes more agree g = (tt, tt, tt)
 objects limits before e (Count c) n bytes more agree g = count_says limits before (bytes ++ more) e
     agree c n (record { front = bytes; more = more; whole = refl; spelled = g })
-objects limits before e Id n bytes more agree g = (tt, tt, tt)
 objects limits before e X n bytes more agree g = x_says limits before (bytes ++ more) e agree n
     (record { front = bytes; more = more; whole = refl; spelled = g })
 objects limits before e Y n bytes more agree g = y_says limits before (bytes ++ more) e agree n
@@ -410,18 +361,12 @@ objects limits before e (End d came) n bytes more agree g =
     subst (λ m. Objects limits before (bytes ++ more) (End d came) m
     (objection limits e (End d came) m)) (sym g.0)
     (end_says limits before (bytes ++ more) e agree d came)
+objects limits before e _ n bytes more agree g = (tt, tt, tt)
 
 is_item : (r : Role) (n : ℕ) (bytes : List ℕ) → Gives r n bytes → Sound r n → Spells r n bytes
 is_item Header n bytes g s = (g.0, s.0, s.1, g.1)
-is_item (Metadata k) n bytes g s = g
 is_item Extended n bytes g s = (g.0, s, g.1)
-is_item Size n bytes g s = g
-is_item Box n bytes g s = g
-is_item (Count c) n bytes g s = g
-is_item Id n bytes g s = g
-is_item X n bytes g s = g
-is_item Y n bytes g s = g
-is_item (End d came) n bytes g s = g
+is_item _ n bytes g s = g
 
 -- the end after an item is an item like others
 abbrev end_of : Sums → Head → Item
@@ -485,13 +430,7 @@ past limits bytes e h g (f ∷ fs) true x r =
 pub landed : (limits : Allowance) (bytes : List ℕ) (e : Sums) (fs : List Frame) (p : Phase)
     → Reached limits bytes e (fs, p) → Landed limits bytes e (ends e.bytes fs p)
 landed limits bytes e fs (AtEnd h g) r = past limits bytes e h g fs (is_exact h.size (e.bytes - h.from)) refl r
-landed limits bytes e fs AtHeader r = r
-landed limits bytes e fs (AtMetadata k p) r = r
-landed limits bytes e fs (AtOption k h o rs) r = r
-landed limits bytes e fs (AtCount m h) r = r
-landed limits bytes e fs (AtId m h n ids left) r = r
-landed limits bytes e fs (AtBody h f ids b) r = r
-landed limits bytes e fs (Finished g) r = r
+landed limits bytes e fs _ r = r
 
 -- a number at a place leads to the next state, or is the first fault
 pub leads : (limits : Allowance) (bytes : List ℕ) (e : Sums) (st : Stack) (i : Item)

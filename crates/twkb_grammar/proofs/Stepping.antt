@@ -17,7 +17,7 @@ use Rattle.twkb_grammar.specs.Fault.{FirstByte, FirstNumber, IsCut, IsDeep, Numb
 use Rattle.twkb_grammar.specs.Fault.{announced_points, announced_nodes, nodes_of, points_of, position}
 use Rattle.twkb_grammar.specs.PlainReader.{Cut, with_byte, varint_at, in_range, too_deep, unless, objection, cut}
 use Rattle.twkb_grammar.specs.PlainReader.{Answer, RefusedAt, after_objection, after_cut}
-use Rattle.twkb_grammar.specs.Roles.{Counted, Vertices, Rings, Points, Components, Geometries, Item, Role, Header}
+use Rattle.twkb_grammar.specs.Roles.{Counted, Geometries, Item, Role, Header}
 use Rattle.twkb_grammar.specs.Roles.{Metadata, Extended, Count, X, Y, End, Size, Box, Id, Spells}
 use Rattle.twkb_grammar.specs.Blob.{IsExact}
 use Rattle.twkb_grammar.specs.Machine.{Sums}
@@ -249,24 +249,18 @@ module _ (limits : Allowance) (before : List Item) (rest : List ℕ) where
   number_then n r reason P f isnt others = inr (number_not f.front f.more n rest P f.spelled f.whole isnt, others)
 
   deep_true : (c : Counted) (n : ℕ) → too_deep limits c n ≡ true → IsDeep c limits.nest × (0 < n)
-  deep_true Vertices n e = cc
-  deep_true Rings n e = cc
-  deep_true Points n e = cc
-  deep_true Components n e = cc
   deep_true (Geometries level) n e = let h = both (nat_le limits.nest level) (nat_lt 0 n) e in
       (le_true limits.nest level h.0, ltb-true 0 n h.1)
+  deep_true _ n e = cc
 
   deep_false : (c : Counted) (n : ℕ) → too_deep limits c n ≡ false → IsDeep c limits.nest → n ≡ 0
-  deep_false Vertices n e d = absurd d
-  deep_false Rings n e d = absurd d
-  deep_false Points n e d = absurd d
-  deep_false Components n e d = absurd d
   deep_false (Geometries level) n e d = go (nat_le limits.nest level) refl
     where
       go : (b : Bool) → nat_le limits.nest level ≡ b → n ≡ 0
       go true h = let z : nat_lt 0 n ≡ false = sym (ap (λ b. b && nat_lt 0 n) h) ∙ e in
           let k : n ≤ 0 = ltb-false 0 n z in omega (arith, k)
       go false h = absurd (omega (arith, le_false limits.nest level h, d))
+  deep_false _ n e d = absurd d
 
   module _ (s : Sums) (agree : Agree s before) where
     -- the objection to a count is its first reason

@@ -47,16 +47,14 @@ total-append f (i ∷ is) js = omega (arith, total-append f is js)
 abbrev pub by_slots : (Counted → ℕ → ℕ) → List Slot → ℕ
 by_slots c [] = 0
 by_slots c (OfCount k n ∷ ps) = c k n + by_slots c ps
-by_slots c (OfId id ∷ ps) = by_slots c ps
-by_slots c (OfPoint q ∷ ps) = by_slots c ps
+by_slots c (_ ∷ ps) = by_slots c ps
 
 -- the total of joined slots
 pub by_slots-append : (c : Counted → ℕ → ℕ) (ps qs : List Slot)
     → by_slots c (ps ++ qs) ≡ by_slots c ps + by_slots c qs
 by_slots-append c [] qs = omega arith
 by_slots-append c (OfCount k n ∷ ps) qs = omega (arith, by_slots-append c ps qs)
-by_slots-append c (OfId id ∷ ps) qs = by_slots-append c ps qs
-by_slots-append c (OfPoint q ∷ ps) qs = by_slots-append c ps qs
+by_slots-append c (_ ∷ ps) qs = by_slots-append c ps qs
 
 pub by_points : (c : Counted → ℕ → ℕ) (ps : List Point) → by_slots c (map OfPoint ps) ≡ 0
 by_points c [] = refl
@@ -91,8 +89,6 @@ module _ (f : Role → ℕ → ℕ) (c : Counted → ℕ → ℕ) (counts : (k :
   pub body_total : (p : Point) (ps : List Slot) (is : List Item) → AreFields (steps p ps) is
       → total f is ≡ by_slots c ps
   body_total p [] [] are = refl
-  body_total p [] (i ∷ is) are = absurd are
-  body_total p (OfCount k n ∷ ps) [] are = absurd are
   body_total p (OfCount k n ∷ ps) (i ∷ is) are = omega (
     arith,
     ap (λ r. f r i.number) are.0,
@@ -100,10 +96,8 @@ module _ (f : Role → ℕ → ℕ) (c : Counted → ℕ → ℕ) (counts : (k :
     counts k n,
     body_total p ps is are.3,
   )
-  body_total p (OfId id ∷ ps) [] are = absurd are
   body_total p (OfId id ∷ ps) (i ∷ is) are = omega
       (arith, ap (λ r. f r i.number) are.0, ids i.number, body_total p ps is are.3)
-  body_total p (OfPoint q ∷ ps) [] are = absurd are
   body_total p (OfPoint q ∷ ps) (i ∷ []) are = absurd are.3
   body_total p (OfPoint q ∷ ps) (i ∷ j ∷ is) are = omega (
     arith,
@@ -113,19 +107,17 @@ module _ (f : Role → ℕ → ℕ) (c : Counted → ℕ → ℕ) (counts : (k :
     ys j.number,
     body_total q ps is are.3.3,
   )
+  body_total p _ _ are = absurd are
 
   option_total : (b : Bool) (r : Role) (is : List Item) → ((n : ℕ) → f r n ≡ 0)
       → HaveRoles (where_set b (r ∷ [])) is → total f is ≡ 0
   option_total false r [] z have = refl
-  option_total false r (i ∷ is) z have = absurd have
-  option_total true r [] z have = absurd have
   option_total true r (i ∷ []) z have = omega (arith, ap (λ r. f r i.number) have.0, z i.number)
   option_total true r (i ∷ j ∷ is) z have = absurd have.2
+  option_total _ r _ z have = absurd have
 
   box_total : (b : Bool) (is : List Item) → HaveRoles (where_set b (Box ∷ Box ∷ Box ∷ Box ∷ [])) is → total f is ≡ 0
   box_total false [] have = refl
-  box_total false (i ∷ is) have = absurd have
-  box_total true [] have = absurd have
   box_total true (i ∷ []) have = absurd have.2
   box_total true (i ∷ j ∷ []) have = absurd have.2.2
   box_total true (i ∷ j ∷ k ∷ []) have = absurd have.2.2.2
@@ -142,6 +134,7 @@ module _ (f : Role → ℕ → ℕ) (c : Counted → ℕ → ℕ) (counts : (k :
         ap (λ r. f r l.number) have.2.2.2.0,
         box l.number,
       )
+  box_total _ _ have = absurd have
 
   -- the total of a frame is that of its metadata byte and its body
   pub framed_total : (kind : ℕ) (p : ℤ) (own : Flags) (Body : List Item → Type 0) (is : List Item)
@@ -167,11 +160,7 @@ module _ (f : Role → ℕ → ℕ) (c : Counted → ℕ → ℕ) (counts : (k :
 -- the number of a shape's type is that of its form
 pub kind_is : (s : Simple) → kind_of s ≡ kind_number (SimpleKind (form_of s))
 kind_is (point o) = refl
-kind_is (line ps) = refl
-kind_is (polygon rings) = refl
-kind_is (multi_point ids ps) = refl
-kind_is (multi_line ids lines) = refl
-kind_is (multi_polygon ids areas) = refl
+kind_is _ = refl
 
 -- a body that is left out is that of a geometry without members or points
 none_left : (ids : Ids) → HasIds ids 0 → None ≡ ids
@@ -181,11 +170,8 @@ none_left (Some ids) h = absurd (let z : 0 < 0 = h.0 in omega (arith, z))
 -- a shape whose body bit 4 leaves out
 pub left_out : (s : Simple) (p : ℤ) (meta : ℕ) → IdsFit s → Agrees (flags s) meta
     → bit meta 4 ≡ true → empty_of (SimpleKind (form_of s)) p ≡ simple p s
-left_out (point None) p meta fit agrees bare = refl
 left_out (point (Some q)) p meta fit agrees bare = absurd (false≢true (sym agrees ∙ bare))
-left_out (line []) p meta fit agrees bare = refl
 left_out (line (q ∷ qs)) p meta fit agrees bare = absurd (false≢true (sym agrees ∙ bare))
-left_out (polygon []) p meta fit agrees bare = refl
 left_out (polygon (q ∷ qs)) p meta fit agrees bare = absurd (false≢true (sym agrees ∙ bare))
 left_out (multi_point ids []) p meta fit agrees bare = ap (λ i. simple p (multi_point i [])) (none_left ids fit)
 left_out (multi_point None (q ∷ qs)) p meta fit agrees bare = absurd (false≢true (sym agrees.0 ∙ bare))
@@ -196,6 +182,7 @@ left_out (multi_line (Some ids) (q ∷ qs)) p meta fit agrees bare = absurd (fal
 left_out (multi_polygon ids []) p meta fit agrees bare = ap (λ i. simple p (multi_polygon i [])) (none_left ids fit)
 left_out (multi_polygon None (q ∷ qs)) p meta fit agrees bare = absurd (false≢true (sym agrees.0 ∙ bare))
 left_out (multi_polygon (Some ids) (q ∷ qs)) p meta fit agrees bare = absurd (false≢true (sym agrees.0 ∙ bare))
+left_out _ p meta fit agrees bare = refl
 
 simple_body : (s : Simple) (p : ℤ) (fs : List Frame) (meta : ℕ) (body : List Item) → IdsFit s → Agrees (flags s) meta
     → (b : Bool) → bit meta 4 ≡ b → BodyAt b (AreFields (fields s)) body
@@ -425,21 +412,11 @@ shape_points (multi_polygon ids areas) meta full agrees =
 
 empty_nodes : (k : Kind) (p : ℤ) → nodes (empty_of k p) ≡ 1
 empty_nodes (SimpleKind Rattle.twkb_grammar.specs.Machine.PointForm) p = refl
-empty_nodes (SimpleKind Rattle.twkb_grammar.specs.Machine.LineForm) p = refl
-empty_nodes (SimpleKind Rattle.twkb_grammar.specs.Machine.PolygonForm) p = refl
-empty_nodes (SimpleKind Rattle.twkb_grammar.specs.Machine.MultiPointForm) p = refl
-empty_nodes (SimpleKind Rattle.twkb_grammar.specs.Machine.MultiLineForm) p = refl
-empty_nodes (SimpleKind Rattle.twkb_grammar.specs.Machine.MultiPolygonForm) p = refl
-empty_nodes CollectionKind p = refl
+empty_nodes _ p = refl
 
 empty_points : (k : Kind) (p : ℤ) → length (flat (empty_of k p)) ≡ 0
 empty_points (SimpleKind Rattle.twkb_grammar.specs.Machine.PointForm) p = refl
-empty_points (SimpleKind Rattle.twkb_grammar.specs.Machine.LineForm) p = refl
-empty_points (SimpleKind Rattle.twkb_grammar.specs.Machine.PolygonForm) p = refl
-empty_points (SimpleKind Rattle.twkb_grammar.specs.Machine.MultiPointForm) p = refl
-empty_points (SimpleKind Rattle.twkb_grammar.specs.Machine.MultiLineForm) p = refl
-empty_points (SimpleKind Rattle.twkb_grammar.specs.Machine.MultiPolygonForm) p = refl
-empty_points CollectionKind p = refl
+empty_points _ p = refl
 
 no_point : (kind meta : ℕ) → bit meta 4 ≡ true → points_by (Metadata kind) meta ≡ 0
 no_point kind meta bare = go (Rattle.std.specs.Prelude.nat_eq kind 1) refl
@@ -697,12 +674,7 @@ framed_was most kind p own Body is e f k = (d.1, there)
 
 no_slots : (k : Kind) (p : ℤ) → AllByRecursion IsInRange (flat (Rattle.twkb_grammar.specs.Machine.empty_of k p))
 no_slots (SimpleKind Rattle.twkb_grammar.specs.Machine.PointForm) p = tt
-no_slots (SimpleKind Rattle.twkb_grammar.specs.Machine.LineForm) p = tt
-no_slots (SimpleKind Rattle.twkb_grammar.specs.Machine.PolygonForm) p = tt
-no_slots (SimpleKind Rattle.twkb_grammar.specs.Machine.MultiPointForm) p = tt
-no_slots (SimpleKind Rattle.twkb_grammar.specs.Machine.MultiLineForm) p = tt
-no_slots (SimpleKind Rattle.twkb_grammar.specs.Machine.MultiPolygonForm) p = tt
-no_slots CollectionKind p = tt
+no_slots _ p = tt
 
 simple_was : (most : ℕ) (s : Simple) (p : ℤ) (meta : ℕ) (body : List Item) (e : Sums) → IdsFit s
     → Agrees (flags s) meta → (b : Bool) → bit meta 4 ≡ b → BodyAt b (AreFields (fields s)) body

@@ -16,7 +16,7 @@ use Rattle.twkb_grammar.specs.Items.{flags_all, ItemsOfAll, id_fields, BodyAt, F
 use Rattle.twkb_grammar.specs.Fault.{moved}
 use Rattle.twkb_grammar.specs.Machine.{Kind, kind_number, kind_at, Head, Frame, AtHeader, AtMetadata, AtEnd, wanting}
 use Rattle.twkb_grammar.specs.Machine.{asked, ended, Sums, added, Runs, SimpleKind, CollectionKind, BodyForm, PointForm}
-use Rattle.twkb_grammar.specs.Machine.{LineForm, PolygonForm, MultiPointForm, MultiLineForm, MultiPolygonForm, Finished}
+use Rattle.twkb_grammar.specs.Machine.{Finished}
 use Rattle.twkb_grammar.specs.Machine.{ManyGeometries, empty_of, snoc, members_begin, nothing, started, Stack}
 use Rattle.twkb_grammar.proofs.Bodies.{precision_fits, sums_after, bytes_after, still_after, still_where, sub_add, head}
 use Rattle.twkb_grammar.proofs.Bodies.{steps, fields_are, SaysIds}
@@ -333,19 +333,11 @@ module _ (tree : Tree) where
       → HaveRoles (where_set (bit meta 0) (Box ∷ Box ∷ Box ∷ Box ∷ [])) o
       → Items level (empty_of (SimpleKind f) p) (framed (kind_number (SimpleKind f)) p meta x s o [])
   empty_items PointForm level p meta x s o bare b hx hs ho = bare_items meta x s o b hx hs ho bare bare
-  empty_items LineForm level p meta x s o bare b hx hs ho = bare_items meta x s o b hx hs ho bare tt
-  empty_items PolygonForm level p meta x s o bare b hx hs ho = bare_items meta x s o b hx hs ho bare tt
-  empty_items MultiPointForm level p meta x s o bare b hx hs ho = bare_items meta x s o b hx hs ho bare tt
-  empty_items MultiLineForm level p meta x s o bare b hx hs ho = bare_items meta x s o b hx hs ho bare tt
-  empty_items MultiPolygonForm level p meta x s o bare b hx hs ho = bare_items meta x s o b hx hs ho bare tt
+  empty_items _ level p meta x s o bare b hx hs ho = bare_items meta x s o b hx hs ho bare tt
 
   empty_fits : (f : BodyForm) (p : ℤ) → IsPrecision p → IsTree (empty_of (SimpleKind f) p)
   empty_fits PointForm p h = (h, tt)
-  empty_fits LineForm p h = (h, tt)
-  empty_fits PolygonForm p h = (h, tt)
-  empty_fits MultiPointForm p h = (h, tt)
-  empty_fits MultiLineForm p h = (h, tt)
-  empty_fits MultiPolygonForm p h = (h, tt)
+  empty_fits _ p h = (h, tt)
 
   flat_back : (f : BodyForm) (p : ℤ) (meta : ℕ) (size : Option ℕ) (from : ℕ) (fs : List Frame)
       (e : Sums) (is : List Item) → e.position ≡ origin

@@ -17,7 +17,7 @@ use Rattle.twkb_tree.specs.Tree.{AreTrees}
 use Rattle.twkb_tree.specs.Uniform.{uniform}
 use Rattle.twkb_tree.specs.declared.limits.TheConstants.{POINTS_CAP, NODES_CAP}
 use Rattle.twkb_tree.specs.Limits.{Allowance, IsAllowance, IsValid}
-use Rattle.twkb_grammar.specs.Roles.{IsNumber, Role, Header, Metadata, Extended, Size, Box, Count, Id, X, Y, End, Item}
+use Rattle.twkb_grammar.specs.Roles.{IsNumber, Role, Header, Metadata, Extended, Size, Box, Count, Id, End, Item}
 use Rattle.twkb_grammar.specs.Roles.{Spells, join, Field, AreFields, HaveRoles, where_set, item, Geometries}
 use Rattle.twkb_grammar.specs.Blob.{IsExact, AreExact, Blob}
 use Rattle.twkb_grammar.specs.Written.{varints, box_of, boxed, has_any, is_point, is_empty, flag_bits, flags_of_tree}
@@ -55,25 +55,15 @@ pub spells : (r : Role) (n : ℕ) → IsNumber r → n < 2 ^ 64 → Spells r n (
 spells Header n is h = absurd is
 spells (Metadata kind) n is h = absurd is
 spells Extended n is h = absurd is
-spells Size n is h = IsVarint-varint_of n h
-spells Box n is h = IsVarint-varint_of n h
-spells (Count c) n is h = IsVarint-varint_of n h
-spells Id n is h = IsVarint-varint_of n h
-spells X n is h = IsVarint-varint_of n h
-spells Y n is h = IsVarint-varint_of n h
 spells (End declared came) n is h = absurd is
+spells _ n is h = IsVarint-varint_of n h
 
 exact : (r : Role) → IsNumber r → IsExact r
 exact Header is = absurd is
 exact (Metadata kind) is = absurd is
 exact Extended is = absurd is
-exact Size is = tt
-exact Box is = tt
-exact (Count c) is = tt
-exact Id is = tt
-exact X is = tt
-exact Y is = tt
 exact (End declared came) is = absurd is
+exact _ is = tt
 
 -- the items of fields have these fields
 pub fields-number_items : (fs : List Field) → AllFit fs → AreFields fs (number_items fs)
@@ -211,10 +201,8 @@ box_items g h = go (is_point g) (has_any (flat g)) (uniform g) refl
     go : (p a u : Bool) → has_any (flat g) ≡ a
         → BoxItems (not p && (a && u)) (if (not p && (a && u)) then flat_map
         (λ n. varint_of (zigzag_of n)) (tight (flat g)) else [])
-    go true a u same = no_box
-    go false false u same = no_box
-    go false true false same = no_box
     go false true true same = points_box (flat g) h true same
+    go _ _ u same = no_box
 
 -- ==== A written blob as items, around the items of its body.
 
@@ -244,11 +232,10 @@ full_says (HasMembers false) true = says _ (omega arith) refl refl refl refl (re
 full_says (HasMembers false) false = says _ (omega arith) refl refl refl refl (refl, refl)
 
 plain_says : (own : Flags) → Says (flag_bits own) own false false
-plain_says MustBeEmpty = says _ (omega arith) refl refl refl refl refl
 plain_says MayBeEmpty = says _ (omega arith) refl refl refl refl tt
-plain_says HasBody = says _ (omega arith) refl refl refl refl refl
 plain_says (HasMembers true) = says _ (omega arith) refl refl refl refl (refl, refl)
 plain_says (HasMembers false) = says _ (omega arith) refl refl refl refl (refl, refl)
+plain_says _ = says _ (omega arith) refl refl refl refl refl
 
 -- items that spell these bytes, with exact sizes
 pub record Spelling (Are : List Item → Type 0) (bytes : List ℕ) : Type 0 where
@@ -476,12 +463,11 @@ fit-slots (multi_polygon ids areas) fit h nodes few = (
 -- the numbers of fields at slots in range can be spelled
 pub fit-steps : (ps : List Slot) (p : Point) → IsInRange p → SlotsFit ps → AllFit (steps p ps)
 fit-steps [] p h fit = tt
-fit-steps (OfCount c n ∷ ps) p h fit = ((tt, fit.0), fit-steps ps p h fit.1)
-fit-steps (OfId id ∷ ps) p h fit = ((tt, fit.0), fit-steps ps p h fit.1)
 fit-steps (OfPoint q ∷ ps) p h fit = (
   (tt, difference_fits p.x q.x h.0 fit.0.0),
   ((tt, difference_fits p.y q.y h.1 fit.0.1), fit-steps ps q fit.0 fit.1),
 )
+fit-steps (_ ∷ ps) p h fit = ((tt, fit.0), fit-steps ps p h fit.1)
 
 -- the origin is in range
 pub origin_in_range : IsInRange origin
@@ -496,21 +482,18 @@ fit-fields s fit h nodes few = subst AllFit (sym (fields_are s))
 -- how many numbers are at these slots
 abbrev weight : List Slot → ℕ
 weight [] = 0
-weight (OfCount c n ∷ ps) = 1 + weight ps
-weight (OfId id ∷ ps) = 1 + weight ps
 weight (OfPoint p ∷ ps) = 2 + weight ps
+weight (_ ∷ ps) = 1 + weight ps
 
 weight-append : (ps qs : List Slot) → weight (ps ++ qs) ≡ weight ps + weight qs
 weight-append [] qs = omega arith
 weight-append (OfCount c n ∷ ps) qs = omega (arith, weight-append ps qs)
-weight-append (OfId id ∷ ps) qs = omega (arith, weight-append ps qs)
-weight-append (OfPoint p ∷ ps) qs = omega (arith, weight-append ps qs)
+weight-append (_ ∷ ps) qs = omega (arith, weight-append ps qs)
 
 length-steps : (ps : List Slot) (p : Point) → length (steps p ps) ≡ weight ps
 length-steps [] p = refl
-length-steps (OfCount c n ∷ ps) p = omega (arith, length-steps ps p)
-length-steps (OfId id ∷ ps) p = omega (arith, length-steps ps p)
 length-steps (OfPoint q ∷ ps) p = omega (arith, length-steps ps q)
+length-steps (_ ∷ ps) p = omega (arith, length-steps ps p)
 
 weight-points : (ps : List Point) → weight (map OfPoint ps) ≡ 2 * length ps
 weight-points [] = omega arith
@@ -641,11 +624,7 @@ record AllWrittenAs (style : Style) (level : ℕ) (gs : Trees) : Type 0 where
 
 one_node : (s : Simple) → 0 < nodes_in s
 one_node (point o) = omega arith
-one_node (line ps) = omega arith
-one_node (polygon rings) = omega arith
-one_node (multi_point ids ps) = omega arith
-one_node (multi_line ids lines) = omega arith
-one_node (multi_polygon ids areas) = omega arith
+one_node _ = omega arith
 
 some_nodes : (g : Tree) → 0 < nodes g
 some_nodes (simple p s) = one_node s

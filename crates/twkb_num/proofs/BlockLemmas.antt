@@ -347,7 +347,6 @@ groups_of_eight a b c d e f g h i j k l m n o p =
 -- a word of at most eight units has the number of their groups
 pub groups_found : (us : List ℕ) (more : ℕ) → Each1 (λ u. u < 256) us → length us ≡ suc more → more ≤ 7
     → eight_groups (number_l 256 us) ≡ number_in_front 32 more us
-groups_found [] more fit long few = absurd (omega arith)
 groups_found (a ∷ []) zero fit long few =
     let none : 0 < 256 = omega arith in
     let same : number_l 256 (a ∷ []) ≡ number_l 256 (a ∷ 0 ∷ 0 ∷ 0 ∷ 0 ∷ 0 ∷ 0 ∷ 0 ∷ []) = omega arith in
@@ -387,8 +386,7 @@ groups_found (a ∷ b ∷ c ∷ d ∷ e ∷ f ∷ g ∷ []) (suc (suc (suc (suc 
 groups_found (a ∷ b ∷ c ∷ d ∷ e ∷ f ∷ g ∷ h ∷ []) (suc (suc (suc (suc (suc (suc (suc zero))))))) fit long few =
     groups_of_eight a b c d e f g h fit.0 fit.1.0 fit.1.1.0 fit.1.1.1.0 fit.1.1.1.1.0 fit.1.1.1.1.1.0
     fit.1.1.1.1.1.1.0 fit.1.1.1.1.1.1.1.0 ∙ omega arith
-groups_found (a ∷ b ∷ c ∷ d ∷ e ∷ f ∷ g ∷ h ∷ i ∷ us) more fit long few = absurd (omega arith)
-groups_found us more fit long few = absurd (omega arith)
+groups_found _ more fit long few = absurd (omega arith)
 
 -- ---- a text by its first eight and its last eight characters
 
@@ -452,9 +450,8 @@ module _ (text : List ℕ) (long : 8 ≤ length text) where
 
 -- the lowest bit that is set is the first mark
 lowest_mark : (marks : List Bool) → prefix_len (λ b. not b) marks ≡ run_of marks
-lowest_mark [] = refl
-lowest_mark (true ∷ marks) = refl
 lowest_mark (false ∷ marks) = omega (arith, lowest_mark marks)
+lowest_mark _ = refl
 
 pub run_found : (marks : List Bool) → length marks ≡ 16 → count_trailing_zeros 64 (mask_l marks) < 64
     → run_of marks ≡ count_trailing_zeros 64 (mask_l marks)

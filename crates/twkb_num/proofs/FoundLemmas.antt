@@ -101,9 +101,8 @@ spelled_at base radix at bytes us ends more n alphabet read more_is within n_is 
 
 -- taking from an empty list gives an empty list
 take_none : (j : ℕ) (us : List ℕ) → us ≡ [] → take j us ≡ []
-take_none zero us none = refl
-take_none (suc j) [] none = refl
 take_none (suc j) (u ∷ us) none = absurd (cc)
+take_none _ _ none = refl
 
 -- a list up to a place is its part before an earlier place and the part between
 pub take_apart : (i j k : ℕ) (us : List ℕ) → k ≡ i + j → take k us ≡ take i us ++ take j (drop i us)

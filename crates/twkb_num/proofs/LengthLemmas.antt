@@ -139,11 +139,7 @@ lens_added (w ∷ x ∷ y ∷ z ∷ []) o a b c d four room p q r s =
     whole (w + (x + (y + (z + 0)))) o _ _ _ _ _ (more_bytes a) (more_bytes b) (more_bytes c) (more_bytes d)
     (lanes_more w x y z (more_bytes a) (more_bytes b) (more_bytes c) (more_bytes d)
     (omega (arith, room)) i.1 j.1 k.1 l.1) i.0 j.0 k.0 l.0
-lens_added [] o a b c d four room p q r s = absurd (omega arith)
-lens_added (w ∷ []) o a b c d four room p q r s = absurd (omega arith)
-lens_added (w ∷ x ∷ []) o a b c d four room p q r s = absurd (omega arith)
-lens_added (w ∷ x ∷ y ∷ []) o a b c d four room p q r s = absurd (omega arith)
-lens_added (w ∷ x ∷ y ∷ z ∷ v ∷ ls) o a b c d four room p q r s = absurd (omega arith)
+lens_added _ o a b c d four room p q r s = absurd (omega arith)
 
 -- four lengths of at most four are at most sixteen together
 four_fours : (i j k l : ℕ) → i ≤ 4 → j ≤ 4 → k ≤ 4 → l ≤ 4 → i + j + (k + l) ≤ 16
@@ -161,11 +157,7 @@ grown_few new old more e few = omega arith
 pub lanes_total : (ls : List ℕ) (o : ℕ) → length ls ≡ 4 → sum_l ls + o ≤ lanes_cap
     → fold_l (λ s x. (s + x) % 4294967296) 0 ls ≡ sum_l ls
 lanes_total (w ∷ x ∷ y ∷ z ∷ []) o four room = omega (arith, room)
-lanes_total [] o four room = absurd (omega arith)
-lanes_total (w ∷ []) o four room = absurd (omega arith)
-lanes_total (w ∷ x ∷ []) o four room = absurd (omega arith)
-lanes_total (w ∷ x ∷ y ∷ []) o four room = absurd (omega arith)
-lanes_total (w ∷ x ∷ y ∷ z ∷ v ∷ ls) o four room = absurd (omega arith)
+lanes_total _ o four room = absurd (omega arith)
 
 -- the lanes and the other bytes add up to the whole sum
 pub total_is : (ls : List ℕ) (sum o now : ℕ) → length ls ≡ 4

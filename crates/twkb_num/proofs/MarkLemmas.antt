@@ -207,8 +207,6 @@ two_found marks places used is used_is even =
 
 -- a shift to the right by k drops the first k marks
 pub mask_l-drop : (k : ℕ) (marks : List Bool) → mask_l marks / 2 ^ k ≡ mask_l (drop k marks)
-mask_l-drop zero marks = omega arith
-mask_l-drop (suc k) [] = omega arith
 mask_l-drop (suc k) (mark ∷ marks) =
     let apart : suc k ≡ 1 + k = omega arith in
     let first : mask_l (mark ∷ marks) / 2 ^ 1 ≡ mask_l marks = half mark (mask_l marks) in
@@ -218,6 +216,7 @@ mask_l-drop (suc k) (mark ∷ marks) =
     half : (mark : Bool) (n : ℕ) → (cond mark 1 0 + 2 * n) / 2 ^ 1 ≡ n
     half true n = omega arith
     half false n = omega arith
+mask_l-drop _ _ = omega arith
 
 -- a remainder by 2 ^ k keeps the first k marks
 pub mask_l-take : (k : ℕ) (marks : List Bool) → mask_l marks % 2 ^ k ≡ mask_l (take k marks)

@@ -60,8 +60,6 @@ number_of-lt base (d ∷ ds) below =
 pub number_of-same : (base : ℕ) (ds es : List ℕ) → AllBelowBase base ds → AllBelowBase base es
     → length ds ≡ length es → number_of base ds ≡ number_of base es → ds ≡ es
 number_of-same base [] [] p q l e = refl
-number_of-same base [] (d ∷ es) p q l e = absurd (omega arith)
-number_of-same base (d ∷ ds) [] p q l e = absurd (omega arith)
 number_of-same base (d ∷ ds) (f ∷ es) p q l e =
     let low = ap (λ n. n % base) e in
     let high = ap (λ n. n / base) e in
@@ -74,6 +72,7 @@ number_of-same base (d ∷ ds) (f ∷ es) p q l e =
     at high in
     let rest = number_of-same base ds es p.1 q.1 (omega arith) others in
     cc
+number_of-same base _ _ p q l e = absurd (omega arith)
 
 -- digits below the base stay so with one more such digit
 pub AllBelowBase-push : (base : ℕ) (ds : List ℕ) (d : ℕ) → AllBelowBase base ds → d < base
@@ -225,9 +224,8 @@ EndsAbove (d ∷ e ∷ ds) = EndsAbove (e ∷ ds)
 
 -- the last digit is above 0 if a digit above 0 is put last
 pub EndsAbove-push : (ds : List ℕ) (d : ℕ) → 0 < d → EndsAbove (ds ++ d ∷ [])
-EndsAbove-push [] d h = h
-EndsAbove-push (x ∷ []) d h = h
 EndsAbove-push (x ∷ y ∷ ds) d h = EndsAbove-push (y ∷ ds) d h
+EndsAbove-push _ d h = h
 
 -- digits whose last is above 0 stand for a number above 0
 number_of-above : (base : ℕ) (ds : List ℕ) → 0 < base → EndsAbove ds → 0 < number_of base ds
@@ -266,15 +264,13 @@ units_of-cons unit d (e ∷ ds) h = refl
 -- with one more digit at the end, the other digits say that more follow
 pub units_of-push : (unit : ℕ → Bool → ℕ) (ds : List ℕ) (d : ℕ)
     → units_of unit (ds ++ d ∷ []) ≡ open_units unit ds ++ unit d false ∷ []
-units_of-push unit [] d = refl
-units_of-push unit (x ∷ []) d = refl
 units_of-push unit (x ∷ y ∷ ds) d = ap (λ us. unit x true ∷ us) (units_of-push unit (y ∷ ds) d)
+units_of-push unit _ d = refl
 
 -- there is one unit for each digit
 pub length-units_of : (unit : ℕ → Bool → ℕ) (ds : List ℕ) → length (units_of unit ds) ≡ length ds
-length-units_of unit [] = refl
-length-units_of unit (d ∷ []) = refl
 length-units_of unit (d ∷ e ∷ ds) = ap suc (length-units_of unit (e ∷ ds))
+length-units_of unit _ = refl
 
 -- every number has a digit
 pub digits_some : (base n : ℕ) → 2 ≤ base → 1 ≤ length (digits base n)

@@ -39,11 +39,10 @@ lane_is n small = go (n % 2) refl (omega arith)
 pub unzigzagged_are : (k : ℕ) (forms : List ℕ) → length forms ≡ k → Each1 (Fits w32) forms
     → unzigzagged_lanes k forms ≡ map unzigzagged_bits forms
 unzigzagged_are zero [] long fit = refl
-unzigzagged_are zero (n ∷ forms) long fit = absurd (omega arith)
-unzigzagged_are (suc k) [] long fit = absurd (omega arith)
 unzigzagged_are (suc k) (n ∷ forms) long fit =
     let small = fit.0 in
     rw (lane_is n (omega arith)) (ap (λ ns. unzigzagged_bits n ∷ ns) (unzigzagged_are k forms (omega arith) fit.1))
+unzigzagged_are _ _ long fit = absurd (omega arith)
 
 -- ---- the bits of one number
 

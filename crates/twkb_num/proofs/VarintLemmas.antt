@@ -36,10 +36,9 @@ none_apart g z p q = cc
 
 -- two tests of the same fact are equal
 same_flag : (P : Type 0) (s t : Bool) → (IsTrue s ↔ P) → (IsTrue t ↔ P) → s ≡ t
-same_flag P true true a b = refl
-same_flag P false false a b = refl
 same_flag P true false a b = sym (b.1 (a.0 refl))
 same_flag P false true a b = a.1 (b.0 refl)
+same_flag P _ _ a b = refl
 
 -- the unit u comes after the units us in a spelling by the digits ds
 record StandsIn (group : ℕ → Option (ℕ × Bool)) (us : List ℕ) (u : ℕ) (ds : List ℕ) : Type 0 where
@@ -139,7 +138,6 @@ module _ {bits longest : ℕ} {unit : ℕ → Bool → ℕ} {group : ℕ → Opt
   pub answer_one : (us : List ℕ) (u : ℕ) (a b : Step)
       → IsAnswer unit group (2 ^ bits) longest us u a
       → IsAnswer unit group (2 ^ bits) longest us u b → a ≡ b
-  answer_one us u More More p q = refl
   answer_one us u More (Done n s) p q = let l = done_ends us u n q.0 in
       absurd (marks_apart (group u) p.1.0 l.0 p.1.1 l.1)
   answer_one us u More BadUnit p q = absurd (none_apart (group u) (p.1.0, true) q p.1.1)
@@ -156,12 +154,11 @@ module _ {bits longest : ℕ} {unit : ℕ → Bool → ℕ} {group : ℕ → Opt
   answer_one us u BadUnit More p q = absurd (none_apart (group u) (q.1.0, true) p q.1.1)
   answer_one us u BadUnit (Done n s) p q = let l = done_ends us u n q.0 in
       absurd (none_apart (group u) (l.0, false) p l.1)
-  answer_one us u BadUnit BadUnit p q = refl
   answer_one us u BadUnit TooLong p q = let l = long_reads us u q in absurd (none_apart (group u) (l.0, l.1) p l.2)
   answer_one us u TooLong More p q = absurd (more_long us u q p)
   answer_one us u TooLong (Done n s) p q = absurd (done_long us u n q.0 p)
   answer_one us u TooLong BadUnit p q = let l = long_reads us u p in absurd (none_apart (group u) (l.0, l.1) q l.2)
-  answer_one us u TooLong TooLong p q = refl
+  answer_one us u _ _ p q = refl
 
   -- ---- what can still follow
 

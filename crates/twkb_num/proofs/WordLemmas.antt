@@ -23,11 +23,10 @@ use Rattle.twkb_num.proofs.SpellingLemmas.{low_digit, high_digits}
 -- digits below the base are those of their number
 pub digits-number : (p n : ℕ) (xs : List ℕ) → length xs ≡ n → Each1 (λ x. x < p) xs → digits_l p n (number_l p xs) ≡ xs
 digits-number p zero [] long below = refl
-digits-number p (suc n) [] long below = absurd (omega arith)
-digits-number p zero (x ∷ xs) long below = absurd (omega arith)
 digits-number p (suc n) (x ∷ xs) long below =
     rw (low_digit p x (number_l p xs) below.0, high_digits p x (number_l p xs) below.0)
     (ap (λ ys. x ∷ ys) (digits-number p n xs (omega arith) below.1))
+digits-number p _ _ long below = absurd (omega arith)
 
 -- lists of four that agree at each place are equal
 pub four_same : (a b c d e f g h : ℕ) → a ≡ e → b ≡ f → c ≡ g → d ≡ h → a ∷ b ∷ c ∷ d ∷ [] ≡ e ∷ f ∷ g ∷ h ∷ []
@@ -130,9 +129,8 @@ word_is k bytes fit = number_l-take 256 k (take k bytes) (Each1-chunk (λ b. b <
 
 -- bytes after a place
 pub later_below : (k : ℕ) (xs : List ℕ) → Each1 (λ b. b < 256) xs → Each1 (λ b. b < 256) (drop k xs)
-later_below zero xs p = p
-later_below (suc k) [] p = p
 later_below (suc k) (x ∷ xs) p = later_below k xs p.1
+later_below _ _ p = p
 
 -- ---- words that are equal
 
@@ -285,10 +283,6 @@ words_joined : (radix square k : ℕ) (us : List ℕ) → (radix ≡ 128) ⊎ (r
     (number_l 256 (map (λ u. u % radix) us))) ≡ map (joined_groups radix)
     (digits_l 4294967296 k (number_l 256 us))
 words_joined radix square zero us alphabet square_is long fit = refl
-words_joined radix square (suc k) [] alphabet square_is long fit = absurd (omega arith)
-words_joined radix square (suc k) (a ∷ []) alphabet square_is long fit = absurd (omega arith)
-words_joined radix square (suc k) (a ∷ b ∷ []) alphabet square_is long fit = absurd (omega arith)
-words_joined radix square (suc k) (a ∷ b ∷ c ∷ []) alphabet square_is long fit = absurd (omega arith)
 words_joined radix square (suc k) (a ∷ b ∷ c ∷ d ∷ us) alphabet square_is long fit =
     let one = fit.0.fits in
     let two = fit.1.0.fits in
@@ -305,6 +299,7 @@ words_joined radix square (suc k) (a ∷ b ∷ c ∷ d ∷ us) alphabet square_i
     )
     (ap (λ ns. joined_groups radix (word_of a b c d) ∷ ns)
     (words_joined radix square k us alphabet square_is (omega arith) fit.1.1.1.1))
+words_joined radix square (suc k) _ alphabet square_is long fit = absurd (omega arith)
 
 -- ---- four words
 

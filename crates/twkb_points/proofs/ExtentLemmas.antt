@@ -29,10 +29,8 @@ joined_assoc a b c = λ i. record {
 -- the join of extents is associative
 pub joined_options_assoc : (a b c : Option Extent)
     → joined_options (joined_options a b) c ≡ joined_options a (joined_options b c)
-joined_options_assoc None b c = refl
-joined_options_assoc (Some a) None c = refl
-joined_options_assoc (Some a) (Some b) None = refl
 joined_options_assoc (Some a) (Some b) (Some c) = ap Some (joined_assoc a b c)
+joined_options_assoc _ _ _ = refl
 
 -- joining with the extent of no points changes nothing
 pub joined_options-none : (a : Option Extent) → joined_options a None ≡ a

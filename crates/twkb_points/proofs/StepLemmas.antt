@@ -289,13 +289,12 @@ same_at (s ∷ ps) ds es a b (suc i) h =
 same_lists : (ds es : List (ℤ × ℤ)) → length ds ≡ length es
     → ((i : ℕ) → i < length ds → slice_get ds i ≡ slice_get es i) → ds ≡ es
 same_lists [] [] l same = refl
-same_lists [] (e ∷ es) l same = absurd (omega arith)
-same_lists (d ∷ ds) [] l same = absurd (omega arith)
 same_lists (d ∷ ds) (e ∷ es) l same =
     let head : Some d ≡ Some e = same 0 (omega arith) in
     let first : d ≡ e = cc in
     let rest = same_lists ds es (omega arith) (λ i h. same (suc i) (omega arith)) in
     λ i. first i ∷ rest i
+same_lists _ _ l same = absurd (omega arith)
 
 -- a list holds the differences place by place exactly if it is the list of differences
 pub differences_is : (ps : List Point) (ds : List (ℤ × ℤ)) → (ds ≡ differences ps) ↔ AreDifferences ps ds
@@ -318,9 +317,8 @@ AreInRange-slice_get (q ∷ ps) (suc i) p a e = AreInRange-slice_get ps i p a.1 
 
 slice_get-after : (ps qs : List Point) (q : Point) (n : ℕ) → length ps ≡ n → slice_get (ps ++ q ∷ qs) n ≡ Some q
 slice_get-after [] qs q zero e = refl
-slice_get-after [] qs q (suc n) e = absurd (omega arith)
-slice_get-after (p ∷ ps) qs q zero e = absurd (omega arith)
 slice_get-after (p ∷ ps) qs q (suc n) e = slice_get-after ps qs q n (omega arith)
+slice_get-after _ qs q _ e = absurd (omega arith)
 
 -- after the points of the first i differences, the next point is that of difference i
 pub next_point : (ds : List (ℤ × ℤ)) (ps : List Point) (at : Point) (i : ℕ) (none : ℤ × ℤ)

@@ -78,13 +78,11 @@ pub pair_text : (p middle : Point) (pair : List Point) (d e : Point) (ax ay bx b
     → ax ≡ (get_or pair 0 d).x -ℤ p.x → ay ≡ (get_or pair 0 d).y -ℤ p.y
     → bx ≡ (get_or pair 1 e).x -ℤ middle.x → by ≡ (get_or pair 1 e).y -ℤ middle.y
     → (number_text ay ++ number_text ax) ++ (number_text by ++ number_text bx) ≡ polyline_from p pair
-pair_text p middle [] d e ax ay bx by two em eax eay ebx eby = absurd (omega arith)
-pair_text p middle (q ∷ []) d e ax ay bx by two em eax eay ebx eby = absurd (omega arith)
-pair_text p middle (q ∷ r ∷ o ∷ rest) d e ax ay bx by two em eax eay ebx eby = absurd (omega arith)
 pair_text p middle (q ∷ r ∷ []) d e ax ay bx by two em eax eay ebx eby =
     append_assoc (number_text ay) (number_text ax) (number_text by ++ number_text bx)
     ∙ ap (λ t. number_text ay ++ (number_text ax ++ (number_text by ++ t))) (sym (append-nil (number_text bx)))
     ∙ rw (eax, eay, ebx, eby, em) refl
+pair_text p middle _ d e ax ay bx by two em eax eay ebx eby = absurd (omega arith)
 
 -- ---- points in pairs
 

@@ -24,8 +24,7 @@ use Rattle.twkb_num.proofs.ZigzagLemmas.{zigzag_of-unzigzag_of}
 use Rattle.twkb_polyline.specs.Fault.{IsCharacter, GoesOn, EndsIn, Reaches, IsTooLong, IsPadded, IsNumberFault}
 use Rattle.twkb_polyline.specs.Fault.{StartsWithNumber}
 use Rattle.twkb_polyline.specs.Polyline.{number_text}
-use Rattle.twkb_polyline.specs.declared.fault.PolyReason.TheVariants.{BadChar, Cut, TooLong, Padded, Half, Range}
-use Rattle.twkb_polyline.specs.declared.fault.PolyReason.TheVariants.{TooMany}
+use Rattle.twkb_polyline.specs.declared.fault.PolyReason.TheVariants.{BadChar, Cut, TooLong, Padded}
 use Rattle.twkb_polyline.specs.Reading.{IsNumberAt, IsBegun}
 use Rattle.twkb_polyline.specs.declared.fault.PolyReason.{PolyReason}
 
@@ -140,9 +139,8 @@ digits_end_within (suc turns) n h p =
     ]
 
 EndsAbove-last : (front : List ℕ) (d : ℕ) → EndsAbove (front ++ d ∷ []) → 0 < d
-EndsAbove-last [] d h = h
-EndsAbove-last (x ∷ []) d h = h
 EndsAbove-last (x ∷ y ∷ front) d h = EndsAbove-last (y ∷ front) d h
+EndsAbove-last _ d h = h
 
 -- the last group of a number is not 0 unless it is the only one
 pub last_above : (n : ℕ) (front : List ℕ) (d : ℕ) → digits 32 n ≡ front ++ d ∷ [] → 0 < length front → 0 < d
@@ -510,12 +508,10 @@ same_stop : (n k l : ℕ) (us vs s t : List ℕ) → AllByRecursion GoesOn us �
     → n + length us ≡ k → n + length vs ≡ l → k ≤ 12 → l ≤ 12 → Halts k s → Halts l t
     → us ++ s ≡ vs ++ t → (us ≡ vs) × (s ≡ t)
 same_stop n k l [] [] s t g h p q a b x y e = (refl, e)
-same_stop n k l [] (v ∷ vs) [] t g h p q a b x y e = cc
 same_stop n k l [] (v ∷ vs) (c ∷ s) t g h p q a b x y e =
     let head : v ≡ c = cc in
     let full = x (rw head at h.0) in
     absurd (omega arith)
-same_stop n k l (u ∷ us) [] s [] g h p q a b x y e = cc
 same_stop n k l (u ∷ us) [] s (c ∷ t) g h p q a b x y e =
     let head : u ≡ c = cc in
     let full = y (rw head at g.0) in
@@ -526,6 +522,7 @@ same_stop n k l (u ∷ us) (v ∷ vs) s t g h p q a b x y e =
     let rest = same_stop (suc n) k l us vs s t g.1 h.1 (omega arith) (omega arith) a b x y tail in
     let front : us ≡ vs = rest.0 in
     (cc, rest.1)
+same_stop n k l _ _ _ _ g h p q a b x y e = cc
 
 -- a number stops with one verdict
 pub stops_one : (rest : List ℕ) (a b : Option (ℕ × PolyReason)) → Stops rest a → Stops rest b → a ≡ b
@@ -619,9 +616,7 @@ fault_stops rest k Padded f = record {
       (omega (arith, f.0.reached.place, f.0.some)) (omega (arith, f.0.zero.0))
       ∙ ap (λ n. Some (n, Padded)) (sym f.1);
 }
-fault_stops rest k Half f = absurd f
-fault_stops rest k Range f = absurd f
-fault_stops rest k TooMany f = absurd f
+fault_stops rest k _ f = absurd f
 
 -- a number stops after its groups
 groups_stop : (rest after : List ℕ) (z : ℕ) (ds : List ℕ) → HasLast ds → digits 32 z ≡ ds

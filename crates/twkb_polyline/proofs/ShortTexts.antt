@@ -7,9 +7,4 @@ use Rattle.twkb_polyline.specs.Texts.{point_text_words}
 -- the text of each reason is short
 pub short_point_text : (reason : PolyReason) → length (point_text_words reason) ≤ 31
 short_point_text text.BadChar = omega arith
-short_point_text text.Cut = omega arith
-short_point_text text.TooLong = omega arith
-short_point_text text.Padded = omega arith
-short_point_text text.Half = omega arith
-short_point_text text.Range = omega arith
-short_point_text text.TooMany = omega arith
+short_point_text _ = omega arith

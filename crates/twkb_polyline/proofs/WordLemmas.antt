@@ -23,8 +23,6 @@ bases (suc k) = 63 + 256 * bases k
 -- the groups of a number in a word, each with its mark, are its characters
 spelled : (k j c n : ℕ) → suc c ≤ k → suc c ≤ j → n < 32 ^ suc c → (0 < c → 32 ^ c ≤ n)
     → low_digits 256 (suc c) (spread k n + marks (suc c) + bases j) ≡ shortest five_unit 32 n
-spelled zero j c n few room below above = absurd (omega arith)
-spelled (suc k) zero c n few room below above = absurd (omega arith)
 spelled (suc k) (suc j) zero n few room below above =
     let small : n < 32 = omega arith in
     ap (λ b. b ∷ []) (let byte : (n % 32 + 256 * spread k (n / 32) + 0 + (63 + 256 * bases j)) % 256
@@ -44,6 +42,7 @@ spelled (suc k) (suc j) (suc c) n few room below above =
     ∙ ap (λ w. five_unit (n % 32) true ∷ low_digits 256 (suc c) w) high
     ∙ ap (λ us. five_unit (n % 32) true ∷ us) (spelled k j c (n / 32) (omega arith) (omega arith) small (λ _. rest))
     ∙ sym (shortest_more five_unit 32 n (lit≤ tt) (omega arith))
+spelled _ _ c n few room below above = absurd (omega arith)
 
 -- the groups in a word are the characters, by the number of groups
 pub spelled_groups : (k j n c : ℕ) → HasGroups n c → c ≤ k → c ≤ j
@@ -114,15 +113,8 @@ few_groups n c small h =
 -- the remainder by a power keeps the marks of all groups but the last
 pub marks_cut : (c : ℕ) → 1 ≤ c → c ≤ 8 → 2314885530818453536 % ((1 * 2 ^ (8 * c - 8)) % 2 ^ 64) ≡ marks c
 marks_cut zero some few = absurd (omega arith)
-marks_cut (suc zero) some few = refl
-marks_cut (suc (suc zero)) some few = refl
-marks_cut (suc (suc (suc zero))) some few = refl
-marks_cut (suc (suc (suc (suc zero)))) some few = refl
-marks_cut (suc (suc (suc (suc (suc zero))))) some few = refl
-marks_cut (suc (suc (suc (suc (suc (suc zero)))))) some few = refl
-marks_cut (suc (suc (suc (suc (suc (suc (suc zero))))))) some few = refl
-marks_cut (suc (suc (suc (suc (suc (suc (suc (suc zero)))))))) some few = refl
 marks_cut (suc (suc (suc (suc (suc (suc (suc (suc (suc c))))))))) some few = absurd (omega arith)
+marks_cut (suc _) some few = refl
 
 -- the groups of a number in a word of 64 bits, each with its marks, are its characters
 pub spelled_far : (n c groups : ℕ) → HasGroups n c → c ≤ 8 → groups ≡ spread 8 n

@@ -73,12 +73,11 @@ precision_number field number precision n p = one_id number precision n.1 (preci
 pub one_digit : (field : List ℕ) → 1 ≤ length field → length field < 2
     → 48 ≤ slice_index_or field 0 0 → slice_index_or field 0 0 ≤ 57
     → IsIdField field (pos (slice_index_or field 0 0 - 48))
-one_digit [] some few low high = absurd (omega arith)
 one_digit (d ∷ []) some few low high =
     let value : 48 + (d - 48) ≡ d = omega arith in
     let spelled : decimal (d - 48) ≡ d ∷ [] = decimal_digit (d - 48) (omega arith) ∙ ap (λ n. n ∷ []) value in
     (sym spelled, depth-id (d - 48) (omega arith))
-one_digit (d ∷ e ∷ rest) some few low high = absurd (omega arith)
+one_digit _ some few low high = absurd (omega arith)
 
 -- the value of the first digit alone
 pub digit_first : (field : List ℕ) → 0 < length field → 49 ≤ get_or field 0 0

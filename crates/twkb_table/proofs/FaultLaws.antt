@@ -110,12 +110,11 @@ header_stands l records n reason h g = front_header l g.before records (g.here �
 same_split : (xs ys : List Record) (x y : Record) (more rest : List Record)
     → xs ++ x ∷ more ≡ ys ++ y ∷ rest → length xs ≡ length ys → (xs ≡ ys) × (x ≡ y)
 same_split [] [] x y more rest e n = (refl, head_same x y more rest e)
-same_split [] (b ∷ ys) x y more rest e n = absurd (omega arith)
-same_split (a ∷ xs) [] x y more rest e n = absurd (omega arith)
 same_split (a ∷ xs) (b ∷ ys) x y more rest e n =
     let h = head_same a b (xs ++ x ∷ more) (ys ++ y ∷ rest) e in
     let t = same_split xs ys x y more rest (tail_same a b (xs ++ x ∷ more) (ys ++ y ∷ rest) e) (omega arith) in
     (ap (λ q. q ∷ xs) h ∙ ap (λ qs. b ∷ qs) t.0, t.1)
+same_split _ _ x y more rest e n = absurd (omega arith)
 
 -- Two faults of the same records are equal.
 pub record AreOne (l : Allowance) (records : List Record) (m n : ℕ) (why other : RowReason)
@@ -243,9 +242,8 @@ plain_end (x ∷ xs) ys p = let t = plain_end xs ys p.1 in ((p.0, t.0), t.1)
 
 one_more : (ys : List Row) (here : Record) → map record_of ys ≡ here ∷ [] → (r : Row)
     × (ys ≡ r ∷ []) × (here ≡ record_of r)
-one_more [] here e = cc e
 one_more (r ∷ []) here e = (r, refl, sym (head_same (record_of r) here [] [] e))
-one_more (r ∷ s ∷ ys) here e = cc e
+one_more _ here e = cc e
 
 pub last_row : (l : Allowance) (records : List Record) (here : Record) (gs hs : List Tree)
     → IsAllowance l → Named l records gs → Named l (records ++ here ∷ []) hs → Last l here gs hs
@@ -428,11 +426,10 @@ bytes_eq-refl xs = (bytes_eq-Decides xs xs).1 refl
 
 is_record-same : (a b : Record) → is_record a b ≡ true → a ≡ b
 is_record-same [] [] e = refl
-is_record-same [] (y ∷ ys) e = cc e
-is_record-same (x ∷ xs) [] e = cc e
 is_record-same (x ∷ xs) (y ∷ ys) e =
     let two = both_true (bytes_eq x y) (is_record xs ys) e in
     ap (λ f. f ∷ xs) (bytes_eq-same x y two.0) ∙ ap (λ fs. y ∷ fs) (is_record-same xs ys two.1)
+is_record-same _ _ e = cc e
 
 is_record-refl : (a : Record) → is_record a a ≡ true
 is_record-refl [] = refl
@@ -569,17 +566,12 @@ by_place l here k id_field field text =
 
 -- each record has a verdict
 pub some_verdict : (l : Allowance) (before : List Row) (fields : Record) → Told (Judged l before fields)
-some_verdict l before [] = (Refused FieldCount, refl)
-some_verdict l before (a ∷ []) = (Refused FieldCount, refl)
-some_verdict l before (a ∷ b ∷ []) = (Refused FieldCount, refl)
-some_verdict l before (a ∷ b ∷ c ∷ []) = (Refused FieldCount, refl)
-some_verdict l before (a ∷ b ∷ c ∷ e ∷ []) = (Refused FieldCount, refl)
-some_verdict l before (a ∷ b ∷ c ∷ e ∷ f ∷ g ∷ more) = (Refused FieldCount, refl)
 some_verdict l before (a ∷ b ∷ c ∷ e ∷ f ∷ []) =
     told_unless (IsDepthField a) (λ d v. Unless v (λ k. b ≡ word_of k) BadKind
     (λ k. JudgedByPlace l (place_of d before) k c e f v)) BadDepth (decided_depth a)
     (λ d. told_unless (λ k. b ≡ word_of k) (λ k. JudgedByPlace l (place_of d before) k c e f)
     BadKind (decided_kind b) (λ k. by_place l (place_of d before) k c e f))
+some_verdict l before _ = (Refused FieldCount, refl)
 
 -- ---- whole lists of records
 

@@ -48,13 +48,7 @@ kind_from word =
 
 pub kind_from-word_of : (k : Kind) → kind_from (word_of k) ≡ k
 kind_from-word_of kind.Point = refl
-kind_from-word_of kind.Linestring = refl
-kind_from-word_of kind.Polygon = refl
-kind_from-word_of kind.Ring = refl
-kind_from-word_of kind.MultiPoint = refl
-kind_from-word_of kind.MultiLinestring = refl
-kind_from-word_of kind.MultiPolygon = refl
-kind_from-word_of kind.Collection = refl
+kind_from-word_of _ = refl
 
 -- two kinds with the same word are equal
 pub one_word : (j k : Kind) → word_of j ≡ word_of k → j ≡ k
@@ -162,14 +156,13 @@ ArePlain rs = AllByRecursion IsPlain rs
 -- two lists of rows with the same records are equal
 pub one_list : (rs ss : List Row) → ArePlain rs → ArePlain ss → map record_of rs ≡ map record_of ss → rs ≡ ss
 one_list [] [] p q e = refl
-one_list [] (s ∷ ss) p q e = cc e
-one_list (r ∷ rs) [] p q e = cc e
 one_list (r ∷ rs) (s ∷ ss) p q e =
     let head : record_of r ≡ record_of s = head_same (record_of r) (record_of s) (map record_of rs)
     (map record_of ss) e in
     let tail : map record_of rs ≡ map record_of ss = tail_same (record_of r) (record_of s)
     (map record_of rs) (map record_of ss) e in
     ap (λ (x : Row). x ∷ rs) (one_record r s p.0 q.0 head) ∙ ap (λ xs. s ∷ xs) (one_list rs ss p.1 q.1 tail)
+one_list _ _ p q e = cc e
 
 -- ==== It can be decided whether a field spells a number, a depth, a precision, an id or a kind.
 

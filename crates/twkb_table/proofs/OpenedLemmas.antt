@@ -46,12 +46,11 @@ opened_some (suc (suc d)) (o ∷ p ∷ os) (y ∷ ys) q r le e =
 -- the open rows after a row depend only on those above it
 pub opened_front : (d n : ℕ) (os : List OpenRow) (r : Row) → d ≤ n → n ≤ length os
     → opened d (take n os) r ≡ opened d os r
-opened_front zero n os r le few = refl
 opened_front (suc d) zero os r le few = absurd (omega (arith, le))
 opened_front (suc d) (suc n) [] r le few = absurd (omega (arith, few))
-opened_front (suc zero) (suc n) (o ∷ os) r le few = refl
 opened_front (suc (suc d)) (suc n) (o ∷ os) r le few = ap (λ xs. o ∷ xs)
     (opened_front (suc d) n os r (omega (arith, le)) (omega (arith, few)))
+opened_front _ _ _ r le few = refl
 
 -- the open rows after a row do not depend on those below it
 pub opened_before : (d : ℕ) (os more : List OpenRow) (r : Row) → d ≤ length os → opened d (os ++ more) r ≡ opened d os r

@@ -20,9 +20,8 @@ use Rattle.twkb_table.proofs.Unquoted.{AreBare, bare_decimal, bare_optional, bar
 -- ---- records that are read back
 
 abbrev IsOpen : Record → Type 0
-IsOpen [] = ⊥
-IsOpen (x ∷ []) = ⊥
 IsOpen (x ∷ y ∷ ys) = AreBare (x ∷ y ∷ ys)
+IsOpen _ = ⊥
 
 line_read : (x y : List ℕ) (ys : Record) (tail : List ℕ) → AreBare (x ∷ y ∷ ys)
     → next_record default_config st.StartRecord [] [] ((joined (x ∷ y ∷ ys) ++ 10 ∷ []) ++ tail)

@@ -79,24 +79,21 @@ module _ (l : Allowance) (d : ℕ) (k : Kind) (id_field field text : List ℕ) (
   parent_alike : (p q f : Option Row) (nodes points : ℕ) → kind_by p ≡ kind_by q
       → JudgedAt true p f nodes points → JudgedAt true q f nodes points
   parent_alike None None f nodes points e j = j
-  parent_alike None (Some q) f nodes points e j = cc e
-  parent_alike (Some p) None f nodes points e j = cc e
   parent_alike (Some p) (Some q) f nodes points e j =
       subst (λ (kind : Kind). JudgedAt true (Some (of_kind kind)) f nodes points) (head_kind p q e) j
+  parent_alike _ _ f nodes points e j = cc e
 
   id_alike : (p : Option Row) (a b : Option ℤ) (nodes points : ℕ) → is_some a ≡ is_some b
       → JudgedAt true p (Some (of_id a)) nodes points → JudgedAt true p (Some (of_id b)) nodes points
-  id_alike p None None nodes points e j = j
   id_alike p None (Some b) nodes points e j = cc e
   id_alike p (Some a) None nodes points e j = cc e
-  id_alike p (Some a) (Some b) nodes points e j = j
+  id_alike p _ _ nodes points e j = j
 
   first_alike : (p f g : Option Row) (nodes points : ℕ) → ids_by f ≡ ids_by g
       → JudgedAt true p f nodes points → JudgedAt true p g nodes points
   first_alike p None None nodes points e j = j
-  first_alike p None (Some g) nodes points e j = cc e
-  first_alike p (Some f) None nodes points e j = cc e
   first_alike p (Some f) (Some g) nodes points e j = id_alike p f.id g.id nodes points (head_id f g e) j
+  first_alike p _ _ nodes points e j = cc e
 
 -- ---- the two places
 
@@ -152,16 +149,11 @@ by_place l p q earlier (suc d) k id precision text v (inr (has, others)) = absur
 -- the verdict after a point is that on a record before any row
 after_point : (l : Allowance) (p : ℤ) (q : Point) (earlier : List Row) (fields : Record) (v : Verdict)
     → Judged l [] fields v → Judged l (point_row p q ∷ earlier) fields v
-after_point l p q earlier [] v j = j
-after_point l p q earlier (a ∷ []) v j = j
-after_point l p q earlier (a ∷ b ∷ []) v j = j
-after_point l p q earlier (a ∷ b ∷ c ∷ []) v j = j
-after_point l p q earlier (a ∷ b ∷ c ∷ e ∷ []) v j = j
-after_point l p q earlier (a ∷ b ∷ c ∷ e ∷ f ∷ g ∷ more) v j = j
 after_point l p q earlier (a ∷ b ∷ c ∷ e ∷ f ∷ []) v (inl none) = inl none
 after_point l p q earlier (a ∷ b ∷ c ∷ e ∷ f ∷ []) v (inr (d, is, inl none)) = inr (d, is, inl none)
 after_point l p q earlier (a ∷ b ∷ c ∷ e ∷ f ∷ []) v (inr (d, is, inr (k, word, j))) =
     inr (d, is, inr (k, word, by_place l p q earlier d k c e f v j))
+after_point l p q earlier _ v j = j
 
 pub judged_past : (l : Allowance) (rows : List Row) (fields : Record) (v : Verdict) → IsPoint rows
     → Judged l [] fields v → JudgedAfter l rows fields v

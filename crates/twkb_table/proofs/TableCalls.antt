@@ -1,5 +1,5 @@
 -- What a call of a reader of tables shows, from its steps.
-use Rattle.std.proofs.Common.{◌≡◌, ℕ, ◌<◌, ◌⊎◌, Bool, true, false, List, [], ◌∷◌, ◌++◌, length, Option, Some, None}
+use Rattle.std.proofs.Common.{◌≡◌, ℕ, ◌<◌, ◌⊎◌, Bool, true, false, List, [], ◌∷◌, ◌++◌, length, Option, Some}
 use Rattle.std.proofs.Common.{Result, Ok, Err, refl, sym, ◌∙◌, subst, arith, inl, inr, ◌+◌, ap}
 use Rattle.std.specs.Prelude.{◌↔◌, IfOk, IfSome}
 use Rattle.std.proofs.lemmas.Bool.{true≢false}
@@ -153,8 +153,7 @@ pub found_kept : {R : Type 0} (remaining : R → Option (List ℕ)) (old new : T
 found_kept remaining old new before after (Ok (Some geometry)) h = λ l told records given s.
     tree_kept l remaining told records given geometry new after
     (h l told records given (stands_with l remaining told records given old before s))
-found_kept remaining old new before after (Ok None) h = tt
-found_kept remaining old new before after (Err f) h = tt
+found_kept remaining old new before after _ h = tt
 
 pub none_kept : {R : Type 0} (remaining : R → Option (List ℕ)) (old new : TableReader R) (before after : List Row)
     → Ends remaining (record old { kept = before }) new → Ends remaining old (record new { kept = after })

@@ -73,9 +73,8 @@ explains_from l told records seen given fault.TooManyRecords x e = record {
   named = e.named;
   complete = e.complete;
 }
-explains_from l told records seen given fault.Source x e = tt
-explains_from l told records seen given fault.Memory x e = tt
 explains_from l told records seen given fault.Spent x e = e
+explains_from l told records seen given _ x e = tt
 
 pub gives_from : {R : Type 0} (l : Allowance) (remaining : R → Option (List ℕ))
     (told : Option (List ℕ)) (records seen : List Record) (given : List Tree) (flat : List Row)
@@ -110,9 +109,8 @@ names_so_far l (first ∷ records) gs n = n
 
 -- all but the last of a list and one more
 pub all_but_last-last : (xs : List Tree) (x : Tree) → all_but_last (xs ++ x ∷ []) ≡ xs
-all_but_last-last [] x = refl
-all_but_last-last (y ∷ []) x = refl
 all_but_last-last (y ∷ z ∷ xs) x = ap (λ (l : List Tree). y ∷ l) (all_but_last-last (z ∷ xs) x)
+all_but_last-last _ x = refl
 
 -- the verdict after the rows of the last geometry is the verdict after those of all
 pub judged_after : (l other : Allowance) (given : List Tree) (g : Tree) (so_far : List Row)

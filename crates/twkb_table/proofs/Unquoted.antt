@@ -102,10 +102,4 @@ bare_text ds = high_bare (text_of ds) (high_text ds)
 
 pub bare_word : (k : Kind) → IsBare (word_of k)
 bare_word kind.Point = refl
-bare_word kind.Linestring = refl
-bare_word kind.Polygon = refl
-bare_word kind.Ring = refl
-bare_word kind.MultiPoint = refl
-bare_word kind.MultiLinestring = refl
-bare_word kind.MultiPolygon = refl
-bare_word kind.Collection = refl
+bare_word _ = refl

@@ -211,12 +211,6 @@ passed_row l before a b c e f r d k id q points depth word ids precisions steps 
 
 pub judged_row : (l : Allowance) (before : List Row) (fields : Record) (r : Row) → HasRoom l before
     → Judged l before fields (Accepted r) → Passed l before fields r
-judged_row l before [] r room h = absurd (accepted_apart r FieldCount h)
-judged_row l before (a ∷ []) r room h = absurd (accepted_apart r FieldCount h)
-judged_row l before (a ∷ b ∷ []) r room h = absurd (accepted_apart r FieldCount h)
-judged_row l before (a ∷ b ∷ c ∷ []) r room h = absurd (accepted_apart r FieldCount h)
-judged_row l before (a ∷ b ∷ c ∷ e ∷ []) r room h = absurd (accepted_apart r FieldCount h)
-judged_row l before (a ∷ b ∷ c ∷ e ∷ f ∷ g ∷ more) r room h = absurd (accepted_apart r FieldCount h)
 judged_row l before (a ∷ b ∷ c ∷ e ∷ f ∷ []) r room h =
     let at = found (IsDepthField a) (λ d. Unless (Accepted r) (λ k. b ≡ word_of k) BadKind
     (λ k. JudgedByPlace l (place_of d before) k c e f (Accepted r))) r BadDepth h in
@@ -250,6 +244,7 @@ judged_row l before (a ∷ b ∷ c ∷ e ∷ f ∷ []) r room h =
     (not_false (id_allowed p k id) allowed.0) (not_false
     (has_same_ids (first_child d before) id) same.0)
     precise (room d)
+judged_row l before _ r room h = absurd (accepted_apart r FieldCount h)
 
 -- ---- what the rows so far allow
 
@@ -315,16 +310,11 @@ by_place l here k id_field field text v w = when_one v w _
 
 pub one_verdict : (l : Allowance) (before : List Row) (fields : Record) (v w : Verdict)
     → Judged l before fields v → Judged l before fields w → v ≡ w
-one_verdict l before [] v w a b = a ∙ sym b
-one_verdict l before (x ∷ []) v w a b = a ∙ sym b
-one_verdict l before (x ∷ y ∷ []) v w a b = a ∙ sym b
-one_verdict l before (x ∷ y ∷ z ∷ []) v w a b = a ∙ sym b
-one_verdict l before (x ∷ y ∷ z ∷ t ∷ []) v w a b = a ∙ sym b
-one_verdict l before (x ∷ y ∷ z ∷ t ∷ u ∷ s ∷ more) v w a b = a ∙ sym b
 one_verdict l before (x ∷ y ∷ z ∷ t ∷ u ∷ []) v w a b =
     unless_one (IsDepthField x) _ _ v w _ (λ d e p q. one_depth d e p.1 q.1 (sym p.0 ∙ q.0))
     (λ d. unless_one (λ k. y ≡ word_of k) _ _ v w _ (λ j k p q. one_word j k (sym p ∙ q))
     (λ k. by_place l (place_of d before) k z t u v w)) a b
+one_verdict l before _ v w a b = a ∙ sym b
 
 -- ==== The verdict on the record of a row that may come next is that row, and nothing else.
 

@@ -2,9 +2,8 @@
 use Rattle.std.proofs.Common.{◌≤◌, List, [], ◌∷◌, ◌++◌, length}
 use Rattle.std.specs.Prelude.{None, Some, flat_map}
 use Rattle.twkb_points.specs.Point.{Point, AreInRange}
-use Rattle.twkb_tree.specs.Tree.{Simple, point, line, polygon, multi_point, multi_line}
-use Rattle.twkb_tree.specs.Tree.{multi_polygon, Tree, simple, collection, Trees, end, ◌▷◌, flatten}
-use Rattle.twkb_tree.specs.Tree.{points_in, flat, flat_all, nest, nodes, IsTree}
+use Rattle.twkb_tree.specs.Tree.{Simple, point, polygon, multi_line, multi_polygon, Tree, simple, collection, Trees}
+use Rattle.twkb_tree.specs.Tree.{end, ◌▷◌, flatten, points_in, flat, flat_all, nest, nodes, IsTree}
 use Rattle.twkb_tree.specs.Limits.{Allowance, IsValid}
 use Rattle.twkb_tree.specs.InRange.{LinesAreInRange, AreasAreInRange, IsSimpleInRange, IsTreeInRange, AreTreesInRange}
 
@@ -28,11 +27,10 @@ AreInRange-areas (rings ∷ areas) h = AreInRange-append (flatten rings) (flat_m
 AreInRange-points_in : (s : Simple) → IsSimpleInRange s → AreInRange (points_in s)
 AreInRange-points_in (point None) h = tt
 AreInRange-points_in (point (Some p)) h = (h, tt)
-AreInRange-points_in (line ps) h = h
 AreInRange-points_in (polygon rings) h = AreInRange-flatten rings h
-AreInRange-points_in (multi_point ids ps) h = h
 AreInRange-points_in (multi_line ids lines) h = AreInRange-flatten lines h
 AreInRange-points_in (multi_polygon ids areas) h = AreInRange-areas areas h
+AreInRange-points_in _ h = h
 
 -- the points of a geometry in range are in range, and so are those of members
 mutual

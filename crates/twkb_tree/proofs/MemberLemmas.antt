@@ -65,9 +65,8 @@ precision_step p xs i x whole here is has before =
 pub other_from : (i : ℕ) (ids : Ids) → other_ids (ids_from i ids) ≡ ids_from (suc i) ids
 other_from i None = refl
 other_from zero (Some []) = refl
-other_from zero (Some (id ∷ ids)) = refl
-other_from (suc i) (Some []) = refl
 other_from (suc i) (Some (id ∷ ids)) = other_from i (Some ids)
+other_from _ (Some _) = refl
 
 -- the ids from place 0 on are all ids
 pub ids_from_start : (ids : Ids) → ids_from 0 ids ≡ ids

@@ -85,18 +85,16 @@ first_checks : (l : Allowance) (steps : Bool) (p f g : Option Row) (nodes points
     → ids_by f ≡ ids_by g → first_failed (checks_under l steps p f nodes points r) ≡ first_failed
     (checks_under l steps p g nodes points r)
 first_checks l steps p None None nodes points r e = refl
-first_checks l steps p None (Some g) nodes points r e = cc e
-first_checks l steps p (Some f) None nodes points r e = cc e
 first_checks l steps p (Some f) (Some g) nodes points r e = rw (head_id f g e) refl
+first_checks l steps p _ _ nodes points r e = cc e
 
 -- of the parent only the kind matters
 parent_checks : (l : Allowance) (steps : Bool) (p q f : Option Row) (nodes points : ℕ) (r : Row)
     → kind_by p ≡ kind_by q → first_failed (checks_under l steps p f nodes points r) ≡ first_failed
     (checks_under l steps q f nodes points r)
 parent_checks l steps None None f nodes points r e = refl
-parent_checks l steps None (Some q) f nodes points r e = cc e
-parent_checks l steps (Some p) None f nodes points r e = cc e
 parent_checks l steps (Some p) (Some q) f nodes points r e = rw (head_kind p q e) refl
+parent_checks l steps _ _ f nodes points r e = cc e
 
 -- a row that is too deep is refused for its place
 pub stepless : (l : Allowance) (steps : Bool) (p f : Option Row) (nodes points : ℕ) (r : Row)
@@ -119,9 +117,8 @@ no_open_parent (o ∷ os) = refl
 
 -- a first child made from an open row has an id as recorded
 pub ids_by-child_by : (b : Option Bool) → ids_by (child_by b) ≡ b
-ids_by-child_by None = refl
 ids_by-child_by (Some true) = refl
-ids_by-child_by (Some false) = refl
+ids_by-child_by _ = refl
 
 -- the parent found by the open rows has the kind of the parent among the rows
 pub kind_under : (d : ℕ) (before : List Row) (os : List OpenRow) → AreOpen before os → d ≤ length os
@@ -243,10 +240,9 @@ opened_each j (suc (suc d)) r before (o ∷ os) e le h = (
 
 -- the number of open rows after one more row
 length-opened : (d : ℕ) (r : Row) (os : List OpenRow) → d ≤ length os → length (opened d os r) ≡ suc d
-length-opened zero r os le = refl
 length-opened (suc d) r [] le = absurd (omega arith)
-length-opened (suc zero) r (o ∷ os) le = refl
 length-opened (suc (suc d)) r (o ∷ os) le = omega (arith, length-opened (suc d) r os (omega arith))
+length-opened _ r _ le = refl
 
 -- a row is at most one level below the open rows
 pub steps_within : (d : ℕ) (before : List Row) → steps_to d before ≡ true → d ≤ open_count before
@@ -373,7 +369,6 @@ open_count-some x xs (y ∷ ys) zs e = rw e (omega arith)
 
 -- a row is a root exactly if it comes first
 next_is : (rs : List Row) (os : List OpenRow) (r : Row) → AreOpen (reverse rs) os → is_next os r ≡ is_one_root rs r
-next_is [] [] r a = refl
 next_is [] (o ∷ os) r a = absurd (omega (arith, a.all))
 next_is (s ∷ rs) [] r a = absurd
     (omega (
@@ -382,7 +377,7 @@ next_is (s ∷ rs) [] r a = absurd
       open_count-some s [] (reverse rs) (reverse (s ∷ rs))
           (reverse_onto rs s []),
     ))
-next_is (s ∷ rs) (o ∷ os) r a = refl
+next_is _ _ r a = refl
 
 -- reversed rows have as many points
 pub point_count-reverse : (rs : List Row) → point_count (reverse rs) ≡ point_count rs

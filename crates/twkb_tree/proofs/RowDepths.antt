@@ -4,9 +4,8 @@ use Rattle.std.specs.Prelude.{ℤ}
 use Rattle.twkb_points.specs.Point.{Point}
 use Rattle.twkb_tree.specs.declared.kind.Kind.TheVariants as kind
 use Rattle.twkb_tree.specs.Limits.{Allowance}
-use Rattle.twkb_tree.specs.Tree.{Tree, Trees, Simple, Ids, simple, collection, end, ◌▷◌, point}
-use Rattle.twkb_tree.specs.Tree.{line, polygon, multi_point, multi_line, multi_polygon, nest}
-use Rattle.twkb_tree.specs.Tree.{nest_all}
+use Rattle.twkb_tree.specs.Tree.{Tree, Trees, Simple, Ids, simple, collection, end, ◌▷◌, polygon, multi_point}
+use Rattle.twkb_tree.specs.Tree.{multi_line, multi_polygon, nest, nest_all}
 use Rattle.twkb_tree.specs.Rows.{Row, rows, rows_of, rows_with, member_rows, rows_below, ring_rows}
 use Rattle.twkb_tree.specs.Rows.{polygon_rows, plain_row, rows_of_each, first_id, other_ids}
 use Rattle.twkb_tree.specs.RowLists.{AreValid, AreValidRows, IsShallow, AreShallow}
@@ -26,8 +25,6 @@ shallow_rings n d rings le = shallow_each n (λ none ring. plain_row d kind.Ring
 
 -- the rows below a simple shape are shallow
 shallow_below : (n d : ℕ) (s : Simple) → suc d ≤ n → AreShallow n (rows_below d s)
-shallow_below n d (point o) le = tt
-shallow_below n d (line ps) le = tt
 shallow_below n d (polygon rings) le = shallow_rings n d rings (omega arith)
 shallow_below n d (multi_point ids ps) le = let here : d ≤ n = omega arith in
     shallow_each n (λ id p. plain_row d kind.Point id (p ∷ []) ∷ []) ids ps (λ id p. (here, tt))
@@ -35,6 +32,7 @@ shallow_below n d (multi_line ids lines) le = let here : d ≤ n = omega arith i
     shallow_each n (λ id ps. plain_row d kind.Linestring id ps ∷ []) ids lines (λ id ps. (here, tt))
 shallow_below n d (multi_polygon ids areas) le = let here : d ≤ n = omega arith in
     shallow_each n (polygon_rows d) ids areas (λ id rings. (here, shallow_rings n (suc d) rings le))
+shallow_below n d _ le = tt
 
 mutual
   shallow_with : (n d : ℕ) (id : Option ℤ) (g : Tree) → d + nest g + 2 ≤ n → AreShallow n (rows_with id d g)

@@ -157,13 +157,12 @@ ring_nodes d rings = each_nodes (plain_row d kind.Ring) (λ ring. none) None rin
 
 -- the forest below a simple shape
 abbrev pub simple_below : ℕ → Simple → Nodes
-simple_below d (point o) = none
-simple_below d (line ps) = none
 simple_below d (polygon rings) = ring_nodes d rings
 simple_below d (multi_point ids ps) = each_nodes (λ id p. plain_row d kind.Point id (p ∷ [])) (λ p. none) ids ps
 simple_below d (multi_line ids lines) = each_nodes (plain_row d kind.Linestring) (λ ps. none) ids lines
 simple_below d (multi_polygon ids areas) = each_nodes (λ id rings. plain_row d kind.Polygon id [])
     (ring_nodes (suc d)) ids areas
+simple_below d _ = none
 
 -- the forest below a geometry's own row, and that of members
 abbrev mutual
@@ -225,11 +224,10 @@ abbrev pub simple_from : Kind → List Point → Nodes → Simple
 simple_from kind.Point ps c = point (point_in ps)
 simple_from kind.Linestring ps c = line ps
 simple_from kind.Polygon ps c = polygon (lines_of c)
-simple_from kind.Ring ps c = point None
 simple_from kind.MultiPoint ps c = multi_point (ids_of c) (points_of c)
 simple_from kind.MultiLinestring ps c = multi_line (ids_of c) (lines_of c)
 simple_from kind.MultiPolygon ps c = multi_polygon (ids_of c) (areas_of c)
-simple_from kind.Collection ps c = point None
+simple_from _ ps c = point None
 
 -- the geometry of a row and the rows below it, given the geometries below it
 abbrev pub tree_from : Row → Nodes → Trees → Tree
@@ -357,15 +355,13 @@ may_none k l e lacks m = ap (λ j. may_have j m) e ∙ lacks m
 
 -- a point that is part of a geometry has one point
 pub one_point : (ps : List Point) → points_fit kind.Point false ps ≡ true → (q : Point) × (ps ≡ q ∷ [])
-one_point [] h = cc h
 one_point (q ∷ []) h = (q, refl)
-one_point (q ∷ s ∷ ps) h = cc h
+one_point _ h = cc h
 
 -- a point that is a geometry itself has one point or none
 pub most_one : (ps : List Point) → points_fit kind.Point true ps ≡ true → own_points (point (point_in ps)) ≡ ps
-most_one [] h = refl
-most_one (q ∷ []) h = refl
 most_one (q ∷ s ∷ ps) h = cc h
+most_one _ h = refl
 
 -- a kind that holds no points fits no row with a point
 pub none_fit : (k : Kind) (w : Bool) (q : Point) (ps : List Point) → has_points k ≡ false
@@ -373,11 +369,7 @@ pub none_fit : (k : Kind) (w : Bool) (q : Point) (ps : List Point) → has_point
 none_fit kind.Point w q ps lacks h = cc lacks
 none_fit kind.Linestring w q ps lacks h = cc lacks
 none_fit kind.Ring w q ps lacks h = cc lacks
-none_fit kind.Polygon w q ps lacks h = cc h
-none_fit kind.MultiPoint w q ps lacks h = cc h
-none_fit kind.MultiLinestring w q ps lacks h = cc h
-none_fit kind.MultiPolygon w q ps lacks h = cc h
-none_fit kind.Collection w q ps lacks h = cc h
+none_fit _ w q ps lacks h = cc h
 
 -- the row of such a kind has no points
 pub no_points_of : (l k : Kind) (w : Bool) (ps : List Point) → k ≡ l → has_points l ≡ false
@@ -397,9 +389,8 @@ mode (Some p) (Some f) n = is_some f.id
 
 -- the later siblings have ids as the first has
 pub mode_next : (p f : Option Row) (r : Row) (c l : Nodes) → mode p (next_first p f r) l ≡ mode p f (node r c l)
-mode_next None f r c l = refl
 mode_next (Some p) None r c l = refl
-mode_next (Some p) (Some f) r c l = refl
+mode_next _ _ r c l = refl
 
 -- the row itself has an id as the first has
 pub mode_here : (p f : Option Row) (r : Row) (c l : Nodes) → Facts p f r → is_some r.id ≡ mode p f (node r c l)

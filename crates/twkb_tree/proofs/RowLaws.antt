@@ -165,8 +165,6 @@ simple_each m p row below ids (x ∷ xs) e h = (
 -- the rows below a simple shape are not members of a collection
 simple_nests : (m : Allowance) (d : ℕ) (p : Row) (s : Simple) → is_collection p.kind ≡ false
     → Locally (Nests m) (Some p) (simple_below d s)
-simple_nests m d p (point o) e = tt
-simple_nests m d p (line ps) e = tt
 simple_nests m d p (polygon rings) e = simple_each m p (plain_row d kind.Ring) (λ ring. none) None rings e (λ id x. tt)
 simple_nests m d p (multi_point ids ps) e = simple_each m p
     (λ id q. plain_row d kind.Point id (q ∷ [])) (λ q. none) ids ps e (λ id x. tt)
@@ -176,6 +174,7 @@ simple_nests m d p (multi_polygon ids areas) e =
     simple_each m p (λ id rings. plain_row d kind.Polygon id []) (ring_nodes (suc d)) ids areas e
     (λ id rings. simple_each m (plain_row d kind.Polygon id []) (plain_row (suc d) kind.Ring)
     (λ ring. none) None rings refl (λ id' x. tt))
+simple_nests m d p _ e = tt
 
 mutual
   nests_depth : (m : Allowance) (d : ℕ) (id : Option ℤ) (g : Tree) → d ≤ m.nest

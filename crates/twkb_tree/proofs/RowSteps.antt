@@ -393,12 +393,11 @@ areas_listed d ids (rings ∷ areas) = rw (listed-rings (suc d) rings)
 
 -- the rows of the forest below a simple shape
 listed-simple : (d : ℕ) (s : Simple) → listed (simple_below d s) ≡ rows_below d s
-listed-simple d (point o) = refl
-listed-simple d (line ps) = refl
 listed-simple d (polygon rings) = listed-rings d rings
 listed-simple d (multi_point ids ps) = listed-each (λ id p. plain_row d kind.Point id (p ∷ [])) (λ p. none) ids ps
 listed-simple d (multi_line ids lines) = listed-each (plain_row d kind.Linestring) (λ ps. none) ids lines
 listed-simple d (multi_polygon ids areas) = areas_listed d ids areas
+listed-simple d _ = refl
 
 mutual
   listed-tree : (id : Option ℤ) (d : ℕ) (g : Tree) → own_row id d g ∷ listed (tree_below (suc d) g) ≡ rows_with id d g
@@ -511,8 +510,6 @@ area_fits p f d id e h = rw (e, h.0, h.1) refl
 
 -- the rows below a simple shape fit
 fit_simple : (d : ℕ) (r : Row) (s : Simple) → r.kind ≡ kind_in s → IdsFit s → Fit d (Some r) None (simple_below d s)
-fit_simple d r (point o) e h = tt
-fit_simple d r (line ps) e h = tt
 fit_simple d r (polygon rings) e h = fit_rings d r None rings e tt
 fit_simple d r (multi_point ids ps) e h =
     fit_each d r (λ id p. plain_row d kind.Point id (p ∷ [])) (λ p. none) None ids ps (λ id x. refl)
@@ -527,6 +524,7 @@ fit_simple d r (multi_polygon ids areas) e h =
     (λ id x. refl) (λ id x. refl) (λ f id rings. area_fits r f d id e)
     (λ id rings. fit_rings (suc d) (plain_row d kind.Polygon id []) None rings refl tt)
     (suits_first ids (length areas) h)
+fit_simple d r _ e h = tt
 
 -- the parent of a geometry is a collection, or it is a root without an id
 abbrev pub IsRoom : Option Row → Option ℤ → Type 0
@@ -537,22 +535,12 @@ IsRoom (Some p) id = p.kind ≡ kind.Collection
 own_row_fits : (p f : Option Row) (id : Option ℤ) (d : ℕ) (g : Tree) → IsTree g → IsRoom p id
     → Goes f (own_row id d g).id → fits p f (own_row id d g) ≡ true
 own_row_fits None f id d (simple q (point None)) t e h = rw (e, is_precision-true q t.0, rw e at h.0) refl
-own_row_fits None f id d (simple q (point (Some x))) t e h = rw (e, is_precision-true q t.0, rw e at h.0) refl
 own_row_fits None f id d (simple q (line [])) t e h = rw (e, is_precision-true q t.0, rw e at h.0) refl
-own_row_fits None f id d (simple q (line (x ∷ xs))) t e h = rw (e, is_precision-true q t.0, rw e at h.0) refl
-own_row_fits None f id d (simple q (polygon rings)) t e h = rw (e, is_precision-true q t.0, rw e at h.0) refl
-own_row_fits None f id d (simple q (multi_point ids ps)) t e h = rw (e, is_precision-true q t.0, rw e at h.0) refl
-own_row_fits None f id d (simple q (multi_line ids lines)) t e h = rw (e, is_precision-true q t.0, rw e at h.0) refl
-own_row_fits None f id d (simple q (multi_polygon ids areas)) t e h = rw (e, is_precision-true q t.0, rw e at h.0) refl
+own_row_fits None f id d (simple q _) t e h = rw (e, is_precision-true q t.0, rw e at h.0) refl
 own_row_fits None f id d (collection q ids gs) t e h = rw (e, is_precision-true q t.0, rw e at h.0) refl
 own_row_fits (Some p) f id d (simple q (point None)) t e h = rw (e, is_precision-true q t.0, h.0, h.1) refl
-own_row_fits (Some p) f id d (simple q (point (Some x))) t e h = rw (e, is_precision-true q t.0, h.0, h.1) refl
 own_row_fits (Some p) f id d (simple q (line [])) t e h = rw (e, is_precision-true q t.0, h.0, h.1) refl
-own_row_fits (Some p) f id d (simple q (line (x ∷ xs))) t e h = rw (e, is_precision-true q t.0, h.0, h.1) refl
-own_row_fits (Some p) f id d (simple q (polygon rings)) t e h = rw (e, is_precision-true q t.0, h.0, h.1) refl
-own_row_fits (Some p) f id d (simple q (multi_point ids ps)) t e h = rw (e, is_precision-true q t.0, h.0, h.1) refl
-own_row_fits (Some p) f id d (simple q (multi_line ids lines)) t e h = rw (e, is_precision-true q t.0, h.0, h.1) refl
-own_row_fits (Some p) f id d (simple q (multi_polygon ids areas)) t e h = rw (e, is_precision-true q t.0, h.0, h.1) refl
+own_row_fits (Some p) f id d (simple q _) t e h = rw (e, is_precision-true q t.0, h.0, h.1) refl
 own_row_fits (Some p) f id d (collection q ids gs) t e h = rw (e, is_precision-true q t.0, h.0, h.1) refl
 
 -- the id of the row is the given one
@@ -603,10 +591,9 @@ all_ids-each : {A : Type 0} (row : Option ℤ → A → Row) (below : A → Node
     (xs : List A) → ((id : Option ℤ) (x : A) → (row id x).id ≡ id) → length ids ≡ length xs
     → all_ids (each_nodes row below (Some ids) xs) ≡ ids
 all_ids-each row below [] [] at e = refl
-all_ids-each row below (id ∷ ids) [] at e = absurd (omega arith)
-all_ids-each row below [] (x ∷ xs) at e = absurd (omega arith)
 all_ids-each row below (id ∷ ids) (x ∷ xs) at e = rw (at (Some id) x)
     (ap (λ is. id ∷ is) (all_ids-each row below ids xs at (omega arith)))
+all_ids-each row below _ _ at e = absurd (omega arith)
 
 -- the ids of parts
 ids_of-each : {A : Type 0} (row : Option ℤ → A → Row) (below : A → Nodes) (ids : Ids) (xs : List A)
@@ -625,10 +612,9 @@ ids_of-each row below (Some (id ∷ ids)) (x ∷ xs) at h =
 all_ids-members : (d : ℕ) (ids : List ℤ) (gs : Trees) → length ids ≡ count gs
     → all_ids (member_nodes d (Some ids) gs) ≡ ids
 all_ids-members d [] end e = refl
-all_ids-members d (id ∷ ids) end e = absurd (omega arith)
-all_ids-members d [] (g ▷ gs) e = absurd (omega arith)
 all_ids-members d (id ∷ ids) (g ▷ gs) e = rw (own_row-id (Some id) d g)
     (ap (λ is. id ∷ is) (all_ids-members d ids gs (omega arith)))
+all_ids-members d _ _ e = absurd (omega arith)
 
 -- the ids of members
 ids_of-members : (d : ℕ) (ids : Ids) (gs : Trees) → HasIds ids (count gs) → ids_of (member_nodes d ids gs) ≡ ids
@@ -669,8 +655,6 @@ areas_of-areas d ids (rings ∷ areas) = rw (lines_of-rings (suc d) rings)
 -- the forest below a simple shape gives the shape
 simple_from-below : (d : ℕ) (s : Simple) → IdsFit s → simple_from (kind_in s) (own_points s) (simple_below d s) ≡ s
 simple_from-below d (point None) h = refl
-simple_from-below d (point (Some p)) h = refl
-simple_from-below d (line ps) h = refl
 simple_from-below d (polygon rings) h = ap (λ ls. polygon ls) (lines_of-rings d rings)
 simple_from-below d (multi_point ids ps) h =
     ap (λ is. multi_point is (points_of (simple_below d (multi_point ids ps))))
@@ -686,15 +670,12 @@ simple_from-below d (multi_polygon ids areas) h =
     (ids_of-each (λ id rings. plain_row d kind.Polygon id []) (ring_nodes (suc d)) ids areas
     (λ id x. refl) h)
     ∙ ap (λ ls. multi_polygon ids ls) (areas_of-areas d ids areas)
+simple_from-below d _ h = refl
 
 -- a simple shape's kind is not the collection
 pub simple_kind : (s : Simple) → is_collection (kind_in s) ≡ false
 simple_kind (point o) = refl
-simple_kind (line ps) = refl
-simple_kind (polygon rings) = refl
-simple_kind (multi_point ids ps) = refl
-simple_kind (multi_line ids lines) = refl
-simple_kind (multi_polygon ids areas) = refl
+simple_kind _ = refl
 
 mutual
   tree_back : (d : ℕ) (id : Option ℤ) (g : Tree) → IsTree g

@@ -1,5 +1,5 @@
 -- Trees of shapes, and their members as lists.
-use Rattle.std.proofs.Common.{◌≡◌, List, [], ◌∷◌, ◌++◌, length, suc, refl, ap, ℤ, None, Some, subst, sym, ◌∙◌}
+use Rattle.std.proofs.Common.{◌≡◌, List, [], ◌∷◌, ◌++◌, length, suc, refl, ap, ℤ, None, subst, sym, ◌∙◌}
 use Rattle.std.specs.List.{AllByRecursion}
 use Rattle.std.specs.Prelude.{Bool, IsTrue, ◌↔◌}
 use Rattle.twkb_tree.specs.Tree.{Tree, trees, count, IsTree, AreTrees, members, precision_of, IsPrecision, HasIds}
@@ -37,34 +37,24 @@ all_push P (y ∷ ys) x h s = (h.0, all_push P ys x h.1 s)
 
 -- a shape with fitting ids and a precision in range is a geometry
 pub IsTree-tree_of : (p : ℤ) (s : Shape) → IsPrecision p → HasFitIds s → HasTrees s → IsTree (tree_of p s)
-IsTree-tree_of p (Point o) small fit are = (small, tt)
-IsTree-tree_of p (Line ps) small fit are = (small, tt)
-IsTree-tree_of p (Polygon rings) small fit are = (small, tt)
 IsTree-tree_of p (MultiPoint ps ids) small fit are = (small, fit)
 IsTree-tree_of p (MultiLine lines ids) small fit are = (small, fit)
 IsTree-tree_of p (MultiPolygon areas ids) small fit are = (small, fit)
 IsTree-tree_of p (Collection gs ids) small fit are = (small, subst (λ n. HasIds ids n) (sym (count-trees gs)) fit, are)
+IsTree-tree_of p _ small fit are = (small, tt)
 
 -- a geometry has fitting ids and a precision in range
 pub fit-tree_of : (p : ℤ) (s : Shape) → IsTree (tree_of p s) → IsPrecision p × HasFitIds s
-fit-tree_of p (Point o) t = (t.0, tt)
-fit-tree_of p (Line ps) t = (t.0, tt)
-fit-tree_of p (Polygon rings) t = (t.0, tt)
 fit-tree_of p (MultiPoint ps ids) t = t
 fit-tree_of p (MultiLine lines ids) t = t
 fit-tree_of p (MultiPolygon areas ids) t = t
 fit-tree_of p (Collection gs ids) t = (t.0, subst (λ n. HasIds ids n) (count-trees gs) t.1)
+fit-tree_of p _ t = (t.0, tt)
 
 -- the points of the shape are those of its tree
 pub IsTreeInRange-tree_of : (p : ℤ) (s : Shape) → IsShapeInRange s → IsTreeInRange (tree_of p s)
 IsTreeInRange-tree_of p (Point None) h = tt
-IsTreeInRange-tree_of p (Point (Some q)) h = h
-IsTreeInRange-tree_of p (Line ps) h = h
-IsTreeInRange-tree_of p (Polygon rings) h = h
-IsTreeInRange-tree_of p (MultiPoint ps ids) h = h
-IsTreeInRange-tree_of p (MultiLine lines ids) h = h
-IsTreeInRange-tree_of p (MultiPolygon areas ids) h = h
-IsTreeInRange-tree_of p (Collection gs ids) h = h
+IsTreeInRange-tree_of p _ h = h
 
 -- a list turned into members and back is the list
 members-trees : (gs : List Tree) → members (trees gs) ≡ gs

@@ -6,7 +6,7 @@ use Rattle.std.proofs.lemmas.Grind.{flat_map-append}
 use Rattle.std.proofs.lemmas.Bool.Decides.{nat_tests}
 use Rattle.twkb_num.specs.Varint.{varint_of}
 use Rattle.twkb_points.specs.Point.{Point}
-use Rattle.twkb_tree.specs.Tree.{Simple, point, line, polygon, multi_point, multi_line, multi_polygon, Tree, simple}
+use Rattle.twkb_tree.specs.Tree.{Simple, polygon, multi_point, multi_line, multi_polygon, Tree, simple}
 use Rattle.twkb_tree.specs.Tree.{collection, Trees, end, ◌▷◌, Ids, members}
 use Rattle.twkb_tree.specs.declared.kind.Kind.{Kind}
 use Rattle.twkb_tree.specs.Rows.{Row, plain_row, polygon_rows, own_row, rows_with, rows_below, member_rows, ring_rows}
@@ -153,11 +153,10 @@ pub ids-each : {A : Type 0} (own : Option ℤ → A → Row)
     → length ids ≡ length xs
     → ids_bytes (rows_of_each (λ id x. own id x ∷ []) (Some ids) xs) ≡ walked at (map OfId ids)
 ids-each own is at [] [] e = refl
-ids-each own is at [] (x ∷ xs) e = absurd (omega (arith, e))
-ids-each own is at (id ∷ ids) [] e = absurd (omega (arith, e))
 ids-each own is at (id ∷ ids) (x ∷ xs) e =
     ap (λ (i : Option ℤ). id_bytes i ++ ids_bytes (rows_of_each (λ id x. own id x ∷ []) (Some ids) xs)) (is (Some id) x)
     ∙ ap (λ l. signed id ++ l) (ids-each own is at ids xs (omega (arith, e)))
+ids-each own is at _ _ e = absurd (omega (arith, e))
 
 -- ---- depths
 
@@ -181,8 +180,6 @@ deep-rings d rings = deep-each d (λ none ring. plain_row d Kind.Ring none ring 
     (λ id x. (omega arith, tt)) None rings
 
 deep-simple : (d : ℕ) (s : Simple) → AreDeep d (rows_below d s)
-deep-simple d (point o) = tt
-deep-simple d (line ps) = tt
 deep-simple d (polygon rings) = deep-rings d rings
 deep-simple d (multi_point ids ps) = deep-each d (λ id p. plain_row d Kind.Point id (p ∷ []) ∷ [])
     (λ id x. (omega arith, tt)) ids ps
@@ -190,6 +187,7 @@ deep-simple d (multi_line ids lines) = deep-each d (λ id ps. plain_row d Kind.L
     (λ id x. (omega arith, tt)) ids lines
 deep-simple d (multi_polygon ids areas) = deep-each d (polygon_rows d)
     (λ id x. (omega arith, deep-less d (ring_rows (suc d) x) (deep-rings (suc d) x))) ids areas
+deep-simple d _ = tt
 
 -- the rows below a geometry's own row, at depth d
 abbrev pub below_of : ℕ → Tree → List Row

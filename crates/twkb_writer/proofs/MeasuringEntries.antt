@@ -50,8 +50,7 @@ length-box (Some e) =
 box_if : (a u : Bool) (ps : List Point) → (if a && u then extent ps else None)
     ≡ (if a && (has_any ps && u) then extent ps else None)
 box_if true true [] = refl
-box_if true false [] = refl
-box_if false u [] = refl
+box_if _ _ [] = refl
 box_if a u (p ∷ ps) = refl
 
 -- ---- the length of a blob

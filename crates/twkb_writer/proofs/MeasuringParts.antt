@@ -165,18 +165,15 @@ polygon_part style d = record {
 
 -- the totals of the parts of a shape
 abbrev pub components_totals : Simple → RowTotals
-components_totals (point o) = blank
-components_totals (line ps) = blank
 components_totals (polygon rings) = rings_totals rings
 components_totals (multi_point ids ps) = with_each (with_row_of kind.Point (λ p. p ∷ [])) ids ps blank
 components_totals (multi_line ids lines) = with_each (with_row_of kind.Linestring (λ ps. ps)) ids lines blank
 components_totals (multi_polygon ids areas) = with_each with_polygon ids areas blank
+components_totals _ = blank
 
 -- the rows of the parts have these totals
 pub totals_parts : (style : Style) (d : ℕ) (s : Simple) (rest : List Row) → IsAbove d rest
     → totals style d (rows_below d s ++ rest) ≡ components_totals s
-totals_parts style d (point o) rest h = totals_none style d rest h
-totals_parts style d (line ps) rest h = totals_none style d rest h
 totals_parts style d (polygon rings) rest h = totals_rings style d rings rest h
 totals_parts style d (multi_point ids ps) rest h =
     totals_each style d (λ id p. plain_row d kind.Point id (p ∷ []) ∷ [])
@@ -192,6 +189,7 @@ totals_parts style d (multi_polygon ids areas) rest h =
     totals_each style d (polygon_rows d) with_polygon flatten (polygon_part style d) ids areas rest
     (above_less d rest h)
     ∙ ap (with_each with_polygon ids areas) (totals_none style d rest h)
+totals_parts style d _ rest h = totals_none style d rest h
 
 pub flat_map_ones : (ps : List Point) → flat_map (λ p. p ∷ []) ps ≡ ps
 flat_map_ones [] = refl
@@ -200,8 +198,6 @@ flat_map_ones (p ∷ ps) = ap (λ qs. p ∷ qs) (flat_map_ones ps)
 -- the points of the row and of its parts are those of the shape
 pub ahead_parts : (style : Style) (d : ℕ) (s : Simple) (rest : List Row)
     → own_points s ++ points_ahead (rows_below d s ++ rest) ≡ points_in s ++ points_ahead rest
-ahead_parts style d (point o) rest = refl
-ahead_parts style d (line ps) rest = refl
 ahead_parts style d (polygon rings) rest =
     ahead_each style d (λ none ring. plain_row d kind.Ring none ring ∷ [])
     (with_row_of kind.Ring (λ ps. ps)) (λ ps. ps) (one_part style d kind.Ring (λ ps. ps))
@@ -217,12 +213,11 @@ ahead_parts style d (multi_line ids lines) rest =
     (one_part style d kind.Linestring (λ ps. ps)) ids lines rest
 ahead_parts style d (multi_polygon ids areas) rest = ahead_each style d (polygon_rows d)
     with_polygon flatten (polygon_part style d) ids areas rest
+ahead_parts style d _ rest = refl
 
 -- none of the rows of the parts is a geometry
 pub no_entry_parts : (style : Style) (d : ℕ) (s : Simple) (rest : List Row)
     → measured style (rows_below d s ++ rest) ≡ measured style rest
-no_entry_parts style d (point o) rest = refl
-no_entry_parts style d (line ps) rest = refl
 no_entry_parts style d (polygon rings) rest =
     no_entry_each style d (λ none ring. plain_row d kind.Ring none ring ∷ [])
     (with_row_of kind.Ring (λ ps. ps)) (λ ps. ps) (one_part style d kind.Ring (λ ps. ps))
@@ -237,6 +232,7 @@ no_entry_parts style d (multi_line ids lines) rest =
     (one_part style d kind.Linestring (λ ps. ps)) ids lines rest
 no_entry_parts style d (multi_polygon ids areas) rest = no_entry_each style d (polygon_rows d)
     with_polygon flatten (polygon_part style d) ids areas rest
+no_entry_parts style d _ rest = refl
 
 -- ==== The number of members, and the bytes of ids and of rows at a depth, part by part.
 
@@ -282,11 +278,10 @@ some_ids_each : {A : Type 0} (w : Option ℤ → A → RowTotals → RowTotals) 
     → (ids : List ℤ) (xs : List A) → length ids ≡ length xs
     → (with_each w (Some ids) xs blank).ids ≡ ids_sum ids
 some_ids_each w counted [] [] e = refl
-some_ids_each w counted [] (x ∷ xs) e = absurd (omega (arith, e))
-some_ids_each w counted (id ∷ ids) [] e = absurd (omega (arith, e))
 some_ids_each w counted (id ∷ ids) (x ∷ xs) e =
     counted.ids (Some id) x (with_each w (Some ids) xs blank)
     ∙ ap (λ n. signed_len id + n) (some_ids_each w counted ids xs (omega (arith, e)))
+some_ids_each w counted _ _ e = absurd (omega (arith, e))
 
 -- the bytes of the ids are those of the parts' ids
 pub ids_each : {A : Type 0} (w : Option ℤ → A → RowTotals → RowTotals) → IsCounted w
@@ -419,9 +414,8 @@ from_origin-tail_of (p ∷ ps) = refl
 
 slots_len-append : (ps qs : List Slot) → slots_len (ps ++ qs) ≡ slots_len ps + slots_len qs
 slots_len-append [] qs = omega arith
-slots_len-append (OfCount c n ∷ ps) qs = omega (arith, slots_len-append ps qs)
-slots_len-append (OfId id ∷ ps) qs = omega (arith, slots_len-append ps qs)
 slots_len-append (OfPoint p ∷ ps) qs = slots_len-append ps qs
+slots_len-append (_ ∷ ps) qs = omega (arith, slots_len-append ps qs)
 
 slots_len-points : (ps : List Point) → slots_len (map OfPoint ps) ≡ 0
 slots_len-points [] = refl
@@ -448,12 +442,11 @@ slots_len-run ps = ap (λ n. number_len (length ps) + n) (sym (slots_len-points 
 
 -- the number of bytes of the slots of its parts
 abbrev pub parts_bytes : Simple → ℕ
-parts_bytes (point o) = 0
-parts_bytes (line ps) = 0
 parts_bytes (polygon rings) = total (λ ps. slots_len (run_of ps)) rings
 parts_bytes (multi_point ids ps) = total (λ (p : Point). 0) ps
 parts_bytes (multi_line ids lines) = total (λ ps. slots_len (run_of ps)) lines
 parts_bytes (multi_polygon ids areas) = total (λ rings. slots_len (rings_of rings)) areas
+parts_bytes _ = 0
 
 no_parts : IsTotal blank 0 None 0
 no_parts = record {
@@ -486,8 +479,6 @@ lead_rings rings = omega (
 
 -- the totals of the parts of a shape
 pub total_parts : (s : Simple) → IdsFit s → IsTotal (components_totals s) (parts_in s) (ids_in s) (parts_bytes s)
-total_parts (point o) h = no_parts
-total_parts (line ps) h = no_parts
 total_parts (polygon rings) h = total_rings rings
 total_parts (multi_point ids ps) h = total_each kind.Point (λ p. length (p ∷ [])) (λ p. blank)
     (λ p. 0) (λ p. refl) ids ps h
@@ -495,6 +486,7 @@ total_parts (multi_line ids lines) h = total_each kind.Linestring (λ ps. length
     (λ ps. slots_len (run_of ps)) slots_len-run ids lines h
 total_parts (multi_polygon ids areas) h = total_each kind.Polygon (λ rings. 0) rings_totals
     (λ rings. slots_len (rings_of rings)) lead_rings ids areas h
+total_parts _ h = no_parts
 
 total_none : (ps : List Point) → total (λ (p : Point). 0) ps ≡ 0
 total_none [] = refl

@@ -422,14 +422,13 @@ capped (r ∷ rs) v =
 
 -- the rows from a place on are within the caps
 pub capped_drop : (i : ℕ) (rs : List Row) → IsCapped rs → IsCapped (drop i rs)
-capped_drop zero rs c = c
-capped_drop (suc i) [] c = c
 capped_drop (suc i) (r ∷ rs) c =
     capped_drop i rs (record {
       nodes = omega (arith, c.nodes);
       points = omega (arith, c.points, length-append r.points (row_points rs));
       depths = c.depths.1;
     })
+capped_drop _ _ c = c
 
 -- no node is deeper than the cap
 pub node_depth : (rs : List Row) (i : ℕ) (node : Node) → IsCapped rs → IsNode rs i node

@@ -1,7 +1,7 @@
 -- The totals of any geometry, from its rows and from its tree.
 use Rattle.std.proofs.Common.{◌≡◌, ℤ, pos, negsuc, Bool, true, false, refl, sym, ◌∙◌, ap, ℕ, suc, ◌+◌, ◌<◌, ◌≤◌, List}
 use Rattle.std.proofs.Common.{[], ◌∷◌, ◌++◌, length, Option, None, Some, subst, arith, append_assoc, append-nil}
-use Rattle.std.proofs.Common.{length-append, zero, ◌-◌, drop, get_or}
+use Rattle.std.proofs.Common.{length-append, ◌-◌, drop, get_or}
 use Rattle.std.specs.Prelude.{◌&&◌, if◌then◌else◌, is_some, ◌||◌, nat_eq, map, flat_map}
 use Rattle.std.proofs.lemmas.Bool.{eqb-true, eq-eqb}
 use Rattle.std.proofs.lemmas.Bool.Decides.{nat_tests}
@@ -12,7 +12,7 @@ use Rattle.twkb_points.specs.Point.{Point}
 use Rattle.twkb_points.specs.Extent.{joined_options, extent}
 use Rattle.twkb_points.proofs.ExtentLemmas.{joined_options-none, extent-append}
 use Rattle.twkb_tree.specs.Tree.{Tree, simple, collection, Trees, end, ◌▷◌, precision_of, Ids, HasIds, IdsFit, Simple}
-use Rattle.twkb_tree.specs.Tree.{point, line, polygon, multi_point, multi_line, multi_polygon, count, members, flat}
+use Rattle.twkb_tree.specs.Tree.{point, count, members, flat}
 use Rattle.twkb_tree.specs.Tree.{flat_all, points_in, IsTree, AreTrees, trees, nodes, nodes_all, area_nodes, flatten}
 use Rattle.twkb_tree.specs.Uniform.{int_eq, has_precision, have_precision, uniform}
 use Rattle.twkb_tree.specs.Rows.{Row, kind_in, own_points, own_row, rows, rows_below, rows_with, member_rows, first_id}
@@ -57,8 +57,7 @@ use Rattle.twkb_writer.proofs.MeasuringEntries.{IsMeasured, entry_is, blob_lengt
 int_eq_is : (m n : ℤ) → int_eq m n ≡ true → m ≡ n
 int_eq_is (pos m) (pos n) h = ap pos (eqb-true m n h)
 int_eq_is (negsuc m) (negsuc n) h = ap negsuc (eqb-true m n h)
-int_eq_is (pos m) (negsuc n) h = cc
-int_eq_is (negsuc m) (pos n) h = cc
+int_eq_is _ _ h = cc
 
 -- a number passes the test with itself
 int_eq_self : (n : ℤ) → int_eq n n ≡ true
@@ -89,11 +88,10 @@ two_ones p q r false e = apart p q r (int_eq p q) refl e
 
 -- all of both groups have a precision if all of each have it
 pub all_are-agreed : (p : ℤ) (a b : Precisions) → all_are p (agreed a b) ≡ (all_are p a && all_are p b)
-all_are-agreed p Absent b = refl
 all_are-agreed p (One q) Absent = and_true (int_eq p q)
 all_are-agreed p (One q) (One r) = two_ones p q r (int_eq q r) refl
 all_are-agreed p (One q) Several = and_false (int_eq p q)
-all_are-agreed p Several b = refl
+all_are-agreed p _ b = refl
 
 -- the precisions of a geometry and of all members in it
 abbrev mutual
@@ -177,11 +175,7 @@ trees_precisions style ids (g ▷ gs) = ap (agreed (precisions_of g)) (trees_pre
 
 simple_point : (s : Simple) (p : ℤ) → is_point_kind (kind_in s) ≡ is_point (simple p s)
 simple_point (point o) p = refl
-simple_point (line ps) p = refl
-simple_point (polygon rings) p = refl
-simple_point (multi_point ids ps) p = refl
-simple_point (multi_line ids lines) p = refl
-simple_point (multi_polygon ids areas) p = refl
+simple_point _ p = refl
 
 pub simple_measured : (style : Style) (p : ℤ) (s : Simple) → IdsFit s
     → IsMeasured style (simple p s) (kind_in s) (length (own_points s)) (components_totals s)
@@ -439,9 +433,8 @@ each_all w ids xs k l start is =
 -- the parts from a place on have at most as many points as all
 pub fewer_points : {A : Type 0} (f : A → List Point) (k : ℕ) (xs : List A)
     → length (flat_map f (drop k xs)) ≤ length (flat_map f xs)
-fewer_points f zero xs = omega arith
-fewer_points f (suc k) [] = omega arith
 fewer_points f (suc k) (x ∷ xs) = omega (arith, fewer_points f k xs, length-append (f x) (flat_map f xs))
+fewer_points f _ _ = omega arith
 
 -- the points of a part and of the parts after it
 pub count_back : {A : Type 0} (f : A → List Point) (xs : List A) (k : ℕ) (x : A) → 0 < k
@@ -470,9 +463,8 @@ length_back xs k x some within read = omega (arith, ap (λ ys. length ys) (from_
 
 -- from a place on there are at most as many parts as in all
 pub fewer : {A : Type 0} (k : ℕ) (xs : List A) → length (drop k xs) ≤ length xs
-fewer zero xs = omega arith
-fewer (suc k) [] = omega arith
 fewer (suc k) (x ∷ xs) = omega (arith, fewer k xs)
+fewer _ _ = omega arith
 
 -- the number of rows of polygons from a place on
 pub areas_back : (xs : List (List (List Point))) (k : ℕ) (x : List (List Point)) → 0 < k
@@ -481,9 +473,8 @@ pub areas_back : (xs : List (List (List Point))) (k : ℕ) (x : List (List Point
 areas_back xs k x some within read = omega (arith, ap area_nodes (from_before xs k x some within read))
 
 pub fewer_areas : (k : ℕ) (xs : List (List (List Point))) → area_nodes (drop k xs) ≤ area_nodes xs
-fewer_areas zero xs = omega arith
-fewer_areas (suc k) [] = omega arith
 fewer_areas (suc k) (x ∷ xs) = omega (arith, fewer_areas k xs)
+fewer_areas _ _ = omega arith
 
 -- a polygon has at most as many rings as all polygons have rows
 pub area_within : (xs : List (List (List Point))) (k : ℕ) (x : List (List Point)) → 0 < k
@@ -513,24 +504,17 @@ members_have_rows (simple p s ∷ xs) = omega (arith, length-rows_with None 0 (s
 members_have_rows (collection p ids gs ∷ xs) = omega (arith, members_have_rows xs)
 
 pub fewer_nodes : (k : ℕ) (xs : List Tree) → nodes_all (trees (drop k xs)) ≤ nodes_all (trees xs)
-fewer_nodes zero xs = omega arith
-fewer_nodes (suc k) [] = omega arith
 fewer_nodes (suc k) (x ∷ xs) = omega (arith, fewer_nodes k xs)
+fewer_nodes _ _ = omega arith
 
 pub fewer_flat : (k : ℕ) (xs : List Tree) → length (flat_all (trees (drop k xs))) ≤ length (flat_all (trees xs))
-fewer_flat zero xs = omega arith
-fewer_flat (suc k) [] = omega arith
 fewer_flat (suc k) (x ∷ xs) = omega (arith, fewer_flat k xs, length-append (flat x) (flat_all (trees xs)))
+fewer_flat _ _ = omega arith
 
 -- a geometry's own row has at most as many points as the geometry
 pub own_within : (id : Option ℤ) (g : Tree) → length (own_row id 0 g).points ≤ length (flat g)
 own_within id (simple p (point o)) = omega arith
-own_within id (simple p (line ps)) = omega arith
-own_within id (simple p (polygon rings)) = omega arith
-own_within id (simple p (multi_point ids ps)) = omega arith
-own_within id (simple p (multi_line ids lines)) = omega arith
-own_within id (simple p (multi_polygon ids areas)) = omega arith
-own_within id (collection p ids gs) = omega arith
+own_within id _ = omega arith
 
 -- a geometry with a known shape
 pub by_shape : (p : ℤ) (shape told : Shape) (g : Tree) → tree_of p shape ≡ g → shape ≡ told → tree_of p told ≡ g

@@ -52,11 +52,7 @@ precision_bits (negsuc n) h = let high : n ≤ 7 = (let low = h.0 in omega (arit
 
 simple_type : (s : Simple) → type_of (kind_in s) ≡ kind_of s
 simple_type (point o) = refl
-simple_type (line ps) = refl
-simple_type (polygon rings) = refl
-simple_type (multi_point ids ps) = refl
-simple_type (multi_line ids lines) = refl
-simple_type (multi_polygon ids areas) = refl
+simple_type _ = refl
 
 tree_type : (id : Option ℤ) (d : ℕ) (g : Tree) → type_of (own_row id d g).kind ≡ kind_of_tree g
 tree_type id d (simple p s) = simple_type s
@@ -153,9 +149,8 @@ full_bits false false (Some e) = refl
 -- the sum of the bits in a plain blob
 plain_bits : (bare named : Bool) → bit_value false 0 + bit_value false 1 + bit_value
     (not bare && named) 2 + bit_value bare 4 ≡ (if bare then 16 else if named then 4 else 0)
-plain_bits true named = refl
 plain_bits false true = refl
-plain_bits false false = refl
+plain_bits _ _ = refl
 
 pub meta_is : (style : Style) (id : Option ℤ) (d : ℕ) (g : Tree)
     → metadata_of style (length (own_row id d g).points) (entry_of style g) ≡ metadata_byte style g
@@ -369,11 +364,9 @@ put_body style p s d es rs =
 
 simple_body : (style : Style) (p : ℤ) (s : Simple) (d : ℕ) (es : List Entry) (rs : List Row) → IdsFit s → Stops d rs
     → put_body style p s d es rs ≡ own_body style (simple p s) ++ rows_bytes style (reached origin (slots s)) es rs
-simple_body style p (point None) d es rs fit stops = refl
 simple_body style p (point (Some q)) d es rs fit stops =
     ap (λ l. l ++ rows_bytes style q es rs) (sym (ap varints (fields_are (point (Some q)))
     ∙ walked-way origin (q ∷ [])))
-simple_body style p (line []) d es rs fit stops = refl
 simple_body style p (line (q ∷ ps)) d es rs fit stops =
     let v = varint_of (length (q ∷ ps)) in
     let w = way_bytes origin (q ∷ ps) in
@@ -381,7 +374,6 @@ simple_body style p (line (q ∷ ps)) d es rs fit stops =
     ∙ ap (λ l. l ++ rows_bytes style (way_end q ps) es rs)
     (sym (ap varints (fields_are (line (q ∷ ps))) ∙ ap (λ l. v ++ l) (walked-way origin (q ∷ ps))))
     ∙ ap (λ at. varints (fields (line (q ∷ ps))) ++ rows_bytes style at es rs) (sym (reached-way origin (q ∷ ps)))
-simple_body style p (polygon []) d es rs fit stops = refl
 simple_body style p (polygon (ring ∷ rings)) d es rs fit stops =
     many_body (varint_of (length (ring ∷ rings))) [] [] _ (walked origin (flat_map run_of (ring ∷ rings))) _ _ refl
     (ring_rows-bytes style (suc d) (ring ∷ rings) origin es rs) (ap varints (fields_are (polygon (ring ∷ rings))))
@@ -423,6 +415,7 @@ simple_body style p (multi_polygon ids (rings ∷ areas)) d es rs fit stops =
     ∙ ap (λ l. walked origin ms ++ l) (multi_end style ids ms es rs))
     (has_body ids rings areas _ ∙ multi_body Components (length (rings ∷ areas)) ids ms _
     (ap varints (fields_are (multi_polygon ids (rings ∷ areas)))))
+simple_body style p _ d es rs fit stops = refl
 
 -- ---- geometries
 
@@ -587,8 +580,6 @@ entries-rings d rings = entries-each (λ none ring. plain_row d Kind.Ring none r
     (λ id x. omega arith) None rings
 
 entries-below : (d : ℕ) (s : Simple) → entries_in (rows_below d s) ≡ 0
-entries-below d (point o) = refl
-entries-below d (line ps) = refl
 entries-below d (polygon rings) = entries-rings d rings
 entries-below d (multi_point ids ps) = entries-each
     (λ id p. plain_row d Kind.Point id (p ∷ []) ∷ []) (λ id x. omega arith) ids ps
@@ -596,6 +587,7 @@ entries-below d (multi_line ids lines) = entries-each
     (λ id ps. plain_row d Kind.Linestring id ps ∷ []) (λ id x. omega arith) ids lines
 entries-below d (multi_polygon ids areas) = entries-each (polygon_rows d)
     (λ id x. let none = entries-rings (suc d) x in omega (arith, none)) ids areas
+entries-below d _ = refl
 
 mutual
   entries-tree : (style : Style) (id : Option ℤ) (d : ℕ) (g : Tree)
