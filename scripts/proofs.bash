@@ -26,9 +26,11 @@ copy_crates() {
   tar -c -C "$repository" --exclude=out --exclude=must-fail HANDLES "${names[@]}" | tar -x -C "$copy"
 }
 
-# keeps_proofs: whether this user may write where the kit keeps what a run of `rt ci` has passed, for other copies too.
+# keeps_proofs: whether the kit keeps what a run of `rt ci` has passed, for other copies too, and this user may write there.
 keeps_proofs() {
   local beside
+  # a kit that keeps proofs has a word to make all of them anew
+  [[ $(rt --help 2>&1) == *--anew* ]] || return 1
   beside=$(dirname "$(dirname "$(rt doc)")")
   [ -O "$beside/rattle-kept" ] || [ -w "$beside" ]
 }
