@@ -21,13 +21,11 @@ from reason_table import BUFFER, OTHERS, of_kind, own, table
 TYPES = {"row": "RowReason", "polyline": "PolyReason", "blob": "BlobReason"}
 NAMES = {"row": "row", "polyline": "text", "blob": "blob"}
 NUMBERS = {"row": "row_number_of", "polyline": "point_text_number_of", "blob": "blob_number_of"}
-# where a kind stands in the code, its texts in a definition, and a proof that they are short
+# where a kind stands in the code, and its texts in a definition
 TEXTS = {
-    "row": ("twkb_table/src/reason.rt", "twkb_table/specs/Texts.antt", "row_words", "twkb_table/proofs/ShortTexts.antt", "short_row"),
-    "polyline": (
-        "twkb_polyline/src/fault.rt", "twkb_polyline/specs/Texts.antt", "point_text_words", "twkb_polyline/proofs/ShortTexts.antt", "short_point_text",
-    ),
-    "blob": ("twkb_engine/src/blob_reason.rt", "twkb_engine/specs/Texts.antt", "blob_words", None, None),
+    "row": ("twkb_table/src/reason.rt", "twkb_table/specs/Texts.antt", "row_words"),
+    "polyline": ("twkb_polyline/src/fault.rt", "twkb_polyline/specs/Texts.antt", "point_text_words"),
+    "blob": ("twkb_engine/src/blob_reason.rt", "twkb_engine/specs/Texts.antt", "blob_words"),
 }
 # the section of the manual that explains them
 SECTIONS = {"row": "Reasons of a record", "polyline": "Reasons of a polyline", "blob": "Reasons of a blob"}
@@ -89,8 +87,8 @@ def variants(rows, kind):
 
 def text_places(rows):
     """Where the variants and the texts are."""
-    for kind, (code, definition, words, proof, lemma) in TEXTS.items():
-        name, reasons = NAMES[kind], of_kind(rows, kind)
+    for kind, (code, definition, words) in TEXTS.items():
+        reasons = of_kind(rows, kind)
         yield Place(f"crates/{code}", r"(?:    ///.*\n)+(?:    #\[error.*\n)?    \w+(?:\(.*\))?,", variants(rows, kind), f"enum {TYPES[kind]} {{")
         yield Place(
             f"crates/{code}",
@@ -98,12 +96,6 @@ def text_places(rows):
             each(reasons, f'            {TYPES[kind]}::{{code}} => "{{text}}",', "            RowReason::Polyline(_, why) => why.text(),"),
         )
         yield from clauses(rows, kind, f"crates/{definition}", ("words", words), 'codes "{text}"', "offset reason) = point_text_words reason")
-        if proof:
-            yield Place(
-                f"crates/{proof}",
-                rf"{lemma} (?:{name}\.\w+|\({name}\.Polyline .*\)) = .*",
-                each(reasons, f"{lemma} {name}.{{code}} = omega arith", f"{lemma} (row.Polyline offset reason) = short_point_text reason"),
-            )
 
 
 def rule_places(rows):
@@ -156,11 +148,6 @@ def proof_places(rows):
         + each(reasons["blob"], "cause.Blob 0 blob.{code}")
     )
     yield Place(file, r"    cause\.(?:Row|Blob) 0 .* ∷", [f"    {cause} ∷" for cause in causes])
-    found = (
-        each(reasons["row"], "Row number row.{code}") + each(reasons["polyline"], "Row number (row.Polyline offset text.{code})")
-        + each(reasons["blob"], "Blob offset blob.{code}")
-    )
-    yield Place(file, r"found \(cause\.(?:Row|Blob) .*\) some = refl", [f"found (cause.{cause}) some = refl" for cause in found])
     for kind, lemma in (("polyline", "no_point_text n lacks"), ("row", "no_row n lacks points"), ("blob", "no_blob n lacks")):
         name = NAMES[kind]
         lines = [f"{lemma} {name}.{row.code} = λ e. lacks.{at} (sym e)" for at, row in enumerate(reasons[kind])]
