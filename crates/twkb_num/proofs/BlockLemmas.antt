@@ -23,15 +23,15 @@ use Rattle.std.proofs.Math.Seq.{drop-append-add}
 use Rattle.twkb_num.specs.Block.{units_in, AreUnits, AreEnds, AreMarks, AreEndsBefore, IsFault}
 use Rattle.twkb_num.specs.declared.block.Marks.{Marks}
 use Rattle.twkb_num.specs.Alphabet.{five_unit}
-use Rattle.twkb_num.specs.Four.{joined_groups, number_in_front, run_of}
+use Rattle.twkb_num.specs.Four.{number_in_front, run_of}
 use Rattle.twkb_num.specs.Spelling.{shortest}
 use Rattle.twkb_num.specs.WholeText.{first_and_last, eight_groups, AreMarked, AreTwoRuns}
 use Rattle.twkb_num.proofs.LaneLemmas.{lanes_are, wrapped_sub}
 use Rattle.twkb_num.proofs.MarkLemmas.{mask_l-drop, mask_l-take}
 use Rattle.twkb_num.proofs.TwoLemmas.{AreLanes}
 use Rattle.twkb_num.proofs.FourLemmas.{marks_of, number_spelled}
-use Rattle.twkb_num.proofs.WordLemmas.{first_word, later_words, number_l-append, number_l-drop, number_l-take}
-use Rattle.twkb_num.proofs.WordLemmas.{later_below, word_of, groups_are, digits-number}
+use Rattle.twkb_num.proofs.WordLemmas.{number_l-append, number_l-drop, number_l-take, later_below, digits-number}
+use Rattle.twkb_num.proofs.WordLemmas.{Each1-append, groups_found, same_in_front}
 
 -- ==== Units at the start of some bytes, and the bits of their ends.
 
@@ -327,73 +327,7 @@ ends_in_slice base radix bytes ends i are = subst (λ l. AreEnds base radix l en
 
 -- ==== Two numbers that are a whole text, by its first eight and its last eight characters.
 
--- ---- the groups of a word
-
--- the eight groups of a word
-groups_of_eight : (a b c d e f g h : ℕ) → a < 256 → b < 256 → c < 256 → d < 256 → e < 256 → f < 256
-    → g < 256 → h < 256 → eight_groups (number_l 256 (a ∷ b ∷ c ∷ d ∷ e ∷ f ∷ g ∷ h ∷ []))
-    ≡ (a % 32 + 32 * (b % 32 + 32 * (c % 32 + 32 * (d % 32))))
-    + 2 ^ 20 * (e % 32 + 32 * (f % 32 + 32 * (g % 32 + 32 * (h % 32))))
-groups_of_eight a b c d e f g h i j k l m n o p =
-    let low = first_word a b c d (e ∷ f ∷ g ∷ h ∷ []) i j k l in
-    let high = later_words a b c d (e ∷ f ∷ g ∷ h ∷ []) i j k l in
-    ap (λ w. joined_groups 32 w + 2 ^ 20 * joined_groups 32
-    (number_l 256 (a ∷ b ∷ c ∷ d ∷ e ∷ f ∷ g ∷ h ∷ []) / 2 ^ 32)) low
-    ∙ ap (λ w. joined_groups 32 (word_of a b c d) + 2 ^ 20 * joined_groups 32 w) high
-    ∙ ap (λ x. x + 2 ^ 20 * joined_groups 32 (word_of e f g h)) (groups_are 32 a b c d (inr refl) i j k l)
-    ∙ ap (λ x. (a % 32 + 32 * (b % 32 + 32 * (c % 32 + 32 * (d % 32)))) + 2 ^ 20 * x)
-    (groups_are 32 e f g h (inr refl) m n o p)
-
--- a word of at most eight units has the number of their groups
-pub groups_found : (us : List ℕ) (more : ℕ) → Each1 (λ u. u < 256) us → length us ≡ suc more → more ≤ 7
-    → eight_groups (number_l 256 us) ≡ number_in_front 32 more us
-groups_found (a ∷ []) zero fit long few =
-    let none : 0 < 256 = omega arith in
-    let same : number_l 256 (a ∷ []) ≡ number_l 256 (a ∷ 0 ∷ 0 ∷ 0 ∷ 0 ∷ 0 ∷ 0 ∷ 0 ∷ []) = omega arith in
-    ap eight_groups same ∙ groups_of_eight a 0 0 0 0 0 0 0 fit.0 none none none none none none none ∙ omega arith
-groups_found (a ∷ b ∷ []) (suc zero) fit long few =
-    let none : 0 < 256 = omega arith in
-    let same : number_l 256 (a ∷ b ∷ []) ≡ number_l 256 (a ∷ b ∷ 0 ∷ 0 ∷ 0 ∷ 0 ∷ 0 ∷ 0 ∷ []) = omega arith in
-    ap eight_groups same ∙ groups_of_eight a b 0 0 0 0 0 0 fit.0 fit.1.0 none none none none none none ∙ omega arith
-groups_found (a ∷ b ∷ c ∷ []) (suc (suc zero)) fit long few =
-    let none : 0 < 256 = omega arith in
-    let same : number_l 256 (a ∷ b ∷ c ∷ []) ≡ number_l 256 (a ∷ b ∷ c ∷ 0 ∷ 0 ∷ 0 ∷ 0 ∷ 0 ∷ []) = omega arith in
-    ap eight_groups same ∙ groups_of_eight a b c 0 0 0 0 0 fit.0 fit.1.0 fit.1.1.0 none none none none none
-    ∙ omega arith
-groups_found (a ∷ b ∷ c ∷ d ∷ []) (suc (suc (suc zero))) fit long few =
-    let none : 0 < 256 = omega arith in
-    let same : number_l 256 (a ∷ b ∷ c ∷ d ∷ []) ≡ number_l 256 (a ∷ b ∷ c ∷ d ∷ 0 ∷ 0 ∷ 0 ∷ 0 ∷ []) = omega arith in
-    ap eight_groups same ∙ groups_of_eight a b c d 0 0 0 0 fit.0 fit.1.0 fit.1.1.0 fit.1.1.1.0 none none none
-    none ∙ omega arith
-groups_found (a ∷ b ∷ c ∷ d ∷ e ∷ []) (suc (suc (suc (suc zero)))) fit long few =
-    let none : 0 < 256 = omega arith in
-    let same : number_l 256 (a ∷ b ∷ c ∷ d ∷ e ∷ []) ≡ number_l 256 (a ∷ b ∷ c ∷ d ∷ e ∷ 0 ∷ 0 ∷ 0 ∷ []) =
-    omega arith in
-    ap eight_groups same ∙ groups_of_eight a b c d e 0 0 0 fit.0 fit.1.0 fit.1.1.0 fit.1.1.1.0 fit.1.1.1.1.0
-    none none none ∙ omega arith
-groups_found (a ∷ b ∷ c ∷ d ∷ e ∷ f ∷ []) (suc (suc (suc (suc (suc zero))))) fit long few =
-    let none : 0 < 256 = omega arith in
-    let same : number_l 256 (a ∷ b ∷ c ∷ d ∷ e ∷ f ∷ []) ≡ number_l 256 (a ∷ b ∷ c ∷ d ∷ e ∷ f ∷ 0 ∷ 0 ∷ []) =
-    omega arith in
-    ap eight_groups same ∙ groups_of_eight a b c d e f 0 0 fit.0 fit.1.0 fit.1.1.0 fit.1.1.1.0 fit.1.1.1.1.0
-    fit.1.1.1.1.1.0 none none ∙ omega arith
-groups_found (a ∷ b ∷ c ∷ d ∷ e ∷ f ∷ g ∷ []) (suc (suc (suc (suc (suc (suc zero)))))) fit long few =
-    let none : 0 < 256 = omega arith in
-    let same : number_l 256 (a ∷ b ∷ c ∷ d ∷ e ∷ f ∷ g ∷ [])
-    ≡ number_l 256 (a ∷ b ∷ c ∷ d ∷ e ∷ f ∷ g ∷ 0 ∷ []) = omega arith in
-    ap eight_groups same ∙ groups_of_eight a b c d e f g 0 fit.0 fit.1.0 fit.1.1.0 fit.1.1.1.0 fit.1.1.1.1.0
-    fit.1.1.1.1.1.0 fit.1.1.1.1.1.1.0 none ∙ omega arith
-groups_found (a ∷ b ∷ c ∷ d ∷ e ∷ f ∷ g ∷ h ∷ []) (suc (suc (suc (suc (suc (suc (suc zero))))))) fit long few =
-    groups_of_eight a b c d e f g h fit.0 fit.1.0 fit.1.1.0 fit.1.1.1.0 fit.1.1.1.1.0 fit.1.1.1.1.1.0
-    fit.1.1.1.1.1.1.0 fit.1.1.1.1.1.1.1.0 ∙ omega arith
-groups_found _ more fit long few = absurd (omega arith)
-
 -- ---- a text by its first eight and its last eight characters
-
--- two lists of bytes
-both_below : (xs ys : List ℕ) → Each1 (λ b. b < 256) xs → Each1 (λ b. b < 256) ys → Each1 (λ b. b < 256) (xs ++ ys)
-both_below [] ys p q = q
-both_below (x ∷ xs) ys p q = (p.0, both_below xs ys p.1 q)
 
 module _ (text : List ℕ) (long : 8 ≤ length text) where
   front_long : length (take 8 text) ≡ 8
@@ -427,7 +361,7 @@ module _ (text : List ℕ) (long : 8 ≤ length text) where
       ∙ sym (number_l-append 256 first last) in
       ap (digits_l 256 16) joined
       ∙ digits-number 256 16 (first_and_last text) length-first_and_last
-      (both_below first last (Each1-chunk (λ b. b < 256) 0 8 text below) (later_below (length text - 8) text below))
+      (Each1-append (λ b. b < 256) first last (Each1-chunk (λ b. b < 256) 0 8 text below) (later_below (length text - 8) text below))
 
   -- the first eight and the last eight, cut at `used` characters, are the text cut there
   pub cut_apart : (used : ℕ) → used ≤ 8 → used ≤ length text → length text ≤ used + 8
@@ -554,11 +488,9 @@ bytes_power (suc k) =
 -- units after a number's last one are not among its groups
 number_in_front-take : (radix more k : ℕ) (us : List ℕ) → more < k
     → number_in_front radix more (take k us) ≡ number_in_front radix more us
-number_in_front-take radix more zero us within = absurd (omega arith)
-number_in_front-take radix more (suc k) [] within = refl
-number_in_front-take radix zero (suc k) (u ∷ us) within = refl
-number_in_front-take radix (suc more) (suc k) (u ∷ us) within =
-    ap (λ n. u % radix + radix * n) (number_in_front-take radix more k us (omega arith))
+number_in_front-take radix more k us within =
+    same_in_front radix more more (take k us) us (omega arith) (λ i low. get_or-take k us i 0 (omega arith))
+    (λ i few above. absurd (omega arith))
 
 module _ (us : List ℕ) (long : length us ≡ 16) (fit : Each1 (λ u. u < 256) us) where
   -- the groups of the first units
@@ -623,7 +555,7 @@ two_read text us ends used long fit us_are marked first_short within second_shor
     let count = length-first_and_last_units text us long us_are in
     let last_count : length last ≡ rest = omega (arith, length-drop (16 - rest) us) in
     let bytes_fit = Each1-weaker (λ b. b < 256) (Fits w8) (λ b small. record { fits = small }) bytes
-    (both_below (take 8 text) (drop (length text - 8) text) (Each1-chunk (λ b. b < 256) 0 8 text fit)
+    (Each1-append (λ b. b < 256) (take 8 text) (drop (length text - 8) text) (Each1-chunk (λ b. b < 256) 0 8 text fit)
     (later_below (length text - 8) text fit)) in
     let same : bytes ≡ map character us = same_units 63 63 bytes (omega arith) bytes_fit
     (λ k low. let small : get_or us k 0 < 64 = marked.below k (omega (arith, count, length-first_and_last text long)) in

@@ -1,8 +1,11 @@
 -- Four numbers found at once among units, by the marks of these units joined.
-use lib.Lanes.{mask_l}
+use lib.Lanes.{mask_l, Each1}
 use Rattle.std.proofs.Common.{◌≡◌, ℕ, zero, suc, ◌+◌, ◌-◌, ◌*◌, ◌%◌, ◌<◌, ◌≤◌, ◌^◌, ◌⊎◌, Bool, true, false, inl, inr}
 use Rattle.std.proofs.Common.{List, [], ◌∷◌, ◌++◌, length, take, drop, map, get_or, refl, sym, ◌∙◌, ap, arith, subst}
 use Rattle.std.specs.Prelude.{nat_lt, nat_eq}
+use Rattle.std.proofs.Common.{append-nil, append_assoc}
+use Rattle.std.specs.List.{concat}
+use Rattle.std.proofs.Math.Seq.{take-add}
 use Rattle.std.proofs.Math.Nat.{pow-suc, pow-le-pow_right, one-le-pow}
 use Rattle.std.proofs.lemmas.Bool.{cases_lt, lt-ltb, le-ltb}
 use Rattle.std.proofs.lemmas.List.{drop-map, take-map, drop-drop, get_or-drop, length-drop, drop-take, length-map}
@@ -11,14 +14,14 @@ use Rattle.std.proofs.lemmas.Nat.{mod_below, mul-le}
 use Rattle.std.proofs.lemmas.Simd.{mask_l-lt}
 use Rattle.twkb_num.specs.Four.{number_in_front, run_of, FourInFront}
 use Rattle.twkb_num.specs.Block.{AreUnits, units_in, AreMarks}
-use Rattle.twkb_num.specs.Alphabet.{leb_unit, unit_over, IsNumbered}
+use Rattle.twkb_num.specs.Alphabet.{leb_unit, unit_over, IsNumbered, IsRadix}
 use Rattle.twkb_num.specs.AlphabetLemmas.{leb_numbered}
 use Rattle.twkb_num.specs.declared.alphabet.Alphabet.{Alphabet}
 use Rattle.twkb_num.specs.Digits.{digits}
 use Rattle.twkb_num.specs.Spelling.{shortest, units_of}
 use Rattle.twkb_num.specs.declared.block.Marks.{Marks}
 use Rattle.twkb_num.proofs.FourLemmas.{marks_of, number_spelled}
-use Rattle.twkb_num.proofs.TwoLemmas.{AreFour}
+use Rattle.twkb_num.proofs.TwoLemmas.{AreTwice, four_at}
 use Rattle.twkb_num.proofs.MarkLemmas.{mask_l-append}
 
 -- ==== Four numbers found among units.
@@ -62,23 +65,20 @@ number_small radix more us alphabet short =
 -- ---- one number among the units
 
 -- the units from `at` to the next that ends a number spell it
-pub spelled_at : (base radix at : ℕ) (bytes us : List ℕ) (ends more n : ℕ) → (radix ≡ 128)
-    ⊎ (radix ≡ 32) → AreUnits base radix bytes us ends
-    → more ≡ run_of (drop at (marks_of radix us)) → at + more < length us → n ≡ number_in_front radix more (drop at us)
-    → map (λ u. u + base) (take (suc more) (drop at us)) ≡ shortest (unit_over base radix) radix n
-spelled_at base radix at bytes us ends more n alphabet read more_is within n_is =
+spelled_at : (base radix at : ℕ) (bytes us : List ℕ) (ends more : ℕ) → IsRadix radix
+    → AreUnits base radix bytes us ends → more ≡ run_of (drop at (marks_of radix us)) → at + more < length us
+    → map (λ u. u + base) (take (suc more) (drop at us))
+    ≡ shortest (unit_over base radix) radix (number_in_front radix more (drop at us))
+spelled_at base radix at bytes us ends more alphabet read more_is within =
     let p : 2 ≤ radix = elim alphabet [ inl e ↦ omega arith | inr e ↦ omega arith ] in
     let rest = drop at us in
-    let marks_are : drop at (marks_of radix us) ≡ marks_of radix rest = drop-map (λ u. nat_lt u radix) at us in
-    let run : more ≡ run_of (marks_of radix rest) = more_is ∙ ap run_of marks_are in
+    let run : more ≡ run_of (marks_of radix rest) = more_is ∙ ap run_of (drop-map (λ u. nat_lt u radix) at us) in
     let long : length rest ≡ length us - at = length-drop at us in
     let below : (k : ℕ) → get_or rest k 0 < 2 * radix = λ k.
     omega (arith, get_or-drop at us k 0, read.below (at + k)) in
     let last : 0 < run_of (marks_of radix rest) → 0 < get_or rest (run_of (marks_of radix rest)) 0 =
     λ some. last_at base radix at bytes us ends more read run within (omega arith) in
-    let number : n ≡ number_in_front radix (run_of (marks_of radix rest)) rest =
-    n_is ∙ ap (λ m. number_in_front radix m rest) run in
-    rw (number, run) (number_spelled base radix rest p below (omega arith) last)
+    rw run (number_spelled base radix rest p below (omega arith) last)
   where
     last_at : (base radix at : ℕ) (bytes us : List ℕ) (ends more : ℕ)
         → AreUnits base radix bytes us ends → more ≡ run_of (marks_of radix (drop at us))
@@ -99,76 +99,105 @@ spelled_at base radix at bytes us ends more n alphabet read more_is within n_is 
               absurd (omega arith)
         ]
 
--- taking from an empty list gives an empty list
-take_none : (j : ℕ) (us : List ℕ) → us ≡ [] → take j us ≡ []
-take_none (suc j) (u ∷ us) none = absurd (cc)
-take_none _ _ none = refl
+-- numbers follow one another from `at` to `end`: each has the units up to its mark
+AreRuns : List Bool → ℕ → List (ℕ × ℕ) → ℕ → Type 0
+AreRuns marks at [] end = at ≡ end
+AreRuns marks at (n ∷ ns) end = (at ≡ n.0) × (n.1 ≡ run_of (drop n.0 marks)) × AreRuns marks (n.0 + suc n.1) ns end
 
--- a list up to a place is its part before an earlier place and the part between
-pub take_apart : (i j k : ℕ) (us : List ℕ) → k ≡ i + j → take k us ≡ take i us ++ take j (drop i us)
-take_apart zero j k us is = ap (λ n. take n us) (let e : k ≡ j = omega arith in e)
-take_apart (suc i) j k [] is = take_none k [] refl ∙ sym (take_none j [] refl)
-take_apart (suc i) j zero (u ∷ us) is = absurd (omega arith)
-take_apart (suc i) j (suc k) (u ∷ us) is = ap (λ xs. u ∷ xs) (take_apart i j k us (omega arith))
+-- they end after their beginning
+runs_end : (marks : List Bool) (at : ℕ) (ns : List (ℕ × ℕ)) (end : ℕ) → AreRuns marks at ns end → at ≤ end
+unfolding AreRuns
+runs_end marks at [] end runs = omega arith
+runs_end marks at (n ∷ ns) end runs = omega (arith, runs.0, runs_end marks (n.0 + suc n.1) ns end runs.2)
 
--- the units of one number, and the units after it
-piece : (at more next rest whole : ℕ) (us : List ℕ) → next ≡ at + suc more → whole ≡ suc more + rest
-    → take whole (drop at us) ≡ take (suc more) (drop at us) ++ take rest (drop next us)
-piece at more next rest whole us next_is whole_is =
-    take_apart (suc more) rest whole (drop at us) whole_is
-    ∙ ap (λ xs. take (suc more) (drop at us) ++ take rest xs) (drop-drop (suc more) at us
-    ∙ ap (λ n. drop n us) (sym next_is))
+-- their units spell them
+runs_spelled : (base radix : ℕ) (bytes us : List ℕ) (ends at : ℕ) (ns : List (ℕ × ℕ)) (end : ℕ) → IsRadix radix
+    → AreUnits base radix bytes us ends → AreRuns (marks_of radix us) at ns end → end ≤ length us
+    → map (λ u. u + base) (take end us) ≡ map (λ u. u + base) (take at us)
+    ++ concat (map (λ n. shortest (unit_over base radix) radix (number_in_front radix n.1 (drop n.0 us))) ns)
+unfolding AreRuns
+runs_spelled base radix bytes us ends at [] end alphabet read runs within =
+    ap (λ k. map (λ u. u + base) (take k us)) (sym runs) ∙ sym (append-nil (map (λ u. u + base) (take at us)))
+runs_spelled base radix bytes us ends at (n ∷ ns) end alphabet read runs within =
+    let character = λ (u : ℕ). u + base in
+    let next = runs_end (marks_of radix us) (n.0 + suc n.1) ns end runs.2 in
+    let spelled = λ (m : ℕ × ℕ). shortest (unit_over base radix) radix (number_in_front radix m.1 (drop m.0 us)) in
+    runs_spelled base radix bytes us ends (n.0 + suc n.1) ns end alphabet read runs.2 within
+    ∙ ap (λ cs. cs ++ concat (map spelled ns)) (ap (map character) (take-add n.0 (suc n.1) us)
+    ∙ map-append character (take n.0 us) (take (suc n.1) (drop n.0 us))
+    ∙ ap (λ cs. map character (take n.0 us) ++ cs)
+    (spelled_at base radix n.0 bytes us ends n.1 alphabet read runs.1 (omega arith)))
+    ∙ append_assoc (map character (take n.0 us)) (spelled n) (concat (map spelled ns))
+    ∙ ap (λ k. map character (take k us) ++ concat (map spelled (n ∷ ns))) (sym runs.0)
 
--- the units of four numbers
-four_pieces : (f : ℕ → ℕ) (i j k l second third fourth count : ℕ) (us ks bs cs ds : List ℕ)
-    → second ≡ suc i → third ≡ second + suc j → fourth ≡ third + suc k → count ≡ fourth + suc l
-    → map f (take (suc i) (drop 0 us)) ≡ ks → map f (take (suc j) (drop second us)) ≡ bs
-    → map f (take (suc k) (drop third us)) ≡ cs → map f (take (suc l) (drop fourth us)) ≡ ds
-    → map f (take count us) ≡ ks ++ (bs ++ (cs ++ ds))
-four_pieces f i j k l second third fourth count us ks bs cs ds second_is third_is fourth_is count_is
-    one two three four =
-    let p = piece 0 i second (count - second) count us (omega arith) (omega arith) in
-    let q = piece second j third (count - third) (count - second) us (omega arith) (omega arith) in
-    let r = piece third k fourth (count - fourth) (count - third) us (omega arith) (omega arith) in
-    let last : count - fourth ≡ suc l = omega arith in
-    let s : take (count - fourth) (drop fourth us) ≡ take (suc l) (drop fourth us) =
-    ap (λ n. take n (drop fourth us)) last in
-    ap (map f) p ∙ map-append f (take (suc i) us) (take (count - second) (drop second us))
-    ∙ rw one (ap (λ xs. ks ++ xs) (
-    ap (map f) q ∙ map-append f (take (suc j) (drop second us)) (take (count - third) (drop third us))
-    ∙ rw two (ap (λ xs. bs ++ xs) (
-    ap (map f) r ∙ map-append f (take (suc k) (drop third us)) (take (count - fourth) (drop fourth us))
-    ∙ rw three (ap (λ xs. cs ++ xs) (ap (map f) s ∙ four))))))
+-- two numbers and two more follow one another
+four_runs : (marks : List Bool) (skipped places used later_places later_used : ℕ)
+    → AreTwice marks skipped places used later_places later_used
+    → AreRuns marks 0 (four_at 0 used marks) (used + later_used)
+unfolding AreRuns
+four_runs marks skipped places used later_places later_used twice =
+    let low = twice.low.used_is in
+    let high = twice.high.used_is in
+    let first = suc (run_of marks) in
+    let third = suc (run_of (drop used marks)) in
+    let at = λ (i j : ℕ) (e : i ≡ j). ap (λ k. run_of (drop k marks)) e in (
+      refl,
+      refl,
+      (
+        refl,
+        at first (0 + first) (omega arith),
+        (
+          omega arith,
+          at used (0 + used) (omega arith),
+          (
+            refl,
+            ap run_of (drop-drop third used marks) ∙ at (used + third) (0 + used + third) (omega arith),
+            omega arith,
+          ),
+        ),
+      ),
+    )
+
+-- numbers of at most four units are small
+pub numbers_small : (radix : ℕ) (us : List ℕ) (marks : List Bool) (skipped places used later_places later_used : ℕ)
+    → IsRadix radix → AreTwice marks skipped places used later_places later_used
+    → Each1 (λ n. n < 2 ^ 28) (map (λ n. number_in_front radix n.1 (drop n.0 us)) (four_at 0 used marks))
+numbers_small radix us marks skipped places used later_places later_used alphabet twice =
+    let small = λ (more at : ℕ) (short : more ≤ 3). number_small radix more (drop at us) alphabet short in (
+      small _ 0 twice.low.first_short,
+      (
+        small _ (0 + suc (run_of marks)) twice.low.second_short,
+        (
+          small _ (0 + used) twice.high.first_short,
+          (small _ (0 + used + suc (run_of (drop used marks))) twice.high.second_short, tt),
+        ),
+      ),
+    )
 
 -- Four numbers found by the marks of their last units.
-pub four_found : (base radix : ℕ) (bytes us : List ℕ) (ends i j k l second third fourth count a b c d : ℕ)
-    → (radix ≡ 128) ⊎ (radix ≡ 32) → AreUnits base radix bytes us ends
-    → AreFour (marks_of radix us) i j k l second third fourth count
-    → a ≡ number_in_front radix i (drop 0 us) → b ≡ number_in_front radix j (drop second us)
-    → c ≡ number_in_front radix k (drop third us) → d ≡ number_in_front radix l (drop fourth us)
-    → FourInFront (unit_over base radix) radix bytes a b c d count
-four_found base radix bytes us ends i j k l second third fourth count a b c d alphabet read are a_is b_is c_is d_is =
-    let second_at = are.second_at in
-    let third_at = are.third_at in
-    let fourth_at = are.fourth_at in
-    let count_is = are.count_is in
-    let marks_long = length-map us (λ u. nat_lt u radix) in
-    let fits = are.within in
-    let bytes_long = read.within in
-    let one = spelled_at base radix 0 bytes us ends i a alphabet read are.first_run (omega arith) a_is in
-    let two = spelled_at base radix second bytes us ends j b alphabet read are.second_run (omega arith) b_is in
-    let three = spelled_at base radix third bytes us ends k c alphabet read are.third_run (omega arith) c_is in
-    let four = spelled_at base radix fourth bytes us ends l d alphabet read are.fourth_run (omega arith) d_is in
+pub four_found : (base radix : ℕ) (bytes us : List ℕ) (ends skipped places used later_places later_used a b c d : ℕ)
+    → IsRadix radix → AreUnits base radix bytes us ends
+    → AreTwice (marks_of radix us) skipped places used later_places later_used
+    → a ∷ b ∷ c ∷ d ∷ [] ≡ map (λ n. number_in_front radix n.1 (drop n.0 us)) (four_at 0 used (marks_of radix us))
+    → FourInFront (unit_over base radix) radix bytes a b c d (used + later_used)
+four_found base radix bytes us ends skipped places used later_places later_used a b c d alphabet read twice are =
+    let count = used + later_used in
+    let spell = shortest (unit_over base radix) radix in
+    let small = subst (Each1 (λ n. n < 2 ^ 28)) (sym are)
+    (numbers_small radix us (marks_of radix us) skipped places used later_places later_used alphabet twice) in
+    let within : count ≤ length us = omega (arith, twice.within, length-map us (λ u. nat_lt u radix)) in
     record {
-      within = omega arith;
-      spelled = sym (take-take count (length us) bytes (omega arith)) ∙ ap (take count) read.same
+      within = omega (arith, read.within);
+      spelled = sym (take-take count (length us) bytes within) ∙ ap (take count) read.same
           ∙ take-map (λ u. u + base) count us
-          ∙ four_pieces (λ u. u + base) i j k l second third fourth count us _ _ _ _ second_at
-          third_at fourth_at count_is one two three four;
-      first_small = rw a_is (number_small radix i (drop 0 us) alphabet are.first_short);
-      second_small = rw b_is (number_small radix j (drop second us) alphabet are.second_short);
-      third_small = rw c_is (number_small radix k (drop third us) alphabet are.third_short);
-      fourth_small = rw d_is (number_small radix l (drop fourth us) alphabet are.fourth_short);
+          ∙ runs_spelled base radix bytes us ends 0 (four_at 0 used (marks_of radix us)) count alphabet read
+          (four_runs (marks_of radix us) skipped places used later_places later_used twice) within
+          ∙ ap (λ ns. concat (map spell ns)) (sym are)
+          ∙ ap (λ text. spell a ++ (spell b ++ (spell c ++ text))) (append-nil (spell d));
+      first_small = small.0;
+      second_small = small.1.0;
+      third_small = small.1.1.0;
+      fourth_small = small.1.1.1.0;
     }
 
 -- ---- numbers found in a part of the bytes
@@ -243,7 +272,7 @@ marks_joined p base n m bytes long =
     let next = units_in base (take m (drop n bytes)) in
     let count : length (map p front) ≡ n = length-map front p ∙ length-map (take n bytes) unit
     ∙ length-take-le n bytes long in
-    ap (λ bs. mask_l (map p (units_in base bs))) (take_apart n m (n + m) bytes refl)
+    ap (λ bs. mask_l (map p (units_in base bs))) (take-add n m bytes)
     ∙ ap (λ us. mask_l (map p us)) (map-append unit (take n bytes) (take m (drop n bytes)))
     ∙ ap mask_l (map-append p front next)
     ∙ mask_l-append (map p front) (map p next)
