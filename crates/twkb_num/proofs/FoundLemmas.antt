@@ -6,7 +6,7 @@ use Rattle.std.specs.Prelude.{nat_lt, nat_eq}
 use Rattle.std.proofs.Common.{append-nil, append_assoc}
 use Rattle.std.specs.List.{concat}
 use Rattle.std.proofs.Math.Seq.{take-add}
-use Rattle.std.proofs.Math.Nat.{pow-suc, pow-le-pow_right, one-le-pow}
+use Rattle.std.proofs.Math.Nat.{mul_comm, pow-suc, pow-le-pow_right, one-le-pow}
 use Rattle.std.proofs.lemmas.Bool.{cases_lt, lt-ltb, le-ltb}
 use Rattle.std.proofs.lemmas.List.{drop-map, take-map, drop-drop, get_or-drop, length-drop, drop-take, length-map}
 use Rattle.std.proofs.lemmas.List.{length-take, map-append, take-take, length-take-le}
@@ -227,46 +227,22 @@ four_in_window unit radix bytes start from a b c d count begun within found =
       fourth_small = found.fourth_small;
     }
 
--- ---- units written in two ways
-
--- two ways to write units agree on the units of digits
-units_same : (unit other : ℕ → Bool → ℕ) → ((d : ℕ) (more : Bool) → unit d more ≡ other d more)
-    → (ds : List ℕ) → units_of unit ds ≡ units_of other ds
-units_same unit other same [] = refl
-units_same unit other same (d ∷ []) = ap (λ u. u ∷ []) (same d false)
-units_same unit other same (d ∷ e ∷ ds) = ap (λ u. u ∷ units_of unit (e ∷ ds)) (same d true)
-    ∙ ap (λ us. other d true ∷ us) (units_same unit other same (e ∷ ds))
-
--- the shortest spelling over base 0 is the shortest varint
-pub leb_spelled : (n : ℕ) → shortest (unit_over 0 128) 128 n ≡ shortest leb_unit 128 n
-leb_spelled n = sym (units_same leb_unit (unit_over 0 128) leb_numbered.units (digits 128 n))
-
 -- four numbers found by the base and the radix of an alphabet are four in its units
-pub four_in_units : (unit : ℕ → Bool → ℕ) (alphabet : Alphabet) → IsNumbered unit alphabet
-    → (bytes : List ℕ) (a b c d count : ℕ)
+pub four_in_units : {unit : ℕ → Bool → ℕ} {alphabet : Alphabet} → IsNumbered unit alphabet
+    → (bytes : List ℕ) {a b c d count : ℕ}
     → FourInFront (unit_over alphabet.base alphabet.radix) alphabet.radix bytes a b c d count
     → FourInFront unit alphabet.radix bytes a b c d count
-four_in_units unit alphabet numbered bytes a b c d count found =
-    let over = unit_over alphabet.base alphabet.radix in
-    let same : (n : ℕ) → shortest unit alphabet.radix n ≡ shortest over alphabet.radix n =
-    λ n. units_same unit over numbered.units (digits alphabet.radix n) in
-    record {
-      within = found.within;
-      spelled = rw (same a, same b, same c, same d) found.spelled;
-      first_small = found.first_small;
-      second_small = found.second_small;
-      third_small = found.third_small;
-      fourth_small = found.fourth_small;
-    }
+four_in_units {alphabet = alphabet} numbered bytes {a = a} {b = b} {c = c} {d = d} {count = count} found =
+    subst (λ unit. FourInFront unit alphabet.radix bytes a b c d count)
+    (λ i d more. sym (numbered.units d more) i) found
 
 -- ==== The marks of some units and of the units after them, joined.
 
--- the marks of some units and of the units after them, joined
-pub marks_joined : (p : ℕ → Bool) (base n m : ℕ) (bytes : List ℕ) → n ≤ length bytes
-    → mask_l (map p (units_in base (take (n + m) bytes))) ≡ mask_l
-    (map p (units_in base (take n bytes))) + 2 ^ n * mask_l
-    (map p (units_in base (take m (drop n bytes))))
-marks_joined p base n m bytes long =
+-- the mask of some units and of the units after them
+mask_joined : (p : ℕ → Bool) (base n m : ℕ) (bytes : List ℕ) → n ≤ length bytes
+    → mask_l (map p (units_in base (take (n + m) bytes))) ≡ mask_l (map p (units_in base (take n bytes)))
+    + 2 ^ n * mask_l (map p (units_in base (take m (drop n bytes))))
+mask_joined p base n m bytes long =
     let unit = λ (b : ℕ). (b + (2 ^ 8 - base)) % 2 ^ 8 in
     let front = units_in base (take n bytes) in
     let next = units_in base (take m (drop n bytes)) in
@@ -278,59 +254,37 @@ marks_joined p base n m bytes long =
     ∙ mask_l-append (map p front) (map p next)
     ∙ ap (λ k. mask_l (map p front) + 2 ^ k * mask_l (map p next)) count
 
--- there are at most as many bits as units
-pub marks_small : (p : ℕ → Bool) (base n : ℕ) (bytes : List ℕ) → n ≤ length bytes
-    → mask_l (map p (units_in base (take n bytes))) < 2 ^ n
-marks_small p base n bytes long =
-    let unit = λ (b : ℕ). (b + (2 ^ 8 - base)) % 2 ^ 8 in
-    let us = units_in base (take n bytes) in
-    let count : length (map p us) ≡ n = length-map us p ∙ length-map (take n bytes) unit
-    ∙ length-take-le n bytes long in
-    let power : 2 ^ length (map p us) ≡ 2 ^ n = ap (λ k. 2 ^ k) count in
-    omega (arith, mask_l-lt (map p us))
-
--- the marks of n units and of the n units after them are small, and joined they are the marks of both
-pub record AreHalves (n radix most : ℕ) (units : List ℕ) (low high : Marks) : Type 0 where
-  pub ends : (low.ends < 2 ^ n) × (high.ends < 2 ^ n)
-  pub zeros : (low.zeros < 2 ^ n) × (high.zeros < 2 ^ n)
-  pub bad : (low.bad < 2 ^ n) × (high.bad < 2 ^ n)
-  pub joined_ends : mask_l (map (λ u. nat_lt u radix) units) ≡ low.ends + 2 ^ n * high.ends
-  pub joined_zeros : mask_l (map (λ u. nat_eq u 0) units) ≡ low.zeros + 2 ^ n * high.zeros
-  pub joined_bad : mask_l (map (λ u. nat_lt most u) units) ≡ low.bad + 2 ^ n * high.bad
-
-pub are_halves : (at n base radix most : ℕ) (bytes : List ℕ) (low high : Marks) → at + (n + n) ≤ length bytes
+-- the marks of n units from `at` on, and of the n units after them
+pub marks_joined : (at n base : ℕ) {radix most : ℕ} (bytes : List ℕ) (low high : Marks) → at + (n + n) ≤ length bytes
     → AreMarks radix most (units_in base (take n (drop at bytes))) low
     → AreMarks radix most (units_in base (take n (drop (at + n) bytes))) high
-    → AreHalves n radix most (units_in base (take (n + n) (drop at bytes))) low high
-are_halves at n base radix most bytes low high long are_low are_after = record {
-  ends = small (λ u. nat_lt u radix) low.ends high.ends are_low.ends are_high.ends;
-  zeros = small (λ u. nat_eq u 0) low.zeros high.zeros are_low.zeros are_high.zeros;
-  bad = small (λ u. nat_lt most u) low.bad high.bad are_low.bad are_high.bad;
-  joined_ends = joined (λ u. nat_lt u radix) low.ends high.ends are_low.ends are_high.ends;
-  joined_zeros = joined (λ u. nat_eq u 0) low.zeros high.zeros are_low.zeros are_high.zeros;
-  joined_bad = joined (λ u. nat_lt most u) low.bad high.bad are_low.bad are_high.bad;
+    → AreMarks radix most (units_in base (take (n + n) (drop at bytes))) (record {
+      ends = low.ends + high.ends * 2 ^ n;
+      zeros = low.zeros + high.zeros * 2 ^ n;
+      bad = low.bad + high.bad * 2 ^ n;
+    })
+marks_joined at n base {radix = radix} {most = most} bytes low high long first second = record {
+  ends = joined (λ u. nat_lt u radix) first.ends second.ends;
+  zeros = joined (λ u. nat_eq u 0) first.zeros second.zeros;
+  bad = joined (λ u. nat_lt most u) first.bad second.bad;
 }
   where
-    are_high : AreMarks radix most (units_in base (take n (drop n (drop at bytes)))) high
-    are_high = subst (λ bs. AreMarks radix most (units_in base (take n bs)) high) (sym (drop-drop n at bytes)) are_after
-
-    enough : n ≤ length (drop at bytes)
-    enough = omega (arith, length-drop at bytes, long)
-
-    rest : n ≤ length (drop n (drop at bytes))
-    rest = omega (arith, length-drop at bytes, length-drop n (drop at bytes), long)
-
-    small : (p : ℕ → Bool) (a b : ℕ) → a ≡ mask_l (map p (units_in base (take n (drop at bytes))))
-        → b ≡ mask_l (map p (units_in base (take n (drop n (drop at bytes))))) → (a < 2 ^ n) × (b < 2 ^ n)
-    small p a b first second = (
-      subst (λ m. m < 2 ^ n) (sym first) (marks_small p base n (drop at bytes) enough),
-      subst (λ m. m < 2 ^ n) (sym second) (marks_small p base n (drop n (drop at bytes)) rest),
+    joined : (p : ℕ → Bool) {a b : ℕ} → a ≡ mask_l (map p (units_in base (take n (drop at bytes))))
+        → b ≡ mask_l (map p (units_in base (take n (drop (at + n) bytes))))
+        → a + b * 2 ^ n ≡ mask_l (map p (units_in base (take (n + n) (drop at bytes))))
+    joined p {a = a} {b = b} a_is b_is = sym (
+      mask_joined p base n n (drop at bytes) (omega (arith, length-drop at bytes, long))
+      ∙ ap (λ bs. mask_l (map p (units_in base (take n (drop at bytes))))
+      + 2 ^ n * mask_l (map p (units_in base (take n bs)))) (drop-drop n at bytes)
+      ∙ (λ i. sym a_is i + 2 ^ n * sym b_is i) ∙ omega (arith, mul_comm (2 ^ n) b)
     )
 
-    joined : (p : ℕ → Bool) (a b : ℕ) → a ≡ mask_l (map p (units_in base (take n (drop at bytes))))
-        → b ≡ mask_l (map p (units_in base (take n (drop n (drop at bytes)))))
-        → mask_l (map p (units_in base (take (n + n) (drop at bytes)))) ≡ a + 2 ^ n * b
-    joined p a b first second =
-        marks_joined p base n n (drop at bytes) enough
-        ∙ (ap (λ m. m + 2 ^ n * mask_l (map p (units_in base (take n (drop n (drop at bytes)))))) (sym first)
-        ∙ ap (λ m. a + 2 ^ n * m) (sym second))
+-- the mask of n units has n bits
+pub mask_small : (p : ℕ → Bool) (base n m : ℕ) (bytes : List ℕ) → n ≤ length bytes
+    → m ≡ mask_l (map p (units_in base (take n bytes))) → m < 2 ^ n
+mask_small p base n m bytes long is =
+    let us = units_in base (take n bytes) in
+    let count : length (map p us) ≡ n = length-map us p
+    ∙ length-map (take n bytes) (λ b. (b + (2 ^ 8 - base)) % 2 ^ 8) ∙ length-take-le n bytes long in
+    let power : 2 ^ length (map p us) ≡ 2 ^ n = ap (λ k. 2 ^ k) count in
+    omega (arith, mask_l-lt (map p us))

@@ -21,7 +21,7 @@ use Rattle.twkb_num.specs.declared.shuffles.TheConstants.{SHUFFLES}
 use Rattle.twkb_num.proofs.WordLemmas.{Each1-append, digits-number, number_l-append, number_l-lt, number_l-more}
 use Rattle.twkb_num.proofs.WordLemmas.{four_cases, lane, lanes_brought}
 use Rattle.twkb_num.proofs.SpellingLemmas.{shortest_one, shortest_more}
-use Rattle.twkb_num.proofs.FoundLemmas.{leb_spelled}
+use Rattle.twkb_num.specs.AlphabetLemmas.{leb_numbered}
 use Rattle.twkb_num.proofs.MarkLemmas.{mask_l-append}
 
 -- ==== The units of a number in a lane of four bytes, as the code adds them, are its shortest spelling.
@@ -464,12 +464,9 @@ module _ (base radix a b c d : ℕ) (alphabet : IsRadix radix) (p : a < radix ^ 
           }
 
 -- Units that spell four numbers over base 0 are four varints.
-pub spelled_varints : (a b c d low high : ℕ) (units : List ℕ)
+pub spelled_varints : {a b c d low high : ℕ} (units : List ℕ)
     → AreSpelled (unit_over 0 128) 128 a b c d units low high
     → AreSpelled leb_unit 128 a b c d units low high
-spelled_varints a b c d low high units are = record {
-  few_low = are.few_low;
-  few_high = are.few_high;
-  first_two = are.first_two ∙ (λ i. leb_spelled a i ++ leb_spelled b i);
-  last_two = are.last_two ∙ (λ i. leb_spelled c i ++ leb_spelled d i);
-}
+spelled_varints {a = a} {b = b} {c = c} {d = d} {low = low} {high = high} units are =
+    subst (λ unit. AreSpelled unit 128 a b c d units low high)
+    (λ i d more. sym (leb_numbered.units d more) i) are

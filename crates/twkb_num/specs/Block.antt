@@ -37,6 +37,12 @@ pub record AreMarks (radix most : ℕ) (units : List ℕ) (m : Marks) : Type 0 w
   pub zeros : m.zeros ≡ mask_l (map (λ u. nat_eq u 0) units)
   pub bad : m.bad ≡ mask_l (map (λ u. nat_lt most u) units)
 
+-- each word has no bits from `bound` on
+pub record AreBelow (bound : ℕ) (m : Marks) : Type 0 where
+  pub ends : m.ends < bound
+  pub zeros : m.zeros < bound
+  pub bad : m.bad < bound
+
 -- unit k is a fault: it is above `most`, or the unit after it is a 0 that pads the number
 abbrev pub IsFault : ℕ → ℕ → List ℕ → ℕ → Type 0
 IsFault radix most units k = (most < get_or units k 0)

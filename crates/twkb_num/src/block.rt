@@ -1,6 +1,6 @@
 //! Where numbers end in a block of 64 units, as a word with a bit for each unit.
-ghost use Rattle.std.specs.Prelude.{◌≡◌, ◌+◌, ◌*◌, ◌<◌, ◌≤◌, ℕ, List, length, take, drop};
-ghost use Rattle.twkb_num.specs.Block.{AreEnds, HasEndsOf, AreMarks, AreEndsBefore, units_in};
+ghost use Rattle.std.specs.Prelude.{◌≡◌, ◌+◌, ◌*◌, ◌<◌, ◌≤◌, ◌^◌, ℕ, List, length, take, drop};
+ghost use Rattle.twkb_num.specs.Block.{AreEnds, HasEndsOf, AreBelow, AreMarks, AreEndsBefore, units_in};
 
 use crate::alphabet::{Alphabet, POLYLINES, VARINTS};
 use std::simd::u8x16;
@@ -44,7 +44,8 @@ pub(crate) struct Marks {
 #[inline(always)]
 fn sixteen(bytes: &[u8], at: usize, alphabet: Alphabet) -> Marks
     requires long { at + 16 ≤ length bytes.now }
-    ensures { AreMarks alphabet.radix alphabet.most (units_in alphabet.base (take 16 (drop at bytes.now))) result }
+    ensures marks { AreMarks alphabet.radix alphabet.most (units_in alphabet.base (take 16 (drop at bytes.now))) result }
+    ensures small { AreBelow (2 ^ 16) result }
 {
     let units = u8x16::from_slice(&bytes[at..]) - u8x16::splat(alphabet.base);
     Marks {
@@ -58,7 +59,8 @@ fn sixteen(bytes: &[u8], at: usize, alphabet: Alphabet) -> Marks
 #[inline(always)]
 fn thirty_two(bytes: &[u8], at: usize, alphabet: Alphabet) -> Marks
     requires long { at + 32 ≤ length bytes.now }
-    ensures { AreMarks alphabet.radix alphabet.most (units_in alphabet.base (take 32 (drop at bytes.now))) result }
+    ensures marks { AreMarks alphabet.radix alphabet.most (units_in alphabet.base (take 32 (drop at bytes.now))) result }
+    ensures small { AreBelow (2 ^ 32) result }
 {
     let low = sixteen(bytes, at, alphabet);
     let high = sixteen(bytes, at + 16, alphabet);

@@ -23,4 +23,4 @@ returns g c =
     (λ f found. four_in_window g.G.Groups.unit_of g.G.Numbered.ALPHABET.radix c.args.bytes.now c.args.start
     c.min-from.result _ _ _ _ f.used (omega (arith, c.min-from.ensures))
     (omega (arith, c.if-skipped-gt-MOST_SKIPPED.false))
-    (four_in_units g.G.Groups.unit_of g.G.Numbered.ALPHABET g.met.G.Numbered.numbered _ _ _ _ _ f.used found))
+    (four_in_units g.met.G.Numbered.numbered _ found))

@@ -11,8 +11,8 @@ four_by-requires-clause-ends g c = rw c.ALPHABET.ensures c.requires.ends
 pub returns-clause-four : goal.returns-clause-four
 returns-clause-four g c =
     let four = rw c.ALPHABET.ensures at c.four_by.ensures.four in
-    IfSome_then c.four_by.result four (λ f found. four_in_units g.G.Groups.unit_of g.G.Numbered.ALPHABET
-    g.met.G.Numbered.numbered c.args.bytes.now _ _ _ _ f.used found)
+    IfSome_then c.four_by.result four (λ f found. four_in_units g.met.G.Numbered.numbered
+    c.args.bytes.now found)
 
 pub returns-clause-rest : goal.returns-clause-rest
 returns-clause-rest g c = rw c.ALPHABET.ensures at c.four_by.ensures.rest
