@@ -1,6 +1,6 @@
 -- Four numbers found at once among units, by the marks of these units joined.
 use lib.Lanes.{mask_l, Each1}
-use Rattle.std.proofs.Common.{◌≡◌, ℕ, zero, suc, ◌+◌, ◌-◌, ◌*◌, ◌%◌, ◌<◌, ◌≤◌, ◌^◌, ◌⊎◌, Bool, true, false, inl, inr}
+use Rattle.std.proofs.Common.{◌≡◌, ℕ, zero, suc, ◌+◌, ◌-◌, ◌*◌, ◌%◌, ◌<◌, ◌≤◌, ◌^◌, ◌⊎◌, Bool, inl, inr}
 use Rattle.std.proofs.Common.{List, [], ◌∷◌, ◌++◌, length, take, drop, map, get_or, refl, sym, ◌∙◌, ap, arith, subst}
 use Rattle.std.specs.Prelude.{nat_lt, nat_eq}
 use Rattle.std.proofs.Common.{append-nil, append_assoc}
@@ -14,11 +14,9 @@ use Rattle.std.proofs.lemmas.Nat.{mod_below, mul-le}
 use Rattle.std.proofs.lemmas.Simd.{mask_l-lt}
 use Rattle.twkb_num.specs.Four.{number_in_front, run_of, FourInFront}
 use Rattle.twkb_num.specs.Block.{AreUnits, units_in, AreMarks}
-use Rattle.twkb_num.specs.Alphabet.{leb_unit, unit_over, IsNumbered, IsRadix}
-use Rattle.twkb_num.specs.AlphabetLemmas.{leb_numbered}
+use Rattle.twkb_num.specs.Alphabet.{unit_over, IsNumbered, IsRadix}
 use Rattle.twkb_num.specs.declared.alphabet.Alphabet.{Alphabet}
-use Rattle.twkb_num.specs.Digits.{digits}
-use Rattle.twkb_num.specs.Spelling.{shortest, units_of}
+use Rattle.twkb_num.specs.Spelling.{shortest}
 use Rattle.twkb_num.specs.declared.block.Marks.{Marks}
 use Rattle.twkb_num.proofs.FourLemmas.{marks_of, number_spelled}
 use Rattle.twkb_num.proofs.TwoLemmas.{AreTwice, four_at}
@@ -273,11 +271,11 @@ marks_joined at n base {radix = radix} {most = most} bytes low high long first s
         → b ≡ mask_l (map p (units_in base (take n (drop (at + n) bytes))))
         → a + b * 2 ^ n ≡ mask_l (map p (units_in base (take (n + n) (drop at bytes))))
     joined p {a = a} {b = b} a_is b_is = sym (
-      mask_joined p base n n (drop at bytes) (omega (arith, length-drop at bytes, long))
-      ∙ ap (λ bs. mask_l (map p (units_in base (take n (drop at bytes))))
-      + 2 ^ n * mask_l (map p (units_in base (take n bs)))) (drop-drop n at bytes)
-      ∙ (λ i. sym a_is i + 2 ^ n * sym b_is i) ∙ omega (arith, mul_comm (2 ^ n) b)
-    )
+        mask_joined p base n n (drop at bytes) (omega (arith, length-drop at bytes, long))
+        ∙ ap (λ bs. mask_l (map p (units_in base (take n (drop at bytes))))
+        + 2 ^ n * mask_l (map p (units_in base (take n bs)))) (drop-drop n at bytes)
+        ∙ (λ i. sym a_is i + 2 ^ n * sym b_is i) ∙ omega (arith, mul_comm (2 ^ n) b)
+        )
 
 -- the mask of n units has n bits
 pub mask_small : (p : ℕ → Bool) (base n m : ℕ) (bytes : List ℕ) → n ≤ length bytes

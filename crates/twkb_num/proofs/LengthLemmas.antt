@@ -1,6 +1,6 @@
 -- The length of the shortest varint, by the place of the number's highest bit.
 use Rattle.std.proofs.Common.{◌≡◌, ℕ, ◌+◌, ◌-◌, ◌*◌, ◌/◌, ◌%◌, ◌<◌, ◌≤◌, ◌^◌, inl, inr, List, []}
-use Rattle.std.proofs.Common.{◌∷◌, zero, suc, length, refl, ◌∙◌, ap, arith, lit<, Fits, w64}
+use Rattle.std.proofs.Common.{◌∷◌, zero, suc, length, refl, ◌∙◌, ap, arith, lit<, Fits, w64, Bool, true, false}
 use lib.Dec.{leb}
 use lib.Lanes.{top, zip2, sum_l, fold_l}
 use mathlib.Core.Bool.{cond}
@@ -10,7 +10,7 @@ use Rattle.std.proofs.lemmas.Nat.{leading_top, pow-add}
 use Rattle.std.specs.Int.Count.{count_leading_zeros}
 use Rattle.twkb_num.specs.Lens.{four_lens, more_bytes, lanes_cap}
 use Rattle.twkb_num.specs.Varint.{varint_of}
-use Rattle.twkb_num.proofs.VarintLemmas.{one_byte, one_byte_more}
+use Rattle.twkb_num.proofs.VarintLemmas.{one_byte, one_byte_more, some_byte}
 
 -- two to the power 7 + i is 128 times two to the power i
 pow-seven : (i : ℕ) → 2 ^ (7 + i) ≡ 128 * 2 ^ i
@@ -88,66 +88,42 @@ length_by_bounds n small =
 pub added_is : (n : ℕ) → n < 2 ^ 28 → added n ≡ more_bytes n
 added_is n small = omega (arith, length_by_bounds n small)
 
--- a number below 2 ^ 28 has one to four bytes
-short_length : (n : ℕ) → n < 2 ^ 28 → (1 ≤ length (varint_of n)) × (length (varint_of n) ≤ 4)
+-- a comparison adds at most one byte
+one_at_most : (more : Bool) → cond more 1 0 ≤ 1
+one_at_most true = omega arith
+one_at_most false = omega arith
+
+-- a number below 2 ^ 28 has at most four bytes
+short_length : (n : ℕ) → n < 2 ^ 28 → length (varint_of n) ≤ 4
 short_length n small =
-    elim (cases_lt n 128) [
-      | inl one ↦ let e = one_byte n one in (omega arith, omega arith)
-      | inr two ↦ elim (cases_lt n 16384) [
-        | inl below ↦ let e = one_byte_more n two in let f = one_byte (n / 128) (omega arith) in
-            (omega arith, omega arith)
-        | inr three ↦ elim (cases_lt n 2097152) [
-          | inl below ↦ let e = one_byte_more n two in let f = one_byte_more (n / 128)
-              (omega arith) in let g = one_byte (n / 128 / 128) (omega arith) in
-              (omega arith, omega arith)
-          | inr four ↦
-              let e = one_byte_more n two in let f = one_byte_more (n / 128) (omega arith) in
-              let g = one_byte_more (n / 128 / 128) (omega arith) in
-              let h = one_byte (n / 128 / 128 / 128) (omega arith) in (omega arith, omega arith)
-        ]
-      ]
-    ]
+    let one = λ (bound : ℕ). let few : one_from bound n ≤ 1 = one_at_most (top 31 (cond (leb bound n) 4294967295 0))
+    in few in
+    omega (arith, length_by_bounds n small, one 128, one 16384, one 2097152)
 
 -- ---- sums of lanes
 
--- the sum of four lanes, with one length added to each
-lanes_more : (w x y z a b c d : ℕ) → w + (x + (y + (z + 0))) ≤ lanes_cap → a ≤ 3 → b ≤ 3 → c ≤ 3 → d ≤ 3
-    → (w + a) % 4294967296 + ((x + b) % 4294967296
-    + ((y + c) % 4294967296 + ((z + d) % 4294967296 + 0))) ≡ w + (x + (y + (z + 0)))
-    + (a + b + c + d)
-lanes_more w x y z a b c d room p q r s = omega arith
+-- lanes are added one by one, without a carry if both sums fit
+lanes_more : (ls ms : List ℕ) → length ls ≡ length ms → sum_l ls + sum_l ms < 4294967296
+    → sum_l (zip2 (λ x y. (x + y) % 4294967296) ls ms) ≡ sum_l ls + sum_l ms
+lanes_more [] [] count fits = refl
+lanes_more (l ∷ ls) (m ∷ ms) count fits = let rest = lanes_more ls ms (omega arith) (omega arith) in omega arith
+lanes_more _ _ count fits = absurd (omega arith)
 
--- the sum of lanes and other bytes, with four lengths added
-whole : (s o t i j k l a b c d : ℕ) → t ≡ s + (a + b + c + d) → i ≡ a + 1 → j ≡ b + 1 → k ≡ c + 1
-    → l ≡ d + 1 → t + (o + 4) ≡ s + o + (i + j + (k + l))
-whole s o t i j k l a b c d e p q r u = omega arith
+-- four varints of numbers below 2 ^ 28 have at most sixteen bytes
+pub few_lens : (a b c d : ℕ) → a < 2 ^ 28 → b < 2 ^ 28 → c < 2 ^ 28 → d < 2 ^ 28 → four_lens a b c d ≤ 16
+few_lens a b c d p q r s =
+    omega (arith, short_length a p, short_length b q, short_length c r, short_length d s)
 
--- a length is one and the bytes after the first
-one_more : (n : ℕ) → n < 2 ^ 28 → (length (varint_of n) ≡ more_bytes n + 1) × (more_bytes n ≤ 3)
-one_more n small = let short = short_length n small in (omega (arith, short.0), omega (arith, short.1))
-
+-- four lengths are added to the lanes and the other bytes
 pub lens_added : (ls : List ℕ) (o a b c d : ℕ) → length ls ≡ 4 → sum_l ls + o ≤ lanes_cap → a < 2 ^ 28
     → b < 2 ^ 28 → c < 2 ^ 28 → d < 2 ^ 28
     → sum_l (zip2 (λ x y. (x + y) % 4294967296) ls
     (more_bytes a ∷ more_bytes b ∷ more_bytes c ∷ more_bytes d ∷ [])) + (o + 4)
     ≡ sum_l ls + o + four_lens a b c d
-lens_added (w ∷ x ∷ y ∷ z ∷ []) o a b c d four room p q r s =
-    let i = one_more a p in
-    let j = one_more b q in
-    let k = one_more c r in
-    let l = one_more d s in
-    whole (w + (x + (y + (z + 0)))) o _ _ _ _ _ (more_bytes a) (more_bytes b) (more_bytes c) (more_bytes d)
-    (lanes_more w x y z (more_bytes a) (more_bytes b) (more_bytes c) (more_bytes d)
-    (omega (arith, room)) i.1 j.1 k.1 l.1) i.0 j.0 k.0 l.0
-lens_added _ o a b c d four room p q r s = absurd (omega arith)
-
--- four lengths of at most four are at most sixteen together
-four_fours : (i j k l : ℕ) → i ≤ 4 → j ≤ 4 → k ≤ 4 → l ≤ 4 → i + j + (k + l) ≤ 16
-four_fours i j k l p q r s = omega arith
-
-pub few_lens : (a b c d : ℕ) → a < 2 ^ 28 → b < 2 ^ 28 → c < 2 ^ 28 → d < 2 ^ 28 → four_lens a b c d ≤ 16
-few_lens a b c d p q r s = four_fours _ _ _ _ (short_length a p).1 (short_length b q).1
-    (short_length c r).1 (short_length d s).1
+lens_added ls o a b c d four room p q r s =
+    let ms = more_bytes a ∷ more_bytes b ∷ more_bytes c ∷ more_bytes d ∷ [] in
+    let few = few_lens a b c d p q r s in
+    omega (arith, lanes_more ls ms four (omega arith), some_byte a, some_byte b, some_byte c, some_byte d)
 
 -- a sum grows by at most sixteen
 pub grown_few : (new old more : ℕ) → new ≡ old + more → more ≤ 16 → new ≤ old + 16

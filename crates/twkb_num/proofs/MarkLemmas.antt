@@ -2,12 +2,12 @@
 use mathlib.Core.Bool.{cond}
 use lib.Lanes.{mask_l, number_l}
 use Rattle.std.proofs.Common.{◌≡◌, ℕ, zero, suc, ◌+◌, ◌*◌, ◌%◌, ◌<◌, ◌^◌, ◌==◌, Bool, true, false, ◌&&◌, List, [], ◌∷◌}
-use Rattle.std.proofs.Common.{◌++◌, length, take, drop, get_or, replicate, length-append, refl, sym, ◌∙◌, ap, arith}
+use Rattle.std.proofs.Common.{◌++◌, length, take, drop, get_or, refl, sym, ◌∙◌, ap, arith}
 use Rattle.std.proofs.Common.{◌/◌, inl, inr, ◌-◌, ◌≤◌, map, le-ltb}
 use Rattle.std.specs.Prelude.{nat_lt, if◌then◌else◌}
 use Rattle.std.proofs.Math.Nat.{pow-suc}
 use Rattle.std.proofs.lemmas.Bool.{and_parts, eqb-true, ltb-true, cases_lt}
-use Rattle.std.proofs.lemmas.List.{drop-append-le, length-drop, length-replicate, length-take-le, take-append-drop}
+use Rattle.std.proofs.lemmas.List.{drop-append-le, length-drop, length-take-le, take-append-drop}
 use Rattle.std.proofs.lemmas.List.{take_all, length-map, length-take, map-append, take-map}
 use Rattle.std.proofs.lemmas.Simd.{mask_l-lt, mask_l-mod}
 use Rattle.std.proofs.lemmas.Nat.{shr-shr}
@@ -29,52 +29,52 @@ is_two marks = nat_lt (run_of marks) 4 && (nat_lt (second_run marks) 4 && nat_lt
 abbrev two_places : List Bool → ℕ
 two_places marks = number_l 256 (places_in 0 (run_of marks) ++ places_in (suc (run_of marks)) (second_run marks))
 
--- the word that the table needs for eight marks
+-- the word that the table needs for some marks
 abbrev word_for : List Bool → ℕ
 word_for marks = if is_two marks then two_places marks else 18446744073709551615
 
--- the test passes at each list of k marks
+-- the test passes at each list of at most k marks
 passes : ℕ → (List Bool → Bool) → Bool
 passes zero test = test []
-passes (suc k) test = passes k (λ marks. test (true ∷ marks)) && passes k (λ marks. test (false ∷ marks))
+passes (suc k) test = test [] && (passes k (λ marks. test (true ∷ marks)) && passes k (λ marks. test (false ∷ marks)))
 
--- a test that passes at every list of k marks passes at one of them
+-- a test that passes at every list of at most k marks passes at one of them
 passes_at : (k : ℕ) (test : List Bool → Bool) (marks : List Bool) → passes k test ≡ true
-    → length marks ≡ k → test marks ≡ true
+    → length marks ≤ k → test marks ≡ true
 unfolding passes
 passes_at zero test [] all long = all
-passes_at (suc k) test [] all long = absurd (omega arith)
+passes_at (suc k) test [] all long = (and_parts _ _ all).0
 passes_at zero test (mark ∷ marks) all long = absurd (omega arith)
 passes_at (suc k) test (true ∷ marks) all long = passes_at k (λ ms. test (true ∷ ms)) marks
-    (and_parts _ _ all).0 (omega arith)
+    (and_parts _ _ (and_parts _ _ all).1).0 (omega arith)
 passes_at (suc k) test (false ∷ marks) all long = passes_at k (λ ms. test (false ∷ ms)) marks
-    (and_parts _ _ all).1 (omega arith)
+    (and_parts _ _ (and_parts _ _ all).1).1 (omega arith)
 
--- the table of places has the right word for each eight marks
+-- the table of places has the right word for at most eight marks
 table_is : passes 8 (λ marks. get_or PLACES (mask_l marks) 0 == word_for marks) ≡ true
 unfolding passes
 table_is = refl
 
 -- the table of places at one index
-table_word : (marks : List Bool) → length marks ≡ 8 → get_or PLACES (mask_l marks) 0 ≡ word_for marks
+table_word : (marks : List Bool) → length marks ≤ 8 → get_or PLACES (mask_l marks) 0 ≡ word_for marks
 table_word marks long = eqb-true (get_or PLACES (mask_l marks) 0) (word_for marks)
     (passes_at 8 (λ ms. get_or PLACES (mask_l ms) 0 == word_for ms) marks table_is long)
 
--- the number of units that the table needs for eight marks
+-- the number of units that the table needs for some marks
 abbrev units_for : List Bool → ℕ
 units_for marks = if is_two marks then suc (suc (run_of marks + second_run marks)) else 0
 
--- the table of lengths has the right number for each eight marks
+-- the table of lengths has the right number for at most eight marks
 used_table_is : passes 8 (λ marks. get_or USED (mask_l marks) 0 == units_for marks) ≡ true
 unfolding passes
 used_table_is = refl
 
 -- the table of lengths at one index
-table_units : (marks : List Bool) → length marks ≡ 8 → get_or USED (mask_l marks) 0 ≡ units_for marks
+table_units : (marks : List Bool) → length marks ≤ 8 → get_or USED (mask_l marks) 0 ≡ units_for marks
 table_units marks long = eqb-true (get_or USED (mask_l marks) 0) (units_for marks)
     (passes_at 8 (λ ms. get_or USED (mask_l ms) 0 == units_for ms) marks used_table_is long)
 
--- ---- eight marks before others
+-- ---- marks before others
 
 -- the bits of the first marks are below those of the others
 pub mask_l-append : (xs ys : List Bool) → mask_l (xs ++ ys) ≡ mask_l xs + 2 ^ length xs * mask_l ys
@@ -83,6 +83,34 @@ mask_l-append (x ∷ xs) ys =
     let rest = mask_l-append xs ys in
     let power : 2 ^ suc (length xs) ≡ 2 ^ length xs * 2 = pow-suc 2 (length xs) in
     rw (rest, power) (omega arith)
+
+-- a shift to the right by k drops the first k marks
+pub mask_l-drop : (k : ℕ) (marks : List Bool) → mask_l marks / 2 ^ k ≡ mask_l (drop k marks)
+mask_l-drop (suc k) (mark ∷ marks) =
+    let apart : suc k ≡ 1 + k = omega arith in
+    let first : mask_l (mark ∷ marks) / 2 ^ 1 ≡ mask_l marks = half mark (mask_l marks) in
+    ap (λ n. mask_l (mark ∷ marks) / 2 ^ n) apart ∙ sym (shr-shr (mask_l (mark ∷ marks)) 1 k)
+    ∙ ap (λ n. n / 2 ^ k) first ∙ mask_l-drop k marks
+  where
+    half : (mark : Bool) (n : ℕ) → (cond mark 1 0 + 2 * n) / 2 ^ 1 ≡ n
+    half true n = omega arith
+    half false n = omega arith
+mask_l-drop _ _ = omega arith
+
+-- a remainder by 2 ^ k keeps the first k marks
+pub mask_l-take : (k : ℕ) (marks : List Bool) → mask_l marks % 2 ^ k ≡ mask_l (take k marks)
+mask_l-take k marks =
+    elim (cases_lt k (length marks)) [
+      | inl within ↦
+          let long : length (take k marks) ≡ k = length-take-le k marks (omega arith) in
+          let power : 2 ^ length (take k marks) ≡ 2 ^ k = ap (λ n. 2 ^ n) long in
+          let small = mask_l-lt (take k marks) in
+          let parts : mask_l marks ≡ mask_l (take k marks) + 2 ^ k * mask_l (drop k marks) =
+          ap mask_l (sym (take-append-drop k marks)) ∙ mask_l-append (take k marks) (drop k marks)
+          ∙ ap (λ n. mask_l (take k marks) + n * mask_l (drop k marks)) power in
+          ap (λ n. n % 2 ^ k) parts ∙ low_digit (2 ^ k) (mask_l (take k marks)) (mask_l (drop k marks)) (omega arith)
+      | inr beyond ↦ mask_l-mod marks k beyond ∙ ap mask_l (sym (take_all k marks beyond))
+    ]
 
 -- the first set mark is found among the first marks, if one is set there
 run_of-append : (xs ys : List Bool) → run_of xs < length xs → run_of (xs ++ ys) ≡ run_of xs
@@ -125,113 +153,31 @@ even_word marks word is even = by_test (is_two marks) (two_places marks) word is
     by_test true places word is even = (refl, is)
     by_test false places word is even = absurd (omega arith)
 
--- ---- marks followed by marks that are not set
-
--- marks that are not set add no bits
-pub mask_l-padded : (marks : List Bool) (n : ℕ) → mask_l (marks ++ replicate n false) ≡ mask_l marks
-mask_l-padded [] zero = refl
-mask_l-padded [] (suc n) = let rest = mask_l-padded [] n in omega arith
-mask_l-padded (mark ∷ marks) n = ap (λ m. cond mark 1 0 + 2 * m) (mask_l-padded marks n)
-
--- the first set mark is not one of the added marks
-first_within : (marks : List Bool) (n : ℕ) → run_of (marks ++ replicate n false) < length marks + n
-    → (run_of marks < length marks) × (run_of (marks ++ replicate n false) ≡ run_of marks)
-first_within [] n within = absurd (let none = unset n in omega arith)
-  where
-    unset : (n : ℕ) → run_of (replicate n false) ≡ n
-    unset zero = refl
-    unset (suc n) = ap suc (unset n)
-first_within (true ∷ marks) n within = (omega arith, refl)
-first_within (false ∷ marks) n within =
-    let rest = first_within marks n (omega arith) in
-    (omega (arith, rest.0), ap suc rest.1)
-
--- the second set mark is not one of the added marks
-second_within : (marks : List Bool) (n : ℕ) → suc
-    (run_of (marks ++ replicate n false) + second_run (marks ++ replicate n false))
-    < length marks + n
-    → (run_of (marks ++ replicate n false) ≡ run_of marks)
-    × (second_run (marks ++ replicate n false) ≡ second_run marks)
-    × (suc (run_of marks + second_run marks) < length marks)
-second_within marks n within =
-    let first = first_within marks n (omega arith) in
-    let at = suc (run_of marks) in
-    let apart : drop (suc (run_of (marks ++ replicate n false))) (marks ++ replicate n false)
-    ≡ drop at marks ++ replicate n false =
-    ap (λ k. drop (suc k) (marks ++ replicate n false)) first.1
-    ∙ drop-append-le at marks (replicate n false) (omega (arith, first.0)) in
-    let behind : second_run (marks ++ replicate n false) ≡ run_of
-    (drop at marks ++ replicate n false) = ap run_of apart in
-    let long = length-drop at marks in
-    let second = first_within (drop at marks) n (omega (arith, first.0, first.1)) in
-    (first.1, behind ∙ second.1, omega (arith, first.0, second.0))
-
 -- The entries of both tables for the first eight marks.
 pub two_found : (marks : List Bool) (places used : ℕ)
     → places ≡ get_or PLACES (mask_l marks % 256) 0 → used ≡ get_or USED (mask_l marks % 256) 0
     → places % 2 ≡ 0 → AreTwo marks places used
 two_found marks places used is used_is even =
-    let all = marks ++ replicate 8 false in
-    let all_long : length all ≡ length marks + 8 = length-append marks (replicate 8 false)
-    ∙ ap (λ n. length marks + n) (length-replicate 8 false) in
-    let front = take 8 all in
-    let rest = drop 8 all in
-    let eight : length front ≡ 8 = length-take-le 8 all (omega arith) in
-    let whole : front ++ rest ≡ all = take-append-drop 8 all in
-    let joined : mask_l marks ≡ mask_l front + 2 ^ length front * mask_l rest =
-    sym (mask_l-padded marks 8) ∙ ap mask_l (sym whole) ∙ mask_l-append front rest in
-    let power : 2 ^ length front ≡ 256 = ap (λ n. 2 ^ n) eight in
-    let small = mask_l-lt front in
-    let parts : mask_l marks ≡ mask_l front + 256 * mask_l rest = joined
-    ∙ ap (λ n. mask_l front + n * mask_l rest) power in
-    let index : mask_l marks % 256 ≡ mask_l front = omega arith in
-    let two = even_word front places (is ∙ ap (λ i. get_or PLACES i 0) index ∙ table_word front eight) even in
-    let count : used ≡ units_for front = used_is ∙ ap (λ i. get_or USED i 0) index ∙ table_units front eight in
+    let front = take 8 marks in
+    let rest = drop 8 marks in
+    let count = length-take 8 marks in
+    let few : length front ≤ 8 = omega arith in
+    let whole : front ++ rest ≡ marks = take-append-drop 8 marks in
+    let index : mask_l marks % 256 ≡ mask_l front = mask_l-take 8 marks in
+    let two = even_word front places (is ∙ ap (λ i. get_or PLACES i 0) index ∙ table_word front few) even in
     let facts = is_two-true front two.0 in
-    let first : run_of all ≡ run_of front = ap run_of (sym whole) ∙ run_of-append front rest (omega arith) in
-    let second : second_run all ≡ second_run front = ap second_run (sym whole) ∙ second_run-append front rest facts.2 in
-    let same = second_within marks 8 (omega arith) in
+    let used_here : used ≡ units_for front = used_is ∙ ap (λ i. get_or USED i 0) index ∙ table_units front few in
     let units : units_for front ≡ suc (suc (run_of front + second_run front)) = rw two.0 refl in
+    let first : run_of front ≡ run_of marks = sym (run_of-append front rest (omega arith)) ∙ ap run_of whole in
+    let second : second_run front ≡ second_run marks = sym (second_run-append front rest facts.2)
+    ∙ ap second_run whole in
     record {
-      first_short = omega (arith, same.0);
-      second_short = omega (arith, same.1);
-      used_is = omega (arith, same.0, same.1);
-      within = omega (arith, same.0, same.1, same.2);
-      places_are = two.1 ∙ ap (λ i. number_l 256 (places_in 0 i ++ places_in (suc i)
-          (second_run front))) (sym first ∙ same.0)
-          ∙ ap (λ j. number_l 256 (places_in 0 (run_of marks) ++ places_in (suc (run_of marks)) j))
-          (sym second ∙ same.1);
+      first_short = omega (arith, first);
+      second_short = omega (arith, second);
+      used_is = omega (arith, first, second);
+      within = omega (arith, first, second, facts.2);
+      places_are = two.1 ∙ (λ i. number_l 256 (places_in 0 (first i) ++ places_in (suc (first i)) (second i)));
     }
-
--- ==== Marks as the bits of a number: the first k, and those after them.
-
--- a shift to the right by k drops the first k marks
-pub mask_l-drop : (k : ℕ) (marks : List Bool) → mask_l marks / 2 ^ k ≡ mask_l (drop k marks)
-mask_l-drop (suc k) (mark ∷ marks) =
-    let apart : suc k ≡ 1 + k = omega arith in
-    let first : mask_l (mark ∷ marks) / 2 ^ 1 ≡ mask_l marks = half mark (mask_l marks) in
-    ap (λ n. mask_l (mark ∷ marks) / 2 ^ n) apart ∙ sym (shr-shr (mask_l (mark ∷ marks)) 1 k)
-    ∙ ap (λ n. n / 2 ^ k) first ∙ mask_l-drop k marks
-  where
-    half : (mark : Bool) (n : ℕ) → (cond mark 1 0 + 2 * n) / 2 ^ 1 ≡ n
-    half true n = omega arith
-    half false n = omega arith
-mask_l-drop _ _ = omega arith
-
--- a remainder by 2 ^ k keeps the first k marks
-pub mask_l-take : (k : ℕ) (marks : List Bool) → mask_l marks % 2 ^ k ≡ mask_l (take k marks)
-mask_l-take k marks =
-    elim (cases_lt k (length marks)) [
-      | inl within ↦
-          let long : length (take k marks) ≡ k = length-take-le k marks (omega arith) in
-          let power : 2 ^ length (take k marks) ≡ 2 ^ k = ap (λ n. 2 ^ n) long in
-          let small = mask_l-lt (take k marks) in
-          let parts : mask_l marks ≡ mask_l (take k marks) + 2 ^ k * mask_l (drop k marks) =
-          ap mask_l (sym (take-append-drop k marks)) ∙ mask_l-append (take k marks) (drop k marks)
-          ∙ ap (λ n. mask_l (take k marks) + n * mask_l (drop k marks)) power in
-          ap (λ n. n % 2 ^ k) parts ∙ low_digit (2 ^ k) (mask_l (take k marks)) (mask_l (drop k marks)) (omega arith)
-      | inr beyond ↦ mask_l-mod marks k beyond ∙ ap mask_l (sym (take_all k marks beyond))
-    ]
 
 -- ==== The ends of a block include those of all units before a fault, among the first 63.
 
