@@ -1,22 +1,15 @@
 -- What a read of `csv` says about the place in a text.
-use Rattle.std.proofs.Common.{◌≡◌, ◌∙◌, ℕ, List, [], ◌∷◌, ◌++◌, Option, Some, None, Result, Ok, Err}
-use Rattle.std.proofs.Common.{Bool, true, false, sym, refl, inl, ◌⊎◌}
-use Rattle.std.specs.Prelude.{option_map, is_err, IfErr, IfOk, IfSome}
+use Rattle.std.proofs.Common.{◌≡◌, ◌∙◌, ℕ, List, [], ◌∷◌, ◌++◌, Option, Some, None, Bool, true, false, sym, refl, inl}
+use Rattle.std.specs.Prelude.{option_map, IfSome}
 use Rattle.std.specs.Borrow.{MutBor}
 use Rattle.csv.specs.Reading.{Reached, ReadRecord, default_config, is_flexible, reader_state}
 use Rattle.csv.specs.Reading.{source_of, strip_bom, took_first}
-use Rattle.csv.specs.Records.{fields_of}
 use Rattle.csv.specs.declared.reader.Reader.{Reader}
 use Rattle.csv.specs.declared.parser.State.TheVariants as st
 use Rattle.csv.proofs.ReadFacts.{rows-end, rows-more}
 use Rattle.twkb_io.specs.declared.tap.Tap.{Tap}
 use Rattle.twkb_table.specs.Record.{Record}
-use Rattle.twkb_table.specs.CsvRecords.{Advances, AreRecordsOf, BeginWith, Finishes, HasGivenOf}
-use Rattle.twkb_table.specs.CsvRecords.{IsSetUp, standing, told_by}
-use Rattle.twkb_table.specs.SourceStanding.{Ends, Faults, GivesRecord}
-use Rattle.twkb_table.specs.declared.record_source.RecordSource.{RecordSource}
-use Rattle.twkb_table.specs.declared.table_fault.TableFault.{TableFault}
-use Rattle.twkb_table.specs.declared.table_fault.TableFault.TheVariants as fault
+use Rattle.twkb_table.specs.CsvRecords.{AreRecordsOf, BeginWith, HasGivenOf, IsSetUp, standing, told_by}
 
 -- a new reader has given no record
 pub given_none : {R : Type 0} (remaining : R → Option (List ℕ)) (told : Option (List ℕ))
@@ -66,39 +59,3 @@ pub row_place_begins : {R : Type 0} (remaining : R → Option (List ℕ)) (told 
 row_place_begins remaining None records ended reader s = tt
 row_place_begins remaining (Some text) records false reader s = (reader_state reader, s.1.0, s.1.2)
 row_place_begins remaining (Some text) records true reader s = (s.0, s.1, s.2)
-
--- ---- a source
-
--- what a read shows about the source
-pub source_gives : {R : Type 0} (remaining : R → Option (List ℕ)) (old new : RecordSource R)
-    (r : Result Bool TableFault) → new.spent ≡ is_err r
-    → IfOk r (λ found. found ≡ true → Advances remaining old.ended old.reader (fields_of new.last)
-    new.ended new.reader) → IfOk r (λ found. found ≡ true → GivesRecord remaining old new)
-source_gives remaining old new (Ok found) spent h = λ is told records s.
-    (let (stands, begins) = h is told records s.0 in ((stands, spent), begins))
-source_gives remaining old new (Err f) spent h = tt
-
-pub source_ends : {R : Type 0} (remaining : R → Option (List ℕ)) (old new : RecordSource R)
-    (r : Result Bool TableFault) → new.spent ≡ is_err r
-    → IfOk r (λ found. found ≡ false → Finishes remaining old.ended old.reader new.ended new.reader)
-    → IfOk r (λ found. found ≡ false → Ends remaining old new)
-source_ends remaining old new (Ok found) spent h = λ is told records s.
-    (let (stands, all) = h is told records s.0 in ((stands, spent), all))
-source_ends remaining old new (Err f) spent h = tt
-
-pub source_faults : {R : Type 0} (remaining : R → Option (List ℕ)) (old : RecordSource R)
-    (r : Result Bool TableFault) → IfErr r (λ f. f ≡ fault.Source)
-    → IfErr r (λ f. Faults remaining old f)
-source_faults remaining old (Ok found) h = tt
-source_faults remaining old (Err f) h = λ told records s.
-    (h, row_place_begins remaining told records old.ended old.reader s.0)
-
-pub never_spent : (r : Result Bool TableFault) → IfErr r (λ f. f ≡ fault.Source) → r ≡ Err fault.Spent → ⊥
-never_spent (Ok found) h e = cc e
-never_spent (Err f) h e = cc (h, e)
-
--- a read that fails is no call after an error
-pub source_only : (r : Result Bool TableFault) → IfErr r (λ f. f ≡ fault.Source)
-    → IfErr r (λ f. (f ≡ fault.Source) ⊎ (f ≡ fault.Spent))
-source_only (Ok found) h = tt
-source_only (Err f) h = inl h

@@ -17,7 +17,6 @@ pub mod RowFault
 pub mod RowReading
 pub mod RowRules
 pub mod Samples
-pub mod SourceStanding
 pub mod Standing
 pub mod TableReading
 pub mod Text

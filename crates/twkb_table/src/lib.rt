@@ -33,7 +33,6 @@ pub use kind_word::{parse_kind, push_kind};
 pub use numbered_records::RECORD_CAP;
 pub use places::{refused_count, refused_id, refused_place, refused_precision};
 pub use reason::RowReason;
-pub use record_source::RecordSource;
 pub use record_verdict::judge;
 pub use table_fault::TableFault;
 pub use table_reader::TableReader;
