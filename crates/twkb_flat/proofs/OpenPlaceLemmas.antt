@@ -8,25 +8,23 @@ use Rattle.std.proofs.lemmas.Bool.Decides.{nat_tests}
 use Rattle.twkb_points.specs.Point.{AreInRange}
 use Rattle.twkb_tree.specs.declared.open_rows.OpenRow.{OpenRow}
 use Rattle.twkb_tree.specs.Rows.{Row, row_points}
-use Rattle.twkb_tree.specs.Admits.{last_at, first_below, has_place, id_in_range, id_allowed, has_same_ids}
-use Rattle.twkb_tree.specs.Admits.{precision_in_range, precision_fits, is_geometry, points_fit, fits}
+use Rattle.twkb_tree.specs.Admits.{last_at, first_below}
 use Rattle.twkb_tree.specs.Open.{ids_by, IsOpenAt, AreOpen, open_count, row_of, child_of, open_parent, count_at}
 use Rattle.twkb_tree.specs.Open.{open_refusal, is_next, open_continues}
 use Rattle.twkb_tree.specs.declared.row_place.RowPlace.{RowPlace}
 use Rattle.twkb_tree.specs.Limits.{Allowance, largest_limits}
-use Rattle.twkb_tree.specs.Accepted.{nest_kept, Continues}
+use Rattle.twkb_tree.specs.Accepted.{Continues}
 use Rattle.twkb_tree.specs.RowLists.{AreValidRowsOfOne}
 use Rattle.twkb_tree.specs.Refusal.{checks_under, first_failed, continues}
-use Rattle.twkb_tree.specs.RowPlace.{row_place_at}
+use Rattle.twkb_tree.specs.RowPlace.{row_checks, row_place_at}
 use Rattle.twkb_tree.proofs.RowSteps.{last_at-other, other_depth}
-use Rattle.twkb_tree.proofs.OpenLaws.{stepless, no_open_parent, open_parent_at, passes, passed, joined, apart, none_is}
+use Rattle.twkb_tree.proofs.OpenLaws.{stepless, no_open_parent, open_parent_at}
 use Rattle.twkb_tree.proofs.OpenLaws.{continues_is, continues_true, continues_open, open_rows, open_none, open_at}
-use Rattle.twkb_tree.proofs.RowForest.{both_true, both, below_test, within_test, test_within}
+use Rattle.twkb_tree.proofs.RowForest.{are_in_range-true, test_within}
 use Rattle.twkb_tree.proofs.LimitLaws.{of_one}
 use Rattle.twkb_tree.proofs.RowLaws.{length-row_points, admitted_rows, as_list}
 use Rattle.twkb_flat.specs.Links.{OpenPlace}
 use Rattle.twkb_flat.specs.Rows.{depth_of, depths}
-use Rattle.twkb_flat.specs.RowTest.{is_admitted_at}
 
 -- ==== An open place among the rows, and what the test of a row sees of the row there.
 
@@ -109,42 +107,6 @@ open_there p d rows r o at steps here kind ids =
 
 -- ==== The test of a row at its place is the test by the open rows.
 
--- two tests that imply each other are equal
-alike : (a b : Bool) → (a ≡ true → b ≡ true) → (b ≡ true → a ≡ true) → a ≡ b
-alike true b to from = sym (to refl)
-alike false true to from = from refl
-alike false false to from = refl
-
--- at its place a row is admitted exactly if it is not refused
-admitted_there : (l : Allowance) (d : ℕ) (steps : Bool) (s : RowPlace) (r : Row)
-    → AreInRange r.points → steps ≡ true → s.depth ≡ r.depth
-    → is_admitted_at l s r ≡ is_none (first_failed
-    (checks_under l steps (row_of s.parent) (child_of s.parent) s.nodes s.points r))
-admitted_there l d steps s r in_range on at =
-    let p = row_of s.parent in
-    let f = child_of s.parent in
-    alike (is_admitted_at l s r) (is_none (first_failed (checks_under l steps p f s.nodes s.points r)))
-    (λ h.
-    let outer = both_true (nest_kept l p s.depth &&
-    (nat_lt s.nodes l.nodes && nat_le (s.points + length r.points) l.points)) (fits p f r) h in
-    let inner = both_true (nest_kept l p s.depth)
-    (nat_lt s.nodes l.nodes && nat_le (s.points + length r.points) l.points) outer.0 in
-    let room = both_true (nat_lt s.nodes l.nodes) (nat_le (s.points + length r.points) l.points) inner.1 in
-    let nest = subst (λ k. nest_kept l p k ≡ true) at inner.0 in
-    ap is_none (passed l steps p f s.nodes s.points r
-    (apart l steps p f s.nodes s.points r (both steps (fits p f r) on outer.1) nest
-    (below_test s.nodes l.nodes room.0) in_range (within_test (s.points + length r.points)
-    l.points room.1))))
-    (λ h.
-    let all = passes l steps p f s.nodes s.points r
-    (none_is (first_failed (checks_under l steps p f s.nodes s.points r)) h) in
-    let fit = (both_true steps (fits p f r) (joined l steps p f s.nodes s.points r all)).1 in
-    let nest = subst (λ k. nest_kept l p k ≡ true) (sym at) all.nest in
-    both (nest_kept l p s.depth && (nat_lt s.nodes l.nodes && nat_le (s.points + length r.points)
-    l.points)) (fits p f r)
-    (both (nest_kept l p s.depth) (nat_lt s.nodes l.nodes && nat_le (s.points + length r.points) l.points) nest
-    (both (nat_lt s.nodes l.nodes) (nat_le (s.points + length r.points) l.points) all.nodes_left all.points_left)) fit)
-
 -- a conjunction with a true test is the other test
 and_true : (a b : Bool) → b ≡ true → (a && b) ≡ a
 and_true true b e = e
@@ -167,11 +129,13 @@ far m n lt = grind (arith, nat_tests)
 pub continues_there : (l : Allowance) (os : List OpenRow) (nodes points : ℕ) (s : RowPlace)
     (r : Row) → AreInRange r.points → is_next os r ≡ true
     → (r.depth ≤ length os) × (s ≡ row_place_at r.depth os nodes points)
-    → is_admitted_at l s r ≡ open_continues l os nodes points r
+    → is_none (first_failed (row_checks true l s r)) ≡ open_continues l os nodes points r
 continues_there l os nodes points s r in_range next stands =
     let there = row_place_at r.depth os nodes points in
-    ap (λ t. is_admitted_at l t r) stands.1
-    ∙ admitted_there l r.depth (nat_le r.depth (length os)) there r in_range (near r.depth (length os) stands.0) refl
+    ap (λ t. is_none (first_failed (row_checks true l t r))) stands.1
+    ∙ ap (λ b. is_none (first_failed (row_checks b l there r))) (sym (are_in_range-true r.points in_range))
+    ∙ ap (λ b. is_none (first_failed (checks_under l b (row_of there.parent) (child_of there.parent)
+    there.nodes there.points r))) (sym (near r.depth (length os) stands.0))
     ∙ sym (and_true (is_none (open_refusal l os nodes points r)) (is_next os r) next)
 
 -- a row that is too deep does not continue the geometry
@@ -197,23 +161,6 @@ first_next d (o ∷ os) r e none = absurd (omega arith)
 pub later_next : (d : ℕ) (os : List OpenRow) (r : Row) → r.depth ≡ d → (length os ≡ 0 → ⊥) → nat_lt 0 d ≡ is_next os r
 later_next d [] r e some = absurd (some refl)
 later_next d (o ∷ os) r e some = ap (nat_lt 0) (sym e)
-
--- if six tests hold, the conjunction is the seventh
-seventh : (a b c d e f g : Bool) → a ≡ true → b ≡ true → c ≡ true → d ≡ true → e ≡ true → f ≡ true
-    → (a && b && c && d && e && f && g) ≡ g
-seventh a b c d e f g pa pb pc pd pe pf = rw (pa, pb, pc, pd, pe, pf) refl
-
--- a row fits exactly if the number of its points does
-pub fits_by_count : (p f : Option Row) (r : Row) → has_place p r.kind ≡ true
-    → id_in_range r.id ≡ true → (id_allowed p r.kind r.id && has_same_ids f r.id) ≡ true
-    → (precision_in_range r.precision && precision_fits p r.precision) ≡ true
-    → points_fit r.kind (is_geometry p) r.points ≡ fits p f r
-fits_by_count p f r place range id precision =
-    let ids = both_true (id_allowed p r.kind r.id) (has_same_ids f r.id) id in
-    let two = both_true (precision_in_range r.precision) (precision_fits p r.precision) precision in
-    sym (seventh (has_place p r.kind) (id_in_range r.id) (id_allowed p r.kind r.id)
-    (has_same_ids f r.id) (precision_in_range r.precision) (precision_fits p r.precision)
-    (points_fit r.kind (is_geometry p) r.points) place range ids.0 ids.1 two.0 two.1)
 
 -- ---- the place of a row
 

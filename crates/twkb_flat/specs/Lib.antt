@@ -1,5 +1,4 @@
 -- The definitions of the crate, by their topic.
-pub mod RowTest
 pub mod KeptNodes
 pub mod Lasts
 pub mod Links

@@ -12,12 +12,13 @@ ghost use Rattle.twkb_flat.specs.Rows.{IsNode, row_with};
 use crate::kept_nodes::{KeptNode, PlacedRow, link_last, put_point, put_row};
 use crate::node::{Node, NodeId, PointId, Row};
 use crate::point_source::{Copied, PointSource};
-use crate::row_test::{admits_at, is_next, look};
+use crate::row_test::{is_next, look};
 use crate::work::Work;
 use std::alloc::{AllocError, Global};
 use std::marker::Model;
 use std::mem::swap;
 use twkb_points::Pt;
+use twkb_tree::row_checks::row_refusal;
 use twkb_tree::{Kind, Limits};
 
 /// One geometry within `Limits::largest()`, or none: its rows in preorder, and the points of all
@@ -102,7 +103,9 @@ impl Flat {
             return false;
         }
         let row_place = self.row_place(row.depth);
-        admits_at(&Limits::largest(), &row_place, row, points.len())
+        let limits = Limits::largest();
+        let count = points.len();
+        row_refusal(&limits, &row_place, row.kind, row.id, row.precision, count).is_none()
     }
 
     /// Replaces all rows by one root with the points of the vector; `admits` must be true for it in

@@ -1,9 +1,15 @@
--- The place of the next row by the open rows.
+-- The place of the next row by the open rows, and the first test of a row that fails.
 use Rattle.std.proofs.Common.{◌≡◌, ℕ, zero, suc, ◌-◌, ◌<◌, ◌≤◌, List, length, Option, Some, None}
-use Rattle.std.proofs.Common.{get_or, refl, sym, ◌∙◌, ap, arith}
+use Rattle.std.proofs.Common.{get_or, refl, sym, ◌∙◌, ap, arith, ◌++◌, [], ◌∷◌, inl, inr, Bool}
+use Rattle.std.proofs.Common.{true}
+use Rattle.std.proofs.lemmas.Bool.{cases_Bool}
 use Rattle.twkb_tree.specs.declared.open_rows.OpenRow.{OpenRow}
 use Rattle.twkb_tree.specs.declared.row_place.RowPlace.{RowPlace}
-use Rattle.twkb_tree.specs.RowPlace.{row_place_at}
+use Rattle.twkb_tree.specs.Limits.{Allowance}
+use Rattle.twkb_tree.specs.Open.{row_of, child_of}
+use Rattle.twkb_tree.specs.Refusal.{Refusal, Check, first_failed, place_checks, id_checks, precision_checks}
+use Rattle.twkb_tree.specs.RowPlace.{row_place_at, points_checks, row_checks}
+use Rattle.twkb_tree.specs.Rows.{Row}
 use Rattle.twkb_tree.proofs.OpenLaws.{no_open_parent, open_parent_at}
 
 -- a root has no parent
@@ -43,3 +49,36 @@ below_stands (suc d) rows nodes points blank deep lt =
         points = points;
       }) parent,
     )
+
+-- ---- the first test of a row that fails
+
+-- the first reason, if there is one; otherwise the second
+abbrev pub first_else : Option Refusal → Option Refusal → Option Refusal
+first_else None other = other
+first_else (Some why) other = Some why
+
+-- the first test that fails is one of the first tests, or one of the others
+pub first_failed-append : (checks more : List Check)
+    → first_failed (checks ++ more) ≡ first_else (first_failed checks) (first_failed more)
+first_failed-append [] more = refl
+first_failed-append (c ∷ checks) more = elim (cases_Bool c.holds) [
+  | inl holds ↦ rw holds (first_failed-append checks more)
+  | inr fails ↦ rw fails refl
+]
+
+-- the first test of a row that fails is one of its place, its id, its precision or its points
+pub in_parts : (in_range : Bool) (l : Allowance) (s : RowPlace) (r : Row)
+    (place id precision : Option Refusal)
+    → place ≡ first_failed (place_checks l true (row_of s.parent) s.nodes s.depth r.kind)
+    → id ≡ first_failed (id_checks (row_of s.parent) (child_of s.parent) r)
+    → precision ≡ first_failed (precision_checks (row_of s.parent) r)
+    → first_else place (first_else id (first_else precision (first_failed
+    (points_checks in_range l s r)))) ≡ first_failed (row_checks in_range l s r)
+in_parts in_range l s r place id precision a b c =
+    let points = points_checks in_range l s r in
+    let precisions = precision_checks (row_of s.parent) r in
+    let ids = id_checks (row_of s.parent) (child_of s.parent) r in
+    let places = place_checks l true (row_of s.parent) s.nodes s.depth r.kind in
+    rw (a, b, c) (sym (first_failed-append places (ids ++ (precisions ++ points))
+    ∙ ap (first_else (first_failed places)) (first_failed-append ids (precisions ++ points)
+    ∙ ap (first_else (first_failed ids)) (first_failed-append precisions points))))

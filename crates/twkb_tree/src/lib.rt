@@ -14,6 +14,7 @@ mod lists;
 mod open_rows;
 mod parts;
 mod precisions;
+pub mod row_checks;
 mod row_place;
 pub mod row_rules;
 mod validity;
