@@ -1,4 +1,5 @@
 -- Lemmas of the crate, by their topic.
+pub mod AddingLemmas
 pub mod BelowLemmas
 pub mod MeasuringSteps
 pub mod DepthLemmas

@@ -1,31 +1,30 @@
 -- The sizes of a flat form, measured by a pass over its nodes, or without one.
-use Rattle.std.proofs.Common.{◌≡◌, ℕ, ◌+◌, ◌*◌, ◌-◌, ◌<◌, ◌≤◌, List, [], ◌∷◌, ◌++◌, length, drop, get_or, Option, sym}
-use Rattle.std.proofs.Common.{◌∙◌, ap, subst, arith, ◌^◌, None, Some, refl, append-nil}
+use Rattle.std.proofs.Common.{◌≡◌, ℕ, ◌+◌, ◌*◌, ◌-◌, ◌<◌, ◌≤◌, List, [], ◌∷◌, ◌++◌, length, drop, Option, sym, ◌∙◌}
+use Rattle.std.proofs.Common.{ap, subst, arith, ◌^◌, None, Some, refl, append-nil}
 use Rattle.std.specs.Prelude.{reverse, ℤ, slice_get}
-use Rattle.std.proofs.lemmas.List.{drop_all, reverse-reverse}
+use Rattle.std.proofs.lemmas.List.{drop_all, reverse-append, reverse-reverse}
 use Rattle.twkb_points.specs.Point.{Point}
 use Rattle.twkb_tree.specs.Limits.{largest_limits}
 use Rattle.twkb_tree.specs.Rows.{Row, rows, row_points, own_row}
-use Rattle.twkb_tree.specs.RowLists.{AreValidRowsOfOne, IsAbove}
+use Rattle.twkb_tree.specs.RowLists.{AreValidRowsOfOne}
 use Rattle.twkb_tree.specs.Tree.{Tree, simple, collection, saturated}
 use Rattle.twkb_tree.specs.declared.kind.Kind.TheVariants as kind
 use Rattle.twkb_flat.specs.declared.node.Node.{Node}
 use Rattle.twkb_flat.specs.Rows.{IsNode, row_with}
 use Rattle.twkb_flat.specs.declared.work.Work.{Work}
 use Rattle.twkb_grammar.specs.declared.style.Style.{Style}
-use Rattle.twkb_writer.specs.declared.depths.TheConstants.{DEPTHS}
 use Rattle.twkb_writer.specs.declared.totals.RowTotals.{RowTotals}
 use Rattle.twkb_writer.specs.declared.sizes.Entry.{Entry}
 use Rattle.twkb_writer.specs.declared.tails.TailTotals.{TailTotals}
-use Rattle.twkb_writer.specs.Caps.{point_bytes_cap}
-use Rattle.twkb_writer.specs.Totals.{blank, IsSmall, entry_for}
+use Rattle.twkb_writer.specs.Depths.{IsBlankFrom}
+use Rattle.twkb_writer.specs.Totals.{blank, entry_for}
 use Rattle.twkb_writer.specs.MeasuredRows.{measured, points_ahead, option_list, tail_after, TakenRow, row_entry}
+use Rattle.twkb_writer.specs.MeasuredRows.{Stands, AreMeasurable}
 use Rattle.twkb_writer.specs.Nodes.{own_points_in}
 use Rattle.twkb_writer.specs.Sizes.{AreSizes}
 use Rattle.twkb_writer.specs.Tails.{tail_of}
 use Rattle.twkb_writer.specs.Reads.{ReadsExactly}
-use Rattle.twkb_writer.proofs.MeasuringSteps.{points_fit, costs_within, totals_small, IsCapped, node_depth, Pass}
-use Rattle.twkb_writer.proofs.MeasuringSteps.{set_row, pass_cons, pass_none, above_drop}
+use Rattle.twkb_writer.proofs.MeasuringSteps.{stands_none, stands_more, entry_more, measurable_from}
 use Rattle.twkb_writer.proofs.MeasuringTrees.{measured_rows}
 use Rattle.twkb_writer.proofs.WalkLemmas.{rest_is, own_points, points_step}
 use Rattle.twkb_writer.proofs.PutLemmas.{part_more, nothing_left, whole_part}
@@ -33,69 +32,58 @@ use Rattle.twkb_writer.proofs.ReadLemmas.{exactly_none, exactly_node, exactly_po
 
 -- ==== The pass over a flat form's nodes, from the last to the first.
 
+-- the entries, last one first, with one more
+reverse-option : (e : Option Entry) → reverse (option_list e) ≡ option_list e
+reverse-option None = refl
+reverse-option (Some e) = refl
+
+-- What a pass knows after a place: the totals of the rows there, and their entries, last one first.
+pub record Pass (style : Style) (rs : List Row) (by_depth : List RowTotals) (tail : TailTotals)
+    (es : List Entry) : Type 0 where
+  pub stands : Stands style rs by_depth tail
+  pub kept : es ≡ reverse (measured style rs)
+
 -- at the start of the pass there is no row after the place
 pub pass_start : (style : Style) (rs : List Row) (n : ℕ) (by_depth : List RowTotals) (t : TailTotals)
-    (es : List Entry) → length rs ≤ n → length by_depth ≡ DEPTHS
-    → ((k : ℕ) → k < DEPTHS → get_or by_depth k blank ≡ blank)
-    → t ≡ tail_of [] → es ≡ [] → Pass style (drop n rs) by_depth t es
-pass_start style rs n by_depth t es all whole blanks no_tail no_entries =
-    subst (λ l. Pass style (drop n rs) by_depth t l) (sym no_entries)
-    (subst (λ u. Pass style (drop n rs) by_depth u []) (sym no_tail)
-    (subst (λ (l : List Row). Pass style l by_depth (tail_of []) []) (sym (drop_all n rs all))
-    (pass_none style by_depth whole blanks)))
-
--- the totals kept for a depth are small
-pub pass_small : (style : Style) (rs : List Row) (by_depth : List RowTotals) (t : TailTotals) (es : List Entry)
-    → IsCapped rs → Pass style rs by_depth t es → (k : ℕ) → k < DEPTHS → IsSmall (get_or by_depth k blank)
-pass_small style rs by_depth t es caps pass k small = subst IsSmall (sym (pass.stands k small))
-    (totals_small style k rs pass.bounded caps.nodes caps.points)
-
--- the points up to the next geometry are few
-pub tail_short : (style : Style) (rs : List Row) (by_depth : List RowTotals) (t : TailTotals) (es : List Entry)
-    → IsCapped rs → Pass style rs by_depth t es → t.bytes ≤ point_bytes_cap
-tail_short style rs by_depth t es caps pass = omega
-    (arith, pass.tail_small, costs_within 0 rs, caps.nodes, caps.points, points_fit)
+    (es : List Entry) → length rs ≤ n → IsBlankFrom 0 by_depth → t ≡ tail_of [] → es ≡ []
+    → Pass style (drop n rs) by_depth t es
+pass_start style rs n by_depth t es all blanks no_tail no_entries =
+    subst (λ (l : List Row). Pass style l by_depth t es) (sym (drop_all n rs all))
+    (record { stands = stands_none style by_depth t blanks no_tail; kept = no_entries })
 
 -- the pass after one more node, before the rows already seen
-pub pass_back : (style : Style) (rows : List Row) (i : ℕ) (node : Node) (by_depth new : List RowTotals)
+pass_back : (style : Style) (rows : List Row) (i : ℕ) (node : Node) (by_depth new : List RowTotals)
     (tail points : TailTotals) (e : Option Entry) (es : List Entry)
-    → IsCapped rows → (is : IsNode rows i node) → Pass style (drop (i + 1) rows) by_depth tail es
+    → AreMeasurable rows → IsNode rows i node → Pass style (drop (i + 1) rows) by_depth tail es
     → ((ahead : List Point) → tail ≡ tail_of ahead
     → points ≡ tail_of (own_points_in node (row_points rows) ++ ahead))
     → points.bytes ≤ tail.bytes + 20 * node.points
     → TakenRow style node points by_depth new e
     → Pass style (drop i rows) new (tail_after node.row.precision points) (es ++ option_list e)
-pass_back style rows i node by_depth new tail points e es caps is pass found short taken =
-    let r : Row = row_with node.row is.own in
-    let rest : is.rest ≡ drop (i + 1) rows = rest_is rows i node is in
+pass_back style rows i node by_depth new tail points e es fit is pass found short row =
     let behind : Pass style is.rest by_depth tail es =
-    subst (λ (l : List Row). Pass style l by_depth tail es) (sym rest) pass in
-    let child : IsAbove (node.row.depth + 2) is.rest =
-    subst (IsAbove (node.row.depth + 2)) (sym rest)
-    (above_drop rows (i + 1) (node.row.depth + 2) (λ some. let c = is.child some in
-    omega (arith, c))) in
-    let here : Pass style (r ∷ is.rest) (set_row by_depth node.row.depth taken.own)
-    (tail_after node.row.precision points) (es ++ option_list e) =
-    pass_cons style r node.points is.rest by_depth tail points taken.own e es behind (record {
-      deep = omega (arith, node_depth rows i node caps is);
-      child = child;
-      count = is.count;
-      points_are = found (points_ahead is.rest) behind.tail_is
-          ∙ ap (λ ps. tail_of (ps ++ points_ahead is.rest)) (own_points rows i node is);
-      points_small = short;
-      own_is = taken.own_is;
-      own_small = taken.own_small;
-      entry_is = taken.entry_is;
-    }) in
-    subst (λ (l : List RowTotals). Pass style (drop i rows) l (tail_after node.row.precision points)
-    (es ++ option_list e)) (sym taken.set_both)
-    (subst (λ (l : List Row). Pass style l (set_row by_depth node.row.depth taken.own)
-    (tail_after node.row.precision points) (es ++ option_list e)) (sym is.here) here)
+    subst (λ (l : List Row). Pass style l by_depth tail es) (sym (rest_is rows i node is)) pass in
+    let here : AreMeasurable (row_with node.row is.own ∷ is.rest) =
+    subst AreMeasurable is.here (measurable_from i rows fit) in
+    let points_are : points ≡ tail_of (is.own ++ points_ahead is.rest) =
+    found (points_ahead is.rest) behind.stands.tail_is
+    ∙ ap (λ ps. tail_of (ps ++ points_ahead is.rest)) (own_points rows i node is) in
+    subst (λ (l : List Row). Pass style l new (tail_after node.row.precision points) (es ++ option_list e))
+    (sym is.here) (record {
+      stands = stands_more style node is.own is.rest by_depth new tail points e behind.stands here is.count
+          points_are short row;
+      kept =
+          ap (λ l. l ++ option_list e) behind.kept
+          ∙ ap (λ l. reverse (measured style is.rest) ++ l) (sym (reverse-option e))
+          ∙ sym (reverse-append (option_list e) (measured style is.rest))
+          ∙ ap reverse (entry_more style node is.own is.rest by_depth new tail points e behind.stands here
+          is.count points_are row);
+    })
 
 -- the pass after one more node, with its place counted from the end
 pub pass_step : (style : Style) (rows : List Row) (total back : ℕ) (node : Node)
     (by_depth new : List RowTotals) (tail points before : TailTotals) (e : Option Entry) (es kept : List Entry)
-    → back < total → IsCapped rows → IsNode rows (total - 1 - back) node
+    → back < total → AreMeasurable rows → IsNode rows (total - 1 - back) node
     → Pass style (drop (total - back) rows) by_depth tail es
     → ((ahead : List Point) → tail ≡ tail_of ahead
     → points ≡ tail_of (own_points_in node (row_points rows) ++ ahead))
@@ -103,12 +91,12 @@ pub pass_step : (style : Style) (rows : List Row) (total back : ℕ) (node : Nod
     → TakenRow style node points by_depth new e → before ≡ tail_after node.row.precision points
     → kept ≡ es ++ option_list e
     → Pass style (drop (total - (back + 1)) rows) new before kept
-pass_step style rows total back node by_depth new tail points before e es kept some caps is pass found
-    short taken tail_is kept_are =
+pass_step style rows total back node by_depth new tail points before e es kept some fit is pass found
+    short row tail_is kept_are =
     let here : total - back ≡ total - 1 - back + 1 = omega arith in
     let there : total - 1 - back ≡ total - (back + 1) = omega arith in
-    let step = pass_back style rows (total - 1 - back) node by_depth new tail points e es caps is
-    (subst (λ n. Pass style (drop n rows) by_depth tail es) here pass) found short taken in
+    let step = pass_back style rows (total - 1 - back) node by_depth new tail points e es fit is
+    (subst (λ n. Pass style (drop n rows) by_depth tail es) here pass) found short row in
     subst (λ n. Pass style (drop n rows) new before kept) there
     (subst (λ (l : List Entry). Pass style (drop (total - 1 - back) rows) new before l) (sym kept_are)
     (subst (λ (t : TailTotals). Pass style (drop (total - 1 - back) rows) new t (es ++ option_list e))

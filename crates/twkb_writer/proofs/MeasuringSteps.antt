@@ -1,42 +1,36 @@
 -- The pass over rows, from the last to the first, and bounds on the totals that it adds up.
+use mathlib.Core.List.{reverse_aux}
 use Rattle.std.proofs.Common.{◌+◌, ◌*◌, ◌≤◌, arith, ◌≡◌, ℕ, suc, ◌<◌, List, [], ◌∷◌, ◌++◌, length, true, false, refl}
-use Rattle.std.proofs.Common.{◌∙◌, ap, Option, None, Some, inl, inr, length-append, ◌≢◌, zero, drop, get_or, set, sym}
-use Rattle.std.proofs.Common.{subst, append-nil}
-use Rattle.std.specs.Prelude.{nat_lt, nat_eq, if◌then◌else◌, ℤ, reverse, slice_index}
+use Rattle.std.proofs.Common.{◌∙◌, ap, Option, None, Some, inl, inr, length-append, ◌≢◌, zero, drop, take, get_or}
+use Rattle.std.proofs.Common.{set, sym, subst, append-nil}
+use Rattle.std.specs.Prelude.{nat_lt, nat_eq, if◌then◌else◌, ℤ}
 use Rattle.std.proofs.lemmas.Bool.Decides.{nat_tests}
 use Rattle.std.proofs.lemmas.Bool.{cases_lt, cases_eq}
-use Rattle.std.proofs.lemmas.List.{get_or-set_same, get_or-set_other, length-set, reverse-append}
+use Rattle.std.proofs.lemmas.List.{get_or-set_same, get_or-set_other, length-set, take-append-drop}
 use Rattle.twkb_points.specs.Point.{Point}
-use Rattle.twkb_tree.specs.declared.limits.TheConstants.{NODES_CAP, POINTS_CAP}
+use Rattle.twkb_tree.specs.Admits.{steps_to, parent, first_child, fits, IsAdmitted}
 use Rattle.twkb_tree.specs.Rows.{Row, row_points, rows}
-use Rattle.twkb_tree.specs.RowLists.{IsAbove, AreValidRowsOfOne, AreValidRows, AreShallow}
+use Rattle.twkb_tree.specs.RowLists.{IsAbove, AreValidRowsOfOne, AreShallow}
 use Rattle.twkb_tree.specs.Tree.{Tree}
 use Rattle.twkb_tree.specs.Limits.{largest_limits, IsValid}
 use Rattle.twkb_tree.specs.RowLemmas.{length-rows_with}
-use Rattle.twkb_tree.proofs.RowLaws.{AreDeep, row_points-with}
+use Rattle.twkb_tree.proofs.RowForest.{both_true, within_test}
+use Rattle.twkb_tree.proofs.RowLaws.{AreDeep, row_points-with, admitted_rows}
 use Rattle.twkb_tree.proofs.RowDepths.{valid_depths}
-use Rattle.twkb_flat.specs.Rows.{depths, row_depth_cap, IsNode}
+use Rattle.twkb_flat.specs.Rows.{row_depth_cap, row_with, IsNode}
 use Rattle.twkb_flat.specs.declared.node.Node.{Node}
 use Rattle.twkb_grammar.specs.declared.style.Style.{Style}
-use Rattle.twkb_writer.specs.Caps.{point_bytes_cap, sums_cap}
+use Rattle.twkb_writer.specs.Caps.{weights_cap}
+use Rattle.twkb_writer.specs.Depths.{IsBlankFrom}
 use Rattle.twkb_writer.specs.declared.totals.RowTotals.{RowTotals}
 use Rattle.twkb_writer.specs.Totals.{blank, IsSmall}
-use Rattle.twkb_writer.specs.MeasuredRows.{totals, chosen, row_totals, points_ahead, ahead_of, cost_of, load, measured}
-use Rattle.twkb_writer.specs.MeasuredRows.{row_entry, option_list, tail_after}
+use Rattle.twkb_writer.specs.MeasuredRows.{totals, chosen, row_totals, points_ahead, ahead_of, cost_of, weight}
+use Rattle.twkb_writer.specs.MeasuredRows.{weights, measured, row_entry, option_list, tail_after, TakenRow, Stands}
+use Rattle.twkb_writer.specs.MeasuredRows.{AreNested, AreMeasurable}
 use Rattle.twkb_writer.specs.Tails.{tail_of}
 use Rattle.twkb_writer.specs.declared.depths.TheConstants.{DEPTHS}
 use Rattle.twkb_writer.specs.declared.sizes.Entry.{Entry}
 use Rattle.twkb_writer.specs.declared.tails.TailTotals.{TailTotals}
-
--- ==== The bounds on sums of bytes hold for each geometry within the limits.
-
--- a hundred bytes for each row and twenty for each point are within the bound on bytes of points
-pub points_fit : 100 * NODES_CAP + 20 * POINTS_CAP ≤ point_bytes_cap
-points_fit = omega arith
-
--- a hundred bytes for each row and twenty for each point are within the bound on sums
-pub sums_fit : 100 * NODES_CAP + 20 * POINTS_CAP ≤ sums_cap
-sums_fit = omega arith
 
 -- ==== The totals of the rows at one depth, by the first row.
 
@@ -100,143 +94,33 @@ totals_past style k (x ∷ xs) rest h = totals_below style k x (xs ++ rest) (ome
 
 -- ==== Bounds on the totals of rows.
 
--- the costs of the rows at a depth and below, up to the first row above it
-abbrev pub chosen_cost : ℕ → ℕ → ℕ → ℕ
-chosen_cost d k n = if nat_lt d k then 0 else n
+-- the totals at one depth weigh at most as much as those at all depths
+weight_within : (ls : List RowTotals) (k : ℕ) → weight (get_or ls k blank) ≤ weights ls
+weight_within [] k = omega arith
+weight_within (l ∷ ls) zero = omega arith
+weight_within (l ∷ ls) (suc k) = omega (arith, weight_within ls k)
 
-abbrev pub costs : ℕ → List Row → ℕ
-costs k [] = 0
-costs k (r ∷ rs) = chosen_cost r.depth k (cost_of r.precision (20 * length (r.points ++ points_ahead rs)) + costs k rs)
+-- the weights with other totals at one depth
+weights-set : (ls : List RowTotals) (k : ℕ) (l : RowTotals) → k < length ls
+    → weights (set ls k l) + weight (get_or ls k blank) ≡ weights ls + weight l
+weights-set [] k l h = absurd (omega arith)
+weights-set (x ∷ ls) zero l h = omega arith
+weights-set (x ∷ ls) (suc k) l h = omega (arith, weights-set ls k l (omega arith))
 
-costs_above : (d k n : ℕ) → d < k → chosen_cost d k n ≡ 0
-costs_above d k n h = let e : nat_lt d k ≡ true = grind (arith, nat_tests) in ap (λ b. if b then 0 else n) e
-
-costs_here : (d k n : ℕ) → k ≤ d → chosen_cost d k n ≡ n
-costs_here d k n h = let e : nat_lt d k ≡ false = grind (arith, nat_tests) in ap (λ b. if b then 0 else n) e
-
-chosen_cost-le : (d k n : ℕ) → chosen_cost d k n ≤ n
-chosen_cost-le d k n = elim (cases_lt d k) [
-  | inl above ↦ omega (arith, costs_above d k n above)
-  | inr here ↦ omega (arith, costs_here d k n here)
-]
-
--- the totals at each depth are at most the costs of its rows, without the rows below it
-abbrev pub IsBounded : Style → List Row → Type 0
-IsBounded style rs = (k : ℕ) → load (totals style k rs) + costs (suc k) rs ≤ costs k rs
-
-pub bounded_none : (style : Style) → IsBounded style []
-bounded_none style k = omega arith
-
--- the bound with one more row before the others, if the row adds at most its cost
-pub bounded_step : (style : Style) (r : Row) (rs : List Row) → IsBounded style rs
-    → load (row_totals style r.kind (length r.points) r.id r.precision (totals style (suc r.depth) rs)
-    (tail_of (r.points ++ points_ahead rs)) (totals style r.depth rs))
-    ≤ load (totals style (suc r.depth) rs) + load (totals style r.depth rs) + cost_of r.precision
-    (20 * length (r.points ++ points_ahead rs))
-    → IsBounded style (r ∷ rs)
-bounded_step style r rs bounded own k =
-    let cost : ℕ = cost_of r.precision (20 * length (r.points ++ points_ahead rs)) in
-    elim (cases_lt r.depth k) [
-      | inl above ↦ omega (
-        arith,
-        ap load (totals_above style k r rs above),
-        costs_above r.depth (suc k) (cost + costs (suc k) rs) (omega arith),
-      )
-      | inr upper ↦ elim (cases_eq r.depth k) [
-        | inl same ↦
-            (let below : load (totals style (suc r.depth) rs) ≡ load (totals style (suc k) rs) =
-            ap (λ d. load (totals style (suc d) rs)) same in
-            let others : load (totals style r.depth rs) ≡ load (totals style k rs) =
-            ap (λ d. load (totals style d rs)) same in
-            let here : load (totals style r.depth (r ∷ rs)) ≡ load (totals style k (r ∷ rs)) =
-            ap (λ d. load (totals style d (r ∷ rs))) same in
-            let at = ap load (totals_at style r.depth r rs refl) in
-            omega (
-              arith,
-              own,
-              below,
-              others,
-              here,
-              at,
-              bounded k,
-              bounded (suc k),
-              costs_above r.depth (suc k) (cost + costs (suc k) rs) (omega arith),
-              costs_here r.depth k (cost + costs k rs) upper,
-            ))
-        | inr other ↦ omega (
-          arith,
-          ap load (totals_below style k r rs (omega arith)),
-          bounded k,
-          costs_here r.depth (suc k) (cost + costs (suc k) rs) (omega arith),
-          costs_here r.depth k (cost + costs k rs) upper,
-        )
-      ]
-    ]
-
-cost_within : (p : Option ℤ) (ps ahead : List Point)
-    → cost_of p (20 * length (ps ++ ahead)) + 20 * length (ahead_of p (ps ++ ahead)) ≤ 100 + 20
-    * length ps + 20 * length ahead
-cost_within None ps ahead = omega (arith, length-append ps ahead)
-cost_within (Some p) ps ahead = omega (arith, length-append ps ahead)
-
--- the costs of rows are bounded by the numbers of rows and points
-pub costs_within : (k : ℕ) (rs : List Row) → costs k rs + 20 * length (points_ahead rs) ≤ 100
-    * length rs + 20 * length (row_points rs)
-costs_within k [] = omega arith
-costs_within k (r ∷ rs) =
-    let cost : ℕ = cost_of r.precision (20 * length (r.points ++ points_ahead rs)) in
-    omega (
-      arith,
-      chosen_cost-le r.depth k (cost + costs k rs),
-      cost_within r.precision r.points
-          (points_ahead rs),
-      costs_within k rs,
-      length-append r.points (row_points rs),
-    )
-
--- ---- members
-
-members_row : (style : Style) (r : Row) (p : Option ℤ) (below others : RowTotals) (ps : List Point)
-    → (row_totals style r.kind (length r.points) r.id p below (tail_of ps) others).members
-    ≡ others.members + 1
-members_row style r None below others ps = refl
-members_row style r (Some p) below others ps = refl
-
--- there are at most as many members as rows
-members_within : (style : Style) (k : ℕ) (rs : List Row) → (totals style k rs).members ≤ length rs
-members_within style k [] = omega arith
-members_within style k (r ∷ rs) = elim (cases_lt r.depth k) [
-  | inl above ↦ omega (arith, ap (λ (l : RowTotals). l.members) (totals_above style k r rs above))
-  | inr upper ↦ elim (cases_eq r.depth k) [
-    | inl same ↦ omega (
-      arith,
-      ap (λ (l : RowTotals). l.members) (totals_at style k r rs same),
-      members_row style r r.precision (totals style (suc k) rs) (totals style k rs) (r.points ++ points_ahead rs),
-      members_within style k rs,
-    )
-    | inr other ↦ omega (
-      arith,
-      ap (λ (l : RowTotals). l.members)
-          (totals_below style k r rs (omega arith)),
-      members_within style k rs,
-    )
-  ]
-]
-
--- the totals of rows within the caps are small
-pub totals_small : (style : Style) (k : ℕ) (rs : List Row) → IsBounded style rs → length rs ≤ NODES_CAP
-    → length (row_points rs) ≤ POINTS_CAP → IsSmall (totals style k rs)
-totals_small style k rs bounded few few_points = record {
-  members = omega (arith, members_within style k rs, few);
-  ids = omega (arith, bounded k, costs_within k rs, few, few_points, sums_fit);
-  bytes = omega (arith, bounded k, costs_within k rs, few, few_points, sums_fit);
-}
+-- totals of no rows weigh nothing
+weights-blank : (ls : List RowTotals) → ((k : ℕ) → k < length ls → get_or ls k blank ≡ blank) → weights ls ≡ 0
+weights-blank [] h = refl
+weights-blank (l ∷ ls) h = omega (
+  arith,
+  ap weight (h 0 (omega arith)),
+  weights-blank ls (λ k lt. h (suc k) (omega arith)),
+)
 
 -- ==== The pass over rows, from the last to the first, one row at a time.
 
 -- an array has the totals of the rows at each depth
-abbrev pub Stands : Style → List RowTotals → List Row → Type 0
-Stands style by_depth rs = (k : ℕ) → k < DEPTHS → get_or by_depth k blank ≡ totals style k rs
+abbrev HasTotals : Style → List RowTotals → List Row → Type 0
+HasTotals style by_depth rs = (k : ℕ) → k < DEPTHS → get_or by_depth k blank ≡ totals style k rs
 
 -- the array with one depth set, and the depth below it blank
 abbrev pub set_row : List RowTotals → ℕ → RowTotals → List RowTotals
@@ -251,7 +135,7 @@ pub stands_step : (style : Style) (by_depth : List RowTotals) (r : Row) (rs : Li
     → length by_depth ≡ DEPTHS → r.depth ≤ row_depth_cap → IsAbove (r.depth + 2) rs
     → own ≡ row_totals style r.kind (length r.points) r.id r.precision (totals style (suc r.depth) rs)
     (tail_of (r.points ++ points_ahead rs)) (totals style r.depth rs)
-    → Stands style by_depth rs → Stands style (set_row by_depth r.depth own) (r ∷ rs)
+    → HasTotals style by_depth rs → HasTotals style (set_row by_depth r.depth own) (r ∷ rs)
 stands_step style by_depth r rs own whole deep child is stands k small =
     let d : ℕ = r.depth in
     let cleared : List RowTotals = set by_depth (d + 1) blank in
@@ -283,154 +167,184 @@ stands_step style by_depth r rs own whole deep child is stands k small =
           ]
     ]
 
+-- the weights with one row's totals set
+weights_step : (by_depth : List RowTotals) (d : ℕ) (own : RowTotals) → d + 1 < length by_depth
+    → weights (set_row by_depth d own) + weight (get_or by_depth (d + 1) blank)
+    + weight (get_or by_depth d blank) ≡ weights by_depth + weight own
+weights_step by_depth d own small =
+    let cleared : List RowTotals = set by_depth (d + 1) blank in
+    let apart : d ≢ d + 1 = λ e. omega arith in
+    omega (
+      arith,
+      weights-set by_depth (d + 1) blank small,
+      weights-set cleared d own (omega (arith, length-set by_depth (d + 1) blank)),
+      ap weight (get_or-set_other by_depth (d + 1) d blank blank apart),
+    )
+
 -- the points up to the end of their geometry, after one more row before the others
 tail_by : (p : Option ℤ) (ps : List Point) → tail_after p (tail_of ps) ≡ tail_of (ahead_of p ps)
 tail_by None ps = refl
 tail_by (Some p) ps = refl
 
-tail_small_by : (p : Option ℤ) (ps : List Point) (t : TailTotals) → t.bytes ≤ 20 * length ps
-    → (tail_after p t).bytes ≤ 20 * length (ahead_of p ps)
-tail_small_by None ps t h = h
-tail_small_by (Some p) ps t h = omega arith
+-- a row's cost, and the bytes of the points that it leaves
+cost_within : (p : Option ℤ) (t : TailTotals) → cost_of p t.bytes + (tail_after p t).bytes ≤ 100 + t.bytes
+cost_within None t = omega arith
+cost_within (Some p) t = omega arith
 
-cost_more : (p : Option ℤ) (a b : ℕ) → a ≤ b → cost_of p a ≤ cost_of p b
-cost_more None a b h = omega arith
-cost_more (Some p) a b h = omega arith
+-- ---- the pass with one more row
 
--- the entries, last one first, with one more
-reverse-option : (e : Option Entry) → reverse (option_list e) ≡ option_list e
-reverse-option None = refl
-reverse-option (Some e) = refl
-
--- What a pass knows after a place: the totals at each depth, the points up to the next geometry,
--- and the entries, last one first.
-pub record Pass (style : Style) (rs : List Row) (by_depth : List RowTotals) (tail : TailTotals)
-    (es : List Entry) : Type 0 where
-  pub whole : length by_depth ≡ DEPTHS
-  pub stands : Stands style by_depth rs
-  pub bounded : IsBounded style rs
-  pub tail_is : tail ≡ tail_of (points_ahead rs)
-  pub tail_small : tail.bytes ≤ 20 * length (points_ahead rs)
-  pub kept : es ≡ reverse (measured style rs)
-
--- what a pass adds with one more row: its points, the totals at its depth, and its entry
-pub record TakesIn (style : Style) (r : Row) (n : ℕ) (rs : List Row) (by_depth : List RowTotals)
-    (tail points : TailTotals) (own : RowTotals) (e : Option Entry) : Type 0 where
-  pub deep : r.depth ≤ row_depth_cap
-  pub child : IsAbove (r.depth + 2) rs
-  pub count : length r.points ≡ n
-  pub points_are : points ≡ tail_of (r.points ++ points_ahead rs)
-  pub points_small : points.bytes ≤ tail.bytes + 20 * n
-  pub own_is : own ≡ row_totals style r.kind n r.id r.precision (get_or by_depth (r.depth + 1) blank)
-      points (get_or by_depth r.depth blank)
-  pub own_small : load own ≤ load (get_or by_depth (r.depth + 1) blank) + load
-      (get_or by_depth r.depth blank) + cost_of r.precision points.bytes
-  pub entry_is : e ≡ row_entry style r.kind n r.precision (get_or by_depth (r.depth + 1) blank) points
-
--- the pass after one more row before the others
-pub pass_cons : (style : Style) (r : Row) (n : ℕ) (rs : List Row) (by_depth : List RowTotals)
-    (tail points : TailTotals) (own : RowTotals) (e : Option Entry) (es : List Entry)
-    → Pass style rs by_depth tail es → TakesIn style r n rs by_depth tail points own e
-    → Pass style (r ∷ rs) (set_row by_depth r.depth own) (tail_after r.precision points) (es ++ option_list e)
-pass_cons style r n rs by_depth tail points own e es pass t =
-    let d : ℕ = r.depth in
-    let next : d + 1 ≡ suc d = omega arith in
-    let below : get_or by_depth (d + 1) blank ≡ totals style (suc d) rs = pass.stands (d + 1)
-    (omega (arith, t.deep)) ∙ ap (λ k. totals style k rs) next in
-    let others : get_or by_depth d blank ≡ totals style d rs = pass.stands d (omega (arith, t.deep)) in
-    let ps : List Point = r.points ++ points_ahead rs in
-    let count : n ≡ length r.points = sym t.count in
-    let own_is : own ≡ row_totals style r.kind (length r.points) r.id r.precision
-    (totals style (suc d) rs) (tail_of ps) (totals style d rs) =
-    t.own_is ∙ (λ i. row_totals style r.kind (count i) r.id r.precision (below i) (t.points_are i) (others i)) in
-    let entry : row_entry style r.kind n r.precision (get_or by_depth (d + 1) blank) points
-    ≡ row_entry style r.kind (length r.points) r.precision (totals style (suc d) rs)
-    (tail_of ps) =
-    (λ i. row_entry style r.kind (count i) r.precision (below i) (t.points_are i)) in
-    let small : points.bytes ≤ 20 * length ps = omega
-    (arith, t.points_small, t.count, pass.tail_small, length-append r.points (points_ahead rs))
-    in
-    record {
-      whole = length-set (set by_depth (d + 1) blank) d own ∙ length-set by_depth (d + 1) blank ∙ pass.whole;
-      stands = stands_step style by_depth r rs own pass.whole t.deep t.child own_is pass.stands;
-      bounded = bounded_step style r rs pass.bounded
-          (omega (
-            arith,
-            t.own_small,
-            ap load own_is,
-            ap load below,
-            ap load others,
-            cost_more r.precision points.bytes (20 * length ps) small,
-          ));
-      tail_is = ap (tail_after r.precision) t.points_are ∙ tail_by r.precision ps;
-      tail_small = tail_small_by r.precision ps points small;
-      kept =
-          (λ i. pass.kept i ++ option_list ((t.entry_is ∙ entry) i))
-          ∙ ap (λ l. reverse (measured style rs) ++ l) (sym
-          (reverse-option (row_entry style r.kind (length r.points) r.precision
-          (totals style (suc d) rs) (tail_of ps))))
-          ∙ sym (reverse-append (option_list (row_entry style r.kind (length r.points) r.precision
-          (totals style (suc d) rs) (tail_of ps))) (measured style rs));
-    }
-
--- the pass before the last row
-pub pass_none : (style : Style) (by_depth : List RowTotals) → length by_depth ≡ DEPTHS
-    → ((k : ℕ) → k < DEPTHS → get_or by_depth k blank ≡ blank) → Pass style [] by_depth (tail_of []) []
-pass_none style by_depth whole blanks = record {
-  whole = whole;
-  stands = blanks;
-  bounded = bounded_none style;
-  tail_is = refl;
-  tail_small = omega arith;
-  kept = refl;
+-- at first there are no rows
+pub stands_none : (style : Style) (by_depth : List RowTotals) (t : TailTotals) → IsBlankFrom 0 by_depth
+    → t ≡ tail_of [] → Stands style [] by_depth t
+stands_none style by_depth t none is = record {
+  size = none.size;
+  totals_are = λ k h. none.blanks k (omega arith) h;
+  tail_is = is;
+  small = omega (
+    arith,
+    weights-blank by_depth (λ k h. none.blanks k (omega arith) (omega (arith, none.size))),
+    ap (λ (u : TailTotals). u.bytes) is,
+  );
 }
 
--- the rows after a node are no deeper than its members
-pub above_drop : (rows : List Row) (j n : ℕ) → (j < length rows → slice_index (depths rows) j < n)
-    → IsAbove n (drop j rows)
-above_drop [] zero n h = tt
-above_drop [] (suc j) n h = tt
-above_drop (r ∷ rows) zero n h = h (omega arith)
-above_drop (r ∷ rows) (suc j) n h = above_drop rows j n (λ lt. h (omega arith))
-
--- ==== The caps of a flat form's rows.
-
--- there are at most this many rows and points, and none is deeper than the cap
-pub record IsCapped (rs : List Row) : Type 0 where
-  pub nodes : length rs ≤ NODES_CAP
-  pub points : length (row_points rs) ≤ POINTS_CAP
-  pub depths : AreShallow row_depth_cap rs
-
--- the rows of a geometry are within the caps
-pub capped : (rs : List Row) → AreValidRowsOfOne largest_limits rs → IsCapped rs
-capped [] v = record { nodes = omega arith; points = omega arith; depths = tt }
-capped (r ∷ rs) v =
-    let g : Tree = v.0 in
-    let valid : IsValid largest_limits g = v.1 in
-    let all : AreValidRows largest_limits (r ∷ rs) = (g ∷ [], (valid, tt), append-nil (rows 0 g) ∙ v.2) in
+-- the totals kept for a depth are small
+pub totals_small : (style : Style) (rs : List Row) (by_depth : List RowTotals) (t : TailTotals)
+    → Stands style rs by_depth t → AreMeasurable rs → (k : ℕ) → IsSmall (get_or by_depth k blank)
+totals_small style rs by_depth t stands fit k =
+    let within = weight_within by_depth k in
+    let small = stands.small in
     record {
-      nodes = omega (arith, ap (λ (l : List Row). length l) v.2, length-rows_with None 0 g, valid.nodes_kept);
-      points = omega (
-        arith,
-        ap (λ (l : List Row). length (row_points l)) v.2,
-        ap (λ ps. length ps)
-            (row_points-with None 0 g),
-        valid.points_kept,
-      );
-      depths = valid_depths largest_limits (r ∷ rs) all;
+      members = omega (arith, within, small, fit.few_rows, fit.few_points);
+      ids = omega (arith, within, small, fit.few_rows, fit.few_points);
+      bytes = omega (arith, within, small, fit.few_rows, fit.few_points);
     }
 
--- the rows from a place on are within the caps
-pub capped_drop : (i : ℕ) (rs : List Row) → IsCapped rs → IsCapped (drop i rs)
-capped_drop (suc i) (r ∷ rs) c =
-    capped_drop i rs (record {
-      nodes = omega (arith, c.nodes);
-      points = omega (arith, c.points, length-append r.points (row_points rs));
-      depths = c.depths.1;
+-- the points up to the next geometry have few bytes
+pub tail_small : (style : Style) (rs : List Row) (by_depth : List RowTotals) (t : TailTotals)
+    → Stands style rs by_depth t → AreMeasurable rs → t.bytes ≤ weights_cap
+tail_small style rs by_depth t stands fit = omega (arith, stands.small, fit.few_rows, fit.few_points)
+
+-- the totals of the rows below a row and after it, and its points up to the end of its geometry
+record IsTaken (style : Style) (node : Node) (ps : List Point) (rs : List Row) (by_depth : List RowTotals)
+    (points : TailTotals) : Type 0 where
+  count : node.points ≡ length ps
+  points_are : points ≡ tail_of (ps ++ points_ahead rs)
+  below : get_or by_depth (node.row.depth + 1) blank ≡ totals style (suc node.row.depth) rs
+  others : get_or by_depth node.row.depth blank ≡ totals style node.row.depth rs
+
+taken : (style : Style) (node : Node) (ps : List Point) (rs : List Row) (by_depth : List RowTotals)
+    (tail points : TailTotals) → Stands style rs by_depth tail → AreMeasurable (row_with node.row ps ∷ rs)
+    → length ps ≡ node.points → points ≡ tail_of (ps ++ points_ahead rs)
+    → IsTaken style node ps rs by_depth points
+taken style node ps rs by_depth tail points stands fit count points_are =
+    let d : ℕ = node.row.depth in
+    let next : d + 1 ≡ suc d = omega arith in
+    record {
+      count = sym count;
+      points_are = points_are;
+      below = stands.totals_are (d + 1) (omega (arith, fit.nested.0)) ∙ ap (λ k. totals style k rs) next;
+      others = stands.totals_are d (omega (arith, fit.nested.0));
+    }
+
+-- the pass after one more row before the others
+pub stands_more : (style : Style) (node : Node) (ps : List Point) (rs : List Row)
+    (by_depth new : List RowTotals) (tail points : TailTotals) (e : Option Entry)
+    → Stands style rs by_depth tail → AreMeasurable (row_with node.row ps ∷ rs) → length ps ≡ node.points
+    → points ≡ tail_of (ps ++ points_ahead rs) → points.bytes ≤ tail.bytes + 20 * node.points
+    → TakenRow style node points by_depth new e
+    → Stands style (row_with node.row ps ∷ rs) new (tail_after node.row.precision points)
+stands_more style node ps rs by_depth new tail points e stands fit count points_are short row =
+    let d : ℕ = node.row.depth in
+    let r : Row = row_with node.row ps in
+    let t = taken style node ps rs by_depth tail points stands fit count points_are in
+    let own_is : row.own ≡ row_totals style r.kind (length ps) r.id r.precision (totals style (suc d) rs)
+    (tail_of (ps ++ points_ahead rs)) (totals style d rs) =
+    row.own_is ∙ (λ i. row_totals style r.kind (t.count i) r.id r.precision (t.below i) (t.points_are i) (t.others i)) in
+    let deep : d + 1 < length by_depth = omega (arith, fit.nested.0, stands.size) in
+    subst (λ (l : List RowTotals). Stands style (r ∷ rs) l (tail_after r.precision points)) (sym row.set_both)
+    (record {
+      size = length-set (set by_depth (d + 1) blank) d row.own ∙ length-set by_depth (d + 1) blank ∙ stands.size;
+      totals_are = stands_step style by_depth r rs row.own stands.size fit.nested.0 fit.nested.1 own_is
+          stands.totals_are;
+      tail_is = ap (tail_after r.precision) points_are ∙ tail_by r.precision (ps ++ points_ahead rs);
+      small = omega (
+        arith,
+        weights_step by_depth d row.own deep,
+        row.own_small,
+        cost_within r.precision points,
+        stands.small,
+        short,
+        count,
+        length-append ps (row_points rs),
+      );
     })
-capped_drop _ _ c = c
+
+-- the entry of that row, if it is a geometry itself
+pub entry_more : (style : Style) (node : Node) (ps : List Point) (rs : List Row)
+    (by_depth new : List RowTotals) (tail points : TailTotals) (e : Option Entry)
+    → Stands style rs by_depth tail → AreMeasurable (row_with node.row ps ∷ rs) → length ps ≡ node.points
+    → points ≡ tail_of (ps ++ points_ahead rs) → TakenRow style node points by_depth new e
+    → option_list e ++ measured style rs ≡ measured style (row_with node.row ps ∷ rs)
+entry_more style node ps rs by_depth new tail points e stands fit count points_are row =
+    let t = taken style node ps rs by_depth tail points stands fit count points_are in
+    (λ i. option_list (row.entry_is i) ++ measured style rs)
+    ∙ (λ i. option_list (row_entry style node.row.kind (t.count i) node.row.precision (t.below i)
+    (t.points_are i)) ++ measured style rs)
+
+-- ==== Rows that can be measured.
+
+-- the rows after some rows can be measured too
+pub measurable_after : (xs ys : List Row) → AreMeasurable (xs ++ ys) → AreMeasurable ys
+measurable_after [] ys fit = fit
+measurable_after (x ∷ xs) ys fit = measurable_after xs ys (record {
+  few_rows = omega (arith, fit.few_rows);
+  few_points = omega (arith, fit.few_points, length-append x.points (row_points (xs ++ ys)));
+  nested = fit.nested.2;
+})
+
+-- the same from a place on
+pub measurable_from : (i : ℕ) (rs : List Row) → AreMeasurable rs → AreMeasurable (drop i rs)
+measurable_from i rs fit = measurable_after (take i rs) (drop i rs) (subst AreMeasurable (sym (take-append-drop i rs)) fit)
+
+-- an admitted row is at most one level deeper than the row before it
+step_within : (d : ℕ) (r : Row) (before : List Row) → steps_to d (r ∷ before) ≡ true → d < r.depth + 2
+step_within zero r before h = omega arith
+step_within (suc d) r before h = let le = within_test d r.depth h in omega arith
+
+-- rows before admitted rows are admitted
+admitted_before : (xs before : List Row) → IsAdmitted (reverse_aux xs before) → IsAdmitted before
+admitted_before [] before h = h
+admitted_before (x ∷ xs) before h = (admitted_before xs (x ∷ before) h).1
+
+next_within : (r : Row) (rs before : List Row) → IsAdmitted (reverse_aux rs (r ∷ before)) → IsAbove (r.depth + 2) rs
+next_within r [] before h = tt
+next_within r (s ∷ rs) before h =
+    let admitted = (admitted_before rs (s ∷ r ∷ before) h).0 in
+    step_within s.depth r before (both_true (steps_to s.depth (r ∷ before))
+    (fits (parent s.depth (r ∷ before)) (first_child s.depth (r ∷ before)) s) admitted).0
+
+-- admitted rows are nested
+nested : (rs before : List Row) → AreShallow row_depth_cap rs → IsAdmitted (reverse_aux rs before) → AreNested rs
+nested [] before shallow h = tt
+nested (r ∷ rs) before shallow h =
+    (shallow.0, next_within r rs before h, nested rs (r ∷ before) shallow.1 h)
+
+-- the rows of a valid geometry can be measured
+pub measurable : (g : Tree) → IsValid largest_limits g → AreMeasurable (rows 0 g)
+measurable g valid =
+    let one : rows 0 g ++ [] ≡ rows 0 g = append-nil (rows 0 g) in record {
+      few_rows = omega (arith, length-rows_with None 0 g, valid.nodes_kept);
+      few_points = omega (arith, ap (λ ps. length ps) (row_points-with None 0 g), valid.points_kept);
+      nested = nested (rows 0 g) [] (valid_depths largest_limits (rows 0 g) (g ∷ [], (valid, tt), one))
+          (admitted_rows (rows 0 g) (g ∷ [], (valid.tree, tt), one));
+    }
+
+-- the rows of a flat form can be measured
+pub flat_measurable : (rs : List Row) → AreValidRowsOfOne largest_limits rs → AreMeasurable rs
+flat_measurable [] v = record { few_rows = omega arith; few_points = omega arith; nested = tt }
+flat_measurable (r ∷ rs) v = subst AreMeasurable v.2 (measurable v.0 v.1)
 
 -- no node is deeper than the cap
-pub node_depth : (rs : List Row) (i : ℕ) (node : Node) → IsCapped rs → IsNode rs i node
+pub node_depth : (rs : List Row) (i : ℕ) (node : Node) → AreMeasurable rs → IsNode rs i node
     → node.row.depth ≤ row_depth_cap
-node_depth rs i node c is = (subst (AreShallow row_depth_cap) is.here (capped_drop i rs c).depths).0
+node_depth rs i node fit is = (subst AreMeasurable is.here (measurable_from i rs fit)).nested.0

@@ -1,10 +1,11 @@
--- Bounds on sums of bytes of a geometry, which follow from the limits on its rows and points.
+-- Bounds on the numbers that a pass over rows adds up, which follow from the limits on rows and points.
 use Rattle.std.specs.Prelude.{ℕ, ◌^◌}
 
--- the bytes of the points after a row, up to the end of its geometry, are at most this
-abbrev pub point_bytes_cap : ℕ
-point_bytes_cap = 2 ^ 30
+-- the weights of the rows at all depths, with the bytes of the points up to the next geometry, are
+-- at most this
+abbrev pub weights_cap : ℕ
+weights_cap = 2 ^ 30
 
--- the bytes of any rows of a geometry are at most this, so that their sums fit 64 bits
+-- sums of bytes are at most this, so that they fit 64 bits
 abbrev pub sums_cap : ℕ
 sums_cap = 2 ^ 40

@@ -1,13 +1,17 @@
 -- The totals of rows, found in one pass from the last row to the first.
-use Rattle.std.specs.Prelude.{◌≡◌, ℕ, suc, ◌+◌, ◌≤◌, ℤ, nat_lt, nat_eq, if◌then◌else◌, List, []}
+use Rattle.std.specs.Prelude.{◌≡◌, ℕ, suc, ◌+◌, ◌*◌, ◌<◌, ◌≤◌, ℤ, nat_lt, nat_eq, if◌then◌else◌, List, [], ⊤}
 use Rattle.std.specs.Prelude.{◌∷◌, ◌++◌, length, slice_index_or, slice_set, Option, None, Some}
 use Rattle.twkb_points.specs.Point.{Point}
 use Rattle.twkb_tree.specs.declared.kind.Kind.{Kind}
-use Rattle.twkb_tree.specs.Rows.{Row}
+use Rattle.twkb_tree.specs.declared.limits.TheConstants.{NODES_CAP, POINTS_CAP}
+use Rattle.twkb_tree.specs.Rows.{Row, row_points}
+use Rattle.twkb_tree.specs.RowLists.{IsAbove}
 use Rattle.twkb_tree.specs.Tree.{saturated}
+use Rattle.twkb_flat.specs.Rows.{row_depth_cap}
 use Rattle.twkb_flat.specs.declared.node.Node.{Node}
 use Rattle.twkb_flat.specs.declared.work.Work.{Work}
 use Rattle.twkb_grammar.specs.declared.style.Style.{Style}
+use Rattle.twkb_writer.specs.declared.depths.TheConstants.{DEPTHS}
 use Rattle.twkb_writer.specs.declared.totals.RowTotals.{RowTotals}
 use Rattle.twkb_writer.specs.declared.sizes.Entry.{Entry}
 use Rattle.twkb_writer.specs.declared.tails.TailTotals.{TailTotals}
@@ -54,11 +58,16 @@ abbrev pub tail_after : Option ℤ → TailTotals → TailTotals
 tail_after None t = t
 tail_after (Some p) t = tail_of []
 
--- the number of bytes of rows and of their ids
-abbrev pub load : RowTotals → ℕ
-load l = l.ids + l.bytes
+-- the number of rows at a depth, and of the bytes of their ids and of all rows below
+abbrev pub weight : RowTotals → ℕ
+weight l = l.members + l.ids + l.bytes
 
--- the most bytes that a row adds to those of the rows below and after it, if the points up to the
+-- the same numbers of all depths together
+abbrev pub weights : List RowTotals → ℕ
+weights [] = 0
+weights (l ∷ ls) = weight l + weights ls
+
+-- the most that a row adds to the weights of the rows below and after it, if the points up to the
 -- end of its geometry have this many bytes
 abbrev pub cost_of : Option ℤ → ℕ → ℕ
 cost_of None points = 100
@@ -84,11 +93,31 @@ pub record TakenRow (style : Style) (node : Node) (points : TailTotals) (old new
   pub own : RowTotals
   pub own_is : own ≡ row_totals style node.row.kind node.points node.row.id node.row.precision
       (slice_index_or old (node.row.depth + 1) blank) points (slice_index_or old node.row.depth blank)
-  pub own_small : load own ≤ load (slice_index_or old (node.row.depth + 1) blank) + load
+  pub own_small : weight own ≤ weight (slice_index_or old (node.row.depth + 1) blank) + weight
       (slice_index_or old node.row.depth blank) + cost_of node.row.precision points.bytes
   pub set_both : new ≡ slice_set (slice_set old (node.row.depth + 1) blank) node.row.depth own
   pub entry_is : entry ≡ row_entry style node.row.kind node.points node.row.precision
       (slice_index_or old (node.row.depth + 1) blank) points
+
+-- no row is deeper than the cap, or more than one level deeper than the row before it
+abbrev pub AreNested : List Row → Type 0
+AreNested [] = ⊤
+AreNested (r ∷ rs) = (r.depth ≤ row_depth_cap) × IsAbove (r.depth + 2) rs × AreNested rs
+
+-- a pass can measure these rows: there are not too many rows and points, and they are nested
+pub record AreMeasurable (rs : List Row) : Type 0 where
+  pub few_rows : length rs ≤ NODES_CAP
+  pub few_points : length (row_points rs) ≤ POINTS_CAP
+  pub nested : AreNested rs
+
+-- What a pass has found of these rows: the totals at each depth, and those of the points up to the
+-- next geometry.
+pub record Stands (style : Style) (rs : List Row) (by_depth : List RowTotals) (tail : TailTotals)
+    : Type 0 where
+  pub size : length by_depth ≡ DEPTHS
+  pub totals_are : (k : ℕ) → k < DEPTHS → slice_index_or by_depth k blank ≡ totals style k rs
+  pub tail_is : tail ≡ tail_of (points_ahead rs)
+  pub small : weights by_depth + tail.bytes ≤ 100 * length rs + 20 * length (row_points rs)
 
 -- these points, nodes and entries were measured, and nothing was read
 pub record Measures (old : Work) (points nodes entries : ℕ) (new : Work) : Type 0 where

@@ -1,34 +1,23 @@
--- The totals of a geometry, measured on its tree.
-use Rattle.std.specs.Prelude.{ℕ, ◌+◌, ◌*◌, ◌≤◌, ℤ, List, [], length, Option, Some}
-use Rattle.twkb_points.specs.Point.{Point}
-use Rattle.twkb_tree.specs.declared.limits.TheConstants.{NODES_CAP, POINTS_CAP}
-use Rattle.twkb_tree.specs.Tree.{Tree, simple, collection, points_in, precision_of}
-use Rattle.twkb_tree.specs.Rows.{own_row, rows_under}
+-- The rows of a geometry, added to a pass from the last to the first.
+use Rattle.std.specs.Prelude.{ℕ, ℤ, List, ◌++◌, Option, None}
+use Rattle.twkb_tree.specs.declared.kind.Kind.{Kind}
+use Rattle.twkb_tree.specs.Rows.{Row}
+use Rattle.twkb_flat.specs.declared.node.Row.{Row as FlatRow}
 use Rattle.twkb_grammar.specs.declared.style.Style.TheVariants.{Full}
-use Rattle.twkb_writer.specs.declared.totals.RowTotals.{RowTotals}
-use Rattle.twkb_writer.specs.MeasuredRows.{totals, row_totals}
-use Rattle.twkb_writer.specs.Tails.{tail_of}
+use Rattle.twkb_writer.specs.declared.measured_tree.RowPass.{RowPass}
+use Rattle.twkb_writer.specs.MeasuredRows.{Stands, AreMeasurable}
 
--- the points of the geometry itself, those of its components included; a collection has none
-abbrev pub way_of : Tree → List Point
-way_of (simple p s) = points_in s
-way_of (collection p ids gs) = []
+-- these rows may be added before those that the pass has measured
+pub record Awaits (pass : RowPass) (rs : List Row) : Type 0 where
+  pub rest : List Row
+  pub stands : Stands Full rest pass.depths pass.tail
+  pub fit : AreMeasurable (rs ++ rest)
 
--- the totals of the rows below a geometry's own row
-abbrev pub totals_under : Tree → RowTotals
-totals_under g = totals Full 0 (rows_under 0 g)
+-- these rows were added before whichever rows the pass had measured
+pub record Adds (old : RowPass) (rs : List Row) (new : RowPass) : Type 0 where
+  pub stands : (rest : List Row) → Stands Full rest old.depths old.tail → AreMeasurable (rs ++ rest)
+      → Stands Full (rs ++ rest) new.depths new.tail
 
--- the totals after the geometry is added before the rows at its depth
-abbrev pub tree_totals : Option ℤ → Tree → RowTotals → RowTotals
-tree_totals id g others =
-    row_totals Full (own_row id 0 g).kind (length (own_row id 0 g).points) id (Some (precision_of g))
-    (totals_under g) (tail_of (way_of g)) others
-
--- a bound on the bytes of this many rows and points
-abbrev pub most_of : ℕ → ℕ → ℕ
-most_of rows points = 100 * rows + 20 * points
-
--- the rows and points are within the caps
-pub record IsWithinCaps (rows points : ℕ) : Type 0 where
-  pub few_rows : rows ≤ NODES_CAP
-  pub few_points : points ≤ POINTS_CAP
+-- the row of a component, without its points
+abbrev pub part_row : Kind → ℕ → Option ℤ → FlatRow
+part_row kind depth id = record { depth = depth; kind = kind; id = id; precision = None }

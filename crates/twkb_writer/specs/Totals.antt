@@ -5,14 +5,13 @@ use Rattle.std.specs.Prelude.{if◌then◌else◌, nat_eq, is_some, Option, None
 use Rattle.twkb_points.specs.Extent.{Extent, joined_options}
 use Rattle.twkb_tree.specs.declared.kind.Kind.{Kind}
 use Rattle.twkb_tree.specs.declared.kind.Kind.TheVariants as kind
-use Rattle.twkb_tree.specs.declared.limits.TheConstants.{NODES_CAP}
 use Rattle.twkb_grammar.specs.declared.style.Style.{Style}
 use Rattle.twkb_grammar.specs.declared.style.Style.TheVariants.{Full, Plain}
 use Rattle.twkb_writer.specs.declared.totals.RowTotals.{RowTotals}
 use Rattle.twkb_writer.specs.declared.precisions.Precisions.TheVariants.{Absent, One}
 use Rattle.twkb_writer.specs.declared.sizes.Entry.{Entry}
 use Rattle.twkb_writer.specs.declared.tails.TailTotals.{TailTotals}
-use Rattle.twkb_writer.specs.Caps.{sums_cap}
+use Rattle.twkb_writer.specs.Caps.{weights_cap, sums_cap}
 use Rattle.twkb_writer.specs.Precisions.{all_are, agreed}
 use Rattle.twkb_writer.specs.Tails.{number_len, signed_len, from_origin}
 
@@ -105,6 +104,6 @@ with_geometry style size p id below t l = record {
 
 -- all totals are so small that their sums fit 64 bits
 pub record IsSmall (l : RowTotals) : Type 0 where
-  pub members : l.members ≤ NODES_CAP
+  pub members : l.members ≤ weights_cap
   pub ids : l.ids ≤ sums_cap
   pub bytes : l.bytes ≤ sums_cap

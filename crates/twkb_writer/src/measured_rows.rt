@@ -8,7 +8,7 @@ ghost use Rattle.twkb_flat.specs.Rows.{row_depth_cap};
 ghost use Rattle.twkb_grammar.specs.declared.style.Style.{Style as InStyle};
 ghost use Rattle.twkb_writer.specs.declared.depths.TheConstants.{DEPTHS};
 ghost use Rattle.twkb_writer.specs.declared.tails.TailTotals.{TailTotals as PointsAhead};
-ghost use Rattle.twkb_writer.specs.Caps.{point_bytes_cap, sums_cap};
+ghost use Rattle.twkb_writer.specs.Caps.{weights_cap, sums_cap};
 ghost use Rattle.twkb_writer.specs.Totals.{blank, IsSmall};
 ghost use Rattle.twkb_writer.specs.MeasuredRows.{option_list, tail_after, TakenRow, Counted, Measures};
 ghost use Rattle.twkb_writer.specs.Nodes.{own_points_in};
@@ -47,7 +47,7 @@ pub(crate) fn take_points<P: PlacedPoints>(
 ) -> TailTotals
     requires within { node.now.first.0 + node.now.points ≤ length (P.points all.now) }
     requires few { length (P.points all.now) ≤ POINTS_CAP }
-    requires room { tail.bytes ≤ point_bytes_cap }
+    requires room { tail.bytes ≤ weights_cap }
     ensures value { (ahead : List Point) → tail ≡ tail_of ahead
         → result ≡ tail_of (own_points_in node.now (P.points all.now) ++ ahead) }
     ensures most { result.bytes ≤ tail.bytes + 20 * node.now.points }
@@ -75,7 +75,7 @@ pub(crate) fn take_points<P: PlacedPoints>(
 
 // Adds a row that is a geometry itself, with this precision, to the totals at its depth, clears
 // those at the depth below, and returns the row's entry. `points` are the totals of the geometry's
-// points, without those of collection members. No total may be above 2^20 rows or 2^40 bytes.
+// points, without those of collection members. No total may be above 2^30 rows or 2^40 bytes.
 #[inline(always)]
 fn take_geometry(
     style: Style,
@@ -100,7 +100,7 @@ fn take_geometry(
 }
 
 // Adds a row, which must be a component of a geometry, to the totals at its depth, and clears those
-// at the depth below. No total may be above 2^20 rows or 2^40 bytes.
+// at the depth below. No total may be above 2^30 rows or 2^40 bytes.
 #[inline(always)]
 fn take_component(node: &Node, by_depth: &mut Depths)
     requires deep { node.now.row.depth ≤ row_depth_cap }
@@ -117,9 +117,14 @@ fn take_component(node: &Node, by_depth: &mut Depths)
 
 // Adds a row to the totals at its depth, clears those at the depth below, and returns the row's
 // entry if it is a geometry itself. `points` are the totals of the points from the row on to the
-// end of its geometry. No total may be above 2^20 rows or 2^40 bytes.
+// end of its geometry. No total may be above 2^30 rows or 2^40 bytes.
 #[inline(always)]
-fn take_row(style: Style, node: &Node, points: &TailTotals, by_depth: &mut Depths) -> Option<Entry>
+pub(crate) fn take_row(
+    style: Style,
+    node: &Node,
+    points: &TailTotals,
+    by_depth: &mut Depths,
+) -> Option<Entry>
     requires deep { node.now.row.depth ≤ row_depth_cap }
     requires small { (k : ℕ) → k < DEPTHS → IsSmall (slice_index_or by_depth.old k blank) }
     requires points { points.now.bytes ≤ sums_cap }
@@ -155,7 +160,7 @@ pub(crate) fn keep(
 
 // The totals of points that the row before this one goes on with: `points`, which begin with this
 // row's, if this row is a component; those of no points if it is a geometry itself.
-fn before_row(node: &Node, points: TailTotals) -> TailTotals
+pub(crate) fn before_row(node: &Node, points: TailTotals) -> TailTotals
     ensures { result ≡ tail_after node.now.row.precision points }
 {
     match node.row.precision {

@@ -45,3 +45,19 @@ impl<L: PointList> PlacedPoints for ListedPoints<'_, L> {
         self.list.point(at as usize)
     }
 }
+
+// The points of one row.
+#[derive(Clone, Copy)]
+pub(crate) struct RowPoints<'a> {
+    pub(crate) points: &'a [Pt],
+}
+
+impl PlacedPoints for RowPoints<'_> {
+    ghost points = { λ row. row.points.now };
+
+    #[inline(always)]
+    fn point(&self, at: u32, work: &mut Work) -> Pt {
+        work.point_reads = work.point_reads.saturating_add(1);
+        self.points[at as usize]
+    }
+}

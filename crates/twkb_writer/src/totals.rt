@@ -1,7 +1,6 @@
 //! The totals of the rows at one depth, which give the size of the geometry above them.
 ghost use Rattle.std.specs.Prelude.{◌≡◌, ◌+◌, ◌≤◌, ◌^◌};
-ghost use Rattle.twkb_tree.specs.declared.limits.TheConstants.{NODES_CAP};
-ghost use Rattle.twkb_writer.specs.Caps.{sums_cap};
+ghost use Rattle.twkb_writer.specs.Caps.{weights_cap, sums_cap};
 ghost use Rattle.twkb_writer.specs.Totals.{blank, lead_len, body_len, all_bounds, box_for, box_len};
 ghost use Rattle.twkb_writer.specs.Totals.{id_len, is_point, entry_for, blob_len, with_component};
 ghost use Rattle.twkb_writer.specs.Totals.{with_geometry};
@@ -190,7 +189,7 @@ impl RowTotals {
     }
 
     // The totals of the rows of `self` with a component of a geometry before them: its own row has
-    // `own` points, and `below` totals the rows under it. `self` must have at most 2^20 members.
+    // `own` points, and `below` totals the rows under it. `self` must have at most 2^30 members.
     #[inline(always)]
     pub(crate) fn with_component(
         self,
@@ -199,7 +198,7 @@ impl RowTotals {
         id: Option<i64>,
         below: &RowTotals,
     ) -> RowTotals
-        requires members { self.members ≤ NODES_CAP }
+        requires members { self.members ≤ weights_cap }
         requires ids { self.ids ≤ sums_cap }
         requires bytes { self.bytes ≤ sums_cap }
         requires ids_below { below.now.ids ≤ sums_cap }
@@ -219,7 +218,7 @@ impl RowTotals {
 
     // The totals of the rows of `self` with a geometry before them: its box and body have `size`
     // bytes, at most 2^50, `below` totals the rows under it, and `tail` its points, without those
-    // of collection members. `self` must have at most 2^20 members.
+    // of collection members. `self` must have at most 2^30 members.
     #[inline(always)]
     pub(crate) fn with_geometry(
         self,
@@ -230,7 +229,7 @@ impl RowTotals {
         below: &RowTotals,
         tail: &TailTotals,
     ) -> RowTotals
-        requires members { self.members ≤ NODES_CAP }
+        requires members { self.members ≤ weights_cap }
         requires ids { self.ids ≤ sums_cap }
         requires bytes { self.bytes ≤ sums_cap }
         requires room { size ≤ 2 ^ 50 }

@@ -1,6 +1,6 @@
 use Rattle.std.proofs.Common.{rules}
 use Rattle.std.proofs.lemmas.Result.{on_ok_weaker}
-use Rattle.twkb_writer.proofs.MeasuringSteps.{capped}
+use Rattle.twkb_writer.proofs.MeasuringSteps.{flat_measurable}
 use Rattle.twkb_writer.proofs.MeasuringPass.{root_whole, reads_point, sizes_of_point, points_of_one}
 use Rattle.twkb_writer.proofs.ReadLemmas.{reads_back, exactly_none}
 use Rattle.twkb_writer.proofs.lone_row.measure_one.Goals as goal
@@ -9,7 +9,7 @@ pub unreachable-requires : goal.unreachable-requires
 unreachable-requires c = root_whole _ _ c.node_count-learnt.ensures.sound c.node-node.ensures.node (search rules)
 
 pub row_entry-entry-requires-clause-few : goal.row_entry-entry-requires-clause-few
-row_entry-entry-requires-clause-few c = (capped c.args.flat.now c.node_count-learnt.ensures.sound).points
+row_entry-entry-requires-clause-few c = (flat_measurable c.args.flat.now c.node_count-learnt.ensures.sound).few_points
 
 pub returns-then-is_one_point-clause-sizes : goal.returns-then-is_one_point-clause-sizes
 returns-then-is_one_point-clause-sizes c =

@@ -2,7 +2,7 @@
 use Rattle.std.proofs.Common.{◌-◌, length, drop}
 use Rattle.twkb_tree.specs.Rows.{row_points}
 use Rattle.twkb_writer.specs.Reads.{ReadsExactly}
-use Rattle.twkb_writer.proofs.MeasuringSteps.{Pass}
+use Rattle.twkb_writer.proofs.MeasuringPass.{Pass}
 use Rattle.twkb_writer.proofs.measured_rows.measure_rows.Given as goal
 
 abbrev pub invariant-loop-back : goal.invariant-loop-back

@@ -1,8 +1,9 @@
-use Rattle.std.proofs.Common.{◌∙◌, None, ap}
-use Rattle.twkb_writer.specs.MeasuredTree.{tree_totals}
-use Rattle.twkb_writer.proofs.MeasuringTrees.{blob_is}
+use Rattle.twkb_writer.proofs.AddingLemmas.{awaits_all, blob_is}
 use Rattle.twkb_writer.proofs.measured_tree.measure.Goals as goal
 
+pub add_geometry-requires : goal.add_geometry-requires
+add_geometry-requires c = awaits_all c.args.geometry.now _ c.requires c.new.ensures c.none.ensures
+
 pub returns : goal.returns
-returns c = blob_is c.args.geometry.now _ c.requires.tree (c.with_member.ensures.value
-    ∙ ap (tree_totals None c.args.geometry.now) c.blank.ensures)
+returns c = blob_is c.args.geometry.now _ _ _ c.requires c.new.ensures c.none.ensures
+    c.add_geometry.ensures c.at.ensures
