@@ -1,6 +1,6 @@
 -- The totals of a simple geometry, from the rows of its parts.
 use Rattle.std.proofs.Common.{◌≡◌, ℕ, suc, ◌<◌, List, [], ◌∷◌, ◌++◌, length, Option, None, refl, sym, ◌∙◌, ap, subst}
-use Rattle.std.proofs.Common.{arith, append_assoc, ◌+◌, false, Some, Bool, true, map, length-append}
+use Rattle.std.proofs.Common.{arith, append_assoc, append-nil, ◌+◌, false, Some, Bool, true, map, length-append}
 use Rattle.std.specs.Prelude.{ℤ, flat_map, is_some, ◌||◌, ◌-ℤ◌, nat_eq, ◌&&◌}
 use Rattle.std.proofs.lemmas.Bool.Decides.{nat_tests}
 use Rattle.twkb_num.specs.Zigzag.{zigzag_of}
@@ -8,7 +8,7 @@ use Rattle.twkb_num.specs.Varint.{varint_of}
 use Rattle.twkb_points.specs.Point.{Point, origin}
 use Rattle.twkb_tree.specs.declared.kind.Kind.{Kind}
 use Rattle.twkb_tree.specs.Tree.{Ids, Simple, point, line, polygon, multi_point, multi_line, multi_polygon, flatten}
-use Rattle.twkb_tree.specs.Tree.{points_in, HasIds, IdsFit}
+use Rattle.twkb_tree.specs.Tree.{points_in, point_list, HasIds, IdsFit}
 use Rattle.twkb_tree.specs.Rows.{Row, rows_of_each, rows_below, ring_rows, polygon_rows, plain_row, first_id, other_ids}
 use Rattle.twkb_tree.specs.Rows.{own_points, kind_in}
 use Rattle.twkb_tree.specs.RowLists.{IsAbove}
@@ -18,6 +18,7 @@ use Rattle.twkb_grammar.specs.Items.{Slot, OfCount, OfId, OfPoint, fields, slots
 use Rattle.twkb_grammar.specs.Items.{members, parts}
 use Rattle.twkb_grammar.specs.Written.{varints, is_empty}
 use Rattle.twkb_grammar.proofs.Bodies.{steps, slot_points, fields_are, points_are}
+use Rattle.twkb_writer.specs.declared.sizes.Entry.{Entry}
 use Rattle.twkb_writer.specs.declared.totals.RowTotals.{RowTotals}
 use Rattle.twkb_writer.specs.Totals.{blank, with_component, id_len, lead_len, is_bare}
 use Rattle.twkb_writer.specs.MeasuredRows.{totals, points_ahead, measured}
@@ -39,62 +40,53 @@ pub above_less : (d : ℕ) (rs : List Row) → IsAbove d rs → IsAbove (suc d) 
 above_less d [] h = tt
 above_less d (r ∷ rs) h = omega arith
 
--- what is true of the rows of one part at depth d: their totals are given by w, they have the
--- points g, and none of them is a geometry
-pub record IsComponent {A : Type 0} (style : Style) (d : ℕ) (f : Option ℤ → A → List Row)
-    (w : Option ℤ → A → RowTotals → RowTotals) (g : A → List Point) : Type 0 where
-  pub begins : (id : Option ℤ) (x : A) (more : List Row) → IsAbove (suc d) (f id x ++ more)
-  pub counts : (id : Option ℤ) (x : A) (more : List Row) → IsAbove (suc d) more
-      → totals style d (f id x ++ more) ≡ w id x (totals style d more)
-  pub ahead : (id : Option ℤ) (x : A) (more : List Row) → points_ahead (f id x ++ more) ≡ g x ++ points_ahead more
-  pub no_entry : (id : Option ℤ) (x : A) (more : List Row) → measured style (f id x ++ more) ≡ measured style more
+-- What rows at depth d add to others that may come after them: their totals change by `add`, they
+-- have the points `ps` of the geometry before them, and the entries `es`.
+pub record AreCounted (style : Style) (d : ℕ) (May : List Row → Type 0) (rs : List Row)
+    (add : RowTotals → RowTotals) (ps : List Point) (es : List Entry) : Type 0 where
+  pub begins : (rest : List Row) → May rest → May (rs ++ rest)
+  pub counts : (rest : List Row) → May rest → totals style d (rs ++ rest) ≡ add (totals style d rest)
+  pub ahead : (rest : List Row) → May rest → points_ahead (rs ++ rest) ≡ ps ++ points_ahead rest
+  pub entries : (rest : List Row) → May rest → measured style (rs ++ rest) ≡ es ++ measured style rest
 
--- the first row of parts is no deeper than d
-above_each : {A : Type 0} (style : Style) (d : ℕ) (f : Option ℤ → A → List Row)
-    (w : Option ℤ → A → RowTotals → RowTotals) (g : A → List Point) → IsComponent style d f w g
-    → (ids : Ids) (xs : List A) (rest : List Row) → IsAbove (suc d) rest
-    → IsAbove (suc d) (rows_of_each f ids xs ++ rest)
-above_each style d f w g part ids [] rest h = h
-above_each style d f w g part ids (x ∷ xs) rest h =
-    subst (IsAbove (suc d))
-    (sym (append_assoc (f (first_id ids) x) (rows_of_each f (other_ids ids) xs) rest))
-    (part.begins (first_id ids) x (rows_of_each f (other_ids ids) xs ++ rest))
+-- no rows add nothing
+pub counted_none : (style : Style) (d : ℕ) (May : List Row → Type 0) → AreCounted style d May [] (λ l. l) [] []
+counted_none style d May = record {
+  begins = λ rest h. h;
+  counts = λ rest h. refl;
+  ahead = λ rest h. refl;
+  entries = λ rest h. refl;
+}
 
--- the totals of parts
-pub totals_each : {A : Type 0} (style : Style) (d : ℕ) (f : Option ℤ → A → List Row)
-    (w : Option ℤ → A → RowTotals → RowTotals) (g : A → List Point) → IsComponent style d f w g
-    → (ids : Ids) (xs : List A) (rest : List Row) → IsAbove (suc d) rest
-    → totals style d (rows_of_each f ids xs ++ rest) ≡ with_each w ids xs (totals style d rest)
-totals_each style d f w g part ids [] rest h = refl
-totals_each style d f w g part ids (x ∷ xs) rest h =
-    let others = rows_of_each f (other_ids ids) xs ++ rest in
-    ap (totals style d) (append_assoc (f (first_id ids) x) (rows_of_each f (other_ids ids) xs) rest)
-    ∙ part.counts (first_id ids) x others (above_each style d f w g part (other_ids ids) xs rest h)
-    ∙ ap (w (first_id ids) x) (totals_each style d f w g part (other_ids ids) xs rest h)
+-- what rows add before other rows
+pub counted_join : (style : Style) (d : ℕ) (May : List Row → Type 0) (xs ys : List Row)
+    (f g : RowTotals → RowTotals) (ps qs : List Point) (es fs : List Entry)
+    → AreCounted style d May xs f ps es → AreCounted style d May ys g qs fs
+    → AreCounted style d May (xs ++ ys) (λ l. f (g l)) (ps ++ qs) (es ++ fs)
+counted_join style d May xs ys f g ps qs es fs a b = record {
+  begins = λ rest h. subst May (sym (append_assoc xs ys rest)) (a.begins (ys ++ rest) (b.begins rest h));
+  counts = λ rest h.
+      ap (totals style d) (append_assoc xs ys rest) ∙ a.counts (ys ++ rest) (b.begins rest h)
+      ∙ ap f (b.counts rest h);
+  ahead = λ rest h.
+      ap points_ahead (append_assoc xs ys rest) ∙ a.ahead (ys ++ rest) (b.begins rest h)
+      ∙ ap (λ l. ps ++ l) (b.ahead rest h) ∙ sym (append_assoc ps qs (points_ahead rest));
+  entries = λ rest h.
+      ap (measured style) (append_assoc xs ys rest) ∙ a.entries (ys ++ rest) (b.begins rest h)
+      ∙ ap (λ l. es ++ l) (b.entries rest h) ∙ sym (append_assoc es fs (measured style rest));
+}
 
--- the points of parts
-pub ahead_each : {A : Type 0} (style : Style) (d : ℕ) (f : Option ℤ → A → List Row)
-    (w : Option ℤ → A → RowTotals → RowTotals) (g : A → List Point) → IsComponent style d f w g
-    → (ids : Ids) (xs : List A) (rest : List Row) → points_ahead (rows_of_each f ids xs ++ rest)
-    ≡ flat_map g xs ++ points_ahead rest
-ahead_each style d f w g part ids [] rest = refl
-ahead_each style d f w g part ids (x ∷ xs) rest =
-    let others = rows_of_each f (other_ids ids) xs ++ rest in
-    ap points_ahead (append_assoc (f (first_id ids) x) (rows_of_each f (other_ids ids) xs) rest)
-    ∙ part.ahead (first_id ids) x others
-    ∙ ap (λ ps. g x ++ ps) (ahead_each style d f w g part (other_ids ids) xs rest)
-    ∙ sym (append_assoc (g x) (flat_map g xs) (points_ahead rest))
-
--- none of the parts is a geometry
-pub no_entry_each : {A : Type 0} (style : Style) (d : ℕ) (f : Option ℤ → A → List Row)
-    (w : Option ℤ → A → RowTotals → RowTotals) (g : A → List Point) → IsComponent style d f w g
-    → (ids : Ids) (xs : List A) (rest : List Row) → measured style (rows_of_each f ids xs ++ rest) ≡ measured style rest
-no_entry_each style d f w g part ids [] rest = refl
-no_entry_each style d f w g part ids (x ∷ xs) rest =
-    let others = rows_of_each f (other_ids ids) xs ++ rest in
-    ap (measured style) (append_assoc (f (first_id ids) x) (rows_of_each f (other_ids ids) xs) rest)
-    ∙ part.no_entry (first_id ids) x others
-    ∙ no_entry_each style d f w g part (other_ids ids) xs rest
+-- what parts add, none of which is a geometry
+parts_each : {A : Type 0} (style : Style) (d : ℕ) (f : Option ℤ → A → List Row)
+    (w : Option ℤ → A → RowTotals → RowTotals) (g : A → List Point)
+    → ((id : Option ℤ) (x : A) → AreCounted style d (IsAbove (suc d)) (f id x) (w id x) (g x) [])
+    → (ids : Ids) (xs : List A)
+    → AreCounted style d (IsAbove (suc d)) (rows_of_each f ids xs) (with_each w ids xs) (flat_map g xs) []
+parts_each style d f w g part ids [] = counted_none style d (IsAbove (suc d))
+parts_each style d f w g part ids (x ∷ xs) =
+    counted_join style d (IsAbove (suc d)) (f (first_id ids) x) (rows_of_each f (other_ids ids) xs)
+    (w (first_id ids) x) (with_each w (other_ids ids) xs) (g x) (flat_map g xs) [] []
+    (part (first_id ids) x) (parts_each style d f w g part (other_ids ids) xs)
 
 -- ---- parts of one row each: rings, points, linestrings
 
@@ -102,24 +94,24 @@ no_entry_each style d f w g part ids (x ∷ xs) rest =
 abbrev pub with_row_of : {A : Type 0} → Kind → (A → List Point) → Option ℤ → A → RowTotals → RowTotals
 with_row_of k g id x l = with_component k (length (g x)) id blank l
 
-counts_one : (style : Style) (d : ℕ) (k : Kind) (id : Option ℤ) (ps : List Point) (more : List Row)
-    → IsAbove (suc d) more
-    → totals style d (plain_row d k id ps ∷ more)
-    ≡ with_component k (length ps) id blank (totals style d more)
-counts_one style d k id ps more h =
-    totals_at style d (plain_row d k id ps) more refl
-    ∙ ap (λ (l : RowTotals). with_component k (length ps) id l (totals style d more))
-    (totals_none style (suc d) more h)
-
 -- one such row is a part
-pub one_part : {A : Type 0} (style : Style) (d : ℕ) (k : Kind) (g : A → List Point)
-    → IsComponent style d (λ id x. plain_row d k id (g x) ∷ []) (with_row_of k g) g
-one_part style d k g = record {
-  begins = λ id x more. (let le : d < suc d = omega arith in le);
-  counts = λ id x more h. counts_one style d k id (g x) more h;
-  ahead = λ id x more. refl;
-  no_entry = λ id x more. refl;
+one_part : (style : Style) (d : ℕ) (k : Kind) (id : Option ℤ) (ps : List Point)
+    → AreCounted style d (IsAbove (suc d)) (plain_row d k id ps ∷ []) (with_component k (length ps) id blank) ps []
+one_part style d k id ps = record {
+  begins = λ rest h. (let le : d < suc d = omega arith in le);
+  counts = λ rest h. totals_at style d (plain_row d k id ps) rest refl
+      ∙ ap (λ (l : RowTotals). with_component k (length ps) id l (totals style d rest))
+      (totals_none style (suc d) rest h);
+  ahead = λ rest h. refl;
+  entries = λ rest h. refl;
 }
+
+-- rows of one part each
+ones : {A : Type 0} (style : Style) (d : ℕ) (k : Kind) (g : A → List Point) (ids : Ids) (xs : List A)
+    → AreCounted style d (IsAbove (suc d)) (rows_of_each (λ id x. plain_row d k id (g x) ∷ []) ids xs)
+    (with_each (with_row_of k g) ids xs) (flat_map g xs) []
+ones style d k g ids xs = parts_each style d (λ id x. plain_row d k id (g x) ∷ []) (with_row_of k g) g
+    (λ id x. one_part style d k id (g x)) ids xs
 
 -- ---- polygons with their rings
 
@@ -131,108 +123,64 @@ rings_totals rings = with_each (with_row_of kind.Ring (λ ps. ps)) None rings bl
 abbrev pub with_polygon : Option ℤ → List (List Point) → RowTotals → RowTotals
 with_polygon id rings l = with_component kind.Polygon 0 id (rings_totals rings) l
 
--- the totals of rings before rows that are above them
-pub totals_rings : (style : Style) (d : ℕ) (rings : List (List Point)) (rest : List Row)
-    → IsAbove d rest → totals style d (ring_rows d rings ++ rest) ≡ rings_totals rings
-totals_rings style d rings rest h =
-    totals_each style d (λ none ring. plain_row d kind.Ring none ring ∷ [])
-    (with_row_of kind.Ring (λ ps. ps)) (λ ps. ps) (one_part style d kind.Ring (λ ps. ps)) None
-    rings rest (above_less d rest h)
-    ∙ ap (with_each (with_row_of kind.Ring (λ ps. ps)) None rings) (totals_none style d rest h)
-
-counts_polygon : (style : Style) (d : ℕ) (id : Option ℤ) (rings : List (List Point))
-    (more : List Row) → IsAbove (suc d) more
-    → totals style d (polygon_rows d id rings ++ more) ≡ with_polygon id rings (totals style d more)
-counts_polygon style d id rings more h =
-    totals_at style d (plain_row d kind.Polygon id []) (ring_rows (suc d) rings ++ more) refl
-    ∙ (λ i. with_component kind.Polygon 0 id (totals_rings style (suc d) rings more h i)
-    (totals_past style d (ring_rows (suc d) rings) more (deep-rings (suc d) rings) i))
-
 -- a polygon with its rings is a part
-pub polygon_part : (style : Style) (d : ℕ) → IsComponent style d (polygon_rows d) with_polygon flatten
-polygon_part style d = record {
-  begins = λ id rings more. (let le : d < suc d = omega arith in le);
-  counts = λ id rings more h. counts_polygon style d id rings more h;
-  ahead = λ id rings more. ahead_each style (suc d)
-      (λ none ring. plain_row (suc d) kind.Ring none ring ∷ []) (with_row_of kind.Ring (λ ps. ps))
-      (λ ps. ps) (one_part style (suc d) kind.Ring (λ ps. ps)) None rings more;
-  no_entry = λ id rings more. no_entry_each style (suc d)
-      (λ none ring. plain_row (suc d) kind.Ring none ring ∷ []) (with_row_of kind.Ring (λ ps. ps))
-      (λ ps. ps) (one_part style (suc d) kind.Ring (λ ps. ps)) None rings more;
-}
+polygon_part : (style : Style) (d : ℕ) (id : Option ℤ) (rings : List (List Point))
+    → AreCounted style d (IsAbove (suc d)) (polygon_rows d id rings) (with_polygon id rings) (flatten rings) []
+polygon_part style d id rings =
+    let below = ones style (suc d) kind.Ring (λ ps. ps) None rings in
+    record {
+      begins = λ rest h. (let le : d < suc d = omega arith in le);
+      counts = λ rest h.
+          totals_at style d (plain_row d kind.Polygon id []) (ring_rows (suc d) rings ++ rest) refl
+          ∙ (λ i. with_component kind.Polygon 0 id ((below.counts rest (above_less (suc d) rest h)
+          ∙ ap (with_each (with_row_of kind.Ring (λ ps. ps)) None rings) (totals_none style (suc d) rest h)) i)
+          (totals_past style d (ring_rows (suc d) rings) rest (deep-rings (suc d) rings) i));
+      ahead = λ rest h. below.ahead rest (above_less (suc d) rest h);
+      entries = λ rest h. below.entries rest (above_less (suc d) rest h);
+    }
 
 -- ---- the parts of a simple shape
 
+-- the totals with the parts of a shape before others
+abbrev pub with_parts : Simple → RowTotals → RowTotals
+with_parts (polygon rings) = with_each (with_row_of kind.Ring (λ ps. ps)) None rings
+with_parts (multi_point ids ps) = with_each (with_row_of kind.Point (λ p. p ∷ [])) ids ps
+with_parts (multi_line ids lines) = with_each (with_row_of kind.Linestring (λ ps. ps)) ids lines
+with_parts (multi_polygon ids areas) = with_each with_polygon ids areas
+with_parts _ = λ l. l
+
 -- the totals of the parts of a shape
 abbrev pub components_totals : Simple → RowTotals
-components_totals (polygon rings) = rings_totals rings
-components_totals (multi_point ids ps) = with_each (with_row_of kind.Point (λ p. p ∷ [])) ids ps blank
-components_totals (multi_line ids lines) = with_each (with_row_of kind.Linestring (λ ps. ps)) ids lines blank
-components_totals (multi_polygon ids areas) = with_each with_polygon ids areas blank
-components_totals _ = blank
+components_totals s = with_parts s blank
 
--- the rows of the parts have these totals
-pub totals_parts : (style : Style) (d : ℕ) (s : Simple) (rest : List Row) → IsAbove d rest
-    → totals style d (rows_below d s ++ rest) ≡ components_totals s
-totals_parts style d (polygon rings) rest h = totals_rings style d rings rest h
-totals_parts style d (multi_point ids ps) rest h =
-    totals_each style d (λ id p. plain_row d kind.Point id (p ∷ []) ∷ [])
-    (with_row_of kind.Point (λ p. p ∷ [])) (λ p. p ∷ [])
-    (one_part style d kind.Point (λ p. p ∷ [])) ids ps rest (above_less d rest h)
-    ∙ ap (with_each (with_row_of kind.Point (λ p. p ∷ [])) ids ps) (totals_none style d rest h)
-totals_parts style d (multi_line ids lines) rest h =
-    totals_each style d (λ id ps. plain_row d kind.Linestring id ps ∷ [])
-    (with_row_of kind.Linestring (λ ps. ps)) (λ ps. ps)
-    (one_part style d kind.Linestring (λ ps. ps)) ids lines rest (above_less d rest h)
-    ∙ ap (with_each (with_row_of kind.Linestring (λ ps. ps)) ids lines) (totals_none style d rest h)
-totals_parts style d (multi_polygon ids areas) rest h =
-    totals_each style d (polygon_rows d) with_polygon flatten (polygon_part style d) ids areas rest
-    (above_less d rest h)
-    ∙ ap (with_each with_polygon ids areas) (totals_none style d rest h)
-totals_parts style d _ rest h = totals_none style d rest h
+-- the points of the parts
+abbrev pub points_below : Simple → List Point
+points_below (polygon rings) = flatten rings
+points_below (multi_point ids ps) = flat_map (λ p. p ∷ []) ps
+points_below (multi_line ids lines) = flatten lines
+points_below (multi_polygon ids areas) = flat_map flatten areas
+points_below _ = []
 
-pub flat_map_ones : (ps : List Point) → flat_map (λ p. p ∷ []) ps ≡ ps
+-- what the rows of the parts add
+pub parts_counted : (style : Style) (d : ℕ) (s : Simple)
+    → AreCounted style d (IsAbove (suc d)) (rows_below d s) (with_parts s) (points_below s) []
+parts_counted style d (polygon rings) = ones style d kind.Ring (λ ps. ps) None rings
+parts_counted style d (multi_point ids ps) = ones style d kind.Point (λ p. p ∷ []) ids ps
+parts_counted style d (multi_line ids lines) = ones style d kind.Linestring (λ ps. ps) ids lines
+parts_counted style d (multi_polygon ids areas) = parts_each style d (polygon_rows d) with_polygon
+    flatten (polygon_part style d) ids areas
+parts_counted style d _ = counted_none style d (IsAbove (suc d))
+
+flat_map_ones : (ps : List Point) → flat_map (λ p. p ∷ []) ps ≡ ps
 flat_map_ones [] = refl
 flat_map_ones (p ∷ ps) = ap (λ qs. p ∷ qs) (flat_map_ones ps)
 
 -- the points of the row and of its parts are those of the shape
-pub ahead_parts : (style : Style) (d : ℕ) (s : Simple) (rest : List Row)
-    → own_points s ++ points_ahead (rows_below d s ++ rest) ≡ points_in s ++ points_ahead rest
-ahead_parts style d (polygon rings) rest =
-    ahead_each style d (λ none ring. plain_row d kind.Ring none ring ∷ [])
-    (with_row_of kind.Ring (λ ps. ps)) (λ ps. ps) (one_part style d kind.Ring (λ ps. ps))
-    None rings rest
-ahead_parts style d (multi_point ids ps) rest =
-    ahead_each style d (λ id p. plain_row d kind.Point id (p ∷ []) ∷ [])
-    (with_row_of kind.Point (λ p. p ∷ [])) (λ p. p ∷ [])
-    (one_part style d kind.Point (λ p. p ∷ [])) ids ps rest
-    ∙ ap (λ qs. qs ++ points_ahead rest) (flat_map_ones ps)
-ahead_parts style d (multi_line ids lines) rest =
-    ahead_each style d (λ id ps. plain_row d kind.Linestring id ps ∷ [])
-    (with_row_of kind.Linestring (λ ps. ps)) (λ ps. ps)
-    (one_part style d kind.Linestring (λ ps. ps)) ids lines rest
-ahead_parts style d (multi_polygon ids areas) rest = ahead_each style d (polygon_rows d)
-    with_polygon flatten (polygon_part style d) ids areas rest
-ahead_parts style d _ rest = refl
-
--- none of the rows of the parts is a geometry
-pub no_entry_parts : (style : Style) (d : ℕ) (s : Simple) (rest : List Row)
-    → measured style (rows_below d s ++ rest) ≡ measured style rest
-no_entry_parts style d (polygon rings) rest =
-    no_entry_each style d (λ none ring. plain_row d kind.Ring none ring ∷ [])
-    (with_row_of kind.Ring (λ ps. ps)) (λ ps. ps) (one_part style d kind.Ring (λ ps. ps))
-    None rings rest
-no_entry_parts style d (multi_point ids ps) rest =
-    no_entry_each style d (λ id p. plain_row d kind.Point id (p ∷ []) ∷ [])
-    (with_row_of kind.Point (λ p. p ∷ [])) (λ p. p ∷ [])
-    (one_part style d kind.Point (λ p. p ∷ [])) ids ps rest
-no_entry_parts style d (multi_line ids lines) rest =
-    no_entry_each style d (λ id ps. plain_row d kind.Linestring id ps ∷ [])
-    (with_row_of kind.Linestring (λ ps. ps)) (λ ps. ps)
-    (one_part style d kind.Linestring (λ ps. ps)) ids lines rest
-no_entry_parts style d (multi_polygon ids areas) rest = no_entry_each style d (polygon_rows d)
-    with_polygon flatten (polygon_part style d) ids areas rest
-no_entry_parts style d _ rest = refl
+pub all_points : (s : Simple) → own_points s ++ points_below s ≡ points_in s
+all_points (point o) = append-nil (point_list o)
+all_points (line ps) = append-nil ps
+all_points (multi_point ids ps) = flat_map_ones ps
+all_points _ = refl
 
 -- ==== The number of members, and the bytes of ids and of rows at a depth, part by part.
 

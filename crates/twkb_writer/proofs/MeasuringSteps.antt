@@ -259,7 +259,8 @@ stands_more style node ps rs by_depth new tail points e stands fit count points_
     let t = taken style node ps rs by_depth tail points stands fit count points_are in
     let own_is : row.own ≡ row_totals style r.kind (length ps) r.id r.precision (totals style (suc d) rs)
     (tail_of (ps ++ points_ahead rs)) (totals style d rs) =
-    row.own_is ∙ (λ i. row_totals style r.kind (t.count i) r.id r.precision (t.below i) (t.points_are i) (t.others i)) in
+    row.own_is ∙ (λ i. row_totals style r.kind (t.count i) r.id r.precision (t.below i) (t.points_are i)
+    (t.others i)) in
     let deep : d + 1 < length by_depth = omega (arith, fit.nested.0, stands.size) in
     subst (λ (l : List RowTotals). Stands style (r ∷ rs) l (tail_after r.precision points)) (sym row.set_both)
     (record {
@@ -304,7 +305,8 @@ measurable_after (x ∷ xs) ys fit = measurable_after xs ys (record {
 
 -- the same from a place on
 pub measurable_from : (i : ℕ) (rs : List Row) → AreMeasurable rs → AreMeasurable (drop i rs)
-measurable_from i rs fit = measurable_after (take i rs) (drop i rs) (subst AreMeasurable (sym (take-append-drop i rs)) fit)
+measurable_from i rs fit = measurable_after (take i rs) (drop i rs)
+    (subst AreMeasurable (sym (take-append-drop i rs)) fit)
 
 -- an admitted row is at most one level deeper than the row before it
 step_within : (d : ℕ) (r : Row) (before : List Row) → steps_to d (r ∷ before) ≡ true → d < r.depth + 2

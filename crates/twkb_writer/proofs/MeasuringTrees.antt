@@ -1,7 +1,6 @@
 -- The totals of any geometry, from its rows and from its tree.
-use Rattle.std.proofs.Common.{◌≡◌, ℤ, pos, negsuc, Bool, true, false, refl, sym, ◌∙◌, ap, ℕ, suc, ◌+◌, ◌<◌, ◌≤◌, List}
-use Rattle.std.proofs.Common.{[], ◌∷◌, ◌++◌, length, Option, None, Some, subst, arith, append_assoc, append-nil}
-use Rattle.std.proofs.Common.{length-append, ◌-◌}
+use Rattle.std.proofs.Common.{◌≡◌, ℤ, pos, negsuc, Bool, true, false, refl, sym, ◌∙◌, ap, ℕ, suc, ◌+◌, ◌<◌, List, []}
+use Rattle.std.proofs.Common.{◌∷◌, ◌++◌, length, Option, None, Some, subst, arith, append-nil, length-append, ◌-◌}
 use Rattle.std.specs.Prelude.{◌&&◌, if◌then◌else◌, is_some, ◌||◌, nat_eq, map}
 use Rattle.std.proofs.lemmas.Bool.{eqb-true, eq-eqb}
 use Rattle.std.proofs.lemmas.Bool.Decides.{nat_tests}
@@ -13,10 +12,12 @@ use Rattle.twkb_points.proofs.ExtentLemmas.{joined_options-none, extent-append}
 use Rattle.twkb_tree.specs.Tree.{Tree, simple, collection, Trees, end, ◌▷◌, precision_of, Ids, HasIds, IdsFit, Simple}
 use Rattle.twkb_tree.specs.Tree.{point, count, members, flat, flat_all, points_in, IsTree, AreTrees}
 use Rattle.twkb_tree.specs.Uniform.{int_eq, has_precision, have_precision, uniform}
-use Rattle.twkb_tree.specs.Rows.{Row, kind_in, own_points, own_row, rows, rows_below, rows_with, member_rows}
-use Rattle.twkb_tree.specs.Rows.{first_id, other_ids}
+use Rattle.twkb_tree.specs.Rows.{Row, kind_in, own_points, rows, rows_below, rows_with, member_rows, first_id}
+use Rattle.twkb_tree.specs.Rows.{other_ids, whole_row}
 use Rattle.twkb_tree.specs.RowLists.{IsAbove}
+use Rattle.twkb_tree.specs.declared.kind.Kind.{Kind}
 use Rattle.twkb_tree.specs.declared.kind.Kind.TheVariants as kinds
+use Rattle.twkb_tree.proofs.RowLaws.{AreDeep}
 use Rattle.twkb_grammar.specs.Roles.{Count, Geometries}
 use Rattle.twkb_grammar.specs.Items.{id_fields, flags_all, filled, OfId}
 use Rattle.twkb_grammar.specs.Written.{canonical_blob, canonical_members, varints, is_empty, is_point}
@@ -27,16 +28,16 @@ use Rattle.twkb_writer.specs.declared.precisions.Precisions.TheVariants.{Absent,
 use Rattle.twkb_writer.specs.Precisions.{all_are, agreed}
 use Rattle.twkb_writer.specs.declared.totals.RowTotals.{RowTotals}
 use Rattle.twkb_writer.specs.declared.sizes.Entry.{Entry}
-use Rattle.twkb_writer.specs.Totals.{blank, id_len, is_bare, with_geometry, entry_for, blob_len}
-use Rattle.twkb_writer.specs.Totals.{is_point as is_point_kind}
+use Rattle.twkb_writer.specs.Totals.{blank, id_len, is_bare, entry_for, blob_len, is_point as is_point_kind}
 use Rattle.twkb_writer.specs.MeasuredRows.{totals, measured, points_ahead, row_totals}
-use Rattle.twkb_writer.specs.Sizes.{entry_of, sizes_of, sizes_of_all, content_of, body_of}
+use Rattle.twkb_writer.specs.Sizes.{entry_of, sizes_of, sizes_of_all, body_of}
 use Rattle.twkb_writer.specs.Tails.{number_len, tail_of}
 use Rattle.twkb_writer.proofs.MeasuringSteps.{totals_at, totals_none, totals_past}
 use Rattle.twkb_writer.proofs.BelowLemmas.{deep-below}
-use Rattle.twkb_writer.proofs.MeasuringParts.{with_each, above_less, components_totals, totals_parts, ahead_parts}
-use Rattle.twkb_writer.proofs.MeasuringParts.{no_entry_parts, IsCounted, members_each, ids_each, named_each, ids_sum}
-use Rattle.twkb_writer.proofs.MeasuringParts.{ids_len, length-number, length-fields, from_origin-tail_of, total_parts}
+use Rattle.twkb_writer.proofs.MeasuringParts.{with_each, above_less, components_totals, with_parts, points_below}
+use Rattle.twkb_writer.proofs.MeasuringParts.{AreCounted, counted_none, counted_join, parts_counted, all_points}
+use Rattle.twkb_writer.proofs.MeasuringParts.{IsCounted, members_each, ids_each, named_each, ids_sum, ids_len}
+use Rattle.twkb_writer.proofs.MeasuringParts.{length-number, length-fields, from_origin-tail_of, total_parts}
 use Rattle.twkb_writer.proofs.MeasuringParts.{lead_parts, bare_shape}
 use Rattle.twkb_writer.proofs.MeasuringEntries.{IsMeasured, entry_is, blob_length}
 
@@ -242,143 +243,86 @@ collection_measured style p ids gs h = record {
 
 -- ---- the rows of a geometry, one after the other
 
--- rows whose totals are those of a geometry
-pub row_is : (style : Style) (g : Tree) (r : Row) (below others below' others' : RowTotals)
-    (ahead ps : List Point) → below ≡ below' → others ≡ others' → r.points ++ ahead ≡ ps
-    → IsMeasured style g r.kind (length r.points) below' (tail_of ps)
-    → agreed (One (precision_of g)) below'.precisions ≡ precisions_of g
-    → row_totals style r.kind (length r.points) r.id (Some (precision_of g)) below
-    (tail_of (r.points ++ ahead)) others ≡ with_tree style r.id g others'
-row_is style g r below others below' others' ahead ps eb eo ep m precisions =
-    let size : (entry_for style r.kind (precision_of g) (length r.points) below' (tail_of ps)).size
-    ≡ length (content_of style g) = ap (λ (e : Entry). e.size)
-    (entry_is style g r.kind (length r.points) below' (tail_of ps) m) in
-    (λ i. with_geometry style (entry_for style r.kind (precision_of g) (length r.points) (eb i)
-    (tail_of (ep i))).size (precision_of g) r.id (eb i) (tail_of (ep i)) (eo i))
-    ∙ (λ i. record {
-      members = others'.members + 1;
-      ids = id_len r.id + others'.ids;
-      named = is_some r.id || others'.named;
-      bytes = (ap (blob_len style) size ∙ blob_length style g) i + others'.bytes;
-      bounds = joined_options (m.extent_is i) others'.bounds;
-      precisions = agreed (precisions i) others'.precisions;
-    })
-
--- the entry of such rows is the geometry's
-pub row_entry_is : (style : Style) (g : Tree) (r : Row) (below below' : RowTotals)
-    (ahead ps : List Point) → below ≡ below' → r.points ++ ahead ≡ ps
-    → IsMeasured style g r.kind (length r.points) below' (tail_of ps)
-    → entry_for style r.kind (precision_of g) (length r.points) below (tail_of (r.points ++ ahead))
-    ≡ entry_of style g
-row_entry_is style g r below below' ahead ps eb ep m =
-    (λ i. entry_for style r.kind (precision_of g) (length r.points) (eb i) (tail_of (ep i)))
-    ∙ entry_is style g r.kind (length r.points) below' (tail_of ps) m
-
 -- the rows after a geometry at this depth: the first is no deeper and not a part
 pub record IsBehind (d : ℕ) (rest : List Row) : Type 0 where
   pub above : IsAbove (suc d) rest
   pub no_part : points_ahead rest ≡ []
 
-behind_tree : (d e : ℕ) (id : Option ℤ) (g : Tree) (rest : List Row) → d ≤ e → IsBehind e (rows_with id d g ++ rest)
-behind_tree d e id (simple p s) rest le = record { above = (let lt : d < suc e = omega arith in lt); no_part = refl }
-behind_tree d e id (collection p ids gs) rest le =
-    record { above = (let lt : d < suc e = omega arith in lt); no_part = refl }
-
-behind_members : (d : ℕ) (ids : Ids) (gs : Trees) (rest : List Row) → IsBehind d rest
-    → IsBehind d (member_rows d ids gs ++ rest)
-behind_members d ids end rest h = h
-behind_members d ids (g ▷ gs) rest h =
-    subst (IsBehind d) (sym (append_assoc (rows_with (first_id ids) d g) (member_rows d (other_ids ids) gs) rest))
-    (behind_tree d d (first_id ids) g (member_rows d (other_ids ids) gs ++ rest) (omega arith))
-
-behind_deeper : (d : ℕ) (rest : List Row) → IsBehind d rest → IsBehind (suc d) rest
-behind_deeper d rest h = record { above = above_less (suc d) rest h.above; no_part = h.no_part }
-
-pub simple_points : (style : Style) (d : ℕ) (s : Simple) (rest : List Row) → points_ahead rest ≡ []
-    → own_points s ++ points_ahead (rows_below d s ++ rest) ≡ points_in s
-simple_points style d s rest h = ahead_parts style d s rest ∙ ap (λ ps. points_in s ++ ps) h ∙ append-nil (points_in s)
-
-mutual
-  -- the totals of the rows of a geometry
-  pub totals_tree : (style : Style) (d : ℕ) (id : Option ℤ) (g : Tree) (rest : List Row) → IsTree g
-      → IsBehind d rest → totals style d (rows_with id d g ++ rest) ≡ with_tree style id g
-      (totals style d rest)
-  totals_tree style d id (simple p s) rest fits h =
-      let own = own_row id d (simple p s) in
-      totals_at style d own (rows_below (suc d) s ++ rest) refl
-      ∙ row_is style (simple p s) own (totals style (suc d) (rows_below (suc d) s ++ rest))
-      (totals style d (rows_below (suc d) s ++ rest)) (components_totals s) (totals style d rest)
-      (points_ahead (rows_below (suc d) s ++ rest)) (points_in s) (totals_parts style (suc d) s rest h.above)
-      (totals_past style d (rows_below (suc d) s) rest (deep-below (suc d) (simple p s)))
-      (simple_points style (suc d) s rest h.no_part)
-      (simple_measured style p s fits.1) (ap (agreed (One p)) (total_parts s fits.1).no_precisions)
-  totals_tree style d id (collection p ids gs) rest fits h =
-      let own = own_row id d (collection p ids gs) in
-      totals_at style d own (member_rows (suc d) ids gs ++ rest) refl
-      ∙ row_is style (collection p ids gs) own (totals style (suc d)
-      (member_rows (suc d) ids gs ++ rest)) (totals style d (member_rows (suc d) ids gs ++ rest))
-      (trees_totals style ids gs) (totals style d rest)
-      (points_ahead (member_rows (suc d) ids gs ++ rest)) []
-      (totals_members style (suc d) ids gs rest fits.2 (behind_deeper d rest h)
-      ∙ ap (with_each (with_tree style) ids (members gs))
-      (totals_none style (suc d) rest h.above))
-      (totals_past style d (member_rows (suc d) ids gs) rest
-      (deep-below (suc d) (collection p ids gs))) (behind_members (suc d) ids gs rest
-      (behind_deeper d rest h)).no_part
-      (collection_measured style p ids gs (ids_fit ids gs fits.1)) (ap (agreed (One p)) (trees_precisions style ids gs))
-
-  -- the totals of the rows of members, one after another
-  pub totals_members : (style : Style) (d : ℕ) (ids : Ids) (gs : Trees) (rest : List Row) → AreTrees gs
-      → IsBehind d rest
-      → totals style d (member_rows d ids gs ++ rest)
-      ≡ with_each (with_tree style) ids (members gs) (totals style d rest)
-  totals_members style d ids end rest fits h = refl
-  totals_members style d ids (g ▷ gs) rest fits h =
-      let others = member_rows d (other_ids ids) gs ++ rest in
-      ap (totals style d) (append_assoc (rows_with (first_id ids) d g) (member_rows d (other_ids ids) gs) rest)
-      ∙ totals_tree style d (first_id ids) g others fits.0 (behind_members d (other_ids ids) gs rest h)
-      ∙ ap (with_tree style (first_id ids) g) (totals_members style d (other_ids ids) gs rest fits.1 h)
+-- the rows of a geometry, given its own row and what the rows under it add
+geometry_counted : (style : Style) (d : ℕ) (id : Option ℤ) (g : Tree) (k : Kind) (own : List Point)
+    (May : List Row → Type 0) (under : List Row) (add : RowTotals → RowTotals) (ps : List Point)
+    (es : List Entry) → AreCounted style (suc d) May under add ps es
+    → ((rest : List Row) → IsBehind d rest → May rest) → AreDeep (suc d) under
+    → IsMeasured style g k (length own) (add blank) (tail_of (own ++ ps))
+    → agreed (One (precision_of g)) (add blank).precisions ≡ precisions_of g
+    → AreCounted style d (IsBehind d) (whole_row d k id (precision_of g) own ∷ under)
+    (with_tree style id g) [] (entry_of style g ∷ es)
+geometry_counted style d id g k own May under add ps es parts may deep m precisions =
+    let p : ℤ = precision_of g in
+    let below : (rest : List Row) → IsBehind d rest → totals style (suc d) (under ++ rest) ≡ add blank =
+    λ rest h. parts.counts rest (may rest h) ∙ ap add (totals_none style (suc d) rest h.above) in
+    let points : (rest : List Row) → IsBehind d rest → own ++ points_ahead (under ++ rest) ≡ own ++ ps =
+    λ rest h. ap (λ l. own ++ l) (parts.ahead rest (may rest h) ∙ ap (λ l. ps ++ l) h.no_part ∙ append-nil ps) in
+    let entry : entry_for style k p (length own) (add blank) (tail_of (own ++ ps)) ≡ entry_of style g =
+    entry_is style g k (length own) (add blank) (tail_of (own ++ ps)) m in
+    record {
+      begins = λ rest h. record { above = (let lt : d < suc d = omega arith in lt); no_part = refl };
+      counts = λ rest h.
+          totals_at style d (whole_row d k id p own) (under ++ rest) refl
+          ∙ (λ i. row_totals style k (length own) id (Some p) (below rest h i) (tail_of (points rest h i))
+          (totals_past style d under rest deep i))
+          ∙ (λ i. record {
+            members = (totals style d rest).members + 1;
+            ids = id_len id + (totals style d rest).ids;
+            named = is_some id || (totals style d rest).named;
+            bytes = (ap (λ (e : Entry). blob_len style e.size) entry ∙ blob_length style g) i
+                + (totals style d rest).bytes;
+            bounds = joined_options (m.extent_is i) (totals style d rest).bounds;
+            precisions = agreed (precisions i) (totals style d rest).precisions;
+          });
+      ahead = λ rest h. sym h.no_part;
+      entries = λ rest h.
+          (λ i. entry_for style k p (length own) (below rest h i) (tail_of (points rest h i))
+          ∷ parts.entries rest (may rest h) i)
+          ∙ ap (λ (e : Entry). e ∷ (es ++ measured style rest)) entry;
+    }
 
 mutual
-  -- the entries of a geometry and of all members in it
-  pub measured_tree : (style : Style) (d : ℕ) (id : Option ℤ) (g : Tree) (rest : List Row)
-      → IsTree g → IsBehind d rest → measured style (rows_with id d g ++ rest) ≡ sizes_of style g
-      ++ measured style rest
-  measured_tree style d id (simple p s) rest fits h =
-      let own = own_row id d (simple p s) in
-      (λ i. row_entry_is style (simple p s) own (totals style (suc d) (rows_below (suc d) s ++ rest))
-      (components_totals s) (points_ahead (rows_below (suc d) s ++ rest)) (points_in s)
-      (totals_parts style (suc d) s rest h.above) (simple_points style (suc d) s rest h.no_part)
-      (simple_measured style p s fits.1) i
-      ∷ no_entry_parts style (suc d) s rest i)
-  measured_tree style d id (collection p ids gs) rest fits h =
-      let own = own_row id d (collection p ids gs) in
-      (λ i. row_entry_is style (collection p ids gs) own
-      (totals style (suc d) (member_rows (suc d) ids gs ++ rest)) (trees_totals style ids gs)
-      (points_ahead (member_rows (suc d) ids gs ++ rest)) []
-      (totals_members style (suc d) ids gs rest fits.2 (behind_deeper d rest h)
-      ∙ ap (with_each (with_tree style) ids (members gs))
-      (totals_none style (suc d) rest h.above))
-      (behind_members (suc d) ids gs rest (behind_deeper d rest h)).no_part
-      (collection_measured style p ids gs (ids_fit ids gs fits.1)) i
-      ∷ measured_members style (suc d) ids gs rest fits.2 (behind_deeper d rest h) i)
+  -- what the rows of a geometry add
+  rows_counted : (style : Style) (d : ℕ) (id : Option ℤ) (g : Tree) → IsTree g
+      → AreCounted style d (IsBehind d) (rows_with id d g) (with_tree style id g) [] (sizes_of style g)
+  rows_counted style d id (simple p s) fits =
+      geometry_counted style d id (simple p s) (kind_in s) (own_points s) (IsAbove (suc (suc d)))
+      (rows_below (suc d) s) (with_parts s) (points_below s) [] (parts_counted style (suc d) s)
+      (λ rest h. above_less (suc d) rest h.above) (deep-below (suc d) (simple p s))
+      (subst (λ ps. IsMeasured style (simple p s) (kind_in s) (length (own_points s)) (components_totals s) (tail_of ps))
+      (sym (all_points s)) (simple_measured style p s fits.1))
+      (ap (agreed (One p)) (total_parts s fits.1).no_precisions)
+  rows_counted style d id (collection p ids gs) fits =
+      geometry_counted style d id (collection p ids gs) kinds.Collection [] (IsBehind (suc d))
+      (member_rows (suc d) ids gs) (with_each (with_tree style) ids (members gs)) []
+      (sizes_of_all style gs) (members_counted style (suc d) ids gs fits.2)
+      (λ rest h. record { above = above_less (suc d) rest h.above; no_part = h.no_part })
+      (deep-below (suc d) (collection p ids gs))
+      (collection_measured style p ids gs (ids_fit ids gs fits.1))
+      (ap (agreed (One p)) (trees_precisions style ids gs))
 
-  measured_members : (style : Style) (d : ℕ) (ids : Ids) (gs : Trees) (rest : List Row)
-      → AreTrees gs → IsBehind d rest → measured style (member_rows d ids gs ++ rest)
-      ≡ sizes_of_all style gs ++ measured style rest
-  measured_members style d ids end rest fits h = refl
-  measured_members style d ids (g ▷ gs) rest fits h =
-      let others = member_rows d (other_ids ids) gs ++ rest in
-      ap (measured style) (append_assoc (rows_with (first_id ids) d g) (member_rows d (other_ids ids) gs) rest)
-      ∙ measured_tree style d (first_id ids) g others fits.0 (behind_members d (other_ids ids) gs rest h)
-      ∙ ap (λ es. sizes_of style g ++ es) (measured_members style d (other_ids ids) gs rest fits.1 h)
-      ∙ sym (append_assoc (sizes_of style g) (sizes_of_all style gs) (measured style rest))
+  -- what the rows of members add, one after another
+  members_counted : (style : Style) (d : ℕ) (ids : Ids) (gs : Trees) → AreTrees gs
+      → AreCounted style d (IsBehind d) (member_rows d ids gs) (with_each (with_tree style) ids (members gs)) []
+      (sizes_of_all style gs)
+  members_counted style d ids end fits = counted_none style d (IsBehind d)
+  members_counted style d ids (g ▷ gs) fits =
+      counted_join style d (IsBehind d) (rows_with (first_id ids) d g) (member_rows d (other_ids ids) gs)
+      (with_tree style (first_id ids) g) (with_each (with_tree style) (other_ids ids) (members gs)) [] []
+      (sizes_of style g) (sizes_of_all style gs) (rows_counted style d (first_id ids) g fits.0)
+      (members_counted style d (other_ids ids) gs fits.1)
 
 -- the entries of a geometry's rows are its sizes
 pub measured_rows : (style : Style) (g : Tree) → IsTree g → measured style (rows 0 g) ≡ sizes_of style g
 measured_rows style g fits =
     ap (measured style) (sym (append-nil (rows 0 g)))
-    ∙ measured_tree style 0 None g [] fits (record { above = tt; no_part = refl })
+    ∙ (rows_counted style 0 None g fits).entries [] (record { above = tt; no_part = refl })
     ∙ append-nil (sizes_of style g)
 
 -- the number of bytes of a geometry's rows is the length of its blob
@@ -386,5 +330,5 @@ pub totals_blob : (g : Tree) → IsTree g → (totals Full 0 (rows 0 g ++ [])).b
 totals_blob g fits = omega (
   arith,
   ap (λ (l : RowTotals). l.bytes)
-      (totals_tree Full 0 None g [] fits (record { above = tt; no_part = refl })),
+      ((rows_counted Full 0 None g fits).counts [] (record { above = tt; no_part = refl })),
 )
