@@ -156,56 +156,41 @@ written_more rs i first k in_rows in_points own r row w is row_is own_is count =
       length-drop a xs,
     )
 
--- all rows are written
-pub written_all : (rs : List Row) (count first : ℕ) (in_rows : List BufferRow) (in_points : List BufferPoint)
-    → IsWritten rs count first in_rows in_points → count ≡ length rs
-    → (in_rows ≡ rows_in_c rs) × (in_points ≡ coordinates_of (row_points rs))
-written_all rs count first in_rows in_points w end =
-    let whole : take count rs ≡ rs = take_all count rs (omega arith) in
-    let last : first ≡ length in_points = w.first_is ∙ ap (λ (xs : List Row). length (row_points xs)) whole
-    ∙ sym w.as_many_points in (
-      sym (take_all count in_rows (omega (arith, w.as_many_rows))) ∙ w.rows_are ∙ ap rows_in_c whole,
-      sym (take_all first in_points (omega arith)) ∙ w.points_are
-          ∙ ap (λ (xs : List Row). coordinates_of (row_points xs)) whole,
-    )
-
--- a part of an array that is written over
-pub part_written : {X : Type 0} (a k n : ℕ) (xs ys zs : List X) → ys ≡ zs → k ≡ n
-    → put_mid a k xs ys ≡ take a xs ++ (zs ++ drop (a + n) xs)
-part_written a k n xs ys zs same count =
-    ap (λ l. take a xs ++ (l ++ drop k (drop a xs))) same
-    ∙ ap (λ (l : ℕ). take a xs ++ (zs ++ drop l (drop a xs))) count
-    ∙ ap (λ l. take a xs ++ (zs ++ l)) (drop-drop n a xs)
-
 -- what is written after what was written
-pub laid_more : {X : Type 0} (old done more now : List X) (n m : ℕ) → n ≡ length done → m ≡ length more
-    → now ≡ done ++ drop n old
-    → take n now ++ (more ++ drop (n + m) now) ≡ (done ++ more) ++ drop (n + m) old
-laid_more old done more now n m done_len more_len is =
-    let front : take n now ≡ done = ap (λ l. take n l) is ∙ take_at done (drop n old) n (sym done_len) in
-    let after : drop (n + m) now ≡ drop (n + m) old =
-    sym (drop-drop m n now) ∙ ap (λ l. drop m (drop n l)) is
-    ∙ ap (λ l. drop m l) (drop_at done (drop n old) n (sym done_len)) ∙ drop-drop m n old in
-    ap (λ l. l ++ (more ++ drop (n + m) now)) front
-    ∙ ap (λ l. done ++ (more ++ l)) after
-    ∙ sym (append_assoc done more (drop (n + m) old))
+pub laid_next : {X : Type 0} {k n : ℕ} {now all new : List X} (old done more : List X) (m : ℕ) → k ≡ length done
+    → n ≡ k + m → now ≡ done ++ drop k old → all ≡ done ++ more → new ≡ take k now ++ (more ++ drop (k + m) now)
+    → new ≡ all ++ drop n old
+laid_next {k = k} {now = now} old done more m long count is all_is new_is =
+    let front : take k now ≡ done = ap (λ l. take k l) is ∙ take_at done (drop k old) k (sym long) in
+    let after : drop (k + m) now ≡ drop (k + m) old =
+    sym (drop-drop m k now) ∙ ap (λ l. drop m (drop k l)) is
+    ∙ ap (λ l. drop m l) (drop_at done (drop k old) k (sym long)) ∙ drop-drop m k old in
+    rw (all_is, count) (new_is ∙ rw (front, after) (sym (append_assoc done more (drop (k + m) old))))
+
+-- what is written at the start of a list leaves its length
+pub laid_length : {X : Type 0} {n : ℕ} {now : List X} (done old : List X) → n ≡ length done → now ≡ done ++ drop n old
+    → n ≤ length old → length now ≡ length old
+laid_length {n = n} done old long is room = omega (
+  arith,
+  ap (λ l. length l) is,
+  length-append done (drop n old),
+  length-drop n old,
+)
 
 -- ---- the parts of a list
-
--- a list up to a place, and what is after it
-pub parts_join : {X : Type 0} (xs part : List X) (used : ℕ) → part ≡ take (length xs - used) (drop used xs)
-    → take used xs ++ part ≡ xs
-parts_join xs part used is = ap (λ l. take used xs ++ l) (is ∙ take_rest xs used) ∙ take-append-drop used xs
-
--- a list up to a place, and the first of what is after it
-pub some_more : {X : Type 0} (xs part : List X) (used more : ℕ) → part ≡ take (length xs - used) (drop used xs)
-    → take used xs ++ take more part ≡ take (used + more) xs
-some_more xs part used more is =
-    ap (λ l. take used xs ++ take more l) (is ∙ take_rest xs used) ∙ sym (take-add used more xs)
 
 -- what is after a place, as the code cuts it
 abbrev pub rest_of : {X : Type 0} → List X → ℕ → List X
 rest_of xs used = take (length xs - used) (drop used xs)
+
+-- a list up to a place, and what is after it
+pub parts_join : {X : Type 0} (xs : List X) (used : ℕ) → take used xs ++ rest_of xs used ≡ xs
+parts_join xs used = ap (λ l. take used xs ++ l) (take_rest xs used) ∙ take-append-drop used xs
+
+-- a list up to a place, and the first of what is after it
+pub some_more : {X : Type 0} (xs : List X) (used more : ℕ)
+    → take used xs ++ take more (rest_of xs used) ≡ take (used + more) xs
+some_more xs used more = ap (λ l. take used xs ++ take more l) (take_rest xs used) ∙ sym (take-add used more xs)
 
 pub length-rest_of : {X : Type 0} (xs : List X) (used : ℕ) → length (rest_of xs used) ≡ length xs - used
 length-rest_of xs used = ap (λ l. length l) (take_rest xs used) ∙ length-drop used xs
@@ -245,22 +230,16 @@ one_precision None (Some b) p q e = absurd (never b q (sym e))
 one_precision (Some a) None p q e = absurd (never a p e)
 one_precision (Some a) (Some b) p q e = ap (λ (n : ℤ). Some n) e
 
--- rows with the same fields are equal
-same_row : (r s : Row) → r.depth ≡ s.depth → r.kind ≡ s.kind → r.id ≡ s.id → r.precision ≡ s.precision
-    → r.points ≡ s.points → r ≡ s
-same_row r s depths kinds ids precisions points =
-    ap (λ (x : ℕ). with x r.kind r.id r.precision r.points) depths
-    ∙ ap (λ (x : Kind). with s.depth x r.id r.precision r.points) kinds
-    ∙ ap (λ (x : Option ℤ). with s.depth s.kind x r.precision r.points) ids
-    ∙ ap (λ (x : Option ℤ). with s.depth s.kind s.id x r.points) precisions
-    ∙ ap (λ (x : List Point). with s.depth s.kind s.id s.precision x) points
-  where
-    with : ℕ → Kind → Option ℤ → Option ℤ → List Point → Row
-    with d k i f ps = record { depth = d; kind = k; id = i; precision = f; points = ps }
+-- a row with the fields of another is that row
+pub same_row : (r : Row) (depth : ℕ) (k : Kind) (id precision : Option ℤ) (points : List Point) → depth ≡ r.depth
+    → k ≡ r.kind → id ≡ r.id → precision ≡ r.precision → points ≡ r.points
+    → record { depth = depth; kind = k; id = id; precision = precision; points = points } ≡ r
+same_row r depth k id precision points depths kinds ids precisions points_are =
+    rw (depths, kinds, ids, precisions, points_are) refl
 
 one_row : (r s : Row) → IsPlain r → IsPlain s → row_in_c r ≡ row_in_c s → r.points ≡ s.points → r ≡ s
 one_row r s p q e same_points =
-    same_row r s (ap (λ (x : BufferRow). x.depth) e) (one_kind r.kind s.kind (ap (λ (x : BufferRow). x.kind) e))
+    same_row s _ _ _ _ _ (ap (λ (x : BufferRow). x.depth) e) (one_kind r.kind s.kind (ap (λ (x : BufferRow). x.kind) e))
     (one_id r.id s.id (ap (λ (x : BufferRow). x.has_id) e) (ap (λ (x : BufferRow). x.id) e))
     (one_precision r.precision s.precision p.precision q.precision (ap (λ (x : BufferRow). x.precision) e))
     same_points
@@ -289,7 +268,7 @@ precision_in _ p = refl
 row_from : (r : Row) (k : Kind) (own : List BufferPoint) → IsPlain r → kind_number k ≡ kind_number r.kind
     → own ≡ coordinates_of r.points → row_from_c k (row_in_c r) own ≡ r
 row_from r k own p kinds is =
-    same_row (row_from_c k (row_in_c r) own) r refl (one_kind k r.kind kinds) (id_in r.id)
+    same_row r _ _ _ _ _ refl (one_kind k r.kind kinds) (id_in r.id)
     (precision_in r.precision p.precision) (ap points_of is ∙ points_of-coordinates_of r.points)
 
 -- if a row in C's layout is refused, with its points ahead, so is the row

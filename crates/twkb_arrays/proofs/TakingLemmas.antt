@@ -15,41 +15,44 @@ use Rattle.twkb_tree.proofs.Shapes.{all_push}
 use Rattle.twkb_tree.proofs.RowLaws.{one_reading}
 use Rattle.twkb_tree.proofs.OpenLaws.{local_refusal, root_refusal, accepted_unrefused}
 use Rattle.twkb_tree.proofs.LimitLaws.{refused_begins_none}
-use Rattle.twkb_flat.proofs.LastPoint.{reads_join}
 use Rattle.twkb_table.proofs.FieldLemmas.{ArePlain, IsPlain, head_same}
 use Rattle.twkb_table.proofs.Verdicts.{plain_rows, geometries}
 use Rattle.twkb_buffer.specs.Polylines.{coordinates_of}
 use Rattle.twkb_buffer.specs.declared.point.BufferPoint.{BufferPoint}
-use Rattle.twkb_arrays.specs.Rooms.{StopsBefore}
+use Rattle.twkb_arrays.specs.Rooms.{Fit}
 use Rattle.twkb_arrays.specs.Rows.{LacksRoom, array_points, array_rows, row_in_c, rows_in_c}
 use Rattle.twkb_arrays.specs.TakenGeometries.{HasTaken, IsFilled, IsWithin, TakesOne}
 use Rattle.twkb_arrays.specs.declared.row.BufferRow.{BufferRow}
 use Rattle.twkb_arrays.specs.declared.taken_geometries.Taken.{Taken}
 use Rattle.twkb_arrays.specs.JudgedRow.{RefusedAfter}
 use Rattle.twkb_arrays.specs.WrittenArrays.{AreArrays, AreRead, ArePointsLeft, IsRefusedRow}
-use Rattle.twkb_arrays.proofs.ArrayLemmas.{coordinates_of-append, laid_more, length-coordinates_of, row_points-append}
-use Rattle.twkb_arrays.proofs.ArrayLemmas.{BeginsWith, begins_with, refused_row}
-use Rattle.twkb_arrays.proofs.RoomLemmas.{more_stay, no_more, stops_as_before, stops_here}
+use Rattle.twkb_arrays.proofs.ArrayLemmas.{coordinates_of-append, laid_length, laid_next, length-coordinates_of}
+use Rattle.twkb_arrays.proofs.ArrayLemmas.{BeginsWith, begins_with, refused_row, row_points-append}
+use Rattle.twkb_arrays.proofs.RoomLemmas.{comes_after, has_none, has_room, no_more, one_after}
 
 -- ==== Geometries that are taken into arrays.
 
 -- ---- the rows and points of one more geometry
 
-pub rows_of-more : (gs : List Tree) (g : Tree) → rows_of (gs ++ g ∷ []) ≡ rows_of gs ++ rows 0 g
-rows_of-more gs g = flat_map-append (rows 0) gs (g ∷ [])
-    ∙ ap (λ (xs : List Row). rows_of gs ++ xs) (append-nil (rows 0 g))
+pub rows_of-more : (gs : List Tree) (g : Tree) (form : List Row) → rows 0 g ≡ form
+    → rows_of (gs ++ g ∷ []) ≡ rows_of gs ++ form
+rows_of-more gs g form same = flat_map-append (rows 0) gs (g ∷ [])
+    ∙ ap (λ (xs : List Row). rows_of gs ++ xs) (append-nil (rows 0 g) ∙ same)
 
-array_rows-more : (gs : List Tree) (g : Tree) → array_rows (gs ++ g ∷ []) ≡ array_rows gs ++ rows_in_c (rows 0 g)
-array_rows-more gs g = ap rows_in_c (rows_of-more gs g) ∙ map-append row_in_c (rows_of gs) (rows 0 g)
+points_of-more : (gs : List Tree) (g : Tree) (form : List Row) → rows 0 g ≡ form
+    → row_points (rows_of (gs ++ g ∷ [])) ≡ row_points (rows_of gs) ++ row_points form
+points_of-more gs g form same = ap row_points (rows_of-more gs g form same) ∙ row_points-append (rows_of gs) form
 
-points_of-more : (gs : List Tree) (g : Tree)
-    → row_points (rows_of (gs ++ g ∷ [])) ≡ row_points (rows_of gs) ++ row_points (rows 0 g)
-points_of-more gs g = ap row_points (rows_of-more gs g) ∙ row_points-append (rows_of gs) (rows 0 g)
+-- their numbers
+count_more : (gs : List Tree) (g : Tree) (form : List Row) → rows 0 g ≡ form
+    → length (rows_of (gs ++ g ∷ [])) ≡ length (rows_of gs) + length form
+count_more gs g form same = ap (λ (xs : List Row). length xs) (rows_of-more gs g form same)
+    ∙ length-append (rows_of gs) form
 
-array_points-more : (gs : List Tree) (g : Tree)
-    → array_points (gs ++ g ∷ []) ≡ array_points gs ++ coordinates_of (row_points (rows 0 g))
-array_points-more gs g = ap coordinates_of (points_of-more gs g)
-    ∙ coordinates_of-append (row_points (rows_of gs)) (row_points (rows 0 g))
+point_count_more : (gs : List Tree) (g : Tree) (form : List Row) → rows 0 g ≡ form
+    → length (row_points (rows_of (gs ++ g ∷ []))) ≡ length (row_points (rows_of gs)) + length (row_points form)
+point_count_more gs g form same = ap (λ (xs : List Point). length xs) (points_of-more gs g form same)
+    ∙ length-append (row_points (rows_of gs)) (row_points form)
 
 -- a geometry has a row
 pub some_rows : (g : Tree) → 0 < length (rows 0 g)
@@ -61,242 +64,137 @@ few_geometries : (gs : List Tree) → length gs ≤ length (rows_of gs)
 few_geometries [] = omega arith
 few_geometries (g ∷ gs) = omega (arith, length-append (rows 0 g) (rows_of gs), some_rows g, few_geometries gs)
 
-count_more : (gs : List Tree) (g : Tree) (form : List Row) → rows 0 g ≡ form
-    → length (rows_of (gs ++ g ∷ [])) ≡ length (rows_of gs) + length form
-count_more gs g form same = ap (λ (xs : List Row). length xs) (rows_of-more gs g)
-    ∙ length-append (rows_of gs) (rows 0 g) ∙ ap (λ (xs : List Row). length (rows_of gs) + length xs) same
-
-point_count_more : (gs : List Tree) (g : Tree) (form : List Row) → rows 0 g ≡ form
-    → length (row_points (rows_of (gs ++ g ∷ []))) ≡ length (row_points (rows_of gs)) + length (row_points form)
-point_count_more gs g form same = ap (λ (xs : List Point). length xs) (points_of-more gs g)
-    ∙ length-append (row_points (rows_of gs)) (row_points (rows 0 g))
-    ∙ ap (λ (xs : List Row). length (row_points (rows_of gs)) + length (row_points xs)) same
-
--- the number of rows that are needed
-needed_more : (gs : List Tree) (g : Tree) (form : List Row) (n m k : ℕ) → rows 0 g ≡ form
-    → n ≡ saturated (length (rows_of gs)) → k ≡ length form → m ≡ saturated (n + k)
-    → m ≡ saturated (length (rows_of (gs ++ g ∷ [])))
-needed_more gs g form n m k same was count is =
-    is ∙ ap (λ (j : ℕ). saturated (n + j)) count
-    ∙ ap (λ (j : ℕ). saturated (j + length form)) was
-    ∙ reads_join (length (rows_of gs)) (length form)
-    ∙ ap saturated (sym (count_more gs g form same))
-
--- the number of points that are needed
-needed_points_more : (gs : List Tree) (g : Tree) (form : List Row) (n m k : ℕ) → rows 0 g ≡ form
-    → n ≡ saturated (length (row_points (rows_of gs))) → k ≡ length (row_points form) → m ≡ saturated (n + k)
-    → m ≡ saturated (length (row_points (rows_of (gs ++ g ∷ []))))
-needed_points_more gs g form n m k same was count is =
-    is ∙ ap (λ (j : ℕ). saturated (n + j)) count
-    ∙ ap (λ (j : ℕ). saturated (j + length (row_points form))) was
-    ∙ reads_join (length (row_points (rows_of gs))) (length (row_points form))
-    ∙ ap saturated (sym (point_count_more gs g form same))
-
 -- ---- the arrays
 
 -- arrays that are filled are as long as they were
-filled_lengths : (start_rows : List BufferRow) (start_points : List BufferPoint) (gs : List Tree)
-    (in_rows : List BufferRow) (in_points : List BufferPoint) → IsFilled start_rows start_points gs in_rows in_points
+filled_lengths : {start_rows in_rows : List BufferRow} {start_points in_points : List BufferPoint} {gs : List Tree}
+    → IsFilled start_rows start_points gs in_rows in_points
     → (length in_rows ≡ length start_rows) × (length in_points ≡ length start_points)
-filled_lengths start_rows start_points gs in_rows in_points f = (
-  omega (
-    arith,
-    f.room,
-    ap (λ (xs : List BufferRow). length xs) f.rows_are,
-    length-append (array_rows gs) (drop (length (rows_of gs)) start_rows),
-    length-map (rows_of gs) row_in_c,
-    length-drop (length (rows_of gs)) start_rows,
-  ),
-  omega (
-    arith,
-    f.room,
-    ap (λ (xs : List BufferPoint). length xs) f.points_are,
-    length-append (array_points gs) (drop (length (row_points (rows_of gs))) start_points),
-    length-coordinates_of (row_points (rows_of gs)),
-    length-drop (length (row_points (rows_of gs))) start_points,
-  ),
+filled_lengths {start_rows = start_rows} {start_points = start_points} {gs = gs} f = (
+  laid_length (array_rows gs) start_rows (sym (length-map (rows_of gs) row_in_c)) f.rows_are f.room.0,
+  laid_length (array_points gs) start_points (sym (length-coordinates_of (row_points (rows_of gs)))) f.points_are
+      f.room.1,
 )
 
-pub within : (start_rows : List BufferRow) (start_points : List BufferPoint) (given later : List Tree)
-    (in_rows : List BufferRow) (in_points : List BufferPoint) (taken : Taken)
-    → HasTaken start_rows start_points given later in_rows in_points taken → IsWithin in_rows in_points taken
-within start_rows start_points given later in_rows in_points taken h =
-    let lengths = filled_lengths start_rows start_points given in_rows in_points h.filled in
+pub within : {start_rows in_rows : List BufferRow} {start_points in_points : List BufferPoint} {given later : List Tree}
+    {taken : Taken} → HasTaken start_rows start_points given later in_rows in_points taken
+    → IsWithin in_rows in_points taken
+within {given = given} h =
+    let lengths = filled_lengths h.filled in
     record {
       rows_fit = omega (arith, h.filled.room, h.rows_is, lengths);
       points_fit = omega (arith, h.filled.room, h.points_is, lengths);
-      few = omega (arith, h.done_is, h.rows_is, few_geometries given);
-    }
-
--- one more geometry is written after those before it
-filled_more : (start_rows : List BufferRow) (start_points : List BufferPoint) (given : List Tree) (g : Tree)
-    (form : List Row) (in_rows new_rows : List BufferRow) (in_points new_points : List BufferPoint) (r p : ℕ)
-    → IsFilled start_rows start_points given in_rows in_points → rows 0 g ≡ form
-    → r ≡ length (rows_of given) → p ≡ length (row_points (rows_of given))
-    → r + length form ≤ length in_rows → p + length (row_points form) ≤ length in_points
-    → new_rows ≡ take r in_rows ++ (rows_in_c form ++ drop (r + length form) in_rows)
-    → new_points ≡ take p in_points
-    ++ (coordinates_of (row_points form) ++ drop (p + length (row_points form)) in_points)
-    → IsFilled start_rows start_points (given ++ g ∷ []) new_rows new_points
-filled_more start_rows start_points given g form in_rows new_rows in_points new_points r p f same r_is p_is
-    rows_fit points_fit rows_new points_new =
-    let lengths = filled_lengths start_rows start_points given in_rows in_points f in
-    let count : length (rows_of (given ++ g ∷ [])) ≡ r + length form =
-    count_more given g form same ∙ ap (λ (n : ℕ). n + length form) (sym r_is) in
-    let point_count : length (row_points (rows_of (given ++ g ∷ []))) ≡ p + length (row_points form) =
-    point_count_more given g form same ∙ ap (λ (n : ℕ). n + length (row_points form)) (sym p_is) in
-    record {
-      rows_are = rows_new
-          ∙ laid_more start_rows (array_rows given) (rows_in_c form) in_rows r (length form)
-          (r_is ∙ sym (length-map (rows_of given) row_in_c)) (sym (length-map form row_in_c))
-          (f.rows_are ∙ ap (λ (n : ℕ). array_rows given ++ drop n start_rows) (sym r_is))
-          ∙ ap (λ (xs : List Row). (array_rows given ++ rows_in_c xs) ++ drop (r + length form) start_rows) (sym same)
-          ∙ ap (λ (xs : List BufferRow). xs ++ drop (r + length form) start_rows) (sym (array_rows-more given g))
-          ∙ ap (λ (n : ℕ). array_rows (given ++ g ∷ []) ++ drop n start_rows) (sym count);
-      points_are = points_new
-          ∙ laid_more start_points (array_points given) (coordinates_of (row_points form)) in_points p
-          (length (row_points form))
-          (p_is ∙ sym (length-coordinates_of (row_points (rows_of given))))
-          (sym (length-coordinates_of (row_points form)))
-          (f.points_are ∙ ap (λ (n : ℕ). array_points given ++ drop n start_points) (sym p_is))
-          ∙ ap (λ (xs : List Row). (array_points given ++ coordinates_of (row_points xs))
-          ++ drop (p + length (row_points form)) start_points) (sym same)
-          ∙ ap (λ (xs : List BufferPoint). xs ++ drop (p + length (row_points form)) start_points)
-          (sym (array_points-more given g))
-          ∙ ap (λ (n : ℕ). array_points (given ++ g ∷ []) ++ drop n start_points) (sym point_count);
-      room = (omega (arith, count, lengths), omega (arith, point_count, lengths));
+      few = omega (arith, h.fit.done_is, h.rows_is, few_geometries given);
     }
 
 -- ---- what was taken
 
 -- a geometry was read that has this many rows and points
 abbrev pub counted_with : Taken → ℕ → ℕ → Taken
-counted_with t n m = record {
-  done = t.done;
-  rows = t.rows;
-  points = t.points;
-  needed_rows = saturated (t.needed_rows + n);
-  needed_points = saturated (t.needed_points + m);
-  full = t.full;
-}
+counted_with t n m =
+    record t { needed_rows = saturated (t.needed_rows + n); needed_points = saturated (t.needed_points + m) }
 
--- one more geometry was counted, and not taken
-not_taken : (start_rows : List BufferRow) (start_points : List BufferPoint) (given later : List Tree)
-    (g : Tree) (form : List Row) (in_rows : List BufferRow) (in_points : List BufferPoint) (old new : Taken) (n m : ℕ)
-    → HasTaken start_rows start_points given later in_rows in_points old → rows 0 g ≡ form
-    → n ≡ length form → m ≡ length (row_points form)
-    → StopsBefore (LacksRoom start_rows start_points) given (later ++ g ∷ [])
-    → new ≡ record (counted_with old n m) { full = true }
-    → HasTaken start_rows start_points given (later ++ g ∷ []) in_rows in_points new
-not_taken start_rows start_points given later g form in_rows in_points old new n m h same n_is m_is stops is =
-    let joined : (given ++ later) ++ g ∷ [] ≡ given ++ (later ++ g ∷ []) = append_assoc given later (g ∷ []) in
-    record {
-      filled = h.filled;
-      stops = stops;
-      full_is = ap (λ (t : Taken). t.full) is ∙ sym (more_stay later g);
-      done_is = ap (λ (t : Taken). t.done) is ∙ h.done_is;
-      rows_is = ap (λ (t : Taken). t.rows) is ∙ h.rows_is;
-      points_is = ap (λ (t : Taken). t.points) is ∙ h.points_is;
-      needed_rows_is = needed_more (given ++ later) g form old.needed_rows new.needed_rows n same h.needed_rows_is n_is
-          (ap (λ (t : Taken). t.needed_rows) is)
-          ∙ ap (λ (gs : List Tree). saturated (length (rows_of gs))) joined;
-      needed_points_is = needed_points_more (given ++ later) g form old.needed_points new.needed_points m same
-          h.needed_points_is m_is (ap (λ (t : Taken). t.needed_points) is)
-          ∙ ap (λ (gs : List Tree). saturated (length (row_points (rows_of gs)))) joined;
-    }
+-- one more geometry was read
+module _ {start_rows in_rows : List BufferRow} {start_points in_points : List BufferPoint} {given later : List Tree}
+    {old : Taken} (h : HasTaken start_rows start_points given later in_rows in_points old) (g : Tree)
+    {form : List Row} (same : rows 0 g ≡ form) where
+  -- the rows and points that are needed
+  needed : (hs : List Tree) → hs ≡ (given ++ later) ++ g ∷ []
+      → (saturated (old.needed_rows + length form) ≡ saturated (length (rows_of hs)))
+      × (saturated (old.needed_points + length (row_points form)) ≡ saturated (length (row_points (rows_of hs))))
+  needed hs is =
+      let rows_are = count_more (given ++ later) g form same in
+      let points_are = point_count_more (given ++ later) g form same in
+      rw is (omega (arith, rows_are, h.needed_rows_is), omega (arith, points_are, h.needed_points_is))
 
--- one more geometry was counted, after others that were not taken
-pub passed : (start_rows : List BufferRow) (start_points : List BufferPoint) (given later : List Tree)
-    (g : Tree) (form : List Row) (in_rows : List BufferRow) (in_points : List BufferPoint) (old new : Taken) (n m : ℕ)
-    → HasTaken start_rows start_points given later in_rows in_points old → rows 0 g ≡ form
-    → n ≡ length form → m ≡ length (row_points form) → new ≡ counted_with old n m → new.full ≡ true
-    → TakesOne start_rows start_points given later g in_rows in_points new
-passed start_rows start_points given later g form in_rows in_points old new n m h same n_is m_is is full =
-    let was : old.full ≡ true = sym (ap (λ (t : Taken). t.full) is) ∙ full in
-    inr (not_taken start_rows start_points given later g form in_rows in_points old new n m h same n_is m_is
-    (stops_as_before (LacksRoom start_rows start_points) given later g (sym h.full_is ∙ was) h.stops)
-    (is ∙ ap (λ (b : Bool). record (counted_with old n m) { full = b }) was))
+  -- it was counted, and not taken
+  not_taken : (full : Bool) → Fit (LacksRoom start_rows start_points) given (later ++ g ∷ []) full old.done
+      → TakesOne start_rows start_points (given ++ later) g in_rows in_points
+      (record (counted_with old (length form) (length (row_points form))) { full = full })
+  not_taken full fit =
+      let all : given ++ (later ++ g ∷ []) ≡ (given ++ later) ++ g ∷ [] = sym (append_assoc given later (g ∷ [])) in
+      let counts = needed (given ++ (later ++ g ∷ [])) all in (
+        given,
+        later ++ g ∷ [],
+        all,
+        record {
+          filled = h.filled;
+          fit = fit;
+          rows_is = h.rows_is;
+          points_is = h.points_is;
+          needed_rows_is = counts.0;
+          needed_points_is = counts.1;
+        },
+      )
 
--- one more geometry was counted, and there is no room for it
-pub lacking : (start_rows : List BufferRow) (start_points : List BufferPoint) (given later : List Tree)
-    (g : Tree) (form : List Row) (in_rows : List BufferRow) (in_points : List BufferPoint) (old mid : Taken)
-    (n m row_room point_room : ℕ)
-    → HasTaken start_rows start_points given later in_rows in_points old → rows 0 g ≡ form
-    → n ≡ length form → m ≡ length (row_points form) → mid ≡ counted_with old n m → mid.full ≡ false
-    → row_room ≡ length in_rows - mid.rows → point_room ≡ length in_points - mid.points
-    → (row_room < n) ⊎ (point_room < m)
-    → TakesOne start_rows start_points given later g in_rows in_points (record mid { full = true })
-lacking start_rows start_points given later g form in_rows in_points old mid n m row_room point_room h same n_is
-    m_is is empty row_room_is point_room_is lacks =
-    let lengths = filled_lengths start_rows start_points given in_rows in_points h.filled in
-    let was : old.full ≡ false = sym (ap (λ (t : Taken). t.full) is) ∙ empty in
-    let rows_are : mid.rows ≡ length (rows_of given) = ap (λ (t : Taken). t.rows) is ∙ h.rows_is in
-    let points_are : mid.points ≡ length (row_points (rows_of given)) = ap (λ (t : Taken). t.points) is ∙ h.points_is in
-    let count = count_more given g form same in
-    let point_count = point_count_more given g form same in
-    let stops : StopsBefore (LacksRoom start_rows start_points) given (g ∷ []) = elim lacks [
-      | inl few ↦ inl (omega (arith, few, count, lengths, rows_are, n_is, row_room_is, h.filled.room))
-      | inr few ↦ inr (omega (arith, few, point_count, lengths, points_are, m_is, point_room_is, h.filled.room))
-    ] in
-    inr (not_taken start_rows start_points given later g form in_rows in_points old (record mid { full = true }) n m h
-    same n_is m_is
-    (stops_here (LacksRoom start_rows start_points) given later g (sym h.full_is ∙ was) stops)
-    (ap (λ (t : Taken). record t { full = true }) is))
+  -- others were not taken before
+  pub passed : old.full ≡ true → TakesOne start_rows start_points (given ++ later) g in_rows in_points
+      (counted_with old (length form) (length (row_points form)))
+  passed full = not_taken old.full (comes_after g h.fit full)
 
--- one more geometry was taken
-pub taken_one : (start_rows : List BufferRow) (start_points : List BufferPoint) (given later : List Tree)
-    (g : Tree) (form : List Row) (in_rows new_rows : List BufferRow) (in_points new_points : List BufferPoint)
-    (old mid new : Taken) (n m : ℕ)
-    → HasTaken start_rows start_points given later in_rows in_points old → rows 0 g ≡ form
-    → n ≡ length form → m ≡ length (row_points form) → mid ≡ counted_with old n m → mid.full ≡ false
-    → mid.rows + n ≤ length in_rows → mid.points + m ≤ length in_points
-    → new_rows ≡ take mid.rows in_rows ++ (rows_in_c form ++ drop (mid.rows + length form) in_rows)
-    → new_points ≡ take mid.points in_points
-    ++ (coordinates_of (row_points form) ++ drop (mid.points + length (row_points form)) in_points)
-    → new ≡ record mid { done = mid.done + 1; rows = mid.rows + n; points = mid.points + m }
-    → TakesOne start_rows start_points given later g new_rows new_points new
-taken_one start_rows start_points given later g form in_rows new_rows in_points new_points old mid new n m h same
-    n_is m_is is empty rows_fit points_fit rows_new points_new new_is =
-    let was : old.full ≡ false = sym (ap (λ (t : Taken). t.full) is) ∙ empty in
-    let none : later ≡ [] = no_more later (sym h.full_is ∙ was) in
-    let rows_are : mid.rows ≡ length (rows_of given) = ap (λ (t : Taken). t.rows) is ∙ h.rows_is in
-    let points_are : mid.points ≡ length (row_points (rows_of given)) = ap (λ (t : Taken). t.points) is ∙ h.points_is in
-    let joined : (given ++ later) ++ g ∷ [] ≡ (given ++ g ∷ []) ++ [] =
-    ap (λ (gs : List Tree). (given ++ gs) ++ g ∷ []) none
-    ∙ ap (λ (gs : List Tree). gs ++ g ∷ []) (append-nil given) ∙ sym (append-nil (given ++ g ∷ [])) in
-    inl (
-      none,
-      record {
-        filled = filled_more start_rows start_points given g form in_rows new_rows in_points new_points mid.rows
-            mid.points
-            h.filled same rows_are points_are (omega arith) (omega arith) rows_new points_new;
-        stops = tt;
-        full_is = ap (λ (t : Taken). t.full) new_is ∙ empty;
-        done_is = omega (
-          arith,
-          ap (λ (t : Taken). t.done) new_is,
-          ap (λ (t : Taken). t.done) is,
-          h.done_is,
-          length-append given (g ∷ []),
-        );
-        rows_is = omega (arith, ap (λ (t : Taken). t.rows) new_is, rows_are, n_is, count_more given g form same);
-        points_is = omega (
-          arith,
-          ap (λ (t : Taken). t.points) new_is,
-          points_are,
-          m_is,
-          point_count_more given g form same,
-        );
-        needed_rows_is = needed_more (given ++ later) g form old.needed_rows new.needed_rows n same
-            h.needed_rows_is n_is
-            (ap (λ (t : Taken). t.needed_rows) new_is ∙ ap (λ (t : Taken). t.needed_rows) is)
-            ∙ ap (λ (gs : List Tree). saturated (length (rows_of gs))) joined;
-        needed_points_is = needed_points_more (given ++ later) g form old.needed_points new.needed_points m same
-            h.needed_points_is m_is
-            (ap (λ (t : Taken). t.needed_points) new_is ∙ ap (λ (t : Taken). t.needed_points) is)
-            ∙ ap (λ (gs : List Tree). saturated (length (row_points (rows_of gs)))) joined;
-      },
-    )
+  -- there is no room for it
+  pub lacking : old.full ≡ false
+      → (length in_rows - old.rows < length form) ⊎ (length in_points - old.points < length (row_points form))
+      → TakesOne start_rows start_points (given ++ later) g in_rows in_points
+      (record (counted_with old (length form) (length (row_points form))) { full = true })
+  lacking empty lacks =
+      let lengths = filled_lengths h.filled in
+      let rows_are = count_more given g form same in
+      let points_are = point_count_more given g form same in
+      let lack : LacksRoom start_rows start_points (given ++ g ∷ []) = elim lacks [
+        | inl few ↦ inl (omega (arith, few, rows_are, lengths, h.rows_is, h.filled.room))
+        | inr few ↦ inr (omega (arith, few, points_are, lengths, h.points_is, h.filled.room))
+      ] in
+      not_taken true (has_none g h.fit empty lack)
+
+  -- it was taken
+  pub taken_one : {new_rows : List BufferRow} {new_points : List BufferPoint} → old.full ≡ false
+      → old.rows + length form ≤ length in_rows → old.points + length (row_points form) ≤ length in_points
+      → new_rows ≡ take old.rows in_rows ++ (rows_in_c form ++ drop (old.rows + length form) in_rows)
+      → new_points ≡ take old.points in_points
+      ++ (coordinates_of (row_points form) ++ drop (old.points + length (row_points form)) in_points)
+      → TakesOne start_rows start_points (given ++ later) g new_rows new_points
+      (record (counted_with old (length form) (length (row_points form))) {
+        done = old.done + 1;
+        rows = old.rows + length form;
+        points = old.points + length (row_points form);
+      })
+  taken_one empty rows_fit points_fit rows_new points_new =
+      let all = one_after given later g (no_more later (sym h.fit.full_is ∙ empty)) in
+      let counts = needed ((given ++ g ∷ []) ++ []) all in
+      let lengths = filled_lengths h.filled in
+      let rows_are = count_more given g form same in
+      let points_are = point_count_more given g form same in
+      let were : in_rows ≡ array_rows given ++ drop old.rows start_rows = rw h.rows_is h.filled.rows_are in
+      let points_were : in_points ≡ array_points given ++ drop old.points start_points =
+      rw h.points_is h.filled.points_are in (
+        given ++ g ∷ [],
+        [],
+        all,
+        record {
+          filled = record {
+            rows_are = laid_next start_rows (array_rows given) (rows_in_c form) (length form)
+                (h.rows_is ∙ sym (length-map (rows_of given) row_in_c))
+                (rows_are ∙ ap (λ (n : ℕ). n + length form) (sym h.rows_is)) were
+                (ap rows_in_c (rows_of-more given g form same) ∙ map-append row_in_c (rows_of given) form) rows_new;
+            points_are = laid_next start_points (array_points given) (coordinates_of (row_points form))
+                (length (row_points form))
+                (h.points_is ∙ sym (length-coordinates_of (row_points (rows_of given))))
+                (points_are ∙ ap (λ (n : ℕ). n + length (row_points form)) (sym h.points_is)) points_were
+                (ap coordinates_of (points_of-more given g form same)
+                ∙ coordinates_of-append (row_points (rows_of given)) (row_points form)) points_new;
+            room = (
+              omega (arith, rows_fit, rows_are, h.rows_is, lengths),
+              omega (arith, points_fit, points_are, h.points_is, lengths),
+            );
+          };
+          fit = has_room g h.fit empty;
+          rows_is = omega (arith, rows_are, h.rows_is);
+          points_is = omega (arith, points_are, h.points_is);
+          needed_rows_is = counts.0;
+          needed_points_is = counts.1;
+        },
+      )
 
 -- ==== Arrays are those of one list of geometries, or of none if a row or points are refused.
 
@@ -307,7 +205,7 @@ read_trees l gs [] valid one = (gs, valid, sym (append-nil (rows_of gs)))
 read_trees l gs (r ∷ rs) valid one = (
   gs ++ one.0 ∷ [],
   all_push (IsValid l) gs one.0 valid one.1,
-  rows_of-more gs one.0 ∙ ap (λ (xs : List Row). rows_of gs ++ xs) one.2,
+  rows_of-more gs one.0 (r ∷ rs) one.2,
 )
 
 -- arrays that begin with those that were read

@@ -46,7 +46,7 @@ abbrev pub StopsReading : Allowance → List BufferRow → List BufferPoint → 
     → List BufferPoint → Taken → BlobFault → Type 0
 StopsReading l start_rows start_points bytes in_rows in_points taken why =
     (given later : List Tree) × HasTaken start_rows start_points given later in_rows in_points taken
-    × EndsReading {A = ℕ} l bytes (given ++ later) (Err why)
+    × EndsReading {A = Unit {0}} l bytes (given ++ later) (Err why)
 
 -- the status, the reason and the place of a reading that ended like this, given whether there was
 -- too little room for a geometry: 4 without memory, 5 without room, 1 for a refusal, and 0

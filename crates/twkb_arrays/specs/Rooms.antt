@@ -1,5 +1,5 @@
 -- The geometries for which there was room, and those after them.
-use Rattle.std.specs.Prelude.{List, [], ◌∷◌, ◌++◌, Bool, true, false, ⊤}
+use Rattle.std.specs.Prelude.{◌≡◌, ℕ, List, [], ◌∷◌, ◌++◌, length, Bool, true, false, ⊤}
 use Rattle.twkb_tree.specs.Tree.{Tree}
 
 -- there is no room for the first of some more geometries, if there are more
@@ -11,3 +11,10 @@ StopsBefore lacks given (g ∷ later) = lacks (given ++ g ∷ [])
 abbrev pub are_more : List Tree → Bool
 are_more [] = false
 are_more (g ∷ later) = true
+
+-- There was room for the first geometries, of which this is the number, and not for the first of
+-- those after them, if there are some: this is whether there are.
+pub record Fit (lacks : List Tree → Type 0) (given later : List Tree) (full : Bool) (done : ℕ) : Type 0 where
+  pub stops : StopsBefore lacks given later
+  pub full_is : full ≡ are_more later
+  pub done_is : done ≡ length given

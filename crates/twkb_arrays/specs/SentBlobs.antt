@@ -1,9 +1,9 @@
 -- The blobs of geometries that were written into a slice.
-use Rattle.std.specs.Prelude.{◌≡◌, ℕ, ◌<◌, ◌≤◌, ◌⊎◌, List, [], ◌∷◌, ◌++◌, length, drop}
+use Rattle.std.specs.Prelude.{◌≡◌, ℕ, ◌<◌, ◌≤◌, List, [], ◌∷◌, ◌++◌, length, drop}
 use Rattle.twkb_tree.specs.Tree.{Tree, saturated}
-use Rattle.twkb_grammar.specs.Written.{canonical_stream}
+use Rattle.twkb_grammar.specs.Written.{canonical_blob, canonical_stream}
 use Rattle.twkb_grammar.specs.declared.style.Style.{Style}
-use Rattle.twkb_arrays.specs.Rooms.{StopsBefore, are_more}
+use Rattle.twkb_arrays.specs.Rooms.{Fit}
 use Rattle.twkb_arrays.specs.declared.sent_blobs.Sent.{Sent}
 
 -- the slice has no room for the stream of these geometries
@@ -19,9 +19,7 @@ pub record IsStreamIn (style : Style) (old : List ℕ) (gs : List Tree) (new : L
 -- counted, since there is no room for the first of these.
 pub record HasSent (style : Style) (old : List ℕ) (given later : List Tree) (new : List ℕ) (sent : Sent) : Type 0 where
   pub filled : IsStreamIn style old given new
-  pub stops : StopsBefore (LacksBytes style old) given later
-  pub full_is : sent.full ≡ are_more later
-  pub done_is : sent.done ≡ length given
+  pub fit : Fit (LacksBytes style old) given later sent.full sent.done
   pub bytes_is : sent.bytes ≡ length (canonical_stream style given)
   pub needed_is : sent.needed ≡ saturated (length (canonical_stream style (given ++ later)))
 
@@ -30,8 +28,13 @@ pub record IsSentWithin (in_output : List ℕ) (sent : Sent) : Type 0 where
   pub bytes_fit : sent.bytes ≤ length in_output
   pub few : sent.done ≤ sent.bytes
 
--- One more blob was made, and was written, or counted among those that were not.
-abbrev pub SendsOne : Style → List ℕ → List Tree → List Tree → Tree → List ℕ → Sent → Type 0
-SendsOne style old given later g new sent =
-    ((later ≡ []) × HasSent style old (given ++ g ∷ []) [] new sent)
-    ⊎ HasSent style old given (later ++ g ∷ []) new sent
+-- One more blob was made after others, and all of them were written or counted.
+abbrev pub SendsOne : Style → List ℕ → List Tree → Tree → List ℕ → Sent → Type 0
+SendsOne style old gs g new sent = (given later : List Tree) × (given ++ later ≡ gs ++ g ∷ [])
+    × HasSent style old given later new sent
+
+-- if the blob is that of a geometry, it is the one more after the blobs made so far
+abbrev pub Sends : List ℕ → List ℕ → Sent → List ℕ → Sent → Type 0
+Sends blob old before new after = (style : Style) (start : List ℕ) (given later : List Tree) (g : Tree)
+    → HasSent style start given later old before → blob ≡ canonical_blob style g
+    → SendsOne style start (given ++ later) g new after

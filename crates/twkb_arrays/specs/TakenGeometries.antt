@@ -1,9 +1,9 @@
 -- The geometries that were taken into two arrays.
-use Rattle.std.specs.Prelude.{◌≡◌, ◌≤◌, ◌⊎◌, List, [], ◌∷◌, ◌++◌, length, drop}
+use Rattle.std.specs.Prelude.{◌≡◌, ◌≤◌, List, [], ◌∷◌, ◌++◌, length, drop}
 use Rattle.twkb_tree.specs.Tree.{Tree, saturated}
 use Rattle.twkb_tree.specs.Rows.{rows_of, row_points}
 use Rattle.twkb_buffer.specs.declared.point.BufferPoint.{BufferPoint}
-use Rattle.twkb_arrays.specs.Rooms.{StopsBefore, are_more}
+use Rattle.twkb_arrays.specs.Rooms.{Fit}
 use Rattle.twkb_arrays.specs.Rows.{HasRoom, LacksRoom, array_points, array_rows}
 use Rattle.twkb_arrays.specs.declared.row.BufferRow.{BufferRow}
 use Rattle.twkb_arrays.specs.declared.taken_geometries.Taken.{Taken}
@@ -22,9 +22,7 @@ pub record HasTaken (old_rows : List BufferRow) (old_points : List BufferPoint)
     (given later : List Tree) (new_rows : List BufferRow) (new_points : List BufferPoint)
     (taken : Taken) : Type 0 where
   pub filled : IsFilled old_rows old_points given new_rows new_points
-  pub stops : StopsBefore (LacksRoom old_rows old_points) given later
-  pub full_is : taken.full ≡ are_more later
-  pub done_is : taken.done ≡ length given
+  pub fit : Fit (LacksRoom old_rows old_points) given later taken.full taken.done
   pub rows_is : taken.rows ≡ length (rows_of given)
   pub points_is : taken.points ≡ length (row_points (rows_of given))
   pub needed_rows_is : taken.needed_rows ≡ saturated (length (rows_of (given ++ later)))
@@ -36,9 +34,8 @@ pub record IsWithin (in_rows : List BufferRow) (in_points : List BufferPoint) (t
   pub points_fit : taken.points ≤ length in_points
   pub few : taken.done ≤ taken.rows
 
--- One more geometry was read, and was taken, or counted among those that were not.
-abbrev pub TakesOne : List BufferRow → List BufferPoint → List Tree → List Tree → Tree
-    → List BufferRow → List BufferPoint → Taken → Type 0
-TakesOne old_rows old_points given later g new_rows new_points taken =
-    ((later ≡ []) × HasTaken old_rows old_points (given ++ g ∷ []) [] new_rows new_points taken)
-    ⊎ HasTaken old_rows old_points given (later ++ g ∷ []) new_rows new_points taken
+-- One more geometry was read after others, and all of them were taken or counted.
+abbrev pub TakesOne : List BufferRow → List BufferPoint → List Tree → Tree → List BufferRow
+    → List BufferPoint → Taken → Type 0
+TakesOne old_rows old_points gs g new_rows new_points taken = (given later : List Tree)
+    × (given ++ later ≡ gs ++ g ∷ []) × HasTaken old_rows old_points given later new_rows new_points taken

@@ -1,5 +1,5 @@
 -- The effect of a call that writes arrays as a stream.
-use Rattle.std.specs.Prelude.{◌≡◌, ℕ, ◌<◌, List, [], ◌∷◌, ◌++◌, length, Bool, ◌⊎◌, Result, Ok, Err, ⊤, if◌then◌else◌}
+use Rattle.std.specs.Prelude.{◌≡◌, ℕ, ◌<◌, List, [], ◌∷◌, ◌++◌, length, Bool, ◌⊎◌, Result, Ok, Err, if◌then◌else◌}
 use Rattle.twkb_tree.specs.Tree.{Tree, saturated}
 use Rattle.twkb_tree.specs.Limits.{Allowance}
 use Rattle.twkb_tree.specs.Rows.{Row, rows_of, row_points}
@@ -17,6 +17,7 @@ use Rattle.twkb_arrays.specs.Rows.{array_points, array_rows, rows_in_c}
 use Rattle.twkb_arrays.specs.SentBlobs.{HasSent, IsStreamIn, LacksBytes}
 use Rattle.twkb_arrays.specs.Status.{unless_full}
 use Rattle.twkb_arrays.specs.declared.row.BufferRow.{BufferRow}
+use Rattle.twkb_arrays.specs.declared.sent_blobs.Sent.{Sent}
 use Rattle.twkb_arrays.specs.declared.written_arrays.Writer.{Writer}
 use Rattle.twkb_arrays.specs.declared.written_arrays.RefusedAt.{RefusedAt}
 
@@ -104,27 +105,19 @@ pub record IsWriting (l : Allowance) (style : Style) (start : List ℕ) (in_rows
   pub read : AreRead l (given ++ later) writer.open_geometry in_rows in_points
   pub sent : HasSent style start given later in_output writer.sent
 
--- why the next row, with the points ahead, is not read after these rows, the last of which are
--- those of the open geometry
-abbrev pub StopsRow : Allowance → List BufferRow → List Row → BufferRow → List BufferPoint → Stop ℕ → Type 0
-StopsRow l front_rows begun row ahead stop.Memory = ⊤
-StopsRow l front_rows begun row ahead (stop.Refused number) =
-    (row.depth ≡ 0 → begun ≡ []) × (begun ≡ [] → (row.depth ≡ 0) ⊎ (front_rows ≡ []))
-    × RefusedAfter l begun row ahead number
+-- whatever was written before, it is still so
+abbrev pub StaysWriting : Style → List ℕ → Writer → List ℕ → Writer → Type 0
+StaysWriting style before old after new =
+    (l : Allowance) (start : List ℕ) (in_rows : List BufferRow) (in_points : List BufferPoint)
+    → IsWriting l style start in_rows in_points before old → IsWriting l style start in_rows in_points after new
 
--- The first of the rows ahead is not read after these arrays.
-pub record StopsAtRow (l : Allowance) (style : Style) (start : List ℕ) (in_rows : List BufferRow)
-    (in_points : List BufferPoint) (rows_ahead : List BufferRow) (ahead : List BufferPoint) (in_output : List ℕ)
-    (writer : Writer) (why : Stop ℕ) : Type 0 where
-  pub given : List Tree
-  pub later : List Tree
-  pub begun : List Row
-  pub row : BufferRow
-  pub more : List BufferRow
-  pub rows_are : rows_ahead ≡ row ∷ more
-  pub read : AreRead l (given ++ later) begun in_rows in_points
-  pub sent : HasSent style start given later in_output writer.sent
-  pub stops : StopsRow l in_rows begun row ahead why
+-- whatever was read before, these rows and points were read after it
+abbrev pub ReadsMore : Allowance → Style → List BufferRow → List BufferPoint → List ℕ → Writer → List ℕ → Writer
+    → Type 0
+ReadsMore l style rows points before old after new =
+    (start : List ℕ) (in_rows : List BufferRow) (in_points : List BufferPoint)
+    → IsWriting l style start in_rows in_points before old
+    → IsWriting l style start (in_rows ++ rows) (in_points ++ points) after new
 
 -- why arrays are not written past the row at a place, given the points from its first one on
 abbrev pub stopped_at : ℕ → List BufferPoint → Stop ℕ → Stop RefusedAt
@@ -133,11 +126,11 @@ stopped_at place ahead (stop.Refused number) =
     stop.Refused (record { place = place; number = number; index = index_outside number ahead })
 
 -- The writing of arrays stopped after complete geometries of which the first were written.
-abbrev pub StopsWriting : Allowance → Style → List ℕ → List BufferRow → List BufferPoint → List ℕ → Writer
+abbrev pub StopsWriting : Allowance → Style → List ℕ → List BufferRow → List BufferPoint → List ℕ → Sent
     → Stop RefusedAt → Type 0
-StopsWriting l style start in_rows in_points in_output writer why =
-    (given later : List Tree) × HasSent style start given later in_output writer.sent
-    × EndsWriting {A = ℕ} l (given ++ later) in_rows in_points (Err why)
+StopsWriting l style start in_rows in_points in_output sent why =
+    (given later : List Tree) × HasSent style start given later in_output sent
+    × EndsWriting {A = Unit {0}} l (given ++ later) in_rows in_points (Err why)
 
 -- ---- the report
 

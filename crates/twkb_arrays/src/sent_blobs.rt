@@ -1,9 +1,8 @@
 //! Blobs written into a slice one after another, each whole.
 ghost use Rattle.std.specs.Prelude.{◌≡◌, ◌+◌, ◌++◌, ◌<◌, ◌≤◌, List, ℕ, [], length, take, drop};
-ghost use Rattle.twkb_tree.specs.Tree.{Tree, saturated};
-ghost use Rattle.twkb_grammar.specs.Written.{canonical_blob};
+ghost use Rattle.twkb_tree.specs.Tree.{saturated};
 ghost use Rattle.twkb_grammar.specs.declared.style.Style.{Style};
-ghost use Rattle.twkb_arrays.specs.SentBlobs.{HasSent, IsSentWithin, SendsOne};
+ghost use Rattle.twkb_arrays.specs.SentBlobs.{HasSent, IsSentWithin, Sends};
 
 // What was written of the blobs made so far.
 #[derive(Clone, Copy)]
@@ -57,9 +56,7 @@ pub(crate) fn send_blob(blob: &[u8], output: &mut [u8], sent: &mut Sent)
     requires some { 0 < length blob.now }
     requires within { IsSentWithin output.old sent.old }
     ensures within { IsSentWithin output.new sent.new }
-    ensures sends { (style : Style) (start : List ℕ) (given later : List Tree) (g : Tree)
-        → HasSent style start given later output.old sent.old → blob.now ≡ canonical_blob style g
-        → SendsOne style start given later g output.new sent.new }
+    ensures sends { Sends blob.now output.old sent.old output.new sent.new }
 {
     sent.count(blob.len());
     if sent.full {

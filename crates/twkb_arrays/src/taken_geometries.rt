@@ -111,7 +111,7 @@ pub(crate) fn take_geometry(
     requires within { IsWithin row_array.old point_array.old taken.old }
     ensures { (start_rows : List InRow) (start_points : List InPoint) (given later : List Tree)
         (g : Tree) → HasTaken start_rows start_points given later row_array.old point_array.old
-        taken.old → rows 0 g ≡ form.now.flat → TakesOne start_rows start_points given later g
+        taken.old → rows 0 g ≡ form.now.flat → TakesOne start_rows start_points (given ++ later) g
         row_array.new point_array.new taken.new }
 {
     let row_count = form.flat.node_count() as usize;

@@ -9,8 +9,9 @@ ghost use Rattle.twkb_buffer.specs.declared.point.BufferPoint.{BufferPoint as In
 ghost use Rattle.twkb_arrays.specs.declared.row.BufferRow.{BufferRow as InRow};
 ghost use Rattle.twkb_arrays.specs.LoneRow.{BeginWithRoot};
 ghost use Rattle.twkb_arrays.specs.SentBlobs.{HasSent, IsSentWithin};
-ghost use Rattle.twkb_arrays.specs.WrittenArrays.{EndsWriting, IsWriting, ReportsAs, StopsAtRow, StopsWriting};
-ghost use Rattle.twkb_arrays.specs.WrittenArrays.{WritesArrays, stopped_at, write_index_of, write_outcome_of};
+ghost use Rattle.twkb_arrays.specs.WrittenArrays.{EndsWriting, IsWriting, ReadsMore, ReportsAs, StaysWriting};
+ghost use Rattle.twkb_arrays.specs.WrittenArrays.{StopsWriting, WritesArrays, stopped_at, write_index_of};
+ghost use Rattle.twkb_arrays.specs.WrittenArrays.{write_outcome_of};
 
 use crate::appended_row::push_judged;
 use crate::blob_room::BlobRoom;
@@ -68,10 +69,7 @@ impl Writer {
         requires { IsSentWithin output.old self.old.sent }
         ensures within { OnOk result (IsSentWithin output.new self.new.sent) }
         ensures closed { OnOk result (self.new.open_geometry ≡ []) }
-        ensures ended { OnOk result ((l : Allowance) (start : List ℕ) (in_rows : List InRow)
-            (in_points : List InPoint)
-            → IsWriting l style start in_rows in_points output.old self.old
-            → IsWriting l style start in_rows in_points output.new self.new) }
+        ensures ended { OnOk result (StaysWriting style output.old self.old output.new self.new) }
         ensures same_output { OnErr result (output.new ≡ output.old) }
         ensures same { OnErr result (self.new ≡ record self.old { room = self.new.room }) }
     {
@@ -99,10 +97,7 @@ impl Writer {
         ensures kept { OnOk result (self.new.open_geometry ≡ [] → (row.now.depth ≡ 0) ⊎ (self.old.open_geometry ≡ [])) }
         ensures valid { OnOk result ((l : Allowance) → AreValidRowsOfOne l self.old.open_geometry
             → AreValidRowsOfOne l self.new.open_geometry) }
-        ensures ended { OnOk result ((l : Allowance) (start : List ℕ) (in_rows : List InRow)
-            (in_points : List InPoint)
-            → IsWriting l style start in_rows in_points output.old self.old
-            → IsWriting l style start in_rows in_points output.new self.new) }
+        ensures ended { OnOk result (StaysWriting style output.old self.old output.new self.new) }
         ensures same_output { OnErr result (output.new ≡ output.old) }
         ensures same { OnErr result (self.new ≡ record self.old { room = self.new.room }) }
     {
@@ -130,17 +125,14 @@ impl Writer {
         requires valid { AreValidRowsOfOne limits.now self.old.open_geometry }
         ensures few { IfOk result (λ count. count ≤ length ahead.now) }
         ensures closed { IfOk result (λ count. self.new.open_geometry ≡ [] → BeginWithRoot (drop 1 rows.now)) }
-        ensures reads { IfOk result (λ count. (start : List ℕ) (in_rows : List InRow)
-            (in_points : List InPoint)
-            → IsWriting limits.now style start in_rows in_points output.old self.old
-            → IsWriting limits.now style start (in_rows ++ take 1 rows.now)
-            (in_points ++ take count ahead.now) output.new self.new) }
+        ensures reads { IfOk result (λ count. ReadsMore limits.now style (take 1 rows.now)
+            (take count ahead.now) output.old self.old output.new self.new) }
         ensures stops { IfErr result (λ why. (start : List ℕ) (in_rows : List InRow)
             (in_points : List InPoint)
             → IsWriting limits.now style start in_rows in_points output.old self.old
             → (self.old.open_geometry ≡ [] → (in_rows ≡ []) ⊎ BeginWithRoot rows.now)
-            → StopsAtRow limits.now style start in_rows in_points rows.now ahead.now output.new
-            self.new why) }
+            → StopsWriting limits.now style start (in_rows ++ rows.now) (in_points ++ ahead.now)
+            output.new self.new.sent (stopped_at (length in_rows) ahead.now why)) }
     {
         let Ok(()) = self.end_before(style, &rows[0], output) else {
             return Err(Stop::Memory);
@@ -173,7 +165,7 @@ impl Writer {
             (take used points.now) output.new self.new) }
         ensures last { IfOk result (λ used. self.new.open_geometry ≡ [] → rows.now ≡ []) }
         ensures stops { IfErr result (λ why. StopsWriting limits.now style output.old rows.now
-            points.now output.new self.new why) }
+            points.now output.new self.new.sent why) }
     {
         let mut used = 0;
         for at in 0..rows.len() {

@@ -1,17 +1,14 @@
-use Rattle.std.proofs.Common.{ℕ, ◌++◌, subst, take}
+use Rattle.std.proofs.Common.{◌++◌, subst, take}
 use Rattle.std.specs.Prelude.{Err}
-use Rattle.twkb_blob.specs.Sessions.{session_limits}
 use Rattle.twkb_tree.specs.Limits.{Allowance}
+use Rattle.twkb_blob.specs.Sessions.{session_limits}
 use Rattle.twkb_arrays.specs.FilledArrays.{EndsReading}
-use Rattle.twkb_arrays.proofs.ReadingLemmas.{ended, same_end}
+use Rattle.twkb_arrays.proofs.ReadingLemmas.{ended}
 use Rattle.twkb_arrays.proofs.TakingLemmas.{within}
 use Rattle.twkb_arrays.proofs.filled_arrays.read_all.Goals as goal
 
 pub read_next-requires-clause-within : goal.read_next-requires-clause-within
-read_next-requires-clause-within c =
-    let r = c.loop-used.invariant.0 in
-    within c.args.row_array.now c.args.point_array.now r.0 r.1 c.loop-used.row_array c.loop-used.point_array
-    c.loop-used.taken r.3
+read_next-requires-clause-within c = within c.loop-used.invariant.0.3
 
 pub returns-in-Err : goal.returns-in-Err
 returns-in-Err c =
@@ -19,9 +16,8 @@ returns-in-Err c =
       r.0,
       r.1,
       r.2,
-      same_end (session_limits c.args.session.now) c.args.blobs.now (r.0 ++ r.1) c.in-Err.fault
-          (subst (λ (l : Allowance). EndsReading {A = ℕ} l c.args.blobs.now (r.0 ++ r.1) (Err c.in-Err.fault))
-          c.loop-used.invariant.2 r.3),
+      subst (λ (l : Allowance). EndsReading {A = Unit {0}} l c.args.blobs.now (r.0 ++ r.1) (Err c.in-Err.fault))
+          c.loop-used.invariant.2 r.3,
     )
 
 pub returns : goal.returns

@@ -18,7 +18,7 @@ returns c =
       given = r.0;
       later = r.1;
       filled = r.2.filled;
-      stops = r.2.stops;
+      stops = r.2.fit.stops;
       answer = c.read_all-answer.result;
       ended = subst (λ (l : Allowance). EndsReading l c.args.blobs.now (r.0 ++ r.1) c.read_all-answer.result)
           c.new-session.ensures.limits r.3;

@@ -1,4 +1,4 @@
-use Rattle.std.proofs.Common.{◌∙◌, ◌++◌, List, ap, arith, length, refl, sym, take}
+use Rattle.std.proofs.Common.{◌∙◌, ◌++◌, List, ap, arith, length, sym, take}
 use Rattle.twkb_tree.specs.Rows.{Row}
 use Rattle.twkb_arrays.proofs.ArrayLemmas.{length-rest_of, rest_of}
 use Rattle.twkb_arrays.proofs.ReadingLemmas.{fed_all, fed_whole, stopped, took, went_on}
@@ -31,13 +31,11 @@ returns-in-Ok-default-true-clause-more c =
 pub returns-in-Ok-default-true-clause-reads : goal.returns-in-Ok-default-true-clause-reads
 returns-in-Ok-default-true-clause-reads c = λ start_rows start_points r.
     let bytes = take c.args.used c.args.blobs.now in
-    let piece = rest_of c.args.blobs.now c.args.used in
-    let fed = fed_whole bytes (r.0 ++ r.1) piece c.in-Ok-default-true.more c.in-Ok-default-true.field-0-1
-    c.feed_flat.new.self (c.in-Ok-default-true.ensures.fed bytes (r.0 ++ r.1) r.2)
+    let fed = fed_whole bytes (r.0 ++ r.1) (rest_of c.args.blobs.now c.args.used) c.in-Ok-default-true.more
+    c.in-Ok-default-true.field-0-1 c.feed_flat.new.self (c.in-Ok-default-true.ensures.fed bytes (r.0 ++ r.1) r.2)
     c.in-Ok-default-true.field-0-1-test in
-    took start_rows start_points c.args.blobs.now piece c.args.used c.in-Ok-default-true.more r.0 r.1 fed.0
-    c.take_geometry.new.row_array c.take_geometry.new.point_array c.feed_flat.new.self c.take_geometry.new.taken refl
-    fed.1.3 (c.take_geometry.ensures start_rows start_points r.0 r.1 fed.0 r.3 (sym (c.rows.ensures ∙ fed.2)))
+    took c.args.blobs.now c.args.used c.in-Ok-default-true.more (r.0 ++ r.1) fed.0 fed.1.3
+    (c.take_geometry.ensures start_rows start_points r.0 r.1 fed.0 r.3 (sym (c.rows.ensures ∙ fed.2)))
 
 pub returns-in-Ok-default-false-clause-more : goal.returns-in-Ok-default-false-clause-more
 returns-in-Ok-default-false-clause-more c =
@@ -55,20 +53,16 @@ returns-in-Ok-default-false-clause-more c =
 pub returns-in-Ok-default-false-clause-reads : goal.returns-in-Ok-default-false-clause-reads
 returns-in-Ok-default-false-clause-reads c = λ start_rows start_points r.
     let bytes = take c.args.used c.args.blobs.now in
-    let piece = rest_of c.args.blobs.now c.args.used in
-    let fed = fed_all bytes (r.0 ++ r.1) piece c.in-Ok-default-false.more c.in-Ok-default-false.field-0-1
-    c.feed_flat.new.self (c.in-Ok-default-false.ensures.fed bytes (r.0 ++ r.1) r.2)
+    let fed = fed_all bytes (r.0 ++ r.1) (rest_of c.args.blobs.now c.args.used) c.in-Ok-default-false.more
+    c.in-Ok-default-false.field-0-1 c.feed_flat.new.self (c.in-Ok-default-false.ensures.fed bytes (r.0 ++ r.1) r.2)
     c.in-Ok-default-false.field-0-1-test in
-    went_on start_rows start_points c.args.blobs.now piece c.args.used c.in-Ok-default-false.more r.0 r.1
-    c.args.row_array.now c.args.point_array.now c.feed_flat.new.self c.args.taken.now refl fed.0 fed.1 r.3
+    went_on c.args.blobs.now c.args.used c.in-Ok-default-false.more fed.0 fed.1 r.3
 
 pub returns-in-Err-clause-stops : goal.returns-in-Err-clause-stops
-returns-in-Err-clause-stops c = λ start_rows start_points r.
-    let bytes = take c.args.used c.args.blobs.now in (
-      r.0,
-      r.1,
-      r.3,
-      stopped _ c.args.blobs.now (rest_of c.args.blobs.now c.args.used) c.args.used (r.0 ++ r.1) c.args.session.now
-          c.feed_flat.new.self c.in-Err.fault refl r.2 refl c.feed_flat.ensures.limits
-          (c.in-Err.ensures.fed bytes (r.0 ++ r.1) r.2),
-    )
+returns-in-Err-clause-stops c = λ start_rows start_points r. (
+  r.0,
+  r.1,
+  r.3,
+  stopped c.args.blobs.now c.args.used c.feed_flat.new.self c.in-Err.fault r.2 c.feed_flat.ensures.limits
+      (c.in-Err.ensures.fed (take c.args.used c.args.blobs.now) (r.0 ++ r.1) r.2),
+)

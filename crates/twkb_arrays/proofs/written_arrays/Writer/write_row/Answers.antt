@@ -1,19 +1,19 @@
 use Rattle.std.proofs.Common.{ℕ, List, ap, arith, length, refl}
+use Rattle.twkb_arrays.specs.LoneRow.{IsMadeFirst}
 use Rattle.twkb_arrays.specs.declared.written_arrays.Writer.{Writer}
 use Rattle.twkb_arrays.proofs.WritingLemmas.{some_bytes, first_alone, first_is_root, first_made, first_written}
-use Rattle.twkb_arrays.proofs.WritingLemmas.{row_lacks_memory, row_not_read, row_read}
+use Rattle.twkb_arrays.proofs.WritingLemmas.{lacks_memory, row_not_read, row_read}
 use Rattle.twkb_arrays.proofs.written_arrays.Writer.write_row.Goals as goal
 
 pub returns-in_default-clause-stops : goal.returns-in_default-clause-stops
 returns-in_default-clause-stops c = λ start in_rows in_points w was.
-    row_lacks_memory c.args.limits.now c.args.style start in_rows in_points c.args.output.now
-    c.end_before.new.output c.args.self.now c.end_before.new.self c.args.rows.now c.args.ahead.now c.requires.some w
-    c.in_default.ensures.same_output (ap (λ (x : Writer). x.sent) c.in_default.ensures.same)
+    lacks_memory w c.args.rows.now c.args.ahead.now c.in_default.ensures.same_output
+    (ap (λ (x : Writer). x.sent) c.in_default.ensures.same)
 
 pub send_blob-requires-clause-some : goal.send_blob-requires-clause-some
 send_blob-requires-clause-some c =
-    let first = first_made c.args.limits.now c.args.style c.args.rows.now c.args.ahead.now _ c.in-Ok-Some.count _
-    c.blob.result.now c.in-Ok-Some.ensures c.in-Ok-Some.field-0-is c.blob.ensures in
+    let first : IsMadeFirst c.args.limits.now c.args.style c.args.rows.now c.args.ahead.now c.in-Ok-Some.count
+    c.blob.result.now = first_made c.in-Ok-Some.field-0-is c.blob.ensures c.in-Ok-Some.ensures in
     omega (
       arith,
       some_bytes c.args.style first.made.geometry,
@@ -28,14 +28,11 @@ push_judged-requires-clause-valid c = c.in-Ok.ensures.valid c.args.limits.now c.
 
 pub returns-in-Ok-Some-clause-reads : goal.returns-in-Ok-Some-clause-reads
 returns-in-Ok-Some-clause-reads c =
-    let l = c.args.limits.now in
-    let rows = c.args.rows.now in
-    let ahead = c.args.ahead.now in
-    first_written l c.args.style rows ahead c.in-Ok-Some.count c.args.output.now c.end_before.new.output
-    c.send_blob.new.output c.blob.result.now c.args.self.now c.end_before.new.self _ c.in-Ok.ensures.ended
-    (λ root. c.in-Ok.ensures.closed (first_is_root rows _ _ refl root))
-    (first_made l c.args.style rows ahead _ c.in-Ok-Some.count _ c.blob.result.now c.in-Ok-Some.ensures
-    c.in-Ok-Some.field-0-is c.blob.ensures) c.send_blob.ensures.sends refl
+    let first : IsMadeFirst c.args.limits.now c.args.style c.args.rows.now c.args.ahead.now c.in-Ok-Some.count
+    c.blob.result.now = first_made c.in-Ok-Some.field-0-is c.blob.ensures c.in-Ok-Some.ensures in
+    first_written first c.args.output.now c.end_before.new.output c.send_blob.new.output c.args.self.now
+    c.end_before.new.self _ c.in-Ok.ensures.ended
+    (λ root. c.in-Ok.ensures.closed (first_is_root c.args.rows.now _ _ refl root)) c.send_blob.ensures.sends refl
 
 pub returns-in-Ok-None-clause-reads : goal.returns-in-Ok-None-clause-reads
 returns-in-Ok-None-clause-reads c =
@@ -47,11 +44,10 @@ returns-in-Ok-None-clause-reads c =
 pub returns-in-Ok-None-clause-stops : goal.returns-in-Ok-None-clause-stops
 returns-in-Ok-None-clause-stops c =
     row_not_read c.args.limits.now c.args.style c.args.output.now c.end_before.new.output c.args.self.now
-    c.end_before.new.self _ _ _ c.args.rows.now c.args.ahead.now c.push_judged.result c.requires.some refl
+    c.end_before.new.self _ _ c.args.rows.now c.args.ahead.now c.push_judged.result c.requires.some refl
     c.in-Ok.ensures.ended refl c.in-Ok.ensures.closed c.in-Ok.ensures.kept c.push_judged.ensures.refused
 
 pub returns-in-Err-clause-stops : goal.returns-in-Err-clause-stops
 returns-in-Err-clause-stops c = λ start in_rows in_points w was.
-    row_lacks_memory c.args.limits.now c.args.style start in_rows in_points c.end_before.new.output
-    c.end_before.new.output c.end_before.new.self _ c.args.rows.now c.args.ahead.now c.requires.some
-    (c.in-Ok.ensures.ended c.args.limits.now start in_rows in_points w) refl refl
+    lacks_memory (c.in-Ok.ensures.ended c.args.limits.now start in_rows in_points w) c.args.rows.now
+    c.args.ahead.now refl refl
