@@ -3,5 +3,5 @@ use Rattle.twkb_polyline.proofs.DecodeLemmas.{one_point}
 use Rattle.twkb_polyline.proofs.decoded_points.decode_one.Goals as goal
 
 pub returns-in-Some-clause-point : goal.returns-in-Some-clause-point
-returns-in-Some-clause-point c = one_point c.args.text.now c.in-Some.point _ c.in-Some.ensures.read
+returns-in-Some-clause-point c = one_point c.in-Some.ensures.read
     c.in-Some.ensures.in_range (omega arith)

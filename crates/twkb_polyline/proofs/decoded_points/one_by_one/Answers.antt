@@ -13,5 +13,5 @@ returns-in_default-clause-no_other c =
     one_refused c.args.text.now c.in_default.field-0 some (rw c.origin-cursor.ensures at c.in_default.ensures.refused)
 
 pub returns-then-end-text-clause-no_other : goal.returns-then-end-text-clause-no_other
-returns-then-end-text-clause-no_other c = one_with_more c.args.text.now _ _
+returns-then-end-text-clause-no_other c = one_with_more
     (rw c.origin-cursor.ensures at c.in-Ok.ensures.read) c.in-Ok.ensures.in_range c.if-end-text.true

@@ -1,13 +1,12 @@
-use Rattle.std.proofs.Common.{◌∙◌, ◌-◌, ◌<◌, ◌^◌, arith, rules, length, drop}
+use Rattle.std.proofs.Common.{◌∙◌, ◌<◌, ◌^◌, arith, rules, length, drop}
 use Rattle.std.proofs.lemmas.Result.{err_from_is_err_and}
 use Rattle.twkb_num.proofs.BlockLemmas.{ends_after, no_ends}
-use Rattle.twkb_polyline.proofs.DecodeLemmas.{put_fewer, put_more, put_none, rest_end, short_on}
+use Rattle.twkb_polyline.proofs.DecodeLemmas.{points_end, put_fewer, put_none, put_on, rest_read, short_on}
 use Rattle.twkb_polyline.proofs.decoded_points.read_eights.Goals as goal
 
 pub loop-left-init : goal.loop-left-init
 loop-left-init g c = record {
-  put = put_none c.args.text.now c.args.start (c.args.room - c.args.room) c.args.cursor.now
-      (g.L.PointTail.held c.args.points.now);
+  put = put_none;
   fits = omega arith;
   within = c.requires;
   ends = no_ends 63 32 (drop c.args.start c.args.text.now) (omega arith);
@@ -15,16 +14,13 @@ loop-left-init g c = record {
 
 pub returns-in_err-put_all-clause-refused : goal.returns-in_err-put_all-clause-refused
 returns-in_err-put_all-clause-refused g c =
-    let eight = c.in-Some.eight in
-    let count = c.in-Some.ensures.count in
-    let fits = c.loop-left.invariant.fits in
-    let steps = rw c.place.ensures at c.in-Some.ensures.points in
+    let eight = c.in-Some.ensures in
+    let inv = c.loop-left.invariant in
+    let read = rest_read c.in-Some.eight.points _ _ _ _ _ inv.within (rw c.place.ensures at eight.points)
+    (rw c.place.ensures at eight.last) in
     let p = err_from_is_err_and c.from_residual.result c.from_residual.ensures.1 in
-    rw p.1 (short_on c.args.text.now c.args.start (c.args.room - c.loop-left.left) c.args.room
-    c.loop-left.at eight.used c.args.cursor.now c.loop-left.cursor eight.points
-    (g.L.PointTail.held c.args.points.now) (g.L.PointTail.held c.loop-left.points)
-    c.loop-left.invariant.put c.loop-left.invariant.within steps (omega (arith, count))
-    (omega (arith, count, fits, c.loop-left-test.true)))
+    rw p.1 (short_on c.in-Some.eight.points _ _ inv.put read (omega (arith, eight.count))
+    (omega (arith, eight.count, inv.fits, inv.put.few, c.loop-left-test.true)))
 
 pub returns-in_err-put_all-clause-grown : goal.returns-in_err-put_all-clause-grown
 returns-in_err-put_all-clause-grown g c = (
@@ -34,49 +30,35 @@ returns-in_err-put_all-clause-grown g c = (
 
 pub overflow_add-at : goal.overflow_add-at
 overflow_add-at g c =
-    let eight = c.in-Some.eight in
-    let end = rest_end c.args.text.now c.loop-left.at eight.used c.place.result eight.last eight.points
-    c.loop-left.invariant.within c.in-Some.ensures.points c.in-Some.ensures.last in
+    let eight = c.in-Some.ensures in
+    let inv = c.loop-left.invariant in
+    let end = points_end c.in-Some.eight.points _ _ _ _ _ inv.within
+    (rest_read c.in-Some.eight.points _ _ _ _ _ inv.within eight.points eight.last) in
     let few : length c.args.text.now < 2 ^ 64 = search rules in
     record { fits = omega arith }
 
 pub loop-left-preserved : goal.loop-left-preserved
 loop-left-preserved g c =
-    let eight = c.in-Some.eight in
-    let count = c.in-Some.ensures.count in
-    let fits = c.loop-left.invariant.fits in
-    let steps = rw c.place.ensures at c.in-Some.ensures.points in
-    let last = rw c.place.ensures at c.in-Some.ensures.last in
-    let put = put_more c.args.text.now c.args.start (c.args.room - c.loop-left.left)
-    (c.args.room - (c.loop-left.left - 8)) c.loop-left.at eight.used c.args.cursor.now
-    c.loop-left.cursor eight.last eight.points
-    (g.L.PointTail.held c.args.points.now) (g.L.PointTail.held c.loop-left.points) _
-    c.loop-left.invariant.put c.loop-left.invariant.within steps last
-    (omega (arith, count, fits, c.loop-left-test.true)) c.in_ok-put_all.ensures.appended in
+    let eight = c.in-Some.ensures in
+    let inv = c.loop-left.invariant in
+    let read = rest_read c.in-Some.eight.points _ _ _ _ _ inv.within (rw c.place.ensures at eight.points)
+    (rw c.place.ensures at eight.last) in
     rw c.go.ensures (record {
-      put = put;
-      fits = omega (arith, fits);
-      within = rest_end c.args.text.now c.loop-left.at eight.used c.loop-left.cursor eight.last eight.points
-          c.loop-left.invariant.within steps last;
-      ends = ends_after 63 32 c.args.text.now eight.ends c.loop-left.at eight.used c.in-Some.ensures.rest;
+      put = put_on c.in-Some.eight.points inv.put read
+          (omega (arith, eight.count, inv.fits, inv.put.few, c.loop-left-test.true)) c.in_ok-put_all.ensures.appended;
+      fits = omega (arith, inv.fits);
+      within = points_end c.in-Some.eight.points _ _ _ _ _ inv.within read;
+      ends = ends_after 63 32 c.args.text.now c.in-Some.eight.ends c.loop-left.at c.in-Some.eight.used eight.rest;
     })
 
 pub returns-in_default-clause-read : goal.returns-in_default-clause-read
-returns-in_default-clause-read g c =
-    put_fewer c.args.text.now c.args.start (c.args.room - c.loop-left.left) c.args.room
-    c.loop-left.at c.args.cursor.now c.loop-left.cursor (g.L.PointTail.held c.args.points.now)
-    (g.L.PointTail.held c.loop-left.points)
-    c.loop-left.invariant.put (omega arith)
+returns-in_default-clause-read g c = put_fewer c.loop-left.invariant.put (omega arith)
 
 pub returns-in_default-clause-grown : goal.returns-in_default-clause-grown
 returns-in_default-clause-grown g c = (c.loop-left.invariant.put.ps, c.loop-left.invariant.put.appended)
 
 pub returns-after-loop-left-clause-read : goal.returns-after-loop-left-clause-read
-returns-after-loop-left-clause-read g c =
-    put_fewer c.args.text.now c.args.start (c.args.room - c.loop-left.left) c.args.room
-    c.loop-left.at c.args.cursor.now c.loop-left.cursor (g.L.PointTail.held c.args.points.now)
-    (g.L.PointTail.held c.loop-left.points)
-    c.loop-left.invariant.put (omega arith)
+returns-after-loop-left-clause-read g c = put_fewer c.loop-left.invariant.put (omega arith)
 
 pub returns-after-loop-left-clause-grown : goal.returns-after-loop-left-clause-grown
 returns-after-loop-left-clause-grown g c = (c.loop-left.invariant.put.ps, c.loop-left.invariant.put.appended)
