@@ -14,7 +14,7 @@ use Rattle.twkb_polyline.specs.declared.fault.PolyReason.TheVariants.{Half, Rang
 use Rattle.twkb_polyline.specs.declared.fault.PolyReason.{PolyReason}
 use Rattle.twkb_polyline.specs.declared.fault.PolyFault.{PolyFault}
 use Rattle.twkb_polyline.specs.declared.fault.PolyFault.TheVariants.{Memory, At}
-use Rattle.twkb_polyline.proofs.FaultLemmas.{behind_none, number_text_length, regroup, text_fault_none}
+use Rattle.twkb_polyline.proofs.FaultLemmas.{after_latitude, behind_none, leaves_range, number_text_length, regroup, text_fault_none}
 
 -- ==== A point in a text: its two numbers, or its fault.
 
@@ -28,12 +28,12 @@ pub back : (a b d : ℤ) → a ≡ b +ℤ d → a -ℤ b ≡ d
 back a b d e = omega (arith, ints)
 
 -- a latitude and a longitude make a point
-pub point_read : (text : List ℕ) (start middle end : ℕ) (dx dy : ℤ) (p q : Point)
-    → IsNumberAt text start dy middle → IsNumberAt text middle dx end → q.x ≡ p.x +ℤ dx
-    → q.y ≡ p.y +ℤ dy → IsPointAt text start p q end
-point_read text start middle end dx dy p q latitude longitude ex ey = record {
-  split = rw (back q.x p.x dx ex, back q.y p.y dy ey) (latitude.number.split
-      ∙ ap (λ t. number_text dy ++ t) longitude.number.split);
+pub point_read : {text : List ℕ} {start middle end : ℕ} {dx dy : ℤ} {p q : Point}
+    → IsNumberAt text start dy middle → IsNumberAt text middle dx end → q ≡ moved_by p dx dy
+    → IsPointAt text start p q end
+point_read {dx = dx} {dy = dy} {p = p} {q = q} latitude longitude moved = record {
+  split = rw (back q.x p.x dx (ap (λ (s : Point). s.x) moved), back q.y p.y dy (ap (λ (s : Point). s.y) moved))
+      (latitude.number.split ∙ ap (λ t. number_text dy ++ t) longitude.number.split);
   further = omega (arith, latitude.some, longitude.some);
   within = longitude.within;
 }
@@ -43,23 +43,15 @@ pub text_left : (text : List ℕ) (at : ℕ) → at < length text → drop at te
 text_left text at h e = let none = ap length e in omega (arith, length-drop at text)
 
 -- a fault of the longitude is a fault of the point
-pub after_latitude : (text : List ℕ) (start middle : ℕ) (p : Point) (dy : ℤ) (e : PolyFault)
+pub refused_after : {text : List ℕ} {start middle : ℕ} {dy : ℤ} (p : Point) (e : PolyFault)
     → IsNumberAt text start dy middle → IsCoordinate (p.y +ℤ dy)
     → IsRefusedFrom middle (IsLongitudeFault p.x (drop middle text)) e
     → IsRefusedFrom start (IsPointFault p (drop start text)) e
-after_latitude text start middle p dy Memory latitude inside f = absurd f
-after_latitude text start middle p dy (At offset reason) latitude inside f = (
+refused_after p Memory latitude inside f = absurd f
+refused_after {dy = dy} p (At offset reason) latitude inside f = (
   length (number_text dy) + f.0,
   omega (arith, latitude.further, f.1),
-  inr (record {
-    difference = dy;
-    after = drop middle text;
-    latitude = latitude.number;
-    inside = inside;
-    within = f.0;
-    place = refl;
-    fault = f.2;
-  }),
+  after_latitude p dy f.0 reason latitude.number inside f.2,
 )
 
 -- a fault of its number is a fault of the longitude
@@ -70,26 +62,11 @@ longitude_number text middle x Memory more f = absurd f
 longitude_number text middle x (At offset reason) more f = (f.0, f.1, inr (text_left text middle more, inl f.2))
 
 -- a longitude that leaves its range is a fault
-pub longitude_range : (text : List ℕ) (middle end : ℕ) (x dx : ℤ) → middle < length text
+pub longitude_range : {text : List ℕ} {middle end : ℕ} (x dx : ℤ) → middle < length text
     → IsNumberAt text middle dx end → (IsCoordinate (x +ℤ dx) → ⊥)
     → IsRefusedFrom middle (IsLongitudeFault x (drop middle text)) (At middle Range)
-longitude_range text middle end x dx more longitude outside = (
-  0,
-  omega arith,
-  inr (
-    text_left text middle more,
-    inr (
-      record {
-        difference = dx;
-        after = drop end text;
-        number = longitude.number;
-        outside = outside;
-      },
-      refl,
-      refl,
-    ),
-  ),
-)
+longitude_range {text = text} {middle = middle} x dx more longitude outside =
+    (0, omega arith, inr (text_left text middle more, leaves_range x dx longitude.number outside))
 
 -- a fault of its number is a fault of the latitude
 pub latitude_number : (text : List ℕ) (start : ℕ) (p : Point) (e : PolyFault)
@@ -99,30 +76,17 @@ latitude_number text start p Memory f = absurd f
 latitude_number text start p (At offset reason) f = (f.0, f.1, inl (inl f.2))
 
 -- a latitude that leaves its range is a fault
-pub latitude_range : (text : List ℕ) (start middle : ℕ) (p : Point) (dy : ℤ)
+pub latitude_range : {text : List ℕ} {start middle : ℕ} (p : Point) (dy : ℤ)
     → IsNumberAt text start dy middle → (IsCoordinate (p.y +ℤ dy) → ⊥)
     → IsRefusedFrom start (IsPointFault p (drop start text)) (At start Range)
-latitude_range text start middle p dy latitude outside = (
-  0,
-  omega arith,
-  inl (inr (
-    record {
-      difference = dy;
-      after = drop middle text;
-      number = latitude.number;
-      outside = outside;
-    },
-    refl,
-    refl,
-  )),
-)
+latitude_range p dy latitude outside = (0, omega arith, inl (leaves_range p.y dy latitude.number outside))
 
 -- a latitude with no text after it is a fault
-pub no_longitude : (text : List ℕ) (start middle : ℕ) (p : Point) (dy : ℤ)
+pub no_longitude : {text : List ℕ} {start middle : ℕ} {dy : ℤ} (p : Point)
     → IsNumberAt text start dy middle → IsCoordinate (p.y +ℤ dy) → middle ≡ length text
     → IsRefusedFrom start (IsPointFault p (drop start text)) (At middle Half)
-no_longitude text start middle p dy latitude inside end =
-    after_latitude text start middle p dy (At middle Half) latitude inside
+no_longitude {text = text} {middle = middle} p latitude inside end =
+    refused_after p (At middle Half) latitude inside
     (0, omega arith, inl (drop_all middle text (omega arith), refl, refl))
 
 -- ---- a point whose numbers are read at once

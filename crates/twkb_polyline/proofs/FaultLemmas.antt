@@ -343,58 +343,44 @@ data PointOrFault (p : Point) (text : List ℕ) : Type 0 where
 taken : (a b : ℤ) → (a +ℤ b) -ℤ a ≡ b
 taken a b = omega (arith, ints)
 
+-- a difference that leaves the range of a coordinate is a fault of the coordinate
+pub leaves_range : (v d : ℤ) {rest after : List ℕ} → StartsWithNumber rest d after → (IsCoordinate (v +ℤ d) → ⊥)
+    → IsCoordinateFault v rest 0 Range
+leaves_range v d {after = after} number outside =
+    inr (record { difference = d; after = after; number = number; outside = outside }, refl, refl)
+
+-- a fault of the longitude after a latitude in range is a fault of the point
+pub after_latitude : (p : Point) (dy : ℤ) {rest after : List ℕ} (k : ℕ) (reason : PolyReason)
+    → StartsWithNumber rest dy after → IsCoordinate (p.y +ℤ dy) → IsLongitudeFault p.x after k reason
+    → IsPointFault p rest (length (number_text dy) + k) reason
+after_latitude p dy {after = after} k reason latitude inside fault = inr (record {
+  difference = dy;
+  after = after;
+  latitude = latitude;
+  inside = inside;
+  within = k;
+  place = refl;
+  fault = fault;
+})
+
+-- then there is no point
+no_longitude : (p : Point) (dy : ℤ) {text after : List ℕ} → StartsWithNumber text dy after → IsCoordinate (p.y +ℤ dy)
+    → (k : ℕ) (reason : PolyReason) → IsLongitudeFault p.x after k reason → PointOrFault p text
+no_longitude p dy latitude inside k reason fault =
+    no_point (length (number_text dy) + k) reason (after_latitude p dy k reason latitude inside fault)
+
 -- the longitude after a latitude, or its fault
 longitude_or_fault : (p : Point) (text : List ℕ) (dy : ℤ) (after : List ℕ)
     → StartsWithNumber text dy after → IsCoordinate (p.y +ℤ dy) → PointOrFault p text
-longitude_or_fault p text dy [] latitude inside =
-    no_point (length (number_text dy) + 0) Half (inr
-    (record {
-      difference = dy;
-      after = [];
-      latitude = latitude;
-      inside = inside;
-      within = 0;
-      place = refl;
-      fault = inl (refl, refl, refl);
-    }))
+longitude_or_fault p text dy [] latitude inside = no_longitude p dy latitude inside 0 Half (inl (refl, refl, refl))
 longitude_or_fault p text dy (c ∷ cs) latitude inside =
     let left : c ∷ cs ≡ [] → ⊥ = λ none. cc in
     elim (number_or_fault (c ∷ cs)) [
-      | is_fault k reason f ↦
-          no_point (length (number_text dy) + k) reason
-          (inr (record {
-            difference = dy;
-            after = c ∷ cs;
-            latitude = latitude;
-            inside = inside;
-            within = k;
-            place = refl;
-            fault = inr (left, inl f);
-          }))
+      | is_fault k reason f ↦ no_longitude p dy latitude inside k reason (inr (left, inl f))
       | is_number dx after longitude ↦
           elim (coordinate_or_not (p.x +ℤ dx)) [
             | inr outside ↦
-                no_point (length (number_text dy) + 0) Range (inr (record {
-                  difference = dy;
-                  after = c ∷ cs;
-                  latitude = latitude;
-                  inside = inside;
-                  within = 0;
-                  place = refl;
-                  fault = inr (
-                    left,
-                    inr (
-                      record {
-                        difference = dx;
-                        after = after;
-                        number = longitude;
-                        outside = outside;
-                      },
-                      refl,
-                      refl,
-                    ),
-                  );
-                }))
+                no_longitude p dy latitude inside 0 Range (inr (left, leaves_range p.x dx longitude outside))
             | inl within ↦
                 is_point (point_at (p.x +ℤ dx) (p.y +ℤ dy)) after
                 (rw (taken p.y dy, taken p.x dx) (latitude.split
@@ -408,17 +394,7 @@ point_or_fault p text =
       | is_fault k reason f ↦ no_point k reason (inl (inl f))
       | is_number dy after latitude ↦
           elim (coordinate_or_not (p.y +ℤ dy)) [
-            | inr outside ↦ no_point 0 Range
-                (inl (inr (
-                  record {
-                    difference = dy;
-                    after = after;
-                    number = latitude;
-                    outside = outside;
-                  },
-                  refl,
-                  refl,
-                )))
+            | inr outside ↦ no_point 0 Range (inl (leaves_range p.y dy latitude outside))
             | inl inside ↦ longitude_or_fault p text dy after latitude inside
           ]
     ]

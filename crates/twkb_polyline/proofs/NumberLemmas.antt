@@ -1,7 +1,7 @@
 -- The characters of one number: their codes and groups, where they end, and the answers of their reader.
 use Rattle.std.proofs.Common.{◌≡◌, ℕ, ◌+◌, ◌-◌, ◌<◌, true, false, List, [], ◌∷◌, ◌++◌, map, refl, ◌∙◌, ap, arith, zero}
 use Rattle.std.proofs.Common.{suc, ◌*◌, ◌/◌, ◌%◌, ◌≤◌, ◌^◌, length, ◌⊎◌, inl, inr, sym, lit≤, length-append, ℤ, drop}
-use Rattle.std.proofs.Common.{get_or, append_assoc, append-nil, lit<, subst, Bool}
+use Rattle.std.proofs.Common.{get_or, append_assoc, append-nil, lit<, subst}
 use Rattle.std.proofs.lemmas.Grind.{common_steps}
 use Rattle.std.specs.List.{AllByRecursion}
 use Rattle.std.specs.Int.Digits.{AllBelowBase}
@@ -169,9 +169,8 @@ pub record IsNext (rest us : List ℕ) (u : ℕ) (more : List ℕ) : Type 0 wher
   pub go_on : AllByRecursion GoesOn us
   pub within : length us < 13
 
-pub reaches : (rest us : List ℕ) (u : ℕ) (more : List ℕ) (k : ℕ) → IsNext rest us u more
-    → length us ≡ k → Reaches rest k u
-reaches rest us u more k next place = record {
+reaches : {rest us : List ℕ} {u : ℕ} {more : List ℕ} {k : ℕ} → IsNext rest us u more → length us ≡ k → Reaches rest k u
+reaches {us = us} {more = more} next place = record {
   before = us;
   after = more;
   split = next.split;
@@ -181,9 +180,30 @@ reaches rest us u more k next place = record {
 }
 
 -- a code that is no character is a fault
-pub bad_character : (rest us : List ℕ) (u : ℕ) (more : List ℕ) → IsNext rest us u more
+bad_code : {rest us : List ℕ} {u : ℕ} {more : List ℕ} → IsNext rest us u more → (IsCharacter u → ⊥)
+    → IsNumberFault rest (length us) BadChar
+bad_code {u = u} next unknown = (u, reaches next refl, unknown)
+
+-- a code without a group is such a code
+pub bad_character : {rest us : List ℕ} {u : ℕ} {more : List ℕ} → IsNext rest us u more
     → five_group u ≡ None → IsNumberFault rest (length us) BadChar
-bad_character rest us u more next none = (u, reaches rest us u more (length us) next refl, no_character u none)
+bad_character {u = u} next none = bad_code next (no_character u none)
+
+-- a thirteenth character that goes on, or whose group is 16 or more, is too much
+too_much : {rest us : List ℕ} {u : ℕ} {more : List ℕ} → IsNext rest us u more → length us ≡ 12
+    → GoesOn u ⊎ ((group : ℕ) × EndsIn u group × (16 ≤ group)) → IsTooLong rest
+too_much {u = u} next full much = record { character = u; reached = reaches next full; too_much = much }
+
+-- a last group of 0 after others pads the number
+padded_by : {rest us : List ℕ} {u : ℕ} {more : List ℕ} → IsNext rest us u more → 0 < length us
+    → EndsIn u 0 → IsPadded rest
+padded_by {us = us} {u = u} next some none = record {
+  place = length us;
+  some = some;
+  character = u;
+  reached = reaches next refl;
+  zero = none;
+}
 
 -- ---- the last character of a spelling
 
@@ -234,22 +254,17 @@ above_ends us u within above =
     ]
 
 -- a thirteenth character that goes on, or a number of 2 ^ 64 or above, is too long
-pub too_long : (rest us : List ℕ) (u : ℕ) (more : List ℕ) → IsNext rest us u more
+pub too_long : {rest us : List ℕ} {u : ℕ} {more : List ℕ} → IsNext rest us u more
     → IsAnswer five_unit five_group 32 13 us u step.TooLong → IsTooLong rest
-too_long rest us u more next (inl long) = record {
-  character = u;
-  reached = reaches rest us u more 12 next (omega (arith, long.0));
-  too_much = inl (goes_on u long.1.0 long.1.1);
-}
-too_long rest us u more next (inr above) =
-    let ends = above_ends us u next.within above in
-    record { character = u; reached = reaches rest us u more 12 next ends.0; too_much = inr ends.1 }
+too_long {u = u} next (inl long) = too_much next (omega (arith, long.0)) (inl (goes_on u long.1.0 long.1.1))
+too_long {us = us} {u = u} next (inr above) =
+    let ends = above_ends us u next.within above in too_much next ends.0 (inr ends.1)
 
 -- a spelling that is not the shortest is padded
-pub padded : (rest us : List ℕ) (u : ℕ) (more : List ℕ) (value : ℕ) → IsNext rest us u more
+pub padded : {rest us : List ℕ} {u : ℕ} {more : List ℕ} {value : ℕ} → IsNext rest us u more
     → IsSpelling five_unit 32 13 (us ++ u ∷ []) value
     → (us ++ u ∷ [] ≡ shortest five_unit 32 value → ⊥) → IsPadded rest
-padded rest us u more value next spelling longer =
+padded {us = us} {u = u} next spelling longer =
     let at_end = ends_at us u spelling.ds spelling.spelled spelling.below in
     let last = at_end.last in
     let below : AllBelowBase 32 (last.front ++ last.last ∷ []) = rw last.split at spelling.below in
@@ -264,65 +279,67 @@ padded rest us u more value next spelling longer =
       | inr low ↦ absurd
           (short (inr (nil_from_length last.front (omega (arith, at_end.count)))))
     ] in
-    record {
-      place = length us;
-      some = some;
-      character = u;
-      reached = reaches rest us u more (length us) next refl;
-      zero = (omega (arith, at_end.end, none), lit< tt);
-    }
+    padded_by next some (omega (arith, at_end.end, none), lit< tt)
 
 -- the shortest spelling is the number
-pub read_number : (rest us : List ℕ) (u : ℕ) (more : List ℕ) (n : ℤ) (value : ℕ)
-    → rest ≡ us ++ u ∷ more → us ++ u ∷ [] ≡ shortest five_unit 32 value → zigzag_of n ≡ value
+read_number : {rest us : List ℕ} {u : ℕ} {more : List ℕ} {n : ℤ} {value : ℕ} → IsNext rest us u more
+    → us ++ u ∷ [] ≡ shortest five_unit 32 value → zigzag_of n ≡ value
     → value < 2 ^ 64 → StartsWithNumber rest n more
-read_number rest us u more n value split spelled form fits = record {
-  split = split ∙ sym (append_assoc us (u ∷ []) more)
+read_number {us = us} {u = u} {more = more} next spelled form fits = record {
+  split = next.split ∙ sym (append_assoc us (u ∷ []) more)
       ∙ ap (λ t. t ++ more) (spelled ∙ ap (shortest five_unit 32) (sym form));
   fits = omega (arith, form);
 }
 
 -- ---- places in a text
 
--- the reader's state as a place in the text
-pub next_at : (text : List ℕ) (start at : ℕ) (us : List ℕ) → us ++ drop at text ≡ drop start text
-    → AllByRecursion GoesOn us → length us < 13 → at < length text
-    → IsNext (drop start text) us (get_or text at 0) (drop (at + 1) text)
-next_at text start at us held go within more =
-    record {
-      split = sym held ∙ ap (λ t. us ++ t) (drop_more text at 0 more);
-      go_on = go;
-      within = within;
-    }
+-- The characters from `start` to `at`, at most twelve, go on.
+pub record AreHeld (text : List ℕ) (start at : ℕ) (us : List ℕ) : Type 0 where
+  pub held : us ++ drop at text ≡ drop start text
+  pub place : start + length us ≡ at
+  pub go_on : AllByRecursion GoesOn us
+  pub within : length us < 13
 
--- the reader holds one more character
-pub held_more : (rest us : List ℕ) (u : ℕ) (more : List ℕ) → IsNext rest us u more → (us ++ u ∷ []) ++ more ≡ rest
-held_more rest us u more next = append_assoc us (u ∷ []) more ∙ sym next.split
+-- the next character comes after them
+pub next_at : {text : List ℕ} {start at : ℕ} {us : List ℕ} → AreHeld text start at us → at < length text
+    → IsNext (drop start text) us (get_or text at 0) (drop (at + 1) text)
+next_at {text = text} {at = at} {us = us} held more = record {
+  split = sym held.held ∙ ap (λ t. us ++ t) (drop_more text at 0 more);
+  go_on = held.go_on;
+  within = held.within;
+}
+
+-- the next character goes on, and is not the thirteenth
+pub held_more : {rest us : List ℕ} {u : ℕ} {more : List ℕ} → IsNext rest us u more → (us ++ u ∷ []) ++ more ≡ rest
+held_more {us = us} {u = u} {more = more} next = append_assoc us (u ∷ []) more ∙ sym next.split
 
 -- a number ends at this place
-pub number_at : (text : List ℕ) (start at : ℕ) (us : List ℕ) (n : ℤ) (value : ℕ)
-    → IsNext (drop start text) us (get_or text at 0) (drop (at + 1) text) → start + length us ≡ at
-    → at < length text
-    → us ++ get_or text at 0 ∷ [] ≡ shortest five_unit 32 value → zigzag_of n ≡ value
+pub number_at : {text : List ℕ} {start at : ℕ} {us : List ℕ} {n : ℤ} {value : ℕ} → AreHeld text start at us
+    → at < length text → us ++ get_or text at 0 ∷ [] ≡ shortest five_unit 32 value → zigzag_of n ≡ value
     → value < 2 ^ 64 → IsNumberAt text start n (at + 1)
-number_at text start at us n value next place more spelled form fits =
+number_at {text = text} {at = at} {us = us} {n = n} held more spelled form fits =
     let u = get_or text at 0 in
     let count : length us + 1 ≡ length (number_text n) = sym (length-append us (u ∷ []))
     ∙ ap length (spelled ∙ ap (shortest five_unit 32) (sym form)) in
     record {
-      number = read_number (drop start text) us u (drop (at + 1) text) n value next.split spelled form fits;
-      further = omega (arith, count);
-      some = omega arith;
+      number = read_number (next_at held more) spelled form fits;
+      further = omega (arith, count, held.place);
+      some = omega (arith, held.place);
       within = omega arith;
     }
 
 -- the text ends before the number does
-pub cut_short : (text : List ℕ) (start at : ℕ) (us : List ℕ) → us ++ drop at text ≡ drop start text
-    → AllByRecursion GoesOn us → length us < 13 → length text ≤ at
+pub cut_short : {text : List ℕ} {start at : ℕ} {us : List ℕ} → AreHeld text start at us → length text ≤ at
     → IsNumberFault (drop start text) 0 Cut
-cut_short text start at us held go within past =
-    let whole : us ≡ drop start text = sym (append-nil us) ∙ ap (λ t. us ++ t) (sym (drop_all at text past)) ∙ held in
-    (record { go_on = subst (AllByRecursion GoesOn) whole go; within = subst (λ l. length l < 13) whole within }, refl)
+cut_short {text = text} {start = start} {at = at} {us = us} held past =
+    let whole : us ≡ drop start text = sym (append-nil us) ∙ ap (λ t. us ++ t) (sym (drop_all at text past))
+    ∙ held.held in (
+      record {
+        go_on = subst (AllByRecursion GoesOn) whole held.go_on;
+        within = subst (λ l. length l < 13) whole held.within;
+      },
+      refl,
+    )
 
 -- ==== Each text begins with a number, or is refused as one.
 
@@ -358,9 +375,9 @@ too_long_numbers us c d go twelve ends = (
 
 -- characters that go on, and one that ends the number, are the number if it is neither padded nor
 -- too long
-ended : (rest us : List ℕ) (d : ℕ) (more : List ℕ) → IsNext rest us (d + 63) more → d < 32
+ended : {rest us : List ℕ} {more : List ℕ} (d : ℕ) → IsNext rest us (d + 63) more → d < 32
     → ((0 < d) ⊎ (groups_of us ≡ [])) → (length us ≡ 12 → d < 16) → NumberOrFault rest
-ended rest us d more next below above small =
+ended {us = us} {more = more} d next below above small =
     let front = groups_of us in
     let ds = front ++ d ∷ [] in
     let fronts = groups_below us next.go_on in
@@ -380,51 +397,32 @@ ended rest us d more next below above small =
     let spelled : us ++ (d + 63) ∷ [] ≡ shortest five_unit 32 (number_of 32 ds) =
     spells_groups us d next.go_on ∙ spelled_shortest front d all_below above in
     is_number (unzigzag_of (number_of 32 ds)) more
-    (read_number rest us (d + 63) more (unzigzag_of (number_of 32 ds)) (number_of 32 ds)
-    next.split spelled (zigzag_of-unzigzag_of (number_of 32 ds)) fits)
+    (read_number next spelled (zigzag_of-unzigzag_of (number_of 32 ds)) fits)
 
 -- the last group may be padding, which is a fault
-scan_end : (rest us : List ℕ) (d c : ℕ) (more : List ℕ) → IsNext rest us c more → c ≡ d + 63
-    → d < 32 → (length us ≡ 12 → d < 16) → NumberOrFault rest
-scan_end rest us d c more next e below small =
-    let last : IsNext rest us (d + 63) more = rw e at next in
+scan_end : {rest us : List ℕ} {more : List ℕ} (d : ℕ) → IsNext rest us (d + 63) more → d < 32
+    → (length us ≡ 12 → d < 16) → NumberOrFault rest
+scan_end {us = us} d next below small =
     elim (cases_lt 0 d) [
-      | inl high ↦ ended rest us d more last below (inl high) small
+      | inl high ↦ ended d next below (inl high) small
       | inr low ↦
           elim (cases_lt 0 (length us)) [
-            | inl some ↦ is_fault 0 Padded (
-              record {
-                place = length us;
-                some = some;
-                character = c;
-                reached = reaches rest us c more (length us) next refl;
-                zero = (omega arith, lit< tt);
-              },
-              refl,
-            )
-            | inr none ↦ ended rest us d more last below (inr
+            | inl some ↦ is_fault 0 Padded (padded_by next some (omega arith, lit< tt), refl)
+            | inr none ↦ ended d next below (inr
                 (nil_from_length (groups_of us) (omega (arith, length-groups_of us)))) small
           ]
     ]
 
 -- the last group may be too large, which is a fault
-scan_last : (rest us : List ℕ) (d c : ℕ) (more : List ℕ) → IsNext rest us c more → c ≡ d + 63
-    → d < 32 → NumberOrFault rest
-scan_last rest us d c more next e below =
+scan_last : {rest us : List ℕ} {more : List ℕ} (d : ℕ) → IsNext rest us (d + 63) more → d < 32 → NumberOrFault rest
+scan_last {us = us} d next below =
     elim (cases_lt (length us) 12) [
-      | inl few ↦ scan_end rest us d c more next e below (λ full. absurd (omega arith))
+      | inl few ↦ scan_end d next below (λ full. absurd (omega arith))
       | inr full ↦
           elim (cases_lt d 16) [
-            | inl small ↦ scan_end rest us d c more next e below (λ _. small)
-            | inr large ↦ is_fault 0 TooLong (
-              record {
-                character = c;
-                reached = reaches rest us c more 12 next
-                    (omega (arith, next.within));
-                too_much = inr (d, (e, below), large);
-              },
-              refl,
-            )
+            | inl small ↦ scan_end d next below (λ _. small)
+            | inr large ↦
+                is_fault 0 TooLong (too_much next (omega (arith, next.within)) (inr (d, (refl, below), large)), refl)
           ]
     ]
 
@@ -436,37 +434,22 @@ scan_from [] rest us split go within =
 scan_from (c ∷ left) rest us split go within =
     let next : IsNext rest us c left = record { split = split; go_on = go; within = within } in
     elim (cases_lt c 63) [
-      | inl low ↦ is_fault (length us) BadChar (
-        c,
-        reaches rest us c left (length us) next refl,
-        λ known. absurd (omega (arith, known.0)),
-      )
+      | inl low ↦ is_fault (length us) BadChar (bad_code next (λ known. absurd (omega (arith, known.0))))
       | inr least ↦
           elim (cases_lt 126 c) [
-            | inl high ↦ is_fault (length us) BadChar (
-              c,
-              reaches rest us c left (length us) next refl,
-              λ known.
-                  absurd (omega (arith, known.1)),
-            )
+            | inl high ↦ is_fault (length us) BadChar (bad_code next (λ known. absurd (omega (arith, known.1))))
             | inr most ↦
                 elim (cases_lt c 95) [
                   | inr goes ↦
                       elim (cases_lt (length us) 12) [
                         | inl few ↦ scan_from left rest (us ++ c ∷ [])
-                            (sym (held_more rest us c left next)) (GoesOn-push us c go (goes, most))
+                            (sym (held_more next)) (GoesOn-push us c go (goes, most))
                             (omega (arith, length-append us (c ∷ [])))
-                        | inr full ↦ is_fault 0 TooLong (
-                          record {
-                            character = c;
-                            reached = reaches rest us c left 12 next
-                                (omega arith);
-                            too_much = inl (goes, most);
-                          },
-                          refl,
-                        )
+                        | inr full ↦ is_fault 0 TooLong (too_much next (omega arith) (inl (goes, most)), refl)
                       ]
-                  | inl ends ↦ scan_last rest us (c - 63) c left next (omega arith) (omega arith)
+                  | inl ends ↦
+                      let last : c ≡ (c - 63) + 63 = omega arith in
+                      scan_last (c - 63) (subst (λ u. IsNext rest us u left) last next) (omega arith)
                 ]
           ]
     ]
@@ -661,14 +644,9 @@ number_stops rest n after number =
 
 -- ==== Numbers read one group at a time.
 
--- the group of a character read at a place
-pub group_at : (text : List ℕ) (at u d : ℕ) (more : Bool) → u ≡ get_or text at 0
-    → five_group u ≡ Some (d, more) → five_group (get_or text at 0) ≡ Some (d, more)
-group_at text at u d more e f = subst (λ c. five_group c ≡ Some (d, more)) e f
-
 -- before the first character nothing is read
-abbrev pub begun_none : (text : List ℕ) (start : ℕ) → start ≤ length text → IsBegun text start start 0
-begun_none text start h = record {
+abbrev begun_none : {text : List ℕ} {start : ℕ} → start ≤ length text → IsBegun text start start 0
+begun_none h = record {
   groups = [];
   split = refl;
   below = tt;
@@ -684,15 +662,16 @@ pub pushed : (gs : List ℕ) (value d : ℕ) → value ≡ number_of 32 gs
 pushed gs value d e = ap (λ n. n + d * 32 ^ length gs) e
     ∙ ap (λ n. number_of 32 gs + n) (mul_comm d (32 ^ length gs)) ∙ sym (number_of-push 32 gs d)
 
-module _ (text : List ℕ) (start at value d : ℕ) (begun : IsBegun text start at value) (more : at < length text) where
+module _ {text : List ℕ} {start at value : ℕ} (begun : IsBegun text start at value) where
   -- the value of the groups is below a power of 32
   value_below : value < 32 ^ length begun.groups
   value_below = rw begun.number (number_of-lt 32 begun.groups begun.below)
 
   -- one more character that goes on is read
-  abbrev pub begun_more : five_group (get_or text at 0) ≡ Some (d, true) → length begun.groups < 12
+  abbrev pub begun_more : {d : ℕ} → at < length text → five_group (get_or text at 0) ≡ Some (d, true)
+      → length begun.groups < 12
       → IsBegun text start (at + 1) (value + d * 32 ^ length begun.groups)
-  begun_more e room =
+  begun_more {d = d} more e room =
       let gs = begun.groups in
       let unit = unit_more (get_or text at 0) d e in
       let rest = drop (at + 1) text in
@@ -711,10 +690,10 @@ module _ (text : List ℕ) (start at value d : ℕ) (begun : IsBegun text start 
       }
 
   -- the last character ends the number
-  pub begun_ends : (n : ℤ) → five_group (get_or text at 0) ≡ Some (d, false)
+  pub begun_ends : {n : ℤ} {d : ℕ} → at < length text → five_group (get_or text at 0) ≡ Some (d, false)
       → ((0 < d) ⊎ (begun.groups ≡ [])) → zigzag_of n ≡ value + d * 32 ^ length begun.groups
       → value + d * 32 ^ length begun.groups < 2 ^ 64 → IsNumberAt text start n (at + 1)
-  begun_ends n e short form fits =
+  begun_ends {d = d} more e short form fits =
       let gs = begun.groups in
       let us = open_units five_unit gs in
       let unit = unit_last (get_or text at 0) d e in
@@ -724,62 +703,67 @@ module _ (text : List ℕ) (start at value d : ℕ) (begun : IsBegun text start 
       ∙ sym (units_of-push five_unit gs d)
       ∙ spelled_shortest gs d (AllBelowBase-push 32 gs d begun.below unit.1) short
       ∙ ap (shortest five_unit 32) (sym (pushed gs value d begun.number)) in
-      number_at text start at us n (value + d * 32 ^ length gs)
-      (next_at text start at us (sym begun.split) (open_goes_on gs begun.below) (omega (arith, begun.few)) more)
-      (omega (arith, begun.further)) more spelled form fits
+      let held : AreHeld text start at us = record {
+        held = sym begun.split;
+        place = omega (arith, begun.further);
+        go_on = open_goes_on gs begun.below;
+        within = omega (arith, begun.few);
+      } in
+      number_at held more spelled form fits
 
   -- ---- the code's sum for a group
 
-  pub more_added : d < 32 → length begun.groups < 12
+  pub more_added : (d : ℕ) → d < 32 → length begun.groups < 12
       → value + (d * 2 ^ (5 * length begun.groups)) % 2 ^ 64 ≡ value + d * 32 ^ length begun.groups
-  more_added h room = more_sum five_laws (length begun.groups) value d (omega arith) value_below h
+  more_added d h room = more_sum five_laws (length begun.groups) value d (omega arith) value_below h
 
-  pub more_within : d < 32 → length begun.groups < 12 → value + d * 32 ^ length begun.groups < 2 ^ 64
-  more_within h room = more_fits five_laws (length begun.groups) value d (omega arith) value_below h
+  pub more_within : (d : ℕ) → d < 32 → length begun.groups < 12 → value + d * 32 ^ length begun.groups < 2 ^ 64
+  more_within d h room = more_fits five_laws (length begun.groups) value d (omega arith) value_below h
 
-  pub last_added : d ≤ (2 ^ 64 - 1) / 2 ^ (5 * length begun.groups)
+  pub last_added : (d : ℕ) → d ≤ (2 ^ 64 - 1) / 2 ^ (5 * length begun.groups)
       → value + (d * 2 ^ (5 * length begun.groups)) % 2 ^ 64 ≡ value + d * 32 ^ length begun.groups
-  last_added h = last_sum five_laws (length begun.groups) value d (omega (arith, begun.few)) value_below h
+  last_added d h = last_sum five_laws (length begun.groups) value d (omega (arith, begun.few)) value_below h
 
-  pub last_within : d ≤ (2 ^ 64 - 1) / 2 ^ (5 * length begun.groups) → value + d * 32 ^ length begun.groups < 2 ^ 64
-  last_within h = last_fits five_laws (length begun.groups) value d (omega (arith, begun.few)) value_below h
+  pub last_within : (d : ℕ) → d ≤ (2 ^ 64 - 1) / 2 ^ (5 * length begun.groups)
+      → value + d * 32 ^ length begun.groups < 2 ^ 64
+  last_within d h = last_fits five_laws (length begun.groups) value d (omega (arith, begun.few)) value_below h
 
 -- ---- the first two characters
 
-module _ (text : List ℕ) (start first second : ℕ) where
-  -- a number of one character
-  pub one_number : (n : ℤ) → start < length text
-      → five_group (get_or text start 0) ≡ Some (first, false) → zigzag_of n ≡ first
-      → IsNumberAt text start n (start + 1)
-  one_number n more e form =
-      let unit = unit_last (get_or text start 0) first e in
-      begun_ends text start start 0 first (begun_none text start (omega arith)) more n e (inr refl)
-      (omega (arith, form)) (omega (arith, unit.1))
+-- a number of one character
+pub one_number : {text : List ℕ} {start : ℕ} {n : ℤ} {first : ℕ} → start < length text
+    → five_group (get_or text start 0) ≡ Some (first, false) → zigzag_of n ≡ first
+    → IsNumberAt text start n (start + 1)
+one_number {text = text} {start = start} {first = first} more e form =
+    let unit = unit_last (get_or text start 0) first e in
+    begun_ends (begun_none (omega arith)) more e (inr refl) (omega (arith, form)) (omega (arith, unit.1))
 
-  -- a number of two characters
-  pub two_number : (n : ℤ) → start + 1 < length text
-      → five_group (get_or text start 0) ≡ Some (first, true)
-      → five_group (get_or text (start + 1) 0) ≡ Some (second, false) → 0 < second
-      → zigzag_of n ≡ first + second * 32 % 2 ^ 64 → IsNumberAt text start n (start + 2)
-  two_number n more e f high form =
-      let a = unit_more (get_or text start 0) first e in
-      let b = unit_last (get_or text (start + 1) 0) second f in
-      let begun = begun_more text start start 0 first (begun_none text start (omega arith))
-      (omega arith) e (omega arith) in
-      let place : (start + 1) + 1 ≡ start + 2 = omega arith in
-      rw place at (begun_ends text start (start + 1) (0 + first * 32 ^ 0) second begun more n f
-      (inl high) (omega (arith, form, b.1)) (omega (arith, a.1, b.1)))
+-- the first character goes on
+abbrev one_begun : {text : List ℕ} {start first : ℕ} → start + 1 < length text
+    → five_group (get_or text start 0) ≡ Some (first, true) → IsBegun text start (start + 1) (0 + first * 32 ^ 0)
+one_begun more e = begun_more (begun_none (omega arith)) (omega arith) e (omega arith)
 
-  -- two characters that go on
-  pub two_begun : start + 1 < length text → five_group (get_or text start 0) ≡ Some (first, true)
-      → five_group (get_or text (start + 1) 0) ≡ Some (second, true)
-      → IsBegun text start (start + 2) (first + second * 32 % 2 ^ 64)
-  two_begun more e f =
-      let begun = begun_more text start start 0 first (begun_none text start (omega arith))
-      (omega arith) e (omega arith) in
-      let both = begun_more text start (start + 1) (0 + first * 32 ^ 0) second begun more f (omega arith) in
-      let place : (start + 1) + 1 ≡ start + 2 = omega arith in
-      let b = unit_more (get_or text (start + 1) 0) second f in
-      let value : (0 + first * 32 ^ 0) + second * 32 ^ 1 ≡ first + second * 32 % 2 ^ 64 = omega (arith, b.1) in
-      subst (λ v. IsBegun text start (start + 2) v) value
-      (subst (λ p. IsBegun text start p ((0 + first * 32 ^ 0) + second * 32 ^ 1)) place both)
+-- a number of two characters
+pub two_number : {text : List ℕ} {start : ℕ} {n : ℤ} {first second : ℕ} → start + 1 < length text
+    → five_group (get_or text start 0) ≡ Some (first, true)
+    → five_group (get_or text (start + 1) 0) ≡ Some (second, false) → 0 < second
+    → zigzag_of n ≡ first + second * 32 % 2 ^ 64 → IsNumberAt text start n (start + 2)
+two_number {text = text} {start = start} {n = n} {first = first} {second = second} more e f high form =
+    let a = unit_more (get_or text start 0) first e in
+    let b = unit_last (get_or text (start + 1) 0) second f in
+    let place : (start + 1) + 1 ≡ start + 2 = omega arith in
+    rw place at (begun_ends (one_begun more e) {n = n} more f (inl high) (omega (arith, form, b.1))
+    (omega (arith, a.1, b.1)))
+
+-- two characters that go on
+pub two_begun : {text : List ℕ} {start first second : ℕ} → start + 1 < length text
+    → five_group (get_or text start 0) ≡ Some (first, true)
+    → five_group (get_or text (start + 1) 0) ≡ Some (second, true)
+    → IsBegun text start (start + 2) (first + second * 32 % 2 ^ 64)
+two_begun {text = text} {start = start} {first = first} {second = second} more e f =
+    let b = unit_more (get_or text (start + 1) 0) second f in
+    let place : (start + 1) + 1 ≡ start + 2 = omega arith in
+    let value : (0 + first * 32 ^ 0) + second * 32 ^ 1 ≡ first + second * 32 % 2 ^ 64 = omega (arith, b.1) in
+    subst (λ v. IsBegun text start (start + 2) v) value
+    (subst (λ p. IsBegun text start p ((0 + first * 32 ^ 0) + second * 32 ^ 1)) place
+    (begun_more (one_begun more e) more f (omega arith)))

@@ -1,4 +1,4 @@
-use Rattle.std.proofs.Common.{◌∷◌, [], ◌+◌, drop, get_or, length, length-append, sym, ◌∙◌, refl}
+use Rattle.std.proofs.Common.{◌∷◌, [], get_or, length, length-append, sym, ◌∙◌, refl}
 use Rattle.std.proofs.Common.{arith, rules, FitsSigned, w64}
 use Rattle.std.proofs.lemmas.Bool.{false≢true}
 use Rattle.std.proofs.lemmas.Int.{to_z-of_z}
@@ -11,10 +11,9 @@ loop-at-preserved c =
     let inv = c.loop-at.invariant in
     let us = c.loop-at.partial in
     let u = get_or c.args.text.now c.loop-at.at 0 in
-    let next = next_at c.args.text.now c.args.start c.loop-at.at us inv.held inv.go_on inv.within c.loop-at-test.true in
     let answer = c.in-More.ensures.answer in
     rw c.in-More.ensures.held (record {
-      held = held_more (drop c.args.start c.args.text.now) us u (drop (c.loop-at.at + 1) c.args.text.now) next;
+      held = held_more (next_at inv c.loop-at-test.true);
       place = omega (arith, inv.place, length-append us (u ∷ []));
       go_on = GoesOn-push us u inv.go_on (goes_on u answer.1.0 answer.1.1);
       within = omega (arith, answer.0, length-append us (u ∷ []));
@@ -22,13 +21,9 @@ loop-at-preserved c =
 
 pub returns-in-Done-default-true-clause-read : goal.returns-in-Done-default-true-clause-read
 returns-in-Done-default-true-clause-read c =
-    let inv = c.loop-at.invariant in
-    let us = c.loop-at.partial in
-    let next = next_at c.args.text.now c.args.start c.loop-at.at us inv.held inv.go_on inv.within c.loop-at-test.true in
     let fits : FitsSigned w64 c.unzigzag.result = search rules in
     let answer = c.in-Done-default-true.ensures.answer in
-    simp to_z-of_z (number_at c.args.text.now c.args.start c.loop-at.at us c.unzigzag.result
-    c.in-Done-default-true.value next inv.place c.loop-at-test.true
+    simp to_z-of_z (number_at c.loop-at.invariant c.loop-at-test.true
     (answer.1.0 c.in-Done-default-true.shortest-test) c.unzigzag.ensures answer.0.fits)
 
 pub returns-in-Done-clause-read : goal.returns-in-Done-clause-read
@@ -36,17 +31,13 @@ returns-in-Done-clause-read c = tt
 
 pub returns-in-Done-clause-refused : goal.returns-in-Done-clause-refused
 returns-in-Done-clause-refused c =
-    let inv = c.loop-at.invariant in
-    let us = c.loop-at.partial in
-    let u = get_or c.args.text.now c.loop-at.at 0 in
-    let next = next_at c.args.text.now c.args.start c.loop-at.at us inv.held inv.go_on inv.within c.loop-at-test.true in
+    let next = next_at c.loop-at.invariant c.loop-at-test.true in
     let answer = c.in-Done.ensures.answer in
     rw c.at.ensures (
       0,
       omega arith,
       (
-        padded (drop c.args.start c.args.text.now) us u
-            (drop (c.loop-at.at + 1) c.args.text.now) c.in-Done.value next answer.0
+        padded next answer.0
             (λ same. false≢true (sym c.in-Done.shortest-test ∙ answer.1.1 same)),
         refl,
       ),
@@ -54,39 +45,18 @@ returns-in-Done-clause-refused c =
 
 pub returns-in-TooLong-clause-refused : goal.returns-in-TooLong-clause-refused
 returns-in-TooLong-clause-refused c =
-    let inv = c.loop-at.invariant in
-    let us = c.loop-at.partial in
-    let u = get_or c.args.text.now c.loop-at.at 0 in
-    let next = next_at c.args.text.now c.args.start c.loop-at.at us inv.held inv.go_on inv.within c.loop-at-test.true in
-    rw c.at-in-TooLong.ensures (
-      0,
-      omega arith,
-      (
-        too_long (drop c.args.start c.args.text.now) us u
-            (drop (c.loop-at.at + 1) c.args.text.now) next c.in-TooLong.ensures.answer,
-        refl,
-      ),
-    )
+    let next = next_at c.loop-at.invariant c.loop-at-test.true in
+    rw c.at-in-TooLong.ensures (0, omega arith, (too_long next c.in-TooLong.ensures.answer, refl))
 
 pub returns-in-BadUnit-clause-refused : goal.returns-in-BadUnit-clause-refused
 returns-in-BadUnit-clause-refused c =
-    let inv = c.loop-at.invariant in
-    let us = c.loop-at.partial in
-    let u = get_or c.args.text.now c.loop-at.at 0 in
-    let next = next_at c.args.text.now c.args.start c.loop-at.at us inv.held inv.go_on inv.within c.loop-at-test.true in
+    let next = next_at c.loop-at.invariant c.loop-at-test.true in
     rw c.at-in-BadUnit.ensures (
-      length us,
-      sym inv.place,
-      bad_character (drop c.args.start c.args.text.now) us u
-          (drop (c.loop-at.at + 1) c.args.text.now) next c.in-BadUnit.ensures.answer,
+      length c.loop-at.partial,
+      sym c.loop-at.invariant.place,
+      bad_character next c.in-BadUnit.ensures.answer,
     )
 
 pub returns-clause-refused : goal.returns-clause-refused
 returns-clause-refused c =
-    let inv = c.loop-at.invariant in
-    rw c.at-2.ensures (
-      0,
-      omega arith,
-      cut_short c.args.text.now c.args.start c.loop-at.at
-          c.loop-at.partial inv.held inv.go_on inv.within c.loop-at-test.false,
-    )
+    rw c.at-2.ensures (0, omega arith, cut_short c.loop-at.invariant c.loop-at-test.false)

@@ -1,6 +1,5 @@
-use Rattle.std.proofs.Common.{◌∙◌, ap, rules, FitsSigned, w64}
+use Rattle.std.proofs.Common.{◌∙◌, rules, FitsSigned, w64}
 use Rattle.std.proofs.lemmas.Int.{to_z-of_z}
-use Rattle.twkb_points.specs.Point.{Point}
 use Rattle.twkb_polyline.proofs.DecodeLemmas.{point_read}
 use Rattle.twkb_polyline.proofs.whole.whole_point.Goals as goal
 
@@ -27,6 +26,4 @@ returns-clause-read c =
     let fits_y : FitsSigned w64 c.in_ok-dy.dy = search rules in
     let from_there = simp to_z-of_z at c.in_ok-point.ensures.point in
     let moved = rw c.in_default.ensures.unmoved at from_there in
-    point_read c.args.text.now c.args.start c.in_ok-dy.middle c.in_ok-dx.end c.in_ok-dx.dx
-    c.in_ok-dy.dy c.args.cursor.now c.in_ok-point.point c.in_ok-dy.ensures c.in_ok-dx.ensures
-    (ap (λ (q : Point). q.x) moved) (ap (λ (q : Point). q.y) moved)
+    point_read c.in_ok-dy.ensures c.in_ok-dx.ensures moved
