@@ -5,7 +5,7 @@ use Rattle.std.proofs.Common.{◌≤◌, ◌++◌, take, drop, sym, ◌∙◌, l
 use Rattle.std.proofs.Common.{if◌then◌else◌, Bool, false, inl, inr}
 use Rattle.std.specs.Prelude.{slice_get, Some, slice_set, Option, None, IfSome, ◌==◌}
 use Rattle.std.proofs.lemmas.List.{take-append-drop, map-append, append-nil, take_more, take_more_set, length-set}
-use Rattle.std.proofs.lemmas.List.{take_at, drop-drop, drop_at, length-take-le, length-drop, take_all, take_rest}
+use Rattle.std.proofs.lemmas.List.{take_at, drop-drop, drop_at, length-take-le, length-drop, take_rest}
 use Rattle.std.proofs.Math.Seq.{take-add}
 use Rattle.std.proofs.lemmas.Option.{slice_get_within, get_or_from_slice_get}
 use Rattle.std.proofs.lemmas.Slice.{take-put_mid}

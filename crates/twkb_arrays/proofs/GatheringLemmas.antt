@@ -14,7 +14,7 @@ use Rattle.twkb_tree.specs.Accepted.{Accepts, Continues, IsOneRoot, since_root, 
 use Rattle.twkb_tree.specs.Admits.{steps_to, parent, first_child, fits, points_fit}
 use Rattle.twkb_tree.specs.Limits.{Allowance}
 use Rattle.twkb_tree.specs.Open.{AreOpen, open_count, open_parent, row_of, child_of, count_at, open_refusal}
-use Rattle.twkb_tree.specs.Refusal.{Refusal, BadPlace, CoordinateRange, checks_under, first_failed, are_in_range}
+use Rattle.twkb_tree.specs.Refusal.{BadPlace, CoordinateRange, checks_under, first_failed, are_in_range}
 use Rattle.twkb_tree.specs.Refusal.{refusal}
 use Rattle.twkb_tree.specs.RowLists.{AreRowsOfOne, AreValidRowsOfOne}
 use Rattle.twkb_tree.specs.Rows.{Row, row_points, rows, whole_row}
@@ -35,12 +35,13 @@ use Rattle.twkb_writer.specs.LineBlob.{one_line}
 use Rattle.twkb_writer.specs.PointBlob.{one_point}
 use Rattle.twkb_buffer.specs.declared.point.BufferPoint.{BufferPoint}
 use Rattle.twkb_buffer.specs.Polylines.{coordinates_at}
-use Rattle.twkb_arrays.specs.JudgedRow.{AcceptedAfter, HasRightId, RefusedAfter, refusal_number, row_from_c, id_of}
-use Rattle.twkb_arrays.specs.JudgedRow.{is_no_precision, precision_of}
+use Rattle.twkb_arrays.specs.JudgedRow.{AcceptedAfter, HasRightId, row_from_c}
+use Rattle.twkb_arrays.specs.JudgedRow.{is_no_precision}
 use Rattle.twkb_arrays.specs.RowTests.{checks_there, range_refusal}
 use Rattle.twkb_arrays.specs.Rows.{kind_number, point_of, points_of}
 use Rattle.twkb_arrays.specs.declared.row.BufferRow.{BufferRow}
 use Rattle.twkb_arrays.specs.LoneRow.{BeginsAlone, BeginsLine, BeginsPoint, IsMadeAlone}
+use Rattle.twkb_arrays.proofs.ArrayLemmas.{same_row}
 
 -- ==== The tests of a row at its place after the rows of a form are those of a table's row.
 
@@ -133,21 +134,6 @@ continues_there l rs s r valid place e in_range root =
     ∙ in_range_none r.points in_range in
     let accepts = accepts_unrefused l (reverse rs) r unrefused in (accepts, one_root l rs r root accepts)
 
--- a row of which the kind, the id and the number of points are right is refused for a test that fails
-pub refused_for : (l : Allowance) (rs : List Row) (row : BufferRow) (ahead : List BufferPoint) (k : Kind)
-    (why : Refusal) (number : ℕ) → kind_number k ≡ row.kind → HasRightId row → row.points ≤ length ahead
-    → refusal l rs (row_from_c k row (take row.points ahead)) ≡ Some why → number ≡ refusal_number why
-    → RefusedAfter l rs row ahead number
-refused_for l rs row ahead k why number kind right enough e is = inr
-    (k, kind, inr (right, inr (enough, (why, e, is))))
-
--- a stop is a refusal with this number
-pub is_refused : (l : Allowance) (rs : List Row) (row : BufferRow) (ahead : List BufferPoint) (number : ℕ)
-    (why : Stop ℕ) → why ≡ stop.Refused number → RefusedAfter l rs row ahead number
-    → IfRefused (RefusedAfter l rs row ahead) why
-is_refused l rs row ahead number why is refused =
-    subst (IfRefused (RefusedAfter l rs row ahead)) (sym is) refused
-
 -- what holds of each reason holds of that of a refusal
 pub all_refused : (P Q : ℕ → Type 0) (why : Stop ℕ) → ((number : ℕ) → P number → Q number) → IfRefused P why
     → IfRefused Q why
@@ -201,35 +187,8 @@ has_precision (negsuc n) h = grind (arith, ints, nat_tests)
 root_row : (l : Allowance) (row : BufferRow) (ahead : List BufferPoint) (k : Kind) (ps : List Point)
     → BeginsAlone l row ahead → points_of (take row.points ahead) ≡ ps
     → row_from_c k row (take row.points ahead) ≡ whole_row 0 k None row.precision ps
-root_row l row ahead k ps b own =
-    ap (λ (d : ℕ). record {
-      depth = d;
-      kind = k;
-      id = id_of row;
-      precision = precision_of row;
-      points = points_of (take row.points ahead);
-    }) b.is_root
-    ∙ ap (λ (i : Option ℤ). record {
-      depth = 0;
-      kind = k;
-      id = i;
-      precision = precision_of row;
-      points = points_of (take row.points ahead);
-    }) (no_id row.has_id row.id b.has_no_id)
-    ∙ ap (λ (q : Option ℤ). record {
-      depth = 0;
-      kind = k;
-      id = None;
-      precision = q;
-      points = points_of (take row.points ahead);
-    }) (has_precision row.precision b.has_precision)
-    ∙ ap (λ (qs : List Point). record {
-      depth = 0;
-      kind = k;
-      id = None;
-      precision = Some row.precision;
-      points = qs;
-    }) own
+root_row l row ahead k ps b own = same_row (whole_row 0 k None row.precision ps) _ _ _ _ _ b.is_root refl
+    (no_id row.has_id row.id b.has_no_id) (has_precision row.precision b.has_precision) own
 
 -- the row of a point with a precision may come first, if the limits allow one row and one point
 pub point_first : (l : Allowance) (n : ℤ) (p : Point) → 0 < l.nodes → 0 < l.points → IsPrecision n → IsInRange p

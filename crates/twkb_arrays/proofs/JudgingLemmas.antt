@@ -1,6 +1,6 @@
 -- The reason of the first test of a row that fails.
 use Rattle.std.proofs.Common.{◌≡◌, ◌∙◌, ◌<◌, ◌^◌, ℕ, Bool, true, false, List, [], ◌∷◌, ◌++◌, Option, Some}
-use Rattle.std.proofs.Common.{None, ap, ◌+◌, refl, sym, subst, bit_or, inl, inr, arith, length, lit<, slice_index_or}
+use Rattle.std.proofs.Common.{None, refl, sym, subst, bit_or, inl, inr, arith, length, slice_index_or}
 use Rattle.std.specs.Prelude.{◌↔◌, ◌||◌, MatchOption, nat_lt, if◌then◌else◌}
 use Rattle.std.specs.Simd.Lanes.{zip2}
 use Rattle.std.proofs.lemmas.Bool.{cases_Bool}
@@ -8,74 +8,65 @@ use Rattle.std.proofs.lemmas.Bool.Decides.{nat_tests}
 use Rattle.std.proofs.Math.Nat.{lt_of_le_of_lt}
 use Rattle.std.proofs.lemmas.Nat.{le_or_l, le_or_r, or_lt}
 use Rattle.std.proofs.lemmas.Simd.{length-zip2}
-use Rattle.twkb_points.specs.Point.{IsInRange, AreInRange}
+use Rattle.twkb_points.specs.Point.{Point, IsInRange, AreInRange}
 use Rattle.twkb_tree.specs.declared.row_place.RowPlace.{RowPlace}
 use Rattle.twkb_tree.specs.Admits.{has_points}
 use Rattle.twkb_tree.specs.Limits.{Allowance}
-use Rattle.twkb_tree.specs.Open.{row_of, child_of}
+use Rattle.twkb_tree.specs.Open.{row_of}
 use Rattle.twkb_tree.specs.Refusal.{Refusal, PointsNotAllowed, CoordinateRange}
 use Rattle.twkb_tree.specs.Refusal.{Check, check, first_failed, are_in_range, has_none}
-use Rattle.twkb_tree.specs.Refusal.{id_checks, point_checks, precision_checks}
+use Rattle.twkb_tree.specs.Refusal.{point_checks}
 use Rattle.twkb_tree.specs.Rows.{Row}
 use Rattle.twkb_tree.proofs.RowForest.{are_in_range-true, points_in_range}
-use Rattle.twkb_table.specs.RowRules.{first_reason, kind_checks}
+use Rattle.twkb_table.specs.RowRules.{first_reason}
 use Rattle.twkb_table.specs.declared.reason.RowReason.{RowReason}
 use Rattle.twkb_buffer.specs.declared.point.BufferPoint.{BufferPoint}
-use Rattle.twkb_arrays.specs.JudgedRow.{AreBelow, in_range_front}
-use Rattle.twkb_arrays.specs.RowTests.{IsFirstButRange, IsReasonOf, checks_there, number_checks, range_refusal}
+use Rattle.twkb_arrays.specs.JudgedRow.{AreBelow}
+use Rattle.twkb_arrays.specs.RowTests.{IsFirstButRange, IsReasonOf, number_checks, range_refusal}
 use Rattle.twkb_arrays.specs.Rows.{point_of, points_of}
 
 -- ---- some tests before others
 
 -- if a test fails, it is the first that fails of all
-pub first_of : (checks more : List Check) (why : Refusal) → first_failed checks ≡ Some why
+first_of : (checks more : List Check) (why : Refusal) → first_failed checks ≡ Some why
     → first_failed (checks ++ more) ≡ Some why
-first_of [] more why e = cc e
-first_of (c ∷ checks) more why e = first_at c.holds c.otherwise checks more why (first_of checks more why) e
-  where
-    first_at : (b : Bool) (other : Refusal) (checks more : List Check) (why : Refusal)
-        → (first_failed checks ≡ Some why → first_failed (checks ++ more) ≡ Some why)
-        → first_failed (check b other ∷ checks) ≡ Some why
-        → first_failed (check b other ∷ (checks ++ more)) ≡ Some why
-    first_at true other checks more why rest e = rest e
-    first_at false other checks more why rest e = e
+first_of [] more why = λ e. cc e
+first_of (c ∷ checks) more why = elim c.holds as (λ (b : Bool).
+    first_failed (check b c.otherwise ∷ checks) ≡ Some why
+    → first_failed (check b c.otherwise ∷ (checks ++ more)) ≡ Some why) [
+      | true ↦ first_of checks more why
+      | false ↦ λ e. e
+    ]
 
 -- if none fails, the first that fails is the first of the others
-pub rest_of : (checks more : List Check) → first_failed checks ≡ None
+rest_of : (checks more : List Check) → first_failed checks ≡ None
     → first_failed (checks ++ more) ≡ first_failed more
-rest_of [] more e = refl
-rest_of (c ∷ checks) more e = rest_at c.holds c.otherwise checks more (rest_of checks more) e
-  where
-    rest_at : (b : Bool) (other : Refusal) (checks more : List Check)
-        → (first_failed checks ≡ None → first_failed (checks ++ more) ≡ first_failed more)
-        → first_failed (check b other ∷ checks) ≡ None
-        → first_failed (check b other ∷ (checks ++ more)) ≡ first_failed more
-    rest_at true other checks more rest e = rest e
-    rest_at false other checks more rest e = cc e
+rest_of [] more = λ e. refl
+rest_of (c ∷ checks) more = elim c.holds as (λ (b : Bool). first_failed (check b c.otherwise ∷ checks) ≡ None
+    → first_failed (check b c.otherwise ∷ (checks ++ more)) ≡ first_failed more) [
+      | true ↦ rest_of checks more
+      | false ↦ λ e. cc e
+    ]
 
 -- if a reason is that of the first test that fails, a test fails
 pub reason_found : (checks : List Check) (reason : RowReason) → Some reason ≡ first_reason checks
     → IsReasonOf (first_failed checks) reason
-reason_found [] reason e = cc e
-reason_found (c ∷ checks) reason e = found_at c.holds c.otherwise checks reason (reason_found checks reason) e
-  where
-    found_at : (b : Bool) (other : Refusal) (checks : List Check) (reason : RowReason)
-        → (Some reason ≡ first_reason checks → IsReasonOf (first_failed checks) reason)
-        → Some reason ≡ first_reason (check b other ∷ checks)
-        → IsReasonOf (first_failed (check b other ∷ checks)) reason
-    found_at true other checks reason rest e = rest e
-    found_at false other checks reason rest e = (other, refl, cc e)
+reason_found [] reason = λ e. cc e
+reason_found (c ∷ checks) reason = elim c.holds as (λ (b : Bool).
+    Some reason ≡ first_reason (check b c.otherwise ∷ checks)
+    → IsReasonOf (first_failed (check b c.otherwise ∷ checks)) reason) [
+      | true ↦ reason_found checks reason
+      | false ↦ λ e. (c.otherwise, refl, cc e)
+    ]
 
 -- if there is none, no test fails
 pub reason_none : (checks : List Check) → None ≡ first_reason checks → first_failed checks ≡ None
-reason_none [] e = refl
-reason_none (c ∷ checks) e = none_at c.holds c.otherwise checks (reason_none checks) e
-  where
-    none_at : (b : Bool) (other : Refusal) (checks : List Check)
-        → (None ≡ first_reason checks → first_failed checks ≡ None)
-        → None ≡ first_reason (check b other ∷ checks) → first_failed (check b other ∷ checks) ≡ None
-    none_at true other checks rest e = rest e
-    none_at false other checks rest e = cc e
+reason_none [] = λ e. refl
+reason_none (c ∷ checks) = elim c.holds as (λ (b : Bool). None ≡ first_reason (check b c.otherwise ∷ checks)
+    → first_failed (check b c.otherwise ∷ checks) ≡ None) [
+      | true ↦ reason_none checks
+      | false ↦ λ e. cc e
+    ]
 
 -- ---- the tests of a row's points
 
@@ -107,73 +98,25 @@ by_number l s r reason is_allowed is_in is =
         (first_failed (check allowed PointsNotAllowed ∷ check in_range CoordinateRange ∷ checks)) reason
     number_at allowed in_range checks is_allowed is_in found = rw (is_allowed, is_in) found
 
--- ---- the tests of a row at its place
+-- ---- one group of tests after another
 
--- one group after another: the place, the id, the precision, the points
-pub by_place : (l : Allowance) (s : RowPlace) (r : Row) (reason : RowReason)
-    → IsReasonOf (first_failed (kind_checks l s r.kind)) reason
-    → IsReasonOf (first_failed (checks_there l s r)) reason
-by_place l s r reason h =
-    let p = row_of s.parent in (
-      h.0,
-      first_of (kind_checks l s r.kind)
-          (id_checks p (child_of s.parent) r ++ (precision_checks p r ++ point_checks l p s.points r)) h.0 h.1,
-      h.2,
-    )
+-- a test of a group fails, and none before
+pub by_group : (before checks more : List Check) (reason : RowReason) → first_failed before ≡ None
+    → IsReasonOf (first_failed checks) reason → IsReasonOf (first_failed (before ++ (checks ++ more))) reason
+by_group before checks more reason none h =
+    (h.0, rest_of before (checks ++ more) none ∙ first_of checks more h.0 h.1, h.2)
 
--- no test of the place fails
-pub after_place : (l : Allowance) (s : RowPlace) (r : Row) → first_failed (kind_checks l s r.kind) ≡ None
-    → first_failed (checks_there l s r) ≡ first_failed (id_checks (row_of s.parent) (child_of s.parent) r
-    ++ (precision_checks (row_of s.parent) r ++ point_checks l (row_of s.parent) s.points r))
-after_place l s r e =
-    let p = row_of s.parent in
-    rest_of (kind_checks l s r.kind)
-    (id_checks p (child_of s.parent) r ++ (precision_checks p r ++ point_checks l p s.points r)) e
+-- no test of two groups fails
+pub none_in : (before checks : List Check) → first_failed before ≡ None → first_failed checks ≡ None
+    → first_failed (before ++ checks) ≡ None
+none_in before checks first second = rest_of before checks first ∙ second
 
-pub by_id : (l : Allowance) (s : RowPlace) (r : Row) (reason : RowReason)
-    → first_failed (kind_checks l s r.kind) ≡ None
-    → IsReasonOf (first_failed (id_checks (row_of s.parent) (child_of s.parent) r)) reason
-    → IsReasonOf (first_failed (checks_there l s r)) reason
-by_id l s r reason place h =
-    let p = row_of s.parent in (
-      h.0,
-      after_place l s r place ∙ first_of (id_checks p (child_of s.parent) r)
-          (precision_checks p r ++ point_checks l p s.points r) h.0 h.1,
-      h.2,
-    )
-
--- no test of the place or of the id fails
-pub after_id : (l : Allowance) (s : RowPlace) (r : Row) → first_failed (kind_checks l s r.kind) ≡ None
-    → first_failed (id_checks (row_of s.parent) (child_of s.parent) r) ≡ None
-    → first_failed (checks_there l s r) ≡ first_failed (precision_checks (row_of s.parent) r
-    ++ point_checks l (row_of s.parent) s.points r)
-after_id l s r place id =
-    let p = row_of s.parent in
-    after_place l s r place ∙ rest_of (id_checks p (child_of s.parent) r)
-    (precision_checks p r ++ point_checks l p s.points r) id
-
-pub by_precision : (l : Allowance) (s : RowPlace) (r : Row) (reason : RowReason)
-    → first_failed (kind_checks l s r.kind) ≡ None
-    → first_failed (id_checks (row_of s.parent) (child_of s.parent) r) ≡ None
-    → IsReasonOf (first_failed (precision_checks (row_of s.parent) r)) reason
-    → IsReasonOf (first_failed (checks_there l s r)) reason
-by_precision l s r reason place id h =
-    let p = row_of s.parent in (
-      h.0,
-      after_id l s r place id ∙ first_of (precision_checks p r) (point_checks l p s.points r) h.0 h.1,
-      h.2,
-    )
-
-pub by_points : (l : Allowance) (s : RowPlace) (r : Row) (answer : Option RowReason)
-    → first_failed (kind_checks l s r.kind) ≡ None
-    → first_failed (id_checks (row_of s.parent) (child_of s.parent) r) ≡ None
-    → first_failed (precision_checks (row_of s.parent) r) ≡ None
-    → IsFirstButRange (point_checks l (row_of s.parent) s.points r) r.points answer
-    → IsFirstButRange (checks_there l s r) r.points answer
-by_points l s r answer place id precision h =
-    let p = row_of s.parent in
-    subst (λ (o : Option Refusal). MatchOption answer (o ≡ range_refusal r.points) (IsReasonOf o))
-    (sym (after_id l s r place id ∙ rest_of (precision_checks p r) (point_checks l p s.points r) precision)) h
+-- no test fails before the last group
+pub by_last : (before checks : List Check) (ps : List Point) (answer : Option RowReason) → first_failed before ≡ None
+    → IsFirstButRange checks ps answer → IsFirstButRange (before ++ checks) ps answer
+by_last before checks ps answer none h =
+    subst (λ (o : Option Refusal). MatchOption answer (o ≡ range_refusal ps) (IsReasonOf o))
+    (sym (rest_of before checks none)) h
 
 -- ---- the range of coordinates
 
@@ -197,14 +140,6 @@ pub record Decides (own left : List BufferPoint) (joined : List ℕ) : Type 0 wh
   pub two : length joined ≡ 2
   pub if_below : AreBelow joined → AreInRange (points_of left) → AreInRange (points_of own)
   pub is_below : AreInRange (points_of own) → AreBelow joined × AreInRange (points_of left)
-
--- before a point is looked at, the points decide
-pub decides_at_first : (own : List BufferPoint) → Decides own own (0 ∷ 0 ∷ [])
-decides_at_first own = record {
-  two = refl;
-  if_below = λ below in_range. in_range;
-  is_below = λ in_range. ((lit< tt, (lit< tt, tt)), in_range);
-}
 
 -- the numbers of one more point are joined
 pub decides_more : (own left after : List BufferPoint) (c : BufferPoint) (joined numbers : List ℕ)
@@ -246,30 +181,3 @@ pub decided : (own left : List BufferPoint) (joined : List ℕ) → Decides own 
     ≡ are_in_range (points_of own)
 decided own left (x ∷ y ∷ []) all none = decided_by own left x y all none
 decided own left _ all none = absurd (omega (arith, all.two))
-
--- ---- the first point out of range
-
--- one more point is in range
-pub front_more : (own left after : List BufferPoint) (c : BufferPoint) (n : ℕ)
-    → in_range_front own ≡ n + in_range_front left → left ≡ c ∷ after → are_in_range (points_of (c ∷ [])) ≡ true
-    → in_range_front own ≡ (n + 1) + in_range_front after
-front_more own left after c n so_far next is_in =
-    let more : in_range_front left ≡ in_range_front after + 1 = ap in_range_front next
-    ∙ ap (λ (b : Bool). if b then in_range_front after + 1 else 0) is_in in
-    omega (arith, so_far, more)
-
--- the next point is out of range
-pub front_ends : (own left after : List BufferPoint) (c : BufferPoint) (n : ℕ)
-    → in_range_front own ≡ n + in_range_front left → left ≡ c ∷ after → are_in_range (points_of (c ∷ [])) ≡ false
-    → n ≡ in_range_front own
-front_ends own left after c n so_far next is_out =
-    let none : in_range_front left ≡ 0 = ap in_range_front next
-    ∙ ap (λ (b : Bool). if b then in_range_front after + 1 else 0) is_out in
-    omega (arith, so_far, none)
-
--- no point is left
-pub front_all : (own left : List BufferPoint) (n : ℕ) → in_range_front own ≡ n + in_range_front left → left ≡ []
-    → n ≡ in_range_front own
-front_all own left n so_far none =
-    let zero : in_range_front left ≡ 0 = ap in_range_front none in
-    omega (arith, so_far, zero)

@@ -1,14 +1,12 @@
 -- Streams that are read into arrays.
-use Rattle.std.proofs.Common.{◌≡◌, ℕ, ◌+◌, ◌-◌, ◌≤◌, inl, inr, List, [], ◌∷◌, ◌++◌, length, take, drop}
-use Rattle.std.proofs.Common.{sym, ap, ◌∙◌, subst, arith, length-append, append_assoc, Bool, true, false}
+use Rattle.std.proofs.Common.{◌≡◌, ℕ, ◌+◌, ◌≤◌, List, [], ◌∷◌, ◌++◌, length, take, drop}
+use Rattle.std.proofs.Common.{sym, ap, ◌∙◌, arith, length-append, append_assoc, Bool, true, false}
 use Rattle.std.specs.Prelude.{Result, Ok, Err, Some}
 use Rattle.std.proofs.lemmas.Bool.{false≢true}
-use Rattle.std.proofs.lemmas.List.{take-append-drop, take_all, append-nil}
+use Rattle.std.proofs.lemmas.List.{take-append-drop, take_all}
 use Rattle.twkb_tree.specs.Tree.{Tree}
 use Rattle.twkb_tree.specs.Limits.{Allowance}
 use Rattle.twkb_tree.specs.Rows.{rows}
-use Rattle.twkb_grammar.specs.Fault.{StreamFault}
-use Rattle.twkb_engine.specs.Stops.{reason_of}
 use Rattle.twkb_blob.specs.Sessions.{FedFlat, FedSession, Finished, Stands, session_limits, session_rows}
 use Rattle.twkb_blob.specs.declared.session.Session.{Session}
 use Rattle.twkb_blob.specs.declared.fault.BlobFault.{BlobFault}

@@ -1,7 +1,7 @@
 -- Geometries that are taken into arrays, which are those of one list of geometries, or of none.
 use Rattle.std.proofs.Common.{◌≡◌, ℕ, ◌+◌, ◌-◌, ◌<◌, ◌≤◌, ◌⊎◌, inl, inr, List, [], ◌∷◌, ◌++◌, length, take, drop, Bool}
 use Rattle.std.proofs.Common.{true, false, sym, ap, ◌∙◌, arith, length-append, append_assoc, refl, subst}
-use Rattle.std.proofs.lemmas.List.{length-map, map-append, append-nil, length-drop}
+use Rattle.std.proofs.lemmas.List.{length-map, map-append, append-nil}
 use Rattle.std.proofs.lemmas.Grind.{flat_map-append}
 use Rattle.std.specs.Prelude.{Some, None, reverse}
 use Rattle.twkb_points.specs.Point.{Point}

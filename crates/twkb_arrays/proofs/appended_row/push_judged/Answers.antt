@@ -11,51 +11,48 @@ use Rattle.twkb_arrays.specs.JudgedRow.{RefusedAfter, row_from_c}
 use Rattle.twkb_arrays.specs.OwnPoints.{AreOutOfRange}
 use Rattle.twkb_arrays.specs.RowTests.{checks_there}
 use Rattle.twkb_arrays.specs.Rows.{points_of}
-use Rattle.twkb_arrays.proofs.GatheringLemmas.{all_refused, continues_there, is_refused, no_place, refused_for}
-use Rattle.twkb_arrays.proofs.GatheringLemmas.{refused_range, refused_there, row_pushed}
+use Rattle.twkb_arrays.proofs.GatheringLemmas.{all_refused, continues_there, no_place, refused_range, refused_there}
+use Rattle.twkb_arrays.proofs.GatheringLemmas.{row_pushed}
 use Rattle.twkb_arrays.proofs.appended_row.push_judged.Goals as goal
 
 pub returns-in_default-clause-refused : goal.returns-in_default-clause-refused
-returns-in_default-clause-refused c =
-    is_refused c.args.limits.now c.args.form.now c.args.row.now c.args.ahead.now _ _ c.refused.ensures
-    (inl (c.in_default.ensures, refl))
+returns-in_default-clause-refused c = rw c.refused.ensures (inl (c.in_default.ensures, refl))
 
 pub returns-then-not-has_right_id-clause-refused : goal.returns-then-not-has_right_id-clause-refused
-returns-then-not-has_right_id-clause-refused c =
-    is_refused c.args.limits.now c.args.form.now c.args.row.now c.args.ahead.now _ _
-    c.refused-then-not-has_right_id.ensures
-    (inr (
-      c.in-Some.kind,
-      c.in-Some.ensures,
-      inl (λ right. true≢false (sym (c.has_right_id.ensures.1 right) ∙ c.if-not-has_right_id.true), refl),
-    ))
+returns-then-not-has_right_id-clause-refused c = rw c.refused-then-not-has_right_id.ensures (inr (
+  c.in-Some.kind,
+  c.in-Some.ensures,
+  inl (λ right. true≢false (sym (c.has_right_id.ensures.1 right) ∙ c.if-not-has_right_id.true), refl),
+))
 
 pub returns-in_default-place-clause-refused : goal.returns-in_default-place-clause-refused
 returns-in_default-place-clause-refused c =
-    let l = c.args.limits.now in
-    let rs = c.args.form.now in
     let row = c.args.row.now in
     let r = row_from_c c.in-Some.kind row (take row.points c.args.ahead.now) in
-    is_refused l rs row c.args.ahead.now _ _ c.refused-in_default-place.ensures
-    (refused_for l rs row c.args.ahead.now c.in-Some.kind BadPlace _ c.in-Some.ensures
-    (c.has_right_id.ensures.0 c.if-not-has_right_id.false) (omega (arith, c.if-row-ahead.false))
-    (no_place l rs r c.requires.valid c.in_default-place.ensures) refl)
+    let none = no_place c.args.limits.now c.args.form.now r c.requires.valid c.in_default-place.ensures in
+    let right = c.has_right_id.ensures.0 c.if-not-has_right_id.false in
+    rw c.refused-in_default-place.ensures (inr (
+      c.in-Some.kind,
+      c.in-Some.ensures,
+      inr (right, inr (omega (arith, c.if-row-ahead.false), (BadPlace, none, refl))),
+    ))
 
 pub returns-in-Some-refused_row-clause-refused : goal.returns-in-Some-refused_row-clause-refused
 returns-in-Some-refused_row-clause-refused c =
     let l = c.args.limits.now in
-    let rs = c.args.form.now in
     let row = c.args.row.now in
     let own = take row.points c.args.ahead.now in
     let s = c.in-Some-place.row_place in
-    let r = row_from_c c.in-Some.kind row own in
     let found = c.in-Some-refused_row.ensures in
-    is_refused l rs row c.args.ahead.now _ _ c.refused-in-Some-refused_row.ensures
-    (refused_for l rs row c.args.ahead.now c.in-Some.kind found.0 _ c.in-Some.ensures
-    (c.has_right_id.ensures.0 c.if-not-has_right_id.false) (omega (arith, c.if-row-ahead.false))
-    (sym (refused_there l rs s r c.requires.valid c.in-Some-place.ensures)
-    ∙ ap (λ (t : Row). first_failed (checks_there l s t)) (sym (c.bare_row-bare.ensures own))
-    ∙ found.1) (ap row_number_of found.2))
+    let first = sym (refused_there l c.args.form.now s (row_from_c c.in-Some.kind row own) c.requires.valid
+    c.in-Some-place.ensures)
+    ∙ ap (λ (t : Row). first_failed (checks_there l s t)) (sym (c.bare_row-bare.ensures own)) ∙ found.1 in
+    let right = c.has_right_id.ensures.0 c.if-not-has_right_id.false in
+    rw c.refused-in-Some-refused_row.ensures (inr (
+      c.in-Some.kind,
+      c.in-Some.ensures,
+      inr (right, inr (omega (arith, c.if-row-ahead.false), (found.0, first, ap row_number_of found.2))),
+    ))
 
 pub push_from-requires : goal.push_from-requires
 push_from-requires c = λ ps given.
@@ -99,10 +96,13 @@ returns-in-Err-clause-refused c =
     let row = c.args.row.now in
     let own = take row.points c.args.ahead.now in
     let s = c.in-Some-place.row_place in
-    let r = row_from_c c.in-Some.kind row own in
+    let right = c.has_right_id.ensures.0 c.if-not-has_right_id.false in
+    let row_is = ap (λ (t : Row). first_failed (checks_there l s t)) (sym (c.bare_row-bare.ensures own)) in
+    let refused = refused_range l rs s (row_from_c c.in-Some.kind row own) c.requires.valid c.in-Some-place.ensures
+    (row_is ∙ c.in_default-refused_row.ensures) in
     all_refused (AreOutOfRange (points_of own)) (RefusedAfter l rs row c.args.ahead.now) c.in-Err.stop
-    (λ number out. refused_for l rs row c.args.ahead.now c.in-Some.kind CoordinateRange number c.in-Some.ensures
-    (c.has_right_id.ensures.0 c.if-not-has_right_id.false) (omega (arith, c.if-row-ahead.false))
-    (refused_range l rs s r c.requires.valid c.in-Some-place.ensures
-    (ap (λ (t : Row). first_failed (checks_there l s t)) (sym (c.bare_row-bare.ensures own))
-    ∙ c.in_default-refused_row.ensures) out.0) out.1) c.in-Err.ensures.refused
+    (λ number out. inr (
+      c.in-Some.kind,
+      c.in-Some.ensures,
+      inr (right, inr (omega (arith, c.if-row-ahead.false), (CoordinateRange, refused out.0, out.1))),
+    )) c.in-Err.ensures.refused
