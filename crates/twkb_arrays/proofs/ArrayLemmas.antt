@@ -102,10 +102,10 @@ few_points rs n = omega (
 )
 
 -- the points of the next row are within the array
-pub points_left : (rs : List Row) (i first : ℕ) (in_rows : List BufferRow) (in_points : List BufferPoint)
-    (r : Row) → IsWritten rs i first in_rows in_points → slice_get rs i ≡ Some r
+pub points_left : {rs : List Row} {i first : ℕ} {in_rows : List BufferRow} {in_points : List BufferPoint}
+    {r : Row} → IsWritten rs i first in_rows in_points → slice_get rs i ≡ Some r
     → first + length r.points ≤ length in_points
-points_left rs i first in_rows in_points r w is = omega (
+points_left {rs = rs} {i = i} {r = r} w is = omega (
   arith,
   w.first_is,
   w.as_many_points,
@@ -115,13 +115,14 @@ points_left rs i first in_rows in_points r w is = omega (
 )
 
 -- the next row and its points are written
-pub written_more : (rs : List Row) (i first k : ℕ) (in_rows : List BufferRow) (in_points own : List BufferPoint)
-    (r : Row) (row : BufferRow) → IsWritten rs i first in_rows in_points → slice_get rs i ≡ Some r
+pub written_more : {rs : List Row} {i first : ℕ} {in_rows : List BufferRow} {in_points own : List BufferPoint}
+    {r : Row} {row : BufferRow} (k : ℕ) → IsWritten rs i first in_rows in_points → slice_get rs i ≡ Some r
     → row ≡ row_in_c r → own ≡ coordinates_of r.points → k ≡ length r.points
     → IsWritten rs (i + 1) (first + length r.points) (slice_set in_rows i row) (put_mid first k in_points own)
-written_more rs i first k in_rows in_points own r row w is row_is own_is count =
+written_more {rs = rs} {i = i} {first = first} {in_rows = in_rows} {in_points = in_points} {own = own} {r = r}
+    {row = row} k w is row_is own_is count =
     let within = slice_get_within rs i r is in
-    let fits = points_left rs i first in_rows in_points r w is in
+    let fits = points_left w is in
     let own_len : length own ≡ length r.points = ap (λ (xs : List BufferPoint). length xs) own_is
     ∙ length-coordinates_of r.points in
     let taken : take (first + length r.points) (put_mid first k in_points own) ≡ take first in_points ++ own =
@@ -131,18 +132,11 @@ written_more rs i first k in_rows in_points own r row w is row_is own_is count =
     record {
       as_many_rows = length-set in_rows i row ∙ w.as_many_rows;
       as_many_points = all ∙ w.as_many_points;
-      rows_are = take_more_set in_rows i row (omega (arith, w.as_many_rows))
-          ∙ ap (λ (xs : List BufferRow). xs ++ row ∷ []) w.rows_are
-          ∙ ap (λ (x : BufferRow). rows_in_c (take i rs) ++ x ∷ []) row_is
-          ∙ sym (map-append row_in_c (take i rs) (r ∷ []))
-          ∙ ap rows_in_c (sym (next_rows rs i r is));
-      first_is = ap (λ (n : ℕ). n + length r.points) w.first_is
-          ∙ sym (length-append (row_points (take i rs)) r.points)
-          ∙ ap (λ (xs : List Point). length xs) (sym (next_points rs i r is));
-      points_are = taken ∙ ap (λ (xs : List BufferPoint). xs ++ own) w.points_are
-          ∙ ap (λ (xs : List BufferPoint). coordinates_of (row_points (take i rs)) ++ xs) own_is
-          ∙ sym (coordinates_of-append (row_points (take i rs)) r.points)
-          ∙ ap coordinates_of (sym (next_points rs i r is));
+      rows_are = rw (next_rows rs i r is) (take_more_set in_rows i row (omega (arith, w.as_many_rows))
+          ∙ rw (w.rows_are, row_is) (sym (map-append row_in_c (take i rs) (r ∷ []))));
+      first_is = rw (next_points rs i r is, w.first_is) (sym (length-append (row_points (take i rs)) r.points));
+      points_are = rw (next_points rs i r is) (taken
+          ∙ rw (w.points_are, own_is) (sym (coordinates_of-append (row_points (take i rs)) r.points)));
     }
   where
     put_len : (a n : ℕ) (xs ys : List BufferPoint) → length ys ≡ n → a + n ≤ length xs

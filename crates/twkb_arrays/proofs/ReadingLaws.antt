@@ -1,5 +1,5 @@
 -- Streams have one reading into arrays, which has the rows of the text that they are unpacked to.
-use Rattle.std.proofs.Common.{◌≡◌, ◌∙◌, ℕ, ◌≤◌, ◌⊎◌, inl, inr, List, [], ◌++◌, length, Bool, true, false}
+use Rattle.std.proofs.Common.{◌≡◌, ◌∙◌, ℕ, ◌≤◌, ◌⊎◌, inl, inr, List, ◌++◌, length, Bool, true, false}
 use Rattle.std.proofs.Common.{refl, sym, ap, subst, arith}
 use Rattle.std.specs.Prelude.{Result, Ok, Err, ◌≢◌}
 use Rattle.std.proofs.lemmas.List.{append-nil}
@@ -68,23 +68,27 @@ status_zero l bytes gs full (Err fault.Memory) e ends = absurd (omega (arith, e)
 status_zero l bytes gs false (Err _) e ends = absurd (omega (arith, e))
 status_zero l bytes gs full (Err _) e ends = absurd (omega (arith, e))
 
+-- a reading with status 0 took the geometries of the stream
+pub all_given : {l : Allowance} {bytes : List ℕ} {old_rows new_rows : List BufferRow}
+    {old_points new_points : List BufferPoint} {counts : BufferCounts} (gs : List Tree)
+    (read : ReadsArrays l bytes old_rows old_points new_rows new_points counts) → counts.status ≡ 0 → Stream l bytes gs
+    → read.given ≡ gs
+all_given {l = l} {bytes = bytes} gs read zero stream =
+    let end = status_zero l bytes (read.given ++ read.later) (are_more read.later) read.answer
+    (sym read.counted.status_is ∙ zero) read.ended in
+    sym (append-nil read.given)
+    ∙ rw (no_more read.later end.0) at (one_stream l bytes (read.given ++ read.later) gs end.1 stream)
+
 pub rows_of_text : (l : Allowance) (bytes : List ℕ) (old_rows new_rows : List BufferRow)
     (old_points new_points : List BufferPoint) (counts : BufferCounts) (text : List ℕ) (done : ℕ)
     → ReadsArrays l bytes old_rows old_points new_rows new_points counts → counts.status ≡ 0
     → UnpackedSlice l bytes text done → AreSameRows text old_rows old_points new_rows new_points
-rows_of_text l bytes old_rows new_rows old_points new_points counts text done read zero unpacked =
-    let end = status_zero l bytes (read.given ++ read.later) (are_more read.later) read.answer
-    (sym read.counted.status_is ∙ zero) read.ended in
-    let none : read.later ≡ [] = no_more read.later end.0 in
-    let whole : Stream l bytes read.given = subst (λ (gs : List Tree). Stream l bytes gs)
-    (ap (λ (gs : List Tree). read.given ++ gs) none ∙ append-nil read.given) end.1 in
-    let same : unpacked.found ≡ read.given = one_stream l bytes unpacked.found read.given unpacked.stream_is whole in
-    record {
-      rs = rows_of read.given;
-      text_is = unpacked.written_is ∙ ap table_text same;
-      rows_are = read.filled.rows_are;
-      points_are = read.filled.points_are;
-    }
+rows_of_text l bytes old_rows new_rows old_points new_points counts text done read zero unpacked = record {
+  rs = rows_of read.given;
+  text_is = unpacked.written_is ∙ ap table_text (sym (all_given unpacked.found read zero unpacked.stream_is));
+  rows_are = read.filled.rows_are;
+  points_are = read.filled.points_are;
+}
 
 -- the number of a reason of the grammar
 fault_number : grammar.Reason → ℕ

@@ -209,11 +209,11 @@ read_trees l gs (r ∷ rs) valid one = (
 )
 
 -- arrays that begin with those that were read
-begins_read : (l : Allowance) (gs hs : List Tree) (begun : List Row) (front_rows more : List BufferRow)
-    (front_points ahead : List BufferPoint) → IsAllowance l → AreValid l gs
+begins_read : {l : Allowance} {hs : List Tree} {begun : List Row} {front_rows more : List BufferRow}
+    {front_points ahead : List BufferPoint} (gs : List Tree) → IsAllowance l → AreValid l gs
     → AreRead l hs begun front_rows front_points → array_rows gs ≡ front_rows ++ more
     → array_points gs ≡ front_points ++ ahead → BeginsWith (rows_of gs) (rows_of hs ++ begun) more ahead
-begins_read l gs hs begun front_rows more front_points ahead cap valid read rows_are points_are =
+begins_read {l = l} {hs = hs} {begun = begun} {more = more} {ahead = ahead} gs cap valid read rows_are points_are =
     let ks = read_trees l hs begun read.valid read.begun_valid in
     begins_with (rows_of gs) (rows_of hs ++ begun) more ahead (plain_rows l gs cap valid)
     (subst ArePlain ks.2 (plain_rows l ks.0 cap ks.1))
@@ -226,34 +226,32 @@ no_rows [] e = refl
 no_rows (r ∷ rs) e = absurd (cc e)
 
 -- arrays of geometries, of which none is open
-none_open : (l : Allowance) (gs : List Tree) (in_rows : List BufferRow) (in_points : List BufferPoint)
+none_open : {l : Allowance} {gs : List Tree} {in_rows : List BufferRow} {in_points : List BufferPoint}
     → AreArrays l gs in_rows in_points → AreRead l gs [] in_rows in_points
-none_open l gs in_rows in_points a = record {
+none_open {gs = gs} a = record {
   valid = a.valid;
   begun_valid = tt;
-  rows_are = a.rows_are ∙ ap rows_in_c (sym (append-nil (rows_of gs)));
-  points_are = a.points_are ∙ ap (λ (rs : List Row). coordinates_of (row_points rs)) (sym (append-nil (rows_of gs)));
+  rows_are = rw (append-nil (rows_of gs)) a.rows_are;
+  points_are = rw (append-nil (rows_of gs)) a.points_are;
 }
 
 -- arrays are those of one list of geometries
-pub one_arrays : (l : Allowance) (gs hs : List Tree) (in_rows : List BufferRow) (in_points : List BufferPoint)
+pub one_arrays : {l : Allowance} {gs hs : List Tree} {in_rows : List BufferRow} {in_points : List BufferPoint}
     → IsAllowance l → AreArrays l gs in_rows in_points → AreArrays l hs in_rows in_points → hs ≡ gs
-one_arrays l gs hs in_rows in_points cap a b =
-    let w = begins_read l gs hs [] in_rows [] in_points [] cap a.valid (none_open l hs in_rows in_points b)
-    (sym a.rows_are ∙ sym (append-nil in_rows)) (sym a.points_are ∙ sym (append-nil in_points)) in
+one_arrays {l = l} {gs = gs} {hs = hs} {in_rows = in_rows} {in_points = in_points} cap a b =
+    let w = begins_read gs cap a.valid (none_open b) (sym a.rows_are ∙ sym (append-nil in_rows))
+    (sym a.points_are ∙ sym (append-nil in_points)) in
     sym (one_reading gs hs (geometries l gs a.valid) (geometries l hs b.valid)
-    (w.whole ∙ ap (λ (rs : List Row). (rows_of hs ++ []) ++ rs) (no_rows w.rest w.rows_are)
-    ∙ append-nil (rows_of hs ++ []) ∙ append-nil (rows_of hs)))
+    (w.whole ∙ ap (λ (rs : List Row). (rows_of hs ++ []) ++ rs) (no_rows w.rest w.rows_are) ∙ simp append-nil))
 
 -- no arrays of geometries have points that are left over
-pub none_left : (l : Allowance) (gs hs : List Tree) (in_rows : List BufferRow) (in_points : List BufferPoint)
-    (place number index : ℕ) → IsAllowance l → AreArrays l gs in_rows in_points
+pub none_left : {l : Allowance} {gs hs : List Tree} {in_rows : List BufferRow} {in_points : List BufferPoint}
+    {place number index : ℕ} → IsAllowance l → AreArrays l gs in_rows in_points
     → ArePointsLeft l hs in_rows in_points place number index → ⊥
-none_left l gs hs in_rows in_points place number index cap a b =
-    let w = begins_read l gs hs b.begun in_rows [] b.front_points b.left cap a.valid b.read
-    (sym a.rows_are ∙ sym (append-nil in_rows)) (sym a.points_are ∙ b.points_are) in
-    let none : b.left ≡ [] = w.points_are
-    ∙ ap (λ (rs : List Row). coordinates_of (row_points rs)) (no_rows w.rest w.rows_are) in
+none_left {gs = gs} {in_rows = in_rows} cap a b =
+    let w = begins_read gs cap a.valid b.read (sym a.rows_are ∙ sym (append-nil in_rows))
+    (sym a.points_are ∙ b.points_are) in
+    let none : b.left ≡ [] = rw (no_rows w.rest w.rows_are) at w.points_are in
     omega (arith, b.some, ap (λ (xs : List BufferPoint). length xs) none)
 
 -- a row that is refused after the rows of the open geometry is refused after all rows
@@ -278,35 +276,31 @@ no_refusal l gs rs more r why valid is refuses =
     some_none : (why : Refusal) → Some why ≡ None → ⊥
     some_none why e = cc e
 
+-- the first of rows of which there are some in C's layout
+some_row : (row : BufferRow) (more : List BufferRow) (rs : List Row) → row ∷ more ≡ rows_in_c rs
+    → (r : Row) × (rest : List Row) × (rs ≡ r ∷ rest) × (row ≡ row_in_c r)
+some_row row more [] e = cc e
+some_row row more (r ∷ rest) e = (r, rest, refl, head_same row (row_in_c r) more (rows_in_c rest) e)
+
 -- no arrays of geometries have a row that is refused
-pub none_refused : (l : Allowance) (gs hs : List Tree) (in_rows : List BufferRow) (in_points : List BufferPoint)
-    (place number index : ℕ) → IsAllowance l → AreArrays l gs in_rows in_points
+pub none_refused : {l : Allowance} {gs hs : List Tree} {in_rows : List BufferRow} {in_points : List BufferPoint}
+    {place number index : ℕ} → IsAllowance l → AreArrays l gs in_rows in_points
     → IsRefusedRow l hs in_rows in_points place number index → ⊥
-none_refused l gs hs in_rows in_points place number index cap a b =
-    let w = begins_read l gs hs b.begun b.front_rows (b.row ∷ b.more) b.front_points b.ahead cap a.valid b.read
-    (sym a.rows_are ∙ b.rows_are) (sym a.points_are ∙ b.points_are) in
-    by_rest l gs hs b.begun b.front_rows b.row b.more b.ahead number w.rest a.valid
-    (plain_rows l gs cap a.valid) b.read.begun_valid b.read.rows_are b.first b.refused w.whole w.rows_are w.points_are
-  where
-    by_rest : (l : Allowance) (gs hs : List Tree) (begun : List Row) (front_rows : List BufferRow) (row : BufferRow)
-        (more : List BufferRow) (ahead : List BufferPoint) (number : ℕ) (rest : List Row) → AreValid l gs
-        → ArePlain (rows_of gs) → AreValidRowsOfOne l begun → front_rows ≡ rows_in_c (rows_of hs ++ begun)
-        → (begun ≡ [] → (row.depth ≡ 0) ⊎ (front_rows ≡ [])) → RefusedAfter l begun row ahead number
-        → rows_of gs ≡ (rows_of hs ++ begun) ++ rest → row ∷ more ≡ rows_in_c rest
-        → ahead ≡ coordinates_of (row_points rest) → ⊥
-    by_rest l gs hs begun front_rows row more ahead number [] valid plain one front_are first refused whole rows_are
-        points_are = cc rows_are
-    by_rest l gs hs begun front_rows row more ahead number (r ∷ rest) valid plain one front_are first refused whole
-        rows_are points_are =
-        let row_is : row ≡ row_in_c r = head_same row (row_in_c r) more (rows_in_c rest) rows_are in
-        let ahead_is = points_are ∙ coordinates_of-append r.points (row_points rest) in
-        let plain_row = (all_apart IsPlain (rows_of hs ++ begun) (r ∷ rest) (subst ArePlain whole plain)).1.0 in
-        let why = refused_row l begun r (coordinates_of (row_points rest)) number plain_row
-        (subst (λ (xs : List BufferPoint). RefusedAfter l begun (row_in_c r) xs number) ahead_is
-        (subst (λ (x : BufferRow). RefusedAfter l begun x ahead number) row_is refused)) in
-        let at_front : begun ≡ [] → (r.depth ≡ 0) ⊎ (rows_of hs ++ begun ≡ []) = λ none. elim (first none) [
-          | inl root ↦ inl (sym (ap (λ (x : BufferRow). x.depth) row_is) ∙ root)
-          | inr empty ↦ inr (no_rows (rows_of hs ++ begun) (sym empty ∙ front_are))
-        ] in
-        no_refusal l gs (rows_of hs ++ begun) rest r why.0 valid whole
-        (refused_after_all l hs begun r why.0 one at_front why.1)
+none_refused {l = l} {gs = gs} {hs = hs} {number = number} cap a b =
+    let w = begins_read gs cap a.valid b.read (sym a.rows_are ∙ b.rows_are) (sym a.points_are ∙ b.points_are) in
+    let before = rows_of hs ++ b.begun in
+    let (r, rest, rest_is, row_is) = some_row b.row b.more w.rest w.rows_are in
+    let whole : rows_of gs ≡ before ++ r ∷ rest = w.whole ∙ ap (λ (rs : List Row). before ++ rs) rest_is in
+    let ahead_is : b.ahead ≡ coordinates_of r.points ++ coordinates_of (row_points rest) =
+    w.points_are ∙ ap (λ (rs : List Row). coordinates_of (row_points rs)) rest_is
+    ∙ coordinates_of-append r.points (row_points rest) in
+    let plain = all_apart IsPlain before (r ∷ rest) (subst ArePlain whole (plain_rows l gs cap a.valid)) in
+    let why = refused_row l b.begun r (coordinates_of (row_points rest)) number plain.1.0
+    (subst (λ (xs : List BufferPoint). RefusedAfter l b.begun (row_in_c r) xs number) ahead_is
+    (subst (λ (x : BufferRow). RefusedAfter l b.begun x b.ahead number) row_is b.refused)) in
+    let at_front : b.begun ≡ [] → (r.depth ≡ 0) ⊎ (before ≡ []) = λ none. elim (b.first none) [
+      | inl root ↦ inl (sym (ap (λ (x : BufferRow). x.depth) row_is) ∙ root)
+      | inr empty ↦ inr (no_rows before (sym empty ∙ b.read.rows_are))
+    ] in
+    no_refusal l gs before rest r why.0 a.valid whole
+    (refused_after_all l hs b.begun r why.0 b.read.begun_valid at_front why.1)

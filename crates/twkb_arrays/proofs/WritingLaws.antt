@@ -1,5 +1,5 @@
 -- Arrays are written in one way and read back as they are, samples of each kind too.
-use Rattle.std.proofs.Common.{◌≡◌, ◌∙◌, ℕ, ◌⊎◌, inl, inr, List, [], ◌∷◌, ◌++◌, length, take, drop, refl, sym, ap, subst}
+use Rattle.std.proofs.Common.{◌≡◌, ◌∙◌, ℕ, ◌⊎◌, inl, inr, List, [], ◌∷◌, ◌++◌, length, take, drop, refl, sym, ap}
 use Rattle.std.proofs.Common.{arith, append_assoc, length-append, Bool, true, false}
 use Rattle.std.specs.Prelude.{Result, Ok, Err, ◌≢◌}
 use Rattle.std.proofs.lemmas.List.{append-nil, length-map, take_at}
@@ -19,7 +19,7 @@ use Rattle.twkb_grammar.specs.declared.style.Style.{Style}
 use Rattle.twkb_grammar.specs.Samples.{one_point, three_points, three_points_blob, two_rings, named_points, standard}
 use Rattle.twkb_grammar.specs.Samples.{two_lines, named_areas, named_members, named_members_blob}
 use Rattle.twkb_grammar.specs.declared.style.Style.TheVariants.{Full}
-use Rattle.twkb_grammar.proofs.Streams.{one_stream, written_stream}
+use Rattle.twkb_grammar.proofs.Streams.{written_stream}
 use Rattle.twkb_grammar.proofs.Either.{blob_by, standard_allowed}
 use Rattle.twkb_blob.specs.declared.fault.BlobFault.{BlobFault}
 use Rattle.twkb_blob.specs.declared.fault.BlobFault.TheVariants as reading
@@ -37,7 +37,7 @@ use Rattle.twkb_arrays.specs.Samples.{each_kind, each_kind_points, each_kind_row
 use Rattle.twkb_arrays.specs.Samples.{two_rings_blob, named_points_blob, two_lines_blob, named_areas_blob}
 use Rattle.twkb_arrays.proofs.ArrayLemmas.{length-coordinates_of, row_points-append}
 use Rattle.twkb_arrays.proofs.TakingLemmas.{none_left, none_refused, one_arrays}
-use Rattle.twkb_arrays.proofs.ReadingLaws.{all_read, status_zero}
+use Rattle.twkb_arrays.proofs.ReadingLaws.{all_given, all_read}
 use Rattle.twkb_arrays.proofs.RoomLemmas.{no_more}
 
 -- ==== Arrays are written in one way, and read back as they are.
@@ -47,15 +47,15 @@ by_answer : (l : Allowance) (gs hs : List Tree) (in_rows : List BufferRow) (in_p
     (full : Bool) (answer : Result (Unit {0}) (Stop RefusedAt)) (status : ℕ) → status ≡ (write_outcome_of full answer).0
     → EndsWriting l hs in_rows in_points answer → IsAllowance l → AreArrays l gs in_rows in_points
     → (status ≡ 4) ⊎ ((hs ≡ gs) × (status ≢ 1))
-by_answer l gs hs in_rows in_points false (Ok done) status is ends cap a = inr
-    (one_arrays l gs hs in_rows in_points cap a ends, λ e. omega (arith, is, e))
-by_answer l gs hs in_rows in_points true (Ok done) status is ends cap a = inr
-    (one_arrays l gs hs in_rows in_points cap a ends, λ e. omega (arith, is, e))
+by_answer l gs hs in_rows in_points false (Ok done) status is ends cap a =
+    inr (one_arrays cap a ends, λ e. omega (arith, is, e))
+by_answer l gs hs in_rows in_points true (Ok done) status is ends cap a =
+    inr (one_arrays cap a ends, λ e. omega (arith, is, e))
 by_answer l gs hs in_rows in_points full (Err stop.Memory) status is ends cap a = inl is
 by_answer l gs hs in_rows in_points full (Err (stop.Refused at)) status is (inl row) cap a =
-    absurd (none_refused l gs hs in_rows in_points at.place at.number at.index cap a row)
+    absurd (none_refused cap a row)
 by_answer l gs hs in_rows in_points full (Err (stop.Refused at)) status is (inr left) cap a =
-    absurd (none_left l gs hs in_rows in_points at.place at.number at.index cap a left)
+    absurd (none_left cap a left)
 
 pub all_written_as : (l : Allowance) (style : Style) (in_rows : List BufferRow) (in_points : List BufferPoint)
     (old new : List ℕ) (report : BufferReport) (gs : List Tree)
@@ -106,8 +106,7 @@ all_wrote l style in_rows in_points old new report w zero =
     let stream = canonical_stream style w.given in
     record {
       gs = w.given;
-      are = subst (λ (gs : List Tree). AreArrays l gs in_rows in_points)
-          (ap (λ (gs : List Tree). w.given ++ gs) (no_more w.later end.0) ∙ append-nil w.given) end.1;
+      are = rw (no_more w.later end.0, append-nil w.given) at end.1;
       bytes_are = ap (λ (xs : List ℕ). take report.sent xs) w.written.bytes_are
           ∙ take_at stream (drop (length stream) old) report.sent (sym w.reported.sent_is);
     }
@@ -122,38 +121,32 @@ by_status l bytes gs (Err (reading.At offset reason)) status is ends not = absur
 by_status l bytes gs (Err _) status is ends not = inl is
 
 -- the first of geometries have no more rows and points than all
-room_for_first : (in_rows : List BufferRow) (in_points : List BufferPoint) (given later : List Tree) (g : Tree)
-    → HasRoom in_rows in_points (given ++ g ∷ later) → LacksRoom in_rows in_points (given ++ g ∷ []) → ⊥
-room_for_first in_rows in_points given later g room lacks =
-    let joined : (given ++ g ∷ []) ++ later ≡ given ++ g ∷ later = append_assoc given (g ∷ []) later in
-    let all : rows_of (given ++ g ∷ later) ≡ rows_of (given ++ g ∷ []) ++ rows_of later =
-    ap rows_of (sym joined) ∙ flat_map-append (rows 0) (given ++ g ∷ []) later in
-    let points : row_points (rows_of (given ++ g ∷ later))
-    ≡ row_points (rows_of (given ++ g ∷ [])) ++ row_points (rows_of later) =
-    ap row_points all ∙ row_points-append (rows_of (given ++ g ∷ [])) (rows_of later) in
-    elim lacks [
-      | inl few ↦ omega (
+room_for_first : (in_rows : List BufferRow) (in_points : List BufferPoint) (gs hs : List Tree)
+    → HasRoom in_rows in_points (gs ++ hs) → HasRoom in_rows in_points gs
+room_for_first in_rows in_points gs hs room =
+    let all : rows_of (gs ++ hs) ≡ rows_of gs ++ rows_of hs = flat_map-append (rows 0) gs hs in
+    let points = ap row_points all ∙ row_points-append (rows_of gs) (rows_of hs) in (
+      omega (arith, room.0, ap (λ (xs : List Row). length xs) all, length-append (rows_of gs) (rows_of hs)),
+      omega (
         arith,
-        few,
-        room.0,
-        ap (λ (xs : List Row). length xs) all,
-        length-append (rows_of (given ++ g ∷ [])) (rows_of later),
-      )
-      | inr few ↦ omega (
-        arith,
-        few,
         room.1,
         ap (λ (xs : List Point). length xs) points,
-        length-append (row_points (rows_of (given ++ g ∷ []))) (row_points (rows_of later)),
-      )
-    ]
+        length-append (row_points (rows_of gs)) (row_points (rows_of hs)),
+      ),
+    )
 
 -- with room for all, all is taken
 all_taken : (in_rows : List BufferRow) (in_points : List BufferPoint) (given later : List Tree)
     → HasRoom in_rows in_points (given ++ later) → StopsBefore (LacksRoom in_rows in_points) given later → later ≡ []
 all_taken in_rows in_points given [] room stops = refl
 all_taken in_rows in_points given (g ∷ later) room stops =
-    absurd (room_for_first in_rows in_points given later g room stops)
+    let first = room_for_first in_rows in_points (given ++ g ∷ []) later (rw append_assoc room) in
+    absurd (elim stops [ inl few ↦ omega (arith, few, first) | inr few ↦ omega (arith, few, first) ])
+
+-- what is written at the start of a list, by its own length
+laid_as : {X : Type 0} {new all given : List X} {n : ℕ} (old : List X) → given ≡ all → length given ≡ n
+    → new ≡ all ++ drop n old → new ≡ given ++ drop (length given) old
+laid_as old same count is = rw (count, same) is
 
 pub read_back : (l : Allowance) (given old new : Arrays) (counts : BufferCounts) → IsAllowance l
     → IsRoundTrip l given old new counts → (counts.status ≡ 4) ⊎ ((counts.status ≡ 0) × BeginAs given old new)
@@ -161,36 +154,30 @@ read_back l given old new counts cap trip =
     let bytes = take trip.report.sent trip.after in
     let w = all_wrote l trip.style given.rows given.points trip.before trip.after trip.report trip.wrote trip.done in
     let gs = w.gs in
-    let stream : Stream l bytes gs = subst (λ (b : List ℕ). Stream l b gs) (sym w.bytes_are)
-    (written_stream l trip.style gs cap w.are.valid) in
-    let row_count : length given.rows ≡ length (rows_of gs) = ap (λ (xs : List BufferRow). length xs) w.are.rows_are
-    ∙ length-map (rows_of gs) row_in_c in
-    let point_count : length given.points ≡ length (row_points (rows_of gs)) =
-    ap (λ (xs : List BufferPoint). length xs) w.are.points_are ∙ length-coordinates_of (row_points (rows_of gs)) in
+    let stream : Stream l bytes gs = rw w.bytes_are (written_stream l trip.style gs cap w.are.valid) in
+    let row_count = ap (λ (xs : List BufferRow). length xs) w.are.rows_are ∙ length-map (rows_of gs) row_in_c in
+    let point_count = ap (λ (xs : List BufferPoint). length xs) w.are.points_are
+    ∙ length-coordinates_of (row_points (rows_of gs)) in
     let room : HasRoom old.rows old.points gs =
     (omega (arith, row_count, trip.room_for_rows), omega (arith, point_count, trip.room_for_points)) in
     elim (all_read l bytes old.rows new.rows old.points new.points counts gs trip.read stream trip.few) [
       | inl memory ↦ inl memory
       | inr all ↦
           let none : trip.read.later ≡ [] = all_taken old.rows old.points trip.read.given trip.read.later
-          (subst (λ (hs : List Tree). HasRoom old.rows old.points hs) (sym all.0) room) trip.read.stops in
-          let same : trip.read.given ≡ gs = sym (append-nil trip.read.given)
-          ∙ ap (λ (hs : List Tree). trip.read.given ++ hs) (sym none) ∙ all.0 in
-          let status : counts.status ≡ (outcome_of false trip.read.answer).0 = trip.read.counted.status_is
-          ∙ ap (λ (hs : List Tree). (outcome_of (are_more hs) trip.read.answer).0) none in
-          let rows_are : new.rows ≡ given.rows ++ drop (length given.rows) old.rows = trip.read.filled.rows_are
-          ∙ ap (λ (hs : List Tree). array_rows hs ++ drop (length (rows_of hs)) old.rows) same
-          ∙ ap (λ (n : ℕ). array_rows gs ++ drop n old.rows) (sym row_count)
-          ∙ ap (λ (xs : List BufferRow). xs ++ drop (length given.rows) old.rows) (sym w.are.rows_are) in
-          let points_are : new.points ≡ given.points ++ drop (length given.points) old.points =
-          trip.read.filled.points_are
-          ∙ ap (λ (hs : List Tree). array_points hs ++ drop (length (row_points (rows_of hs))) old.points) same
-          ∙ ap (λ (n : ℕ). array_points gs ++ drop n old.points) (sym point_count)
-          ∙ ap (λ (xs : List BufferPoint). xs ++ drop (length given.points) old.points) (sym w.are.points_are) in
+          (rw all.0 room) trip.read.stops in
+          let same : trip.read.given ≡ gs = sym (append-nil trip.read.given) ∙ rw none at all.0 in
+          let status = rw none at trip.read.counted.status_is in
+          let rows_are : new.rows ≡ array_rows gs ++ drop (length (rows_of gs)) old.rows =
+          rw (← same) trip.read.filled.rows_are in
+          let points_are : new.points ≡ array_points gs ++ drop (length (row_points (rows_of gs))) old.points =
+          rw (← same) trip.read.filled.points_are in
           elim (by_status l bytes (trip.read.given ++ trip.read.later) trip.read.answer counts.status status
           trip.read.ended all.1) [
             | inl memory ↦ inl memory
-            | inr done ↦ inr (done, record { rows_are = rows_are; points_are = points_are })
+            | inr done ↦ inr (done, record {
+              rows_are = laid_as old.rows w.are.rows_are row_count rows_are;
+              points_are = laid_as old.points w.are.points_are point_count points_are;
+            })
           ]
     ]
 
@@ -207,11 +194,7 @@ pub written_canonical : (l : Allowance) (style : Style) (bytes : List ℕ) (old_
     → (report.status ≡ 4) ⊎ ((wrote.given ++ wrote.later ≡ gs) × (report.status ≢ 1))
 written_canonical l style bytes old_rows new_rows old_points new_points counts gs old new report cap read zero stream
     wrote =
-    let end = status_zero l bytes (read.given ++ read.later) (are_more read.later) read.answer
-    (sym read.counted.status_is ∙ zero) read.ended in
-    let same : read.given ≡ gs = sym (append-nil read.given)
-    ∙ ap (λ (hs : List Tree). read.given ++ hs) (sym (no_more read.later end.0))
-    ∙ one_stream l bytes (read.given ++ read.later) gs end.1 stream in
+    let same = all_given gs read zero stream in
     all_written_as l style (take counts.rows new_rows) (take counts.points new_points) old new report gs wrote cap
     (record {
       valid = stream_valid l bytes gs stream;
@@ -310,20 +293,12 @@ pub sample_read : (old_rows new_rows : List BufferRow) (old_points new_points : 
     → ReadsArrays standard each_kind_stream old_rows old_points new_rows new_points counts → counts.status ≡ 0
     → (new_rows ≡ each_kind_rows ++ drop 19 old_rows) × (new_points ≡ each_kind_points ++ drop 16 old_points)
 sample_read old_rows new_rows old_points new_points counts read zero =
-    let end = status_zero standard each_kind_stream (read.given ++ read.later) (are_more read.later) read.answer
-    (sym read.counted.status_is ∙ zero) read.ended in
-    let same : read.given ≡ each_kind = sym (append-nil read.given)
-    ∙ ap (λ (gs : List Tree). read.given ++ gs) (sym (no_more read.later end.0))
-    ∙ one_stream standard each_kind_stream (read.given ++ read.later) each_kind end.1 is_stream in (
-      read.filled.rows_are ∙ ap (λ (gs : List Tree). array_rows gs ++ drop (length (rows_of gs)) old_rows) same,
-      read.filled.points_are
-          ∙ ap (λ (gs : List Tree). array_points gs ++ drop (length (row_points (rows_of gs))) old_points) same,
-    )
+    let same = all_given each_kind read zero is_stream in
+    (rw same at read.filled.rows_are, rw same at read.filled.points_are)
 
 pub sample_written : (old new : List ℕ) (report : BufferReport)
     → WritesArrays standard Full each_kind_rows each_kind_points old new report
     → report.status ≡ 0 → take report.sent new ≡ each_kind_stream
 sample_written old new report wrote zero =
     let all = all_wrote standard Full each_kind_rows each_kind_points old new report wrote zero in
-    all.bytes_are ∙ ap (canonical_stream Full) (one_arrays standard each_kind all.gs each_kind_rows each_kind_points
-    standard_allowed are_arrays all.are) ∙ is_written
+    all.bytes_are ∙ ap (canonical_stream Full) (one_arrays standard_allowed are_arrays all.are) ∙ is_written
