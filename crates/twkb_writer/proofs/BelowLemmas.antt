@@ -1,17 +1,18 @@
 -- The rows below a row, its members among them, and their slots.
-use Rattle.std.proofs.Common.{◌≡◌, ℕ, List, [], ◌∷◌, ◌++◌, map, refl, ap, sym, ◌∙◌, append_assoc, append-nil, suc, ◌<◌}
-use Rattle.std.proofs.Common.{◌≤◌, true, false, length, Option, Some, None, subst, arith}
+use Rattle.std.proofs.Common.{◌≡◌, ℕ, List, [], ◌∷◌, ◌++◌, map, refl, ap, sym, ◌∙◌, append_assoc, append-nil, suc}
+use Rattle.std.proofs.Common.{◌<◌, ◌≤◌, true, false, length, Option, Some, None, subst, arith}
 use Rattle.std.specs.Prelude.{ℤ, ◌-ℤ◌, ⊤, nat_le, nat_eq}
 use Rattle.std.proofs.lemmas.Grind.{flat_map-append}
 use Rattle.std.proofs.lemmas.Bool.Decides.{nat_tests}
 use Rattle.twkb_num.specs.Varint.{varint_of}
 use Rattle.twkb_points.specs.Point.{Point}
-use Rattle.twkb_tree.specs.Tree.{Simple, polygon, multi_point, multi_line, multi_polygon, Tree, simple}
-use Rattle.twkb_tree.specs.Tree.{collection, Trees, end, ◌▷◌, Ids, members}
+use Rattle.twkb_tree.specs.Tree.{Simple, polygon, multi_point, multi_line, multi_polygon, Tree, simple, collection}
+use Rattle.twkb_tree.specs.Tree.{Trees, end, ◌▷◌, Ids, members}
 use Rattle.twkb_tree.specs.declared.kind.Kind.{Kind}
-use Rattle.twkb_tree.specs.Rows.{Row, plain_row, polygon_rows, own_row, rows_with, rows_below, member_rows, ring_rows}
-use Rattle.twkb_tree.specs.Rows.{rows_of_each, first_id, other_ids}
+use Rattle.twkb_tree.specs.Rows.{Row, plain_row, polygon_rows, rows_with, rows_below, member_rows, ring_rows}
+use Rattle.twkb_tree.specs.Rows.{rows_of_each, first_id, other_ids, rows_under}
 use Rattle.twkb_tree.proofs.AllJoined.{all_join}
+use Rattle.twkb_tree.proofs.MemberLemmas.{own_row_first}
 use Rattle.twkb_tree.proofs.RowLaws.{AreDeep, IsDeeper}
 use Rattle.twkb_tree.proofs.RowSteps.{own_row-depth}
 use Rattle.twkb_grammar.specs.Roles.{Field}
@@ -189,24 +190,14 @@ deep-simple d (multi_polygon ids areas) = deep-each d (polygon_rows d)
     (λ id x. (omega arith, deep-less d (ring_rows (suc d) x) (deep-rings (suc d) x))) ids areas
 deep-simple d _ = tt
 
--- the rows below a geometry's own row, at depth d
-abbrev pub below_of : ℕ → Tree → List Row
-below_of d (simple p s) = rows_below d s
-below_of d (collection p ids gs) = member_rows d ids gs
-
--- a geometry's row, and those below it
-pub rows_with-below : (id : Option ℤ) (d : ℕ) (g : Tree) → rows_with id d g ≡ own_row id d g ∷ below_of (suc d) g
-rows_with-below id d (simple p s) = refl
-rows_with-below id d (collection p ids gs) = refl
-
 -- a geometry's rows are at its depth or deeper
-deep-own : (d : ℕ) (id : Option ℤ) (g : Tree) → AreDeep (suc d) (below_of (suc d) g) → AreDeep d (rows_with id d g)
+deep-own : (d : ℕ) (id : Option ℤ) (g : Tree) → AreDeep (suc d) (rows_under (suc d) g) → AreDeep d (rows_with id d g)
 deep-own d id g h =
     let own = own_row-depth id d g in
-    subst (AreDeep d) (sym (rows_with-below id d g)) (omega (arith, own), deep-less d (below_of (suc d) g) h)
+    subst (AreDeep d) (sym (own_row_first id d g)) (omega (arith, own), deep-less d (rows_under (suc d) g) h)
 
 mutual
-  pub deep-below : (d : ℕ) (g : Tree) → AreDeep d (below_of d g)
+  pub deep-below : (d : ℕ) (g : Tree) → AreDeep d (rows_under d g)
   deep-below d (simple p s) = deep-simple d s
   deep-below d (collection p ids gs) = deep-members d ids gs
 

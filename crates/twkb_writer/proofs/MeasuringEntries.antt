@@ -1,29 +1,28 @@
 -- The entry of a geometry, from the rows below it.
-use Rattle.std.proofs.Common.{◌≡◌, ℕ, ◌+◌, Bool, true, false, List, [], ◌∷◌, ◌++◌, length, Option}
-use Rattle.std.proofs.Common.{None, Some, refl, sym, ◌∙◌, ap, arith, length-append}
+use Rattle.std.proofs.Common.{◌≡◌, ℕ, ◌+◌, Bool, true, false, List, [], ◌∷◌, ◌++◌, length, Option, None, Some, refl}
+use Rattle.std.proofs.Common.{sym, ◌∙◌, ap, arith, length-append}
 use Rattle.std.specs.Prelude.{ℤ, ◌-ℤ◌, is_some, not, ◌&&◌, if◌then◌else◌}
 use Rattle.twkb_num.specs.Zigzag.{zigzag_of}
 use Rattle.twkb_num.specs.Varint.{varint_of}
 use Rattle.twkb_points.specs.Point.{Point}
 use Rattle.twkb_points.specs.Extent.{Extent, extent}
 use Rattle.twkb_tree.specs.declared.kind.Kind.{Kind}
-use Rattle.twkb_tree.specs.Tree.{Tree, simple, collection, flat, precision_of}
+use Rattle.twkb_tree.specs.Tree.{Tree, flat, precision_of}
 use Rattle.twkb_tree.specs.Uniform.{uniform}
-use Rattle.twkb_grammar.specs.Written.{canonical_blob, written, sized, box_of, has_any, is_empty}
-use Rattle.twkb_grammar.specs.Written.{flags_of_tree, metadata_byte, kind_of_tree}
-use Rattle.twkb_grammar.specs.Written.{is_point as is_point_tree}
+use Rattle.twkb_grammar.specs.Written.{canonical_blob, sized, box_of, has_any, is_empty, flags_of_tree, metadata_byte}
+use Rattle.twkb_grammar.specs.Written.{kind_of_tree, is_point as is_point_tree}
 use Rattle.twkb_grammar.specs.Items.{header_byte}
 use Rattle.twkb_grammar.specs.declared.style.Style.{Style}
 use Rattle.twkb_grammar.specs.declared.style.Style.TheVariants.{Full, Plain}
 use Rattle.twkb_writer.specs.declared.totals.RowTotals.{RowTotals}
 use Rattle.twkb_writer.specs.declared.tails.TailTotals.{TailTotals}
 use Rattle.twkb_writer.specs.Bytes.{signed, box_bytes}
-use Rattle.twkb_writer.specs.Totals.{lead_len, is_bare, body_len, all_bounds, is_point, box_for}
-use Rattle.twkb_writer.specs.Totals.{box_len, entry_for, blob_len}
+use Rattle.twkb_writer.specs.Totals.{lead_len, is_bare, body_len, all_bounds, is_point, box_for, box_len, entry_for}
+use Rattle.twkb_writer.specs.Totals.{blob_len}
 use Rattle.twkb_writer.specs.Precisions.{all_are}
 use Rattle.twkb_writer.specs.Sizes.{body_of, own_body, bounds_of, content_of, part_count, ids_of, entry_of}
 use Rattle.twkb_writer.specs.Tails.{number_len, from_origin}
-use Rattle.twkb_writer.proofs.TreeBytes.{box_is as box_is_written}
+use Rattle.twkb_writer.proofs.TreeBytes.{box_is as box_is_written, blob_is}
 use Rattle.twkb_writer.proofs.MeasuringParts.{length-number}
 
 -- ---- boxes
@@ -55,10 +54,6 @@ box_if a u (p ∷ ps) = refl
 
 -- ---- the length of a blob
 
-canonical_is : (style : Style) (g : Tree) → canonical_blob style g ≡ written style g (body_of style g)
-canonical_is style (simple p s) = refl
-canonical_is style (collection p ids gs) = refl
-
 sized_length : (a b : ℕ) (rest : List ℕ) → length (a ∷ b ∷ sized rest) ≡ 2 + number_len (length rest) + length rest
 sized_length a b rest = omega (arith, length-append (varint_of (length rest)) rest, length-number (length rest))
 
@@ -72,10 +67,10 @@ blob_length Full g =
     ap (λ b. blob_len Full (length (b ++ own_body Full g))) (box_is_written g)
     ∙ sym (sized_length (header_byte (kind_of_tree g) (precision_of g)) (metadata_byte Full g)
     (box_of g ++ own_body Full g))
-    ∙ sym (ap (λ bs. length bs) (canonical_is Full g))
+    ∙ sym (ap (λ bs. length bs) (blob_is Full g))
 blob_length Plain g =
     sym (plain_length (header_byte (kind_of_tree g) (precision_of g)) (metadata_byte Plain g) (own_body Plain g))
-    ∙ sym (ap (λ bs. length bs) (canonical_is Plain g))
+    ∙ sym (ap (λ bs. length bs) (blob_is Plain g))
 
 -- ---- the entry
 

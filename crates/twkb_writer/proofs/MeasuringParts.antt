@@ -482,7 +482,7 @@ bare_parts : {A : Type 0} (xs : List A) (n : ℕ) → n ≡ length xs → nat_eq
 bare_parts [] n e = ap (λ k. nat_eq k 0) e
 bare_parts (x ∷ xs) n e = ap (λ k. nat_eq k 0) e ∙ nat_eq_more (length xs)
 
-and_true : (b : Bool) → (b && true) ≡ b
+pub and_true : (b : Bool) → (b && true) ≡ b
 and_true true = refl
 and_true false = refl
 

@@ -3,7 +3,7 @@ use mathlib.Core.List.{reverse_aux}
 use Rattle.std.proofs.Common.{◌+◌, ◌*◌, ◌≤◌, arith, ◌≡◌, ℕ, suc, ◌<◌, List, [], ◌∷◌, ◌++◌, length, true, false, refl}
 use Rattle.std.proofs.Common.{◌∙◌, ap, Option, None, Some, inl, inr, length-append, ◌≢◌, zero, drop, take, get_or}
 use Rattle.std.proofs.Common.{set, sym, subst, append-nil}
-use Rattle.std.specs.Prelude.{nat_lt, nat_eq, if◌then◌else◌, ℤ}
+use Rattle.std.specs.Prelude.{nat_lt, nat_eq, ℤ}
 use Rattle.std.proofs.lemmas.Bool.Decides.{nat_tests}
 use Rattle.std.proofs.lemmas.Bool.{cases_lt, cases_eq}
 use Rattle.std.proofs.lemmas.List.{get_or-set_same, get_or-set_other, length-set, take-append-drop}
@@ -24,9 +24,9 @@ use Rattle.twkb_writer.specs.Caps.{weights_cap}
 use Rattle.twkb_writer.specs.Depths.{IsBlankFrom}
 use Rattle.twkb_writer.specs.declared.totals.RowTotals.{RowTotals}
 use Rattle.twkb_writer.specs.Totals.{blank, IsSmall}
-use Rattle.twkb_writer.specs.MeasuredRows.{totals, chosen, row_totals, points_ahead, ahead_of, cost_of, weight}
-use Rattle.twkb_writer.specs.MeasuredRows.{weights, measured, row_entry, option_list, tail_after, TakenRow, Stands}
-use Rattle.twkb_writer.specs.MeasuredRows.{AreNested, AreMeasurable}
+use Rattle.twkb_writer.specs.MeasuredRows.{totals, row_totals, points_ahead, ahead_of, cost_of, weight, weights}
+use Rattle.twkb_writer.specs.MeasuredRows.{measured, row_entry, option_list, tail_after, TakenRow, Stands, AreNested}
+use Rattle.twkb_writer.specs.MeasuredRows.{AreMeasurable}
 use Rattle.twkb_writer.specs.Tails.{tail_of}
 use Rattle.twkb_writer.specs.declared.depths.TheConstants.{DEPTHS}
 use Rattle.twkb_writer.specs.declared.sizes.Entry.{Entry}
@@ -34,51 +34,26 @@ use Rattle.twkb_writer.specs.declared.tails.TailTotals.{TailTotals}
 
 -- ==== The totals of the rows at one depth, by the first row.
 
-is_lt : (a b : ℕ) → a < b → nat_lt a b ≡ true
-is_lt a b h = grind (arith, nat_tests)
-
-not_lt : (a b : ℕ) → b ≤ a → nat_lt a b ≡ false
-not_lt a b h = grind (arith, nat_tests)
-
-is_eq : (a b : ℕ) → a ≡ b → nat_eq a b ≡ true
-is_eq a b h = grind (arith, nat_tests)
-
-not_eq : (a b : ℕ) → b < a → nat_eq a b ≡ false
-not_eq a b h = grind (arith, nat_tests)
-
-chosen_above : (d k : ℕ) (own others : RowTotals) → d < k → chosen d k own others ≡ blank
-chosen_above d k own others h = ap (λ b. if b then blank else if nat_eq d k then own else others) (is_lt d k h)
-
-chosen_at : (d k : ℕ) (own others : RowTotals) → d ≡ k → chosen d k own others ≡ own
-chosen_at d k own others e =
-    ap (λ b. if b then blank else if nat_eq d k then own else others) (not_lt d k (omega arith))
-    ∙ ap (λ b. if b then own else others) (is_eq d k e)
-
-chosen_below : (d k : ℕ) (own others : RowTotals) → k < d → chosen d k own others ≡ others
-chosen_below d k own others h =
-    ap (λ b. if b then blank else if nat_eq d k then own else others) (not_lt d k (omega arith))
-    ∙ ap (λ b. if b then own else others) (not_eq d k h)
-
 -- a row above the depth ends its rows
-pub totals_above : (style : Style) (k : ℕ) (r : Row) (rs : List Row) → r.depth < k → totals style k (r ∷ rs) ≡ blank
-totals_above style k r rs h = chosen_above r.depth k
-    (row_totals style r.kind (length r.points) r.id r.precision (totals style (suc k) rs)
-    (tail_of (r.points ++ points_ahead rs)) (totals style k rs)) (totals style k rs) h
+totals_above : (style : Style) (k : ℕ) (r : Row) (rs : List Row) → r.depth < k → totals style k (r ∷ rs) ≡ blank
+totals_above style k r rs h = let lt : nat_lt r.depth k ≡ true = grind (arith, nat_tests) in rw lt refl
 
 -- a row at the depth is counted
 pub totals_at : (style : Style) (k : ℕ) (r : Row) (rs : List Row) → r.depth ≡ k
     → totals style k (r ∷ rs) ≡ row_totals style r.kind (length r.points) r.id r.precision
     (totals style (suc k) rs) (tail_of (r.points ++ points_ahead rs)) (totals style k rs)
-totals_at style k r rs e = chosen_at r.depth k
-    (row_totals style r.kind (length r.points) r.id r.precision (totals style (suc k) rs)
-    (tail_of (r.points ++ points_ahead rs)) (totals style k rs)) (totals style k rs) e
+totals_at style k r rs e =
+    let lt : nat_lt r.depth k ≡ false = grind (arith, nat_tests) in
+    let eq : nat_eq r.depth k ≡ true = grind (arith, nat_tests) in
+    rw (lt, eq) refl
 
 -- a deeper row is passed over
-pub totals_below : (style : Style) (k : ℕ) (r : Row) (rs : List Row) → k < r.depth
+totals_below : (style : Style) (k : ℕ) (r : Row) (rs : List Row) → k < r.depth
     → totals style k (r ∷ rs) ≡ totals style k rs
-totals_below style k r rs h = chosen_below r.depth k
-    (row_totals style r.kind (length r.points) r.id r.precision (totals style (suc k) rs)
-    (tail_of (r.points ++ points_ahead rs)) (totals style k rs)) (totals style k rs) h
+totals_below style k r rs h =
+    let lt : nat_lt r.depth k ≡ false = grind (arith, nat_tests) in
+    let eq : nat_eq r.depth k ≡ false = grind (arith, nat_tests) in
+    rw (lt, eq) refl
 
 -- nothing is counted at a depth if the next row is above it
 pub totals_none : (style : Style) (k : ℕ) (rs : List Row) → IsAbove k rs → totals style k rs ≡ blank

@@ -38,7 +38,8 @@ use Rattle.twkb_writer.proofs.MeasuringParts.{with_each, above_less, components_
 use Rattle.twkb_writer.proofs.MeasuringParts.{AreCounted, counted_none, counted_join, parts_counted, all_points}
 use Rattle.twkb_writer.proofs.MeasuringParts.{IsCounted, members_each, ids_each, named_each, ids_sum, ids_len}
 use Rattle.twkb_writer.proofs.MeasuringParts.{length-number, length-fields, from_origin-tail_of, total_parts}
-use Rattle.twkb_writer.proofs.MeasuringParts.{lead_parts, bare_shape}
+use Rattle.twkb_writer.proofs.MeasuringParts.{and_true, lead_parts, bare_shape}
+use Rattle.twkb_writer.proofs.TreeBytes.{length-members, has_members}
 use Rattle.twkb_writer.proofs.MeasuringEntries.{IsMeasured, entry_is, blob_length}
 
 -- ==== The precisions of several geometries, which decide whether there is a box.
@@ -53,10 +54,6 @@ int_eq_is _ _ h = cc
 int_eq_self : (n : ℤ) → int_eq n n ≡ true
 int_eq_self (pos n) = eq-eqb n n refl
 int_eq_self (negsuc n) = eq-eqb n n refl
-
-and_true : (b : Bool) → b ≡ (b && true)
-and_true true = refl
-and_true false = refl
 
 and_false : (b : Bool) → false ≡ (b && false)
 and_false true = refl
@@ -78,7 +75,7 @@ two_ones p q r false e = apart p q r (int_eq p q) refl e
 
 -- all of both groups have a precision if all of each have it
 pub all_are-agreed : (p : ℤ) (a b : Precisions) → all_are p (agreed a b) ≡ (all_are p a && all_are p b)
-all_are-agreed p (One q) Absent = and_true (int_eq p q)
+all_are-agreed p (One q) Absent = sym (and_true (int_eq p q))
 all_are-agreed p (One q) (One r) = two_ones p q r (int_eq q r) refl
 all_are-agreed p (One q) Several = and_false (int_eq p q)
 all_are-agreed p _ b = refl
@@ -137,10 +134,6 @@ trees_totals style ids gs = with_each (with_tree style) ids (members gs) blank
 pub tree_counted : (style : Style) → IsCounted (with_tree style)
 tree_counted style = record { members = λ id g l. refl; ids = λ id g l. refl; named = λ id g l. refl }
 
-length-members : (gs : Trees) → length (members gs) ≡ count gs
-length-members end = refl
-length-members (g ▷ gs) = ap suc (length-members gs)
-
 trees_bytes : (style : Style) (ids : Ids) (gs : Trees)
     → (trees_totals style ids gs).bytes ≡ length (canonical_members style gs)
 trees_bytes style ids end = refl
@@ -183,10 +176,6 @@ simple_measured style p s h =
     }
 
 -- ---- a collection is measured by its members
-
--- a collection's ids are as many as its members
-pub ids_fit : (ids : Ids) (gs : Trees) → HasIds ids (count gs) → HasIds ids (length (members gs))
-ids_fit ids gs h = subst (HasIds ids) (sym (length-members gs)) h
 
 id_fields_len : (ids : List ℤ) → length (varints (filled (map OfId ids) [])) ≡ ids_sum ids
 id_fields_len [] = refl
@@ -304,7 +293,7 @@ mutual
       (sizes_of_all style gs) (members_counted style (suc d) ids gs fits.2)
       (λ rest h. record { above = above_less (suc d) rest h.above; no_part = h.no_part })
       (deep-below (suc d) (collection p ids gs))
-      (collection_measured style p ids gs (ids_fit ids gs fits.1))
+      (collection_measured style p ids gs (has_members ids gs fits.1))
       (ap (agreed (One p)) (trees_precisions style ids gs))
 
   -- what the rows of members add, one after another

@@ -9,7 +9,7 @@ use Rattle.twkb_num.specs.Varint.{varint_of}
 use Rattle.twkb_num.specs.Zigzag.{zigzag_of}
 use Rattle.twkb_points.specs.Point.{Point}
 use Rattle.twkb_io.specs.Sinks.{TookFront}
-use Rattle.twkb_writer.specs.Bytes.{signed, step_bytes, way_bytes, way_end}
+use Rattle.twkb_writer.specs.Bytes.{signed, step_bytes, way_bytes}
 use Rattle.twkb_writer.specs.declared.gatherer.Gatherer.{Gatherer}
 use Rattle.twkb_writer.specs.Putting.{Stands, Put, Progress}
 use Rattle.twkb_writer.specs.declared.tails.TailTotals.{TailTotals}
@@ -210,64 +210,44 @@ module _ {S F : Type 0} (took : S → List ℕ → S → Type 0) (refused : S �
 
 -- ==== The points of a node, one after another.
 
+-- the points from a place up to an end
+abbrev pub part : List Point → ℕ → ℕ → List Point
+part ps i end = take (end - i) (drop i ps)
+
 -- the next of some points, and the points after it
 pub part_more : (ps : List Point) (i end : ℕ) (p : Point) → i < end → slice_get ps i ≡ Some p
-    → take (end - i) (drop i ps) ≡ p ∷ take (end - (i + 1)) (drop (i + 1) ps)
+    → part ps i end ≡ p ∷ part ps (i + 1) end
 part_more ps i end p h e =
     let here : drop i ps ≡ p ∷ drop (i + 1) ps = drop_more ps i p (slice_get_within ps i p e)
     ∙ ap (λ (q : Point). q ∷ drop (i + 1) ps) (get_or_from_slice_get ps i p p e) in
     let turns : end - i ≡ suc (end - (i + 1)) = omega arith in
     ap (λ (n : ℕ). take n (drop i ps)) turns ∙ ap (take (suc (end - (i + 1)))) here
 
--- the differences to the next point and from there on
-pub way_more : (ps : List Point) (i end : ℕ) (at p : Point) → i < end → slice_get ps i ≡ Some p
-    → way_bytes at (take (end - i) (drop i ps)) ≡ step_bytes (p.x -ℤ at.x, p.y -ℤ at.y)
-    ++ way_bytes p (take (end - (i + 1)) (drop (i + 1) ps))
-way_more ps i end at p h e = ap (way_bytes at) (part_more ps i end p h e)
-
--- the last point of the rest is the last of all
-pub end_more : (ps : List Point) (i end : ℕ) (at p : Point) → i < end → slice_get ps i ≡ Some p
-    → way_end at (take (end - i) (drop i ps)) ≡ way_end p (take (end - (i + 1)) (drop (i + 1) ps))
-end_more ps i end at p h e = ap (way_end at) (part_more ps i end p h e)
-
--- the differences to the next two points and from there on
-pub way_two : (ps : List Point) (i end : ℕ) (at p q : Point) → i + 2 ≤ end → slice_get ps i ≡ Some p
-    → slice_get ps (i + 1) ≡ Some q
-    → way_bytes at (take (end - i) (drop i ps)) ≡ (step_bytes (p.x -ℤ at.x, p.y -ℤ at.y)
-    ++ step_bytes (q.x -ℤ p.x, q.y -ℤ p.y)) ++ way_bytes q (take (end - (i + 2)) (drop (i + 2) ps))
-way_two ps i end at p q h e f =
-    let first = step_bytes (p.x -ℤ at.x, p.y -ℤ at.y) in
-    let second = step_bytes (q.x -ℤ p.x, q.y -ℤ p.y) in
+-- the next two points, and the points after them
+pub part_two : (ps : List Point) (i end : ℕ) (p q : Point) → i + 2 ≤ end → slice_get ps i ≡ Some p
+    → slice_get ps (i + 1) ≡ Some q → part ps i end ≡ p ∷ q ∷ part ps (i + 2) end
+part_two ps i end p q h e f =
     let place : i + 1 + 1 ≡ i + 2 = omega arith in
-    way_more ps i end at p (omega arith) e
-    ∙ ap (λ bs. first ++ bs) (way_more ps (i + 1) end p q (omega arith) f)
-    ∙ ap (λ k. first ++ (second ++ way_bytes q (take (end - k) (drop k ps)))) place
-    ∙ sym (append_assoc first second (way_bytes q (take (end - (i + 2)) (drop (i + 2) ps))))
+    part_more ps i end p (omega arith) e
+    ∙ ap (λ l. p ∷ l) (part_more ps (i + 1) end q (omega arith) f ∙ ap (λ k. q ∷ part ps k end) place)
 
--- the last point of the rest after two is the last of all
-pub end_two : (ps : List Point) (i end : ℕ) (at p q : Point) → i + 2 ≤ end → slice_get ps i ≡ Some p
-    → slice_get ps (i + 1) ≡ Some q
-    → way_end at (take (end - i) (drop i ps)) ≡ way_end q (take (end - (i + 2)) (drop (i + 2) ps))
-end_two ps i end at p q h e f =
-    let place : i + 1 + 1 ≡ i + 2 = omega arith in
-    end_more ps i end at p (omega arith) e ∙ end_more ps (i + 1) end p q (omega arith) f
-    ∙ ap (λ k. way_end q (take (end - k) (drop k ps))) place
+-- the differences to two points and from there on
+pub way_two : (at p q : Point) (ps : List Point)
+    → way_bytes at (p ∷ q ∷ ps) ≡ (step_bytes (p.x -ℤ at.x, p.y -ℤ at.y)
+    ++ step_bytes (q.x -ℤ p.x, q.y -ℤ p.y)) ++ way_bytes q ps
+way_two at p q ps = sym (append_assoc (step_bytes (p.x -ℤ at.x, p.y -ℤ at.y))
+    (step_bytes (q.x -ℤ p.x, q.y -ℤ p.y)) (way_bytes q ps))
 
 -- no points are left
-pub nothing_left : (ps : List Point) (i end : ℕ) → end ≤ i → take (end - i) (drop i ps) ≡ []
+pub nothing_left : (ps : List Point) (i end : ℕ) → end ≤ i → part ps i end ≡ []
 nothing_left ps i end h = ap (λ (n : ℕ). take n (drop i ps)) (let none : end - i ≡ 0 = omega arith in none)
 
 -- all points are left
-pub whole_part : (ps : List Point) (first count : ℕ) → take (first + count - first) (drop first ps)
-    ≡ take count (drop first ps)
+pub whole_part : (ps : List Point) (first count : ℕ) → part ps first (first + count) ≡ take count (drop first ps)
 whole_part ps first count = ap (λ (n : ℕ). take n (drop first ps))
     (let same : first + count - first ≡ count = omega arith in same)
 
 -- ==== The points of a node, read from the last to the first.
-
--- the points from a place up to an end
-abbrev pub part : List Point → ℕ → ℕ → List Point
-part ps i end = take (end - i) (drop i ps)
 
 -- the totals after one more point is added before the others
 tail_back : (ps : List Point) (i end : ℕ) (p : Point) (ahead : List Point) (new : TailTotals)
@@ -278,16 +258,14 @@ tail_back ps i end p ahead new within read new_is =
 
 -- the totals after two more points are added before the others
 pub tail_two : (ps : List Point) (before j i after end : ℕ) (p q : Point) (ahead : List Point) (new : TailTotals)
-    → before ≤ end → before ≡ i + 1 + 1 → j ≡ i + 1 → after ≡ i
+    → before ≤ end → before ≡ i + 2 → j ≡ i + 1 → after ≡ i
     → slice_get ps j ≡ Some q → slice_get ps i ≡ Some p
     → new ≡ tail_of (p ∷ q ∷ (part ps before end ++ ahead)) → new ≡ tail_of (part ps after end ++ ahead)
 tail_two ps before j i after end p q ahead new within before_is j_is after_is last first new_is =
-    let second : slice_get ps (i + 1) ≡ Some q = ap (slice_get ps) (sym j_is) ∙ last in
-    tail_back ps i end p ahead new (omega (arith, before_is)) first
-    (new_is
+    let two = part_two ps i end p q (omega (arith, before_is)) first (ap (slice_get ps) (sym j_is) ∙ last) in
+    new_is
     ∙ ap (λ (n : ℕ). tail_of (p ∷ q ∷ (part ps n end ++ ahead))) before_is
-    ∙ ap (λ (l : List Point). tail_of (p ∷ (l ++ ahead)))
-    (sym (part_more ps (i + 1) end q (omega (arith, before_is)) second)))
+    ∙ ap (λ (l : List Point). tail_of (l ++ ahead)) (sym two)
     ∙ ap (λ (n : ℕ). tail_of (part ps n end ++ ahead)) (sym after_is)
 
 -- the totals of the last point and those after it

@@ -12,10 +12,11 @@ use Rattle.twkb_tree.specs.Tree.{Simple, point, line, polygon, multi_point, mult
 use Rattle.twkb_tree.specs.Tree.{collection, end, ◌▷◌, IsTree, IsPrecision, precision_of, flat, Ids, Trees, HasIds}
 use Rattle.twkb_tree.specs.Tree.{IdsFit, AreTrees, members, count}
 use Rattle.twkb_tree.specs.Rows.{own_row, own_points, kind_in, Row, plain_row, polygon_rows, ring_rows, rows_of_each}
-use Rattle.twkb_tree.specs.Rows.{other_ids, rows, rows_with, rows_below, member_rows, first_id}
+use Rattle.twkb_tree.specs.Rows.{other_ids, rows, rows_with, rows_below, member_rows, first_id, rows_under}
 use Rattle.twkb_tree.specs.Uniform.{uniform}
 use Rattle.twkb_tree.specs.declared.kind.Kind.{Kind}
 use Rattle.twkb_tree.specs.declared.kind.Kind.TheVariants as kind
+use Rattle.twkb_tree.proofs.MemberLemmas.{own_row_first}
 use Rattle.twkb_tree.proofs.RowForest.{both_true}
 use Rattle.twkb_tree.proofs.RowSteps.{own_row-depth, own_row-id}
 use Rattle.twkb_tree.proofs.RowLaws.{AreDeep, one_geometry}
@@ -38,7 +39,7 @@ use Rattle.twkb_writer.specs.Sizes.{parts_in, ids_in, part_count, ids_of, AreSiz
 use Rattle.twkb_writer.specs.declared.sizes.Entry.{Entry}
 use Rattle.twkb_writer.proofs.BelowLemmas.{walked, walked-append, walked-points, reached-points, walked-way}
 use Rattle.twkb_writer.proofs.BelowLemmas.{reached-way, walked-ids, reached-ids, filled-ids, Stops, members-each}
-use Rattle.twkb_writer.proofs.BelowLemmas.{members-stop, length-each, stops_deeper, ids-each, below_of, rows_with-below}
+use Rattle.twkb_writer.proofs.BelowLemmas.{members-stop, length-each, stops_deeper, ids-each}
 use Rattle.twkb_writer.proofs.BelowLemmas.{deep-below, deep-rings, member_rows-each}
 
 -- ==== The header of a geometry by its entry is that of its canonical blob.
@@ -173,7 +174,7 @@ framed_is Full g =
     ∙ ap (λ (box : List ℕ). varint_of (length (box ++ body)) ++ (box ++ body)) (box_is g)
 framed_is Plain g = refl
 
-blob_is : (style : Style) (g : Tree) → canonical_blob style g ≡ written style g (body_of style g)
+pub blob_is : (style : Style) (g : Tree) → canonical_blob style g ≡ written style g (body_of style g)
 blob_is style (simple p s) = refl
 blob_is style (collection p ids gs) = refl
 
@@ -439,11 +440,11 @@ stops_members d ids (simple p s ▷ gs) rs h = omega arith
 stops_members d ids (collection p is hs ▷ gs) rs h = omega arith
 
 -- the members as a list are as many as the members
-length-members : (gs : Trees) → length (members gs) ≡ count gs
+pub length-members : (gs : Trees) → length (members gs) ≡ count gs
 length-members end = refl
 length-members (g ▷ gs) = let more = length-members gs in omega (arith, more)
 
-has_members : (ids : Ids) (gs : Trees) → HasIds ids (count gs) → HasIds ids (length (members gs))
+pub has_members : (ids : Ids) (gs : Trees) → HasIds ids (count gs) → HasIds ids (length (members gs))
 has_members ids gs h = subst (HasIds ids) (sym (length-members gs)) h
 
 -- the ids of the members of a collection
@@ -454,7 +455,7 @@ collection_ids d ids gs rs stops h =
     ap (λ (l : List Row). if is_some ids then ids_bytes (members_below d (l ++ rs)) else [])
     (member_rows-each (suc d) ids gs)
     ∙ part_ids d (λ id g. rows_with id (suc d) g) (λ id g. own_row id (suc d) g)
-    (λ id g. below_of (suc (suc d)) g) (λ id g. rows_with-below id (suc d) g)
+    (λ id g. rows_under (suc (suc d)) g) (λ id g. own_row_first id (suc d) g)
     (λ id g. own_row-depth id (suc d) g)
     (λ id g. deep-below (suc (suc d)) g) (λ id g. own_row-id id (suc d) g) origin ids (members gs)
     rs stops (has_members ids gs h)

@@ -1,17 +1,14 @@
 -- Walks from member to member and from row to row read each row once.
 use Rattle.std.proofs.Common.{◌≡◌, inl, inr, ℕ, zero, suc, ◌+◌, ◌-◌, ◌*◌, ◌<◌, ◌≤◌, List, [], ◌∷◌, length, refl, ap}
-use Rattle.std.proofs.Common.{arith, ◌∙◌, drop, get_or, sym, subst, Some, None, Option, ◌++◌, take, append_assoc}
+use Rattle.std.proofs.Common.{arith, ◌∙◌, drop, get_or, sym, subst, Some, Option, ◌++◌, take, append_assoc}
 use Rattle.std.proofs.lemmas.Bool.{cases_lt}
 use Rattle.std.proofs.lemmas.List.{drop_all, drop-drop, length-map, length-append, take-append-drop, drop_at, take_at}
 use Rattle.std.proofs.lemmas.List.{drop_more}
-use Rattle.std.specs.Prelude.{ℤ}
+use Rattle.std.specs.Prelude.{ℤ, min}
 use Rattle.twkb_points.specs.Point.{Point}
 use Rattle.twkb_tree.specs.Rows.{Row, row_points}
 use Rattle.twkb_tree.specs.declared.kind.Kind.{Kind}
-use Rattle.twkb_tree.specs.declared.limits.TheConstants.{POINTS_CAP}
-use Rattle.twkb_tree.specs.Limits.{largest_limits}
-use Rattle.twkb_tree.specs.RowLists.{AreValidRowsOfOne}
-use Rattle.twkb_tree.proofs.RowLaws.{row_points-append, row_points-with}
+use Rattle.twkb_tree.proofs.RowLaws.{row_points-append}
 use Rattle.twkb_flat.specs.declared.node.Node.{Node}
 use Rattle.twkb_flat.specs.Rows.{IsNode, row_with, depths, depth_of}
 use Rattle.twkb_grammar.specs.declared.style.Style.{Style}
@@ -27,61 +24,42 @@ abbrev pub walks : List Row → ℕ
 walks [] = 0
 walks (r ∷ rs) = 1 + length (members_below r.depth rs) + walks rs
 
--- the number of rows whose parent is not among these rows, at the depths below n
-abbrev opens : ℕ → List Row → ℕ
-opens zero rs = 0
-opens (suc n) rs = opens n rs + length (members_below n rs)
-
-opens_nil : (n : ℕ) → opens n [] ≡ 0
-opens_nil zero = refl
-opens_nil (suc n) = omega (arith, opens_nil n)
-
-opens_above : (n : ℕ) (r : Row) (rs : List Row) → n < r.depth → opens n (r ∷ rs) ≡ opens n rs
-opens_above zero r rs h = refl
-opens_above (suc n) r rs h =
-    let before = opens_above n r rs (omega arith) in
-    let same = ap length (members-past n r rs (omega arith)) in
-    omega (arith, before, same)
-
-opens_by : (n k : ℕ) (rs : List Row) → opens n rs ≤ opens (k + n) rs
-opens_by n zero rs = omega (arith, ap (λ (m : ℕ). opens m rs) (let e : n ≡ 0 + n = omega arith in e))
-opens_by n (suc k) rs =
-    let before = opens_by n k rs in
-    let shift : suc (k + n) ≡ suc k + n = omega arith in
-    let same = ap (λ (m : ℕ). opens m rs) shift in
-    omega (arith, before, same)
+-- the number of rows whose parent is not among these rows, and is above depth n
+abbrev pub opens : ℕ → List Row → ℕ
+opens n [] = 0
+opens n (r ∷ rs) = min 1 (suc n - r.depth) + opens (min n r.depth) rs
 
 opens_rise : (n m : ℕ) (rs : List Row) → n ≤ m → opens n rs ≤ opens m rs
-opens_rise n m rs h =
-    let shift : (m - n) + n ≡ m = omega arith in
-    let same = ap (λ (k : ℕ). opens k rs) shift in
-    omega (arith, opens_by n (m - n) rs, same)
+opens_rise n m [] h = omega arith
+opens_rise n m (r ∷ rs) h = omega (arith, opens_rise (min n r.depth) (min m r.depth) rs (omega arith))
 
-opens_more : (n : ℕ) (r : Row) (rs : List Row) → opens n (r ∷ rs) ≤ opens (r.depth) rs + 1
-opens_more zero r rs = omega arith
-opens_more (suc n) r rs =
-    elim (cases_lt n (r.depth)) [
-      | inl deep ↦ elim (cases_lt (n + 1) (r.depth)) [
-        | inl deeper ↦
-            (let before = opens_more n r rs in
-            let same = opens_above (suc n) r rs (omega arith) in
-            let rise = opens_rise (suc n) (r.depth) rs (omega arith) in omega arith)
-        | inr at ↦
-            (let totals : r.depth ≡ n + 1 = omega arith in
-            let before = opens_above n r rs deep in
-            let one = ap length (members-one n r rs (omega (arith, totals))) in
-            let rise = opens_rise (suc n) (r.depth) rs (omega arith) in omega (arith, before, one, rise))
-      ]
-      | inr shallow ↦ (let before = opens_more n r rs in
-          let none = ap length (members-over n r rs shallow) in omega (arith, before, none))
+-- the members of a row at depth d have no parent among the rows after it
+members_open : (d : ℕ) (rs : List Row) → opens d rs + length (members_below d rs) ≤ opens (suc d) rs
+members_open d [] = omega arith
+members_open d (r ∷ rs) =
+    let above = opens_rise d (suc d) (r ∷ rs) (omega arith) in
+    elim (cases_lt d r.depth) [
+      | inl deep ↦
+          (let upper : min d r.depth ≡ d = omega arith in
+          let lower : min (suc d) r.depth ≡ suc d = omega arith in
+          let own = ap (λ n. opens n rs) upper in
+          let under = ap (λ n. opens n rs) lower in
+          let others = members_open d rs in
+          elim (cases_lt (suc d) r.depth) [
+            | inl deeper ↦ omega (arith, own, under, others, ap length (members-past d r rs deeper))
+            | inr at ↦ omega (arith, own, under, others, ap length (members-one d r rs (omega arith)))
+          ])
+      | inr shallow ↦ omega (arith, above, ap length (members-over d r rs shallow))
     ]
 
 walks_opens : (n : ℕ) (rs : List Row) → walks rs + opens n rs ≤ 2 * length rs
-walks_opens n [] = omega (arith, opens_nil n)
-walks_opens n (r ∷ rs) =
-    let rest = walks_opens (suc (r.depth)) rs in
-    let own = opens_more n r rs in
-    omega (arith, rest, own)
+walks_opens n [] = omega arith
+walks_opens n (r ∷ rs) = omega (
+  arith,
+  walks_opens (suc r.depth) rs,
+  members_open r.depth rs,
+  opens_rise (min n r.depth) r.depth rs (omega arith),
+)
 
 pub walks_twice : (rs : List Row) → walks rs ≤ 2 * length rs
 walks_twice rs = omega (arith, walks_opens 0 rs)
@@ -177,7 +155,7 @@ members_step rows d first end i node is at before =
     let own = node_ends rows i node is in
     let depth = row_depth rows i node is in
     let after = is.next.after in
-    let rest : is.rest ≡ drop (i + 1) rows = sym (ap (drop 1) is.here) ∙ drop-drop 1 i rows in
+    let rest = sym (ap (drop 1) is.here) ∙ drop-drop 1 i rows in
     let deep : (j : ℕ) → j < node.next.0 - (i + 1) → j < length (drop (i + 1) rows)
     → d + 1 < get_or (depths (drop (i + 1) rows)) j 0 =
     λ j h k. let at_j = depths_drop rows (i + 1) j in
@@ -236,18 +214,6 @@ points_within rows i node is =
       length-append is.own (row_points is.rest),
       is.first,
       is.count,
-    )
-
--- a flat form has few points
-pub few_points : (rs : List Row) → AreValidRowsOfOne largest_limits rs → length (row_points rs) ≤ POINTS_CAP
-few_points [] h = omega arith
-few_points (r ∷ rs) h =
-    let valid = h.1 in
-    omega (
-      arith,
-      ap (λ (l : List Row). length (row_points l)) h.2,
-      ap length (row_points-with None 0 h.0),
-      valid.points_kept,
     )
 
 -- the bytes of a row, and of the rows after it

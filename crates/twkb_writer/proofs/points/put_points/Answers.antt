@@ -1,6 +1,6 @@
 use Rattle.std.proofs.Common.{◌∙◌, ◌+◌, ◌-◌, sym, ap, arith}
 use Rattle.twkb_writer.specs.Bytes.{way_bytes, way_end}
-use Rattle.twkb_writer.proofs.PutLemmas.{begun, step, finished, way_more, end_more, way_two, end_two, whole_part}
+use Rattle.twkb_writer.proofs.PutLemmas.{begun, step, finished, part_more, part_two, way_two, whole_part}
 use Rattle.twkb_writer.proofs.PutLemmas.{nothing_left}
 use Rattle.twkb_writer.proofs.ReadLemmas.{exactly_none, exactly_point, exactly_same}
 use Rattle.twkb_writer.proofs.points.put_points.Goals as goal
@@ -24,16 +24,16 @@ loop-index-preserved g c =
     let read = i - c.args.node.now.first.0 in
     let at = c.loop-index.cursor in
     let end = c.args.node.now.first.0 + c.args.node.now.points in
+    let two = part_two ps i end c.point-to.result c.point-next.result (omega arith)
+    c.point-to.ensures.point c.point-next.ensures.point in
     record {
       behind = omega (arith, c.loop-index.invariant.behind);
       within = omega (arith, c.loop-index.invariant.within);
       progress = rw c.put_steps.ensures.moved (step g.S.Sink.took g.S.Sink.refused _ _ _ _ _ _ _
-          (way_two ps i end at c.point-to.result c.point-next.result (omega arith)
-          c.point-to.ensures.point c.point-next.ensures.point) c.loop-index.invariant.progress
-          c.put_steps.ensures.put);
+          (ap (way_bytes at) two ∙ way_two at c.point-to.result c.point-next.result _)
+          c.loop-index.invariant.progress c.put_steps.ensures.put);
       last = rw c.put_steps.ensures.moved
-          (sym (end_two ps i end at c.point-to.result c.point-next.result (omega arith)
-          c.point-to.ensures.point c.point-next.ensures.point) ∙ c.loop-index.invariant.last);
+          (sym (ap (way_end at) two) ∙ c.loop-index.invariant.last);
       reads = exactly_same _ _ 0 (read + 1 + 1) _ (exactly_point _ _ _ 0 (read + 1)
           (exactly_point _ _ _ 0 read c.loop-index.invariant.reads c.point-to.ensures.counted)
           c.point-next.ensures.counted) (omega (arith, c.loop-index.invariant.behind));
@@ -47,8 +47,8 @@ returns-then-index-end-clause-put g c =
     let to = c.point-to-then-index-end.result in
     finished g.S.Sink.took g.S.Sink.refused _ _ _ _ (ap (way_bytes to) (nothing_left ps (i + 1) end (omega arith)))
     (step g.S.Sink.took g.S.Sink.refused _ _ _ _ _ _ _
-    (way_more ps i end c.loop-index.cursor to (omega arith)
-    c.point-to-then-index-end.ensures.point) c.loop-index.invariant.progress
+    (ap (way_bytes c.loop-index.cursor) (part_more ps i end to (omega arith)
+    c.point-to-then-index-end.ensures.point)) c.loop-index.invariant.progress
     c.put_step.ensures.put)
 
 pub returns-then-index-end-clause-moved : goal.returns-then-index-end-clause-moved
@@ -58,8 +58,8 @@ returns-then-index-end-clause-moved g c =
     let end = c.args.node.now.first.0 + c.args.node.now.points in
     let to = c.point-to-then-index-end.result in
     c.put_step.ensures.moved ∙ sym (ap (way_end to) (nothing_left ps (i + 1) end (omega arith)))
-    ∙ sym (end_more ps i end c.loop-index.cursor to (omega arith)
-    c.point-to-then-index-end.ensures.point) ∙ c.loop-index.invariant.last
+    ∙ sym (ap (way_end c.loop-index.cursor) (part_more ps i end to (omega arith)
+    c.point-to-then-index-end.ensures.point)) ∙ c.loop-index.invariant.last
 
 pub returns-then-index-end-clause-reads : goal.returns-then-index-end-clause-reads
 returns-then-index-end-clause-reads g c =

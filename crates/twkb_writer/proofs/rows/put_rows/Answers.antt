@@ -1,9 +1,10 @@
 use Rattle.std.proofs.Common.{◌+◌, length, drop, ap, arith, rules}
 use Rattle.std.proofs.lemmas.List.{drop_all}
 use Rattle.twkb_writer.specs.Bytes.{members_below, rows_bytes}
+use Rattle.twkb_writer.proofs.MeasuringSteps.{flat_measurable}
 use Rattle.twkb_writer.proofs.PutLemmas.{begun, step, finished, given_up}
 use Rattle.twkb_writer.proofs.ReadLemmas.{reads_none, reads_join, reads_row, one_node, at_most}
-use Rattle.twkb_writer.proofs.WalkLemmas.{rows_step, entries_step, walks_step, points_step, points_within, few_points}
+use Rattle.twkb_writer.proofs.WalkLemmas.{rows_step, entries_step, walks_step, points_step, points_within}
 use Rattle.twkb_writer.proofs.WalkLemmas.{next_rows, walks_twice}
 use Rattle.twkb_writer.proofs.rows.put_rows.Goals as goal
 
@@ -27,7 +28,7 @@ put_points-requires-clause-within g c = points_within _ _ _ c.node-node.ensures.
 
 pub put_points-requires-clause-fits : goal.put_points-requires-clause-fits
 put_points-requires-clause-fits g c = let within = points_within _ _ _ c.node-node.ensures.node in
-    omega (arith, within, few_points _ c.node_count-index-end.ensures.sound)
+    omega (arith, within, (flat_measurable _ c.node_count-index-end.ensures.sound).few_points)
 
 pub loop-index-preserved : goal.loop-index-preserved
 loop-index-preserved g c =
