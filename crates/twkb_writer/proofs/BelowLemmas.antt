@@ -1,7 +1,7 @@
 -- The rows below a row, its members among them, and their slots.
 use Rattle.std.proofs.Common.{◌≡◌, ℕ, List, [], ◌∷◌, ◌++◌, map, refl, ap, sym, ◌∙◌, append_assoc, append-nil, suc}
 use Rattle.std.proofs.Common.{◌<◌, ◌≤◌, true, false, length, Option, Some, None, subst, arith}
-use Rattle.std.specs.Prelude.{ℤ, ◌-ℤ◌, ⊤, nat_le, nat_eq}
+use Rattle.std.specs.Prelude.{ℤ, ◌-ℤ◌, nat_le, nat_eq}
 use Rattle.std.proofs.lemmas.Grind.{flat_map-append}
 use Rattle.std.proofs.lemmas.Bool.Decides.{nat_tests}
 use Rattle.twkb_num.specs.Varint.{varint_of}
@@ -11,6 +11,7 @@ use Rattle.twkb_tree.specs.Tree.{Trees, end, ◌▷◌, Ids, members}
 use Rattle.twkb_tree.specs.declared.kind.Kind.{Kind}
 use Rattle.twkb_tree.specs.Rows.{Row, plain_row, polygon_rows, rows_with, rows_below, member_rows, ring_rows}
 use Rattle.twkb_tree.specs.Rows.{rows_of_each, first_id, other_ids, rows_under}
+use Rattle.twkb_tree.specs.RowLists.{IsAbove}
 use Rattle.twkb_tree.proofs.AllJoined.{all_join}
 use Rattle.twkb_tree.proofs.MemberLemmas.{own_row_first}
 use Rattle.twkb_tree.proofs.RowLaws.{AreDeep, IsDeeper}
@@ -79,16 +80,6 @@ filled-ids at (id ∷ ids) = ap (λ l. signed id ++ l) (filled-ids at ids)
 
 -- ==== The members among the rows below a row.
 
--- there is no row, or the first is at this depth or above it
-abbrev pub Stops : ℕ → List Row → Type 0
-Stops d [] = ⊤
-Stops d (r ∷ rs) = r.depth ≤ d
-
--- rows that stop at a depth stop at a greater one
-pub stops_deeper : (d : ℕ) (rs : List Row) → Stops d rs → Stops (suc d) rs
-stops_deeper d [] h = tt
-stops_deeper d (r ∷ rs) h = omega arith
-
 -- ---- single rows
 
 -- a row no deeper than d ends the members
@@ -112,10 +103,10 @@ members-past d r rs h =
 
 -- ---- lists of rows
 
--- rows that stop at the depth have no members
-pub members-stop : (d : ℕ) (rs : List Row) → Stops d rs → members_below d rs ≡ []
-members-stop d [] h = refl
-members-stop d (r ∷ rs) h = members-over d r rs h
+-- rows that begin no deeper than d have no members
+members-none : (d : ℕ) (rs : List Row) → IsAbove (suc d) rs → members_below d rs ≡ []
+members-none d [] h = refl
+members-none d (r ∷ rs) h = members-over d r rs (omega (arith, h))
 
 -- rows below the members are passed over
 pub members-deeper : (d : ℕ) (xs rs : List Row) → AreDeep (suc (suc d)) xs
@@ -124,23 +115,38 @@ members-deeper d [] rs deep = refl
 members-deeper d (x ∷ xs) rs deep = members-past d x (xs ++ rs) (let low = deep.0 in
     omega (arith, low)) ∙ members-deeper d xs rs deep.1
 
--- the member of each part is the part's first row
-pub members-each : {A : Type 0} (d : ℕ) (f : Option ℤ → A → List Row) (own : Option ℤ → A → Row)
-    (deeper : Option ℤ → A → List Row)
-    → ((id : Option ℤ) (x : A) → f id x ≡ own id x ∷ deeper id x)
-    → ((id : Option ℤ) (x : A) → (own id x).depth ≡ suc d)
-    → ((id : Option ℤ) (x : A) → AreDeep (suc (suc d)) (deeper id x))
-    → (ids : Ids) (xs : List A) (rs : List Row) → members_below d (rows_of_each f ids xs ++ rs)
-    ≡ rows_of_each (λ id x. own id x ∷ []) ids xs ++ members_below d rs
-members-each d f own deeper is at deep ids [] rs = refl
-members-each d f own deeper is at deep ids (x ∷ xs) rs =
+-- each part begins with its own row, one level below d and with its id, and its other rows are deeper
+pub record Heads {A : Type 0} (d : ℕ) (f : Option ℤ → A → List Row) (own : Option ℤ → A → Row)
+    (deeper : Option ℤ → A → List Row) : Type 0 where
+  pub is : (id : Option ℤ) (x : A) → f id x ≡ own id x ∷ deeper id x
+  pub depth : (id : Option ℤ) (x : A) → (own id x).depth ≡ suc d
+  pub deep : (id : Option ℤ) (x : A) → AreDeep (suc (suc d)) (deeper id x)
+  pub same_id : (id : Option ℤ) (x : A) → (own id x).id ≡ id
+
+-- parts of one row each
+pub one_heads : {A : Type 0} (d : ℕ) (k : Kind) (g : A → List Point)
+    → Heads d (λ id x. plain_row (suc d) k id (g x) ∷ []) (λ id x. plain_row (suc d) k id (g x)) (λ id x. [])
+one_heads d k g = record {
+  is = λ id x. refl;
+  depth = λ id x. refl;
+  deep = λ id x. tt;
+  same_id = λ id x. refl;
+}
+
+-- the members are the own rows of the parts
+pub members-each : {A : Type 0} {d : ℕ} {f : Option ℤ → A → List Row} {own : Option ℤ → A → Row}
+    {deeper : Option ℤ → A → List Row} → Heads d f own deeper → (ids : Ids) (xs : List A) (rs : List Row)
+    → IsAbove (suc d) rs
+    → members_below d (rows_of_each f ids xs ++ rs) ≡ rows_of_each (λ id x. own id x ∷ []) ids xs
+members-each {d = d} heads ids [] rs h = members-none d rs h
+members-each {d = d} {f} {own} {deeper} heads ids (x ∷ xs) rs h =
     let id = first_id ids in
     let rest = rows_of_each f (other_ids ids) xs in
-    ap (λ (l : List Row). members_below d ((l ++ rest) ++ rs)) (is id x)
+    ap (λ (l : List Row). members_below d ((l ++ rest) ++ rs)) (heads.is id x)
     ∙ ap (λ (l : List Row). members_below d (own id x ∷ l)) (append_assoc (deeper id x) rest rs)
-    ∙ members-one d (own id x) (deeper id x ++ (rest ++ rs)) (at id x)
-    ∙ ap (λ (l : List Row). own id x ∷ l) (members-deeper d (deeper id x) (rest ++ rs) (deep id x)
-    ∙ members-each d f own deeper is at deep (other_ids ids) xs rs)
+    ∙ members-one d (own id x) (deeper id x ++ (rest ++ rs)) (heads.depth id x)
+    ∙ ap (λ (l : List Row). own id x ∷ l) (members-deeper d (deeper id x) (rest ++ rs) (heads.deep id x)
+    ∙ members-each heads (other_ids ids) xs rs h)
 
 -- there is one member for each part
 pub length-each : {A : Type 0} (own : Option ℤ → A → Row) (ids : Ids) (xs : List A)

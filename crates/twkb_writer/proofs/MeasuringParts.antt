@@ -13,6 +13,7 @@ use Rattle.twkb_tree.specs.Rows.{Row, rows_of_each, rows_below, ring_rows, polyg
 use Rattle.twkb_tree.specs.Rows.{own_points, kind_in}
 use Rattle.twkb_tree.specs.RowLists.{IsAbove}
 use Rattle.twkb_tree.specs.declared.kind.Kind.TheVariants as kind
+use Rattle.twkb_tree.proofs.RowSteps.{above_less}
 use Rattle.twkb_grammar.specs.declared.style.Style.{Style}
 use Rattle.twkb_grammar.specs.Items.{Slot, OfCount, OfId, OfPoint, fields, slots, run_of, rings_of, id_slots, flags}
 use Rattle.twkb_grammar.specs.Items.{members, parts}
@@ -35,11 +36,6 @@ abbrev pub with_each : {A : Type 0} → (Option ℤ → A → RowTotals → RowT
 with_each w ids [] l = l
 with_each w ids (x ∷ xs) l = w (first_id ids) x (with_each w (other_ids ids) xs l)
 
--- rows above a depth are above a greater one
-pub above_less : (d : ℕ) (rs : List Row) → IsAbove d rs → IsAbove (suc d) rs
-above_less d [] h = tt
-above_less d (r ∷ rs) h = omega arith
-
 -- What rows at depth d add to others that may come after them: their totals change by `add`, they
 -- have the points `ps` of the geometry before them, and the entries `es`.
 pub record AreCounted (style : Style) (d : ℕ) (May : List Row → Type 0) (rs : List Row)
@@ -59,11 +55,11 @@ counted_none style d May = record {
 }
 
 -- what rows add before other rows
-pub counted_join : (style : Style) (d : ℕ) (May : List Row → Type 0) (xs ys : List Row)
-    (f g : RowTotals → RowTotals) (ps qs : List Point) (es fs : List Entry)
+pub counted_join : {style : Style} {d : ℕ} {May : List Row → Type 0} {xs ys : List Row}
+    {f g : RowTotals → RowTotals} {ps qs : List Point} {es fs : List Entry}
     → AreCounted style d May xs f ps es → AreCounted style d May ys g qs fs
     → AreCounted style d May (xs ++ ys) (λ l. f (g l)) (ps ++ qs) (es ++ fs)
-counted_join style d May xs ys f g ps qs es fs a b = record {
+counted_join {style} {d} {May} {xs} {ys} {f} {g} {ps} {qs} {es} {fs} a b = record {
   begins = λ rest h. subst May (sym (append_assoc xs ys rest)) (a.begins (ys ++ rest) (b.begins rest h));
   counts = λ rest h.
       ap (totals style d) (append_assoc xs ys rest) ∙ a.counts (ys ++ rest) (b.begins rest h)
@@ -84,9 +80,7 @@ parts_each : {A : Type 0} (style : Style) (d : ℕ) (f : Option ℤ → A → Li
     → AreCounted style d (IsAbove (suc d)) (rows_of_each f ids xs) (with_each w ids xs) (flat_map g xs) []
 parts_each style d f w g part ids [] = counted_none style d (IsAbove (suc d))
 parts_each style d f w g part ids (x ∷ xs) =
-    counted_join style d (IsAbove (suc d)) (f (first_id ids) x) (rows_of_each f (other_ids ids) xs)
-    (w (first_id ids) x) (with_each w (other_ids ids) xs) (g x) (flat_map g xs) [] []
-    (part (first_id ids) x) (parts_each style d f w g part (other_ids ids) xs)
+    counted_join (part (first_id ids) x) (parts_each style d f w g part (other_ids ids) xs)
 
 -- ---- parts of one row each: rings, points, linestrings
 

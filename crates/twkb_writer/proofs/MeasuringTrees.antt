@@ -12,12 +12,13 @@ use Rattle.twkb_points.proofs.ExtentLemmas.{joined_options-none, extent-append}
 use Rattle.twkb_tree.specs.Tree.{Tree, simple, collection, Trees, end, ◌▷◌, precision_of, Ids, HasIds, IdsFit, Simple}
 use Rattle.twkb_tree.specs.Tree.{point, count, members, flat, flat_all, points_in, IsTree, AreTrees}
 use Rattle.twkb_tree.specs.Uniform.{int_eq, has_precision, have_precision, uniform}
-use Rattle.twkb_tree.specs.Rows.{Row, kind_in, own_points, rows, rows_below, rows_with, member_rows, first_id}
-use Rattle.twkb_tree.specs.Rows.{other_ids, whole_row}
+use Rattle.twkb_tree.specs.Rows.{Row, kind_in, own_points, rows, rows_with, member_rows, first_id, other_ids}
+use Rattle.twkb_tree.specs.Rows.{whole_row}
 use Rattle.twkb_tree.specs.RowLists.{IsAbove}
 use Rattle.twkb_tree.specs.declared.kind.Kind.{Kind}
 use Rattle.twkb_tree.specs.declared.kind.Kind.TheVariants as kinds
 use Rattle.twkb_tree.proofs.RowLaws.{AreDeep}
+use Rattle.twkb_tree.proofs.RowSteps.{above_less}
 use Rattle.twkb_grammar.specs.Roles.{Count, Geometries}
 use Rattle.twkb_grammar.specs.Items.{id_fields, flags_all, filled, OfId}
 use Rattle.twkb_grammar.specs.Written.{canonical_blob, canonical_members, varints, is_empty, is_point}
@@ -34,11 +35,10 @@ use Rattle.twkb_writer.specs.Sizes.{entry_of, sizes_of, sizes_of_all, body_of}
 use Rattle.twkb_writer.specs.Tails.{number_len, tail_of}
 use Rattle.twkb_writer.proofs.MeasuringSteps.{totals_at, totals_none, totals_past}
 use Rattle.twkb_writer.proofs.BelowLemmas.{deep-below}
-use Rattle.twkb_writer.proofs.MeasuringParts.{with_each, above_less, components_totals, with_parts, points_below}
-use Rattle.twkb_writer.proofs.MeasuringParts.{AreCounted, counted_none, counted_join, parts_counted, all_points}
-use Rattle.twkb_writer.proofs.MeasuringParts.{IsCounted, members_each, ids_each, named_each, ids_sum, ids_len}
-use Rattle.twkb_writer.proofs.MeasuringParts.{length-number, length-fields, from_origin-tail_of, total_parts}
-use Rattle.twkb_writer.proofs.MeasuringParts.{and_true, lead_parts, bare_shape}
+use Rattle.twkb_writer.proofs.MeasuringParts.{with_each, components_totals, AreCounted, counted_none, counted_join}
+use Rattle.twkb_writer.proofs.MeasuringParts.{parts_counted, all_points, IsCounted, members_each, ids_each}
+use Rattle.twkb_writer.proofs.MeasuringParts.{named_each, ids_sum, ids_len, length-number, length-fields}
+use Rattle.twkb_writer.proofs.MeasuringParts.{from_origin-tail_of, total_parts, and_true, lead_parts, bare_shape}
 use Rattle.twkb_writer.proofs.TreeBytes.{length-members, has_members}
 use Rattle.twkb_writer.proofs.MeasuringEntries.{IsMeasured, entry_is, blob_length}
 
@@ -238,15 +238,15 @@ pub record IsBehind (d : ℕ) (rest : List Row) : Type 0 where
   pub no_part : points_ahead rest ≡ []
 
 -- the rows of a geometry, given its own row and what the rows under it add
-geometry_counted : (style : Style) (d : ℕ) (id : Option ℤ) (g : Tree) (k : Kind) (own : List Point)
-    (May : List Row → Type 0) (under : List Row) (add : RowTotals → RowTotals) (ps : List Point)
-    (es : List Entry) → AreCounted style (suc d) May under add ps es
+geometry_counted : {style : Style} {d : ℕ} {g : Tree} {k : Kind} {May : List Row → Type 0}
+    {under : List Row} {add : RowTotals → RowTotals} {ps : List Point} {es : List Entry}
+    (id : Option ℤ) (own : List Point) → AreCounted style (suc d) May under add ps es
     → ((rest : List Row) → IsBehind d rest → May rest) → AreDeep (suc d) under
     → IsMeasured style g k (length own) (add blank) (tail_of (own ++ ps))
     → agreed (One (precision_of g)) (add blank).precisions ≡ precisions_of g
     → AreCounted style d (IsBehind d) (whole_row d k id (precision_of g) own ∷ under)
     (with_tree style id g) [] (entry_of style g ∷ es)
-geometry_counted style d id g k own May under add ps es parts may deep m precisions =
+geometry_counted {style} {d} {g} {k} {May} {under} {add} {ps} {es} id own parts may deep m precisions =
     let p : ℤ = precision_of g in
     let below : (rest : List Row) → IsBehind d rest → totals style (suc d) (under ++ rest) ≡ add blank =
     λ rest h. parts.counts rest (may rest h) ∙ ap add (totals_none style (suc d) rest h.above) in
@@ -281,16 +281,13 @@ mutual
   rows_counted : (style : Style) (d : ℕ) (id : Option ℤ) (g : Tree) → IsTree g
       → AreCounted style d (IsBehind d) (rows_with id d g) (with_tree style id g) [] (sizes_of style g)
   rows_counted style d id (simple p s) fits =
-      geometry_counted style d id (simple p s) (kind_in s) (own_points s) (IsAbove (suc (suc d)))
-      (rows_below (suc d) s) (with_parts s) (points_below s) [] (parts_counted style (suc d) s)
+      geometry_counted id (own_points s) (parts_counted style (suc d) s)
       (λ rest h. above_less (suc d) rest h.above) (deep-below (suc d) (simple p s))
       (subst (λ ps. IsMeasured style (simple p s) (kind_in s) (length (own_points s)) (components_totals s) (tail_of ps))
       (sym (all_points s)) (simple_measured style p s fits.1))
       (ap (agreed (One p)) (total_parts s fits.1).no_precisions)
   rows_counted style d id (collection p ids gs) fits =
-      geometry_counted style d id (collection p ids gs) kinds.Collection [] (IsBehind (suc d))
-      (member_rows (suc d) ids gs) (with_each (with_tree style) ids (members gs)) []
-      (sizes_of_all style gs) (members_counted style (suc d) ids gs fits.2)
+      geometry_counted id [] (members_counted style (suc d) ids gs fits.2)
       (λ rest h. record { above = above_less (suc d) rest h.above; no_part = h.no_part })
       (deep-below (suc d) (collection p ids gs))
       (collection_measured style p ids gs (has_members ids gs fits.1))
@@ -302,10 +299,7 @@ mutual
       (sizes_of_all style gs)
   members_counted style d ids end fits = counted_none style d (IsBehind d)
   members_counted style d ids (g ▷ gs) fits =
-      counted_join style d (IsBehind d) (rows_with (first_id ids) d g) (member_rows d (other_ids ids) gs)
-      (with_tree style (first_id ids) g) (with_each (with_tree style) (other_ids ids) (members gs)) [] []
-      (sizes_of style g) (sizes_of_all style gs) (rows_counted style d (first_id ids) g fits.0)
-      (members_counted style d (other_ids ids) gs fits.1)
+      counted_join (rows_counted style d (first_id ids) g fits.0) (members_counted style d (other_ids ids) gs fits.1)
 
 -- the entries of a geometry's rows are its sizes
 pub measured_rows : (style : Style) (g : Tree) → IsTree g → measured style (rows 0 g) ≡ sizes_of style g

@@ -1,7 +1,8 @@
 -- The bytes of a geometry's rows, with its own entries, are its canonical blob.
-use Rattle.std.proofs.Common.{◌≡◌, ℕ, ◌+◌, ◌*◌, ◌%◌, ◌≤◌, Bool, true, false, List, [], ◌∷◌, ◌++◌, length, Option, Some}
-use Rattle.std.proofs.Common.{None, refl, ap, sym, ◌∙◌, append_assoc, arith, suc, map, append-nil, subst, length-append}
-use Rattle.std.specs.Prelude.{ℤ, pos, negsuc, flat_map, not, ◌&&◌, if◌then◌else◌, is_some, ◌-ℤ◌}
+use Rattle.std.proofs.Common.{◌≡◌, ◌<◌, ℕ, ◌+◌, ◌*◌, ◌%◌, ◌≤◌, Bool, true, false, List, [], ◌∷◌, ◌++◌, length, Option}
+use Rattle.std.proofs.Common.{Some, None, refl, ap, sym, ◌∙◌, append_assoc, arith, suc, map, append-nil, subst}
+use Rattle.std.proofs.Common.{length-append}
+use Rattle.std.specs.Prelude.{ℤ, pos, negsuc, flat_map, not, ◌&&◌, if◌then◌else◌, is_some}
 use Rattle.std.proofs.lemmas.Int.{ints}
 use Rattle.twkb_num.specs.Zigzag.{zigzag_of}
 use Rattle.twkb_num.specs.Varint.{varint_of}
@@ -12,14 +13,15 @@ use Rattle.twkb_tree.specs.Tree.{Simple, point, line, polygon, multi_point, mult
 use Rattle.twkb_tree.specs.Tree.{collection, end, ◌▷◌, IsTree, IsPrecision, precision_of, flat, Ids, Trees, HasIds}
 use Rattle.twkb_tree.specs.Tree.{IdsFit, AreTrees, members, count}
 use Rattle.twkb_tree.specs.Rows.{own_row, own_points, kind_in, Row, plain_row, polygon_rows, ring_rows, rows_of_each}
-use Rattle.twkb_tree.specs.Rows.{other_ids, rows, rows_with, rows_below, member_rows, first_id, rows_under}
+use Rattle.twkb_tree.specs.Rows.{whole_row, other_ids, rows, rows_with, rows_below, member_rows, first_id, rows_under}
+use Rattle.twkb_tree.specs.RowLists.{IsAbove}
 use Rattle.twkb_tree.specs.Uniform.{uniform}
 use Rattle.twkb_tree.specs.declared.kind.Kind.{Kind}
 use Rattle.twkb_tree.specs.declared.kind.Kind.TheVariants as kind
 use Rattle.twkb_tree.proofs.MemberLemmas.{own_row_first}
 use Rattle.twkb_tree.proofs.RowForest.{both_true}
-use Rattle.twkb_tree.proofs.RowSteps.{own_row-depth, own_row-id}
-use Rattle.twkb_tree.proofs.RowLaws.{AreDeep, one_geometry}
+use Rattle.twkb_tree.proofs.RowSteps.{own_row-depth, own_row-id, above_less}
+use Rattle.twkb_tree.proofs.RowLaws.{one_geometry}
 use Rattle.twkb_grammar.specs.Items.{header_byte, kind_of, flags, OfPoint, run_of, rings_of, Slot, OfCount, id_slots}
 use Rattle.twkb_grammar.specs.Items.{id_fields, fields, slots, members as flags_of, flags_all}
 use Rattle.twkb_grammar.specs.Written.{is_point, has_any, boxed, box_of, flag_bits, flags_of_tree, kind_of_tree}
@@ -29,17 +31,16 @@ use Rattle.twkb_grammar.specs.declared.style.Style.{Style}
 use Rattle.twkb_grammar.specs.declared.style.Style.TheVariants.{Full, Plain}
 use Rattle.twkb_grammar.specs.TypeByte.{type_of, type_byte}
 use Rattle.twkb_grammar.specs.Metadata.{bit_value}
-use Rattle.twkb_grammar.specs.Roles.{Counted, Points, Components, Count, Geometries}
+use Rattle.twkb_grammar.specs.Roles.{Counted, Points, Components, Count, Geometries, Rings}
 use Rattle.twkb_grammar.specs.Spans.{geometries, geometries_of_all}
 use Rattle.twkb_grammar.proofs.Bodies.{reached, reached-append, fields_are}
 use Rattle.twkb_writer.specs.Bytes.{is_bare, metadata_of, size_bytes, box_bytes, header, signed, rows_bytes}
-use Rattle.twkb_writer.specs.Bytes.{counts_bytes, members_below, step_bytes, way_bytes, way_end, ids_bytes, entries_in}
+use Rattle.twkb_writer.specs.Bytes.{counts_bytes, members_below, way_bytes, way_end, ids_bytes, entries_in}
 use Rattle.twkb_writer.specs.Sizes.{body_of, own_body, bounds_of, content_of, entry_of, sizes_of, sizes_of_all}
 use Rattle.twkb_writer.specs.Sizes.{parts_in, ids_in, part_count, ids_of, AreSizes}
 use Rattle.twkb_writer.specs.declared.sizes.Entry.{Entry}
-use Rattle.twkb_writer.proofs.BelowLemmas.{walked, walked-append, walked-points, reached-points, walked-way}
-use Rattle.twkb_writer.proofs.BelowLemmas.{reached-way, walked-ids, reached-ids, filled-ids, Stops, members-each}
-use Rattle.twkb_writer.proofs.BelowLemmas.{members-stop, length-each, stops_deeper, ids-each}
+use Rattle.twkb_writer.proofs.BelowLemmas.{walked, walked-append, walked-way, reached-way, walked-ids, reached-ids}
+use Rattle.twkb_writer.proofs.BelowLemmas.{filled-ids, Heads, one_heads, members-each, length-each, ids-each}
 use Rattle.twkb_writer.proofs.BelowLemmas.{deep-below, deep-rings, member_rows-each}
 
 -- ==== The header of a geometry by its entry is that of its canonical blob.
@@ -195,101 +196,124 @@ headed style id d g t =
 
 -- ==== The bytes of the rows that are parts of a geometry.
 
--- a number, some bytes and what follows, regrouped
-pub regroup : (v w x a t : List ℕ) → x ≡ a ++ t → (v ++ w) ++ x ≡ (v ++ (w ++ a)) ++ t
-regroup v w x a t e =
-    ap (λ l. (v ++ w) ++ l) e ∙ append_assoc v w (a ++ t)
-    ∙ ap (λ l. v ++ l) (sym (append_assoc w a t)) ∙ sym (append_assoc v (w ++ a) t)
+-- The bytes of rows at depth d before any others that are no deeper: they use the entries `own`,
+-- they are `put at` after a point `at`, and the others go on from `last at`.
+record AreSpelled (style : Style) (d : ℕ) (rs : List Row) (own : List Entry) (put : Point → List ℕ)
+    (last : Point → Point) : Type 0 where
+  begins : (rest : List Row) → IsAbove (suc d) rest → IsAbove (suc d) (rs ++ rest)
+  spelled : (at : Point) (es : List Entry) (rest : List Row) → IsAbove (suc d) rest
+      → rows_bytes style at (own ++ es) (rs ++ rest) ≡ put at ++ rows_bytes style (last at) es rest
+
+-- no rows have no bytes
+spelled_none : (style : Style) (d : ℕ) → AreSpelled style d [] [] (λ at. []) (λ at. at)
+spelled_none style d = record { begins = λ rest h. h; spelled = λ at es rest h. refl }
+
+-- the bytes of rows before other rows
+spelled_join : {style : Style} {d : ℕ} {xs ys : List Row} {own others : List Entry}
+    {put next : Point → List ℕ} {last end_of : Point → Point}
+    → AreSpelled style d xs own put last → AreSpelled style d ys others next end_of
+    → AreSpelled style d (xs ++ ys) (own ++ others) (λ at. put at ++ next (last at)) (λ at. end_of (last at))
+spelled_join {style} {d} {xs} {ys} {own} {others} {put} {next} {last} {end_of} a b = record {
+  begins = λ rest h. subst (IsAbove (suc d)) (sym (append_assoc xs ys rest)) (a.begins (ys ++ rest) (b.begins rest h));
+  spelled = λ at es rest h.
+      (λ i. rows_bytes style at (append_assoc own others es i) (append_assoc xs ys rest i))
+      ∙ a.spelled at (others ++ es) (ys ++ rest) (b.begins rest h)
+      ∙ ap (λ l. put at ++ l) (b.spelled (last at) es rest h)
+      ∙ sym (append_assoc (put at) (next (last at)) (rows_bytes style (end_of (last at)) es rest));
+}
+
+-- ---- parts
+
+-- the bytes of parts at this depth are those of slots
+abbrev HasSlots : Style → ℕ → List Row → List Slot → Type 0
+HasSlots style d rs ms = AreSpelled style d rs [] (λ at. walked at ms) (λ at. reached at ms)
+
+-- parts, one after another
+slots_each : {A : Type 0} (style : Style) (d : ℕ) (f : Option ℤ → A → List Row) (ms : A → List Slot)
+    → ((id : Option ℤ) (x : A) → HasSlots style d (f id x) (ms x)) → (ids : Ids) (xs : List A)
+    → HasSlots style d (rows_of_each f ids xs) (flat_map ms xs)
+slots_each style d f ms part ids [] = spelled_none style d
+slots_each style d f ms part ids (x ∷ xs) =
+    let all = spelled_join (part (first_id ids) x) (slots_each style d f ms part (other_ids ids) xs) in
+    record {
+      begins = all.begins;
+      spelled = λ at es rest h.
+          let bytes = sym (walked-append at (ms x) (flat_map ms xs)) in
+          let last = sym (reached-append at (ms x) (flat_map ms xs)) in
+          all.spelled at es rest h ∙ (λ i. bytes i ++ rows_bytes style (last i) es rest);
+    }
 
 -- a kind whose rows have a count of points
-abbrev pub IsRun : Kind → Type 0
+abbrev IsRun : Kind → Type 0
 IsRun k = (own members : ℕ) (ids : List ℕ) → counts_bytes k own members ids ≡ varint_of own
 
--- the bytes of the rows of rings or linestrings
-pub run_rows : (style : Style) (d : ℕ) (k : Kind) → IsRun k
-    → (ids : Ids) (lines : List (List Point)) (at : Point) (es : List Entry) (rs : List Row)
-    → rows_bytes style at es (rows_of_each (λ id ps. plain_row d k id ps ∷ []) ids lines ++ rs)
-    ≡ walked at (flat_map run_of lines) ++ rows_bytes style (reached at (flat_map run_of lines)) es rs
-run_rows style d k is ids [] at es rs = refl
-run_rows style d k is ids (ps ∷ lines) at es rs =
-    let ms = flat_map run_of lines in
-    let v = varint_of (length ps) in
-    let after = rows_of_each (λ id ps. plain_row d k id ps ∷ []) (other_ids ids) lines ++ rs in
-    let tail = rows_bytes style (reached at (map OfPoint ps ++ ms)) es rs in
-    let more = run_rows style d k is (other_ids ids) lines (way_end at ps) es rs
-    ∙ ap (λ q. walked (way_end at ps) ms ++ rows_bytes style q es rs) (sym (reached-points at ps ms)) in
-    ap (λ l. (l ++ way_bytes at ps) ++ rows_bytes style (way_end at ps) es after)
-    (is (length ps) (length (members_below d after)) [])
-    ∙ regroup v (way_bytes at ps) (rows_bytes style (way_end at ps) es after) (walked (way_end at ps) ms) tail more
-    ∙ ap (λ l. (v ++ l) ++ tail) (sym (walked-points at ps ms))
+-- the row of a ring or linestring
+run_spelled : (style : Style) (d : ℕ) (k : Kind) → IsRun k → (id : Option ℤ) (ps : List Point)
+    → HasSlots style d (plain_row d k id ps ∷ []) (run_of ps)
+run_spelled style d k is id ps = record {
+  begins = λ rest h. (let le : d < suc d = omega arith in le);
+  spelled = λ at es rest h.
+      let count = is (length ps) (length (members_below d rest)) [] in
+      let bytes = sym (walked-way at ps) in
+      let last = sym (reached-way at ps) in
+      (λ i. (count i ++ bytes i) ++ rows_bytes style (last i) es rest);
+}
 
--- the bytes of the rows of a polygon's rings
-pub ring_rows-bytes : (style : Style) (d : ℕ) (rings : List (List Point)) (at : Point) (es : List Entry) (rs : List Row)
-    → rows_bytes style at es (ring_rows d rings ++ rs) ≡ walked at (flat_map run_of rings)
-    ++ rows_bytes style (reached at (flat_map run_of rings)) es rs
-ring_rows-bytes style d rings at es rs = run_rows style d kind.Ring (λ own members ids. refl) None rings at es rs
+-- the row of a multipoint's point
+point_spelled : (style : Style) (d : ℕ) (id : Option ℤ) (p : Point)
+    → HasSlots style d (plain_row d kind.Point id (p ∷ []) ∷ []) (OfPoint p ∷ [])
+point_spelled style d id p = record {
+  begins = λ rest h. (let le : d < suc d = omega arith in le);
+  spelled = λ at es rest h. ap (λ l. l ++ rows_bytes style p es rest) (sym (walked-way at (p ∷ [])));
+}
 
--- the bytes of one difference and those after it
-one_step : (at p : Point) (ps : List Point) → way_bytes at (p ∷ []) ++ way_bytes p ps ≡ way_bytes at (p ∷ ps)
-one_step at p ps = ap (λ l. l ++ way_bytes p ps) (append-nil (step_bytes (p.x -ℤ at.x, p.y -ℤ at.y)))
-
--- the bytes of the rows of a multipoint's points
-pub point_rows : (style : Style) (d : ℕ) (ids : Ids) (ps : List Point) (at : Point) (es : List Entry) (rs : List Row)
-    → rows_bytes style at es (rows_of_each (λ id p. plain_row d kind.Point id (p ∷ []) ∷ []) ids ps
-    ++ rs) ≡ way_bytes at ps ++ rows_bytes style (way_end at ps) es rs
-point_rows style d ids [] at es rs = refl
-point_rows style d ids (p ∷ ps) at es rs =
-    let step = way_bytes at (p ∷ []) in
-    let after = rows_of_each (λ id p. plain_row d kind.Point id (p ∷ []) ∷ []) (other_ids ids) ps ++ rs in
-    ap (λ l. step ++ l) (point_rows style d (other_ids ids) ps p es rs)
-    ∙ sym (append_assoc step (way_bytes p ps) (rows_bytes style (way_end p ps) es rs))
-    ∙ ap (λ l. l ++ rows_bytes style (way_end p ps) es rs) (one_step at p ps)
+-- the rows of a polygon's rings
+rings_spelled : (style : Style) (d : ℕ) (rings : List (List Point))
+    → HasSlots style d (ring_rows d rings) (flat_map run_of rings)
+rings_spelled style d rings = slots_each style d (λ none ring. plain_row d kind.Ring none ring ∷ []) run_of
+    (run_spelled style d kind.Ring (λ own members ids. refl)) None rings
 
 -- the rings of a polygon are its members
-pub ring_members : (d : ℕ) (rings : List (List Point)) (rs : List Row) → Stops d rs
+ring_members : (d : ℕ) (rings : List (List Point)) (rs : List Row) → IsAbove (suc d) rs
     → length (members_below d (ring_rows (suc d) rings ++ rs)) ≡ length rings
-ring_members d rings rs stops =
-    let own : Option ℤ → List Point → Row = λ id ps. plain_row (suc d) kind.Ring id ps in
-    ap length (members-each d (λ id ps. own id ps ∷ []) own (λ id ps. []) (λ id ps. refl)
-    (λ id ps. refl) (λ id ps. tt) None rings rs
-    ∙ ap (λ (l : List Row). rows_of_each (λ id ps. own id ps ∷ []) None rings ++ l) (members-stop d rs stops)
-    ∙ append-nil (rows_of_each (λ id ps. own id ps ∷ []) None rings))
-    ∙ length-each own None rings
+ring_members d rings rs h =
+    ap length (members-each (one_heads d kind.Ring (λ ps. ps)) None rings rs h)
+    ∙ length-each (λ id ps. plain_row (suc d) kind.Ring id ps) None rings
 
--- the rows of polygons stop at their depth
-stops_areas : (d : ℕ) (ids : Ids) (areas : List (List (List Point))) (rs : List Row) → Stops d rs
-    → Stops d (rows_of_each (polygon_rows d) ids areas ++ rs)
-stops_areas d ids [] rs h = h
-stops_areas d ids (rings ∷ areas) rs h = omega arith
+-- the rows of a polygon
+polygon_spelled : (style : Style) (d : ℕ) (id : Option ℤ) (rings : List (List Point))
+    → HasSlots style d (polygon_rows d id rings) (rings_of rings)
+polygon_spelled style d id rings = record {
+  begins = λ rest h. (let le : d < suc d = omega arith in le);
+  spelled = λ at es rest h.
+      let v = varint_of (length rings) in
+      let below = rows_bytes style at es (ring_rows (suc d) rings ++ rest) in
+      let ms = flat_map run_of rings in
+      ap (λ n. ((varint_of n ++ []) ++ []) ++ below) (ring_members d rings rest h)
+      ∙ ap (λ l. l ++ below) (append-nil (v ++ []) ∙ append-nil v)
+      ∙ ap (λ l. v ++ l) ((rings_spelled style (suc d) rings).spelled at es rest (above_less (suc d) rest h))
+      ∙ sym (append_assoc v (walked at ms) (rows_bytes style (reached at ms) es rest));
+}
 
--- the bytes of the rows of a multipolygon's polygons
-pub area_rows : (style : Style) (d : ℕ) (ids : Ids) (areas : List (List (List Point))) (at : Point)
-    (es : List Entry) (rs : List Row) → Stops d rs
-    → rows_bytes style at es (rows_of_each (polygon_rows d) ids areas ++ rs) ≡ walked at
-    (flat_map rings_of areas) ++ rows_bytes style (reached at (flat_map rings_of areas)) es rs
-area_rows style d ids [] at es rs stops = refl
-area_rows style d ids (rings ∷ areas) at es rs stops =
-    let ms = flat_map run_of rings in
-    let more = flat_map rings_of areas in
-    let after = rows_of_each (polygon_rows d) (other_ids ids) areas ++ rs in
-    let v = varint_of (length rings) in
-    let tail = rows_bytes style (reached at (ms ++ more)) es rs in
-    let below : rows_bytes style at es (ring_rows (suc d) rings ++ after) ≡ walked at (ms ++ more) ++ tail =
-    ring_rows-bytes style (suc d) rings at es after
-    ∙ ap (λ l. walked at ms ++ l) (area_rows style d (other_ids ids) areas (reached at ms) es rs stops)
-    ∙ sym (append_assoc (walked at ms) (walked (reached at ms) more)
-    (rows_bytes style (reached (reached at ms) more) es rs))
-    ∙ ap (λ l. l ++ rows_bytes style (reached (reached at ms) more) es rs) (sym (walked-append at ms more))
-    ∙ ap (λ q. walked at (ms ++ more) ++ rows_bytes style q es rs) (sym (reached-append at ms more)) in
-    ap (λ (l : List Row). ((varint_of (length (members_below d l)) ++ []) ++ []) ++ rows_bytes style
-    at es l) (append_assoc (ring_rows (suc d) rings)
-    (rows_of_each (polygon_rows d) (other_ids ids) areas) rs)
-    ∙ ap (λ n. ((varint_of n ++ []) ++ []) ++ rows_bytes style at es
-    (ring_rows (suc d) rings ++ after)) (ring_members d rings after
-    (stops_areas d (other_ids ids) areas rs stops))
-    ∙ ap (λ l. l ++ rows_bytes style at es (ring_rows (suc d) rings ++ after)) (append-nil (v ++ []) ∙ append-nil v)
-    ∙ ap (λ l. v ++ l) below
-    ∙ sym (append_assoc v (walked at (ms ++ more)) tail)
+-- the slots of the parts of a shape
+abbrev part_slots : Simple → List Slot
+part_slots (polygon rings) = flat_map run_of rings
+part_slots (multi_point ids ps) = flat_map (λ p. OfPoint p ∷ []) ps
+part_slots (multi_line ids lines) = flat_map run_of lines
+part_slots (multi_polygon ids areas) = flat_map rings_of areas
+part_slots _ = []
+
+-- the rows of the parts of a shape
+parts_spelled : (style : Style) (d : ℕ) (s : Simple) → HasSlots style d (rows_below d s) (part_slots s)
+parts_spelled style d (polygon rings) = rings_spelled style d rings
+parts_spelled style d (multi_point ids ps) = slots_each style d
+    (λ id p. plain_row d kind.Point id (p ∷ []) ∷ []) (λ p. OfPoint p ∷ []) (point_spelled style d) ids ps
+parts_spelled style d (multi_line ids lines) = slots_each style d
+    (λ id ps. plain_row d kind.Linestring id ps ∷ []) run_of
+    (run_spelled style d kind.Linestring (λ own members ids. refl)) ids lines
+parts_spelled style d (multi_polygon ids areas) =
+    slots_each style d (polygon_rows d) rings_of (polygon_spelled style d) ids areas
+parts_spelled style d _ = spelled_none style d
 
 -- ==== The bytes of a geometry's rows, with its own entries, are its canonical blob.
 
@@ -306,28 +330,23 @@ reached-id_slots at None ms = refl
 reached-id_slots at (Some ids) ms = reached-ids at ids ms
 
 -- the ids of the rows below, if there are ids
-part_ids : {A : Type 0} (d : ℕ) (f : Option ℤ → A → List Row) (own : Option ℤ → A → Row)
-    (deeper : Option ℤ → A → List Row)
-    → ((id : Option ℤ) (x : A) → f id x ≡ own id x ∷ deeper id x)
-    → ((id : Option ℤ) (x : A) → (own id x).depth ≡ suc d)
-    → ((id : Option ℤ) (x : A) → AreDeep (suc (suc d)) (deeper id x))
-    → ((id : Option ℤ) (x : A) → (own id x).id ≡ id)
-    → (at : Point) (ids : Ids) (xs : List A) (rs : List Row) → Stops d rs → HasIds ids (length xs)
+part_ids : {A : Type 0} {d : ℕ} {f : Option ℤ → A → List Row} {own : Option ℤ → A → Row}
+    {deeper : Option ℤ → A → List Row} → Heads d f own deeper → (at : Point) (ids : Ids) (xs : List A)
+    (rs : List Row) → IsAbove (suc d) rs → HasIds ids (length xs)
     → (if is_some ids then ids_bytes (members_below d (rows_of_each f ids xs ++ rs)) else [])
     ≡ walked at (id_slots ids)
-part_ids d f own deeper is totals deep same at None xs rs stops h = refl
-part_ids d f own deeper is totals deep same at (Some ids) xs rs stops h =
-    ap ids_bytes (members-each d f own deeper is totals deep (Some ids) xs rs
-    ∙ ap (λ (l : List Row). rows_of_each (λ id x. own id x ∷ []) (Some ids) xs ++ l) (members-stop d rs stops)
-    ∙ append-nil (rows_of_each (λ id x. own id x ∷ []) (Some ids) xs))
-    ∙ ids-each own same at ids xs h.1
+part_ids heads at None xs rs above h = refl
+part_ids {own = own} heads at (Some ids) xs rs above h = ap ids_bytes (members-each heads (Some ids) xs rs above)
+    ∙ ids-each own heads.same_id at ids xs h.1
 
 -- ---- bodies
 
 -- the bytes of a count, ids, and what follows
-many_body : (v named ids x w t body : List ℕ) → named ≡ ids → x ≡ w ++ t → body ≡ v ++ (ids ++ w)
+many_bytes : (v named ids x w t body : List ℕ) → named ≡ ids → x ≡ w ++ t → body ≡ v ++ (ids ++ w)
     → (v ++ named) ++ x ≡ body ++ t
-many_body v named ids x w t body e f g = ap (λ l. (v ++ l) ++ x) e ∙ regroup v ids x w t f ∙ ap (λ l. l ++ t) (sym g)
+many_bytes v named ids x w t body e f g =
+    (λ i. (v ++ e i) ++ f i) ∙ append_assoc v ids (w ++ t) ∙ ap (λ l. v ++ l) (sym (append_assoc ids w t))
+    ∙ sym (append_assoc v (ids ++ w) t) ∙ ap (λ l. l ++ t) (sym g)
 
 -- a multi type with a member has a body
 has_body : {A : Type 0} (ids : Ids) (x : A) (xs : List A) (body : List ℕ)
@@ -341,18 +360,6 @@ collection_body : (ids : Ids) (g : Tree) (gs : Trees) (body : List ℕ)
 collection_body None g gs body = refl
 collection_body (Some ids) g gs body = refl
 
--- the body of a multi type
-multi_body : (c : Counted) (n : ℕ) (ids : Ids) (ms : List Slot) (body : List ℕ)
-    → body ≡ walked origin (OfCount c n ∷ id_slots ids ++ ms)
-    → body ≡ varint_of n ++ (walked origin (id_slots ids) ++ walked origin ms)
-multi_body c n ids ms body e = e ∙ ap (λ l. varint_of n ++ l) (walked-id_slots origin ids ms)
-
--- the point after the body of a multi type
-multi_end : (style : Style) (ids : Ids) (ms : List Slot) (es : List Entry) (rs : List Row)
-    → rows_bytes style (reached origin ms) es rs ≡ rows_bytes style
-    (reached origin (id_slots ids ++ ms)) es rs
-multi_end style ids ms es rs = ap (λ p. rows_bytes style p es rs) (sym (reached-id_slots origin ids ms))
-
 -- the bytes after the header of a simple shape at depth d, before other rows
 abbrev put_body : Style → ℤ → Simple → ℕ → List Entry → List Row → List ℕ
 put_body style p s d es rs =
@@ -363,60 +370,68 @@ put_body style p s d es rs =
     ++ (way_bytes origin (own_points s) ++ rows_bytes style (way_end origin (own_points s)) es
     (rows_below (suc d) s ++ rs))
 
-simple_body : (style : Style) (p : ℤ) (s : Simple) (d : ℕ) (es : List Entry) (rs : List Row) → IdsFit s → Stops d rs
+-- the body of a shape with parts: a count, ids, and the parts
+parts_body : (style : Style) (p : ℤ) (s : Simple) (d : ℕ) (es : List Entry) (rs : List Row) (c : Counted) (n : ℕ)
+    (named : List ℕ) → slots s ≡ OfCount c n ∷ id_slots (ids_in s) ++ part_slots s
+    → named ≡ walked origin (id_slots (ids_in s)) → own_body style (simple p s) ≡ varints (fields s)
+    → IsAbove (suc d) rs
+    → (varint_of n ++ named) ++ rows_bytes style origin es (rows_below (suc d) s ++ rs)
+    ≡ own_body style (simple p s) ++ rows_bytes style (reached origin (slots s)) es rs
+parts_body style p s d es rs c n named are ids full above =
+    let ms = part_slots s in
+    let body = full ∙ ap varints (fields_are s) ∙ ap (walked origin) are
+    ∙ ap (λ l. varint_of n ++ l) (walked-id_slots origin (ids_in s) ms) in
+    many_bytes (varint_of n) named _ _ (walked origin ms) _ _ ids
+    ((parts_spelled style (suc d) s).spelled origin es rs (above_less (suc d) rs above)) body
+    ∙ ap (λ at. own_body style (simple p s) ++ rows_bytes style at es rs)
+    (sym (ap (reached origin) are ∙ reached-id_slots origin (ids_in s) ms))
+
+-- points as slots, one at a time
+points_ones : (ps : List Point) → map OfPoint ps ≡ flat_map (λ p. OfPoint p ∷ []) ps
+points_ones [] = refl
+points_ones (p ∷ ps) = ap (λ ms. OfPoint p ∷ ms) (points_ones ps)
+
+simple_body : (style : Style) (p : ℤ) (s : Simple) (d : ℕ) (es : List Entry) (rs : List Row) → IdsFit s
+    → IsAbove (suc d) rs
     → put_body style p s d es rs ≡ own_body style (simple p s) ++ rows_bytes style (reached origin (slots s)) es rs
-simple_body style p (point (Some q)) d es rs fit stops =
+simple_body style p (point (Some q)) d es rs fit above =
     ap (λ l. l ++ rows_bytes style q es rs) (sym (ap varints (fields_are (point (Some q)))
     ∙ walked-way origin (q ∷ [])))
-simple_body style p (line (q ∷ ps)) d es rs fit stops =
+simple_body style p (line (q ∷ ps)) d es rs fit above =
     let v = varint_of (length (q ∷ ps)) in
     let w = way_bytes origin (q ∷ ps) in
     sym (append_assoc v w (rows_bytes style (way_end q ps) es rs))
     ∙ ap (λ l. l ++ rows_bytes style (way_end q ps) es rs)
     (sym (ap varints (fields_are (line (q ∷ ps))) ∙ ap (λ l. v ++ l) (walked-way origin (q ∷ ps))))
     ∙ ap (λ at. varints (fields (line (q ∷ ps))) ++ rows_bytes style at es rs) (sym (reached-way origin (q ∷ ps)))
-simple_body style p (polygon (ring ∷ rings)) d es rs fit stops =
-    many_body (varint_of (length (ring ∷ rings))) [] [] _ (walked origin (flat_map run_of (ring ∷ rings))) _ _ refl
-    (ring_rows-bytes style (suc d) (ring ∷ rings) origin es rs) (ap varints (fields_are (polygon (ring ∷ rings))))
-simple_body style p (multi_point ids []) d es rs fit stops = ap (λ at. rows_bytes style at es rs)
+simple_body style p (polygon (ring ∷ rings)) d es rs fit above =
+    parts_body style p (polygon (ring ∷ rings)) d es rs Rings (length (ring ∷ rings)) [] refl refl refl above
+simple_body style p (multi_point ids []) d es rs fit above = ap (λ at. rows_bytes style at es rs)
     (sym (reached-id_slots origin ids []))
-simple_body style p (multi_point ids (q ∷ ps)) d es rs fit stops =
-    let own : Option ℤ → Point → Row = λ id x. plain_row (suc d) kind.Point id (x ∷ []) in
-    many_body (varint_of (length (q ∷ ps))) _ _ _ _ _ _
-    (part_ids d (λ id x. own id x ∷ []) own (λ id x. []) (λ id x. refl) (λ id x. refl) (λ id x. tt)
-    (λ id x. refl) origin ids (q ∷ ps) rs stops fit)
-    (point_rows style (suc d) ids (q ∷ ps) origin es rs
-    ∙ ap (λ l. l ++ rows_bytes style (way_end q ps) es rs) (sym (walked-way origin (q ∷ ps)))
-    ∙ ap (λ at. walked origin (map OfPoint (q ∷ ps)) ++ rows_bytes style at es rs)
-    (sym (reached-way origin (q ∷ ps)) ∙ sym (reached-id_slots origin ids (map OfPoint (q ∷ ps)))))
-    (has_body ids q ps _ ∙ multi_body Points (length (q ∷ ps)) ids (map OfPoint (q ∷ ps)) _
-    (ap varints (fields_are (multi_point ids (q ∷ ps)))))
-simple_body style p (multi_line ids []) d es rs fit stops = ap (λ at. rows_bytes style at es rs)
+simple_body style p (multi_point ids (q ∷ ps)) d es rs fit above =
+    parts_body style p (multi_point ids (q ∷ ps)) d es rs Points (length (q ∷ ps)) _
+    (ap (λ ms. OfCount Points (length (q ∷ ps)) ∷ id_slots ids ++ ms) (points_ones (q ∷ ps)))
+    (part_ids (one_heads d kind.Point (λ x. x ∷ [])) origin ids (q ∷ ps) rs above fit)
+    (has_body ids q ps _) above
+simple_body style p (multi_line ids []) d es rs fit above = ap (λ at. rows_bytes style at es rs)
     (sym (reached-id_slots origin ids []))
-simple_body style p (multi_line ids (ps ∷ lines)) d es rs fit stops =
-    let own : Option ℤ → List Point → Row = λ id x. plain_row (suc d) kind.Linestring id x in
-    let ms = flat_map run_of (ps ∷ lines) in
-    many_body (varint_of (length (ps ∷ lines))) _ _ _ _ _ _
-    (part_ids d (λ id x. own id x ∷ []) own (λ id x. []) (λ id x. refl) (λ id x. refl) (λ id x. tt)
-    (λ id x. refl) origin ids (ps ∷ lines) rs stops fit)
-    (run_rows style (suc d) kind.Linestring (λ own members ids. refl) ids (ps ∷ lines) origin es rs
-    ∙ ap (λ l. walked origin ms ++ l) (multi_end style ids ms es rs))
-    (has_body ids ps lines _ ∙ multi_body Components (length (ps ∷ lines)) ids ms _
-    (ap varints (fields_are (multi_line ids (ps ∷ lines)))))
-simple_body style p (multi_polygon ids []) d es rs fit stops = ap (λ at. rows_bytes style at es rs)
+simple_body style p (multi_line ids (ps ∷ lines)) d es rs fit above =
+    parts_body style p (multi_line ids (ps ∷ lines)) d es rs Components (length (ps ∷ lines)) _ refl
+    (part_ids (one_heads d kind.Linestring (λ x. x)) origin ids (ps ∷ lines) rs above fit)
+    (has_body ids ps lines _) above
+simple_body style p (multi_polygon ids []) d es rs fit above = ap (λ at. rows_bytes style at es rs)
     (sym (reached-id_slots origin ids []))
-simple_body style p (multi_polygon ids (rings ∷ areas)) d es rs fit stops =
-    let own : Option ℤ → List (List Point) → Row = λ id x. plain_row (suc d) kind.Polygon id [] in
-    let ms = flat_map rings_of (rings ∷ areas) in
-    many_body (varint_of (length (rings ∷ areas))) _ _ _ _ _ _
-    (part_ids d (polygon_rows (suc d)) own (λ id x. ring_rows (suc (suc d)) x) (λ id x. refl)
-    (λ id x. refl) (λ id x. deep-rings (suc (suc d)) x) (λ id x. refl) origin ids
-    (rings ∷ areas) rs stops fit)
-    (area_rows style (suc d) ids (rings ∷ areas) origin es rs (stops_deeper d rs stops)
-    ∙ ap (λ l. walked origin ms ++ l) (multi_end style ids ms es rs))
-    (has_body ids rings areas _ ∙ multi_body Components (length (rings ∷ areas)) ids ms _
-    (ap varints (fields_are (multi_polygon ids (rings ∷ areas)))))
-simple_body style p _ d es rs fit stops = refl
+simple_body style p (multi_polygon ids (rings ∷ areas)) d es rs fit above =
+    let heads : Heads d (polygon_rows (suc d)) (λ id x. plain_row (suc d) kind.Polygon id [])
+    (λ id x. ring_rows (suc (suc d)) x) = record {
+      is = λ id x. refl;
+      depth = λ id x. refl;
+      deep = λ id x. deep-rings (suc (suc d)) x;
+      same_id = λ id x. refl;
+    } in
+    parts_body style p (multi_polygon ids (rings ∷ areas)) d es rs Components (length (rings ∷ areas)) _ refl
+    (part_ids heads origin ids (rings ∷ areas) rs above fit) (has_body ids rings areas _) above
+simple_body style p _ d es rs fit above = refl
 
 -- ---- geometries
 
@@ -427,18 +442,6 @@ lead_join h b w x body t blob e f =
     append_assoc (h ++ b) w x ∙ append_assoc h b (w ++ x) ∙ ap (λ l. h ++ l) e
     ∙ sym (append_assoc h body t) ∙ ap (λ l. l ++ t) f
 
--- the bytes of a geometry's rows before others are its canonical blob, and the others go on from
--- some point
-abbrev Spelled : Style → List ℕ → Point → List Entry → List Row → List Entry → List Row → Type 0
-Spelled style blob at all whole es rs = (after : Point)
-    × (rows_bytes style at all whole ≡ blob ++ rows_bytes style after es rs)
-
--- the first row of the next member stops the rows of the one before it
-stops_members : (d : ℕ) (ids : Ids) (gs : Trees) (rs : List Row) → Stops d rs → Stops d (member_rows d ids gs ++ rs)
-stops_members d ids end rs h = h
-stops_members d ids (simple p s ▷ gs) rs h = omega arith
-stops_members d ids (collection p is hs ▷ gs) rs h = omega arith
-
 -- the members as a list are as many as the members
 pub length-members : (gs : Trees) → length (members gs) ≡ count gs
 length-members end = refl
@@ -448,17 +451,20 @@ pub has_members : (ids : Ids) (gs : Trees) → HasIds ids (count gs) → HasIds 
 has_members ids gs h = subst (HasIds ids) (sym (length-members gs)) h
 
 -- the ids of the members of a collection
-collection_ids : (d : ℕ) (ids : Ids) (gs : Trees) (rs : List Row) → Stops d rs → HasIds ids (count gs)
+collection_ids : (d : ℕ) (ids : Ids) (gs : Trees) (rs : List Row) → IsAbove (suc d) rs → HasIds ids (count gs)
     → (if is_some ids then ids_bytes (members_below d (member_rows (suc d) ids gs ++ rs)) else [])
     ≡ walked origin (id_slots ids)
-collection_ids d ids gs rs stops h =
+collection_ids d ids gs rs above h =
+    let heads : Heads d (λ id g. rows_with id (suc d) g) (λ id g. own_row id (suc d) g)
+    (λ id g. rows_under (suc (suc d)) g) = record {
+      is = λ id g. own_row_first id (suc d) g;
+      depth = λ id g. own_row-depth id (suc d) g;
+      deep = λ id g. deep-below (suc (suc d)) g;
+      same_id = λ id g. own_row-id id (suc d) g;
+    } in
     ap (λ (l : List Row). if is_some ids then ids_bytes (members_below d (l ++ rs)) else [])
     (member_rows-each (suc d) ids gs)
-    ∙ part_ids d (λ id g. rows_with id (suc d) g) (λ id g. own_row id (suc d) g)
-    (λ id g. rows_under (suc (suc d)) g) (λ id g. own_row_first id (suc d) g)
-    (λ id g. own_row-depth id (suc d) g)
-    (λ id g. deep-below (suc (suc d)) g) (λ id g. own_row-id id (suc d) g) origin ids (members gs)
-    rs stops (has_members ids gs h)
+    ∙ part_ids heads origin ids (members gs) rs above (has_members ids gs h)
 
 -- an id list by its fields
 id_fields-walked : (ids : Ids) → varints (id_fields ids) ≡ walked origin (id_slots ids)
@@ -466,96 +472,71 @@ id_fields-walked None = refl
 id_fields-walked (Some ids) = filled-ids origin ids
 
 -- what comes between the header of a geometry's row and its points, given the rows below it
-abbrev counts_of : Style → Tree → Row → List Row → List ℕ
-counts_of style g r below =
-    if is_bare (length r.points) (entry_of style g) then [] else counts_bytes r.kind
-    (length r.points) (part_count g) (if is_some (ids_of g) then ids_bytes
-    (members_below r.depth below) else [])
+abbrev counts_of : Style → Tree → Kind → ℕ → ℕ → List Row → List ℕ
+counts_of style g k d own below =
+    if is_bare own (entry_of style g) then [] else counts_bytes k own (part_count g)
+    (if is_some (ids_of g) then ids_bytes (members_below d below) else [])
 
 -- a geometry whose body comes after its header
-geometry_spelled : (style : Style) (g : Tree) (id : Option ℤ) (d : ℕ) (at : Point) (es : List Entry)
-    (below : List Row) (t : List ℕ) → IsTree g
-    → counts_of style g (own_row id d g) below ++ (way_bytes origin (own_row id d g).points
-    ++ rows_bytes style (way_end origin (own_row id d g).points) es below) ≡ own_body style g ++ t
-    → rows_bytes style at (entry_of style g ∷ es) (own_row id d g ∷ below) ≡ canonical_blob style g ++ t
-geometry_spelled style (simple p s) id d at es below t is put =
-    let g : Tree = simple p s in
-    let r = own_row id d g in
-    lead_join (header style r.kind p (length r.points) (entry_of style g))
-    (counts_of style g r below) (way_bytes origin r.points)
-    (rows_bytes style (way_end origin r.points) es below) (own_body style g) t
-    (canonical_blob style g) put (headed style id d g is)
-geometry_spelled style (collection p ids gs) id d at es below t is put =
-    let g : Tree = collection p ids gs in
-    let r = own_row id d g in
-    lead_join (header style r.kind p (length r.points) (entry_of style g))
-    (counts_of style g r below) (way_bytes origin r.points)
-    (rows_bytes style (way_end origin r.points) es below) (own_body style g) t
-    (canonical_blob style g) put (headed style id d g is)
+geometry_spelled : (style : Style) (g : Tree) (k : Kind) (p : ℤ) (id : Option ℤ) (d : ℕ) (own : List Point)
+    (at : Point) (es : List Entry) (below : List Row) (t : List ℕ)
+    → header style k p (length own) (entry_of style g) ++ own_body style g ≡ canonical_blob style g
+    → counts_of style g k d (length own) below ++ (way_bytes origin own
+    ++ rows_bytes style (way_end origin own) es below) ≡ own_body style g ++ t
+    → rows_bytes style at (entry_of style g ∷ es) (whole_row d k id p own ∷ below) ≡ canonical_blob style g ++ t
+geometry_spelled style g k p id d own at es below t head put =
+    lead_join (header style k p (length own) (entry_of style g)) (counts_of style g k d (length own) below)
+    (way_bytes origin own) (rows_bytes style (way_end origin own) es below) (own_body style g) t
+    (canonical_blob style g) put head
 
 mutual
-  pub tree_spelled : (style : Style) (g : Tree) (id : Option ℤ) (d : ℕ) (at : Point)
-      (es : List Entry) (rs : List Row) → IsTree g → Stops d rs
-      → Spelled style (canonical_blob style g) at (sizes_of style g ++ es) (rows_with id d g ++ rs) es rs
-  tree_spelled style (simple p s) id d at es rs t stops = (
-    reached origin (slots s),
-    geometry_spelled style (simple p s) id d at es (rows_below (suc d) s ++ rs)
-        (rows_bytes style (reached origin (slots s)) es rs) t
-        (simple_body style p s d es rs t.1 stops),
-  )
-  tree_spelled style (collection p ids end) id d at es rs t stops = (
-    origin,
-    geometry_spelled style (collection p ids end) id d at es rs (rows_bytes style origin es rs) t refl,
-  )
-  tree_spelled style (collection p ids (g ▷ gs)) id d at es rs t stops =
-      let below = trees_spelled style (g ▷ gs) ids (suc d) origin es rs t.2 (stops_deeper d rs stops) in
+  -- the bytes of a geometry's rows are its canonical blob, and other rows go on from some point
+  tree_spelled : (style : Style) (g : Tree) (id : Option ℤ) (d : ℕ) → IsTree g → (last : Point → Point)
+      × AreSpelled style d (rows_with id d g) (sizes_of style g) (λ at. canonical_blob style g) last
+  tree_spelled style (simple p s) id d t = (λ at. reached origin (slots s), record {
+    begins = λ rest h. (let le : d < suc d = omega arith in le);
+    spelled = λ at es rest h. geometry_spelled style (simple p s) (kind_in s) p id d (own_points s) at es
+        (rows_below (suc d) s ++ rest) (rows_bytes style (reached origin (slots s)) es rest)
+        (headed style id d (simple p s) t) (simple_body style p s d es rest t.1 h);
+  })
+  tree_spelled style (collection p ids end) id d t = (λ at. origin, record {
+    begins = λ rest h. (let le : d < suc d = omega arith in le);
+    spelled = λ at es rest h. geometry_spelled style (collection p ids end) kind.Collection p id d [] at es
+        rest (rows_bytes style origin es rest) (headed style id d (collection p ids end) t) refl;
+  })
+  tree_spelled style (collection p ids (g ▷ gs)) id d t =
+      let (last, members) = trees_spelled style (g ▷ gs) ids (suc d) t.2 in
       let all = canonical_members style (g ▷ gs) in
       let n = varint_of (count (g ▷ gs)) in
-      let tail = rows_bytes style below.0 es rs in (
-        below.0,
-        geometry_spelled style (collection p ids (g ▷ gs)) id d at
-            (sizes_of_all style (g ▷ gs) ++ es) (member_rows (suc d) ids (g ▷ gs) ++ rs) tail t
-            (many_body n (if is_some ids then ids_bytes (members_below d
-            (member_rows (suc d) ids (g ▷ gs) ++ rs)) else []) (walked origin (id_slots ids))
-            (rows_bytes style origin (sizes_of_all style (g ▷ gs) ++ es)
-            (member_rows (suc d) ids (g ▷ gs) ++ rs)) all tail
-            (own_body style (collection p ids (g ▷ gs)))
-            (collection_ids d ids (g ▷ gs) rs stops t.1) below.1
-            (collection_body ids g gs
-            (varints ((Count (Geometries 0), count (g ▷ gs)) ∷ id_fields ids) ++ all)
-            ∙ append_assoc n (varints (id_fields ids)) all
-            ∙ ap (λ l. n ++ (l ++ all)) (id_fields-walked ids))),
-      )
+      let body = varints ((Count (Geometries 0), count (g ▷ gs)) ∷ id_fields ids) ++ all in
+      (λ at. last origin, record {
+        begins = λ rest h. (let le : d < suc d = omega arith in le);
+        spelled = λ at es rest h.
+            geometry_spelled style (collection p ids (g ▷ gs)) kind.Collection p id d [] at
+            (sizes_of_all style (g ▷ gs) ++ es) (member_rows (suc d) ids (g ▷ gs) ++ rest)
+            (rows_bytes style (last origin) es rest) (headed style id d (collection p ids (g ▷ gs)) t)
+            (many_bytes n _ _ _ all _ _ (collection_ids d ids (g ▷ gs) rest h t.1)
+            (members.spelled origin es rest (above_less (suc d) rest h))
+            (collection_body ids g gs body ∙ append_assoc n (varints (id_fields ids)) all
+            ∙ ap (λ l. n ++ (l ++ all)) (id_fields-walked ids)));
+      })
 
-  trees_spelled : (style : Style) (gs : Trees) (ids : Ids) (d : ℕ) (at : Point) (es : List Entry)
-      (rs : List Row) → AreTrees gs → Stops d rs
-      → Spelled style (canonical_members style gs) at (sizes_of_all style gs ++ es) (member_rows d ids gs ++ rs) es rs
-  trees_spelled style end ids d at es rs t stops = (at, refl)
-  trees_spelled style (g ▷ gs) ids d at es rs t stops =
-      let next = member_rows d (other_ids ids) gs ++ rs in
-      let first = tree_spelled style g (first_id ids) d at (sizes_of_all style gs ++ es) next t.0
-      (stops_members d (other_ids ids) gs rs stops) in
-      let others = trees_spelled style gs (other_ids ids) d first.0 es rs t.1 stops in (
-        others.0,
-        ap (λ (l : List Entry). rows_bytes style at l
-            ((rows_with (first_id ids) d g ++ member_rows d (other_ids ids) gs) ++ rs))
-            (append_assoc (sizes_of style g) (sizes_of_all style gs) es)
-            ∙ ap (λ (l : List Row). rows_bytes style at (sizes_of style g
-            ++ (sizes_of_all style gs ++ es)) l) (append_assoc (rows_with (first_id ids) d g)
-            (member_rows d (other_ids ids) gs) rs)
-            ∙ first.1 ∙ ap (λ l. canonical_blob style g ++ l) others.1
-            ∙ sym (append_assoc (canonical_blob style g) (canonical_members style gs)
-            (rows_bytes style others.0 es rs)),
-      )
+  trees_spelled : (style : Style) (gs : Trees) (ids : Ids) (d : ℕ) → AreTrees gs → (last : Point → Point)
+      × AreSpelled style d (member_rows d ids gs) (sizes_of_all style gs) (λ at. canonical_members style gs) last
+  trees_spelled style end ids d t = (λ at. at, spelled_none style d)
+  trees_spelled style (g ▷ gs) ids d t =
+      let (last, first) = tree_spelled style g (first_id ids) d t.0 in
+      let (end_of, others) = trees_spelled style gs (other_ids ids) d t.1 in
+      (λ at. end_of (last at), spelled_join first others)
 
 -- the rows of a geometry with its sizes are its canonical blob
 pub rows_spell : (style : Style) (g : Tree) → IsTree g
     → rows_bytes style origin (sizes_of style g) (rows 0 g) ≡ canonical_blob style g
 rows_spell style g t =
-    let all = tree_spelled style g None 0 origin [] [] t tt in
+    let (last, all) = tree_spelled style g None 0 t in
     ap (λ (l : List Entry). rows_bytes style origin l (rows 0 g)) (sym (append-nil (sizes_of style g)))
     ∙ ap (λ (l : List Row). rows_bytes style origin (sizes_of style g ++ []) l) (sym (append-nil (rows 0 g)))
-    ∙ all.1 ∙ append-nil (canonical_blob style g)
+    ∙ all.spelled origin [] [] tt ∙ append-nil (canonical_blob style g)
 
 -- ==== The rows of a flat form with its sizes.
 
