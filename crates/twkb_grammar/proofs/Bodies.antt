@@ -15,6 +15,7 @@ use Rattle.twkb_grammar.specs.Roles.{Field, Count, Id, X, Y, Item, Role, Counted
 use Rattle.twkb_grammar.specs.Roles.{Header, Metadata, Extended, Size, Box, End, HaveRoles, where_set, item}
 use Rattle.twkb_grammar.specs.Items.{Slot, OfCount, OfId, OfPoint, filled, fields, slots, run_of, rings_of, id_slots}
 use Rattle.twkb_grammar.specs.Items.{flags, members, Agrees, declared, end_item, Flags, Framed, header_byte}
+use Rattle.twkb_grammar.specs.Items.{AreOptional}
 use Rattle.twkb_grammar.specs.Bits.{bit}
 use Rattle.twkb_grammar.specs.Fault.{moved}
 use Rattle.twkb_grammar.specs.Machine.{Nested, Around, top, within, Body, Want, closed, opened, listed, BodyForm}
@@ -439,6 +440,16 @@ Runs-append [] e st mid js last r s = subst (λ x. Runs e x js last) (sym r) s
 Runs-append (i ∷ is) e st mid js last r s =
     (r.0, r.1, Runs-append is (added e i) (stack_after e i st) mid js last r.2 s)
 
+-- the machine is deterministic
+pub runs_same : (xs : List Item) (e : Sums) (st a b : Stack) → Runs e st xs a → Runs e st xs b → a ≡ b
+runs_same [] e st a b r s = sym r ∙ s
+runs_same (i ∷ xs) e st a b r s = runs_same xs (added e i) (stack_after e i st) a b r.2 s.2
+
+-- the sums of joined items
+pub sums_after-append : (is js : List Item) (e : Sums) → sums_after e (is ++ js) ≡ sums_after (sums_after e is) js
+sums_after-append [] js e = refl
+sums_after-append (i ∷ is) js e = sums_after-append is js (added e i)
+
 -- the sums count the bytes
 pub bytes_after : (is : List Item) (e : Sums) → (sums_after e is).bytes ≡ e.bytes + length (join is)
 bytes_after [] e = omega arith
@@ -462,6 +473,26 @@ still_after _ _ e have still = absurd have
 pub still_where : (b : Bool) (rs : List Role) → Still rs → Still (where_set b rs)
 still_where true rs still = still
 still_where false rs still = tt
+
+-- optional parts leave the position unchanged
+pub still_options : (meta : ℕ) (extended size box : List Item) (e : Sums) → AreOptional meta extended size box
+    → (sums_after e (extended ++ (size ++ box))).position ≡ e.position
+still_options meta x s o e optional = ap (λ (e : Sums). e.position)
+    (sums_after-append x (s ++ o) e ∙ sums_after-append s o (sums_after e x))
+    ∙ (still_after (where_set (bit meta 0) (Box ∷ Box ∷ Box ∷ Box ∷ [])) o
+    (sums_after (sums_after e x) s) optional.box_is (still_where (bit meta 0) (Box ∷ Box ∷ Box ∷ Box ∷ [])
+    ((λ p n. refl), ((λ p n. refl), ((λ p n. refl), ((λ p n. refl), tt)))))
+    ∙ (still_after (where_set (bit meta 1) (Size ∷ [])) s (sums_after e x) optional.size_is
+    (still_where (bit meta 1) (Size ∷ []) ((λ p n. refl), tt))
+    ∙ still_after (where_set (bit meta 3) (Extended ∷ [])) x e optional.extended_is
+    (still_where (bit meta 3) (Extended ∷ []) ((λ p n. refl), tt))))
+
+-- five lists joined in another grouping
+pub regroup : {A : Type 0} (x s o b l : List A) → x ++ (s ++ ((o ++ b) ++ l)) ≡ (x ++ (s ++ o)) ++ (b ++ l)
+regroup x s o b l =
+    ap (λ t. x ++ (s ++ t)) (append_assoc o b l)
+    ∙ (ap (λ t. x ++ t) (sym (append_assoc s o (b ++ l)))
+    ∙ sym (append_assoc x (s ++ o) (b ++ l)))
 
 -- the header with these fields
 abbrev pub head : ℤ → ℕ → Option ℕ → ℕ → Head
@@ -506,6 +537,22 @@ module _ (k : Kind) (p : ℤ) (meta : ℕ) (fs : List Frame) where
   box_run false [] h e have = refl
   box_run _ _ h e have = absurd have
 
+  -- the machine runs through the optional parts
+  pub options_run : (extended size box : List Item) (e : Sums) → AreOptional meta extended size box
+      → Runs e (fs, wanting k (head p meta None e.bytes) (asked meta)) (extended ++ (size ++ box))
+      (fs, wanting k (head p meta (declared size) (sums_after (sums_after e extended) size).bytes) [])
+  options_run x s o e optional =
+      let boxes : List Role = where_set (bit meta 0) (Box ∷ Box ∷ Box ∷ Box ∷ []) in
+      let sizes : List Role = where_set (bit meta 1) (Size ∷ []) ++ boxes in
+      let e2 : Sums = sums_after e x in
+      let h : Head = head p meta (declared s) (sums_after e2 s).bytes in
+      Runs-append x e (fs, wanting k (head p meta None e.bytes) (asked meta))
+      (fs, wanting k (head p meta None e2.bytes) sizes) (s ++ o) (fs, wanting k h [])
+      (extended_run (bit meta 3) x sizes e optional.extended_is)
+      (Runs-append s e2 (fs, wanting k (head p meta None e2.bytes) sizes) (fs, wanting k h boxes) o
+      (fs, wanting k h []) (size_run (bit meta 1) s boxes e2 optional.size_is)
+      (box_run (bit meta 0) o h (sums_after e2 s) optional.box_is))
+
 -- the number of a kind is a type's number
 pub kind_small : (k : Kind) → (0 < kind_number k) × (kind_number k < 8)
 kind_small (SimpleKind PointForm) = (omega arith, omega arith)
@@ -532,52 +579,38 @@ tail_run : (k : Kind) (p : ℤ) (own : Flags) (Body : List Item → Type 0) (fs 
     (f.extended ++ (f.size ++ ((f.box ++ f.body) ++ end_item (declared f.size) (f.box ++ f.body)
     ∷ []))) (ended fs g)
 tail_run k p own Body fs e is g f runs here =
-    Runs-append f.extended e (fs, wanting k (head p f.meta None e.bytes) (asked f.meta))
-    (fs, wanting k (head p f.meta None e2.bytes) (sizes ++ boxes))
-    (f.size ++ (rest ++ last ∷ [])) (ended fs g)
-    (extended_run k p f.meta fs (bit f.meta 3) f.extended (sizes ++ boxes) e f.optional.extended_is)
-    (Runs-append f.size e2 (fs, wanting k (head p f.meta None e2.bytes) (sizes ++ boxes))
-    (fs, wanting k h boxes) (rest ++ last ∷ []) (ended fs g)
-    (size_run k p f.meta fs (bit f.meta 1) f.size boxes e2 f.optional.size_is)
-    (Runs-append rest e3 (fs, wanting k h boxes) (fs, AtEnd h g) (last ∷ []) (ended fs g)
-    (Runs-append f.box e3 (fs, wanting k h boxes) (fs, wanting k h []) f.body (fs, AtEnd h g)
-    (box_run k p f.meta fs (bit f.meta 0) f.box h e3 f.optional.box_is)
-    (runs (sums_after e3 f.box) (declared f.size) e3.bytes
-    (still_after boxes f.box e3 f.optional.box_is
-    (still_where (bit f.meta 0) (Box ∷ Box ∷ Box ∷ Box ∷ [])
-    ((λ p n. refl), ((λ p n. refl), ((λ p n. refl), ((λ p n. refl), tt)))))
-    ∙ (still_after sizes f.size e2 f.optional.size_is (still_where (bit f.meta 1) (Size ∷ []) ((λ p n. refl), tt))
-    ∙ (still_after extends f.extended e f.optional.extended_is
-    (still_where (bit f.meta 3) (Extended ∷ []) ((λ p n. refl), tt)) ∙ here))))) (
-      ap (λ n. Some (End (declared f.size) n)) (ap (λ b. b - e3.bytes) (bytes_after rest e3)
-          ∙ sub_add e3.bytes (length (join rest))),
+    subst (λ l. Runs e first l (ended fs g)) (sym (regroup f.extended f.size f.box f.body (last ∷ [])))
+    (Runs-append options e first (fs, wanting k h []) (f.body ++ last ∷ []) (ended fs g)
+    (options_run k p f.meta fs f.extended f.size f.box e f.optional)
+    (Runs-append f.body (sums_after e options) (fs, wanting k h []) (fs, AtEnd h g) (last ∷ []) (ended fs g)
+    (runs (sums_after e options) (declared f.size) e3.bytes
+    (still_options f.meta f.extended f.size f.box e f.optional ∙ here)) (
+      ap (λ n. Some (End (declared f.size) n)) came,
       (refl, refl),
       refl,
     )))
   where
-    extends : List Role
-    extends = where_set (bit f.meta 3) (Extended ∷ [])
+    first : Stack
+    first = (fs, wanting k (head p f.meta None e.bytes) (asked f.meta))
 
-    sizes : List Role
-    sizes = where_set (bit f.meta 1) (Size ∷ [])
-
-    boxes : List Role
-    boxes = where_set (bit f.meta 0) (Box ∷ Box ∷ Box ∷ Box ∷ [])
-
-    rest : List Item
-    rest = f.box ++ f.body
-
-    e2 : Sums
-    e2 = sums_after e f.extended
+    options : List Item
+    options = f.extended ++ (f.size ++ f.box)
 
     e3 : Sums
-    e3 = sums_after e2 f.size
+    e3 = sums_after (sums_after e f.extended) f.size
 
     h : Head
     h = head p f.meta (declared f.size) e3.bytes
 
     last : Item
-    last = end_item (declared f.size) rest
+    last = end_item (declared f.size) (f.box ++ f.body)
+
+    came : (sums_after (sums_after e options) f.body).bytes - e3.bytes ≡ length (join (f.box ++ f.body))
+    came = ap (λ (x : Sums). x.bytes - e3.bytes) (ap (λ x. sums_after x f.body)
+        (sums_after-append f.extended (f.size ++ f.box) e ∙ sums_after-append f.size f.box (sums_after e f.extended))
+        ∙ sym (sums_after-append f.box f.body e3))
+        ∙ (ap (λ n. n - e3.bytes) (bytes_after (f.box ++ f.body) e3)
+        ∙ sub_add e3.bytes (length (join (f.box ++ f.body))))
 
 -- the machine runs through a frame
 pub framed_run : (k : Kind) (p : ℤ) (own : Flags) (Body : List Item → Type 0) (fs : List Frame)

@@ -1,33 +1,28 @@
--- Items that the machine ran through while it expected a body are the items of a body.
+-- What a place in a body says of the items that the machine ran through since the body began.
 use Rattle.std.proofs.Common.{◌≡◌, ℕ, zero, suc, List, [], ◌∷◌, ◌++◌, length, refl, ap, sym, ◌∙◌, subst, append_assoc}
-use Rattle.std.proofs.Common.{Some, arith, Bool, true, false, ◌+◌, ◌<◌, None, ◌^◌, map}
-use Rattle.std.proofs.lemmas.List.{append-nil}
+use Rattle.std.proofs.Common.{Some, None, map, arith, Bool, true, false, ◌+◌, append-nil, length-append}
 use Rattle.std.proofs.lemmas.Int.{ints}
-use Rattle.std.specs.Prelude.{ℤ, flat_map, ◌-ℤ◌, ◌+ℤ◌}
-use Rattle.std.specs.List.{AllByRecursion}
+use Rattle.std.proofs.lemmas.List.Concat.{flat_map-append}
+use Rattle.std.specs.Prelude.{⊤, ℤ, flat_map, if◌then◌else◌, ◌-ℤ◌, ◌+ℤ◌}
 use Rattle.twkb_num.specs.Zigzag.{zigzag_of, unzigzag_of}
-use Rattle.twkb_num.specs.Varint.{IsVarint}
 use Rattle.twkb_num.proofs.ZigzagLemmas.{zigzag_of-unzigzag_of}
-use Rattle.twkb_points.specs.Point.{Point, point_at}
-use Rattle.twkb_tree.specs.Tree.{Tree, Ids, IsId, HasIds, Simple, point, line, polygon, multi_point, multi_line}
-use Rattle.twkb_tree.specs.Tree.{multi_polygon, simple, IdsFit}
-use Rattle.twkb_grammar.specs.Roles.{Item, Role, X, Y, Count, Id, Field, AreFields, Extended, Size, Box, HaveRoles}
-use Rattle.twkb_grammar.specs.Roles.{where_set, IsItem, Spells, Counted}
-use Rattle.twkb_grammar.specs.Items.{Slot, OfCount, OfId, OfPoint, declared, id_slots, slots, members, parts, flags}
+use Rattle.twkb_points.specs.Point.{Point, origin}
+use Rattle.twkb_tree.specs.Tree.{Ids, HasIds, IdsFit}
+use Rattle.twkb_grammar.specs.Bits.{bit}
+use Rattle.twkb_grammar.specs.Roles.{Item, Role, X, Y, Count, Counted, Id, Field, AreFields, Spells}
+use Rattle.twkb_grammar.specs.Roles.{Vertices, Rings, Points, Components}
+use Rattle.twkb_grammar.specs.Items.{Slot, OfCount, OfId, OfPoint, id_slots, slots, kind_of, members, parts, flags}
 use Rattle.twkb_grammar.specs.Items.{Agrees}
 use Rattle.twkb_grammar.specs.Fault.{moved}
-use Rattle.twkb_grammar.specs.Machine.{Nested, Around, within, Body, Want, WantY, closed, opened, listed, BodyForm}
-use Rattle.twkb_grammar.specs.Machine.{depth_of, Head, Frame, Phase, Finished, settled, Sums, added, Stack, Runs, Kind}
-use Rattle.twkb_grammar.specs.Machine.{kind_number, kind_at, AtOption, wanting, top, PointForm, LineForm, PolygonForm}
-use Rattle.twkb_grammar.specs.Machine.{MultiPointForm, MultiLineForm, MultiPolygonForm, AtCount, AtId, AtEnd, AtBody}
-use Rattle.twkb_grammar.specs.Machine.{Many, ManyPoints, ManyLines, ManyPolygons, first_count, counted, members_begin}
-use Rattle.twkb_grammar.specs.Machine.{begun, SimpleKind}
-use Rattle.twkb_grammar.specs.Bits.{bit}
-use Rattle.twkb_grammar.proofs.Bodies.{steps, reached, reached-append, slots_of, moved_count, moved_id, SaysIds}
-use Rattle.twkb_grammar.proofs.Bodies.{form_of, points_slots, run_slots, runs_slots, rings_slots, areas_slots}
-use Rattle.twkb_grammar.proofs.Bodies.{sums_after, head, id_small}
+use Rattle.twkb_grammar.specs.Machine.{Nested, Around, top, within, Body, Want, WantY, Done, closed, opened, listed}
+use Rattle.twkb_grammar.specs.Machine.{body_after, body_role, Head, BodyForm, PointForm, LineForm, PolygonForm}
+use Rattle.twkb_grammar.specs.Machine.{MultiPointForm, MultiLineForm, MultiPolygonForm, depth_of, shape_of}
+use Rattle.twkb_grammar.specs.Machine.{SimpleKind, kind_number}
+use Rattle.twkb_grammar.proofs.Bodies.{steps, reached, reached-append, slots_of, SaysIds, points_slots}
+use Rattle.twkb_grammar.proofs.Bodies.{run_slots, runs_slots, rings_slots, areas_slots}
+pub use Rattle.twkb_grammar.proofs.Bodies.{sums_after-append}
 
--- ==== Items that the machine ran through while it expected a body are the items of a body.
+-- ==== Fields and slots of joined items.
 
 -- the items of joined fields are joined items
 pub AreFields-append : (fs : List Field) (is : List Item) (gs : List Field) (js : List Item)
@@ -44,10 +39,15 @@ steps-append p (OfId id ∷ xs) ys = ap (λ fs. (Id, zigzag_of id) ∷ fs) (step
 steps-append p (OfPoint q ∷ xs) ys = ap (λ fs. (X, zigzag_of (q.x -ℤ p.x))
     ∷ (Y, zigzag_of (q.y -ℤ p.y)) ∷ fs) (steps-append q xs ys)
 
--- the sums of joined items
-pub sums_after-append : (is js : List Item) (e : Sums) → sums_after e (is ++ js) ≡ sums_after (sums_after e is) js
-sums_after-append [] js e = refl
-sums_after-append (i ∷ is) js e = sums_after-append is js (added e i)
+-- the items of joined slots are joined items
+pub slots_more : (xs ys : List Slot) (is js : List Item) → AreFields (steps origin xs) is
+    → AreFields (steps (reached origin xs) ys) js → AreFields (steps origin (xs ++ ys)) (is ++ js)
+slots_more xs ys is js a b = subst (λ fs. AreFields fs (is ++ js)) (sym (steps-append origin xs ys))
+    (AreFields-append (steps origin xs) is (steps (reached origin xs) ys) js a b)
+
+-- two equal options name the same role
+pub some_role : (a b : Role) → Some a ≡ Some b → b ≡ a
+some_role a b e = cc
 
 forth_back : (p d : ℤ) → (p +ℤ d) -ℤ p ≡ d
 forth_back p d = omega (arith, ints)
@@ -56,398 +56,189 @@ difference : (n : ℕ) (p q : ℤ) → q ≡ p +ℤ unzigzag_of n → n ≡ zigz
 difference n p q e = sym (ap (λ z. zigzag_of (z -ℤ p)) e
     ∙ (ap zigzag_of (forth_back p (unzigzag_of n)) ∙ zigzag_of-unzigzag_of n))
 
--- two equal options name the same role
-pub some_role : (a b : Role) → Some a ≡ Some b → b ≡ a
-some_role a b e = cc
+-- ==== The slots that come before a place in a body.
 
-both_moved : (p : Point) (r s : Role) (m n : ℕ) → r ≡ X → s ≡ Y
-    → moved (moved p r m) s n ≡ point_at (p.x +ℤ unzigzag_of m) (p.y +ℤ unzigzag_of n)
-both_moved p r s m n hr hs = rw (hr, hs)
+-- the place is that of the whole value
+abbrev is_top : {whole d : ℕ} → Around whole d → Bool
+is_top top = true
+is_top (within done left a) = false
 
-module _ (h : Head) (f : BodyForm) (ids : Ids) (fs : List Frame) (tree : Tree) where
-  abbrev body_at : Body (depth_of f) → Stack
-  body_at b = (fs, settled h f ids b)
+-- the items have these slots, which lead to this position
+abbrev pub Lead : Point → List Slot → List Item → Type 0
+Lead p ps is = AreFields (steps origin ps) is × (p ≡ reached origin ps)
 
-  abbrev finished : Stack
-  finished = ([], Finished tree)
+-- the outermost list has slots of its own before its values
+module _ (first : ℕ → List Slot) where
+  -- the slots before the values of a list of n
+  abbrev heading : {whole : ℕ} (d : ℕ) → Around whole (suc d) → ℕ → List Slot
+  heading d a n = if is_top a then first n else (OfCount (listed d) n ∷ [])
 
-  -- the items begin with a value of depth d, and the machine goes on after it
-  pub record Value (d : ℕ) (a : Around (depth_of f) d) (e : Sums) (is : List Item) : Type 0 where
-    pub value : Nested d
-    pub front : List Item
-    pub rest : List Item
-    pub whole : is ≡ front ++ rest
-    pub are : AreFields (steps e.position (slots_of d value)) front
-    pub here : (sums_after e front).position ≡ reached e.position (slots_of d value)
-    pub runs : Runs (sums_after e front) (body_at (closed a value)) rest finished
+  -- the slots before a place
+  abbrev pub slots_before : {whole d : ℕ} → Around whole d → List Slot
+  slots_before top = []
+  slots_before (within {d = d} done left a) =
+      slots_before a ++ (heading d a (length done + suc left) ++ flat_map (slots_of d) done)
 
-  -- the items begin with values one after another, and the machine goes on after them
-  pub record Values (d n : ℕ) (a : Around (depth_of f) (suc d)) (done : List (Nested d)) (e : Sums)
-      (is : List Item) : Type 0 where
-    pub values : List (Nested d)
-    pub many : length values ≡ n
-    pub front : List Item
-    pub rest : List Item
-    pub whole : is ≡ front ++ rest
-    pub are : AreFields (steps e.position (flat_map (slots_of d) values)) front
-    pub here : (sums_after e front).position ≡ reached e.position (flat_map (slots_of d) values)
-    pub runs : Runs (sums_after e front) (body_at (closed a (done ++ values))) rest finished
+  -- the slots of a whole value
+  abbrev pub whole_slots : (d : ℕ) → Nested d → List Slot
+  whole_slots zero p = OfPoint p ∷ []
+  whole_slots (suc d) vs = first (length vs) ++ flat_map (slots_of d) vs
 
-  point_back : (a : Around (depth_of f) 0) (e : Sums) (is : List Item)
-      → Runs e (body_at (Want 0 a)) is finished → Value 0 a e is
-  point_back a e [] r = let c : Phase.AtBody h f ids (Want 0 a) ≡ Finished tree = ap (λ (t : Stack). t.1) r in absurd cc
-  point_back a e (i ∷ []) r = let c : Phase.AtBody h f ids (WantY a) ≡ Finished tree =
-      ap (λ (t : Stack). t.1) r.2 in absurd cc
-  point_back a e (i ∷ j ∷ js) r =
-      let q : Point = (added (added e i) j).position in
-      let is_x = some_role X i.role r.0 in
-      let is_y = some_role Y j.role r.2.0 in
-      let there = both_moved e.position i.role j.role i.number j.number is_x is_y in
-      record {
-        value = q;
-        front = i ∷ j ∷ [];
-        rest = js;
-        whole = refl;
-        are = (
-          is_x,
-          difference i.number e.position.x q.x (ap (λ (p : Point). p.x) there),
-          r.1,
-          (
-            is_y,
-            difference j.number e.position.y q.y (ap (λ (p : Point). p.y) there),
-            r.2.1,
-            tt,
-          ),
-        );
-        here = refl;
-        runs = r.2.2;
-      }
+  -- the slots of the value at a place
+  abbrev value_slots : {whole d : ℕ} → Around whole d → Nested d → List Slot
+  value_slots {whole} top v = whole_slots whole v
+  value_slots (within {d = d} done left a) v = slots_of d v
 
-  -- at such a place in a body, the items begin with a value
-  abbrev BeginsWith : ℕ → Type 0
-  BeginsWith d = (a : Around (depth_of f) d) (e : Sums) (is : List Item)
-      → Runs e (body_at (Want d a)) is finished → Value d a e is
+  list_slots : {whole : ℕ} (d : ℕ) (a : Around whole (suc d)) (vs : List (Nested d))
+      → value_slots a vs ≡ heading d a (length vs) ++ flat_map (slots_of d) vs
+  list_slots d top vs = refl
+  list_slots d (within done left a) vs = refl
 
-  within_back : (d : ℕ) → BeginsWith d → (left : ℕ) (done : List (Nested d))
-      (a : Around (depth_of f) (suc d)) (e : Sums) (is : List Item)
-      → Runs e (body_at (Want d (within done left a))) is finished → Values d (suc left) a done e is
-  within_back d each zero done a e is r =
-      let v = each (within done 0 a) e is r in
-      record {
-        values = v.value ∷ [];
-        many = refl;
-        front = v.front;
-        rest = v.rest;
-        whole = v.whole;
-        are = subst (λ ps. AreFields (steps e.position ps) v.front) (sym (append-nil (slots_of d v.value))) v.are;
-        here = v.here ∙ ap (λ ps. reached e.position ps) (sym (append-nil (slots_of d v.value)));
-        runs = v.runs;
-      }
-  within_back d each (suc left) done a e is r =
-      let v = each (within done (suc left) a) e is r in
-      let ws = within_back d each left (done ++ v.value ∷ []) a (sums_after e v.front) v.rest v.runs in
-      record {
-        values = v.value ∷ ws.values;
-        many = ap suc ws.many;
-        front = v.front ++ ws.front;
-        rest = ws.rest;
-        whole = v.whole ∙ (ap (λ l. v.front ++ l) ws.whole ∙ sym (append_assoc v.front ws.front ws.rest));
-        are = subst (λ fs. AreFields fs (v.front ++ ws.front))
-            (sym (steps-append e.position (slots_of d v.value)
-            (flat_map (slots_of d) ws.values)))
-            (AreFields-append (steps e.position (slots_of d v.value)) v.front
-            (steps (reached e.position (slots_of d v.value))
-            (flat_map (slots_of d) ws.values)) ws.front v.are
-            (subst (λ p. AreFields (steps p (flat_map (slots_of d) ws.values)) ws.front) v.here ws.are));
-        here = ap (λ (s : Sums). s.position) (sums_after-append v.front ws.front e)
-            ∙ (ws.here ∙ (ap (λ p. reached p (flat_map (slots_of d) ws.values)) v.here
-            ∙ sym (reached-append e.position (slots_of d v.value)
-            (flat_map (slots_of d) ws.values))));
-        runs = subst (λ s. Runs s (body_at (closed a (done ++ v.value ∷ ws.values))) ws.rest
-            finished) (sym (sums_after-append v.front ws.front e))
-            (subst (λ vs. Runs (sums_after (sums_after e v.front) ws.front) (body_at (closed a vs))
-            ws.rest finished) (append_assoc done (v.value ∷ []) ws.values) ws.runs);
-      }
+  point_slots : {whole : ℕ} (a : Around whole 0) (p : Point) → value_slots a p ≡ OfPoint p ∷ []
+  point_slots top p = refl
+  point_slots (within done left a) p = refl
 
-  -- items at the beginning of a list of n values begin with these values
-  pub opened_back : (d : ℕ) → BeginsWith d → (n : ℕ) (a : Around (depth_of f) (suc d)) (e : Sums)
-      (is : List Item) → Runs e (body_at (opened d n a)) is finished → Values d n a [] e is
-  opened_back d each zero a e is r = record {
-    values = [];
-    many = refl;
-    front = [];
-    rest = is;
-    whole = refl;
-    are = tt;
-    here = refl;
-    runs = r;
-  }
-  opened_back d each (suc n) a e is r = within_back d each n [] a e is r
+  -- one more value of a list
+  more_values : {whole : ℕ} (d n m : ℕ) (a : Around whole (suc d)) (done : List (Nested d)) (v : Nested d) → n ≡ m
+      → (slots_before a ++ (heading d a n ++ flat_map (slots_of d) done)) ++ slots_of d v
+      ≡ slots_before a ++ (heading d a m ++ flat_map (slots_of d) (done ++ v ∷ []))
+  more_values d n m a done v same =
+      append_assoc (slots_before a) (heading d a n ++ flat_map (slots_of d) done) (slots_of d v)
+      ∙ ap (λ l. slots_before a ++ l) (append_assoc (heading d a n) (flat_map (slots_of d) done) (slots_of d v)
+      ∙ (ap (λ k. heading d a k ++ (flat_map (slots_of d) done ++ slots_of d v)) same
+      ∙ ap (λ l. heading d a m ++ l) (ap (λ l. flat_map (slots_of d) done ++ l) (sym (append-nil (slots_of d v)))
+      ∙ sym (flat_map-append (slots_of d) done (v ∷ [])))))
 
-  -- items at the beginning of a value begin with it
-  pub value_back : (d : ℕ) → BeginsWith d
-  value_back zero a e is r = point_back a e is r
-  value_back (suc d) a e [] r = let c : Phase.AtBody h f ids (Want (suc d) a) ≡ Finished tree =
-      ap (λ (t : Stack). t.1) r in absurd cc
-  value_back (suc d) a e (i ∷ is) r =
-      let role = some_role (Count (listed d)) i.role r.0 in
-      let same = moved_count e.position (listed d) i.role i.number role in
-      let vs = opened_back d (value_back d) i.number a (added e i) is r.2 in
-      record {
-        value = vs.values;
-        front = i ∷ vs.front;
-        rest = vs.rest;
-        whole = ap (λ l. i ∷ l) vs.whole;
-        are = (
-          role,
-          sym vs.many,
-          r.1,
-          subst (λ p. AreFields
-              (steps p (flat_map (slots_of d) vs.values)) vs.front) same vs.are,
-        );
-        here = vs.here ∙ ap (λ p. reached p (flat_map (slots_of d) vs.values)) same;
-        runs = vs.runs;
-      }
+  -- a count that is expected there is all that comes before the values of its list
+  abbrev Headed : {whole : ℕ} (d : ℕ) → Around whole d → Type 0
+  Headed zero a = ⊤
+  Headed (suc d) a = (n : ℕ) → heading d a n ≡ OfCount (listed d) n ∷ []
 
--- ==== The items that the machine ran through begin with the optional parts that a metadata byte asks for.
+  headed_within : {whole : ℕ} (d : ℕ) (done : List (Nested d)) (left : ℕ) (a : Around whole (suc d))
+      → Headed d (within done left a)
+  headed_within zero done left a = tt
+  headed_within (suc d) done left a = λ n. refl
 
--- a kind found by its number has that number
-pub kind_number_at : (n : ℕ) → 0 < n → n < 8 → kind_number (kind_at n) ≡ n
-kind_number_at zero a b = absurd (omega arith)
-kind_number_at (suc (suc (suc (suc (suc (suc (suc n))))))) a b = let z : n ≡ 0 = omega arith in
-    ap (λ k. suc (suc (suc (suc (suc (suc (suc k))))))) (sym z)
-kind_number_at (suc _) a b = refl
+  -- ==== What a body that is being read says of its items so far, and of the position after them.
 
-module _ (tree : Tree) where
-  -- the machine has finished this geometry
-  abbrev pub fin : Stack
-  fin = ([], Finished tree)
+  -- the items are those of the body so far, and lead to this position
+  abbrev pub BodyHeld : {whole : ℕ} → Point → Body whole → List Item → Type 0
+  BodyHeld p (Want d a) is = Lead p (slots_before a) is × Headed d a
+  BodyHeld p (WantY a) is = let q = reached origin (slots_before a) in
+      AreFields (steps origin (slots_before a) ++ (X, zigzag_of (p.x -ℤ q.x)) ∷ []) is × (p.y ≡ q.y)
+  BodyHeld {whole} p (Done v) is = AreFields (steps origin (whole_slots whole v)) is
 
-  -- the items begin with optional parts of these roles
-  pub record Optional (k : Kind) (fs : List Frame) (roles : List Role) (after : List Item → Head)
-      (rs : List Role) (e : Sums) (is : List Item) : Type 0 where
-    pub front : List Item
-    pub rest : List Item
-    pub whole : is ≡ front ++ rest
-    pub have : HaveRoles roles front
-    pub runs : Runs (sums_after e front) (fs, wanting k (after front) rs) rest fin
+  closed_held : {whole d : ℕ} (a : Around whole d) (v : Nested d) (p : Point) (is : List Item)
+      → Lead p (slots_before a ++ value_slots a v) is → BodyHeld p (closed a v) is
+  closed_held top v p is h = h.0
+  closed_held (within {d = d} done zero a) v p is h =
+      closed_held a (done ++ v ∷ []) p is (subst (λ ps. Lead p ps is)
+      (more_values d (length done + 1) (length (done ++ v ∷ [])) a done v (sym (length-append done (v ∷ [])))
+      ∙ ap (λ l. slots_before a ++ l) (sym (list_slots d a (done ++ v ∷ [])))) h)
+  closed_held (within {d = d} done (suc left) a) v p is h =
+      let n : length done + suc (suc left) ≡ length (done ++ v ∷ []) + suc left =
+      omega (arith, length-append done (v ∷ [])) in (
+        subst (λ ps. Lead p ps is) (more_values d (length done + suc (suc left))
+            (length (done ++ v ∷ []) + suc left) a done v n) h,
+        headed_within d (done ++ v ∷ []) left a,
+      )
 
-  -- if it has finished, no other geometry is open
-  pub not_finished : (fs : List Frame) (ph : Phase) → ((fs, ph) ≡ fin) → ph ≡ Finished tree
-  not_finished fs ph r = ap (λ (t : Stack). t.1) r
+  -- the body at the start of a list of n values
+  pub opened_held : {whole : ℕ} (d n : ℕ) (a : Around whole (suc d)) (p : Point) (is : List Item)
+      → Lead p (slots_before a ++ heading d a n) is → BodyHeld p (opened d n a) is
+  opened_held d zero a p is h = closed_held a [] p is (subst (λ l. Lead p (slots_before a ++ l) is)
+      (sym (append-nil (heading d a 0)) ∙ sym (list_slots d a [])) h)
+  opened_held d (suc n) a p is h = let z : suc n ≡ 0 + suc n = omega arith in (
+    subst (λ l. Lead p (slots_before a ++ l) is) (sym (append-nil (heading d a (suc n)))
+        ∙ ap (λ k. heading d a k ++ []) z) h,
+    headed_within d [] n a,
+  )
 
-  module _ (k : Kind) (p : ℤ) (meta : ℕ) (fs : List Frame) where
-    pub extended_back : (b : Bool) (rs : List Role) (e : Sums) (is : List Item)
-        → Runs e (fs, wanting k (head p meta None e.bytes) (where_set b (Extended ∷ []) ++ rs)) is
-        fin
-        → Optional k fs (where_set b (Extended ∷ [])) (λ front. head p meta None (sums_after e front).bytes) rs e is
-    extended_back false rs e is r = record { front = []; rest = is; whole = refl; have = tt; runs = r }
-    extended_back true rs e [] r = let c = not_finished fs
-        (AtOption k (head p meta None e.bytes) Extended rs) r in absurd cc
-    extended_back true rs e (i ∷ is) r = record {
-      front = i ∷ [];
-      rest = is;
-      whole = refl;
-      have = (some_role Extended i.role r.0, r.1, tt);
-      runs = r.2;
-    }
+  -- an item of this role goes on with the body
+  abbrev MoreHeld : {whole : ℕ} → Point → Body whole → List Item → ℕ → List ℕ → Role → Type 0
+  MoreHeld p b is n bytes r = Spells r n bytes → BodyHeld (moved p r n) (body_after (moved p r n) n b)
+      (is ++ record { role = r; number = n; bytes = bytes } ∷ [])
 
-    pub size_back : (b : Bool) (rs : List Role) (e : Sums) (is : List Item)
-        → Runs e (fs, wanting k (head p meta None e.bytes) (where_set b (Size ∷ []) ++ rs)) is fin
-        → Optional k fs (where_set b (Size ∷ [])) (λ front. head p meta (declared front)
-        (sums_after e front).bytes) rs e is
-    size_back false rs e is r = record { front = []; rest = is; whole = refl; have = tt; runs = r }
-    size_back true rs e [] r = let c = not_finished fs (AtOption k (head p meta None e.bytes) Size rs) r in absurd cc
-    size_back true rs e (i ∷ is) r = record {
-      front = i ∷ [];
-      rest = is;
-      whole = refl;
-      have = (some_role Size i.role r.0, r.1, tt);
-      runs = r.2;
-    }
+  -- the body after one more item
+  pub body_held : {whole : ℕ} (b : Body whole) (p : Point) (is : List Item) (r : Role) (n : ℕ) (bytes : List ℕ)
+      → body_role b ≡ Some r → BodyHeld p b is → MoreHeld p b is n bytes r
+  body_held (Want zero a) p is r n bytes e h = subst (MoreHeld p (Want 0 a) is n bytes) (sym (some_role X r e)) (λ s. (
+    AreFields-append (steps origin (slots_before a)) is _ _ h.0.0 (
+      refl,
+      difference n _ _
+          (ap (λ (q : Point). q.x +ℤ unzigzag_of n) h.0.1),
+      s,
+      tt,
+    ),
+    ap (λ (q : Point). q.y) h.0.1,
+  ))
+  body_held (Want (suc d) a) p is r n bytes e h =
+      let c = Count (listed d) in
+      subst (MoreHeld p (Want (suc d) a) is n bytes) (sym (some_role c r e))
+      (λ s. opened_held d n a p _ (subst (λ l. Lead p (slots_before a ++ l)
+      (is ++ record { role = c; number = n; bytes = bytes } ∷ [])) (sym (h.1 n)) (
+        slots_more (slots_before a) (OfCount (listed d) n ∷ []) is _ h.0.0 (refl, refl, s, tt),
+        h.0.1 ∙ sym (reached-append origin (slots_before a) (OfCount (listed d) n ∷ [])),
+      )))
+  body_held (WantY a) p is r n bytes e h =
+      let q = moved p Y n in
+      let before = slots_before a in
+      let here = reached origin before in
+      let x = (X, zigzag_of (p.x -ℤ here.x)) ∷ [] in
+      let y = (Y, zigzag_of (q.y -ℤ here.y)) ∷ [] in
+      subst (MoreHeld p (WantY a) is n bytes) (sym (some_role Y r e)) (λ s.
+      let more = is ++ record { role = Y; number = n; bytes = bytes } ∷ [] in
+      closed_held a q q more (subst (λ l. Lead q (before ++ l) more) (sym (point_slots a q)) (
+        subst (λ fs. AreFields fs more)
+            (append_assoc (steps origin before) x y ∙ sym (steps-append origin before (OfPoint q ∷ [])))
+            (AreFields-append (steps origin before ++ x) is y _ h.0
+            (refl, difference n _ _ (ap (λ y. y +ℤ unzigzag_of n) h.1), s, tt)),
+        sym (reached-append origin before (OfPoint q ∷ [])),
+      )))
+  body_held (Done v) p is r n bytes e h = absurd cc
 
-    boxes_back : (h : Head) (bs : List Role) → (e : Sums) (is : List Item) → (n : ℕ)
-        → bs ≡ Rattle.std.specs.Prelude.replicate n Box
-        → Runs e (fs, wanting k h bs) is fin → Optional k fs bs (λ front. h) [] e is
-    boxes_back h [] e is n same r = record { front = []; rest = is; whole = refl; have = tt; runs = r }
-    boxes_back h (b ∷ bs) e [] n same r = let c = not_finished fs (AtOption k h b bs) r in absurd cc
-    boxes_back h (b ∷ bs) e (i ∷ is) zero same r = absurd cc
-    boxes_back h (b ∷ bs) e (i ∷ is) (suc n) same r =
-        let box : b ≡ Box = cc in
-        let more : bs ≡ Rattle.std.specs.Prelude.replicate n Box = cc in
-        let s : Runs (added e i) (fs, wanting k h bs) is fin =
-        subst (λ c. Runs (added e i) (
-          fs,
-          wanting k (Rattle.twkb_grammar.specs.Machine.with_option h c i.number
-              (e.bytes + length i.bytes)) bs,
-        ) is fin) box r.2 in
-        let v = boxes_back h bs (added e i) is n more s in
-        record {
-          front = i ∷ v.front;
-          rest = v.rest;
-          whole = ap (λ l. i ∷ l) {y = v.front ++ v.rest}
-              v.whole;
-          have = (some_role b i.role r.0, r.1, v.have);
-          runs = v.runs;
-        }
+-- ==== The items of a whole body are those of a shape.
 
-    pub box_back : (b : Bool) (h : Head) (e : Sums) (is : List Item)
-        → Runs e (fs, wanting k h (where_set b (Box ∷ Box ∷ Box ∷ Box ∷ []))) is fin
-        → Optional k fs (where_set b (Box ∷ Box ∷ Box ∷ Box ∷ [])) (λ front. h) [] e is
-    box_back true h e is r = boxes_back h (Box ∷ Box ∷ Box ∷ Box ∷ []) e is 4 refl r
-    box_back false h e is r = record { front = []; rest = is; whole = refl; have = tt; runs = r }
+-- the slots before the values of the outermost list
+abbrev pub first_of : BodyForm → Ids → ℕ → List Slot
+first_of PointForm ids n = []
+first_of LineForm ids n = OfCount Vertices n ∷ []
+first_of PolygonForm ids n = OfCount Rings n ∷ []
+first_of MultiPointForm ids n = OfCount Points n ∷ id_slots ids
+first_of _ ids n = OfCount Components n ∷ id_slots ids
 
--- ==== Items that the machine ran through while it expected the body of a form are the body of a shape of that form.
+-- the first count of a multi type, and its ids, are what the metadata byte asks for
+abbrev pub Counts : Head → BodyForm → Ids → ℕ → Type 0
+Counts h PointForm ids n = ⊤
+Counts h LineForm ids n = ⊤
+Counts h PolygonForm ids n = ⊤
+Counts h _ ids n = SaysIds h ids n × HasIds ids n
 
-module _ (m : Many) (h : Head) (fs : List Frame) (tree : Tree) where
-  -- the items begin with ids, and the machine goes on after them
-  record Idents (n left : ℕ) (done : List ℤ) (e : Sums) (is : List Item) : Type 0 where
-    ids : List ℤ
-    many : length ids ≡ suc left
-    each : AllByRecursion IsId ids
-    front : List Item
-    rest : List Item
-    whole : is ≡ front ++ rest
-    are : AreFields (steps e.position (map OfId ids)) front
-    here : (sums_after e front).position ≡ e.position
-    runs : Runs (sums_after e front) (members_begin m h fs (Some (done ++ ids)) n) rest ([], Finished tree)
+-- the first number of the items is such a number
+abbrev pub Starts : (ℕ → Type 0) → List Item → Type 0
+Starts P [] = (n : ℕ) → P n
+Starts P (i ∷ is) = P i.number
 
-  ids_back : (n left : ℕ) (done : List ℤ) (e : Sums) (is : List Item)
-      → Runs e (fs, AtId m h n done left) is ([], Finished tree) → Idents n left done e is
-  ids_back n left done e [] r = let c : AtId m h n done left ≡ Finished tree = ap (λ (t : Stack). t.1) r in absurd cc
-  ids_back n zero done e (i ∷ is) r =
-      let role = some_role Id i.role r.0 in
-      record {
-        ids = unzigzag_of i.number ∷ [];
-        many = refl;
-        each = (id_small i.number (small i role r.1), tt);
-        front = i ∷ [];
-        rest = is;
-        whole = refl;
-        are = (role, sym (zigzag_of-unzigzag_of i.number), r.1, tt);
-        here = moved_id e.position i.role i.number role;
-        runs = r.2;
-      }
-    where
-      small : (i : Item) → i.role ≡ Id → IsItem i → i.number < 2 ^ 64
-      small i role s = let v : IsVarint i.bytes i.number = subst (λ r. Spells r i.number i.bytes) role s in v.fits
-  ids_back n (suc left) done e (i ∷ is) r =
-      let role = some_role Id i.role r.0 in
-      let x = unzigzag_of i.number in
-      let same = moved_id e.position i.role i.number role in
-      let v : IsVarint i.bytes i.number = subst (λ r. Spells r i.number i.bytes) role r.1 in
-      let more = ids_back n left (done ++ x ∷ []) (added e i) is r.2 in
-      record {
-        ids = x ∷ more.ids;
-        many = ap suc more.many;
-        each = (id_small i.number v.fits, more.each);
-        front = i ∷ more.front;
-        rest = more.rest;
-        whole = ap (λ l. i ∷ l) more.whole;
-        are = (
-          role,
-          sym (zigzag_of-unzigzag_of i.number),
-          r.1,
-          subst (λ p. AreFields (steps p (map OfId more.ids)) more.front) same more.are,
-        );
-        here = more.here ∙ same;
-        runs = subst (λ xs. Runs (sums_after (added e i) more.front)
-            (members_begin m h fs (Some xs) n) more.rest ([], Finished tree))
-            (append_assoc done (x ∷ []) more.ids) more.runs;
-      }
+-- the slots of a shape
+pub shape_slots : (f : BodyForm) (ids : Ids) (v : Nested (depth_of f))
+    → slots (shape_of f ids v) ≡ whole_slots (first_of f ids) (depth_of f) v
+shape_slots PointForm ids p = refl
+shape_slots LineForm ids ps = sym (run_slots ps)
+shape_slots PolygonForm ids rings = sym (rings_slots rings)
+shape_slots MultiPointForm ids ps = ap (λ l. OfCount Points (length ps) ∷ id_slots ids ++ l) (sym (points_slots ps))
+shape_slots MultiLineForm ids ls = ap (λ l. OfCount Components (length ls) ∷ id_slots ids ++ l) (sym (runs_slots ls))
+shape_slots MultiPolygonForm ids areas = ap (λ l. OfCount Components (length areas) ∷ id_slots ids ++ l)
+    (sym (areas_slots areas))
 
-  -- the items begin with the first count and its ids
-  pub record First (e : Sums) (is : List Item) : Type 0 where
-    pub count : ℕ
-    pub ids : Ids
-    pub says : SaysIds h ids count
-    pub fit : HasIds ids count
-    pub front : List Item
-    pub rest : List Item
-    pub whole : is ≡ front ++ rest
-    pub are : AreFields (steps e.position (OfCount (first_count m (length fs)) count ∷ id_slots ids)) front
-    pub here : (sums_after e front).position ≡ e.position
-    pub runs : Runs (sums_after e front) (members_begin m h fs ids count) rest ([], Finished tree)
+counted_is : (P : ℕ → Type 0) (c : Counted) (n : ℕ) (fs : List Field) (is : List Item) → Starts P is
+    → AreFields ((Count c, n) ∷ fs) is → P n
+counted_is P c n fs [] s are = absurd are
+counted_is P c n fs (i ∷ is) s are = subst P are.1 s
 
-  counted_back : (i : Item) (e : Sums) (is : List Item) → i.role ≡ Count (first_count m (length fs)) → IsItem i
-      → (n : ℕ) → i.number ≡ n → (b : Bool) → bit h.meta 2 ≡ b
-      → Runs (added e i) (counted m h fs n) is ([], Finished tree) → First e (i ∷ is)
-  counted_back i e is role item zero num b has r =
-      record {
-        count = 0;
-        ids = None;
-        says = refl;
-        fit = tt;
-        front = i ∷ [];
-        rest = is;
-        whole = refl;
-        are = (role, num, item, tt);
-        here = moved_count e.position
-            (first_count m (length fs)) i.role i.number role;
-        runs = r;
-      }
-  counted_back i e is role item (suc n) num false has r =
-      record {
-        count = suc n;
-        ids = None;
-        says = has;
-        fit = tt;
-        front = i ∷ [];
-        rest = is;
-        whole = refl;
-        are = (role, num, item, tt);
-        here = moved_count e.position (first_count m (length fs)) i.role i.number role;
-        runs = rw has at r;
-      }
-  counted_back i e is role item (suc n) num true has r =
-      let same = moved_count e.position (first_count m (length fs)) i.role i.number role in
-      let s : Runs (added e i) (fs, AtId m h (suc n) [] n) is ([], Finished tree) = rw has at r in
-      let v = ids_back (suc n) n [] (added e i) is s in
-      record {
-        count = suc n;
-        ids = Some v.ids;
-        says = (has, v.many);
-        fit = (omega arith, v.many, v.each);
-        front = i ∷ v.front;
-        rest = v.rest;
-        whole = ap (λ l. i ∷ l) v.whole;
-        are = (role, num, item, subst (λ p. AreFields (steps p (map OfId v.ids)) v.front) same v.are);
-        here = v.here ∙ same;
-        runs = v.runs;
-      }
-
-  -- items that begin with a count and ids
-  pub first_back : (e : Sums) (is : List Item) → Runs e (fs, AtCount m h) is ([], Finished tree) → First e is
-  first_back e [] r = let c : AtCount m h ≡ Finished tree = ap (λ (t : Stack). t.1) r in absurd cc
-  first_back e (i ∷ is) r = counted_back i e is
-      (some_role (Count (first_count m (length fs))) i.role r.0) r.1 i.number refl
-      (bit h.meta 2) refl r.2
-
--- the items begin with the body of a shape of this form
-pub record Shaped (h : Head) (f : BodyForm) (fs : List Frame) (tree : Tree) (e : Sums) (is : List Item) : Type 0 where
-  pub shape : Simple
-  pub form : form_of shape ≡ f
-  pub fit : IdsFit shape
-  pub agrees : Agrees (flags shape) h.meta
-  pub front : List Item
-  pub rest : List Item
-  pub whole : is ≡ front ++ rest
-  pub are : AreFields (steps e.position (slots shape)) front
-  pub runs : Runs (sums_after e front) (fs, AtEnd h (simple h.precision shape)) rest ([], Finished tree)
-
--- the items begin with the members of a multi type
-record Parted (m : Many) (h : Head) (f : BodyForm) (d : ℕ) (a : Around (depth_of f) (suc d))
-    (fs : List Frame) (tree : Tree) (e : Sums) (is : List Item) : Type 0 where
-  ids : Ids
-  values : List (Nested d)
-  fit : HasIds ids (length values)
-  agrees : Agrees (members ids values) h.meta
-  front : List Item
-  rest : List Item
-  whole : is ≡ front ++ rest
-  are : AreFields (steps e.position (OfCount (first_count m (length fs)) (length values)
-      ∷ id_slots ids ++ flat_map (slots_of d) values)) front
-  runs : Runs (sums_after e front) (fs, settled h f ids (closed a values)) rest ([], Finished tree)
+pub counted_from : (P : ℕ → Type 0) (c : Counted) (n : ℕ) (fs : List Field) (is : List Item) → P n
+    → AreFields ((Count c, n) ∷ fs) is → Starts P is
+counted_from P c n fs [] s are = absurd are
+counted_from P c n fs (i ∷ is) s are = subst P (sym are.1) s
 
 agrees_of : {A : Type 0} (h : Head) (ids : Ids) (xs : List A) → SaysIds h ids (length xs)
     → bit h.meta 4 ≡ false → Agrees (members ids xs) h.meta
@@ -459,94 +250,28 @@ parts_agree : {A : Type 0} (xs : List A) (meta : ℕ) → bit meta 4 ≡ false �
 parts_agree [] meta full = tt
 parts_agree (x ∷ xs) meta full = full
 
-parts_back : (m : Many) (h : Head) (f : BodyForm) (d : ℕ) (a : Around (depth_of f) (suc d))
-    (fs : List Frame) (tree : Tree) (e : Sums) (is : List Item)
-    → ((ids : Ids) (n : ℕ) → members_begin m h fs ids n ≡ (fs, settled h f ids (opened d n a))) → bit h.meta 4 ≡ false
-    → Runs e (fs, AtCount m h) is ([], Finished tree) → Parted m h f d a fs tree e is
-parts_back m h f d a fs tree e is begins full r =
-    let c = first_back m h fs tree e is r in
-    let vs = opened_back h f c.ids fs tree d (value_back h f c.ids fs tree d) c.count a (sums_after e c.front) c.rest
-    (subst (λ st. Runs (sums_after e c.front) st c.rest ([], Finished tree)) (begins c.ids c.count) c.runs) in
-    let head : List Slot = OfCount (first_count m (length fs)) c.count ∷ id_slots c.ids in
-    record {
-      ids = c.ids;
-      values = vs.values;
-      fit = subst (λ n. HasIds c.ids n) (sym vs.many) c.fit;
-      agrees = agrees_of h c.ids vs.values (subst (λ n. SaysIds h c.ids n) (sym vs.many) c.says) full;
-      front = c.front ++ vs.front;
-      rest = vs.rest;
-      whole = c.whole ∙ (ap (λ l. c.front ++ l) vs.whole ∙ sym (append_assoc c.front vs.front vs.rest));
-      are = subst (λ n. AreFields (steps e.position
-          (OfCount (first_count m (length fs)) n ∷ id_slots c.ids ++ flat_map (slots_of d)
-          vs.values)) (c.front ++ vs.front)) (sym vs.many)
-          (subst (λ l. AreFields l (c.front ++ vs.front))
-          (sym (steps-append e.position head (flat_map (slots_of d) vs.values)))
-          (AreFields-append (steps e.position head) c.front
-          (steps (reached e.position head) (flat_map (slots_of d) vs.values)) vs.front c.are
-          (subst (λ p. AreFields (steps p (flat_map (slots_of d) vs.values)) vs.front)
-          (c.here ∙ sym (reached_names e.position c.ids)) vs.are)));
-      runs = subst (λ s. Runs s (fs, settled h f c.ids (closed a vs.values)) vs.rest
-          ([], Finished tree)) (sym (sums_after-append c.front vs.front e)) vs.runs;
-    }
-  where
-    reached_ids : (p : Point) (xs : List ℤ) → reached p (map OfId xs) ≡ p
-    reached_ids p [] = refl
-    reached_ids p (x ∷ xs) = reached_ids p xs
+pub shape_number : (f : BodyForm) (ids : Ids) (v : Nested (depth_of f))
+    → kind_of (shape_of f ids v) ≡ kind_number (SimpleKind f)
+shape_number PointForm ids v = refl
+shape_number _ ids v = refl
 
-    reached_names : (p : Point) (ids : Ids) → reached p (id_slots ids) ≡ p
-    reached_names p None = refl
-    reached_names p (Some xs) = reached_ids p xs
+pub shape_fits : (h : Head) (f : BodyForm) (ids : Ids) (v : Nested (depth_of f)) (body : List Item)
+    → bit h.meta 4 ≡ false → Starts (Counts h f ids) body → AreFields (steps origin (whole_slots (first_of f ids) (depth_of f) v)) body
+    → IdsFit (shape_of f ids v) × Agrees (flags (shape_of f ids v)) h.meta
+shape_fits h PointForm ids p body full s are = (tt, full)
+shape_fits h LineForm ids ps body full s are = (tt, parts_agree ps h.meta full)
+shape_fits h PolygonForm ids rings body full s are = (tt, parts_agree rings h.meta full)
+shape_fits h MultiPointForm ids vs body full s are = let c = counted_is _ _ _ _ body s are in
+    (c.1, agrees_of h ids vs c.0 full)
+shape_fits h MultiLineForm ids vs body full s are = let c = counted_is _ _ _ _ body s are in
+    (c.1, agrees_of h ids vs c.0 full)
+shape_fits h MultiPolygonForm ids vs body full s are = let c = counted_is _ _ _ _ body s are in
+    (c.1, agrees_of h ids vs c.0 full)
 
-flat_back : (h : Head) (f : BodyForm) (fs : List Frame) (tree : Tree) (e : Sums) (is : List Item)
-    → Runs e (fs, AtBody h f None (Want (depth_of f) top)) is ([], Finished tree)
-    → Value h f None fs tree (depth_of f) top e is
-flat_back h f fs tree e is r = value_back h f None fs tree (depth_of f) top e is r
+reached_ids : (p : Point) (ids : List ℤ) → reached p (map OfId ids) ≡ p
+reached_ids p [] = refl
+reached_ids p (id ∷ ids) = reached_ids p ids
 
--- what items begin with, if their fields are those of a shape
-shaped : {h : Head} {f : BodyForm} {fs : List Frame} {tree : Tree} {e : Sums} {is : List Item}
-    (shape : Simple) (front rest : List Item) → form_of shape ≡ f → IdsFit shape → Agrees (flags shape) h.meta
-    → AreFields (steps e.position (slots shape)) front → is ≡ front ++ rest
-    → Runs (sums_after e front) (fs, AtEnd h (simple h.precision shape)) rest ([], Finished tree)
-    → Shaped h f fs tree e is
-shaped shape front rest form fit agrees are whole runs = record {
-  shape = shape;
-  form = form;
-  fit = fit;
-  agrees = agrees;
-  front = front;
-  rest = rest;
-  whole = whole;
-  are = are;
-  runs = runs;
-}
-
--- items that begin with a body
-pub shape_back : (f : BodyForm) (h : Head) (fs : List Frame) (tree : Tree) (e : Sums) (is : List Item)
-    → bit h.meta 4 ≡ false
-    → Runs e (fs, begun (SimpleKind f) h) is ([], Finished tree) → Shaped h f fs tree e is
-shape_back PointForm h fs tree e is full r =
-    let v = flat_back h PointForm fs tree e is r in
-    shaped (point (Some v.value)) v.front v.rest refl tt full v.are v.whole v.runs
-shape_back LineForm h fs tree e is full r =
-    let v = flat_back h LineForm fs tree e is r in
-    shaped (line v.value) v.front v.rest refl tt (parts_agree v.value h.meta full)
-    (subst (λ ps. AreFields (steps e.position ps) v.front) (run_slots v.value) v.are) v.whole v.runs
-shape_back PolygonForm h fs tree e is full r =
-    let v = flat_back h PolygonForm fs tree e is r in
-    shaped (polygon v.value) v.front v.rest refl tt (parts_agree v.value h.meta full)
-    (subst (λ ps. AreFields (steps e.position ps) v.front) (rings_slots v.value) v.are) v.whole v.runs
-shape_back MultiPointForm h fs tree e is full r =
-    let v = parts_back ManyPoints h MultiPointForm 0 top fs tree e is (λ ids n. refl) full r in
-    shaped (multi_point v.ids v.values) v.front v.rest refl v.fit v.agrees
-    (subst (λ ps. AreFields (steps e.position (OfCount Counted.Points (length v.values) ∷ id_slots v.ids
-    ++ ps)) v.front) (points_slots v.values) v.are) v.whole v.runs
-shape_back MultiLineForm h fs tree e is full r =
-    let v = parts_back ManyLines h MultiLineForm 1 top fs tree e is (λ ids n. refl) full r in
-    shaped (multi_line v.ids v.values) v.front v.rest refl v.fit v.agrees
-    (subst (λ ps. AreFields (steps e.position (OfCount Counted.Components (length v.values) ∷ id_slots v.ids
-    ++ ps)) v.front) (runs_slots v.values) v.are) v.whole v.runs
-shape_back MultiPolygonForm h fs tree e is full r =
-    let v = parts_back ManyPolygons h MultiPolygonForm 2 top fs tree e is (λ ids n. refl) full r in
-    shaped (multi_polygon v.ids v.values) v.front v.rest refl v.fit v.agrees
-    (subst (λ ps. AreFields (steps e.position (OfCount Counted.Components (length v.values) ∷ id_slots v.ids
-    ++ ps)) v.front) (areas_slots v.values) v.are) v.whole v.runs
+pub reached_names : (ids : Ids) → reached origin (id_slots ids) ≡ origin
+reached_names None = refl
+reached_names (Some ids) = reached_ids origin ids

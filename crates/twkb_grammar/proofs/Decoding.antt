@@ -14,7 +14,7 @@ use Rattle.twkb_grammar.specs.PlainReader.{Answer, Made, RefusedAt, GoesOn, made
 use Rattle.twkb_grammar.specs.PlainReader.{after_cut, decode_from, decode}
 use Rattle.twkb_grammar.proofs.Bodies.{bytes_after}
 use Rattle.twkb_grammar.proofs.BodiesBack.{sums_after-append}
-use Rattle.twkb_grammar.proofs.Parts.{IsProper, proper_run}
+use Rattle.twkb_grammar.proofs.TreesBack.{IsProper, proper_run}
 use Rattle.twkb_grammar.proofs.Dead.{Allowed}
 use Rattle.twkb_grammar.proofs.WrittenBlobs.{join-append}
 use Rattle.twkb_grammar.specs.Bits.{AreBytes}
@@ -140,8 +140,7 @@ module _ (turns : ℕ) (limits : Allowance) (bytes : List ℕ) (again : After tu
                 (cut r rest)
           ])
       go None says = done limits bytes before st rest s
-          (finished (sums_after nothing before) st (proper_run before nothing started st tt
-          s.ran.runs) says)
+          (finished (sums_after nothing before) st (proper_run before st s.ran.runs) says)
       go (Some r) says = decided r _ says (step limits before (sums_after nothing before)
           (goes r) rest r (agrees before) s.are some)
 

@@ -1,6 +1,7 @@
 -- Lemmas of the crate, by their topic.
 pub mod Bodies
 pub mod Trees
+pub mod Keeping
 pub mod Parts
 pub mod BodiesBack
 pub mod TreesBack

@@ -12,17 +12,18 @@ use Rattle.twkb_grammar.specs.Roles.{Spells, join}
 use Rattle.twkb_grammar.specs.Machine.{Nested, Around, top, within, Body, Want, WantY, Done, closed, opened, listed}
 use Rattle.twkb_grammar.specs.Machine.{BodyForm, depth_of, shape_of, Kind, SimpleKind, CollectionKind, PointForm}
 use Rattle.twkb_grammar.specs.Machine.{LineForm, PolygonForm, MultiPointForm, MultiLineForm, MultiPolygonForm}
-use Rattle.twkb_grammar.specs.Machine.{kind_number, Head, Frame, Phase, AtHeader, AtMetadata, AtOption, AtCount, AtId}
+use Rattle.twkb_grammar.specs.Machine.{kind_number, Head, Frame, AtHeader, AtMetadata, AtOption, AtCount, AtId}
 use Rattle.twkb_grammar.specs.Machine.{AtBody, AtEnd, Finished, Many, ManyPoints, ManyLines, ManyPolygons}
 use Rattle.twkb_grammar.specs.Machine.{ManyGeometries, first_count, settled, begun, wanting, with_option, empty_of}
-use Rattle.twkb_grammar.specs.Machine.{snoc, members_begin, counted, ended, asked, Sums, added, Stack, stack_after}
+use Rattle.twkb_grammar.specs.Machine.{snoc, members_begin, ended, Sums, added, Stack, stack_after}
 use Rattle.twkb_grammar.specs.Machine.{role_at, Runs, nothing, started}
 use Rattle.twkb_grammar.specs.Blob.{Blob}
 use Rattle.twkb_grammar.specs.Items.{Items}
 use Rattle.twkb_grammar.proofs.Trees.{frame, tree_runs}
 use Rattle.twkb_grammar.proofs.Bodies.{sums_after, Runs-append}
 use Rattle.twkb_grammar.proofs.BodiesBack.{some_role}
-use Rattle.twkb_grammar.proofs.TreesBack.{runs_are_items}
+use Rattle.twkb_grammar.proofs.TreesBack.{runs_are_items, IsProper, proper_run}
+pub use Rattle.twkb_grammar.proofs.Bodies.{runs_same}
 
 -- ==== Every state that the machine reaches can be completed: with zeros, 0x10 for a metadata byte, and 01 10 for a
 -- geometry.
@@ -185,12 +186,6 @@ wanting_done k (r ∷ rs) h fs =
     r refl refl
     (wanting_done k rs (with_option h r (filler_number r) (e.bytes + length (filler_bytes r))) fs (added e (filler r)))
 
--- a stack that expects an item, or is finished
-abbrev pub IsProper : Stack → Type 0
-IsProper (fs, AtBody h f ids (Done v)) = ⊥
-IsProper (fs, Finished g) = fs ≡ []
-IsProper _ = ⊤
-
 -- fillers lead to the end from any such stack
 pub completes : (st : Stack) → IsProper st → Completes st
 completes (fs, AtHeader) p = header_done fs (ended_done fs)
@@ -210,65 +205,6 @@ completes (fs, AtBody h f ids (WantY a)) p = y_done h f ids fs a
 completes (fs, AtBody h f ids (Done v)) p = absurd p
 completes (fs, AtEnd h g) p = end_done h g fs (ended_done fs g)
 completes (fs, Finished g) p = λ e. record { roles = []; tree = g; runs = ap (λ l. (l, Finished g)) p }
-
-settled_proper : (fs : List Frame) (h : Head) (f : BodyForm) (ids : Ids) (b : Body (depth_of f))
-    → IsProper (fs, settled h f ids b)
-settled_proper fs h f ids (Want d a) = tt
-settled_proper fs h f ids _ = tt
-
-members_proper : (m : Many) (h : Head) (fs : List Frame) (ids : Ids) (n : ℕ) → IsProper (members_begin m h fs ids n)
-members_proper ManyPoints h fs ids n = settled_proper fs h MultiPointForm ids (opened 0 n top)
-members_proper ManyLines h fs ids n = settled_proper fs h MultiLineForm ids (opened 1 n top)
-members_proper ManyPolygons h fs ids n = settled_proper fs h MultiPolygonForm ids (opened 2 n top)
-members_proper ManyGeometries h fs ids zero = tt
-members_proper ManyGeometries h fs ids (suc n) = tt
-
-counted_proper : (m : Many) (h : Head) (fs : List Frame) (n : ℕ) → IsProper (counted m h fs n)
-counted_proper m h fs zero = members_proper m h fs None 0
-counted_proper m h fs (suc n) = go (bit h.meta 2) refl
-  where
-    go : (b : Bool) → bit h.meta 2 ≡ b → IsProper (counted m h fs (suc n))
-    go true e = rw e tt
-    go false e = rw e (members_proper m h fs None (suc n))
-
-begun_proper : (k : Kind) (h : Head) (fs : List Frame) → IsProper (fs, begun k h)
-begun_proper (SimpleKind PointForm) h fs = tt
-begun_proper _ h fs = tt
-
-wanting_proper : (k : Kind) (rs : List Role) (h : Head) (fs : List Frame) → IsProper (fs, wanting k h rs)
-wanting_proper k [] h fs = go (bit h.meta 4) refl
-  where
-    go : (b : Bool) → bit h.meta 4 ≡ b → IsProper (fs, wanting k h [])
-    go true e = rw e tt
-    go false e = rw e (begun_proper k h fs)
-wanting_proper k (r ∷ rs) h fs = tt
-
-ended_proper : (fs : List Frame) (g : Tree) → IsProper (ended fs g)
-ended_proper [] g = refl
-ended_proper (f ∷ fs) g = go f.left
-  where
-    go : (n : ℕ) → IsProper (ended (frame f.head f.ids f.done n ∷ fs) g)
-    go zero = tt
-    go (suc n) = tt
-
-proper_after : (fs : List Frame) (ph : Phase) (e : Sums) (i : Item)
-    → role_at e (fs, ph) ≡ Some i.role → IsProper (stack_after e i (fs, ph))
-proper_after fs (AtMetadata k q) e i r = wanting_proper k (asked i.number) _ fs
-proper_after fs (AtOption k h s rs) e i r = wanting_proper k rs _ fs
-proper_after fs (AtCount m h) e i r = counted_proper m h fs i.number
-proper_after fs (AtId m h n ids zero) e i r = members_proper m h fs _ n
-proper_after fs (AtBody h f ids (Want (suc d) a)) e i r = settled_proper fs h f ids (opened d i.number a)
-proper_after fs (AtBody h f ids (WantY a)) e i r = settled_proper fs h f ids (closed a _)
-proper_after fs (AtBody h f ids (Done v)) e i r = cc
-proper_after fs (AtEnd h g) e i r = ended_proper fs g
-proper_after fs (Finished g) e i r = cc
-proper_after fs _ e i r = tt
-
--- the machine runs from a stack that expects an item, or is finished, to another such stack
-pub proper_run : (is : List Item) (e : Sums) (st last : Stack) → IsProper st → Runs e st is last → IsProper last
-proper_run [] e st last p r = subst (λ s. IsProper s) r p
-proper_run (i ∷ is) e st last p r = proper_run is (added e i) (stack_after e i st) last
-    (proper_after st.0 st.1 e i r.0) r.2
 
 -- ==== Bytes are a blob of at most one geometry, and no blob is a proper prefix of another.
 
@@ -351,11 +287,6 @@ runs_split (i ∷ xs) ys e st last r =
     let s = runs_split xs ys (added e i) (stack_after e i st) last r.2 in
     record { mid = s.mid; front = (r.0, r.1, s.front); rest = s.rest }
 
--- the machine is deterministic
-pub runs_same : (xs : List Item) (e : Sums) (st a b : Stack) → Runs e st xs a → Runs e st xs b → a ≡ b
-runs_same [] e st a b r s = sym r ∙ s
-runs_same (i ∷ xs) e st a b r s = runs_same xs (added e i) (stack_after e i st) a b r.2 s.2
-
 -- the next item of any geometry that begins with these items has the role that the machine says
 pub next_role : (before : List Item) (st : Stack) (role : Role) → Runs nothing started before st
     → role_at (sums_after nothing before) st ≡ Some role
@@ -400,7 +331,7 @@ pub record Front (is : List Item) : Type 0 where
 -- items that the machine runs through are a prefix
 pub run_is_front : (is : List Item) (st : Stack) → Runs nothing started is st → Front is
 run_is_front is st r =
-    let c = completes st (proper_run is nothing started st tt r) (sums_after nothing is) in
+    let c = completes st (proper_run is st r) (sums_after nothing is) in
     let whole = runs_are_items c.tree (is ++ Rattle.std.specs.Prelude.map filler c.roles)
     (Runs-append is nothing started st (Rattle.std.specs.Prelude.map filler c.roles)
     ([], Finished c.tree) r c.runs) in
@@ -409,5 +340,5 @@ run_is_front is st r =
 -- each state that the machine reaches can be completed
 pub run_completes : (before : List Item) (st : Stack) → Runs nothing started before st
     → (more : List Item) × (g : Tree) × Runs (sums_after nothing before) st more ([], Finished g)
-run_completes before st r = let c = completes st (proper_run before nothing started st tt r)
+run_completes before st r = let c = completes st (proper_run before st r)
     (sums_after nothing before) in (Rattle.std.specs.Prelude.map filler c.roles, c.tree, c.runs)

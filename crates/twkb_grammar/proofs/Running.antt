@@ -19,12 +19,13 @@ use Rattle.twkb_grammar.specs.Machine.{Sums, Finished, nothing, added, sums_afte
 use Rattle.twkb_grammar.specs.Machine.{stack_after, Runs, Head, Frame, Phase, AtHeader, AtEnd, snoc, ended}
 use Rattle.twkb_grammar.specs.Blob.{IsExact, Blob}
 use Rattle.twkb_grammar.specs.Reading.{Here, Kept, Ran, Reached, Gives, past_end, ends, Landed, Leads}
-use Rattle.twkb_grammar.proofs.Trees.{tree_runs, tree_total, total, total_is, total-append, kept_split}
+use Rattle.twkb_grammar.proofs.Trees.{tree_runs, tree_total, total, total_is, total-append}
 use Rattle.twkb_grammar.proofs.Bodies.{Runs-append, bytes_after}
 use Rattle.twkb_grammar.proofs.TreesBack.{runs_are_items}
 use Rattle.twkb_grammar.proofs.Parts.{runs_split, runs_same}
 use Rattle.twkb_grammar.proofs.Dead.{Allowed}
-use Rattle.twkb_grammar.proofs.Refusing.{refusal_is_first, Kept-append, position_is, allowed_else, tree_kept, alive}
+use Rattle.twkb_grammar.proofs.Refusing.{refusal_is_first, position_is, alive}
+use Rattle.twkb_grammar.proofs.Keeping.{Kept-append, kept_split, tree_keeps}
 use Rattle.twkb_grammar.proofs.WrittenBlobs.{AreExact-append, join-append}
 use Rattle.twkb_grammar.proofs.Stepping.{Agree, Sound, Objects, long_not_cut, count_says, x_says, y_says, header_says}
 use Rattle.twkb_grammar.proofs.Stepping.{metadata_says, extended_says, end_says}
@@ -154,7 +155,7 @@ pub ran_fault : (limits : Allowance) (before : List Item) (rest : List ℕ) (st 
     (reason : Reason) → Ran limits before st → role_at (sums_after nothing before) st ≡ Some role
     → Refused limits before rest role reason → FirstFault limits (join before ++ rest) (length (join before)) reason
 ran_fault limits before rest st role reason r says refused =
-    refusal_is_first allowed_else limits before rest st role reason r.runs says refused (ran_part limits before st r)
+    refusal_is_first limits before rest st role reason r.runs says refused (ran_part limits before st r)
 
 -- ---- one more item
 
@@ -238,8 +239,8 @@ part_ran limits before p = (
     t = tree_total p.tree 0 (before ++ p.more) p.valid.tree p.items
 
     kept : Kept limits.nest nothing (before ++ p.more)
-    kept = tree_kept p.tree limits.nest 0 (before ++ p.more) nothing
-        (omega (arith, p.valid.nest_kept)) p.valid.in_range p.items
+    kept = (tree_keeps p.tree limits.nest 0 (before ++ p.more) nothing p.valid.tree (omega arith) p.items).1
+        (omega (arith, p.valid.nest_kept), p.valid.in_range)
 
 -- ==== The state of a reader: the effect of an item, when there is a blob, and which refusals are first faults.
 
