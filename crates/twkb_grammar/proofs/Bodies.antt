@@ -2,7 +2,7 @@
 use Rattle.std.proofs.Common.{◌≡◌, ℕ, zero, suc, ◌*◌, ◌/◌, ◌%◌, ◌^◌, ◌<◌, ◌-◌, ℤ, pos, negsuc, refl, arith, List, []}
 use Rattle.std.proofs.Common.{◌∷◌, ◌++◌, map, ap, sym, ◌∙◌, Option, Some, None, true, false, ◌+◌, length, subst}
 use Rattle.std.proofs.Common.{append_assoc, append-nil, length-append, Bool}
-use Rattle.std.specs.Prelude.{◌≤ℤ◌, ◌-ℤ◌, flat_map, ◌+ℤ◌, ⊤}
+use Rattle.std.specs.Prelude.{◌≤ℤ◌, ◌-ℤ◌, flat_map, ◌+ℤ◌}
 use Rattle.std.proofs.lemmas.Int.{ints}
 use Rattle.std.proofs.lemmas.Bool.{false≢true}
 use Rattle.twkb_num.specs.Zigzag.{zigzag_of, unzigzag_of}
@@ -16,6 +16,8 @@ use Rattle.twkb_grammar.specs.Roles.{Header, Metadata, Extended, Size, Box, End,
 use Rattle.twkb_grammar.specs.Items.{Slot, OfCount, OfId, OfPoint, filled, fields, slots, run_of, rings_of, id_slots}
 use Rattle.twkb_grammar.specs.Items.{flags, members, Agrees, declared, end_item, Flags, Framed, header_byte}
 use Rattle.twkb_grammar.specs.Items.{AreOptional}
+use Rattle.twkb_grammar.specs.Spans.{before_body}
+use Rattle.std.specs.List.{AllByRecursion}
 use Rattle.twkb_grammar.specs.Bits.{bit}
 use Rattle.twkb_grammar.specs.Fault.{moved}
 use Rattle.twkb_grammar.specs.Machine.{Nested, Around, top, within, Body, Want, closed, opened, listed, BodyForm}
@@ -455,37 +457,39 @@ pub bytes_after : (is : List Item) (e : Sums) → (sums_after e is).bytes ≡ e.
 bytes_after [] e = omega arith
 bytes_after (i ∷ is) e = omega (arith, bytes_after is (added e i), length-append i.bytes (join is))
 
--- roles that leave the position unchanged
-abbrev pub Still : List Role → Type 0
-Still [] = ⊤
-Still (r ∷ rs) = ((p : Point) (n : ℕ) → moved p r n ≡ p) × Still rs
+-- what holds of all items of two lists holds of all items of both
+pub all_joined : {A : Type 0} (P : A → Type 0) (xs ys : List A) → AllByRecursion P xs → AllByRecursion P ys
+    → AllByRecursion P (xs ++ ys)
+all_joined P [] ys a b = b
+all_joined P (x ∷ xs) ys a b = (a.0, all_joined P xs ys a.1 b)
 
--- items with such roles leave the position unchanged
-pub still_after : (rs : List Role) (is : List Item) (e : Sums) → HaveRoles rs is → Still rs
+-- what holds of roles holds of the roles of their items
+roles_each : (P : Role → Type 0) (b : Bool) (rs : List Role) (is : List Item) → HaveRoles (where_set b rs) is
+    → AllByRecursion P rs → AllByRecursion (λ (i : Item). P i.role) is
+roles_each P true [] [] have all = tt
+roles_each P true (r ∷ rs) (i ∷ is) have all = (subst P (sym have.0) all.0, roles_each P true rs is have.2 all.1)
+roles_each P false rs [] have all = tt
+roles_each P _ _ _ have all = absurd have
+
+-- what holds of the three roles of optional parts holds of each part's role
+pub options_each : (P : Role → Type 0) {meta : ℕ} {extended size box : List Item} → AreOptional meta extended size box
+    → P Extended → P Size → P Box → AllByRecursion (λ (i : Item). P i.role) (extended ++ (size ++ box))
+options_each P {meta} {extended = x} {size = s} {box = o} optional e z b =
+    all_joined (λ (i : Item). P i.role) x (s ++ o)
+    (roles_each P (bit meta 3) (Extended ∷ []) x optional.extended_is (e, tt))
+    (all_joined (λ (i : Item). P i.role) s o (roles_each P (bit meta 1) (Size ∷ []) s optional.size_is (z, tt))
+    (roles_each P (bit meta 0) (Box ∷ Box ∷ Box ∷ Box ∷ []) o optional.box_is (b, (b, (b, (b, tt))))))
+
+still : (is : List Item) (e : Sums) → AllByRecursion (λ (i : Item). (p : Point) (n : ℕ) → moved p i.role n ≡ p) is
     → (sums_after e is).position ≡ e.position
-still_after [] [] e have still = refl
-still_after (r ∷ rs) (i ∷ is) e have still =
-    still_after rs is (added e i) have.2 still.1 ∙ (ap (λ s. moved e.position s i.number) have.0
-    ∙ still.0 e.position i.number)
-still_after _ _ e have still = absurd have
-
--- optional roles of this sort leave the position unchanged, asked for or not
-pub still_where : (b : Bool) (rs : List Role) → Still rs → Still (where_set b rs)
-still_where true rs still = still
-still_where false rs still = tt
+still [] e all = refl
+still (i ∷ is) e all = still is (added e i) all.1 ∙ all.0 e.position i.number
 
 -- optional parts leave the position unchanged
 pub still_options : (meta : ℕ) (extended size box : List Item) (e : Sums) → AreOptional meta extended size box
     → (sums_after e (extended ++ (size ++ box))).position ≡ e.position
-still_options meta x s o e optional = ap (λ (e : Sums). e.position)
-    (sums_after-append x (s ++ o) e ∙ sums_after-append s o (sums_after e x))
-    ∙ (still_after (where_set (bit meta 0) (Box ∷ Box ∷ Box ∷ Box ∷ [])) o
-    (sums_after (sums_after e x) s) optional.box_is (still_where (bit meta 0) (Box ∷ Box ∷ Box ∷ Box ∷ [])
-    ((λ p n. refl), ((λ p n. refl), ((λ p n. refl), ((λ p n. refl), tt)))))
-    ∙ (still_after (where_set (bit meta 1) (Size ∷ [])) s (sums_after e x) optional.size_is
-    (still_where (bit meta 1) (Size ∷ []) ((λ p n. refl), tt))
-    ∙ still_after (where_set (bit meta 3) (Extended ∷ [])) x e optional.extended_is
-    (still_where (bit meta 3) (Extended ∷ []) ((λ p n. refl), tt))))
+still_options meta x s o e optional = still (x ++ (s ++ o)) e
+    (options_each (λ r. (p : Point) (n : ℕ) → moved p r n ≡ p) optional (λ p n. refl) (λ p n. refl) (λ p n. refl))
 
 -- five lists joined in another grouping
 pub regroup : {A : Type 0} (x s o b l : List A) → x ++ (s ++ ((o ++ b) ++ l)) ≡ (x ++ (s ++ o)) ++ (b ++ l)
@@ -493,6 +497,13 @@ regroup x s o b l =
     ap (λ t. x ++ (s ++ t)) (append_assoc o b l)
     ∙ (ap (λ t. x ++ t) (sym (append_assoc s o (b ++ l)))
     ∙ sym (append_assoc x (s ++ o) (b ++ l)))
+
+-- the items of a geometry are those before its body, those of the body, and the end
+pub framed_whole : {kind : ℕ} {p : ℤ} {own : Flags} {Body : List Item → Type 0} {is : List Item}
+    (f : Framed kind p own Body is)
+    → is ≡ before_body f ++ (f.body ++ end_item (declared f.size) (f.box ++ f.body) ∷ [])
+framed_whole {kind} {p} f = f.whole ∙ ap (λ l. item Header (header_byte kind p) ∷ item (Metadata kind) f.meta ∷ l)
+    (regroup f.extended f.size f.box f.body (end_item (declared f.size) (f.box ++ f.body) ∷ []))
 
 -- the header with these fields
 abbrev pub head : ℤ → ℕ → Option ℕ → ℕ → Head

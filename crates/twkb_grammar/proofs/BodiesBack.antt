@@ -256,7 +256,8 @@ shape_number PointForm ids v = refl
 shape_number _ ids v = refl
 
 pub shape_fits : (h : Head) (f : BodyForm) (ids : Ids) (v : Nested (depth_of f)) (body : List Item)
-    → bit h.meta 4 ≡ false → Starts (Counts h f ids) body → AreFields (steps origin (whole_slots (first_of f ids) (depth_of f) v)) body
+    → bit h.meta 4 ≡ false → Starts (Counts h f ids) body
+    → AreFields (steps origin (whole_slots (first_of f ids) (depth_of f) v)) body
     → IdsFit (shape_of f ids v) × Agrees (flags (shape_of f ids v)) h.meta
 shape_fits h PointForm ids p body full s are = (tt, full)
 shape_fits h LineForm ids ps body full s are = (tt, parts_agree ps h.meta full)

@@ -1,5 +1,5 @@
 -- The items of a geometry keep the limits on depth and range exactly if the geometry does.
-use Rattle.std.proofs.Common.{◌≡◌, ℕ, suc, ◌+◌, ◌≤◌, List, [], ◌∷◌, ◌++◌, refl, ap, sym, ◌∙◌, subst, append_assoc}
+use Rattle.std.proofs.Common.{◌≡◌, ℕ, suc, ◌+◌, ◌≤◌, List, [], ◌∷◌, ◌++◌, refl, sym, ◌∙◌, subst, append_assoc}
 use Rattle.std.proofs.Common.{arith, Bool, true, false, map, Some, None, inl, inr}
 use Rattle.std.specs.Prelude.{⊤, ◌↔◌, ℤ, flat_map}
 use Rattle.std.proofs.lemmas.Bool.{false≢true, cases_lt}
@@ -10,8 +10,8 @@ use Rattle.twkb_tree.specs.Tree.{Tree, Simple, point, line, polygon, multi_point
 use Rattle.twkb_tree.specs.Tree.{collection, Trees, end, ◌▷◌, count, Ids, IdsFit, IsTree, AreTrees, flat, flat_all}
 use Rattle.twkb_tree.specs.Tree.{points_in, nest, nest_all}
 use Rattle.twkb_grammar.specs.Bits.{bit}
-use Rattle.twkb_grammar.specs.Roles.{Item, Role, Header, Metadata, Extended, Size, Box, Count, Geometries, AreFields}
-use Rattle.twkb_grammar.specs.Roles.{HaveRoles, where_set, item}
+use Rattle.twkb_grammar.specs.Roles.{Item, Header, Metadata, Count, Geometries, AreFields}
+use Rattle.twkb_grammar.specs.Roles.{item}
 use Rattle.twkb_grammar.specs.Items.{Items, ItemsOfAll, Slot, OfCount, OfId, OfPoint, id_slots, fields, slots, run_of}
 use Rattle.twkb_grammar.specs.Items.{rings_of, declared, end_item, header_byte, Flags, flags, flags_all, Agrees, BodyAt}
 use Rattle.twkb_grammar.specs.Items.{Framed, Follow, id_fields}
@@ -20,7 +20,7 @@ use Rattle.twkb_grammar.specs.Fault.{IsDeep}
 use Rattle.twkb_grammar.specs.Machine.{Sums, added, sums_after, Kind, SimpleKind, PointForm, empty_of}
 use Rattle.twkb_grammar.specs.Reading.{Here, Kept}
 use Rattle.twkb_grammar.proofs.Bodies.{steps, slot_points, points_are, fields_are, form_of, forth, moved_x, moved_y}
-use Rattle.twkb_grammar.proofs.Bodies.{moved_id, moved_count, still_options, regroup}
+use Rattle.twkb_grammar.proofs.Bodies.{moved_id, moved_count, still_options, options_each, framed_whole, all_joined}
 use Rattle.twkb_grammar.proofs.Trees.{left_out, names_steps}
 
 -- ==== Joined items, and items of roles of which nothing is asked.
@@ -37,53 +37,30 @@ pub Kept-append : (most : ℕ) (is js : List Item) (e : Sums) → Kept most e is
 Kept-append most [] js e a b = b
 Kept-append most (i ∷ is) js e a b = (a.0, Kept-append most is js (added e i) a.1 b)
 
--- nothing is asked of these roles
-abbrev Easy : ℕ → List Role → Type 0
-Easy most [] = ⊤
-Easy most (r ∷ rs) = ((p : Point) (n : ℕ) → Here most p r n) × Easy most rs
-
-roles_kept : (most : ℕ) (b : Bool) (rs : List Role) (is : List Item) (e : Sums) → HaveRoles (where_set b rs) is
-    → Easy most rs → Kept most e is
-roles_kept most true rs is e have easy = go rs is e have easy
-  where
-    go : (rs : List Role) (is : List Item) (e : Sums) → HaveRoles rs is → Easy most rs → Kept most e is
-    go [] [] e have easy = tt
-    go (r ∷ rs) (i ∷ is) e have easy = (
-      subst (λ s. Here most e.position s i.number) (sym have.0) (easy.0 e.position i.number),
-      go rs is (added e i) have.2 easy.1,
-    )
-    go _ _ e have easy = absurd have
-roles_kept most false rs [] e have easy = tt
-roles_kept most false rs (i ∷ is) e have easy = absurd have
+easy_kept : (most : ℕ) (is : List Item) (e : Sums)
+    → AllByRecursion (λ (i : Item). (p : Point) (n : ℕ) → Here most p i.role n) is → Kept most e is
+easy_kept most [] e all = tt
+easy_kept most (i ∷ is) e all = (all.0 e.position i.number, easy_kept most is (added e i) all.1)
 
 -- a frame keeps depth and range exactly if its body does
 framed_keeps : {kind : ℕ} {p : ℤ} {own : Flags} {Body : List Item → Type 0} {is : List Item} (most : ℕ) (e : Sums)
     (f : Framed kind p own Body is) → Kept most e is ↔ Kept most (sums_after e (before_body f)) f.body
-framed_keeps {kind} {p} {is = is} most e f = (
-  (λ k. (kept_split most f.body (last ∷ []) (sums_after e (before_body f))
-      (kept_split most (before_body f) (f.body ++ last ∷ []) e (subst (λ l. Kept most e l) whole k)).1).0),
-  (λ k. subst (λ l. Kept most e l) (sym whole) (Kept-append most (before_body f) (f.body ++ last ∷ []) e
-      (tt, (tt, options)) (Kept-append most f.body (last ∷ []) (sums_after e (before_body f)) k (tt, tt)))),
+framed_keeps {kind} {p} most e f = (
+  (λ k. (kept_split most f.body (last ∷ []) (sums_after e (before_body f)) (kept_split most (before_body f)
+      (f.body ++ last ∷ []) e (subst (λ l. Kept most e l) (framed_whole f) k)).1).0),
+  (λ k. subst (λ l. Kept most e l) (sym (framed_whole f)) (Kept-append most (before_body f) (f.body ++ last ∷ []) e (
+    tt,
+    (
+      tt,
+      easy_kept most (f.extended ++ (f.size ++ f.box)) _
+          (options_each (λ r. (p : Point) (n : ℕ) → Here most p r n) f.optional (λ p n. tt) (λ p n. tt) (λ p n. tt)),
+    ),
+  )
+      (Kept-append most f.body (last ∷ []) (sums_after e (before_body f)) k (tt, tt)))),
 )
   where
     last : Item
     last = end_item (declared f.size) (f.box ++ f.body)
-
-    whole : is ≡ before_body f ++ (f.body ++ last ∷ [])
-    whole = f.whole ∙ ap (λ l. item Header (header_byte kind p) ∷ item (Metadata kind) f.meta ∷ l)
-        (regroup f.extended f.size f.box f.body (last ∷ []))
-
-    e1 : Sums
-    e1 = added (added e (item Header (header_byte kind p))) (item (Metadata kind) f.meta)
-
-    options : Kept most e1 (f.extended ++ (f.size ++ f.box))
-    options = Kept-append most f.extended (f.size ++ f.box) e1 (roles_kept most (bit f.meta 3) (Extended ∷ [])
-        f.extended e1 f.optional.extended_is ((λ p n. tt), tt))
-        (Kept-append most f.size f.box (sums_after e1 f.extended) (roles_kept most (bit f.meta 1) (Size ∷ [])
-        f.size (sums_after e1 f.extended) f.optional.size_is ((λ p n. tt), tt))
-        (roles_kept most (bit f.meta 0) (Box ∷ Box ∷ Box ∷ Box ∷ []) f.box
-        (sums_after (sums_after e1 f.extended) f.size) f.optional.box_is
-        ((λ p n. tt), ((λ p n. tt), ((λ p n. tt), ((λ p n. tt), tt))))))
 
 -- a body begins at the origin
 framed_place : {kind : ℕ} {p : ℤ} {own : Flags} {Body : List Item → Type 0} {is : List Item} (e : Sums)
@@ -185,11 +162,6 @@ pub all_front : (xs ys : List Point) → AllByRecursion IsInRange (xs ++ ys)
 all_front [] ys h = (tt, h)
 all_front (x ∷ xs) ys h = let t = all_front xs ys h.1 in ((h.0, t.0), t.1)
 
-all_append : (xs ys : List Point) → AllByRecursion IsInRange xs → AllByRecursion IsInRange ys
-    → AllByRecursion IsInRange (xs ++ ys)
-all_append [] ys a b = b
-all_append (x ∷ xs) ys a b = (a.0, all_append xs ys a.1 b)
-
 none_in : (k : Kind) (p : ℤ) → AllByRecursion IsInRange (flat (empty_of k p))
 none_in (SimpleKind PointForm) p = tt
 none_in _ p = tt
@@ -281,7 +253,7 @@ mutual
         (λ k. let two = kept_split most are.front are.rest e (subst (λ l. Kept most e l) are.whole k) in
             let t = one.0 two.0 in
             let m = more.0 two.1 in
-            (omega (arith, t.0, m.0), all_append (flat g) (flat_all gs) t.1 m.1)),
+            (omega (arith, t.0, m.0), all_joined IsInRange (flat g) (flat_all gs) t.1 m.1)),
         (λ all. let two = all_front (flat g) (flat_all gs) all.1 in
             subst (λ l. Kept most e l) (sym are.whole) (Kept-append most are.front are.rest e
             (one.1 (omega (arith, all.0), two.0)) (more.1 (omega (arith, all.0), two.1)))),

@@ -11,8 +11,8 @@ use Rattle.twkb_tree.specs.Tree.{Simple, point, Tree, simple}
 use Rattle.twkb_tree.specs.Tree.{collection, Trees, end, ◌▷◌, count, Ids, flat, IsPrecision, IsTree, AreTrees}
 use Rattle.twkb_tree.specs.Limits.{Allowance}
 use Rattle.twkb_tree.specs.declared.kind.Kind.TheVariants as kind
-use Rattle.twkb_grammar.specs.Roles.{Role, Header, Metadata, Extended, Size, Box, Count, End, Item, IsItem}
-use Rattle.twkb_grammar.specs.Roles.{Spells, join, Field, AreFields, HaveRoles, where_set, Counted, Geometries, item}
+use Rattle.twkb_grammar.specs.Roles.{Role, Header, Metadata, Extended, Count, End, Item, IsItem}
+use Rattle.twkb_grammar.specs.Roles.{Spells, join, Field, AreFields, Counted, Geometries, item}
 use Rattle.twkb_grammar.specs.Fault.{points_by}
 use Rattle.twkb_grammar.specs.Machine.{Sums, added, sums_after, Stack, stack_after, Runs, kind_at, nothing}
 use Rattle.twkb_grammar.specs.Reading.{open_by, open_after}
@@ -27,7 +27,8 @@ use Rattle.twkb_grammar.specs.Blob.{Blob}
 use Rattle.twkb_grammar.specs.Spans.{kind_of_shape, before_body, behind, spans, spans_of_all, spans_of_blob}
 use Rattle.twkb_grammar.proofs.Trees.{total, total_is, total-append, tree_total}
 use Rattle.twkb_grammar.proofs.Running.{points_after}
-use Rattle.twkb_grammar.proofs.Bodies.{zigzag_small, bytes_after}
+use Rattle.twkb_grammar.proofs.Bodies.{zigzag_small, bytes_after, options_each, framed_whole}
+use Rattle.std.specs.List.{AllByRecursion}
 use Rattle.twkb_grammar.proofs.BodiesBack.{sums_after-append}
 
 -- ==== Ends of geometries, and what a reader notes of them.
@@ -193,21 +194,11 @@ quiet start e (Metadata k) n w q = absurd q
 quiet start e (End d c) n w q = absurd q
 quiet start e _ n w q = refl
 
-abbrev AreQuiet : List Role → Type 0
-AreQuiet [] = ⊤
-AreQuiet (r ∷ rs) = IsQuiet r × AreQuiet rs
-
-pub quiet_where : (b : Bool) (rs : List Role) → AreQuiet rs → AreQuiet (where_set b rs)
-quiet_where true rs q = q
-quiet_where false rs q = tt
-
-pub quiet_roles : (start : ℕ) (rs : List Role) (is : List Item) (e : Sums) (w : Notes)
-    → HaveRoles rs is → AreQuiet rs → noted start e w is ≡ w
-quiet_roles start [] [] e w h q = refl
-quiet_roles start (r ∷ rs) (i ∷ is) e w h q =
-    quiet_roles start rs is (added e i) (noted_by start e i.role i.number w) h.2 q.1
-    ∙ quiet start e i.role i.number w (subst IsQuiet (sym h.0) q.0)
-quiet_roles start _ _ e w h q = absurd h
+pub all_quiet : (start : ℕ) (is : List Item) (e : Sums) (w : Notes) → AllByRecursion (λ (i : Item). IsQuiet i.role) is
+    → noted start e w is ≡ w
+all_quiet start [] e w all = refl
+all_quiet start (i ∷ is) e w all = all_quiet start is (added e i) (noted_by start e i.role i.number w) all.1
+    ∙ quiet start e i.role i.number w all.0
 
 abbrev QuietFields : List Field → Type 0
 QuietFields [] = ⊤
@@ -282,13 +273,6 @@ head_noted offset points kind p k meta w fits low same =
         ∙ (ap (λ q. told (length w.begun) offset q (unzigzag_of (n / 16)) meta 0 points) same
         ∙ ap (λ q. told (length w.begun) offset k q meta 0 points) (ap unzigzag_of halves ∙ unzigzag_of-zigzag_of p))
 
--- five lists joined in another grouping
-regroup : {A : Type 0} (x s o b : List A) (l : List A) → x ++ (s ++ ((o ++ b) ++ l)) ≡ (x ++ (s ++ o)) ++ (b ++ l)
-regroup x s o b l =
-    ap (λ t. x ++ (s ++ t)) (append_assoc o b l)
-    ∙ (ap (λ t. x ++ t) (sym (append_assoc s o (b ++ l)))
-    ∙ sym (append_assoc x (s ++ o) (b ++ l)))
-
 module _ (start kind : ℕ) (p : ℤ) (own : Flags) (Body : List Item → Type 0) (is : List Item)
     (e : Sums) (w : Notes) (f : Framed kind p own Body is) where
   -- the sums before the body
@@ -298,16 +282,12 @@ module _ (start kind : ℕ) (p : ℤ) (own : Flags) (Body : List Item → Type 0
   abbrev last : Item
   last = end_item (declared f.size) (f.box ++ f.body)
 
-  parted : is ≡ before_body f ++ (f.body ++ last ∷ [])
-  parted = f.whole ∙ ap (λ l. item Header (header_byte kind p) ∷ item (Metadata kind) f.meta ∷ l)
-      (regroup f.extended f.size f.box f.body (last ∷ []))
-
   -- the bytes of the items are those before the body and those in it; the end has none
   own_bytes : length (join is) ≡ length (join (before_body f)) + length (join f.body)
   own_bytes = omega (
     arith,
     sym (bytes_after is e),
-    ap (λ l. (sums_after e l).bytes) (parted ∙ sym (append_assoc (before_body f) f.body (last ∷ []))),
+    ap (λ l. (sums_after e l).bytes) (framed_whole f ∙ sym (append_assoc (before_body f) f.body (last ∷ []))),
     ap (λ s. s.bytes) (sums_after-append (before_body f ++ f.body) (last ∷ []) e),
     ap (λ s. s.bytes) (sums_after-append (before_body f) f.body e),
     bytes_after f.body e1,
@@ -321,28 +301,10 @@ module _ (start kind : ℕ) (p : ℤ) (own : Flags) (Body : List Item → Type 0
         (length w.spans ∷ w.begun)
 
     begins : noted start e w (before_body f) ≡ w1
-    begins =
-        noted-append start f.extended (f.size ++ f.box) e0 w0
-        ∙ (ap (λ v. noted start e2 v (f.size ++ f.box))
-        (quiet_roles start (where_set (bit f.meta 3) (Extended ∷ [])) f.extended e0 w0
-        f.optional.extended_is (quiet_where (bit f.meta 3) (Extended ∷ []) (tt, tt)))
-        ∙ (noted-append start f.size f.box e2 w0
-        ∙ (ap (λ v. noted start (sums_after e2 f.size) v f.box)
-        (quiet_roles start (where_set (bit f.meta 1) (Size ∷ [])) f.size e2 w0 f.optional.size_is
-        (quiet_where (bit f.meta 1) (Size ∷ []) (tt, tt)))
-        ∙ (quiet_roles start (where_set (bit f.meta 0) (Box ∷ Box ∷ Box ∷ Box ∷ [])) f.box
-        (sums_after e2 f.size) w0 f.optional.box_is (quiet_where (bit f.meta 0)
-        (Box ∷ Box ∷ Box ∷ Box ∷ []) (tt, (tt, (tt, (tt, tt)))))
-        ∙ head_noted (start + e.bytes) e.points kind p k f.meta w fits low same))))
-      where
-        e0 : Sums
-        e0 = added (added e (item Header (header_byte kind p))) (item (Metadata kind) f.meta)
-
-        e2 : Sums
-        e2 = sums_after e0 f.extended
-
-        w0 : Notes
-        w0 = note_metadata f.meta (note_header (start + e.bytes) e.points (header_byte kind p) w)
+    begins = all_quiet start (f.extended ++ (f.size ++ f.box)) _
+        (note_metadata f.meta (note_header (start + e.bytes) e.points (header_byte kind p) w))
+        (options_each IsQuiet f.optional tt tt tt)
+        ∙ head_noted (start + e.bytes) e.points kind p k f.meta w fits low same
 
     -- a geometry is noted by its own span and then the spans of its members
     pub framed_noted : (inner : List Span) (points : ℕ)
@@ -351,7 +313,7 @@ module _ (start kind : ℕ) (p : ℤ) (own : Flags) (Body : List Item → Type 0
         → noted start e w is ≡ notes (w.spans ++ told (length w.begun) (start + e.bytes) k p f.meta
         (length (join is)) points ∷ inner) w.begun
     framed_noted inner points body_is points_are =
-        ap (λ l. noted start e w l) parted
+        ap (λ l. noted start e w l) (framed_whole f)
         ∙ (noted-append start (before_body f) (f.body ++ last ∷ []) e w
         ∙ (ap (λ v. noted start e1 v (f.body ++ last ∷ [])) begins
         ∙ (noted-append start f.body (last ∷ []) e1 w1
@@ -376,7 +338,7 @@ module _ (start kind : ℕ) (p : ℤ) (own : Flags) (Body : List Item → Type 0
         counted = omega (
           arith,
           points_are,
-          ap (total points_by) parted,
+          ap (total points_by) (framed_whole f),
           total-append points_by (before_body f) (f.body ++ last ∷ []),
           total-append points_by f.body (last ∷ []),
           points_total f.body e1,

@@ -1,5 +1,5 @@
 -- The machine runs through the items of any geometry, which announce exactly its nodes and its points.
-use Rattle.std.proofs.Common.{Bool, true, false, ◌≡◌, ℕ, ◌+◌, List, [], ◌∷◌, ◌++◌, map, length, refl, ap, ◌∙◌, Option}
+use Rattle.std.proofs.Common.{Bool, true, false, ◌≡◌, ℕ, ◌+◌, List, [], ◌∷◌, ◌++◌, map, length, refl, ap, ◌∙◌}
 use Rattle.std.proofs.Common.{Some, None, arith, suc, ◌<◌, sym, subst, length-append}
 use Rattle.std.proofs.lemmas.List.Sums.{sum_by-cons}
 use Rattle.std.specs.Prelude.{ℤ, flat_map, sum_by, ⊤, ◌+ℤ◌}
@@ -23,7 +23,7 @@ use Rattle.twkb_grammar.specs.Machine.{Kind, added, sums_after}
 use Rattle.twkb_grammar.specs.Fault.{nodes_by, points_by, nodes_of, points_of}
 use Rattle.twkb_grammar.proofs.Bodies.{steps, fields_are, form_of, shape_run, first_run}
 use Rattle.twkb_grammar.proofs.Bodies.{finish, SaysIds, Runs-append, head}
-use Rattle.twkb_grammar.proofs.Bodies.{RunsBody, framed_run}
+use Rattle.twkb_grammar.proofs.Bodies.{RunsBody, framed_run, options_each, framed_whole}
 
 -- ==== Sums over items, and over slots, of what counts announce.
 
@@ -79,13 +79,16 @@ by_flat c f g h (x ∷ xs) = omega (
   sum_by-cons g x xs,
 )
 
+-- the role is neither a count nor a metadata byte
+abbrev IsPlain : Role → Type 0
+IsPlain (Count k) = ⊥
+IsPlain (Metadata k) = ⊥
+IsPlain _ = ⊤
+
 module _ (f : Role → ℕ → ℕ) (c : Counted → ℕ → ℕ) (counts : (k : Counted) (n : ℕ) → f (Count k) n ≡ c k n)
-    (header : (n : ℕ) → f Header n ≡ 0) (extended : (n : ℕ) → f Extended n ≡ 0)
-    (size : (n : ℕ) → f Size n ≡ 0) (box : (n : ℕ) → f Box n ≡ 0)
-    (ids : (n : ℕ) → f Id n ≡ 0) (xs : (n : ℕ) → f X n ≡ 0) (ys : (n : ℕ) → f Y n ≡ 0)
-    (ends : (d : Option ℕ) (m n : ℕ) → f (End d m) n ≡ 0) where
+    (none : (r : Role) → IsPlain r → (n : ℕ) → f r n ≡ 0) where
   -- the total of a body is that of its slots
-  pub body_total : (p : Point) (ps : List Slot) (is : List Item) → AreFields (steps p ps) is
+  body_total : (p : Point) (ps : List Slot) (is : List Item) → AreFields (steps p ps) is
       → total f is ≡ by_slots c ps
   body_total p [] [] are = refl
   body_total p (OfCount k n ∷ ps) (i ∷ is) are = omega (
@@ -96,63 +99,44 @@ module _ (f : Role → ℕ → ℕ) (c : Counted → ℕ → ℕ) (counts : (k :
     body_total p ps is are.3,
   )
   body_total p (OfId id ∷ ps) (i ∷ is) are = omega
-      (arith, ap (λ r. f r i.number) are.0, ids i.number, body_total p ps is are.3)
+      (arith, none i.role (subst IsPlain (sym are.0) tt) i.number, body_total p ps is are.3)
   body_total p (OfPoint q ∷ ps) (i ∷ []) are = absurd are.3
   body_total p (OfPoint q ∷ ps) (i ∷ j ∷ is) are = omega (
     arith,
-    ap (λ r. f r i.number) are.0,
-    xs i.number,
-    ap (λ r. f r j.number) are.3.0,
-    ys j.number,
+    none i.role (subst IsPlain (sym are.0) tt) i.number,
+    none j.role (subst IsPlain (sym are.3.0) tt) j.number,
     body_total q ps is are.3.3,
   )
   body_total p _ _ are = absurd are
 
-  option_total : (b : Bool) (r : Role) (is : List Item) → ((n : ℕ) → f r n ≡ 0)
-      → HaveRoles (where_set b (r ∷ [])) is → total f is ≡ 0
-  option_total false r [] z have = refl
-  option_total true r (i ∷ []) z have = omega (arith, ap (λ r. f r i.number) have.0, z i.number)
-  option_total true r (i ∷ j ∷ is) z have = absurd have.2
-  option_total _ r _ z have = absurd have
-
-  box_total : (b : Bool) (is : List Item) → HaveRoles (where_set b (Box ∷ Box ∷ Box ∷ Box ∷ [])) is → total f is ≡ 0
-  box_total false [] have = refl
-  box_total true (i ∷ []) have = absurd have.2
-  box_total true (i ∷ j ∷ []) have = absurd have.2.2
-  box_total true (i ∷ j ∷ k ∷ []) have = absurd have.2.2.2
-  box_total true (i ∷ j ∷ k ∷ l ∷ m ∷ is) have = absurd have.2.2.2.2
-  box_total true (i ∷ j ∷ k ∷ l ∷ []) have =
-      omega (
-        arith,
-        ap (λ r. f r i.number) have.0,
-        box i.number,
-        ap (λ r. f r j.number) have.2.0,
-        box j.number,
-        ap (λ r. f r k.number) have.2.2.0,
-        box k.number,
-        ap (λ r. f r l.number) have.2.2.2.0,
-        box l.number,
-      )
-  box_total _ _ have = absurd have
+  plain_total : (is : List Item) → AllByRecursion (λ (i : Item). IsPlain i.role) is → total f is ≡ 0
+  plain_total [] all = refl
+  plain_total (i ∷ is) all = omega (arith, none i.role all.0 i.number, plain_total is all.1)
 
   -- the total of a frame is that of its metadata byte and its body
-  pub framed_total : (kind : ℕ) (p : ℤ) (own : Flags) (Body : List Item → Type 0) (is : List Item)
-      → (fr : Framed kind p own Body is) → total f is ≡ f (Metadata kind) fr.meta + total f fr.body
-  framed_total kind p own Body is fr =
+  framed_total : {kind : ℕ} {p : ℤ} {own : Flags} {Body : List Item → Type 0} {is : List Item}
+      (fr : Framed kind p own Body is) → total f is ≡ f (Metadata kind) fr.meta + total f fr.body
+  framed_total {kind} {p} fr =
       let last = end_item (declared fr.size) (fr.box ++ fr.body) in
+      let options = fr.extended ++ (fr.size ++ fr.box) in
       omega (
         arith,
-        ap (total f) fr.whole,
-        header (header_byte kind p),
-        total-append f fr.extended (fr.size ++ ((fr.box ++ fr.body) ++ last ∷ [])),
-        total-append f fr.size ((fr.box ++ fr.body) ++ last ∷ []),
-        total-append f (fr.box ++ fr.body) (last ∷ []),
-        total-append f fr.box fr.body,
-        option_total (bit fr.meta 3) Extended fr.extended extended fr.optional.extended_is,
-        option_total (bit fr.meta 1) Size fr.size size fr.optional.size_is,
-        box_total (bit fr.meta 0) fr.box fr.optional.box_is,
-        ends (declared fr.size) (length (Rattle.twkb_grammar.specs.Roles.join (fr.box ++ fr.body))) 0,
+        ap (total f) (framed_whole fr),
+        none Header tt (header_byte kind p),
+        total-append f options (fr.body ++ last ∷ []),
+        plain_total options (options_each IsPlain fr.optional tt tt tt),
+        total-append f fr.body (last ∷ []),
+        none last.role tt 0,
       )
+
+nodes_plain : (r : Role) → IsPlain r → (n : ℕ) → nodes_by r n ≡ 0
+nodes_plain (Count k) plain n = absurd plain
+nodes_plain _ plain n = refl
+
+points_plain : (r : Role) → IsPlain r → (n : ℕ) → points_by r n ≡ 0
+points_plain (Count k) plain n = absurd plain
+points_plain (Metadata k) plain n = absurd plain
+points_plain _ plain n = refl
 
 -- ==== The machine runs through the items of any geometry.
 
@@ -426,27 +410,20 @@ no_point kind meta bare = go (Rattle.std.specs.Prelude.nat_eq kind 1) refl
 
 nodes_body : (p : Point) (ps : List Slot) (is : List Item) → AreFields (steps p ps) is
     → total nodes_by is ≡ by_slots nodes_of ps
-nodes_body p ps is are = body_total nodes_by nodes_of (λ k n. refl) (λ n. refl) (λ n. refl)
-    (λ n. refl) (λ n. refl) (λ n. refl) (λ n. refl) (λ n. refl) (λ d m n. refl) p ps is are
+nodes_body p ps is are = body_total nodes_by nodes_of (λ k n. refl) nodes_plain p ps is are
 
 points_body : (p : Point) (ps : List Slot) (is : List Item) → AreFields (steps p ps) is
     → total points_by is ≡ by_slots points_of ps
-points_body p ps is are = body_total points_by points_of (λ k n. refl) (λ n. refl) (λ n. refl)
-    (λ n. refl) (λ n. refl) (λ n. refl) (λ n. refl) (λ n. refl) (λ d m n. refl) p ps is are
+points_body p ps is are = body_total points_by points_of (λ k n. refl) points_plain p ps is are
 
-nodes_framed : (kind : ℕ) (p : ℤ) (own : Flags) (Body : List Item → Type 0) (is : List Item)
-    → (fr : Framed kind p own Body is) → total nodes_by is ≡ total nodes_by fr.body
-nodes_framed kind p own Body is fr = let h : total nodes_by is ≡ nodes_by (Metadata kind) fr.meta
-    + total nodes_by fr.body = framed_total nodes_by nodes_of (λ k n. refl) (λ n. refl) (λ n. refl)
-    (λ n. refl) (λ n. refl) (λ n. refl) (λ n. refl) (λ n. refl) (λ d m n. refl) kind p own Body is
-    fr in omega (arith, h)
+nodes_framed : {kind : ℕ} {p : ℤ} {own : Flags} {Body : List Item → Type 0} {is : List Item}
+    (fr : Framed kind p own Body is) → total nodes_by is ≡ total nodes_by fr.body
+nodes_framed fr = omega (arith, framed_total nodes_by nodes_of (λ k n. refl) nodes_plain fr)
 
-points_framed : (kind : ℕ) (p : ℤ) (own : Flags) (Body : List Item → Type 0) (is : List Item)
-    → (fr : Framed kind p own Body is) → total points_by is ≡ points_by (Metadata kind) fr.meta
-    + total points_by fr.body
-points_framed kind p own Body is fr = framed_total points_by points_of (λ k n. refl) (λ n. refl)
-    (λ n. refl) (λ n. refl) (λ n. refl) (λ n. refl) (λ n. refl) (λ n. refl) (λ d m n. refl) kind p
-    own Body is fr
+points_framed : {kind : ℕ} {p : ℤ} {own : Flags} {Body : List Item → Type 0} {is : List Item}
+    (fr : Framed kind p own Body is)
+    → total points_by is ≡ points_by (Metadata kind) fr.meta + total points_by fr.body
+points_framed fr = framed_total points_by points_of (λ k n. refl) points_plain fr
 
 -- the nodes and points of a simple shape
 simple_nodes : (s : Simple) (p : ℤ) (meta : ℕ) (body : List Item) → IdsFit s → Agrees (flags s) meta
@@ -530,21 +507,18 @@ mutual
   tree_total (simple p s) level is fits items = (
     omega (
       arith,
-      nodes_framed (kind_of s) p (flags s) (AreFields (fields s)) is items,
+      nodes_framed items,
       simple_nodes s p items.meta items.body fits.1 items.agrees (bit items.meta 4) refl
           items.body_is,
     ),
-    points_framed (kind_of s) p (flags s) (AreFields (fields s)) is items
-        ∙ simple_points s p items.meta items.body fits.1 items.agrees (bit items.meta 4) refl
+    points_framed items ∙ simple_points s p items.meta items.body fits.1 items.agrees (bit items.meta 4) refl
         items.body_is,
   )
   tree_total (collection p ids gs) level is fits items =
-      let Body : List Item → Type 0 = Follow (AreFields
-      ((Count (Geometries level), count gs) ∷ id_fields ids)) (ItemsOfAll (suc level) gs) in
       let t = gathered_total level p ids gs items.meta items.body fits.1 items.agrees
       (members_total gs (suc level) fits.2) (bit items.meta 4) refl items.body_is in (
-        omega (arith, nodes_framed 7 p (flags_all ids gs) Body is items, t.0),
-        omega (arith, points_framed 7 p (flags_all ids gs) Body is items, t.1),
+        omega (arith, nodes_framed items, t.0),
+        omega (arith, points_framed items, t.1),
       )
 
   members_total : (gs : Trees) (level : ℕ) → AreTrees gs → MembersTotal level gs
