@@ -1,9 +1,9 @@
 -- Open geometries: the frames of a stack, their number, and a measure that each item lowers.
 use Rattle.std.proofs.Common.{Bool, true, false, ◌≡◌, ℕ, zero, suc, ◌+◌, ◌<◌, ◌≤◌, List, [], ◌∷◌, ◌++◌, length, refl}
-use Rattle.std.proofs.Common.{subst, Some, None, arith, inl, inr, ◌-◌, ap, sym, ◌∙◌, ◌*◌}
-use Rattle.std.specs.Prelude.{⊤, if◌then◌else◌}
+use Rattle.std.proofs.Common.{subst, Some, None, arith, ◌-◌, ap, sym, ◌∙◌, ◌*◌}
+use Rattle.std.specs.Prelude.{⊤}
 use Rattle.twkb_num.specs.Zigzag.{unzigzag_of}
-use Rattle.twkb_num.specs.Varint.{HasMarks, IsVarint}
+use Rattle.twkb_num.specs.Varint.{HasMarks}
 use Rattle.twkb_points.specs.Point.{Point}
 use Rattle.twkb_tree.specs.Tree.{Tree, Ids}
 use Rattle.twkb_tree.specs.Limits.{Allowance}
@@ -16,13 +16,16 @@ use Rattle.twkb_grammar.specs.Machine.{Kind, SimpleKind, Body, Want, WantY, Done
 use Rattle.twkb_grammar.specs.Machine.{ManyPoints, ManyLines, ManyPolygons, ManyGeometries, Phase, AtHeader}
 use Rattle.twkb_grammar.specs.Machine.{AtMetadata, AtOption, AtCount, AtId, AtBody, AtEnd, Finished, Sums, nothing}
 use Rattle.twkb_grammar.specs.Machine.{added, Stack, started, settled, begun, wanting, asked, with_option, body_after}
-use Rattle.twkb_grammar.specs.Machine.{members_begin, counted, ended, role_at, stack_after, Runs, kind_number, listed}
+use Rattle.twkb_grammar.specs.Machine.{members_begin, counted, ended, stack_after, Runs, kind_number, listed}
 use Rattle.twkb_grammar.specs.Machine.{body_role, first_count, phase_role, advanced}
 use Rattle.twkb_grammar.specs.Reading.{Reached, open_by, open_after, frame_count}
 use Rattle.twkb_grammar.proofs.BodiesBack.{some_role}
 use Rattle.twkb_grammar.proofs.TreesBack.{depth_run}
 use Rattle.twkb_grammar.proofs.Trees.{frame}
-use Rattle.twkb_grammar.proofs.Bodies.{head}
+use Rattle.twkb_grammar.proofs.Bodies.{head, all_joined}
+use Rattle.std.specs.List.{AllByRecursion}
+use Rattle.std.proofs.Common.{length-append}
+use Rattle.twkb_grammar.specs.Roles.{HasBytes}
 
 -- ==== The limit on collections around a member bounds the number of open collections.
 
@@ -31,150 +34,156 @@ pub reached_depth : (limits : Allowance) (bytes : List ℕ) (e : Sums) (st : Sta
     → Reached limits bytes e st → length st.0 ≤ limits.nest
 reached_depth limits bytes e st r = depth_run limits.nest r.items st r.ran.runs r.ran.kept
 
--- ==== The frames of a stack are its open geometries.
+-- ==== The frames of a stack and the optional parts that it expects, after an item.
 
--- roles that neither begin nor end a geometry
-abbrev Leaves : List Role → Type 0
-Leaves [] = ⊤
-Leaves (r ∷ rs) = ((n : ℕ) → open_by n r ≡ n) × Leaves rs
+-- the number of frames, and the optional parts that are expected
+abbrev pub load : Stack → ℕ × List Role
+load (fs, AtHeader) = (length fs, [])
+load (fs, Finished g) = (length fs, [])
+load (fs, AtOption k h r rs) = (suc (length fs), r ∷ rs)
+load (fs, _) = (suc (length fs), [])
 
-leaves_where : (b : Bool) (rs : List Role) → Leaves rs → Leaves (where_set b rs)
-leaves_where true rs h = h
-leaves_where false rs h = tt
+load-settled : (fs : List Frame) (h : Head) (f : BodyForm) (ids : Ids) (b : Body (depth_of f))
+    → load (fs, settled h f ids b) ≡ (suc (length fs), [])
+load-settled fs h f ids (Want d a) = refl
+load-settled fs h f ids _ = refl
 
-leaves_append : (xs ys : List Role) → Leaves xs → Leaves ys → Leaves (xs ++ ys)
-leaves_append [] ys a b = b
-leaves_append (x ∷ xs) ys a b = (a.0, leaves_append xs ys a.1 b)
-
-leaves_extended : (n : ℕ) → open_by n Extended ≡ n
-leaves_extended zero = refl
-leaves_extended (suc n) = refl
-
-leaves_size : (n : ℕ) → open_by n Size ≡ n
-leaves_size zero = refl
-leaves_size (suc n) = refl
-
-leaves_box : (n : ℕ) → open_by n Box ≡ n
-leaves_box zero = refl
-leaves_box (suc n) = refl
-
-leaves_asked : (meta : ℕ) → Leaves (asked meta)
-leaves_asked meta =
-    leaves_append (where_set (bit meta 3) (Extended ∷ []))
-    (where_set (bit meta 1) (Size ∷ []) ++ where_set (bit meta 0) (Box ∷ Box ∷ Box ∷ Box ∷ []))
-    (leaves_where (bit meta 3) (Extended ∷ []) (leaves_extended, tt))
-    (leaves_append (where_set (bit meta 1) (Size ∷ [])) (where_set (bit meta 0) (Box ∷ Box ∷ Box ∷ Box ∷ []))
-    (leaves_where (bit meta 1) (Size ∷ []) (leaves_size, tt))
-    (leaves_where (bit meta 0) (Box ∷ Box ∷ Box ∷ Box ∷ []) (leaves_box, (leaves_box, (leaves_box, (leaves_box, tt))))))
-
--- the stack has n frames, and the optional parts begin and end nothing
-abbrev Has : ℕ → Stack → Type 0
-Has n (fs, AtHeader) = length fs ≡ n
-Has n (fs, Finished g) = length fs ≡ n
-Has n (fs, AtOption k h r rs) = (suc (length fs) ≡ n) × Leaves (r ∷ rs)
-Has n (fs, ph) = suc (length fs) ≡ n
-
-has_settled : (fs : List Frame) (h : Head) (f : BodyForm) (ids : Ids) (b : Body (depth_of f))
-    → Has (suc (length fs)) (fs, settled h f ids b)
-has_settled fs h f ids (Want d a) = refl
-has_settled fs h f ids _ = refl
-
-has_begun : (fs : List Frame) (k : Kind) (h : Head) → Has (suc (length fs)) (fs, begun k h)
-has_begun fs (SimpleKind PointForm) h = refl
-has_begun fs _ h = refl
-
-has_wanting : (fs : List Frame) (k : Kind) (h : Head) (rs : List Role) → Leaves rs
-    → Has (suc (length fs)) (fs, wanting k h rs)
-has_wanting fs k h (r ∷ rs) l = (refl, l)
-has_wanting fs k h [] l = go (bit h.meta 4) refl
+load-wanting : (fs : List Frame) (k : Kind) (h : Head) (rs : List Role)
+    → load (fs, wanting k h rs) ≡ (suc (length fs), rs)
+load-wanting fs k h (r ∷ rs) = refl
+load-wanting fs k h [] = go (bit h.meta 4) refl
   where
-    go : (b : Bool) → bit h.meta 4 ≡ b → Has (suc (length fs)) (fs, wanting k h [])
+    begins : (k : Kind) → load (fs, begun k h) ≡ (suc (length fs), [])
+    begins (SimpleKind PointForm) = refl
+    begins _ = refl
+
+    go : (b : Bool) → bit h.meta 4 ≡ b → load (fs, wanting k h []) ≡ (suc (length fs), [])
     go true e = rw e refl
-    go false e = rw e (has_begun fs k h)
+    go false e = rw e (begins k)
 
-has_members : (fs : List Frame) (m : Many) (h : Head) (ids : Ids) (n : ℕ)
-    → Has (suc (length fs)) (members_begin m h fs ids n)
-has_members fs ManyPoints h ids n = has_settled fs h MultiPointForm ids (opened 0 n top)
-has_members fs ManyLines h ids n = has_settled fs h MultiLineForm ids (opened 1 n top)
-has_members fs ManyPolygons h ids n = has_settled fs h MultiPolygonForm ids (opened 2 n top)
-has_members fs ManyGeometries h ids zero = refl
-has_members fs ManyGeometries h ids (suc n) = refl
+load-members_begin : (fs : List Frame) (m : Many) (h : Head) (ids : Ids) (n : ℕ)
+    → load (members_begin m h fs ids n) ≡ (suc (length fs), [])
+load-members_begin fs ManyPoints h ids n = load-settled fs h MultiPointForm ids (opened 0 n top)
+load-members_begin fs ManyLines h ids n = load-settled fs h MultiLineForm ids (opened 1 n top)
+load-members_begin fs ManyPolygons h ids n = load-settled fs h MultiPolygonForm ids (opened 2 n top)
+load-members_begin fs ManyGeometries h ids zero = refl
+load-members_begin fs ManyGeometries h ids (suc n) = refl
 
-has_counted : (fs : List Frame) (m : Many) (h : Head) (n : ℕ) → Has (suc (length fs)) (counted m h fs n)
-has_counted fs m h zero = has_members fs m h None 0
-has_counted fs m h (suc n) = go (bit h.meta 2) refl
+load-counted : (fs : List Frame) (m : Many) (h : Head) (n : ℕ) → load (counted m h fs n) ≡ (suc (length fs), [])
+load-counted fs m h zero = load-members_begin fs m h None 0
+load-counted fs m h (suc n) = go (bit h.meta 2) refl
   where
-    go : (b : Bool) → bit h.meta 2 ≡ b → Has (suc (length fs)) (counted m h fs (suc n))
+    go : (b : Bool) → bit h.meta 2 ≡ b → load (counted m h fs (suc n)) ≡ (suc (length fs), [])
     go true e = rw e refl
-    go false e = rw e (has_members fs m h None (suc n))
+    go false e = rw e (load-members_begin fs m h None (suc n))
 
-has_ended : (fs : List Frame) (g : Tree) → Has (length fs) (ended fs g)
-has_ended [] g = refl
-has_ended (f ∷ fs) g = go f.left
+load-ended : (fs : List Frame) (g : Tree) → load (ended fs g) ≡ (length fs, [])
+load-ended [] g = refl
+load-ended (f ∷ fs) g = go f.left
   where
-    go : (n : ℕ) → Has (suc (length fs)) (ended (frame f.head f.ids f.done n ∷ fs) g)
+    go : (n : ℕ) → load (ended (frame f.head f.ids f.done n ∷ fs) g) ≡ (suc (length fs), [])
     go zero = refl
     go (suc n) = refl
 
--- the next role leaves the number of frames unchanged
-same_frames : (n m : ℕ) (r s : Role) (st : Stack) → Some s ≡ Some r → suc m ≡ n
-    → open_by (suc m) s ≡ suc m → Has (suc m) st → Has (open_by n r) st
-same_frames n m r s st says e leaves h =
-    subst (λ k. Has k st) (sym leaves ∙ (ap (open_by (suc m)) (sym (some_role s r says)) ∙ ap (λ k. open_by k r) e)) h
+-- the number of frames and the optional parts after an item with this number
+abbrev load_after : ℕ → Stack → ℕ × List Role
+load_after n (fs, AtMetadata k p) = (suc (length fs), asked n)
+load_after n (fs, AtOption k h r rs) = (suc (length fs), rs)
+load_after n (fs, AtEnd h g) = (length fs, [])
+load_after n (fs, Finished g) = (length fs, [])
+load_after n (fs, _) = (suc (length fs), [])
 
-body_leaves : {whole : ℕ} (m : ℕ) (r : Role) (b : Body whole) → body_role b ≡ Some r → open_by (suc m) r ≡ suc m
-body_leaves m r (Want zero a) e = ap (open_by (suc m)) (some_role X r e)
-body_leaves m r (Want (suc d) a) e = ap (open_by (suc m)) (some_role (Count (listed d)) r e)
-body_leaves m r (WantY a) e = ap (open_by (suc m)) (some_role Y r e)
-body_leaves m r (Done v) e = absurd cc
+load-advanced : (p : Point) (total n : ℕ) (fs : List Frame) (ph : Phase)
+    → load (advanced p total n fs ph) ≡ load_after n (fs, ph)
+load-advanced p total n fs AtHeader = refl
+load-advanced p total n fs (AtMetadata k q) = load-wanting fs k (head q n None total) (asked n)
+load-advanced p total n fs (AtOption k h r rs) = load-wanting fs k (with_option h r n total) rs
+load-advanced p total n fs (AtCount m h) = load-counted fs m h n
+load-advanced p total n fs (AtId m h members ids zero) = load-members_begin fs m h (Some (ids ++ unzigzag_of n ∷ [])) members
+load-advanced p total n fs (AtId m h members ids (suc left)) = refl
+load-advanced p total n fs (AtBody h f ids b) = load-settled fs h f ids (body_after p n b)
+load-advanced p total n fs (AtEnd h g) = load-ended fs g
+load-advanced p total n fs (Finished g) = refl
 
-has_after : (n : ℕ) (e : Sums) (i : Item) (fs : List Frame) (ph : Phase)
-    → role_at e (fs, ph) ≡ Some i.role → Has n (fs, ph)
-    → Has (open_by n i.role) (stack_after e i (fs, ph))
-has_after n e i fs AtHeader r h = ap suc h ∙ ap (open_by n) (sym (some_role Header i.role r))
-has_after n e i fs (AtMetadata k p) r h =
-    same_frames n (length fs) i.role (Metadata (kind_number k))
-    (fs, wanting k (head p i.number None (e.bytes + length i.bytes)) (asked i.number)) r h refl
-    (has_wanting fs k (head p i.number None (e.bytes + length i.bytes)) (asked i.number) (leaves_asked i.number))
-has_after n e i fs (AtOption k o s rs) r h =
-    same_frames n (length fs) i.role s
-    (fs, wanting k (with_option o s i.number (e.bytes + length i.bytes)) rs) r h.0
-    (h.1.0 (suc (length fs)))
-    (has_wanting fs k (with_option o s i.number (e.bytes + length i.bytes)) rs h.1.1)
-has_after n e i fs (AtCount m o) r h = same_frames n (length fs) i.role
-    (Count (first_count m (length fs))) (counted m o fs i.number) r h refl
-    (has_counted fs m o i.number)
-has_after n e i fs (AtId m o members ids zero) r h =
-    same_frames n (length fs) i.role Id (members_begin m o fs
-    (Some (ids ++ unzigzag_of i.number ∷ [])) members) r h refl
-    (has_members fs m o (Some (ids ++ unzigzag_of i.number ∷ [])) members)
-has_after n e i fs (AtId m o members ids (suc left)) r h = same_frames n (length fs) i.role Id
-    (fs, AtId m o members (ids ++ unzigzag_of i.number ∷ []) left) r h refl refl
-has_after n e i fs (AtBody o f ids b) r h =
-    let next : Body (depth_of f) = body_after (moved e.position i.role i.number) i.number b in
-    same_frames n (length fs) i.role i.role (fs, settled o f ids next) refl h
-    (body_leaves (length fs) i.role b r) (has_settled fs o f ids next)
-has_after n e i fs (AtEnd o g) r h =
-    let a : length fs ≡ open_by n i.role = ap (open_by (suc (length fs)))
-    (sym (some_role (End o.size (e.bytes - o.from)) i.role r)) ∙ ap (λ k. open_by k i.role) h in
-    subst (λ k. Has k (ended fs g)) a (has_ended fs g)
-has_after n e i fs (Finished g) r h = absurd cc
+-- what holds of the roles of a body's items holds of the next one's
+pub body_each : (P : Role → Type 0) → P X → P Y → ((d : ℕ) → P (Count (listed d))) → {whole : ℕ} (b : Body whole)
+    (r : Role) → body_role b ≡ Some r → P r
+body_each P x y counts (Want zero a) r e = subst P (sym (some_role X r e)) x
+body_each P x y counts (Want (suc d) a) r e = subst P (sym (some_role (Count (listed d)) r e)) (counts d)
+body_each P x y counts (WantY a) r e = subst P (sym (some_role Y r e)) y
+body_each P x y counts (Done v) r e = absurd cc
 
-has_run : (n : ℕ) (is : List Item) (e : Sums) (st last : Stack) → Has n st → Runs e st is last
-    → Has (open_after n is) last
-has_run n [] e st last h r = subst (λ s. Has n s) r h
-has_run n (i ∷ is) e st last h r = has_run (open_by n i.role) is (added e i) (stack_after e i st)
-    last (has_after n e i st.0 st.1 r.0 h) r.2
+-- ==== The frames of a stack are its open geometries.
 
-has_frames : (n : ℕ) (fs : List Frame) (ph : Phase) → Has n (fs, ph) → frame_count (fs, ph) ≡ n
-has_frames n fs (AtOption k o r rs) h = h.0
-has_frames n fs _ h = h
+-- an optional part
+abbrev IsOption : Role → Type 0
+IsOption Extended = ⊤
+IsOption Size = ⊤
+IsOption Box = ⊤
+IsOption _ = ⊥
+
+asked_options : (meta : ℕ) → AllByRecursion IsOption (asked meta)
+asked_options meta = all_joined IsOption (where_set (bit meta 3) (Extended ∷ [])) _ (go (bit meta 3) (Extended ∷ []) (tt, tt))
+    (all_joined IsOption (where_set (bit meta 1) (Size ∷ [])) _ (go (bit meta 1) (Size ∷ []) (tt, tt))
+    (go (bit meta 0) (Box ∷ Box ∷ Box ∷ Box ∷ []) (tt, (tt, (tt, (tt, tt))))))
+  where
+    go : (b : Bool) (rs : List Role) → AllByRecursion IsOption rs → AllByRecursion IsOption (where_set b rs)
+    go true rs all = all
+    go false rs all = tt
+
+option_opens : (n : ℕ) (r : Role) → IsOption r → open_by (suc n) r ≡ suc n
+option_opens n Extended o = refl
+option_opens n Size o = refl
+option_opens n Box o = refl
+option_opens n _ o = absurd o
+
+-- the number of frames changes with an item as that of open geometries, if the optional parts are such
+frames_after : (n total : ℕ) (p : Point) (level at : ℕ) (fs : List Frame) (ph : Phase) (r : Role)
+    → phase_role level at ph ≡ Some r → AllByRecursion IsOption (load (fs, ph)).1
+    → ((load (advanced p total n fs ph)).0 ≡ open_by (load (fs, ph)).0 r)
+    × AllByRecursion IsOption (load (advanced p total n fs ph)).1
+frames_after n total p level at fs ph r says options =
+    let same = load-advanced p total n fs ph in (
+      ap (λ (x : ℕ × List Role). x.0) same ∙ opens ph says options,
+      subst (λ (x : ℕ × List Role). AllByRecursion IsOption x.1) (sym same) (left ph options),
+    )
+  where
+    left : (ph : Phase) → AllByRecursion IsOption (load (fs, ph)).1 → AllByRecursion IsOption (load_after n (fs, ph)).1
+    left (AtMetadata k q) o = asked_options n
+    left (AtOption k h r rs) o = o.1
+    left _ o = tt
+
+    at_role : (m : ℕ) (s : Role) → Some s ≡ Some r → m ≡ open_by (suc (length fs)) s → m ≡ open_by (suc (length fs)) r
+    at_role m s e same = same ∙ ap (open_by (suc (length fs))) (sym (some_role s r e))
+
+    opens : (ph : Phase) → phase_role level at ph ≡ Some r → AllByRecursion IsOption (load (fs, ph)).1
+        → (load_after n (fs, ph)).0 ≡ open_by (load (fs, ph)).0 r
+    opens AtHeader e o = ap (open_by (length fs)) (sym (some_role Header r e))
+    opens (AtMetadata k q) e o = at_role _ (Metadata (kind_number k)) e refl
+    opens (AtOption k h s rs) e o = at_role _ s e (sym (option_opens (length fs) s o.0))
+    opens (AtCount m h) e o = at_role _ (Count (first_count m level)) e refl
+    opens (AtId m h members ids left) e o = at_role _ Id e refl
+    opens (AtBody h f ids b) e o = body_each (λ r. suc (length fs) ≡ open_by (suc (length fs)) r) refl refl (λ d. refl)
+        b r e
+    opens (AtEnd h g) e o = at_role _ (End h.size (at - h.from)) e refl
+    opens (Finished g) e o = absurd cc
+
+frames_run : (is : List Item) (e : Sums) (st last : Stack) → Runs e st is last → AllByRecursion IsOption (load st).1
+    → (load last).0 ≡ open_after (load st).0 is
+frames_run [] e st last r o = ap (λ s. (load s).0) (sym r)
+frames_run (i ∷ is) e st last r o =
+    let next = frames_after i.number (e.bytes + length i.bytes) (moved e.position i.role i.number) (length st.0) e.bytes
+    st.0 st.1 i.role r.0 o in
+    frames_run is (added e i) (stack_after e i st) last r.2 next.1 ∙ ap (λ n. open_after n is) next.0
+
+frame_count-load : (fs : List Frame) (ph : Phase) → frame_count (fs, ph) ≡ (load (fs, ph)).0
+frame_count-load fs AtHeader = refl
+frame_count-load fs _ = refl
 
 -- the number of frames is the number of open geometries
 pub reached_frames : (limits : Allowance) (bytes : List ℕ) (e : Sums) (st : Stack)
     (r : Reached limits bytes e st) → frame_count st ≡ open_after 0 r.items
-reached_frames limits bytes e st r = has_frames (open_after 0 r.items) st.0 st.1
-    (has_run 0 r.items nothing started st refl r.ran.runs)
+reached_frames limits bytes e st r = frame_count-load st.0 st.1 ∙ frames_run r.items nothing started st r.ran.runs tt
 
 most_frames : (nest : ℕ) (fs : List Frame) (ph : Phase) → length fs ≤ nest → frame_count (fs, ph) ≤ nest + 1
 most_frames nest fs AtHeader few = omega (arith, few)
@@ -189,147 +198,59 @@ reached_few limits bytes e st r = most_frames limits.nest st.0 st.1 (reached_dep
 
 -- the number of open geometries, and of optional parts that are expected
 abbrev pub pending : Stack → ℕ
-pending (fs, AtHeader) = length fs
-pending (fs, Finished g) = length fs
-pending (fs, AtOption k h r rs) = length fs + (2 + length rs)
-pending (fs, _) = length fs + 1
+pending st = (load st).0 + length (load st).1
 
-some_marks : (bytes : List ℕ) → HasMarks bytes → 1 ≤ length bytes
-some_marks [] m = absurd m
-some_marks (b ∷ bytes) m = omega arith
-
-one_byte : (n : ℕ) (bytes : List ℕ) → bytes ≡ n ∷ [] → 1 ≤ length bytes
-one_byte n bytes e = omega (arith, ap length e)
-
-pending-settled : (fs : List Frame) (h : Head) (f : BodyForm) (ids : Ids) (b : Body (depth_of f))
-    → pending (fs, settled h f ids b) ≡ length fs + 1
-pending-settled fs h f ids (Want d a) = refl
-pending-settled fs h f ids _ = refl
-
-pending-members_begin : (m : Many) (h : Head) (fs : List Frame) (ids : Ids) (n : ℕ)
-    → pending (members_begin m h fs ids n) ≤ length fs + 1
-pending-members_begin ManyPoints h fs ids n = omega (arith, pending-settled fs h MultiPointForm ids (opened 0 n top))
-pending-members_begin ManyLines h fs ids n = omega (arith, pending-settled fs h MultiLineForm ids (opened 1 n top))
-pending-members_begin ManyPolygons h fs ids n = omega
-    (arith, pending-settled fs h MultiPolygonForm ids (opened 2 n top))
-pending-members_begin ManyGeometries h fs ids zero = omega arith
-pending-members_begin ManyGeometries h fs ids (suc n) = omega arith
-
-pending-counted : (m : Many) (h : Head) (fs : List Frame) (n : ℕ) → pending (counted m h fs n) ≤ length fs + 1
-pending-counted m h fs zero = pending-members_begin m h fs Rattle.std.proofs.Common.None 0
-pending-counted m h fs (suc n) = go (bit h.meta 2)
+-- an item that is not an end has bytes
+pub item_some : (role : Role) (n : ℕ) (bytes : List ℕ) → HasBytes role → Spells role n bytes → 0 < length bytes
+item_some Header n bytes apart s = omega (arith, ap length s.3)
+item_some (Metadata k) n bytes apart s = omega (arith, ap length s.1)
+item_some Extended n bytes apart s = omega (arith, ap length s.2)
+item_some (End d c) n bytes apart s = absurd (apart d c refl)
+item_some _ n bytes apart s = go bytes s.marked
   where
-    go : (b : Bool) → pending (if b then (fs, AtId m h (suc n) [] n) else members_begin m h fs
-        Rattle.std.proofs.Common.None (suc n)) ≤ length fs + 1
-    go true = omega arith
-    go false = pending-members_begin m h fs Rattle.std.proofs.Common.None (suc n)
-
-pending-begun : (k : Kind) (h : Head) (fs : List Frame) → pending (fs, begun k h) ≡ length fs + 1
-pending-begun (SimpleKind PointForm) h fs = refl
-pending-begun _ h fs = refl
-
-pending-wanting : (k : Kind) (h : Head) (rs : List Role) (fs : List Frame)
-    → pending (fs, wanting k h rs) ≤ length fs + (1 + length rs)
-pending-wanting k h (r ∷ rs) fs = omega arith
-pending-wanting k h [] fs = go (bit h.meta 4)
-  where
-    go : (b : Bool) → pending (
-      fs,
-      (if b then AtEnd h (Rattle.twkb_grammar.specs.Machine.empty_of k h.precision) else
-          begun k h),
-    ) ≤ length fs + 1
-    go true = omega arith
-    go false = omega (arith, pending-begun k h fs)
+    go : (bytes : List ℕ) → HasMarks bytes → 0 < length bytes
+    go [] h = absurd h
+    go (b ∷ bs) h = omega arith
 
 length-asked : (meta : ℕ) → length (asked meta) ≤ 6
-length-asked meta = go (bit meta 3) (bit meta 1) (bit meta 0)
+length-asked meta = omega (
+  arith,
+  length-append (where_set (bit meta 3) (Extended ∷ [])) (sizes ++ boxes),
+  length-append sizes boxes,
+  go (bit meta 3) (Extended ∷ []),
+  go (bit meta 1) (Size ∷ []),
+  go (bit meta 0) (Box ∷ Box ∷ Box ∷ Box ∷ []),
+)
   where
-    go : (a b c : Bool) → length (where_set a (Extended ∷ [])
-        ++ (where_set b (Size ∷ []) ++ where_set c (Box ∷ Box ∷ Box ∷ Box ∷ []))) ≤ 6
-    go true true true = omega arith
-    go true true false = omega arith
-    go true false true = omega arith
-    go true false false = omega arith
-    go false true true = omega arith
-    go false true false = omega arith
-    go false false true = omega arith
-    go false false false = omega arith
+    sizes : List Role
+    sizes = where_set (bit meta 1) (Size ∷ [])
 
-pending-ended : (fs : List Frame) (g : Tree) → pending (ended fs g) ≤ length fs
-pending-ended [] g = omega arith
-pending-ended (f ∷ fs) g = go f.left
-  where
-    go : (left : ℕ) → pending (elim left [
-      | zero ↦ (
-        fs,
-        AtEnd f.head (Rattle.twkb_tree.specs.Tree.collection f.head.precision f.ids
-            (Rattle.twkb_grammar.specs.Machine.snoc f.done g)),
-      )
-      | suc n ↦ (
-        record {
-          head = f.head;
-          ids = f.ids;
-          done = Rattle.twkb_grammar.specs.Machine.snoc f.done g;
-          left = n;
-        } ∷ fs,
-        AtHeader,
-      )
-    ]) ≤ suc (length fs)
-    go zero = omega arith
-    go (suc n) = omega arith
+    boxes : List Role
+    boxes = where_set (bit meta 0) (Box ∷ Box ∷ Box ∷ Box ∷ [])
 
--- an item in a body has bytes
-body_bytes : {whole : ℕ} (b : Body whole) (r : Role) (n : ℕ) (bytes : List ℕ)
-    → Rattle.twkb_grammar.specs.Machine.body_role b ≡ Some r → Spells r n bytes → 1 ≤ length bytes
-body_bytes (Want zero a) r n bytes says s = let v : IsVarint bytes n = subst (λ r. Spells r n bytes)
-    (some_role X r says) s in some_marks bytes v.marked
-body_bytes (Want (suc d) a) r n bytes says s = let v : IsVarint bytes n =
-    subst (λ r. Spells r n bytes) (some_role (Count (listed d)) r says) s in
-    some_marks bytes v.marked
-body_bytes (WantY a) r n bytes says s = let v : IsVarint bytes n = subst (λ r. Spells r n bytes)
-    (some_role Y r says) s in some_marks bytes v.marked
-body_bytes (Done v) r n bytes says s = absurd cc
+    go : (b : Bool) (rs : List Role) → length (where_set b rs) ≤ length rs
+    go true rs = omega arith
+    go false rs = omega arith
 
 -- each item lowers eight times the bytes left plus what is pending
 pub lowers : (p : Point) (level at total n : ℕ) (bytes : List ℕ) (fs : List Frame) (ph : Phase)
     (r : Role) → phase_role level at ph ≡ Some r → Spells r n bytes
     → pending (advanced p total n fs ph) + 1 ≤ 8 * length bytes + pending (fs, ph)
-lowers p level at total n bytes fs AtHeader r says s =
-    let v : (n < 256) × (0 < Rattle.std.proofs.Common.◌%◌ n 16)
-    × (Rattle.std.proofs.Common.◌%◌ n 16 < 8) × (bytes ≡ n ∷ []) = subst (λ r. Spells r n bytes)
-    (some_role Header r says) s in
-    omega (arith, one_byte n bytes v.3)
-lowers p level at total n bytes fs (AtMetadata k q) r says s =
-    let v : (n < 256) × (bytes ≡ n ∷ []) = subst (λ r. Spells r n bytes)
-    (some_role (Metadata (kind_number k)) r says) s in
-    omega (
+lowers p level at total n bytes fs ph r says s =
+    subst (λ (x : ℕ × List Role). x.0 + length x.1 + 1 ≤ 8 * length bytes + pending (fs, ph))
+    (sym (load-advanced p total n fs ph)) (go ph says)
+  where
+    go : (ph : Phase) → phase_role level at ph ≡ Some r
+        → (load_after n (fs, ph)).0 + length (load_after n (fs, ph)).1 + 1 ≤ 8 * length bytes + pending (fs, ph)
+    go AtHeader e = omega (arith, item_some r n bytes (λ d c f. cc) s)
+    go (AtMetadata k q) e = omega (arith, item_some r n bytes (λ d c f. cc) s, length-asked n)
+    go (AtOption k h o rs) e = omega arith
+    go (AtCount m h) e = omega (arith, item_some r n bytes (λ d c f. cc) s)
+    go (AtId m h members ids left) e = omega (arith, item_some r n bytes (λ d c f. cc) s)
+    go (AtBody h f ids b) e = omega (
       arith,
-      one_byte n bytes v.1,
-      length-asked n,
-      pending-wanting k (record {
-        precision = q;
-        meta = n;
-        size = Rattle.std.proofs.Common.None;
-        from = total;
-      }) (asked n) fs,
+      item_some r n bytes
+          (body_each HasBytes (λ d c f. cc) (λ d c f. cc) (λ d m c f. cc) b r e) s,
     )
-lowers p level at total n bytes fs (AtOption k h o rs) r says s = omega
-    (arith, pending-wanting k (Rattle.twkb_grammar.specs.Machine.with_option h o n total) rs fs)
-lowers p level at total n bytes fs (AtCount m h) r says s =
-    let v : IsVarint bytes n = subst (λ r. Spells r n bytes) (some_role (Count (first_count m level)) r says) s in
-    omega (arith, some_marks bytes v.marked, pending-counted m h fs n)
-lowers p level at total n bytes fs (AtId m h members ids zero) r says s =
-    let v : IsVarint bytes n = subst (λ r. Spells r n bytes) (some_role Id r says) s in
-    omega (
-      arith,
-      some_marks bytes v.marked,
-      pending-members_begin m h fs
-          (Some (ids ++ Rattle.twkb_num.specs.Zigzag.unzigzag_of n ∷ [])) members,
-    )
-lowers p level at total n bytes fs (AtId m h members ids (suc left)) r says s =
-    let v : IsVarint bytes n = subst (λ r. Spells r n bytes) (some_role Id r says) s in
-    omega (arith, some_marks bytes v.marked)
-lowers p level at total n bytes fs (AtBody h f ids b) r says s = omega
-    (arith, body_bytes b r n bytes says s, pending-settled fs h f ids (body_after p n b))
-lowers p level at total n bytes fs (AtEnd h g) r says s = omega (arith, pending-ended fs g)
-lowers p level at total n bytes fs (Finished g) r says s = absurd cc
+    go (AtEnd h g) e = omega arith
+    go (Finished g) e = absurd cc

@@ -2,7 +2,7 @@
 use Rattle.std.proofs.Common.{◌≡◌, ℕ, List, [], ◌∷◌, ◌++◌, refl, sym, ap, ◌∙◌, subst, append_assoc, append-nil, Some}
 use Rattle.std.proofs.Common.{None, length, inl, inr, ◌<◌, length-append, arith, ◌≤◌}
 use Rattle.std.specs.Prelude.{Option}
-use Rattle.twkb_num.specs.Varint.{HasMarks, IsVarint}
+use Rattle.twkb_num.specs.Varint.{IsVarint}
 use Rattle.twkb_tree.specs.Tree.{Tree}
 use Rattle.twkb_tree.specs.Limits.{Allowance}
 use Rattle.twkb_grammar.specs.Roles.{Item, join, Role, Header, Metadata, Extended, Size, Box, Count, Id, X, Y, End}
@@ -17,6 +17,7 @@ use Rattle.twkb_grammar.specs.Reading.{Reached, Gives}
 use Rattle.twkb_grammar.proofs.Parts.{one_item, peel, runs_split, runs_same, front_runs}
 use Rattle.twkb_grammar.proofs.Trees.{tree_runs}
 use Rattle.twkb_grammar.proofs.Running.{ran_part, part_ran}
+use Rattle.twkb_grammar.proofs.Frames.{item_some}
 
 -- ==== Of two lists of items that the machine runs through at the start of the same bytes, one begins with the other.
 
@@ -259,21 +260,6 @@ size_at_end limits before rest X n h = no_number rest (not_this _ (λ e. cc) nev
 size_at_end limits before rest Y n h = no_number rest (not_this _ (λ e. cc) never) h
 size_at_end limits before rest (End d c) n h = n d c refl
 size_at_end limits before rest _ n h = not_this _ (λ e. cc) (not_this _ (λ e. cc) never) h
-
--- an item that is not an end has bytes
-marked_some : (bytes : List ℕ) → HasMarks bytes → 0 < length bytes
-marked_some [] h = absurd h
-marked_some (b ∷ bs) h = omega arith
-
-one_some : (n : ℕ) (bytes : List ℕ) → bytes ≡ n ∷ [] → 0 < length bytes
-one_some n bytes e = subst (λ l. 0 < length l) (sym e) (omega arith)
-
-item_some : (role : Role) (n : ℕ) (bytes : List ℕ) → NoEnd role → Spells role n bytes → 0 < length bytes
-item_some Header n bytes apart s = one_some n bytes s.3
-item_some (Metadata k) n bytes apart s = one_some n bytes s.1
-item_some Extended n bytes apart s = one_some n bytes s.2
-item_some (End d c) n bytes apart s = absurd (apart d c refl)
-item_some _ n bytes apart s = marked_some bytes s.marked
 
 -- if no end comes next, no size is found to be wrong after the bytes, whatever follows
 pub no_size_wrong : (limits : Allowance) (bytes more : List ℕ) (e : Sums) (st : Stack)

@@ -1,16 +1,16 @@
 -- The state of a reader of a stream by the bytes alone, and what one more byte adds to it.
 use Rattle.std.proofs.Common.{◌≡◌, ℕ, ◌+◌, ◌<◌, List, [], ◌∷◌, ◌++◌, length, refl, sym, ap, ◌∙◌, subst, append_assoc}
-use Rattle.std.proofs.Common.{append-nil, arith, Option, Some, None, inl, inr, length-append, zero, suc, ◌-◌}
+use Rattle.std.proofs.Common.{append-nil, arith, Option, Some, None, inl, inr, length-append, ◌-◌}
 use Rattle.std.specs.Prelude.{◌≢◌, ◌⊎◌}
 use Rattle.twkb_num.specs.Varint.{IsVarint}
 use Rattle.twkb_tree.specs.Tree.{Tree, flat}
 use Rattle.twkb_tree.specs.Limits.{Allowance, IsAllowance}
-use Rattle.twkb_grammar.specs.Roles.{Role, Header, Metadata, Extended, Size, Box, Count, Id, X, Y, End, IsNumber, Item}
+use Rattle.twkb_grammar.specs.Roles.{Role, Header, Metadata, Extended, Count, Id, End, IsNumber, Item}
 use Rattle.twkb_grammar.specs.Roles.{Spells, join, IsItem}
 use Rattle.twkb_grammar.specs.Blob.{Blob, Stream}
 use Rattle.twkb_grammar.specs.Fault.{Truncated, GoOn, FirstFault, StreamFault, points_by}
 use Rattle.twkb_grammar.specs.Machine.{Finished, Sums, nothing, sums_after, Stack, started, role_at, Runs, stack_after}
-use Rattle.twkb_grammar.specs.Machine.{body_role, listed, first_count, phase_role, Body, Want, WantY, Done, Phase}
+use Rattle.twkb_grammar.specs.Machine.{first_count, phase_role, Phase}
 use Rattle.twkb_grammar.specs.Machine.{AtHeader, AtMetadata, AtOption, AtCount, AtId, AtBody, AtEnd, kind_number, Frame}
 use Rattle.twkb_grammar.specs.Machine.{added}
 use Rattle.twkb_grammar.specs.Reading.{Stands, frame_count}
@@ -27,7 +27,7 @@ use Rattle.twkb_grammar.proofs.Running.{reached_nothing, role_behind, reached_by
 use Rattle.twkb_grammar.proofs.Bodies.{Runs-append, bytes_after}
 use Rattle.twkb_grammar.proofs.NotedSpans.{AreEnds, ends_only, none_front, ends_noted, ends_add, all_open, ends_to}
 use Rattle.twkb_grammar.proofs.NotedSpans.{Same, blob_noted, noted-append, points_total, quiet}
-use Rattle.twkb_grammar.proofs.Frames.{reached_frames}
+use Rattle.twkb_grammar.proofs.Frames.{reached_frames, body_each}
 
 -- ==== The state of a reader of a stream is determined by the bytes alone, and so is its answer at their end.
 
@@ -45,13 +45,8 @@ no_item : (r : Role) (n : ℕ) (bytes more : List ℕ) → Spells r n bytes
 no_item Header n bytes more s some go_on h = no_byte n bytes more s.3 h
 no_item (Metadata k) n bytes more s some go_on h = no_byte n bytes more s.1 h
 no_item Extended n bytes more s some go_on h = no_byte n bytes more s.2 h
-no_item Size n bytes more s some go_on h = no_number n bytes more s go_on
-no_item Box n bytes more s some go_on h = no_number n bytes more s go_on
-no_item (Count c) n bytes more s some go_on h = no_number n bytes more s go_on
-no_item Id n bytes more s some go_on h = no_number n bytes more s go_on
-no_item X n bytes more s some go_on h = no_number n bytes more s go_on
-no_item Y n bytes more s some go_on h = no_number n bytes more s go_on
 no_item (End d came) n bytes more s some go_on h = some d came refl
+no_item _ n bytes more s some go_on h = no_number n bytes more s go_on
 
 module _ (limits : Allowance) (bytes : List ℕ) (gs : List Tree) (e : Sums) (st : Stack)
     (held : List ℕ) (s : Stands limits bytes gs e st held) where
@@ -350,12 +345,6 @@ module _ (limits : Allowance) (bytes : List ℕ) (gs : List Tree) (e : Sums) (st
 
 -- ==== What one more byte adds to the notes of a reader.
 
-body_quiet : {whole : ℕ} (r : Role) (b : Body whole) → body_role b ≡ Some r → IsQuiet r
-body_quiet r (Want zero a) e = subst IsQuiet (sym (some_role X r e)) tt
-body_quiet r (Want (suc d) a) e = subst IsQuiet (sym (some_role (Count (listed d)) r e)) tt
-body_quiet r (WantY a) e = subst IsQuiet (sym (some_role Y r e)) tt
-body_quiet r (Done v) e = absurd cc
-
 no_held : (held : List ℕ) (r : Role) → (IsNumber r → ⊥) → (held ≡ []) ⊎ IsNumber r → held ≡ []
 no_held held r n (inl e) = e
 no_held held r n (inr h) = absurd (n h)
@@ -391,7 +380,7 @@ item_noted start e fs (AtCount m h) i byte held w calm r item says number some =
 item_noted start e fs (AtId m h members ids left) i byte held w calm r item says number some =
     quiet start e i.role i.number w (subst IsQuiet (sym (some_role Id i.role r)) tt)
 item_noted start e fs (AtBody h f ids b) i byte held w calm r item says number some = quiet start e
-    i.role i.number w (body_quiet i.role b r)
+    i.role i.number w (body_each IsQuiet tt tt (λ d. tt) b i.role r)
 item_noted start e fs (AtEnd h g) i byte held w calm r item says number some = absurd
     (some h.size (e.bytes - h.from) (some_role (End h.size (e.bytes - h.from)) i.role r))
 item_noted start e fs (Finished g) i byte held w calm r item says number some = absurd cc
@@ -401,12 +390,7 @@ byte_quiet : (level bytes : ℕ) (p : Phase) (r : Role) (offset points byte : �
 byte_quiet level bytes AtHeader r offset points byte w e h = absurd (subst IsNumber (some_role Header r e) h)
 byte_quiet level bytes (AtMetadata k q) r offset points byte w e h = absurd
     (subst IsNumber (some_role (Metadata (kind_number k)) r e) h)
-byte_quiet level bytes (AtOption k h o rs) r offset points byte w e n = refl
-byte_quiet level bytes (AtCount m h) r offset points byte w e n = refl
-byte_quiet level bytes (AtId m h members ids left) r offset points byte w e n = refl
-byte_quiet level bytes (AtBody h f ids b) r offset points byte w e n = refl
-byte_quiet level bytes (AtEnd h g) r offset points byte w e n = refl
-byte_quiet level bytes (Finished g) r offset points byte w e n = refl
+byte_quiet level bytes _ r offset points byte w e n = refl
 
 module _ (limits : Allowance) (bytes : List ℕ) (e : Sums) (st : Stack) (held : List ℕ)
     (s : Stands limits bytes [] e st held) where
