@@ -99,7 +99,8 @@ load-advanced p total n fs AtHeader = refl
 load-advanced p total n fs (AtMetadata k q) = load-wanting fs k (head q n None total) (asked n)
 load-advanced p total n fs (AtOption k h r rs) = load-wanting fs k (with_option h r n total) rs
 load-advanced p total n fs (AtCount m h) = load-counted fs m h n
-load-advanced p total n fs (AtId m h members ids zero) = load-members_begin fs m h (Some (ids ++ unzigzag_of n ∷ [])) members
+load-advanced p total n fs (AtId m h members ids zero) =
+    load-members_begin fs m h (Some (ids ++ unzigzag_of n ∷ [])) members
 load-advanced p total n fs (AtId m h members ids (suc left)) = refl
 load-advanced p total n fs (AtBody h f ids b) = load-settled fs h f ids (body_after p n b)
 load-advanced p total n fs (AtEnd h g) = load-ended fs g
@@ -123,7 +124,8 @@ IsOption Box = ⊤
 IsOption _ = ⊥
 
 asked_options : (meta : ℕ) → AllByRecursion IsOption (asked meta)
-asked_options meta = all_joined IsOption (where_set (bit meta 3) (Extended ∷ [])) _ (go (bit meta 3) (Extended ∷ []) (tt, tt))
+asked_options meta = all_joined IsOption (where_set (bit meta 3) (Extended ∷ [])) _
+    (go (bit meta 3) (Extended ∷ []) (tt, tt))
     (all_joined IsOption (where_set (bit meta 1) (Size ∷ [])) _ (go (bit meta 1) (Size ∷ []) (tt, tt))
     (go (bit meta 0) (Box ∷ Box ∷ Box ∷ Box ∷ []) (tt, (tt, (tt, (tt, tt))))))
   where

@@ -13,7 +13,7 @@ use Rattle.twkb_grammar.specs.Machine.{Finished, Sums, nothing, sums_after, Stac
 use Rattle.twkb_grammar.specs.Machine.{first_count, phase_role, Phase}
 use Rattle.twkb_grammar.specs.Machine.{AtHeader, AtMetadata, AtOption, AtCount, AtId, AtBody, AtEnd, kind_number, Frame}
 use Rattle.twkb_grammar.specs.Machine.{added}
-use Rattle.twkb_grammar.specs.Reading.{Stands, frame_count}
+use Rattle.twkb_grammar.specs.Reading.{Stands, IsSamePlace, frame_count}
 use Rattle.twkb_grammar.specs.Noting.{Notes, no_notes, note_header, note_metadata, noted_by, noted, note_byte}
 use Rattle.twkb_grammar.specs.Noting.{note_ends, note_ends_to, IsQuiet, IsCalm, notes_of}
 use Rattle.twkb_grammar.specs.Spans.{spans_of_blob}
@@ -92,15 +92,10 @@ module _ (limits : Allowance) (bytes : List ℕ) (gs : List Tree) (e : Sums) (st
           let z : None ≡ Some s.role = ap (λ y. role_at e y) end ∙ s.wants in absurd cc
 
 -- two readers that have given the same geometries are in the same state
-record SamePlace (e f : Sums) (st su : Stack) (held kept : List ℕ) : Type 0 where
-  pub sums : e ≡ f
-  pub stack : st ≡ su
-  pub bytes : held ≡ kept
-
 same_place : (limits : Allowance) (bytes other : List ℕ) (gs hs : List Tree) (e f : Sums)
     (st su : Stack) (held kept : List ℕ) (s : Stands limits bytes gs e st held)
     (t : Stands limits other hs f su kept)
-    → s.middle ++ held ≡ t.middle ++ kept → SamePlace e f st su held kept
+    → s.middle ++ held ≡ t.middle ++ kept → IsSamePlace [] [] e f st su held kept
 same_place limits bytes other gs hs e f st su held kept s t at =
     go (two_fronts s.reached.items t.reached.items nothing started st su held kept
     s.reached.ran.runs t.reached.ran.runs there)
@@ -114,12 +109,13 @@ same_place limits bytes other gs hs e f st su held kept s t at =
     there : join s.reached.items ++ held ≡ join t.reached.items ++ kept
     there = left ∙ (at ∙ sym right)
 
-    go : Compared s.reached.items t.reached.items → SamePlace e f st su held kept
+    go : Compared s.reached.items t.reached.items → IsSamePlace [] [] e f st su held kept
     go (longer n) = absurd (none_longer limits other hs f su kept t s.reached.items st held
         s.reached.ran.runs (left ∙ at) n)
     go (shorter n) = absurd (none_longer limits bytes gs e st held s t.reached.items su kept
         t.reached.ran.runs (right ∙ sym at) n)
     go (same i) = record {
+      geometries = refl;
       sums = sym s.reached.sums ∙ (ap (λ l. sums_after nothing l) i ∙ t.reached.sums);
       stack = runs_same t.reached.items nothing started st su
           (subst (λ l. Runs nothing started l st) i s.reached.ran.runs) t.reached.ran.runs;
@@ -131,12 +127,10 @@ one_cut : (limits : Allowance) (a b bytes other : List ℕ) (gs hs ks ls : List 
     (st su : Stack) (held kept : List ℕ) (s : Stands limits bytes ks e st held)
     (t : Stands limits other ls f su kept)
     → Stream limits a gs → Stream limits b hs → a ++ (s.middle ++ held) ≡ b ++ (t.middle ++ kept)
-    → (gs ≡ hs) × SamePlace e f st su held kept
-one_cut limits a b bytes other [] [] ks ls e f st su held kept s t u v at = (
-  refl,
-  same_place limits bytes other ks ls e f st su held kept s t
-      (ap (λ l. l ++ (s.middle ++ held)) (sym u) ∙ (at ∙ ap (λ l. l ++ (t.middle ++ kept)) v)),
-)
+    → IsSamePlace gs hs e f st su held kept
+one_cut limits a b bytes other [] [] ks ls e f st su held kept s t u v at =
+    same_place limits bytes other ks ls e f st su held kept s t
+    (ap (λ l. l ++ (s.middle ++ held)) (sym u) ∙ (at ∙ ap (λ l. l ++ (t.middle ++ kept)) v))
 one_cut limits a b bytes other [] (h ∷ hs) ks ls e f st su held kept s t u v at =
     let whole : v.0 ++ (v.1 ++ (t.middle ++ kept)) ≡ s.middle ++ held =
     sym (append_assoc v.0 v.1 (t.middle ++ kept))
@@ -158,17 +152,19 @@ one_cut limits a b bytes other (g ∷ gs) (h ∷ hs) ks ls e f st su held kept s
     let one = one_blob_lem limits u.0 v.0 (u.1 ++ (s.middle ++ held)) (v.1 ++ (t.middle ++ kept)) g h u.3 v.3 whole in
     let tail = peel u.0 v.0 (u.1 ++ (s.middle ++ held)) (v.1 ++ (t.middle ++ kept)) one.1 whole in
     let rest = one_cut limits u.1 v.1 bytes other gs hs ks ls e f st su held kept s t u.4 v.4 tail in
-    (ap (λ c. c ∷ gs) one.0 ∙ ap (λ l. h ∷ l) rest.0, rest.1)
+    record {
+      geometries = ap (λ c. c ∷ gs) one.0 ∙ ap (λ l. h ∷ l) rest.geometries;
+      sums = rest.sums;
+      stack = rest.stack;
+      bytes = rest.bytes;
+    }
 
 -- the bytes determine the state of a reader
 pub one_place : (limits : Allowance) (bytes : List ℕ) (gs hs : List Tree) (e f : Sums)
     (st su : Stack) (held kept : List ℕ) → Stands limits bytes gs e st held
-    → Stands limits bytes hs f su kept
-    → (gs ≡ hs) × (e ≡ f) × (st ≡ su) × (held ≡ kept)
+    → Stands limits bytes hs f su kept → IsSamePlace gs hs e f st su held kept
 one_place limits bytes gs hs e f st su held kept s t =
-    let one = one_cut limits s.front t.front bytes bytes gs hs gs hs e f st su held kept s t s.blobs
-    t.blobs (sym s.whole ∙ t.whole) in
-    (one.0, one.1.sums, one.1.stack, one.1.bytes)
+    one_cut limits s.front t.front bytes bytes gs hs gs hs e f st su held kept s t s.blobs t.blobs (sym s.whole ∙ t.whole)
 
 -- before the first item no byte is held
 none_held : (limits : Allowance) (bytes : List ℕ) (gs : List Tree) (e : Sums) (st : Stack)

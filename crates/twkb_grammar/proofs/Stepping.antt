@@ -8,7 +8,8 @@ use Rattle.std.proofs.lemmas.Int.{ints}
 use Rattle.twkb_num.specs.Varint.{HasMarks, seven_bit_sum, IsVarint}
 use Rattle.twkb_num.specs.Zigzag.{unzigzag_of}
 use Rattle.twkb_points.specs.declared.point.TheConstants.{COORDINATE_BOUND}
-use Rattle.twkb_points.specs.Point.{IsCoordinate}
+use Rattle.twkb_points.specs.Point.{IsCoordinate, Point}
+use Rattle.twkb_grammar.specs.Fault.{DifferenceRefused}
 use Rattle.twkb_tree.specs.Limits.{Allowance}
 use Rattle.twkb_grammar.specs.Bits.{AreBytes}
 use Rattle.twkb_grammar.specs.Fault.{Truncated, BadVarint, GoOn, IsTooLong, Reason, BadType, ExtraDimensions, TooDeep}
@@ -299,56 +300,45 @@ module _ (limits : Allowance) (before : List Item) (rest : List ℕ) where
           tt,
         ))))
 
+    -- the objection to a difference from this coordinate is its first reason
+    difference_says : (r : Role) (from here : ℤ) (n : ℕ) → from ≡ here → Front n
+        → (DifferenceRefused here rest CoordinateRange → Refused limits before rest r CoordinateRange)
+        → (IsCoordinate (here +ℤ unzigzag_of n) → Objects r n None)
+        → Objects r n (unless (not (in_range (from +ℤ unzigzag_of n))) CoordinateRange None)
+    difference_says r from here n same f refused allowed =
+        let is : from +ℤ unzigzag_of n ≡ here +ℤ unzigzag_of n = ap (λ z. z +ℤ unzigzag_of n) same in
+        unless_says (not (in_range (from +ℤ unzigzag_of n))) CoordinateRange None (Objects r n)
+        (λ e. refused (varint_then n CoordinateRange f (number_here n CoordinateRange
+        (λ n. IsCoordinate (here +ℤ unzigzag_of n) → ⊥) f
+        (subst (λ z. IsCoordinate z → ⊥) is (in_range_false (from +ℤ unzigzag_of n)
+        (not_true (in_range (from +ℤ unzigzag_of n)) e))))))
+        (λ e. allowed (subst IsCoordinate is (in_range_true (from +ℤ unzigzag_of n)
+        (not_false (in_range (from +ℤ unzigzag_of n)) e))))
+
     -- the objection to an x is its first reason
     pub x_says : (n : ℕ) → Front n → Objects X n (objection limits s X n)
-    x_says n f =
-        let same : s.position.x +ℤ unzigzag_of n ≡ (position before).x +ℤ unzigzag_of n =
-        ap (λ (p : Rattle.twkb_points.specs.Point.Point). p.x +ℤ unzigzag_of n)
-        agree.position_is in
-        unless_says (not (in_range (s.position.x +ℤ unzigzag_of n))) CoordinateRange None (Objects X n)
-        (λ e. varint_then n CoordinateRange f (number_here n CoordinateRange
-        (λ n. IsCoordinate ((position before).x +ℤ unzigzag_of n) → ⊥) f
-        (subst (λ z. IsCoordinate z → ⊥) same (in_range_false (s.position.x +ℤ unzigzag_of n)
-        (not_true (in_range (s.position.x +ℤ unzigzag_of n)) e)))))
-        (λ e. (
-          subst IsCoordinate same (in_range_true (s.position.x +ℤ unzigzag_of n)
-              (not_false (in_range (s.position.x +ℤ unzigzag_of n)) e)),
-          tt,
-          tt,
-        ))
+    x_says n f = difference_says X s.position.x (position before).x n (ap (λ (p : Point). p.x) agree.position_is) f
+        (λ h. h) (λ h. (h, tt, tt))
 
     -- the objection to a y is its first reason
     pub y_says : (n : ℕ) → Front n → Objects Y n (objection limits s Y n)
-    y_says n f =
-        let same : s.position.y +ℤ unzigzag_of n ≡ (position before).y +ℤ unzigzag_of n =
-        ap (λ (p : Rattle.twkb_points.specs.Point.Point). p.y +ℤ unzigzag_of n)
-        agree.position_is in
-        unless_says (not (in_range (s.position.y +ℤ unzigzag_of n))) CoordinateRange None (Objects Y n)
-        (λ e. varint_then n CoordinateRange f (number_here n CoordinateRange
-        (λ n. IsCoordinate ((position before).y +ℤ unzigzag_of n) → ⊥) f
-        (subst (λ z. IsCoordinate z → ⊥) same (in_range_false (s.position.y +ℤ unzigzag_of n)
-        (not_true (in_range (s.position.y +ℤ unzigzag_of n)) e)))))
-        (λ e. (
-          subst IsCoordinate same (in_range_true (s.position.y +ℤ unzigzag_of n)
-              (not_false (in_range (s.position.y +ℤ unzigzag_of n)) e)),
-          tt,
-          tt,
-        ))
+    y_says n f = difference_says Y s.position.y (position before).y n (ap (λ (p : Point). p.y) agree.position_is) f
+        (λ h. h) (λ h. (h, tt, tt))
+
+    -- the objection to a byte is its first reason
+    byte_says : (r : Role) (b : Bool) (reason : Reason) (P : ℕ → Type 0) (n : ℕ) (more : List ℕ) → rest ≡ n ∷ more
+        → ((rest ≡ [] → ⊥) → FirstByte P rest → Refused limits before rest r reason) → (b ≡ true → P n)
+        → (b ≡ false → Objects r n None) → Objects r n (unless b reason None)
+    byte_says r b reason P n more whole refused bad good = unless_says b reason None (Objects r n)
+        (λ e. refused (λ none. let z : n ∷ more ≡ [] = sym whole ∙ none in cc)
+        (subst (λ l. FirstByte P l) (sym whole) (bad e))) good
 
     -- the objection to a type byte is its first reason
     pub header_says : (n : ℕ) (more : List ℕ) → rest ≡ n ∷ more → Objects Header n (objection limits s Header n)
-    header_says n more whole =
-        let some : (before ≢ []) × (rest ≡ []) → ⊥ = (λ (h : (before ≢ []) × (rest ≡ [])).
-        let z : n ∷ more ≡ [] = sym whole ∙ h.1 in cc) in
-        unless_says (nat_eq (n % 16) 0 || nat_lt 7 (n % 16)) BadType None (Objects Header n)
-        (λ e. inr (
-          some,
-          inl (
-            subst (λ l. FirstByte (λ b. (b % 16 ≡ 0) ⊎ (7 < b % 16)) l)
-                (sym whole) (bad (either (nat_eq (n % 16) 0) (nat_lt 7 (n % 16)) e)),
-            refl,
-          ),
-        ))
+    header_says n more whole = byte_says Header (nat_eq (n % 16) 0 || nat_lt 7 (n % 16)) BadType
+        (λ b. (b % 16 ≡ 0) ⊎ (7 < b % 16)) n more whole
+        (λ some first. inr ((λ (h : (before ≢ []) × (rest ≡ [])). some h.1), inl (first, refl)))
+        (λ e. bad (either (nat_eq (n % 16) 0) (nat_lt 7 (n % 16)) e))
         (λ e. let h = neither (nat_eq (n % 16) 0) (nat_lt 7 (n % 16)) e in (
           tt,
           (
@@ -369,19 +359,11 @@ module _ (limits : Allowance) (before : List Item) (rest : List ℕ) where
     -- the objection to a metadata byte is its first reason
     pub metadata_says : (k n : ℕ) (more : List ℕ) → rest ≡ n ∷ more
         → Objects (Metadata k) n (objection limits s (Metadata k) n)
-    metadata_says k n more whole =
-        let some : rest ≡ [] → ⊥ = (λ (h : rest ≡ []). let z : n ∷ more ≡ [] = sym whole ∙ h in cc) in
-        unless_says (announces_point k n && nat_le limits.points s.points) TooManyPoints None (Objects (Metadata k) n)
+    metadata_says k n more whole = byte_says (Metadata k) (announces_point k n && nat_le limits.points s.points)
+        TooManyPoints (λ b. (announces_point k b ≡ true) × (limits.points ≤ announced_points before)) n more whole
+        (λ some first. inr (some, inl (first, refl)))
         (λ e. let h = both (announces_point k n) (nat_le limits.points s.points) e in
-        inr (
-          some,
-          inl (
-            subst (λ l. FirstByte (λ b. (announces_point k b ≡ true)
-                × (limits.points ≤ announced_points before)) l) (sym whole)
-                (h.0, subst (λ m. limits.points ≤ m) agree.points_are (le_true limits.points s.points h.1)),
-            refl,
-          ),
-        ))
+        (h.0, subst (λ m. limits.points ≤ m) agree.points_are (le_true limits.points s.points h.1)))
         (λ e. (
           (λ (is : announces_point k n ≡ true). let z : nat_le limits.points s.points ≡ false =
               sym (ap (λ b. b && nat_le limits.points s.points) is) ∙ e in
@@ -392,17 +374,9 @@ module _ (limits : Allowance) (before : List Item) (rest : List ℕ) where
 
     -- the objection to an extended byte is its first reason
     pub extended_says : (n : ℕ) (more : List ℕ) → rest ≡ n ∷ more → Objects Extended n (objection limits s Extended n)
-    extended_says n more whole =
-        let some : rest ≡ [] → ⊥ = (λ (h : rest ≡ []). let z : n ∷ more ≡ [] = sym whole ∙ h in cc) in
-        unless_says (not (nat_eq (n % 4) 0)) ExtraDimensions None (Objects Extended n)
-        (λ e. inr (
-          some,
-          inl (
-            subst (λ l. FirstByte (λ b. b % 4 ≢ 0) l) (sym whole)
-                (λ (h : n % 4 ≡ 0). eq_false (n % 4) 0 (not_true (nat_eq (n % 4) 0) e) h),
-            refl,
-          ),
-        ))
+    extended_says n more whole = byte_says Extended (not (nat_eq (n % 4) 0)) ExtraDimensions (λ b. b % 4 ≢ 0) n more
+        whole (λ some first. inr (some, inl (first, refl)))
+        (λ e (h : n % 4 ≡ 0). eq_false (n % 4) 0 (not_true (nat_eq (n % 4) 0) e) h)
         (λ e. (tt, eq_true (n % 4) 0 (not_false (nat_eq (n % 4) 0) e), tt))
 
     -- the objection to an end is its first reason
@@ -491,15 +465,6 @@ module _ (limits : Allowance) (before : List Rattle.twkb_grammar.specs.Roles.Ite
       objected (b ∷ more) Extended b (b ∷ []) more (objection limits s Extended b) refl
       (λ (h : Sound Extended b). (are.0, h, refl)) (extended_says limits before (b ∷ more) s
       agree b more refl)
-  step rest Size agree are some = number_step rest Size (varint_at 10 rest) (cut_says 9 rest are)
-      (λ _ _ v. v) (λ _ _. (tt, tt, tt)) (λ h. inl (h, refl))
-      (λ h. inr (long_not_cut rest h, inl (h, refl)))
-  step rest Box agree are some = number_step rest Box (varint_at 10 rest) (cut_says 9 rest are)
-      (λ _ _ v. v) (λ _ _. (tt, tt, tt)) (λ h. inl (h, refl))
-      (λ h. inr (long_not_cut rest h, inl (h, refl)))
-  step rest Id agree are some = number_step rest Id (varint_at 10 rest) (cut_says 9 rest are)
-      (λ _ _ v. v) (λ _ _. (tt, tt, tt)) (λ h. inl (h, refl))
-      (λ h. inr (long_not_cut rest h, inl (h, refl)))
   step rest (Count c) agree are some =
       number_step rest (Count c) (varint_at 10 rest) (cut_says 9 rest are) (λ _ _ v. v)
       (λ n f. count_says limits before rest s agree c n f) (λ h. inl (h, refl))
@@ -515,3 +480,6 @@ module _ (limits : Allowance) (before : List Rattle.twkb_grammar.specs.Roles.Ite
   step rest (End d came) agree are some =
       objected rest (End d came) 0 [] rest (objection limits s (End d came) 0) refl
       (λ _. (refl, refl)) (end_says limits before rest s agree d came)
+  step rest r agree are some = number_step rest r (varint_at 10 rest) (cut_says 9 rest are)
+      (λ _ _ v. v) (λ _ _. (tt, tt, tt)) (λ h. inl (h, refl))
+      (λ h. inr (long_not_cut rest h, inl (h, refl)))

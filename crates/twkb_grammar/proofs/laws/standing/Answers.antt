@@ -5,9 +5,7 @@ pub returns-clause-starts : goal.returns-clause-starts
 returns-clause-starts c = stands_start
 
 pub returns-clause-one_place : goal.returns-clause-one_place
-returns-clause-one_place c = λ limits bytes gs hs e f st su held kept s t.
-    let same = one_place limits bytes gs hs e f st su held kept s t in
-    record { geometries = same.0; sums = same.1; stack = same.2; bytes = same.3 }
+returns-clause-one_place c = one_place
 
 pub returns-clause-whole : goal.returns-clause-whole
 returns-clause-whole c = stands_whole
