@@ -73,8 +73,8 @@ fn push_count(count: u64, end: u8, line: &mut Piece<128>)
 }
 
 // Appends a number as a decimal to a line, which must have room for the longest decimal of the
-// number's type. Out of line, so that the buffer of `itoa` is not on the stack of its callers.
-#[inline(never)]
+// number's type.
+#[inline(always)]
 fn push_number<I: Integer>(number: I, line: &mut Piece<128>)
     requires room { length line.old + I.MAX_STR_LEN ≤ 128 }
     ensures appended { line.new ≡ line.old ++ I.text number }

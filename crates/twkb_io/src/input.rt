@@ -107,6 +107,7 @@ impl<'a, R: Read> Input<'a, R> {
 
     /// Reads once if no byte is held and the end was not reached; after `Ok`, `held` is empty only
     /// at the end. After an `Err` each later call returns `Spent`.
+    #[inline(always)]
     pub fn fill(&mut self) -> Result<(), InFault>
         ensures same_tap { (input_tap self.new).ghost_name ≡ (input_tap self.old).ghost_name }
         ensures keeps { Keeps (rest_of self.old) (rest_of self.new) }

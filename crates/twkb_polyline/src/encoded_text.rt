@@ -65,8 +65,8 @@ fn put_points(points: &[Pt], text: &mut Vec<u8>) -> Result<(), AllocError>
 
 // Appends the characters of pairs of points to a text, each point as its step from the one before
 // it, the first from the cursor, and moves the cursor to the last point. If memory is refused, only
-// a prefix may be appended. Out of line, so that a list of one point does not pay for it.
-#[inline(never)]
+// a prefix may be appended.
+#[inline(always)]
 fn put_pairs(pairs: &[[Pt; 2]], cursor: &mut Cursor, text: &mut Vec<u8>) -> Result<(), AllocError>
     ensures appended { OnOk result (text.new.items ≡ text.old.items ++ polyline_from cursor.old (points_of pairs.now)) }
     ensures moved { OnOk result (cursor.new ≡ last_of cursor.old (points_of pairs.now)) }
