@@ -1,7 +1,6 @@
 -- Lemmas of the crate, by their topic.
 pub mod Verdicts
 pub mod RowReaderLemmas
-pub mod BegunGeometry
 pub mod FaultLaws
 pub mod DecimalLemmas
 pub mod DigitLemmas

@@ -2,10 +2,10 @@
 use Rattle.std.proofs.Common.{◌≡◌, ℕ, ◌<◌, ◌≤◌, Bool, true, false, List, [], length, Option, Some, None, sym, ◌∙◌, ap}
 use Rattle.std.proofs.Common.{subst, arith, zero, suc, ◌∷◌, ◌++◌, refl, inl, inr, ℤ, Result, Ok, Err, Bor}
 use Rattle.std.proofs.Common.{length-append, ◌≢◌, ◌-◌, ◌==◌}
-use Rattle.std.specs.Prelude.{is_some, nat_le, reverse, ◌&&◌, IsSome, IfOk, IfErr, option_map, ◌↔◌, IfSome}
+use Rattle.std.specs.Prelude.{is_some, nat_le, reverse, ◌&&◌, IsSome, IfOk, IfErr, option_map, IfSome}
 use Rattle.std.proofs.lemmas.Bool.Decides.{nat_tests}
 use Rattle.std.proofs.lemmas.List.{reverse-append, length-reverse}
-use Rattle.std.proofs.lemmas.Bool.{false≢true, eqb-true, true≢false}
+use Rattle.std.proofs.lemmas.Bool.{eqb-true, true≢false}
 use Rattle.csv.specs.Records.{field_at}
 use Rattle.twkb_points.specs.Point.{Point}
 use Rattle.twkb_polyline.specs.Polyline.{AppendsDecoded, DecodesTo}
@@ -39,8 +39,9 @@ use Rattle.twkb_table.specs.Judged.{Verdict, place_of, JudgedByPlace, Accepted, 
 use Rattle.twkb_table.specs.Standing.{place_seen, StandsAfter}
 use Rattle.twkb_table.specs.Record.{Record}
 use Rattle.twkb_table.specs.Waiting.{point_row, IsPoint, may_wait, root_row}
-use Rattle.twkb_table.specs.declared.row_reader.RowReader.{RowReader}
-use Rattle.twkb_table.specs.RowReading.{limits_of, JudgedAfter, BeginsFirst, EndsBefore, with_points}
+use Rattle.twkb_table.specs.declared.row_reader.State.{State}
+use Rattle.twkb_table.specs.declared.row_reader.State.TheVariants as state
+use Rattle.twkb_table.specs.RowReading.{JudgedAfter}
 use Rattle.twkb_table.specs.Fields.{IsDepthField}
 use Rattle.twkb_table.specs.declared.reason.RowReason.{RowReason}
 use Rattle.twkb_table.specs.declared.reason.RowReason.TheVariants.{BadKind, BadPlace, PolylineNotAllowed, Polyline}
@@ -161,16 +162,6 @@ judged_past l rows fields v (p, q, is) j earlier =
     subst (λ (rs : List Row). Judged l (reverse (earlier ++ rs)) fields v) (sym is)
     (subst (λ (before : List Row). Judged l before fields v) (sym (reverse-append earlier (point_row p q ∷ [])))
     (after_point l p q (reverse earlier) fields v j))
-
--- the first root of a table is the next root after a point
-pub ends_past : (old new : RowReader) (rows : List Row) (fields : Record) → IsPoint rows
-    → BeginsFirst old fields new → EndsBefore old rows fields new
-ends_past old new rows fields is first = record {
-  row = first.row;
-  waits = first.waits;
-  root = first.root;
-  judged = judged_past (limits_of old) rows fields (Accepted first.row) is first.judged;
-}
 
 -- ==== The verdict on a record of five fields, from its fields.
 
@@ -332,11 +323,11 @@ pub begins_anew : (l : Allowance) (rows : List Row) (row : Row) → Accepts l (r
 begins_anew l rows row a root = (root_alone l rows row a root, root)
 
 -- the root that waits begins a geometry
-pub waiting_begins : (l : Allowance) (waits : Option Root) (root : Root) (points : List Point)
-    → may_wait l waits points ≡ true → waits ≡ Some root
+pub waiting_begins : (l : Allowance) (s : State) (root : Root) (points : List Point)
+    → may_wait l s points ≡ true → s ≡ state.Waiting root
     → Continues l [] (row_with (root_row root) points)
-waiting_begins l waits root points e is = continues_is l [] (row_with (root_row root) points)
-    (subst (λ w. may_wait l w points ≡ true) is e)
+waiting_begins l s root points e is = continues_is l [] (row_with (root_row root) points)
+    (subst (λ (t : State). may_wait l t points ≡ true) is e)
 
 -- a root has no id
 root_id : (row : Row) → row.depth ≡ 0 → admits_after [] row ≡ true → row.id ≡ None
@@ -365,15 +356,9 @@ root_is l row points c =
 
 -- a root may wait
 pub may_wait_as : (l : Allowance) (row : Bare) (points : List Point)
-    → Continues l [] (row_with row points) → may_wait l (Some (root_of row)) points ≡ true
+    → Continues l [] (row_with row points) → may_wait l (state.Waiting (root_of row)) points ≡ true
 may_wait_as l row points c = continues_true l [] (row_with (root_row (root_of row)) points)
     (subst (Continues l []) (root_is l row points c) c)
-
--- a root waits if there is one
-pub some_waits : (waits : Option Root) (points : List Point) (some : Bool) → some ≡ is_some waits
-    → (some ≡ true) ↔ (0 < length (with_points waits points))
-some_waits None points some e = (λ yes. absurd (false≢true (sym e ∙ yes)), λ lt. absurd (omega (arith, lt)))
-some_waits (Some root) points some e = (λ yes. omega arith, λ lt. e)
 
 -- without rows there are no open rows
 pub stands_nowhere : StandsAfter [] [] 0 0

@@ -1,30 +1,40 @@
 -- What one more record shows to a reader of tables.
 use Rattle.std.proofs.Common.{◌≡◌, ℕ, ◌<◌, List, [], ◌∷◌, ◌++◌, length, Option, Some, None, refl, sym, ◌∙◌, ap, subst}
-use Rattle.std.proofs.Common.{arith, append_assoc, append-nil, ◌+◌, Bool, true, false, Result, Ok, Err, length-append}
-use Rattle.std.proofs.Common.{inl, inr}
+use Rattle.std.proofs.Common.{arith, append_assoc, append-nil, ◌+◌, Bool, true, false, Ok, length-append, inl, inr}
 use Rattle.std.specs.Prelude.{reverse, IfSome}
-use Rattle.std.proofs.lemmas.Bool.{true≢false}
+use Rattle.std.specs.Borrow.{MutBor}
+use Rattle.csv.specs.declared.reader.Reader.{Reader}
 use Rattle.csv.specs.Reading.{strip_bom, Reached}
 use Rattle.csv.specs.declared.parser.State.TheVariants as st
+use Rattle.twkb_io.specs.declared.tap.Tap.{Tap}
+use Rattle.twkb_points.specs.Point.{Point}
 use Rattle.twkb_tree.specs.Tree.{Tree}
 use Rattle.twkb_tree.specs.Limits.{Allowance, IsAllowance}
 use Rattle.twkb_tree.specs.Rows.{Row, rows, rows_of}
 use Rattle.twkb_tree.proofs.OpenLaws.{rows_of-last, last_valid}
+use Rattle.twkb_flat.specs.declared.stop.Stop.{Stop}
+use Rattle.twkb_flat.specs.Stops.{IfRefused}
+use Rattle.twkb_flat.specs.declared.stop.Stop.TheVariants as stop
 use Rattle.twkb_table.specs.Record.{Record}
 use Rattle.twkb_table.specs.Named.{Named}
 use Rattle.twkb_table.specs.Judged.{Verdict, Judged, Accepted, Refused}
 use Rattle.twkb_table.specs.RowFault.{all_but_last, AreComplete}
-use Rattle.twkb_table.specs.CsvRecords.{BeginWith, AreRecordsOf, standing}
-use Rattle.twkb_table.specs.RowReading.{JudgedAfter, limits_of, waiting, BeginsFirst, GoesOn, EndsBefore}
-use Rattle.twkb_table.specs.TableReading.{NameSoFar, Extends, GivesNext, Explains, HasRead, is_ended, HaveGiven}
-use Rattle.twkb_table.specs.TableReading.{StandsAfter, MeetsEnd, IsRefusedAt, HasTooMany, IsReading, BeginsNext, IsOver}
-use Rattle.twkb_table.specs.TableReading.{is_spent}
+use Rattle.twkb_table.specs.CsvRecords.{BeginWith, standing}
+use Rattle.twkb_table.specs.NumberedRecords.{MissesRecord, ReadsRecord, fault_of}
+use Rattle.twkb_table.specs.Waiting.{IsAlone, waiting_rows, is_over, is_stopped}
+use Rattle.twkb_table.specs.RowReading.{limits_of, waiting, JudgedAfter, BeginsFirst, GoesOn, ReadsRow}
+use Rattle.twkb_table.specs.TableReading.{NameSoFar, Extends, Explains, HaveGiven, Progress}
+use Rattle.twkb_table.specs.TableReading.{NameReading, IsReading, Reaches, Completes, is_ended, records_read}
+use Rattle.twkb_table.specs.TableReading.{GivesRows, FaultsIn, IsMarked, ReadsNextRow, ReadsNextRoot}
 use Rattle.twkb_table.specs.declared.table_fault.TableFault.{TableFault}
 use Rattle.twkb_table.specs.declared.table_reader.TableReader.{TableReader}
 use Rattle.twkb_table.specs.declared.table_fault.TableFault.TheVariants as fault
-use Rattle.twkb_table.specs.declared.numbered_records.TheConstants.{RECORD_CAP}
+use Rattle.twkb_table.specs.declared.row_reader.RowReader.{RowReader}
+use Rattle.twkb_table.specs.declared.row_reader.State.{State}
+use Rattle.twkb_table.specs.declared.row_reader.State.TheVariants as state
 use Rattle.twkb_table.specs.declared.reason.RowReason.{RowReason}
 use Rattle.twkb_table.proofs.RecordFacts.{row_place_begins}
+use Rattle.twkb_table.proofs.RowReaderLemmas.{if_refused, judged_past}
 use Rattle.twkb_table.proofs.FaultLaws.{row_more, root_more, refused_more}
 
 -- ==== What a reader of tables knows of the records read and the geometries returned.
@@ -37,59 +47,15 @@ begins_none None = tt
 begins_none (Some text) = (st.StartRecord, strip_bom text, (refl, refl))
 
 pub text_begins : {R : Type 0} (remaining : R → Option (List ℕ)) (told : Option (List ℕ))
-    (records : List Record) (reader : TableReader R) → HasRead remaining told records reader
+    (records : List Record) (reader : TableReader R)
+    → standing remaining told records (is_ended reader) reader.reader
     → IfSome told (λ text. BeginWith text records)
 text_begins remaining told records reader s = row_place_begins remaining told records (is_ended reader) reader.reader s
 
--- ---- one call after another
-
-pub extends_none : (records : List Record) → Extends records records
-extends_none records = ([], sym (append-nil records))
-
-pub extends_one : (records : List Record) (here : Record) → Extends records (records ++ here ∷ [])
-extends_one records here = (here ∷ [], refl)
-
-pub extends_both : (a b c : List Record) → Extends a b → Extends b c → Extends a c
-extends_both a b c x y = (x.0 ++ y.0, y.1 ∙ ap (λ rs. rs ++ y.0) x.1 ∙ append_assoc a x.0 y.0)
-
-pub explains_from : (l : Allowance) (told : Option (List ℕ)) (records seen : List Record)
-    (given : List Tree) (f : TableFault) → Extends records seen → Explains l told seen given f
-    → Explains l told records given f
-explains_from l told records seen given (fault.At number reason) x e =
-    record {
-      seen = e.seen;
-      extends = extends_both records seen e.seen x e.extends;
-      begins = e.begins;
-      none = e.none;
-      complete = e.complete;
-    }
-explains_from l told records seen given fault.TooManyRecords x e = record {
-  before = e.before;
-  here = e.here;
-  extends = extends_both records seen e.before x e.extends;
-  begins = e.begins;
-  many = e.many;
-  geometries = e.geometries;
-  named = e.named;
-  complete = e.complete;
-}
-explains_from l told records seen given fault.Spent x e = e
-explains_from l told records seen given _ x e = tt
-
-pub gives_from : {R : Type 0} (l : Allowance) (remaining : R → Option (List ℕ))
-    (told : Option (List ℕ)) (records seen : List Record) (given : List Tree) (flat : List Row)
-    (reader : TableReader R) → Extends records seen
-    → GivesNext l remaining told seen given flat reader → GivesNext l remaining told records given flat reader
-gives_from l remaining told records seen given flat reader x g =
-    record {
-      seen = g.seen;
-      extends = extends_both records seen g.seen x g.extends;
-      begins = g.begins;
-      geometry = g.geometry;
-      valid = g.valid;
-      rows = g.rows;
-      stands = g.stands;
-    }
+more_extends : (records seen : List Record) (here : Record) → Extends records seen
+    → Extends records (seen ++ here ∷ [])
+more_extends records seen here (more, is) =
+    (more ++ here ∷ [], ap (λ rs. rs ++ here ∷ []) is ∙ append_assoc records more (here ∷ []))
 
 -- ---- records and the geometries that they name
 
@@ -112,263 +78,305 @@ pub all_but_last-last : (xs : List Tree) (x : Tree) → all_but_last (xs ++ x �
 all_but_last-last (y ∷ z ∷ xs) x = ap (λ (l : List Tree). y ∷ l) (all_but_last-last (z ∷ xs) x)
 all_but_last-last _ x = refl
 
--- the verdict after the rows of the last geometry is the verdict after those of all
-pub judged_after : (l other : Allowance) (given : List Tree) (g : Tree) (so_far : List Row)
-    (here : Record) (v : Verdict) → other ≡ l → rows 0 g ≡ so_far → JudgedAfter other so_far here v
-    → Judged l (reverse (rows_of (given ++ g ∷ []))) here v
-judged_after l other given g so_far here v limits same j =
-    let here_too : Judged l (reverse (rows_of given ++ so_far)) here v =
-    subst (λ m. Judged m (reverse (rows_of given ++ so_far)) here v) limits
-    (j (rows_of given)) in
-    subst (λ rs. Judged l (reverse rs) here v) (ap (λ rs. rows_of given ++ rs) (sym same)
-    ∙ sym (rows_of-last given g)) here_too
+-- The geometries that the records name, of which all but the last were returned.
+record AllNamed (l : Allowance) (records : List Record) (given : List Tree) (so_far : List Row) : Type 0 where
+  pub geometries : List Tree
+  pub named : Named l records geometries
+  pub but : all_but_last geometries ≡ given
+  pub rows : rows_of geometries ≡ rows_of given ++ so_far
 
--- ==== What one more record shows to a reader of tables.
+all_named : (l : Allowance) (records : List Record) (given : List Tree) (so_far : List Row)
+    → NameReading l records given so_far → AllNamed l records given so_far
+all_named l records given [] (n, none) = record {
+  geometries = given;
+  named = n;
+  but = ap all_but_last none ∙ sym none;
+  rows = sym (append-nil (rows_of given));
+}
+all_named l records given (root ∷ more) (last, n, same) = record {
+  geometries = given ++ last ∷ [];
+  named = n;
+  but = all_but_last-last given last;
+  rows = rows_of-last given last ∙ ap (λ rs. rows_of given ++ rs) same;
+}
 
-one_more : (m n : ℕ) (records : List Record) (here : Record) → n ≡ m + 1 → m ≡ length records
-    → n ≡ length (records ++ here ∷ [])
-one_more m n records here next count = omega (arith, next, count, length-append records (here ∷ []))
+-- ==== What one more record shows while a geometry is read.
 
-few_more : (m n : ℕ) (records : List Record) (here : Record) → n ≡ m + 1 → m ≡ length records
-    → n < RECORD_CAP → length (records ++ here ∷ []) < RECORD_CAP
-few_more m n records here next count few = omega (arith, next, count, few, length-append records (here ∷ []))
+-- a reader in which a root waits is neither at the end nor spent
+pub root_waits : (s : State) (ps : List Point) (number : ℕ) → 0 < length (waiting_rows s ps)
+    → (is_over s ≡ false) × (is_stopped s ≡ false) × (records_read s number ≡ number + 1)
+root_waits (state.Waiting root) ps number some = (refl, refl, refl)
+root_waits _ ps number some = absurd (omega (arith, some))
 
--- ---- while a geometry is read
+-- the geometry that was being read is complete
+completed : {R : Type 0} (l : Allowance) (remaining : R → Option (List ℕ)) (told : Option (List ℕ))
+    (records seen : List Record) (given : List Tree) (so_far : List Row) (now : Progress R)
+    (n : NameReading l seen given so_far)
+    → Reaches l remaining told records (all_named l seen given so_far n).geometries now
+    → Completes l remaining told records given so_far now
+unfolding all_named
+completed l remaining told records seen given [] now (n, none) r = r
+completed l remaining told records seen given (root ∷ more) now (last, n, same) r = record {
+  seen = r.seen;
+  extends = r.extends;
+  begins = r.begins;
+  geometry = last;
+  valid = last_valid l given last n.valid;
+  rows = same;
+  stands = r.stands;
+}
 
--- the record is one more row
-pub reads_more : {R : Type 0} (l : Allowance) (remaining : R → Option (List ℕ))
-    (told : Option (List ℕ)) (records : List Record) (given : List Tree) (before after : List Row)
-    (here : Record) (old new : TableReader R)
-    → IsReading l remaining told records given before old
-    → HasRead remaining told (records ++ here ∷ []) new → new.number ≡ old.number + 1
-    → new.number < RECORD_CAP → limits_of new.rows ≡ limits_of old.rows → is_spent new ≡ is_spent old
-    → GoesOn old.rows before here new.rows after → IsReading l remaining told (records ++ here ∷ []) given after new
-reads_more l remaining told records given before after here old new r source number few limits spent g =
-    let j = judged_after l (limits_of old.rows) given r.geometry before here (Accepted g.row)
-    r.limits r.rows g.judged in
-    let n = row_more l records here given r.geometry g.row r.named j g.below in
-    record {
-      source = source;
-      count = one_more old.number new.number records here number r.count;
-      few = few_more old.number new.number records here number r.count few;
-      limits = limits ∙ r.limits;
-      geometry = n.geometry;
-      named = n.named;
-      rows = n.rows_are ∙ ap (λ rs. rs ++ g.row ∷ []) r.rows ∙ sym g.rows;
-      unspent = spent ∙ r.unspent;
-    }
+-- the geometry that is being read has one more row
+more_named : (l : Allowance) (seen : List Record) (given : List Tree) (so_far after : List Row)
+    (here : Record) (row : Row) → NameReading l seen given so_far → 0 < length so_far
+    → after ≡ so_far ++ row ∷ [] → 0 < row.depth
+    → Judged l (reverse (rows_of given ++ so_far)) here (Accepted row)
+    → NameReading l (seen ++ here ∷ []) given after
+unfolding all_named
+more_named l seen given [] after here row n some is below j = absurd (omega (arith, some))
+more_named l seen given (root ∷ more) after here row (last, named, same) some is below j =
+    let all = all_named l seen given (root ∷ more) (last, named, same) in
+    let n = row_more l seen here given last row named
+    (subst (λ rs. Judged l (reverse rs) here (Accepted row)) (sym all.rows) j) below in
+    subst (NameReading l (seen ++ here ∷ []) given) (sym is)
+    (n.geometry, n.named, n.rows_are ∙ ap (λ rs. rs ++ row ∷ []) same)
 
--- the record is the root of another geometry
-pub reads_next : {R : Type 0} (l : Allowance) (remaining : R → Option (List ℕ))
-    (told : Option (List ℕ)) (records : List Record) (given : List Tree) (before : List Row)
-    (here : Record) (old new : TableReader R)
-    → IsReading l remaining told records given before old
-    → HasRead remaining told (records ++ here ∷ []) new → new.number ≡ old.number + 1
-    → new.number < RECORD_CAP → limits_of new.rows ≡ limits_of old.rows → is_spent new ≡ is_spent old
-    → is_ended new ≡ false → EndsBefore old.rows before here new.rows
-    → GivesNext l remaining told records given before new
-reads_next l remaining told records given before here old new r source number few limits spent going e =
-    let j = judged_after l (limits_of old.rows) given r.geometry before here (Accepted e.row)
-    r.limits r.rows e.judged in
-    let n = root_more l records here (given ++ r.geometry ∷ []) e.row r.named j e.root in
-    record {
-      seen = records ++ here ∷ [];
-      extends = extends_one records here;
-      begins = text_begins remaining told (records ++ here ∷ []) new source;
-      geometry = r.geometry;
-      valid = last_valid l given r.geometry r.named.valid;
-      rows = r.rows;
-      stands = record {
-        source = source;
-        count = one_more old.number new.number records here number r.count;
-        few = few_more old.number new.number records here number r.count few;
-        limits = limits ∙ r.limits;
-        gave = subst (λ w. HaveGiven l (records ++ here ∷ []) (given ++ r.geometry ∷ []) w
-            (is_ended new)) (sym e.waits) (n.geometry, n.named, n.rows_are, going);
-        unspent = spent ∙ r.unspent;
-      };
-    }
+module _ {R : Type 0} (l : Allowance) (remaining : R → Option (List ℕ)) (told : Option (List ℕ))
+    (records : List Record) (given : List Tree) (so_far : List Row) (old : Progress R)
+    (r : IsReading l remaining told records given so_far old) where
+  -- all geometries that the records name
+  abbrev all_now : AllNamed l r.seen given so_far
+  all_now = all_named l r.seen given so_far r.named
+
+  -- the verdict is that after the rows of all geometries
+  judged_all : (here : Record) (v : Verdict) → Judged (limits_of old.rows) (reverse (rows_of given ++ so_far)) here v
+      → Judged l (reverse (rows_of all_now.geometries)) here v
+  judged_all here v j =
+      subst (λ rs. Judged l (reverse rs) here v) (sym all_now.rows)
+      (subst (λ m. Judged m (reverse (rows_of given ++ so_far)) here v) r.limits j)
+
+  -- one more record was read
+  one_more : (here : Record) (number : ℕ) → number + 1 ≡ (old.number + 1) + 1
+      → number + 1 ≡ length (r.seen ++ here ∷ [])
+  one_more here number next = omega (arith, next, r.count, length-append r.seen (here ∷ []))
+
+  -- ---- the record is a row
+
+  -- one more row of the geometry
+  pub reads_more : (new : Progress R) (after : List Row) (here : Record) → 0 < length so_far
+      → ReadsRecord remaining old.source (old.number + 1) (Ok true) here new.source (new.number + 1)
+      → limits_of new.rows ≡ limits_of old.rows → GoesOn old.rows so_far here new.rows after
+      → IsReading l remaining told records given after new
+  reads_more new after here some (comes, next, few) limits g = record {
+    seen = r.seen ++ here ∷ [];
+    extends = more_extends records r.seen here r.extends;
+    source = comes told r.seen r.source;
+    count = one_more here new.number next;
+    few = (let count = one_more here new.number next in omega (arith, count, few));
+    limits = limits ∙ r.limits;
+    named = more_named l r.seen given so_far after here g.row r.named some g.rows g.below
+        (subst (λ m. Judged m (reverse (rows_of given ++ so_far)) here (Accepted g.row)) r.limits
+        (g.judged (rows_of given)));
+  }
+
+  -- the root of another geometry
+  pub reads_root : (new : Progress R) (here : Record) (row : Row)
+      → ReadsRecord remaining old.source (old.number + 1) (Ok true) here new.source (new.number + 1)
+      → limits_of new.rows ≡ limits_of old.rows → waiting new.rows ≡ row ∷ [] → row.depth ≡ 0
+      → Judged (limits_of old.rows) (reverse (rows_of given ++ so_far)) here (Accepted row)
+      → Completes l remaining told records given so_far new
+  reads_root new here row (comes, next, few) limits waits root j =
+      let n = root_more l r.seen here all_now.geometries row all_now.named (judged_all here (Accepted row) j) root in
+      let some = ap (λ (rs : List Row). length rs) waits in
+      let (going, unspent, count) = root_waits new.rows.state new.rows.points.items new.number (omega (arith, some)) in
+      let seen = r.seen ++ here ∷ [] in
+      let source = comes told r.seen r.source in
+      let many = one_more here new.number next in
+      completed l remaining told records r.seen given so_far new r.named (record {
+        seen = seen;
+        extends = more_extends records r.seen here r.extends;
+        begins = row_place_begins remaining told seen false new.source source;
+        stands = record {
+          source = subst (λ e. standing remaining told seen e new.source) (sym going) source;
+          count = count ∙ many;
+          few = omega (arith, many, few);
+          limits = limits ∙ r.limits;
+          gave = subst (λ rs. HaveGiven l seen all_now.geometries rs (is_over new.rows.state)) (sym waits)
+              (n.geometry, n.named, n.rows_are, going);
+          unspent = unspent;
+        };
+      })
+
+  -- ---- the table ended
+
+  pub reads_end : (new : Progress R) (here : Record)
+      → ReadsRecord remaining old.source (old.number + 1) (Ok false) here new.source (new.number + 1)
+      → limits_of new.rows ≡ limits_of old.rows → new.rows.state ≡ state.Over
+      → Completes l remaining told records given so_far new
+  reads_end new here (all, same) limits over =
+      let source = all told r.seen r.source in
+      completed l remaining told records r.seen given so_far new r.named (record {
+        seen = r.seen;
+        extends = r.extends;
+        begins = row_place_begins remaining told r.seen true new.source source;
+        stands = record {
+          source = subst (λ (s : State). standing remaining told r.seen (is_over s) new.source) (sym over) source;
+          count = ap (λ (s : State). records_read s new.number) over ∙ (same ∙ r.count);
+          few = r.few;
+          limits = limits ∙ r.limits;
+          gave = subst (λ (s : State). HaveGiven l r.seen all_now.geometries (waiting_rows s new.rows.points.items)
+              (is_over s)) (sym over) (names_so_far l r.seen all_now.geometries all_now.named, inr refl);
+          unspent = ap is_stopped over;
+        };
+      })
+
+  -- ---- the record is refused, or was not read
+
+  pub reads_stop : (here : Record) (csv : Reader (MutBor (Tap R))) (number : ℕ) (why : Stop RowReason)
+      → ReadsRecord remaining old.source (old.number + 1) (Ok true) here csv (number + 1)
+      → IfRefused (λ reason. Judged (limits_of old.rows) (reverse (rows_of given ++ so_far)) here (Refused reason)) why
+      → Explains l told records given (fault_of (number + 1) why)
+  reads_stop here csv number stop.Memory comes j = tt
+  reads_stop here csv number (stop.Refused reason) (comes, next, few) j =
+      let seen = r.seen ++ here ∷ [] in
+      record {
+        seen = seen;
+        extends = more_extends records r.seen here r.extends;
+        begins = row_place_begins remaining told seen false csv (comes told r.seen r.source);
+        none = λ e. absurd (never_none r.seen here e);
+        complete = subst (AreComplete l seen (number + 1) reason) all_now.but
+            (subst (λ m. AreComplete l seen m reason (all_but_last all_now.geometries))
+            (omega (arith, next, r.count))
+            (refused_more l r.seen here all_now.geometries reason (subst IsAllowance r.limits old.rows.sound)
+            all_now.named (judged_all here (Refused reason) j)));
+      }
+
+  pub reads_none : (f : TableFault) → MissesRecord remaining old.source (old.number + 1) f
+      → Explains l told records given f
+  reads_none f (inl source) = subst (Explains l told records given) (sym source) tt
+  reads_none f (inr (many, last, (here, csv, comes))) =
+      subst (Explains l told records given) (sym many) (record {
+        before = r.seen;
+        here = here;
+        extends = r.extends;
+        begins = row_place_begins remaining told (r.seen ++ here ∷ []) false csv (comes told r.seen r.source);
+        many = omega (arith, last, r.count, r.few);
+        geometries = all_now.geometries;
+        named = all_now.named;
+        complete = sym all_now.but;
+      })
+
+-- ==== What one more record shows to a call.
+
+missed_fresh : {R : Type 0} (remaining : R → Option (List ℕ)) (csv : Reader (MutBor (Tap R)))
+    (number : ℕ) (f : TableFault) → MissesRecord remaining csv number f → f ≡ fault.Spent → ⊥
+missed_fresh remaining csv number f (inl source) e = cc (source, e)
+missed_fresh remaining csv number f (inr many) e = (let is = many.0 in cc (is, e))
+
+stop_fresh : (number : ℕ) (why : Stop RowReason) → fault_of number why ≡ fault.Spent → ⊥
+stop_fresh number stop.Memory e = cc e
+stop_fresh number (stop.Refused reason) e = cc e
+
+-- the verdict on a record as the first one is that after a point, or before any row
+judged_alone : (m l : Allowance) (seen : List Record) (given : List Tree) (so_far : List Row)
+    (here : Record) (v : Verdict) → IsAlone so_far → NameReading l seen given so_far
+    → Judged m [] here v → Judged m (reverse (rows_of given ++ so_far)) here v
+judged_alone m l seen given so_far here v (inr point) n j = judged_past m so_far here v point j (rows_of given)
+judged_alone m l seen given [] here v (inl e) (named, none) j =
+    subst (λ gs. Judged m (reverse (rows_of gs ++ [])) here v) (sym none) j
+judged_alone m l seen given (root ∷ more) here v (inl e) n j = cc e
+
+-- a geometry that has rows is complete
+completes_some : {R : Type 0} (l : Allowance) (remaining : R → Option (List ℕ)) (told : Option (List ℕ))
+    (records : List Record) (given : List Tree) (so_far : List Row) (now : Progress R)
+    → 0 < length so_far → Completes l remaining told records given so_far now
+    → GivesRows l remaining told records given so_far now
+completes_some l remaining told records given [] now some done = absurd (omega (arith, some))
+completes_some l remaining told records given (root ∷ more) now some done = done
 
 -- the table ended
-pub reads_end : {R : Type 0} (l : Allowance) (remaining : R → Option (List ℕ))
-    (told : Option (List ℕ)) (records : List Record) (given : List Tree) (before : List Row)
-    (old new : TableReader R)
-    → IsReading l remaining told records given before old → HasRead remaining told records new
-    → is_ended new ≡ true → new.number ≡ old.number → limits_of new.rows ≡ limits_of old.rows
-    → is_spent new ≡ is_spent old
-    → waiting new.rows ≡ [] → GivesNext l remaining told records given before new
-reads_end l remaining told records given before old new r source ended number limits spent none = record {
-  seen = records;
-  extends = extends_none records;
-  begins = text_begins remaining told records new source;
-  geometry = r.geometry;
-  valid = last_valid l given r.geometry r.named.valid;
-  rows = r.rows;
-  stands = record {
-    source = source;
-    count = number ∙ r.count;
-    few = r.few;
-    limits = limits ∙ r.limits;
-    gave = subst (λ w. HaveGiven l records (given ++ r.geometry ∷ []) w (is_ended new)) (sym none)
-        (names_so_far l records (given ++ r.geometry ∷ []) r.named, inr ended);
-    unspent = spent ∙ r.unspent;
-  };
-}
+pub end_shown : {R : Type 0} (remaining : R → Option (List ℕ)) (old new : Progress R) (so_far : List Row)
+    (here : Record) → 0 < length so_far
+    → ReadsRecord remaining old.source (old.number + 1) (Ok false) here new.source (new.number + 1)
+    → limits_of new.rows ≡ limits_of old.rows → new.rows.state ≡ state.Over
+    → ReadsNextRow remaining old so_far (Ok false) so_far new
+end_shown remaining old new so_far here some reads limits over = (
+  λ l told records given r. completes_some l remaining told records given so_far new some
+      (reads_end l remaining told records given so_far old r new here reads limits over),
+  refl,
+  ap is_stopped over,
+)
 
--- the record is refused
-refused_at : (l : Allowance) (told : Option (List ℕ)) (records : List Record) (here : Record)
-    (gs given : List Tree) (number : ℕ) (reason : RowReason) → IsAllowance l → Named l records gs
-    → all_but_last gs ≡ given
-    → IfSome told (λ text. BeginWith text (records ++ here ∷ []))
-    → Judged l (reverse (rows_of gs)) here (Refused reason) → number ≡ length records + 1
-    → IsRefusedAt l told records given number reason
-refused_at l told records here gs given number reason cap n but begins j count = record {
-  seen = records ++ here ∷ [];
-  extends = extends_one records here;
-  begins = begins;
-  none = λ e. absurd (never_none records here e);
-  complete = subst (λ ts. AreComplete l (records ++ here ∷ []) number reason ts) but
-      (subst (λ m. AreComplete l (records ++ here ∷ []) m reason (all_but_last gs)) (sym count)
-      (refused_more l records here gs reason cap n j));
-}
+-- a record was read
+pub row_shown : {R : Type 0} (remaining : R → Option (List ℕ)) (old new : Progress R)
+    (before after : List Row) (here : Record) (more : Bool) → 0 < length before
+    → ReadsRecord remaining old.source (old.number + 1) (Ok true) here new.source (new.number + 1)
+    → limits_of new.rows ≡ limits_of old.rows → ReadsRow old.rows before here (Ok more) new.rows after
+    → ReadsNextRow remaining old before (Ok more) after new
+row_shown remaining old new before after here true some reads limits g = (
+  λ l told records given r. reads_more l remaining told records given before old r
+      new after here some reads limits g,
+  g.keeps,
+  (let next = reads.1 in omega (arith, next)),
+  (let few = reads.2 in omega (arith, few)),
+)
+row_shown remaining old new before after here false some reads limits (e, same) = (
+  λ l told records given r. completes_some l remaining told records given before new some
+      (reads_root l remaining told records given before old r new here e.row reads limits
+      e.waits e.root (e.judged (rows_of given))),
+  same,
+  (let one = ap (λ (rs : List Row). length rs) e.waits in
+      root_waits new.rows.state new.rows.points.items new.number (omega (arith, one))).1,
+)
 
-pub reads_refused : {R : Type 0} (l : Allowance) (remaining : R → Option (List ℕ))
-    (told : Option (List ℕ)) (records : List Record) (given : List Tree) (before : List Row)
-    (here : Record) (old new : TableReader R) (reason : RowReason)
-    → IsReading l remaining told records given before old
-    → HasRead remaining told (records ++ here ∷ []) new → new.number ≡ old.number + 1
-    → IsAllowance (limits_of old.rows)
-    → JudgedAfter (limits_of old.rows) before here (Refused reason) → IsRefusedAt l told records given new.number reason
-reads_refused l remaining told records given before here old new reason r source number cap j =
-    refused_at l told records here (given ++ r.geometry ∷ []) given new.number reason
-    (subst IsAllowance r.limits cap) r.named (all_but_last-last given r.geometry)
-    (text_begins remaining told (records ++ here ∷ []) new source)
-    (judged_after l (limits_of old.rows) given r.geometry before here (Refused reason) r.limits
-    r.rows j) (omega (arith, number, r.count))
+-- the root of another geometry was read
+pub root_shown : {R : Type 0} (remaining : R → Option (List ℕ)) (old new : Progress R) (here : Record)
+    → IsAlone (waiting old.rows)
+    → ReadsRecord remaining old.source (old.number + 1) (Ok true) here new.source (new.number + 1)
+    → limits_of new.rows ≡ limits_of old.rows → BeginsFirst old.rows here new.rows
+    → ReadsNextRoot remaining old (Ok true) new
+root_shown remaining old new here alone reads limits first = (
+  λ l told records given r. reads_root l remaining told records given (waiting old.rows) old r
+      new here first.row reads limits first.waits first.root
+      (judged_alone (limits_of old.rows) l r.seen given (waiting old.rows) here (Accepted first.row) alone
+      r.named first.judged),
+  (let one = ap (λ (rs : List Row). length rs) first.waits in omega (arith, one)),
+)
 
--- the table has too many records
-pub too_many : (l : Allowance) (told : Option (List ℕ)) (records : List Record)
-    (given gs : List Tree) (number : ℕ) (here : Record) → Named l records gs
-    → given ≡ all_but_last gs → number ≡ length records → number + 1 ≡ RECORD_CAP
-    → IfSome told (λ text. BeginWith text (records ++ here ∷ [])) → HasTooMany l told records given
-too_many l told records given gs number here named complete count last begins = record {
-  before = records;
-  here = here;
-  extends = extends_none records;
-  begins = begins;
-  many = omega (arith, count, last);
-  geometries = gs;
-  named = named;
-  complete = complete;
-}
+-- no record was read
+pub none_shown : {R : Type 0} (remaining : R → Option (List ℕ)) (old : Progress R) (so_far : List Row)
+    (f : TableFault) (rows : RowReader) → rows.state ≡ state.Spent
+    → MissesRecord remaining old.source (old.number + 1) f → FaultsIn remaining old so_far f × IsMarked f rows
+none_shown remaining old so_far f rows spent missed = (
+  λ l told records given r. reads_none l remaining told records given so_far old r f missed,
+  (missed_fresh remaining old.source (old.number + 1) f missed, ap is_stopped spent),
+)
 
--- ---- if no root waits
+-- a record was refused
+pub refusal_shown : {R : Type 0} (remaining : R → Option (List ℕ)) (old : Progress R) (so_far : List Row)
+    (here : Record) (csv : Reader (MutBor (Tap R))) (number : ℕ) (rows : RowReader) (why : Stop RowReason)
+    → ReadsRecord remaining old.source (old.number + 1) (Ok true) here csv (number + 1)
+    → IfRefused (λ reason. JudgedAfter (limits_of old.rows) so_far here (Refused reason)) why
+    × (rows.state ≡ state.Spent)
+    → FaultsIn remaining old so_far (fault_of (number + 1) why) × IsMarked (fault_of (number + 1) why) rows
+refusal_shown remaining old so_far here csv number rows why reads (refused, spent) = (
+  λ l told records given r. reads_stop l remaining told records given so_far old r here csv number why reads
+      (if_refused _ _ why (λ reason j. j (rows_of given)) refused),
+  (stop_fresh (number + 1) why, ap is_stopped spent),
+)
 
--- the table ended, and no root waited
-pub meets_end : {R : Type 0} (l : Allowance) (remaining : R → Option (List ℕ))
-    (told : Option (List ℕ)) (records : List Record) (given : List Tree) (old new : TableReader R)
-    → StandsAfter l remaining told records given old → waiting old.rows ≡ [] → 0 < old.number
-    → HasRead remaining told records new → is_ended new ≡ true
-    → IfSome told (λ text. AreRecordsOf text records)
-    → new.number ≡ old.number → limits_of new.rows ≡ limits_of old.rows
-    → is_spent new ≡ is_spent old → waiting new.rows ≡ []
-    → MeetsEnd l remaining told records given new
-meets_end l remaining told records given old new s none some source ended all number limits spent still =
-    let gave = subst (λ w. HaveGiven l records given w (is_ended old)) none s.gave in
-    record {
-      seen = records;
-      extends = extends_none records;
-      all = all;
-      named = named_some l records given (omega (arith, some, s.count)) gave.0;
-      stands = record {
-        source = source;
-        count = number ∙ s.count;
-        few = s.few;
-        limits = limits ∙ s.limits;
-        gave = subst (λ w. HaveGiven l records given w (is_ended new)) (sym still) (gave.0, inr ended);
-        unspent = spent ∙ s.unspent;
-      };
-    }
-
--- before the end nothing was returned
-none_given : (l : Allowance) (records : List Record) (given : List Tree) (ended : Bool)
-    → HaveGiven l records given [] ended → ended ≡ false → 0 < length records → Named l records []
-    × (given ≡ [])
-none_given l records given ended (n, inl none) going some =
-    (subst (λ gs. Named l records gs) none (named_some l records given some n), none)
-none_given l records given ended (n, inr over) going some = absurd (true≢false (sym over ∙ going))
-
-pub none_before : {R : Type 0} (l : Allowance) (remaining : R → Option (List ℕ))
-    (told : Option (List ℕ)) (records : List Record) (given : List Tree) (reader : TableReader R)
-    → StandsAfter l remaining told records given reader → waiting reader.rows ≡ []
-    → 0 < reader.number
-    → is_ended reader ≡ false → Named l records [] × (given ≡ [])
-none_before l remaining told records given reader s none some going =
-    none_given l records given (is_ended reader) (subst
-    (λ w. HaveGiven l records given w (is_ended reader)) none s.gave) going
-    (omega (arith, some, s.count))
-
--- a fault came, so the end was not reached
-pub not_ended : (ended : Bool) (f : TableFault)
-    → (ended ≡ true → ◌≡◌ {A = Result Bool TableFault} (Err f) (Ok false)) → ended ≡ false
-not_ended false f over = refl
-not_ended true f over = (let same = over refl in cc same)
-
--- after the end all geometries were returned
-pub over_meets : {R : Type 0} (l : Allowance) (remaining : R → Option (List ℕ))
-    (told : Option (List ℕ)) (records : List Record) (given : List Tree) (reader : TableReader R)
-    → StandsAfter l remaining told records given reader → IsOver reader
-    → MeetsEnd l remaining told records given reader
-over_meets l remaining told records given reader s over =
-    meets_end l remaining told records given reader reader s over.none over.begun s.source
-    over.ended (subst (λ e. standing remaining told records e reader.reader) over.ended
-    s.source) refl refl refl over.none
-
--- a record came, so the end was not reached
-pub going_on : (ended found : Bool) → (ended ≡ true
-    → ◌≡◌ {A = Result Bool TableFault} (Ok found) (Ok false)) → found ≡ true → ended ≡ false
-going_on false found over e = refl
-going_on true true over e = (let same = over refl in cc same)
-going_on true false over e = cc e
-
--- the record is the first root
-pub begins_next : {R : Type 0} (l : Allowance) (remaining : R → Option (List ℕ))
-    (told : Option (List ℕ)) (records : List Record) (given : List Tree) (here : Record)
-    (old new : TableReader R)
-    → StandsAfter l remaining told records given old → waiting old.rows ≡ [] → 0 < old.number
-    → is_ended old ≡ false → HasRead remaining told (records ++ here ∷ []) new
-    → new.number ≡ old.number + 1 → new.number < RECORD_CAP → limits_of new.rows ≡ limits_of old.rows
-    → is_spent new ≡ is_spent old → BeginsFirst old.rows here new.rows
-    → BeginsNext l remaining told records given (waiting new.rows) new
-begins_next l remaining told records given here old new s none some going source number few limits spent first =
-    let before = none_before l remaining told records given old s none some going in
-    let n = root_more l records here [] first.row before.0
-    (subst (λ m. Judged m [] here (Accepted first.row)) s.limits first.judged) first.root in
-    record {
-      seen = records ++ here ∷ [];
-      extends = extends_one records here;
-      reading = record {
-        source = source;
-        count = one_more old.number new.number records here number s.count;
-        few = few_more old.number new.number records here number s.count few;
-        limits = limits ∙ s.limits;
-        geometry = n.geometry;
-        named = subst (λ gs. Named l (records ++ here ∷ []) (gs ++ n.geometry ∷ [])) (sym before.1) n.named;
-        rows = n.rows_are ∙ sym first.waits;
-        unspent = spent ∙ s.unspent;
-      };
-    }
-
-pub first_refused : {R : Type 0} (l : Allowance) (remaining : R → Option (List ℕ))
-    (told : Option (List ℕ)) (records : List Record) (given : List Tree) (here : Record)
-    (old new : TableReader R) (reason : RowReason)
-    → StandsAfter l remaining told records given old → waiting old.rows ≡ [] → 0 < old.number
-    → is_ended old ≡ false → HasRead remaining told (records ++ here ∷ []) new
-    → new.number ≡ old.number + 1 → IsAllowance (limits_of old.rows)
-    → Judged (limits_of old.rows) [] here (Refused reason)
-    → IsRefusedAt l told records given new.number reason
-first_refused l remaining told records given here old new reason s none some going source number cap j =
-    let first = none_before l remaining told records given old s none some going in
-    refused_at l told records here [] given new.number reason (subst IsAllowance s.limits cap)
-    first.0 (sym first.1) (text_begins remaining told (records ++ here ∷ []) new source)
-    (subst (λ m. Judged m [] here (Refused reason)) s.limits j) (omega (arith, number, s.count))
+-- a record was refused as a root
+pub root_refusal_shown : {R : Type 0} (remaining : R → Option (List ℕ)) (old : Progress R) (here : Record)
+    (csv : Reader (MutBor (Tap R))) (number : ℕ) (rows : RowReader) (why : Stop RowReason)
+    → IsAlone (waiting old.rows)
+    → ReadsRecord remaining old.source (old.number + 1) (Ok true) here csv (number + 1)
+    → IfRefused (λ reason. Judged (limits_of old.rows) [] here (Refused reason)) why
+    × (rows.state ≡ state.Spent)
+    → FaultsIn remaining old (waiting old.rows) (fault_of (number + 1) why)
+    × IsMarked (fault_of (number + 1) why) rows
+root_refusal_shown remaining old here csv number rows why alone reads (refused, spent) = (
+  λ l told records given r. reads_stop l remaining told records given (waiting old.rows) old r here csv number
+      why reads (if_refused _ _ why (λ reason j. judged_alone (limits_of old.rows) l r.seen given
+      (waiting old.rows) here (Refused reason) alone r.named j) refused),
+  (stop_fresh (number + 1) why, ap is_stopped spent),
+)

@@ -50,19 +50,15 @@ abbrev pub standing : {R : Type 0} → (R → Option (List ℕ)) → Option (Lis
 standing remaining told records false reader = HasGiven remaining told records reader
 standing remaining told records true reader = IfSome told (λ text. AreRecordsOf text records)
 
--- if the old reader is at some place in a text, the new one is one record further, and the text
--- begins with the records given
-abbrev pub Advances : {R : Type 0} → (R → Option (List ℕ)) → Bool → Reader (MutBor (Tap R)) → Record
-    → Bool → Reader (MutBor (Tap R)) → Type 0
-Advances remaining ended old here over new =
-    (told : Option (List ℕ)) (records : List Record) → standing remaining told records ended old
-    → standing remaining told (records ++ here ∷ []) over new
-    × IfSome told (λ text. BeginWith text (records ++ here ∷ []))
-
--- if the old reader is at some place in a text, the new one is there too, and the records given are
--- all those of the text
-abbrev pub Finishes : {R : Type 0} → (R → Option (List ℕ)) → Bool → Reader (MutBor (Tap R)) → Bool
+-- if the old reader gave some records of a text, the new one gave this record too
+abbrev pub Advances : {R : Type 0} → (R → Option (List ℕ)) → Reader (MutBor (Tap R)) → Record
     → Reader (MutBor (Tap R)) → Type 0
-Finishes remaining ended old over new =
-    (told : Option (List ℕ)) (records : List Record) → standing remaining told records ended old
-    → standing remaining told records over new × IfSome told (λ text. AreRecordsOf text records)
+Advances remaining old here new =
+    (told : Option (List ℕ)) (records : List Record) → HasGiven remaining told records old
+    → HasGiven remaining told (records ++ here ∷ []) new
+
+-- the records that the reader gave are all those of the text
+abbrev pub Finishes : {R : Type 0} → (R → Option (List ℕ)) → Reader (MutBor (Tap R)) → Type 0
+Finishes remaining reader =
+    (told : Option (List ℕ)) (records : List Record) → HasGiven remaining told records reader
+    → IfSome told (λ text. AreRecordsOf text records)

@@ -1,16 +1,17 @@
 -- The state of a reader of rows in the geometry that it reads.
-use Rattle.std.specs.Prelude.{◌≡◌, ◌<◌, List, [], ◌∷◌, ◌++◌, length, reverse, Option, Some, None}
-use Rattle.twkb_points.specs.Point.{Point}
+use Rattle.std.specs.Prelude.{◌≡◌, ◌<◌, List, [], ◌∷◌, ◌++◌, length, reverse, Result, Ok, Err, true, false, Bool}
 use Rattle.twkb_tree.specs.Limits.{Allowance}
 use Rattle.twkb_tree.specs.Rows.{Row as TableRow}
 use Rattle.twkb_tree.specs.RowLists.{AreValidRowsOfOne}
 use Rattle.twkb_tree.specs.declared.open_rows.OpenRow.{OpenRow}
 use Rattle.twkb_tree.specs.Open.{AreOpen}
-use Rattle.twkb_flat.specs.Rows.{row_with}
 use Rattle.twkb_table.specs.Record.{Record}
-use Rattle.twkb_table.specs.Waiting.{root_row}
-use Rattle.twkb_table.specs.declared.row_reader.Root.{Root}
-use Rattle.twkb_table.specs.Judged.{Verdict, Accepted, Judged}
+use Rattle.twkb_table.specs.Waiting.{waiting_rows}
+use Rattle.twkb_table.specs.declared.row_reader.State.TheVariants as state
+use Rattle.twkb_flat.specs.declared.stop.Stop.{Stop}
+use Rattle.twkb_flat.specs.Stops.{IfRefused}
+use Rattle.twkb_table.specs.Judged.{Verdict, Accepted, Refused, Judged}
+use Rattle.twkb_table.specs.declared.reason.RowReason.{RowReason}
 use Rattle.twkb_table.specs.declared.row_reader.RowReader.{RowReader}
 
 -- the limits on a geometry
@@ -21,26 +22,21 @@ limits_of reader = reader.limits
 abbrev pub open_rows_of : RowReader → List OpenRow
 open_rows_of reader = reader.open_rows
 
--- a root with these points, if there is one
-abbrev pub with_points : Option Root → List Point → List TableRow
-with_points None points = []
-with_points (Some root) points = row_with (root_row root) points ∷ []
-
 -- the root that waits, if one does
 abbrev pub waiting : RowReader → List TableRow
-waiting reader = with_points reader.waiting reader.points.items
+waiting reader = waiting_rows reader.state reader.points.items
 
 -- this is the verdict on the record after these rows of the last geometry, whatever rows come
 -- before them
 abbrev pub JudgedAfter : Allowance → List TableRow → Record → Verdict → Type 0
 JudgedAfter l rows fields v = (earlier : List TableRow) → Judged l (reverse (earlier ++ rows)) fields v
 
--- These are rows of one valid geometry, the reader keeps their open rows, and no root waits.
+-- These are rows of one valid geometry that is being read, and the reader keeps their open rows.
 pub record Keeps (reader : RowReader) (rows : List TableRow) : Type 0 where
   pub of_one : AreValidRowsOfOne (limits_of reader) rows
   pub some : 0 < length rows
   pub open_rows : AreOpen (reverse rows) (open_rows_of reader)
-  pub none : waiting reader ≡ []
+  pub state : reader.state ≡ state.Spent
 
 -- The record is one more row of the geometry that the reader reads.
 pub record GoesOn (old : RowReader) (before : List TableRow) (fields : Record) (new : RowReader)
@@ -58,9 +54,24 @@ pub record EndsBefore (old : RowReader) (before : List TableRow) (fields : Recor
   pub root : row.depth ≡ 0
   pub judged : JudgedAfter (limits_of old) before fields (Accepted row)
 
--- The record is the root of the first geometry, and waits.
+-- The record is a root, judged as the first one of a table, and waits.
 pub record BeginsFirst (old : RowReader) (fields : Record) (new : RowReader) : Type 0 where
   pub row : TableRow
   pub waits : waiting new ≡ row ∷ []
   pub root : row.depth ≡ 0
   pub judged : Judged (limits_of old) [] fields (Accepted row)
+
+-- what reading a record as a root shows
+abbrev pub ReadsRoot : RowReader → Record → Result (Unit {0}) (Stop RowReason) → RowReader → Type 0
+ReadsRoot old fields (Ok done) new = BeginsFirst old fields new
+ReadsRoot old fields (Err why) new =
+    IfRefused (λ reason. Judged (limits_of old) [] fields (Refused reason)) why × (new.state ≡ state.Spent)
+
+-- what reading a record after rows of the same geometry shows
+abbrev pub ReadsRow : RowReader → List TableRow → Record → Result Bool (Stop RowReason) → RowReader
+    → List TableRow → Type 0
+ReadsRow old before fields (Ok true) new after = GoesOn old before fields new after
+ReadsRow old before fields (Ok false) new after = EndsBefore old before fields new × (after ≡ before)
+ReadsRow old before fields (Err why) new after =
+    IfRefused (λ reason. JudgedAfter (limits_of old) before fields (Refused reason)) why
+    × (new.state ≡ state.Spent)

@@ -1,15 +1,21 @@
 -- The state of a reader of tables, and what its calls return.
-use Rattle.std.specs.Prelude.{◌≡◌, ℕ, ◌+◌, ◌<◌, ◌⊎◌, List, [], ◌∷◌, ◌++◌, length, Option}
+use Rattle.std.specs.Prelude.{◌≡◌, ◌≢◌, ℕ, ◌+◌, ◌<◌, ◌⊎◌, List, [], ◌∷◌, ◌++◌, length, Option}
 use Rattle.std.specs.Prelude.{IfSome, Result, Ok, Err, Bool, true, false, ⊤}
+use Rattle.std.specs.Borrow.{MutBor}
+use Rattle.csv.specs.declared.reader.Reader.{Reader}
+use Rattle.twkb_io.specs.declared.tap.Tap.{Tap}
 use Rattle.twkb_tree.specs.Tree.{Tree}
 use Rattle.twkb_tree.specs.Rows.{Row, rows}
 use Rattle.twkb_tree.specs.Limits.{Allowance, IsValid}
-use Rattle.twkb_table.specs.Record.{Record, header}
+use Rattle.twkb_table.specs.Record.{Record}
 use Rattle.twkb_table.specs.Named.{Named}
 use Rattle.twkb_table.specs.RowFault.{AreComplete, all_but_last}
-use Rattle.twkb_table.specs.CsvRecords.{AreRecordsOf, BeginWith, standing}
-use Rattle.twkb_table.specs.RowReading.{limits_of, waiting}
-use Rattle.twkb_table.specs.Waiting.{IsPoint}
+use Rattle.twkb_table.specs.CsvRecords.{AreRecordsOf, BeginWith, HasGiven, standing}
+use Rattle.twkb_table.specs.RowReading.{limits_of, waiting, Keeps}
+use Rattle.twkb_table.specs.Waiting.{IsPoint, is_over, is_stopped}
+use Rattle.twkb_table.specs.declared.row_reader.RowReader.{RowReader}
+use Rattle.twkb_table.specs.declared.row_reader.State.{State}
+use Rattle.twkb_table.specs.declared.row_reader.State.TheVariants as state
 use Rattle.twkb_table.specs.declared.numbered_records.TheConstants.{RECORD_CAP}
 use Rattle.twkb_table.specs.declared.reason.RowReason.{RowReason}
 use Rattle.twkb_table.specs.declared.table_fault.TableFault.{TableFault}
@@ -31,46 +37,53 @@ HaveGiven l records given [] ended = NameSoFar l records given × ((given ≡ []
 HaveGiven l records given (root ∷ more) ended = (last : Tree) × Named l records (given ++ last ∷ [])
     × (rows 0 last ≡ root ∷ more) × (ended ≡ false)
 
+-- What a reader of tables has read: its reader of `csv`, the number of records after the header, and
+-- its rows.
+pub record Progress (R : Type 0) : Type 0 where
+  pub source : Reader (MutBor (Tap R))
+  pub number : ℕ
+  pub rows : RowReader
+
+-- what this reader has read
+abbrev pub progress : {R : Type 0} → TableReader R → Progress R
+progress reader = record { source = reader.reader; number = reader.number; rows = reader.rows }
+
 -- whether the end of the table was reached
 abbrev pub is_ended : {R : Type 0} → TableReader R → Bool
-is_ended reader = reader.ended
+is_ended reader = is_over reader.rows.state
 
 -- whether a call returned an error
 abbrev pub is_spent : {R : Type 0} → TableReader R → Bool
-is_spent reader = reader.spent
+is_spent reader = is_stopped reader.rows.state
 
--- `csv` gave the reader these records of a text known at the start, and they are all its records
--- if the end was reached
-abbrev pub HasRead : {R : Type 0} → (R → Option (List ℕ)) → Option (List ℕ) → List Record → TableReader R → Type 0
-HasRead remaining told records reader = standing remaining told records (is_ended reader) reader.reader
+-- the number of records read, if this many came after the header
+abbrev pub records_read : State → ℕ → ℕ
+records_read state.Fresh number = 0
+records_read _ number = number + 1
 
 -- A reader with these limits read these records, fewer than RECORD_CAP, of a text known at the start,
--- and returned these geometries.
-pub record StandsAfter {R : Type 0} (l : Allowance) (remaining : R → Option (List ℕ))
-    (told : Option (List ℕ)) (records : List Record) (given : List Tree)
-    (reader : TableReader R) : Type 0 where
-  pub source : HasRead remaining told records reader
-  pub count : reader.number ≡ length records
+-- and returned these geometries. They are all records of the text if the end was reached.
+pub record StandsAt {R : Type 0} (l : Allowance) (remaining : R → Option (List ℕ))
+    (told : Option (List ℕ)) (records : List Record) (given : List Tree) (now : Progress R) : Type 0 where
+  pub source : standing remaining told records (is_over now.rows.state) now.source
+  pub count : records_read now.rows.state now.number ≡ length records
   pub few : length records < RECORD_CAP
-  pub limits : limits_of reader.rows ≡ l
-  pub gave : HaveGiven l records given (waiting reader.rows) (is_ended reader)
-  pub unspent : is_spent reader ≡ false
+  pub limits : limits_of now.rows ≡ l
+  pub gave : HaveGiven l records given (waiting now.rows) (is_over now.rows.state)
+  pub unspent : is_stopped now.rows.state ≡ false
 
--- The end of the table was reached, and all its geometries were returned.
-pub record IsOver {R : Type 0} (reader : TableReader R) : Type 0 where
-  pub ended : is_ended reader ≡ true
-  pub none : waiting reader.rows ≡ []
-  pub begun : 0 < reader.number
+-- this reader is such a reader
+abbrev pub StandsAfter : {R : Type 0} → Allowance → (R → Option (List ℕ)) → Option (List ℕ)
+    → List Record → List Tree → TableReader R → Type 0
+StandsAfter l remaining told records given reader = StandsAt l remaining told records given (progress reader)
 
--- No call returned an error or was the last.
-pub record IsGoing {R : Type 0} (reader : TableReader R) : Type 0 where
-  pub unspent : is_spent reader ≡ false
-  pub more : IsOver reader → ⊥
+-- the end of the table was reached, and all its geometries were returned
+abbrev pub IsOver : {R : Type 0} → TableReader R → Type 0
+IsOver reader = is_ended reader ≡ true
 
--- The next geometry is known to be a point, and no call returned an error.
-pub record HasPoint {R : Type 0} (reader : TableReader R) : Type 0 where
-  pub point : IsPoint (waiting reader.rows)
-  pub unspent : is_spent reader ≡ false
+-- the next geometry is known to be a point, and no call returned an error
+abbrev pub HasPoint : {R : Type 0} → TableReader R → Type 0
+HasPoint reader = IsPoint (waiting reader.rows)
 
 -- ---- what a call returns
 
@@ -79,35 +92,44 @@ abbrev pub Extends : List Record → List Record → Type 0
 Extends records seen = (more : List Record) × (seen ≡ records ++ more)
 
 -- The records seen name one more geometry, which is valid, and these are its rows.
-pub record GivesNext {R : Type 0} (l : Allowance) (remaining : R → Option (List ℕ))
+pub record GivesRows {R : Type 0} (l : Allowance) (remaining : R → Option (List ℕ))
     (told : Option (List ℕ)) (records : List Record) (given : List Tree) (flat : List Row)
-    (reader : TableReader R) : Type 0 where
+    (now : Progress R) : Type 0 where
   pub seen : List Record
   pub extends : Extends records seen
   pub begins : IfSome told (λ text. BeginWith text seen)
   pub geometry : Tree
   pub valid : IsValid l geometry
   pub rows : rows 0 geometry ≡ flat
-  pub stands : StandsAfter l remaining told seen (given ++ geometry ∷ []) reader
+  pub stands : StandsAt l remaining told seen (given ++ geometry ∷ []) now
+
+-- the same of a reader
+abbrev pub GivesNext : {R : Type 0} → Allowance → (R → Option (List ℕ)) → Option (List ℕ)
+    → List Record → List Tree → List Row → TableReader R → Type 0
+GivesNext l remaining told records given flat reader = GivesRows l remaining told records given flat (progress reader)
 
 -- The records seen name one more geometry, which is this one.
 pub record GivesTree {R : Type 0} (l : Allowance) (remaining : R → Option (List ℕ))
     (told : Option (List ℕ)) (records : List Record) (given : List Tree) (geometry : Tree)
-    (reader : TableReader R) : Type 0 where
+    (now : Progress R) : Type 0 where
   pub seen : List Record
   pub extends : Extends records seen
   pub begins : IfSome told (λ text. BeginWith text seen)
-  pub stands : StandsAfter l remaining told seen (given ++ geometry ∷ []) reader
+  pub stands : StandsAt l remaining told seen (given ++ geometry ∷ []) now
 
 -- All records of the text name the geometries that were returned.
-pub record MeetsEnd {R : Type 0} (l : Allowance) (remaining : R → Option (List ℕ))
-    (told : Option (List ℕ)) (records : List Record) (given : List Tree)
-    (reader : TableReader R) : Type 0 where
+pub record ReachesEnd {R : Type 0} (l : Allowance) (remaining : R → Option (List ℕ))
+    (told : Option (List ℕ)) (records : List Record) (given : List Tree) (now : Progress R) : Type 0 where
   pub seen : List Record
   pub extends : Extends records seen
   pub all : IfSome told (λ text. AreRecordsOf text seen)
   pub named : Named l seen given
-  pub stands : StandsAfter l remaining told seen given reader
+  pub stands : StandsAt l remaining told seen given now
+
+-- the same of a reader
+abbrev pub MeetsEnd : {R : Type 0} → Allowance → (R → Option (List ℕ)) → Option (List ℕ)
+    → List Record → List Tree → TableReader R → Type 0
+MeetsEnd l remaining told records given reader = ReachesEnd l remaining told records given (progress reader)
 
 -- The records seen are refused at the last of them, for this reason, and the geometries returned
 -- are those that the refusal leaves complete. If no record was seen, the text has none.
@@ -158,7 +180,7 @@ Gives remaining old flat new = Wherever remaining old
 -- the records name this one more geometry, and the new reader is after it
 abbrev pub GivesGeometry : {R : Type 0} → (R → Option (List ℕ)) → TableReader R → Tree → TableReader R → Type 0
 GivesGeometry remaining old geometry new = Wherever remaining old
-    (λ l told records given. GivesTree l remaining told records given geometry new)
+    (λ l told records given. GivesTree l remaining told records given geometry (progress new))
 
 -- all records of the text name the geometries returned, and the new reader is at its end
 abbrev pub Ends : {R : Type 0} → (R → Option (List ℕ)) → TableReader R → TableReader R → Type 0
@@ -170,86 +192,106 @@ Faults remaining old f = Wherever remaining old (λ l told records given. Explai
 
 -- ---- inside a call
 
--- the number of records read
-abbrev pub records_read : {R : Type 0} → TableReader R → ℕ
-records_read reader = reader.number
+-- the records name the geometries that were returned and, if its root was read, one more, which has
+-- these rows so far
+abbrev pub NameReading : Allowance → List Record → List Tree → List Row → Type 0
+NameReading l records given [] = Named l records given × (given ≡ [])
+NameReading l records given (root ∷ more) =
+    (last : Tree) × Named l records (given ++ last ∷ []) × (rows 0 last ≡ root ∷ more)
 
--- The records name the geometries that were returned and one more, which has these rows so far.
+-- The records seen, fewer than RECORD_CAP, name the geometries that were returned and one more, which
+-- has these rows so far.
 pub record IsReading {R : Type 0} (l : Allowance) (remaining : R → Option (List ℕ))
     (told : Option (List ℕ)) (records : List Record) (given : List Tree) (so_far : List Row)
-    (reader : TableReader R) : Type 0 where
-  pub source : HasRead remaining told records reader
-  pub count : reader.number ≡ length records
-  pub few : length records < RECORD_CAP
-  pub limits : limits_of reader.rows ≡ l
-  pub geometry : Tree
-  pub named : Named l records (given ++ geometry ∷ [])
-  pub rows : rows 0 geometry ≡ so_far
-  pub unspent : is_spent reader ≡ false
-
--- The header was read, as the first record.
-pub record HasHeader {R : Type 0} (l : Allowance) (remaining : R → Option (List ℕ))
-    (told : Option (List ℕ)) (records : List Record) (given : List Tree)
-    (reader : TableReader R) : Type 0 where
-  pub fresh : records ≡ []
-  pub none : given ≡ []
-  pub stands : StandsAfter l remaining told (header ∷ []) [] reader
-
--- what reading the first record shows
-abbrev pub ReadsHeader : {R : Type 0} → Allowance → (R → Option (List ℕ)) → Option (List ℕ)
-    → List Record → List Tree → TableReader R → Result (Unit {0}) TableFault → Type 0
-ReadsHeader l remaining told records given reader (Ok done) = HasHeader l remaining told records given reader
-ReadsHeader l remaining told records given reader (Err fault) = Explains l told records given fault
-
--- The records seen name one more geometry, which has these rows so far.
-pub record BeginsNext {R : Type 0} (l : Allowance) (remaining : R → Option (List ℕ))
-    (told : Option (List ℕ)) (records : List Record) (given : List Tree) (so_far : List Row)
-    (reader : TableReader R) : Type 0 where
+    (now : Progress R) : Type 0 where
   pub seen : List Record
   pub extends : Extends records seen
-  pub reading : IsReading l remaining told seen given so_far reader
+  pub source : HasGiven remaining told seen now.source
+  pub count : now.number + 1 ≡ length seen
+  pub few : length seen < RECORD_CAP
+  pub limits : limits_of now.rows ≡ l
+  pub named : NameReading l seen given so_far
+
+-- The records seen name these geometries, and one more if a root waits.
+pub record Reaches {R : Type 0} (l : Allowance) (remaining : R → Option (List ℕ))
+    (told : Option (List ℕ)) (records : List Record) (given : List Tree) (now : Progress R) : Type 0 where
+  pub seen : List Record
+  pub extends : Extends records seen
+  pub begins : IfSome told (λ text. BeginWith text seen)
+  pub stands : StandsAt l remaining told seen given now
+
+-- the geometry with these rows is complete; before the first root there is none
+abbrev pub Completes : {R : Type 0} → Allowance → (R → Option (List ℕ)) → Option (List ℕ)
+    → List Record → List Tree → List Row → Progress R → Type 0
+Completes l remaining told records given [] now = Reaches l remaining told records given now
+Completes l remaining told records given (root ∷ more) now =
+    GivesRows l remaining told records given (root ∷ more) now
 
 -- the records name one more geometry, which has these rows so far, and the new reader reads it
 abbrev pub Begins : {R : Type 0} → (R → Option (List ℕ)) → TableReader R → List Row → TableReader R → Type 0
 Begins remaining old so_far new = Wherever remaining old
-    (λ l told records given. BeginsNext l remaining told records given so_far new)
+    (λ l told records given. IsReading l remaining told records given so_far (progress new))
 
--- what reading a root shows: it waits, or the table ended
-abbrev pub ReadsRoot : {R : Type 0} → Allowance → (R → Option (List ℕ)) → Option (List ℕ)
-    → List Record → List Tree → TableReader R → Result Bool TableFault → Type 0
-ReadsRoot l remaining told records given reader (Ok true) = BeginsNext l remaining told records
-    given (waiting reader.rows) reader
-ReadsRoot l remaining told records given reader (Ok false) = MeetsEnd l remaining told records given reader
-ReadsRoot l remaining told records given reader (Err fault) = Explains l told records given fault
-
--- reading the first record shows this, whatever the old reader's state
-abbrev pub ShowsHeader : {R : Type 0} → (R → Option (List ℕ)) → TableReader R → TableReader R
-    → Result (Unit {0}) TableFault → Type 0
-ShowsHeader remaining old new result = Wherever remaining old
-    (λ l told records given. ReadsHeader l remaining told records given new result)
-
--- reading a root shows this, whatever the old reader's state
-abbrev pub ShowsRoot : {R : Type 0} → (R → Option (List ℕ)) → TableReader R → TableReader R
-    → Result Bool TableFault → Type 0
-ShowsRoot remaining old new result = Wherever remaining old
-    (λ l told records given. ReadsRoot l remaining told records given new result)
-
--- P holds of the limits, the text, the records read and the geometries returned, for every state
--- in which the reader may be reading rows
-abbrev pub WhereverReading : {R : Type 0} → (R → Option (List ℕ)) → TableReader R → List Row
+-- P holds of the limits, the text, the records read before the call and the geometries returned, for
+-- every state in which the reader may be reading rows
+abbrev pub WhereverReading : {R : Type 0} → (R → Option (List ℕ)) → Progress R → List Row
     → (Allowance → Option (List ℕ) → List Record → List Tree → Type 0) → Type 0
 WhereverReading remaining old so_far Holds =
     (l : Allowance) (told : Option (List ℕ)) (records : List Record) (given : List Tree)
     → IsReading l remaining told records given so_far old → Holds l told records given
 
--- the records name the geometry that was being read, whose rows are these, and the new reader is
--- after it
-abbrev pub Completes : {R : Type 0} → (R → Option (List ℕ)) → TableReader R → List Row → List Row
-    → TableReader R → Type 0
-Completes remaining old so_far flat new = WhereverReading remaining old so_far
-    (λ l told records given. GivesNext l remaining told records given flat new)
-
 -- the fault is true of the text, if a geometry was being read
-abbrev pub FaultsIn : {R : Type 0} → (R → Option (List ℕ)) → TableReader R → List Row → TableFault → Type 0
+abbrev pub FaultsIn : {R : Type 0} → (R → Option (List ℕ)) → Progress R → List Row → TableFault → Type 0
 FaultsIn remaining old so_far f = WhereverReading remaining old so_far
     (λ l told records given. Explains l told records given f)
+
+-- the fault is that of a call that was not refused before, and is marked
+abbrev pub IsMarked : TableFault → RowReader → Type 0
+IsMarked f rows = (f ≢ fault.Spent) × (is_stopped rows.state ≡ true)
+
+-- whether a root waits: if not, the end was reached
+abbrev pub IsReady : Bool → RowReader → Type 0
+IsReady true rows = 0 < length (waiting rows)
+IsReady false rows = is_over rows.state ≡ true
+
+-- what reading the header shows
+abbrev pub ReadsHeader : {R : Type 0} → (R → Option (List ℕ)) → TableReader R
+    → Result (Unit {0}) TableFault → TableReader R → Type 0
+ReadsHeader remaining old (Ok done) new = Begins remaining old (waiting new.rows) new × (waiting new.rows ≡ [])
+ReadsHeader remaining old (Err f) new = Faults remaining old f × IsMarked f new.rows
+
+-- what looking for the root of the next geometry shows
+abbrev pub FindsRoot : {R : Type 0} → (R → Option (List ℕ)) → TableReader R → Result Bool TableFault
+    → TableReader R → Type 0
+FindsRoot remaining old (Ok found) new =
+    Wherever remaining old (λ l told records given. Reaches l remaining told records given (progress new))
+    × IsReady found new.rows
+FindsRoot remaining old (Err f) new = Faults remaining old f × IsMarked f new.rows
+
+-- what reading a root shows, before the first geometry or after a point
+abbrev pub ReadsNextRoot : {R : Type 0} → (R → Option (List ℕ)) → Progress R → Result Bool TableFault
+    → Progress R → Type 0
+ReadsNextRoot remaining old (Ok found) new =
+    WhereverReading remaining old (waiting old.rows) (λ l told records given.
+    Completes l remaining told records given (waiting old.rows) new) × IsReady found new.rows
+ReadsNextRoot remaining old (Err f) new = FaultsIn remaining old (waiting old.rows) f × IsMarked f new.rows
+
+-- what reading a record after these rows of a geometry shows
+abbrev pub ReadsNextRow : {R : Type 0} → (R → Option (List ℕ)) → Progress R → List Row
+    → Result Bool TableFault → List Row → Progress R → Type 0
+ReadsNextRow remaining old before (Ok true) after new =
+    WhereverReading remaining old before (λ l told records given.
+    IsReading l remaining told records given after new)
+    × Keeps new.rows after × (old.number < new.number) × (new.number < RECORD_CAP)
+ReadsNextRow remaining old before (Ok false) after new =
+    WhereverReading remaining old before (λ l told records given.
+    GivesRows l remaining told records given before new)
+    × (after ≡ before) × (is_stopped new.rows.state ≡ false)
+ReadsNextRow remaining old before (Err f) after new = FaultsIn remaining old before f × IsMarked f new.rows
+
+-- what a call that is neither after the end nor after a refusal shows
+abbrev pub ReadsGeometry : {R : Type 0} → (R → Option (List ℕ)) → TableReader R → Result Bool TableFault
+    → List Row → TableReader R → Type 0
+ReadsGeometry remaining old (Ok true) flat new = Gives remaining old flat new × (0 < length flat) × (is_spent new ≡ false)
+ReadsGeometry remaining old (Ok false) flat new = Ends remaining old new × (flat ≡ []) × IsOver new
+ReadsGeometry remaining old (Err f) flat new = Faults remaining old f × IsMarked f new.rows

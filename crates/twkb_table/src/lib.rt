@@ -14,7 +14,6 @@ mod open_rows;
 mod places;
 mod point_roots;
 mod reason;
-mod record_source;
 mod record_verdict;
 mod record_writer;
 mod row_line;

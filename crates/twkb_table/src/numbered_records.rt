@@ -1,14 +1,14 @@
 //! Records with their numbers.
-ghost use Rattle.std.specs.Prelude.{◌≡◌, ◌+◌, ◌<◌, Ok, true, false, IfOk, IfErr};
+ghost use Rattle.std.specs.Prelude.{◌≡◌, ◌+◌, []};
 ghost use Rattle.csv.specs.Records.{fields_of};
-ghost use Rattle.twkb_table.specs.CsvRecords.{Advances, Finishes};
-ghost use Rattle.twkb_table.specs.NumberedRecords.{MissesRecord, fault_of};
-ghost use Rattle.twkb_table.specs.declared.numbered_records.TheConstants.{RECORD_CAP};
+ghost use Rattle.twkb_io.specs.Taps.{device_of};
+ghost use Rattle.twkb_table.specs.CsvRecords.{HasGiven};
+ghost use Rattle.twkb_table.specs.NumberedRecords.{ReadsNext, ReadsRecord, fault_of};
 
 use crate::reason::RowReason;
-use crate::record_source::read_next;
 use crate::table_fault::TableFault;
-use csv::{ByteRecord, Reader};
+use csv::{ByteRecord, Reader, ReaderBuilder};
+use std::alloc::Global;
 use std::io::Read;
 use twkb_flat::Stop;
 use twkb_io::Tap;
@@ -16,49 +16,65 @@ use twkb_io::Tap;
 /// Each record of a table has a number below this (profile).
 pub const RECORD_CAP: u64 = 1 << 32;
 
-// Reads the next record into `last`, adds 1 to `number`, and returns whether there was a record; if
-// not, sets `ended`, and reads nothing in later calls. An `Err` is `TooManyRecords` if the record's
-// number would be 2^32, or `Source` if the device failed or memory was refused.
+// Makes a reader of `csv` over a tap, which has read nothing. It gives all records, the first one
+// too, with any number of fields, and the fields as they are.
+pub(crate) fn new_reader<'a, R: Read>(alloc: Global, tap: &'a mut Tap<R>) -> Reader<&'a mut Tap<R>>
+    ensures { HasGiven R.remaining (R.remaining (device_of tap.old)) [] result }
+{
+    ReaderBuilder::new()
+        .has_headers(false)
+        .flexible(true)
+        .from_reader(alloc, tap)
+}
+
+// Reads the next record into `last`, and returns whether there was one. The `Err` is `Source`: the
+// device failed, or memory was refused; nothing is then known of `last`.
+#[inline(always)]
+pub(crate) fn read_next<R: Read>(
+    reader: &mut Reader<&mut Tap<R>>,
+    last: &mut ByteRecord,
+) -> Result<bool, TableFault>
+    ensures { ReadsNext R.remaining reader.old result (fields_of last.new) reader.new }
+{
+    let Ok(found) = reader.read_byte_record(last) else {
+        return Err(TableFault::Source);
+    };
+    Ok(found)
+}
+
+// Reads the next record after the header into `last`, adds 1 to `number`, the number of records
+// after the header, and returns whether there was a record. An `Err` is `TooManyRecords` if the
+// record's number in the table would be 2^32, or `Source` if the device failed or memory was refused.
 #[inline(always)]
 pub(crate) fn next_record<R: Read>(
     reader: &mut Reader<&mut Tap<R>>,
     last: &mut ByteRecord,
-    ended: &mut bool,
     number: &mut u32,
 ) -> Result<bool, TableFault>
-    ensures more { IfOk result (λ found. found ≡ true
-        → Advances R.remaining ended.old reader.old (fields_of last.new) ended.new reader.new) }
-    ensures counted { IfOk result (λ found. found ≡ true → (number.new ≡ number.old + 1) × (number.new < RECORD_CAP)) }
-    ensures over { ended.old ≡ true → result ≡ Ok false }
-    ensures ended { result ≡ Ok false → ended.new ≡ true }
-    ensures going { IfOk result (λ found. found ≡ true → ended.new ≡ false) }
-    ensures end { IfOk result (λ found. found ≡ false
-        → Finishes R.remaining ended.old reader.old ended.new reader.new) }
-    ensures uncounted { IfOk result (λ found. found ≡ false → number.new ≡ number.old) }
-    ensures fault { IfErr result (λ fault. MissesRecord R.remaining ended.old reader.old number.old fault) }
+    ensures { ReadsRecord R.remaining reader.old (number.old + 1) result (fields_of last.new)
+        reader.new (number.new + 1) }
 {
-    let Ok(found) = read_next(reader, last, ended) else {
-        return Err(TableFault::Source);
-    };
-    if !found {
-        return Ok(false);
+    match read_next(reader, last) {
+        Ok(true) => {}
+        Ok(false) => return Ok(false),
+        Err(fault) => return Err(fault),
     }
-    if u64::from(*number) + 1 == RECORD_CAP {
+    if u64::from(*number) + 2 >= RECORD_CAP {
         return Err(TableFault::TooManyRecords);
     }
     *number += 1;
     Ok(true)
 }
 
-// The fault to report for the record with this number, which gave no row: `Memory` if memory was
-// refused, else `At` with the number and the reason.
+// The fault to report for the last record after this many after the header, if it gave no row:
+// `Memory` if memory was refused, else `At` with the record's number in the table and the reason.
 pub(crate) fn fault_at(number: u32, stop: Stop<RowReason>) -> TableFault
-    ensures value { result ≡ fault_of number stop }
+    ensures value { result ≡ fault_of (number + 1) stop }
 {
     match stop {
         Stop::Memory => TableFault::Memory,
         Stop::Refused(reason) => TableFault::At {
-            number: u64::from(number),
+            number: u64::from(number) + 1,
             reason,
         },
     }

@@ -1,17 +1,15 @@
 //! Roots that are points, given without a flat form.
 ghost use Rattle.std.specs.Prelude.{◌≡◌, ◌↔◌, ◌≢◌, [], ◌∷◌, None, Ok, Err};
-ghost use Rattle.std.specs.Prelude.{true, false, is_err, OnOk, IfOk, IfErr, IfSome, IsTrue};
+ghost use Rattle.std.specs.Prelude.{true, false, is_err, IfOk, IfErr, IfSome, IsTrue};
 
-use crate::numbered_records::{fault_at, next_record};
 use crate::table_fault::TableFault;
 use crate::table_reader::TableReader;
 use std::io::Read;
 use twkb_points::Pt;
 
 impl<'a, R: Read> TableReader<'a, R> {
-    ghost use Rattle.twkb_table.specs.RowReading.{waiting};
-    ghost use Rattle.twkb_table.specs.TableReading.{Gives, Faults, Completes, FaultsIn, HasPoint, is_spent};
-    ghost use Rattle.twkb_table.specs.Waiting.{point_row, IsPoint};
+    ghost use Rattle.twkb_table.specs.TableReading.{Gives, Faults, HasPoint, is_spent};
+    ghost use Rattle.twkb_table.specs.Waiting.{point_row};
 
     /// Whether the next geometry is known to be a point that is not empty, which `next_point`
     /// gives: its row was read when the geometry before it was returned. False after an `Err`.
@@ -20,9 +18,6 @@ impl<'a, R: Read> TableReader<'a, R> {
     pub fn has_point(&self) -> bool
         ensures { IsTrue result ↔ HasPoint self.now }
     {
-        if self.spent {
-            return false;
-        }
         self.rows.waiting_point().is_some()
     }
 
@@ -45,51 +40,16 @@ impl<'a, R: Read> TableReader<'a, R> {
         ensures unchanged { is_spent self.old ≡ true → self.new ≡ self.old }
         ensures stays { is_spent self.new ≡ is_err result }
     {
-        if self.spent {
+        let is_spent = self.is_spent();
+        if is_spent {
             return Err(TableFault::Spent);
         }
         let Some((precision, point)) = self.rows.waiting_point() else {
             return Ok(None);
         };
-        match self.read_after_point() {
-            Ok(()) => Ok(Some((precision, point))),
-            Err(fault) => {
-                self.spent = true;
-                Err(fault)
-            }
-        }
-    }
-
-    // Reads the record after the root that waits, which must be a point that is not empty. The
-    // record is the next root, and waits then; at the table's end none waits. An `Err` is the
-    // reason to refuse the record, or why it could not be read.
-    #[inline(always)]
-    fn read_after_point(&mut self) -> Result<(), TableFault>
-        requires point { IsPoint (waiting self.old.rows) }
-        ensures gives { OnOk result (Completes R.remaining self.old (waiting self.old.rows)
-            (waiting self.old.rows) self.new) }
-        ensures fault { IfErr result (λ fault. FaultsIn R.remaining self.old
-            (waiting self.old.rows) fault) }
-        ensures fresh { IfErr result (λ fault. fault ≢ TableFault.Spent) }
-        ensures same { is_spent self.new ≡ is_spent self.old }
-    {
-        match next_record(
-            &mut self.reader,
-            &mut self.last,
-            &mut self.ended,
-            &mut self.number,
-        ) {
-            Ok(true) => {}
-            Ok(false) => {
-                self.rows.forget_root();
-                return Ok(());
-            }
-            Err(fault) => return Err(fault),
-        }
-        // only a root can come after a point, and it is judged like the first one
-        match self.rows.read_root(&self.last) {
-            Ok(()) => Ok(()),
-            Err(fault) => Err(fault_at(self.number, fault)),
+        match self.next_root() {
+            Ok(_) => Ok(Some((precision, point))),
+            Err(fault) => Err(fault),
         }
     }
 }

@@ -1,10 +1,8 @@
 //! Rows of a table, read into the flat form one geometry after another.
-ghost use Rattle.std.specs.Prelude.{◌≡◌, ◌<◌, ◌↔◌, [], ◌∷◌, length, true, false, OnOk, IfOk, IfErr};
-ghost use Rattle.std.specs.Prelude.{IfSome, IsSome, IsTrue};
+ghost use Rattle.std.specs.Prelude.{◌≡◌, ◌<◌, [], ◌∷◌, length, true, OnOk, IfOk, IfErr, IfSome, IsSome};
 ghost use Rattle.csv.specs.Records.{fields_of};
 ghost use Rattle.twkb_tree.specs.Limits.{IsAllowance};
-ghost use Rattle.twkb_flat.specs.Stops.{IfRefused};
-ghost use Rattle.twkb_table.specs.Judged.{Verdict, Judged, Refused};
+ghost use Rattle.twkb_table.specs.Judged.{Verdict, Refused};
 ghost use Rattle.twkb_table.specs.Head.{JudgedAs};
 ghost use Rattle.twkb_table.specs.Waiting.{may_wait, point_row, IsPoint};
 
@@ -26,69 +24,75 @@ pub(crate) struct Root {
     precision: Option<i8>,
 }
 
-// The state of a reader of rows: the open rows of the geometry that it reads, and the root of the
-// next geometry while that waits, with its points in a buffer that all roots share.
+// How far the rows of a table were read.
+#[derive(Clone, Copy)]
+pub(crate) enum State {
+    // No record was read.
+    Fresh,
+    // The root of the next geometry was read, and waits.
+    Waiting(Root),
+    // The table's end was reached, and all its geometries were returned.
+    Over,
+    // A geometry is being read, or was not read to its end because of an error.
+    Spent,
+}
+
+// A reader of rows: the open rows of the geometry that it reads, and the root of the next geometry
+// while that waits, with its points in a buffer that all roots share.
 #[derive(Drop)]
 pub(crate) struct RowReader {
     limits: Limits,
     open_rows: OpenRows,
-    waiting: Option<Root>,
+    pub(crate) state: State,
     points: Vec<Pt>,
-    ghost waits: { may_wait limits waiting points.items ≡ true },
+    ghost sound: { IsAllowance limits },
+    ghost waits: { may_wait limits state points.items ≡ true },
 }
 
 impl RowReader {
-    ghost use Rattle.twkb_table.specs.RowReading.{limits_of, waiting, BeginsFirst, JudgedAfter};
-    ghost use Rattle.twkb_table.specs.RowReading.{Keeps, GoesOn, EndsBefore};
+    ghost use Rattle.twkb_table.specs.RowReading.{limits_of, waiting, JudgedAfter};
+    ghost use Rattle.twkb_table.specs.RowReading.{Keeps, ReadsRoot, ReadsRow};
 
-    // Makes a reader that has read no row, and in which no root waits. Takes no memory.
+    // Makes a reader that has read no row. Takes no memory.
     pub(crate) fn new(alloc: Global, limits: Limits) -> RowReader
         ensures limits { limits_of result ≡ limits }
-        ensures none { waiting result ≡ [] }
+        ensures fresh { result.state ≡ State.Fresh }
     {
+        // lets proofs know that the limits are allowed
+        let _learnt = limits.nest();
         RowReader {
             limits,
             open_rows: OpenRows::new(alloc),
-            waiting: None,
+            state: State::Fresh,
             points: Vec::new(alloc),
         }
     }
 
-    // Whether the root of the next geometry waits.
+    // Sets the state, to another one than that a root waits.
     #[inline(always)]
-    pub(crate) fn has_root(&self) -> bool
-        ensures { IsTrue result ↔ (0 < length (waiting self.now)) }
+    pub(crate) fn stop(&mut self, state: State)
+        requires none { (root : Root) → state ≡ State.Waiting root → ⊥ }
+        ensures state { self.new.state ≡ state }
+        ensures limits { limits_of self.new ≡ limits_of self.old }
     {
-        self.waiting.is_some()
+        self.state = state;
     }
 
     // Reads a record as the root of the next geometry, which then waits, in place of any root that
     // did. That is right if no open row may have children: before the first geometry, and after a
-    // point. An `Err` is the first reason to refuse the record, or want of memory for its points;
-    // then no root waits.
+    // point. An `Err` is the first reason to refuse the record, or want of memory for its points.
     #[inline(always)]
     pub(crate) fn read_root(&mut self, csv_record: &ByteRecord) -> Result<(), Stop<RowReason>>
-        ensures read { OnOk result (BeginsFirst self.old (fields_of csv_record.now) self.new) }
-        ensures refused { IfErr result
-            (IfRefused (λ reason. Judged (limits_of self.old) [] (fields_of csv_record.now)
-            (Refused reason))) }
+        ensures root { ReadsRoot self.old (fields_of csv_record.now) result self.new }
         ensures limits { limits_of self.new ≡ limits_of self.old }
-        ensures sound { IsAllowance (limits_of self.old) }
     {
-        // lets proofs know that the limits are allowed
-        let _learnt = self.limits.nest();
-        self.waiting = None;
-        match judge(&self.limits, &[], 0, 0, csv_record, &mut self.points) {
-            Ok(row) => {
-                let first = Root {
-                    kind: row.kind,
-                    precision: row.precision,
-                };
-                self.waiting = Some(first);
-                Ok(())
-            }
-            Err(fault) => Err(fault),
-        }
+        self.state = State::Spent;
+        let row = judge(&self.limits, &[], 0, 0, csv_record, &mut self.points)?;
+        self.state = State::Waiting(Root {
+            kind: row.kind,
+            precision: row.precision,
+        });
+        Ok(())
     }
 
     // The precision and the point of the root that waits, if it is a point that is not empty; else
@@ -98,7 +102,9 @@ impl RowReader {
         ensures point { IfSome result (λ found. waiting self.now ≡ point_row found.0 found.1 ∷ []) }
         ensures some { IsPoint (waiting self.now) → IsSome result }
     {
-        let root = self.waiting?;
+        let State::Waiting(root) = self.state else {
+            return None;
+        };
         let precision = root.precision?;
         if root.kind == Kind::Point && self.points.len() == 1 {
             Some((precision, self.points[0]))
@@ -107,31 +113,20 @@ impl RowReader {
         }
     }
 
-    // Forgets the root that waits, if one does.
-    #[inline(always)]
-    pub(crate) fn forget_root(&mut self)
-        ensures none { waiting self.new ≡ [] }
-        ensures limits { limits_of self.new ≡ limits_of self.old }
-    {
-        self.waiting = None;
-    }
-
     // Moves the root that waits, of which there must be one, into a flat form, in place of the
-    // form's rows. Takes memory. After an `Err` too no root waits, and nothing is known of the
-    // form.
+    // form's rows. Takes memory. After an `Err` nothing is known of the form.
     #[inline(always)]
     pub(crate) fn begin(&mut self, flat: &mut Flat) -> Result<(), AllocError>
         requires waits { 0 < length (waiting self.old) }
         ensures put { OnOk result (flat.new ≡ waiting self.old) }
         ensures keeps { OnOk result (Keeps self.new flat.new) }
+        ensures state { self.new.state ≡ State.Spent }
         ensures limits { limits_of self.new ≡ limits_of self.old }
     {
-        // lets proofs know that the limits are allowed
-        let _learnt = self.limits.nest();
-        let Some(root) = self.waiting else {
+        let State::Waiting(root) = self.state else {
             unreachable!()
         };
-        self.waiting = None;
+        self.state = State::Spent;
         let row = Row {
             depth: 0,
             kind: root.kind,
@@ -154,20 +149,9 @@ impl RowReader {
         flat: &mut Flat,
     ) -> Result<bool, Stop<RowReason>>
         requires keeps { Keeps self.old flat.old }
-        ensures more { IfOk result (λ more. more ≡ true
-            → GoesOn self.old flat.old (fields_of csv_record.now) self.new flat.new) }
-        ensures root { IfOk result (λ more. more ≡ false
-            → EndsBefore self.old flat.old (fields_of csv_record.now) self.new
-            × (flat.new ≡ flat.old)) }
-        ensures refused { IfErr result
-            (IfRefused (λ reason. JudgedAfter (limits_of self.old) flat.old
-            (fields_of csv_record.now) (Refused reason))) }
+        ensures row { ReadsRow self.old flat.old (fields_of csv_record.now) result self.new flat.new }
         ensures limits { limits_of self.new ≡ limits_of self.old }
-        ensures sound { IsAllowance (limits_of self.old) }
     {
-        // lets proofs know that the limits are allowed
-        let _learnt = self.limits.nest();
-        self.waiting = None;
         let head = match self.judge_next(csv_record, flat) {
             Ok(head) => head,
             Err(reason) => return Err(Stop::Refused(reason)),
@@ -178,11 +162,10 @@ impl RowReader {
             if let Err(fault) = head.append_to(&mut self.points) {
                 return Err(fault);
             }
-            let root = Root {
+            self.state = State::Waiting(Root {
                 kind: row.kind,
                 precision: row.precision,
-            };
-            self.waiting = Some(root);
+            });
             return Ok(false);
         }
         if let Err(fault) = flat.push_from(row, &head) {

@@ -1,13 +1,12 @@
 //! The geometries of a table, one after another.
-ghost use Rattle.std.specs.Prelude.{◌≡◌, ◌⊎◌, ◌↔◌, ◌<◌, ◌≢◌, [], length, None, Ok, Err};
-ghost use Rattle.std.specs.Prelude.{true, false, is_err, OnOk, IfOk, IfErr, IfSome, IsTrue};
+ghost use Rattle.std.specs.Prelude.{◌≡◌, ◌⊎◌, ◌↔◌, ◌<◌, [], length, None, Ok, Err};
+ghost use Rattle.std.specs.Prelude.{true, false, is_err, IfOk, IfErr, IfSome};
 ghost use Rattle.twkb_io.specs.Taps.{device_of};
 
 use crate::header::is_header;
-use crate::numbered_records::{fault_at, next_record};
+use crate::numbered_records::{fault_at, new_reader, next_record, read_next};
 use crate::reason::RowReason;
-use crate::record_source::{new_reader, read_next};
-use crate::row_reader::RowReader;
+use crate::row_reader::{RowReader, State};
 use crate::table_fault::TableFault;
 use csv::{ByteRecord, Reader};
 use std::alloc::Global;
@@ -26,15 +25,11 @@ pub struct TableReader<'a, R> {
     pub(crate) reader: Reader<&'a mut Tap<R>>,
     // The last record read.
     pub(crate) last: ByteRecord,
-    // Whether the end of the table was reached.
-    pub(crate) ended: bool,
-    // The number of records read.
+    // The number of records read after the header.
     pub(crate) number: u32,
     pub(crate) rows: RowReader,
     // The flat form into which `next` reads rows.
     kept: Flat,
-    // Whether a call returned an error.
-    pub(crate) spent: bool,
 }
 
 // The fault of a first record that is missing or not the header.
@@ -44,10 +39,11 @@ const BAD_HEADER: TableFault = TableFault::At {
 };
 
 impl<'a, R: Read> TableReader<'a, R> {
+    ghost use Rattle.twkb_table.specs.Waiting.{IsAlone};
     ghost use Rattle.twkb_table.specs.RowReading.{waiting, Keeps};
-    ghost use Rattle.twkb_table.specs.TableReading.{StandsAfter, Begins, Gives, GivesGeometry, Ends};
-    ghost use Rattle.twkb_table.specs.TableReading.{Faults, ShowsHeader, ShowsRoot, IsOver, IsGoing};
-    ghost use Rattle.twkb_table.specs.TableReading.{is_spent, records_read};
+    ghost use Rattle.twkb_table.specs.TableReading.{StandsAfter, Gives, GivesGeometry, Ends, Faults};
+    ghost use Rattle.twkb_table.specs.TableReading.{IsOver, is_ended, is_spent, progress, ReadsGeometry};
+    ghost use Rattle.twkb_table.specs.TableReading.{ReadsNextRow, FindsRoot, ReadsHeader, ReadsNextRoot};
 
     /// Makes a reader of the table that the tap still has, which has read nothing. It refuses a
     /// geometry past the limits when it reads it. Takes no memory.
@@ -58,11 +54,9 @@ impl<'a, R: Read> TableReader<'a, R> {
             alloc,
             reader: new_reader(alloc, tap),
             last: ByteRecord::new(alloc),
-            ended: false,
             number: 0,
             rows: RowReader::new(alloc, limits),
             kept: Flat::new(alloc),
-            spent: false,
         }
     }
 
@@ -87,26 +81,19 @@ impl<'a, R: Read> TableReader<'a, R> {
         ensures stays { is_spent self.new ≡ is_err result }
     {
         flat.clear();
-        match self.begin_geometry(flat) {
-            Ok(true) => {}
-            Ok(false) => return Ok(false),
-            Err(fault) => return Err(self.spend(flat, fault)),
+        let is_spent = self.is_spent();
+        if is_spent {
+            return Err(TableFault::Spent);
         }
-        loop {
-            match next_record(
-                &mut self.reader,
-                &mut self.last,
-                &mut self.ended,
-                &mut self.number,
-            ) {
-                Ok(true) => {}
-                Ok(false) => return Ok(true),
-                Err(fault) => return Err(self.spend(flat, fault)),
-            }
-            match self.rows.read_row(&self.last, flat) {
-                Ok(true) => {}
-                Ok(false) => return Ok(true),
-                Err(stop) => return Err(self.spend(flat, fault_at(self.number, stop))),
+        let is_over = self.is_over();
+        if is_over {
+            return Ok(false);
+        }
+        match self.read_geometry(flat) {
+            Ok(found) => Ok(found),
+            Err(fault) => {
+                flat.clear();
+                Err(fault)
             }
         }
     }
@@ -127,11 +114,12 @@ impl<'a, R: Read> TableReader<'a, R> {
         ensures unchanged { IsOver self.old ⊎ (is_spent self.old ≡ true) → self.new ≡ self.old }
         ensures stays { is_spent self.new ≡ is_err result }
     {
-        let is_spent = self.spent;
+        let is_spent = self.is_spent();
         if is_spent {
             return Err(TableFault::Spent);
         }
-        if self.is_over() {
+        let is_over = self.is_over();
+        if is_over {
             return Ok(None);
         }
         let mut flat = replace(&mut self.kept, Flat::new(self.alloc));
@@ -141,13 +129,25 @@ impl<'a, R: Read> TableReader<'a, R> {
     }
 
     // Whether the table's end was reached, and all its geometries were returned.
+    #[inline(always)]
     fn is_over(&self) -> bool
-        ensures { IsTrue result ↔ IsOver self.now }
+        ensures { result ≡ is_ended self.now }
     {
-        if !self.ended || self.number == 0 {
-            return false;
+        match self.rows.state {
+            State::Over => true,
+            _ => false,
         }
-        !self.rows.has_root()
+    }
+
+    // Whether a call returned an error.
+    #[inline(always)]
+    pub(crate) fn is_spent(&self) -> bool
+        ensures { result ≡ is_spent self.now }
+    {
+        match self.rows.state {
+            State::Spent => true,
+            _ => false,
+        }
     }
 
     // Reads the next geometry into a flat form, in place of its rows, and returns it built; `None`
@@ -169,130 +169,123 @@ impl<'a, R: Read> TableReader<'a, R> {
             Err(fault) => return Err(fault),
         }
         let Ok(geometry) = flat.to_geometry(self.alloc) else {
-            self.spent = true;
+            self.rows.stop(State::Spent);
             return Err(TableFault::Memory);
         };
         Ok(Some(geometry))
     }
 
-    // Moves the root of the next geometry into a flat form, in place of its rows, and returns
-    // whether there is one; reads the header and the first root before, if need be. `Spent` if the
-    // reader is spent; any other `Err` does not mark it as spent.
+    // Reads the next geometry into a flat form, which must be empty, and returns whether there was
+    // one. The reader must be neither at the end nor spent. An `Err` marks it as spent.
     #[inline(always)]
-    fn begin_geometry(&mut self, flat: &mut Flat) -> Result<bool, TableFault>
-        ensures begins { IfOk result (λ found. found ≡ true → Begins R.remaining self.old flat.new self.new) }
-        ensures keeps { IfOk result (λ found. found ≡ true → Keeps self.new.rows flat.new) }
-        ensures going { IfOk result (λ found. found ≡ true → IsGoing self.old) }
-        ensures ends { IfOk result (λ found. found ≡ false → Ends R.remaining self.old self.new) }
-        ensures ended { result ≡ Ok false → IsOver self.new }
-        ensures none { result ≡ Ok false → flat.new ≡ flat.old }
-        ensures fault { IfErr result (λ fault. Faults R.remaining self.old fault) }
-        ensures over { IsOver self.old → is_spent self.old ≡ false → result ≡ Ok false }
-        ensures spent { (result ≡ Err TableFault.Spent) ↔ (is_spent self.old ≡ true) }
-        ensures unchanged { IsOver self.old ⊎ (is_spent self.old ≡ true) → self.new ≡ self.old }
-        ensures same { is_spent self.new ≡ is_spent self.old }
+    fn read_geometry(&mut self, flat: &mut Flat) -> Result<bool, TableFault>
+        requires more { is_ended self.old ≡ false }
+        requires unspent { is_spent self.old ≡ false }
+        requires empty { flat.old ≡ [] }
+        ensures { ReadsGeometry R.remaining self.old result flat.new self.new }
     {
-        if self.spent {
-            return Err(TableFault::Spent);
-        }
-        if self.is_over() {
+        if !self.find_root()? {
             return Ok(false);
         }
-        match self.next_root() {
+        let Ok(()) = self.rows.begin(flat) else {
+            return Err(TableFault::Memory);
+        };
+        while self.next_row(flat)? {}
+        Ok(true)
+    }
+
+    // Reads the next record after the rows of a flat form, which must be those of the geometry that
+    // is being read. Appends a row of that geometry to them and returns true, or returns false if
+    // the record is the root of the next geometry, which then waits, or if the table ended.
+    #[inline(always)]
+    fn next_row(&mut self, flat: &mut Flat) -> Result<bool, TableFault>
+        requires { Keeps self.old.rows flat.old }
+        ensures { ReadsNextRow R.remaining (progress self.old) flat.old result flat.new (progress self.new) }
+    {
+        match next_record(&mut self.reader, &mut self.last, &mut self.number) {
             Ok(true) => {}
-            Ok(false) => return Ok(false),
+            Ok(false) => {
+                self.rows.stop(State::Over);
+                return Ok(false);
+            }
             Err(fault) => return Err(fault),
         }
-        match self.rows.begin(flat) {
-            Ok(()) => Ok(true),
-            Err(_) => Err(TableFault::Memory),
+        match self.rows.read_row(&self.last, flat) {
+            Ok(more) => Ok(more),
+            Err(stop) => Err(fault_at(self.number, stop)),
         }
     }
 
-    // Marks the reader as spent because of a fault, empties the form, and returns the fault.
-    #[cold]
-    fn spend(&mut self, flat: &mut Flat, fault: TableFault) -> TableFault
-        ensures fault { result ≡ fault }
-        ensures empty { flat.new ≡ [] }
-        ensures spent { is_spent self.new ≡ true }
-        ensures same { is_spent self.old ≡ true → self.new ≡ self.old }
-    {
-        self.spent = true;
-        flat.clear();
-        fault
-    }
-
-    // Makes sure that the root of the next geometry waits, and returns whether there is one. If
-    // none waits, reads the first root, and before it the header if no record was read.
+    // Makes sure that the root of the next geometry waits, and returns whether there is one. If no
+    // record was read, reads the header and the first root. The reader must be neither at the end
+    // nor spent.
     #[inline(always)]
-    fn next_root(&mut self) -> Result<bool, TableFault>
-        ensures reads { ShowsRoot R.remaining self.old self.new result }
-        ensures waits { result ≡ Ok true → 0 < length (waiting self.new.rows) }
-        ensures ended { result ≡ Ok false → IsOver self.new }
-        ensures fresh { IfErr result (λ fault. fault ≢ TableFault.Spent) }
-        ensures same { is_spent self.new ≡ is_spent self.old }
+    fn find_root(&mut self) -> Result<bool, TableFault>
+        requires more { is_ended self.old ≡ false }
+        requires unspent { is_spent self.old ≡ false }
+        ensures { FindsRoot R.remaining self.old result self.new }
     {
-        if self.rows.has_root() {
-            return Ok(true);
+        match self.rows.state {
+            State::Waiting(_) => Ok(true),
+            _ => self.read_first(),
         }
-        if self.number == 0 {
-            return match self.read_header() {
-                Ok(()) => self.first_root(),
-                Err(fault) => Err(fault),
-            };
+    }
+
+    // Reads the header and the first root, which then waits, and returns whether there is one. No
+    // record may have been read before.
+    #[inline(never)]
+    fn read_first(&mut self) -> Result<bool, TableFault>
+        requires { self.old.rows.state ≡ State.Fresh }
+        ensures { FindsRoot R.remaining self.old result self.new }
+    {
+        match self.read_header() {
+            Ok(()) => self.next_root(),
+            Err(fault) => Err(fault),
         }
-        self.first_root()
     }
 
     // Reads the first record of the table. An `Err` is `BadHeader` at record 1 if it is missing or
-    // is not the header, or `Source`. No record may have been read before, and no root may wait.
-    #[inline(never)]
+    // is not the header, or `Source`. No record may have been read before.
+    #[inline(always)]
     fn read_header(&mut self) -> Result<(), TableFault>
-        requires first { records_read self.old ≡ 0 }
-        requires none { waiting self.old.rows ≡ [] }
-        ensures reads { ShowsHeader R.remaining self.old self.new result }
-        ensures counted { OnOk result (records_read self.new ≡ 1) }
-        ensures none { waiting self.new.rows ≡ [] }
-        ensures fresh { IfErr result (λ fault. fault ≢ TableFault.Spent) }
-        ensures same { is_spent self.new ≡ is_spent self.old }
+        requires { self.old.rows.state ≡ State.Fresh }
+        ensures { ReadsHeader R.remaining self.old result self.new }
     {
-        match read_next(&mut self.reader, &mut self.last, &mut self.ended) {
+        self.rows.stop(State::Spent);
+        self.number = 0;
+        match read_next(&mut self.reader, &mut self.last) {
             Ok(true) => {}
             Ok(false) => return Err(BAD_HEADER),
-            Err(_) => return Err(TableFault::Source),
+            Err(fault) => return Err(fault),
         }
         if !is_header(&self.last) {
             return Err(BAD_HEADER);
         }
-        self.number = 1;
         Ok(())
     }
 
-    // Reads the next record as the root of the first geometry, which then waits, and returns
-    // whether there is one. The header must have been read, and no root may wait.
-    #[inline(never)]
-    fn first_root(&mut self) -> Result<bool, TableFault>
-        requires begun { 0 < records_read self.old }
-        requires none { waiting self.old.rows ≡ [] }
-        ensures reads { ShowsRoot R.remaining self.old self.new result }
-        ensures waits { result ≡ Ok true → 0 < length (waiting self.new.rows) }
-        ensures ended { result ≡ Ok false → IsOver self.new }
-        ensures fresh { IfErr result (λ fault. fault ≢ TableFault.Spent) }
-        ensures same { is_spent self.new ≡ is_spent self.old }
+    // Reads the next record as a root, which then waits, and returns whether there is one. No root
+    // may wait but a point that is not empty: only a root can come after it, and it is judged like
+    // the first one.
+    #[inline(always)]
+    pub(crate) fn next_root(&mut self) -> Result<bool, TableFault>
+        requires { IsAlone (waiting self.old.rows) }
+        ensures { ReadsNextRoot R.remaining (progress self.old) result (progress self.new) }
     {
-        match next_record(
-            &mut self.reader,
-            &mut self.last,
-            &mut self.ended,
-            &mut self.number,
-        ) {
+        match next_record(&mut self.reader, &mut self.last, &mut self.number) {
             Ok(true) => {}
-            Ok(false) => return Ok(false),
-            Err(fault) => return Err(fault),
+            Ok(false) => {
+                self.rows.stop(State::Over);
+                return Ok(false);
+            }
+            Err(fault) => {
+                self.rows.stop(State::Spent);
+                return Err(fault);
+            }
         }
         match self.rows.read_root(&self.last) {
             Ok(()) => Ok(true),
-            Err(fault) => Err(fault_at(self.number, fault)),
+            Err(stop) => Err(fault_at(self.number, stop)),
         }
     }
 }

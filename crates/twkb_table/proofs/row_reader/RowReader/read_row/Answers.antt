@@ -1,4 +1,4 @@
-use Rattle.std.proofs.Common.{rules, ◌<◌, [], ◌∷◌, refl, sym, ap, arith}
+use Rattle.std.proofs.Common.{◌<◌, [], ◌∷◌, refl, sym, ap, arith}
 use Rattle.std.specs.Prelude.{reverse}
 use Rattle.csv.specs.Records.{fields_of}
 use Rattle.twkb_tree.specs.Rows.{Row}
@@ -9,8 +9,8 @@ use Rattle.twkb_table.proofs.RowReaderLemmas.{given_row, comes_next, if_refused,
 use Rattle.twkb_table.proofs.RowReaderLemmas.{depth_within, keeps_next, may_wait_as, root_is}
 use Rattle.twkb_table.proofs.row_reader.RowReader.read_row.Goals as goal
 
-pub invariant_of-self-then-row-eq0 : goal.invariant_of-self-then-row-eq0
-invariant_of-self-then-row-eq0 c =
+pub invariant_of-self-then-row-eq0-clause-waits : goal.invariant_of-self-then-row-eq0-clause-waits
+invariant_of-self-then-row-eq0-clause-waits c =
     let l = c.args.self.now.limits in
     let own = c.in_default.ensures.given in
     let points = c.append_to.new.points.items in
@@ -19,11 +19,8 @@ invariant_of-self-then-row-eq0 c =
     let next = comes_next l c.args.flat.now (fields_of c.args.csv_record.now) c.in-Ok.head
     (row_with c.row-row.result points) own.0 c.requires.keeps.of_one c.in-Ok.ensures.read
     row_is own.2 in
-    record {
-      waits = may_wait_as l c.row-row.result points
-          (begins_anew l c.args.flat.now (row_with c.row-row.result points) next.accepts
-          c.if-row-eq0.true);
-    }
+    may_wait_as l c.row-row.result points
+    (begins_anew l c.args.flat.now (row_with c.row-row.result points) next.accepts c.if-row-eq0.true)
 
 pub push_from-requires : goal.push_from-requires
 push_from-requires c own given =
@@ -33,7 +30,7 @@ push_from-requires c own given =
     let next = comes_next l c.args.flat.now (fields_of c.args.csv_record.now) c.in-Ok.head row own
     c.requires.keeps.of_one c.in-Ok.ensures.read (ap (λ r. row_with r own)
     (sym c.row-row.ensures)) given in
-    continues_largest l c.args.flat.now row c.nest-learnt.ensures.sound
+    continues_largest l c.args.flat.now row c.args.self.now.sound
     (continues_below l c.args.flat.now row c.requires.keeps.some next.accepts below)
 
 pub open_row-requires : goal.open_row-requires
@@ -46,82 +43,68 @@ open_row-requires c =
     (sym c.row-row.ensures)) own.2 in
     depth_within l (reverse c.args.flat.now) c.args.self.now.open_rows row next.accepts c.requires.keeps.open_rows
 
-pub returns-in-Err : goal.returns-in-Err
-returns-in-Err c = search rules
+pub returns-in-Err-clause-row : goal.returns-in-Err-clause-row
+returns-in-Err-clause-row c = (c.in-Err.ensures.refused, c.requires.keeps.state)
 
-pub returns-in-Err-append_to : goal.returns-in-Err-append_to
-returns-in-Err-append_to c = record {
-  more = search rules;
-  root = search rules;
-  refused = if_refused _ _ c.in-Err-append_to.fault
-      (λ reason j. c.in-Ok.ensures.read (Refused reason) j) c.in-Err-append_to.ensures.refused;
-  limits = search rules;
-  sound = search rules;
-}
+pub returns-in-Err-append_to-clause-row : goal.returns-in-Err-append_to-clause-row
+returns-in-Err-append_to-clause-row c = (
+  if_refused _ _ c.in-Err-append_to.fault (λ reason j. c.in-Ok.ensures.read (Refused reason) j)
+      c.in-Err-append_to.ensures.refused,
+  c.requires.keeps.state,
+)
 
-pub returns-then-row-eq0 : goal.returns-then-row-eq0
-returns-then-row-eq0 c = record {
-  more = search rules;
-  root = λ over. (let l = c.args.self.now.limits in
-      let own = c.in_default.ensures.given in
-      let points = c.append_to.new.points.items in
-      let row = row_with c.row-row.result points in
-      let row_is = given_row c.in-Ok.head c.row-row.result c.clear.new.self.items points own.0
-      c.row-row.ensures c.clear.ensures.items own.1 in
-      let next = comes_next l c.args.flat.now (fields_of c.args.csv_record.now)
-      c.in-Ok.head row own.0
-      c.requires.keeps.of_one c.in-Ok.ensures.read row_is own.2 in
-      let begins = begins_anew l c.args.flat.now row next.accepts c.if-row-eq0.true in (
-        record {
-          row = row;
-          waits = ap (λ (r : Row). r ∷ [])
-              (sym (root_is l c.row-row.result points begins));
-          root = c.if-row-eq0.true;
-          judged = next.judged;
-        },
-        refl,
-      ));
-  refused = search rules;
-  limits = search rules;
-  sound = search rules;
-}
-
-pub returns-in-Err-push_from : goal.returns-in-Err-push_from
-returns-in-Err-push_from c = record {
-  more = search rules;
-  root = search rules;
-  refused = if_refused _ _ c.in-Err-push_from.fault
-      (λ reason j. c.in-Ok.ensures.read (Refused reason) j) c.in-Err-push_from.ensures.refused;
-  limits = search rules;
-  sound = search rules;
-}
-
-pub returns-in_default-open_row : goal.returns-in_default-open_row
-returns-in_default-open_row c = search rules
-
-pub returns : goal.returns
-returns c = record {
-  more = λ more. (let l = c.args.self.now.limits in
-      let own = c.in_default-push_from.ensures.pushed in
-      let row = row_with c.row-row.result own.0 in
-      let below : 0 < c.row-row.result.depth = omega (arith, c.if-row-eq0.false) in
-      let next = comes_next l c.args.flat.now (fields_of c.args.csv_record.now)
-      c.in-Ok.head row own.0
-      c.requires.keeps.of_one c.in-Ok.ensures.read (ap (λ r. row_with r own.0)
-      (sym c.row-row.ensures)) own.2 in
-      let kept = keeps_next l row c.args.flat.now c.push_from.new.self c.args.self.now.open_rows
-      c.open_row.new.self c.requires.keeps.of_one c.requires.keeps.some
-      c.requires.keeps.open_rows next.accepts below own.1
-      (c.in-Ok-open_row.ensures.opened own.0) in
+pub returns-then-row-eq0-clause-row : goal.returns-then-row-eq0-clause-row
+returns-then-row-eq0-clause-row c =
+    let l = c.args.self.now.limits in
+    let own = c.in_default.ensures.given in
+    let points = c.append_to.new.points.items in
+    let row = row_with c.row-row.result points in
+    let row_is = given_row c.in-Ok.head c.row-row.result c.clear.new.self.items points own.0
+    c.row-row.ensures c.clear.ensures.items own.1 in
+    let next = comes_next l c.args.flat.now (fields_of c.args.csv_record.now) c.in-Ok.head row own.0
+    c.requires.keeps.of_one c.in-Ok.ensures.read row_is own.2 in
+    let begins = begins_anew l c.args.flat.now row next.accepts c.if-row-eq0.true in (
       record {
         row = row;
-        rows = own.1;
-        below = below;
+        waits = ap (λ (r : Row). r ∷ []) (sym (root_is l c.row-row.result points begins));
+        root = c.if-row-eq0.true;
         judged = next.judged;
-        keeps = record { of_one = kept.of_one; some = kept.some; open_rows = kept.open_rows; none = refl };
-      });
-  root = search rules;
-  refused = search rules;
-  limits = search rules;
-  sound = search rules;
-}
+      },
+      refl,
+    )
+
+pub returns-in-Err-push_from-clause-row : goal.returns-in-Err-push_from-clause-row
+returns-in-Err-push_from-clause-row c = (
+  if_refused _ _ c.in-Err-push_from.fault (λ reason j. c.in-Ok.ensures.read (Refused reason) j)
+      c.in-Err-push_from.ensures.refused,
+  c.requires.keeps.state,
+)
+
+pub returns-in_default-open_row-clause-row : goal.returns-in_default-open_row-clause-row
+returns-in_default-open_row-clause-row c = (tt, c.requires.keeps.state)
+
+pub returns-clause-row : goal.returns-clause-row
+returns-clause-row c =
+    let l = c.args.self.now.limits in
+    let own = c.in_default-push_from.ensures.pushed in
+    let row = row_with c.row-row.result own.0 in
+    let below : 0 < c.row-row.result.depth = omega (arith, c.if-row-eq0.false) in
+    let next = comes_next l c.args.flat.now (fields_of c.args.csv_record.now) c.in-Ok.head row own.0
+    c.requires.keeps.of_one c.in-Ok.ensures.read (ap (λ r. row_with r own.0)
+    (sym c.row-row.ensures)) own.2 in
+    let kept = keeps_next l row c.args.flat.now c.push_from.new.self c.args.self.now.open_rows
+    c.open_row.new.self c.requires.keeps.of_one c.requires.keeps.some
+    c.requires.keeps.open_rows next.accepts below own.1
+    (c.in-Ok-open_row.ensures.opened own.0) in
+    record {
+      row = row;
+      rows = own.1;
+      below = below;
+      judged = next.judged;
+      keeps = record {
+        of_one = kept.of_one;
+        some = kept.some;
+        open_rows = kept.open_rows;
+        state = c.requires.keeps.state;
+      };
+    }

@@ -1,57 +1,29 @@
-use Rattle.std.proofs.Common.{rules, [], ◌∷◌, refl, sym, ◌∙◌}
-use Rattle.std.proofs.lemmas.Bool.{true≢false}
-use Rattle.twkb_table.specs.Record.{header}
-use Rattle.twkb_table.proofs.TableCalls.{none_waiting, after_header, waited}
+use Rattle.std.proofs.Common.{ap}
+use Rattle.csv.specs.Records.{fields_of}
+use Rattle.twkb_table.specs.RowReading.{waiting}
+use Rattle.twkb_table.specs.TableReading.{progress}
+use Rattle.twkb_table.specs.Waiting.{is_over}
+use Rattle.twkb_table.proofs.TableSteps.{none_shown, reads_end, root_refusal_shown, root_shown}
 use Rattle.twkb_table.proofs.table_reader.TableReader.next_root.Goals as goal
 
-pub returns-then-has_root : goal.returns-then-has_root
-returns-then-has_root g c = record {
-  reads = λ l told records given s. waited l g.R.Read.remaining told records given c.args.self.now s
-      (c.has_root.ensures.0 c.if-has_root.true);
-  waits = λ found. c.has_root.ensures.0 c.if-has_root.true;
-  ended = search rules;
-  fresh = search rules;
-  same = refl;
-}
-
-pub read_header-requires : goal.read_header-requires
-read_header-requires g c = record {
-  first = search rules;
-  none = none_waiting _ (λ some. true≢false (sym (c.has_root.ensures.1 some) ∙ c.if-has_root.false));
-}
-
-pub first_root-requires : goal.first_root-requires
-first_root-requires g c = search rules
-
-pub returns-in-Ok : goal.returns-in-Ok
-returns-in-Ok g c = record {
-  reads = λ l told records given s. (let h = c.in-Ok.ensures.reads l told records given s in
-      after_header l g.R.Read.remaining told records given c.read_header.new.self
-      c.first_root.new.self c.first_root.result h (c.first_root.ensures.reads l told
-      (header ∷ []) [] h.stands));
-  waits = search rules;
-  ended = search rules;
-  fresh = search rules;
-  same = search rules;
-}
+pub returns-in-Ok-false : goal.returns-in-Ok-false
+returns-in-Ok-false g c = (
+  λ l told records given r. reads_end l g.R.Read.remaining told records given (waiting c.args.self.now.rows)
+      (progress c.args.self.now) r _ (fields_of c.next_record.new.last)
+      (rw c.in-Ok-false.field-0-test at c.in-Ok-false.ensures) c.stop.ensures.limits c.stop.ensures.state,
+  ap is_over c.stop.ensures.state,
+)
 
 pub returns-in-Err : goal.returns-in-Err
-returns-in-Err g c = record {
-  reads = c.in-Err.ensures.reads;
-  waits = search rules;
-  ended = search rules;
-  fresh = search rules;
-  same = search rules;
-}
+returns-in-Err g c = none_shown g.R.Read.remaining (progress c.args.self.now) (waiting c.args.self.now.rows)
+    c.in-Err.fault c.stop-in-Err.new.self c.stop-in-Err.ensures.state c.in-Err.ensures
 
-pub first_root-requires-2 : goal.first_root-requires-2
-first_root-requires-2 g c = search rules
+pub returns-in-Ok : goal.returns-in-Ok
+returns-in-Ok g c = root_shown g.R.Read.remaining (progress c.args.self.now) _ (fields_of c.next_record.new.last)
+    c.requires (rw c.in-Ok-true.field-0-test at c.in-Ok-true.ensures) c.read_root.ensures.limits
+    c.in-Ok.ensures.root
 
-pub returns : goal.returns
-returns g c = record {
-  reads = c.first_root-2.ensures.reads;
-  waits = search rules;
-  ended = search rules;
-  fresh = search rules;
-  same = search rules;
-}
+pub returns-in-Err-read_root : goal.returns-in-Err-read_root
+returns-in-Err-read_root g c = rw c.fault_at.ensures.value
+    (root_refusal_shown g.R.Read.remaining (progress c.args.self.now) (fields_of c.next_record.new.last) _ _
+    c.read_root.new.self _ c.requires (rw c.in-Ok-true.field-0-test at c.in-Ok-true.ensures) c.in-Err-read_root.ensures.root)

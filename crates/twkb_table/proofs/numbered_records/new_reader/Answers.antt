@@ -1,6 +1,6 @@
 use Rattle.std.proofs.Common.{◌∙◌, inr}
 use Rattle.twkb_table.proofs.RecordFacts.{given_none}
-use Rattle.twkb_table.proofs.record_source.new_reader.Goals as goal
+use Rattle.twkb_table.proofs.numbered_records.new_reader.Goals as goal
 
 pub returns : goal.returns
 returns g c =

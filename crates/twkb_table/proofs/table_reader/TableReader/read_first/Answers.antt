@@ -1,0 +1,10 @@
+use Rattle.std.proofs.Common.{inl}
+use Rattle.twkb_table.proofs.TableCalls.{first_shown}
+use Rattle.twkb_table.proofs.table_reader.TableReader.read_first.Goals as goal
+
+pub next_root-requires : goal.next_root-requires
+next_root-requires g c = inl c.in-Ok.ensures.1
+
+pub returns-in-Ok : goal.returns-in-Ok
+returns-in-Ok g c = first_shown g.R.Read.remaining c.args.self.now c.read_header.new.self c.next_root.new.self
+    c.next_root.result c.in-Ok.ensures.0 c.in-Ok.ensures.1 c.next_root.ensures
