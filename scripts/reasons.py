@@ -102,15 +102,15 @@ def rule_places(rows):
     """Where the reasons of the engine are those of the grammar, and the reasons of records those of rules of rows."""
     lines = each(of_kind(rows, "blob"), "reason_of reason.{code} = fault.{code}")
     yield Place("crates/twkb_engine/specs/Stops.antt", r"reason_of reason\.\w+ = fault\.\w+", lines)
-    rules = " ".join(re.findall(r"^  ((?:[A-Z]\w* )+): Refusal$", text_of("crates/twkb_tree/specs/Refusal.antt"), re.M)).split()
+    rules = re.findall(r"^    (\w+),$", text_of("crates/twkb_tree/src/row_checks.rt").split("pub enum Refusal {")[1].split("\n}\n")[0], re.M)
     numbers = {row.code: row.number for row in of_kind(rows, "polyline") + of_kind(rows, "row")}
     texts = [row.code for row in of_kind(rows, "polyline")]
     codes = [(OTHERS.get(rule, rule), rule) for rule in rules]
-    lines = [
-        f"rule_reason Refusal.{rule} = " + (f"row.Polyline 0 text.{code}" if code in texts else f"row.{code}")
-        for code, rule in sorted(codes, key=lambda pair: numbers.get(pair[0], 0))
-    ]
+    in_order = sorted(codes, key=lambda pair: numbers.get(pair[0], 0))
+    lines = [f"rule_reason Refusal.{rule} = " + (f"row.Polyline 0 text.{code}" if code in texts else f"row.{code}") for code, rule in in_order]
     yield Place("crates/twkb_table/specs/RowRules.antt", r"rule_reason Refusal\.\w+ = row\..*", lines)
+    lines = [f"        Refusal::{rule} => RowReason::" + (f"Polyline(0, PolyReason::{code})," if code in texts else f"{code},") for code, rule in in_order]
+    yield Place("crates/twkb_table/src/places.rt", r" +Refusal::\w+ => RowReason::.*", lines)
 
 
 def unequal(called, numbers):

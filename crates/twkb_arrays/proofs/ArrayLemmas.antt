@@ -13,7 +13,8 @@ use Rattle.std.proofs.lemmas.Grind.{flat_map-append}
 use Rattle.std.proofs.lemmas.Bool.{eqb-true}
 use Rattle.std.proofs.lemmas.Int.{ints}
 use Rattle.twkb_points.specs.Point.{Point, AreInRange, IsInRange}
-use Rattle.twkb_tree.specs.Refusal.{are_in_range, Refusal, refusal}
+use Rattle.twkb_tree.specs.Refusal.{are_in_range, refusal}
+use Rattle.twkb_tree.specs.declared.row_checks.Refusal.{Refusal}
 use Rattle.twkb_tree.specs.Rows.{Row, row_points}
 use Rattle.twkb_tree.specs.Tree.{IsPrecision}
 use Rattle.twkb_tree.specs.Limits.{Allowance}

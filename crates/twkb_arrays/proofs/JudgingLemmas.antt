@@ -1,122 +1,53 @@
 -- The reason of the first test of a row that fails.
-use Rattle.std.proofs.Common.{◌≡◌, ◌∙◌, ◌<◌, ◌^◌, ℕ, Bool, true, false, List, [], ◌∷◌, ◌++◌, Option, Some}
-use Rattle.std.proofs.Common.{None, refl, sym, subst, bit_or, inl, inr, arith, length, slice_index_or}
-use Rattle.std.specs.Prelude.{◌↔◌, ◌||◌, MatchOption, nat_lt, if◌then◌else◌}
+use Rattle.std.proofs.Common.{◌≡◌, ◌∙◌, ◌<◌, ◌^◌, ℕ, Bool, true, false, List, [], ◌∷◌, Some}
+use Rattle.std.proofs.Common.{None, ap, ◌+◌, refl, sym, subst, bit_or, inl, inr, arith, length, lit<, slice_index_or}
+use Rattle.std.specs.Prelude.{◌↔◌, nat_lt, if◌then◌else◌}
 use Rattle.std.specs.Simd.Lanes.{zip2}
 use Rattle.std.proofs.lemmas.Bool.{cases_Bool}
 use Rattle.std.proofs.lemmas.Bool.Decides.{nat_tests}
 use Rattle.std.proofs.Math.Nat.{lt_of_le_of_lt}
 use Rattle.std.proofs.lemmas.Nat.{le_or_l, le_or_r, or_lt}
 use Rattle.std.proofs.lemmas.Simd.{length-zip2}
-use Rattle.twkb_points.specs.Point.{Point, IsInRange, AreInRange}
-use Rattle.twkb_tree.specs.declared.row_place.RowPlace.{RowPlace}
-use Rattle.twkb_tree.specs.Admits.{has_points}
-use Rattle.twkb_tree.specs.Limits.{Allowance}
-use Rattle.twkb_tree.specs.Open.{row_of}
-use Rattle.twkb_tree.specs.Refusal.{Refusal, PointsNotAllowed, CoordinateRange}
-use Rattle.twkb_tree.specs.Refusal.{Check, check, first_failed, are_in_range, has_none}
-use Rattle.twkb_tree.specs.Refusal.{point_checks}
-use Rattle.twkb_tree.specs.Rows.{Row}
+use Rattle.twkb_points.specs.Point.{IsInRange, AreInRange}
+use Rattle.twkb_tree.specs.Refusal.{Check, check, first_failed, are_in_range}
+use Rattle.twkb_tree.specs.declared.row_checks.Refusal.{Refusal}
+use Rattle.twkb_tree.specs.declared.row_checks.Refusal.TheVariants.{PointsNotAllowed, CoordinateRange, TooManyPoints}
+use Rattle.twkb_tree.specs.declared.row_checks.Refusal.TheVariants.{PointCount}
 use Rattle.twkb_tree.proofs.RowForest.{are_in_range-true, points_in_range}
-use Rattle.twkb_table.specs.RowRules.{first_reason}
-use Rattle.twkb_table.specs.declared.reason.RowReason.{RowReason}
 use Rattle.twkb_buffer.specs.declared.point.BufferPoint.{BufferPoint}
-use Rattle.twkb_arrays.specs.JudgedRow.{AreBelow}
-use Rattle.twkb_arrays.specs.RowTests.{IsFirstButRange, IsReasonOf, number_checks, range_refusal}
+use Rattle.twkb_arrays.specs.JudgedRow.{AreBelow, in_range_front}
 use Rattle.twkb_arrays.specs.Rows.{point_of, points_of}
-
--- ---- some tests before others
-
--- if a test fails, it is the first that fails of all
-first_of : (checks more : List Check) (why : Refusal) → first_failed checks ≡ Some why
-    → first_failed (checks ++ more) ≡ Some why
-first_of [] more why = λ e. cc e
-first_of (c ∷ checks) more why = elim c.holds as (λ (b : Bool).
-    first_failed (check b c.otherwise ∷ checks) ≡ Some why
-    → first_failed (check b c.otherwise ∷ (checks ++ more)) ≡ Some why) [
-      | true ↦ first_of checks more why
-      | false ↦ λ e. e
-    ]
-
--- if none fails, the first that fails is the first of the others
-rest_of : (checks more : List Check) → first_failed checks ≡ None
-    → first_failed (checks ++ more) ≡ first_failed more
-rest_of [] more = λ e. refl
-rest_of (c ∷ checks) more = elim c.holds as (λ (b : Bool). first_failed (check b c.otherwise ∷ checks) ≡ None
-    → first_failed (check b c.otherwise ∷ (checks ++ more)) ≡ first_failed more) [
-      | true ↦ rest_of checks more
-      | false ↦ λ e. cc e
-    ]
-
--- if a reason is that of the first test that fails, a test fails
-pub reason_found : (checks : List Check) (reason : RowReason) → Some reason ≡ first_reason checks
-    → IsReasonOf (first_failed checks) reason
-reason_found [] reason = λ e. cc e
-reason_found (c ∷ checks) reason = elim c.holds as (λ (b : Bool).
-    Some reason ≡ first_reason (check b c.otherwise ∷ checks)
-    → IsReasonOf (first_failed (check b c.otherwise ∷ checks)) reason) [
-      | true ↦ reason_found checks reason
-      | false ↦ λ e. (c.otherwise, refl, cc e)
-    ]
-
--- if there is none, no test fails
-pub reason_none : (checks : List Check) → None ≡ first_reason checks → first_failed checks ≡ None
-reason_none [] = λ e. refl
-reason_none (c ∷ checks) = elim c.holds as (λ (b : Bool). None ≡ first_reason (check b c.otherwise ∷ checks)
-    → first_failed (check b c.otherwise ∷ checks) ≡ None) [
-      | true ↦ reason_none checks
-      | false ↦ λ e. cc e
-    ]
 
 -- ---- the tests of a row's points
 
--- if their number is right, only their range may refuse them
-pub by_range : (l : Allowance) (s : RowPlace) (r : Row) → (has_points r.kind || has_none r.points) ≡ true
-    → None ≡ first_reason (number_checks l s r)
-    → first_failed (point_checks l (row_of s.parent) s.points r) ≡ range_refusal r.points
-by_range l s r is_allowed fits =
-    range_at (has_points r.kind || has_none r.points) (are_in_range r.points) (number_checks l s r)
-    is_allowed (reason_none (number_checks l s r) fits)
-  where
-    range_at : (allowed in_range : Bool) (checks : List Check) → allowed ≡ true → first_failed checks ≡ None
-        → first_failed (check allowed PointsNotAllowed ∷ check in_range CoordinateRange ∷ checks)
-        ≡ (if in_range then None else Some CoordinateRange)
-    range_at allowed true checks is_allowed none = rw is_allowed none
-    range_at allowed false checks is_allowed none = rw is_allowed refl
+-- the tests of a row's points, by their answers
+abbrev tests : Bool → Bool → Bool → Bool → List Check
+tests allowed in_range room fit =
+    check allowed PointsNotAllowed ∷ check in_range CoordinateRange ∷ check room TooManyPoints
+    ∷ check fit PointCount ∷ []
 
--- if they are in range, their number may refuse them
-pub by_number : (l : Allowance) (s : RowPlace) (r : Row) (reason : RowReason)
-    → (has_points r.kind || has_none r.points) ≡ true → are_in_range r.points ≡ true
-    → Some reason ≡ first_reason (number_checks l s r)
-    → IsReasonOf (first_failed (point_checks l (row_of s.parent) s.points r)) reason
-by_number l s r reason is_allowed is_in is =
-    number_at (has_points r.kind || has_none r.points) (are_in_range r.points) (number_checks l s r)
-    is_allowed is_in (reason_found (number_checks l s r) reason is)
-  where
-    number_at : (allowed in_range : Bool) (checks : List Check) → allowed ≡ true → in_range ≡ true
-        → IsReasonOf (first_failed checks) reason → IsReasonOf
-        (first_failed (check allowed PointsNotAllowed ∷ check in_range CoordinateRange ∷ checks)) reason
-    number_at allowed in_range checks is_allowed is_in found = rw (is_allowed, is_in) found
+-- if no other test fails, only the range may refuse the points
+pub by_range : (allowed in_range room fit : Bool) → None ≡ first_failed (tests allowed true room fit)
+    → first_failed (tests allowed in_range room fit) ≡ (if in_range then None else Some CoordinateRange)
+by_range true true room fit e = sym e
+by_range true false room fit e = refl
+by_range false in_range room fit e = cc e
 
--- ---- one group of tests after another
+-- a row without points is refused for having them before their range is tested
+pub not_allowed : (allowed in_range room fit : Bool)
+    → Some PointsNotAllowed ≡ first_failed (tests allowed true room fit)
+    → first_failed (tests allowed in_range room fit) ≡ Some PointsNotAllowed
+not_allowed false in_range room fit e = refl
+not_allowed true in_range true true e = cc e
+not_allowed true in_range true false e = cc e
+not_allowed true in_range false fit e = cc e
 
--- a test of a group fails, and none before
-pub by_group : (before checks more : List Check) (reason : RowReason) → first_failed before ≡ None
-    → IsReasonOf (first_failed checks) reason → IsReasonOf (first_failed (before ++ (checks ++ more))) reason
-by_group before checks more reason none h =
-    (h.0, rest_of before (checks ++ more) none ∙ first_of checks more h.0 h.1, h.2)
-
--- no test of two groups fails
-pub none_in : (before checks : List Check) → first_failed before ≡ None → first_failed checks ≡ None
-    → first_failed (before ++ checks) ≡ None
-none_in before checks first second = rest_of before checks first ∙ second
-
--- no test fails before the last group
-pub by_last : (before checks : List Check) (ps : List Point) (answer : Option RowReason) → first_failed before ≡ None
-    → IsFirstButRange checks ps answer → IsFirstButRange (before ++ checks) ps answer
-by_last before checks ps answer none h =
-    subst (λ (o : Option Refusal). MatchOption answer (o ≡ range_refusal ps) (IsReasonOf o))
-    (sym (rest_of before checks none)) h
+-- a point out of range is a reason before the number of points
+pub range_first : (allowed room fit : Bool) (why : Refusal) → (why ≡ PointsNotAllowed → ⊥)
+    → Some why ≡ first_failed (tests allowed true room fit)
+    → first_failed (tests allowed false room fit) ≡ Some CoordinateRange
+range_first true room fit why other e = refl
+range_first false room fit why other e = absurd (other (cc e))
 
 -- ---- the range of coordinates
 
@@ -140,6 +71,14 @@ pub record Decides (own left : List BufferPoint) (joined : List ℕ) : Type 0 wh
   pub two : length joined ≡ 2
   pub if_below : AreBelow joined → AreInRange (points_of left) → AreInRange (points_of own)
   pub is_below : AreInRange (points_of own) → AreBelow joined × AreInRange (points_of left)
+
+-- before a point is looked at, the points decide
+pub decides_at_first : (own : List BufferPoint) → Decides own own (0 ∷ 0 ∷ [])
+decides_at_first own = record {
+  two = refl;
+  if_below = λ below in_range. in_range;
+  is_below = λ in_range. ((lit< tt, (lit< tt, tt)), in_range);
+}
 
 -- the numbers of one more point are joined
 pub decides_more : (own left after : List BufferPoint) (c : BufferPoint) (joined numbers : List ℕ)
@@ -181,3 +120,30 @@ pub decided : (own left : List BufferPoint) (joined : List ℕ) → Decides own 
     ≡ are_in_range (points_of own)
 decided own left (x ∷ y ∷ []) all none = decided_by own left x y all none
 decided own left _ all none = absurd (omega (arith, all.two))
+
+-- ---- the first point out of range
+
+-- one more point is in range
+pub front_more : (own left after : List BufferPoint) (c : BufferPoint) (n : ℕ)
+    → in_range_front own ≡ n + in_range_front left → left ≡ c ∷ after → are_in_range (points_of (c ∷ [])) ≡ true
+    → in_range_front own ≡ (n + 1) + in_range_front after
+front_more own left after c n so_far next is_in =
+    let more : in_range_front left ≡ in_range_front after + 1 = ap in_range_front next
+    ∙ ap (λ (b : Bool). if b then in_range_front after + 1 else 0) is_in in
+    omega (arith, so_far, more)
+
+-- the next point is out of range
+pub front_ends : (own left after : List BufferPoint) (c : BufferPoint) (n : ℕ)
+    → in_range_front own ≡ n + in_range_front left → left ≡ c ∷ after → are_in_range (points_of (c ∷ [])) ≡ false
+    → n ≡ in_range_front own
+front_ends own left after c n so_far next is_out =
+    let none : in_range_front left ≡ 0 = ap in_range_front next
+    ∙ ap (λ (b : Bool). if b then in_range_front after + 1 else 0) is_out in
+    omega (arith, so_far, none)
+
+-- no point is left
+pub front_all : (own left : List BufferPoint) (n : ℕ) → in_range_front own ≡ n + in_range_front left → left ≡ []
+    → n ≡ in_range_front own
+front_all own left n so_far none =
+    let zero : in_range_front left ≡ 0 = ap in_range_front none in
+    omega (arith, so_far, zero)

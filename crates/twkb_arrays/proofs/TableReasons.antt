@@ -15,8 +15,9 @@ use Rattle.twkb_tree.specs.Admits.{parent, first_child, steps_to, has_place, id_
 use Rattle.twkb_tree.specs.Admits.{has_same_ids, has_needed_precision, precision_allowed, precision_in_range}
 use Rattle.twkb_tree.specs.Admits.{is_geometry, has_points, points_fit}
 use Rattle.twkb_tree.specs.Accepted.{nest_kept, geometry_rows, point_count}
-use Rattle.twkb_tree.specs.Refusal.{Refusal, Check, check, first_failed, are_in_range, has_none, refusal}
-use Rattle.twkb_tree.specs.Refusal.{id_checks, precision_checks, point_checks, count_checks}
+use Rattle.twkb_tree.specs.Refusal.{Check, check, first_failed, are_in_range, has_none, refusal, id_checks}
+use Rattle.twkb_tree.specs.Refusal.{precision_checks, point_checks, count_checks}
+use Rattle.twkb_tree.specs.declared.row_checks.Refusal.{Refusal}
 use Rattle.twkb_tree.proofs.RowForest.{id_in_range-true, points_in_range}
 use Rattle.twkb_table.specs.Fields.{optional, IsDepthField, IsOptionalId, IsOptionalPrecision}
 use Rattle.twkb_table.specs.Record.{record_of}

@@ -9,7 +9,8 @@ use Rattle.twkb_tree.specs.Tree.{Tree, simple, collection, saturated}
 use Rattle.twkb_tree.specs.Rows.{Row, rows, rows_of, row_points}
 use Rattle.twkb_tree.specs.Limits.{Allowance, IsAllowance, IsValid}
 use Rattle.twkb_tree.specs.RowLists.{AreValid, AreValidRowsOfOne}
-use Rattle.twkb_tree.specs.Refusal.{Refusal, refusal}
+use Rattle.twkb_tree.specs.Refusal.{refusal}
+use Rattle.twkb_tree.specs.declared.row_checks.Refusal.{Refusal}
 use Rattle.twkb_tree.proofs.AllJoined.{all_apart}
 use Rattle.twkb_tree.proofs.Shapes.{all_push}
 use Rattle.twkb_tree.proofs.RowLaws.{one_reading}

@@ -4,7 +4,9 @@ use Rattle.std.specs.Prelude.{Option, Some, None, Bool, false, if◌then◌else�
 use Rattle.twkb_tree.specs.declared.kind.Kind.{Kind}
 use Rattle.twkb_tree.specs.Accepted.{Accepts}
 use Rattle.twkb_tree.specs.Limits.{Allowance}
-use Rattle.twkb_tree.specs.Refusal.{CoordinateRange, Refusal, are_in_range, refusal}
+use Rattle.twkb_tree.specs.Refusal.{are_in_range, refusal}
+use Rattle.twkb_tree.specs.declared.row_checks.Refusal.{Refusal}
+use Rattle.twkb_tree.specs.declared.row_checks.Refusal.TheVariants.{CoordinateRange}
 use Rattle.twkb_tree.specs.Rows.{Row}
 use Rattle.twkb_table.specs.RowRules.{rule_reason}
 use Rattle.twkb_buffer.specs.Numbers.{row_number_of}

@@ -1,21 +1,16 @@
 //! The row of a geometry that a row of an array stands for, and the reason to refuse it.
-ghost use Rattle.std.specs.Prelude.{◌≡◌, ◌↔◌, ◌+◌, ◌<◌, ◌^◌, ◌||◌, [], List, IsTrue, MatchOption};
-ghost use Rattle.std.specs.Prelude.{length, true, nat_le};
+ghost use Rattle.std.specs.Prelude.{◌≡◌, ◌↔◌, ◌<◌, ◌^◌, [], List, IsTrue, MatchOption, length};
 ghost use Rattle.twkb_points.specs.Point.{IsCoordinate, IsInRange};
 ghost use Rattle.twkb_tree.specs.declared.kind.Kind.{Kind};
-ghost use Rattle.twkb_tree.specs.Admits.{has_points, id_in_range, precision_in_range};
-ghost use Rattle.twkb_tree.specs.Open.{row_of, child_of};
-ghost use Rattle.twkb_tree.specs.Refusal.{are_in_range, has_none};
-ghost use Rattle.twkb_tree.specs.Refusal.{id_checks, point_checks, precision_checks};
-ghost use Rattle.twkb_tree.specs.Rows.{Row as TableRow};
+ghost use Rattle.twkb_tree.specs.Refusal.{are_in_range};
+ghost use Rattle.twkb_tree.specs.RowPlace.{points_checks};
 ghost use Rattle.twkb_flat.specs.Rows.{row_with};
 ghost use Rattle.twkb_flat.specs.declared.stop.Stop.TheVariants.{Refused};
-ghost use Rattle.twkb_table.specs.RowRules.{first_reason};
 ghost use Rattle.twkb_buffer.specs.Numbers.{row_number_of};
 ghost use Rattle.twkb_buffer.specs.declared.point.BufferPoint.{BufferPoint as InPoint};
 ghost use Rattle.twkb_arrays.specs.Rows.{kind_number, point_of, points_of};
 ghost use Rattle.twkb_arrays.specs.JudgedRow.{AreBelow, HasRightId, in_range_front, index_outside, row_from_c};
-ghost use Rattle.twkb_arrays.specs.RowTests.{IsFirstButRange, checks_there, number_checks};
+ghost use Rattle.twkb_arrays.specs.RowTests.{IsFirstButRange, checks_there};
 
 use crate::row::{BufferRow, NO_PRECISION};
 use std::simd::u64x2;
@@ -24,16 +19,13 @@ use twkb_buffer::{BufferPoint, row_number};
 use twkb_convert::{PolyReason, RowReason};
 use twkb_flat::{Row, Stop};
 use twkb_points::COORDINATE_BOUND;
-use twkb_table::{refused_count, refused_id, refused_place, refused_precision};
-use twkb_tree::row_rules::has_points;
-use twkb_tree::{GREATEST_PRECISION, Kind, LEAST_PRECISION, Limits, RowPlace};
+use twkb_table::reason_of;
+use twkb_tree::row_checks::{Refusal, field_refusal, points_refusal};
+use twkb_tree::{Kind, Limits, RowPlace};
 
 // The reason for which a row with a point out of range is refused. There is no text, and so no
 // place in one.
 pub(crate) const OUT_OF_RANGE: RowReason = RowReason::Polyline(0, PolyReason::Range);
-
-// The reason for which a row with more points than the limit leaves is refused.
-const TOO_MANY_POINTS: RowReason = RowReason::Polyline(0, PolyReason::TooMany);
 
 // The refusal of a row of an array, or of its points, for the reason for which a table's row is
 // refused: with the number of that reason.
@@ -96,51 +88,6 @@ pub(crate) fn bare_row(row: &BufferRow, kind: Kind) -> Row
     }
 }
 
-// Does nothing. Its contract states that an id is in the range of an i64.
-#[inline(always)]
-fn look_at_id(id: Option<i64>)
-    ensures { id_in_range id ≡ true }
-{
-    if let Some(number) = id {
-        // lets proofs know that the number fits 64 bits
-        let _learnt = number;
-    }
-}
-
-// The reason why a row may not have its id at this place, or may not be without one; `None` if it
-// may.
-#[inline(always)]
-fn refused_row_id(row_place: &RowPlace, row: &Row) -> Option<RowReason>
-    ensures { result ≡ first_reason (id_checks (row_of row_place.now.parent)
-        (child_of row_place.now.parent) (row_with row.now [])) }
-{
-    look_at_id(row.id);
-    refused_id(row_place, row.kind, row.id.is_some())
-}
-
-// Whether a precision is from -8 to 7, or is missing.
-#[inline(always)]
-fn is_right_precision(precision: Option<i8>) -> bool
-    ensures { result ≡ precision_in_range precision }
-{
-    match precision {
-        None => true,
-        Some(decimals) => LEAST_PRECISION <= decimals && decimals <= GREATEST_PRECISION,
-    }
-}
-
-// The reason why a row may not have its precision at this place, or may not be without one; `None`
-// if it may.
-#[inline(always)]
-fn refused_row_precision(row_place: &RowPlace, row: &Row) -> Option<RowReason>
-    ensures { result ≡ first_reason (precision_checks (row_of row_place.now.parent) (row_with row.now [])) }
-{
-    if !is_right_precision(row.precision) {
-        return Some(RowReason::BadPrecision);
-    }
-    refused_precision(row_place, row.precision.is_some())
-}
-
 // A coordinate plus 2^62: below 2^63 if the coordinate is in range, -2^62 to 2^62 - 1, and 2^63 or
 // more if not.
 #[inline(always)]
@@ -200,42 +147,6 @@ pub(crate) fn index_outside(number: u32, ahead: &[BufferPoint]) -> usize
     }
 }
 
-// Whether a row of this kind may have these points of its own: it has none, or is a point, a
-// linestring or a ring. Their number is not tested.
-#[inline(always)]
-fn may_have_points(kind: Kind, own: &[BufferPoint]) -> bool
-    ensures { result ≡ (has_points kind || has_none (points_of own.now)) }
-{
-    own.is_empty() || has_points(kind)
-}
-
-// Whether a row at this place may have `count` points without more points in its geometry than the
-// limits allow.
-#[inline(always)]
-fn has_room(limits: &Limits, row_place: &RowPlace, count: usize) -> bool
-    ensures { result ≡ nat_le (row_place.now.points + count) limits.now.points }
-{
-    row_place.points <= limits.points() && count <= (limits.points() - row_place.points) as usize
-}
-
-// The reason why a row of this kind may not have `count` points at this place, within the limits;
-// `None` if it may.
-#[inline(always)]
-fn refused_number(
-    limits: &Limits,
-    row_place: &RowPlace,
-    kind: Kind,
-    count: usize,
-) -> Option<RowReason>
-    ensures { (r : TableRow) → r.kind ≡ kind → length r.points ≡ count
-        → result ≡ first_reason (number_checks limits.now row_place.now r) }
-{
-    if !has_room(limits, row_place, count) {
-        return Some(TOO_MANY_POINTS);
-    }
-    refused_count(row_place, kind, count)
-}
-
 // The first reason why a row may not have these points at this place; `None` if it may, or if the
 // only reason is that one is out of range. The points themselves are only looked at if their number
 // is wrong.
@@ -246,19 +157,22 @@ fn refused_points(
     row: &Row,
     own: &[BufferPoint],
 ) -> Option<RowReason>
-    ensures { IsFirstButRange (point_checks limits.now (row_of row_place.now.parent)
-        row_place.now.points (row_with row.now (points_of own.now))) (points_of own.now) result }
+    ensures { IsFirstButRange (points_checks (are_in_range (points_of own.now)) limits.now row_place.now
+        (row_with row.now (points_of own.now))) (points_of own.now) result }
 {
-    if !may_have_points(row.kind, own) {
-        return Some(RowReason::PolylineNotAllowed);
-    }
-    let Some(reason) = refused_number(limits, row_place, row.kind, own.len()) else {
+    let Some(refusal) = points_refusal(limits, row_place, row.kind, own.len()) else {
         return None;
     };
-    if !are_in_range(own) {
-        return Some(OUT_OF_RANGE);
+    match refusal {
+        Refusal::PointsNotAllowed => Some(RowReason::PolylineNotAllowed),
+        _ => {
+            if are_in_range(own) {
+                Some(reason_of(refusal))
+            } else {
+                Some(OUT_OF_RANGE)
+            }
+        }
     }
-    Some(reason)
 }
 
 // The first reason why a row with these points may not come at this place; `None` if it may, or if
@@ -273,14 +187,8 @@ pub(crate) fn refused_row(
     ensures { IsFirstButRange (checks_there limits.now row_place.now
         (row_with row.now (points_of own.now))) (points_of own.now) result }
 {
-    if let Some(reason) = refused_place(limits, row_place, row.kind) {
-        return Some(reason);
-    }
-    if let Some(reason) = refused_row_id(row_place, row) {
-        return Some(reason);
-    }
-    if let Some(reason) = refused_row_precision(row_place, row) {
-        return Some(reason);
+    if let Some(refusal) = field_refusal(limits, row_place, row.kind, row.id, row.precision) {
+        return Some(reason_of(refusal));
     }
     refused_points(limits, row_place, row, own)
 }

@@ -4,7 +4,9 @@ ghost use Rattle.std.specs.Prelude.{◌≡◌, ◌≢◌, ◌≤◌, ◌⊎◌, 
 ghost use Rattle.twkb_io.specs.declared.TheConstants.{MAX_BYTES};
 ghost use Rattle.twkb_tree.specs.Tree.{IsId, Tree};
 ghost use Rattle.twkb_tree.specs.Limits.{Allowance, IsAllowance};
-ghost use Rattle.twkb_tree.specs.Refusal.{CoordinateRange, Refusal, TooManyPoints, refusal};
+ghost use Rattle.twkb_tree.specs.Refusal.{refusal};
+ghost use Rattle.twkb_tree.specs.declared.row_checks.Refusal.{Refusal};
+ghost use Rattle.twkb_tree.specs.declared.row_checks.Refusal.TheVariants.{CoordinateRange, TooManyPoints};
 ghost use Rattle.twkb_tree.specs.Rows.{Row as TableRow};
 ghost use Rattle.twkb_table.specs.Judged.{Judged, Refused, Verdict};
 ghost use Rattle.twkb_table.specs.Record.{record_of};

@@ -7,6 +7,7 @@ pub mod DigitLemmas
 pub mod FieldLemmas
 pub mod LineLemmas
 pub mod OpenedLemmas
+pub mod PlaceVerdicts
 pub mod ReadBack
 pub mod RecordFacts
 pub mod RecordWritingLemmas

@@ -12,7 +12,6 @@ use Rattle.twkb_points.specs.Point.{Point}
 use Rattle.twkb_polyline.specs.Polyline.{polyline, DecodesTo}
 use Rattle.twkb_polyline.specs.declared.fault.PolyReason.{PolyReason}
 use Rattle.twkb_polyline.proofs.FaultLemmas.{one_polyline, text_fault_none, text_fault_one}
-use Rattle.twkb_tree.specs.Refusal.{Refusal, Check, check}
 use Rattle.twkb_tree.specs.Rows.{Row, rows_of, rows}
 use Rattle.twkb_tree.specs.declared.kind.Kind.{Kind}
 use Rattle.twkb_tree.specs.Tree.{IsPrecision, Tree, IsId}
@@ -33,7 +32,6 @@ use Rattle.twkb_tree.proofs.AllJoined.{all_apart, all_join}
 use Rattle.twkb_table.specs.Judged.{Verdict, Accepted, Refused, When, Unless, place_of, points_left, JudgedByPoints}
 use Rattle.twkb_table.specs.Judged.{JudgedByPrecision, JudgedByPlace, Judged, Place, UnlessFaulty, JudgedById}
 use Rattle.twkb_table.specs.Judged.{JudgedByCount}
-use Rattle.twkb_table.specs.RowRules.{first_reason, rule_reason}
 use Rattle.twkb_table.specs.declared.reason.RowReason.{RowReason}
 use Rattle.twkb_table.specs.Fields.{optional, IsDepthField, IsOptionalId, IsOptionalPrecision}
 use Rattle.twkb_table.specs.Record.{Record, record_of, header}
@@ -92,30 +90,6 @@ pub pick : {A : Type 0} (P : A → Type 0) (Others : A → Type 0) (v : Verdict)
     (a : A) → Unless v P reason Others → P a → ((b : A) → P b → b ≡ a) → Others a
 pick P Others v reason a (inl h) p one = absurd (h.0 a p)
 pick P Others v reason a (inr h) p one = subst Others (one h.0 h.1) h.2
-
--- ---- the steps of a list of tests
-
--- the verdict is the reason of the first test that fails; if none fails, the others decide
-abbrev pub WhenFailed : Verdict → List Check → Type 0 → Type 0
-WhenFailed v [] Others = Others
-WhenFailed v (c ∷ checks) Others = When v (c.holds ≡ false) (rule_reason c.otherwise) (WhenFailed v checks Others)
-
--- the tests after the first
-abbrev pub later_checks : List Check → List Check
-later_checks [] = []
-later_checks (c ∷ checks) = checks
-
--- if no test fails, the others decide
-pub none_failed : (v : Verdict) (checks : List Check) (Others : Type 0) → None ≡ first_reason checks
-    → Others → WhenFailed v checks Others
-none_failed v [] Others none others = others
-none_failed v (c ∷ checks) Others none others =
-    passed_at c.holds c.otherwise (λ e. none_failed v checks Others e others) none
-  where
-    passed_at : (b : Bool) (why : Refusal) → (None ≡ first_reason checks → WhenFailed v checks Others)
-        → None ≡ first_reason (check b why ∷ checks) → WhenFailed v (check b why ∷ checks) Others
-    passed_at true why rest e = inr (λ f. true≢false f, rest e)
-    passed_at false why rest e = cc e
 
 -- ---- a step gives one verdict if what follows does
 

@@ -4,8 +4,7 @@ use Rattle.twkb_tree.specs.declared.kind.Kind.{Kind}
 use Rattle.twkb_tree.specs.Limits.{Allowance}
 use Rattle.twkb_points.specs.Point.{Point}
 use Rattle.twkb_table.specs.Judged.{Verdict, Accepted, Refused, Place, JudgedByPlace, JudgedById}
-use Rattle.twkb_table.specs.Judged.{JudgedByPrecision, JudgedByPoints, JudgedByCount, JudgedHavingId}
-use Rattle.twkb_table.specs.Judged.{JudgedHavingPrecision}
+use Rattle.twkb_table.specs.Judged.{JudgedByPrecision, JudgedByPoints, JudgedByCount}
 use Rattle.twkb_table.specs.declared.reason.RowReason.{RowReason}
 
 -- a row of this kind may come at this place: the verdict on its id is the verdict on its place
@@ -19,20 +18,6 @@ abbrev pub LacksPlace : Allowance → Place → Kind → RowReason → Type 0
 LacksPlace l here k reason =
     (id_field precision_field text : List ℕ) → JudgedByPlace l here k id_field precision_field text (Refused reason)
 
--- a row of this kind may have this id at this place: the verdict on its precision is the verdict on
--- its id
-abbrev pub AllowsId : Place → Kind → Option ℤ → Type 0
-AllowsId here k id =
-    (l : Allowance) (precision_field text : List ℕ) (v : Verdict)
-    → JudgedByPrecision l here k id precision_field text v → JudgedHavingId l here k id precision_field text v
-
--- a row of this kind may not have this id at this place, for this reason, whatever its other fields
--- are
-abbrev pub RefusesId : Place → Kind → Option ℤ → RowReason → Type 0
-RefusesId here k id reason =
-    (l : Allowance) (precision_field text : List ℕ)
-    → JudgedHavingId l here k id precision_field text (Refused reason)
-
 -- a row of this kind may have this id at this place, and the field spells it: the verdict on its
 -- precision is the verdict on its id
 abbrev pub HasId : Place → Kind → List ℕ → Option ℤ → Type 0
@@ -45,19 +30,6 @@ HasId here k field id =
 abbrev pub LacksId : Place → Kind → List ℕ → RowReason → Type 0
 LacksId here k field reason =
     (l : Allowance) (precision_field text : List ℕ) → JudgedById l here k field precision_field text (Refused reason)
-
--- a row may have this precision at this place: the verdict on its points is the verdict on its
--- precision
-abbrev pub AllowsPrecision : Place → Option ℤ → Type 0
-AllowsPrecision here precision =
-    (l : Allowance) (k : Kind) (id : Option ℤ) (text : List ℕ) (v : Verdict)
-    → JudgedByPoints l here k id precision text v → JudgedHavingPrecision l here k id precision text v
-
--- a row may not have this precision at this place, for this reason, whatever its other fields are
-abbrev pub RefusesPrecision : Place → Option ℤ → RowReason → Type 0
-RefusesPrecision here precision reason =
-    (l : Allowance) (k : Kind) (id : Option ℤ) (text : List ℕ)
-    → JudgedHavingPrecision l here k id precision text (Refused reason)
 
 -- a row may have this precision at this place, and the field spells it: the verdict on its points
 -- is the verdict on its precision

@@ -30,7 +30,7 @@ pub use geometry_text::{put_rows, rows_text};
 pub use header::header_text;
 pub use kind_word::{parse_kind, push_kind};
 pub use numbered_records::RECORD_CAP;
-pub use places::{refused_count, refused_id, refused_place, refused_precision};
+pub use places::reason_of;
 pub use reason::RowReason;
 pub use record_verdict::judge;
 pub use table_fault::TableFault;

@@ -22,8 +22,10 @@ use Rattle.twkb_tree.specs.Open.{open_continues}
 use Rattle.twkb_tree.specs.declared.kind.Kind.TheVariants as kind
 use Rattle.twkb_tree.specs.Limits.{Allowance, IsValid}
 use Rattle.twkb_tree.specs.Accepted.{since_root, geometry_rows, point_count, nest_kept, Accepts, IsOneRoot, Continues}
-use Rattle.twkb_tree.specs.Refusal.{BadPlace, checks_under, checks_at, first_failed, refusal_after, refusal}
-use Rattle.twkb_tree.specs.Refusal.{is_one_root, continues, Refusal, Check, are_in_range, has_none, accepts}
+use Rattle.twkb_tree.specs.Refusal.{checks_under, checks_at, first_failed, refusal_after, refusal, is_one_root}
+use Rattle.twkb_tree.specs.Refusal.{continues, Check, are_in_range, has_none, accepts}
+use Rattle.twkb_tree.specs.declared.row_checks.Refusal.{Refusal}
+use Rattle.twkb_tree.specs.declared.row_checks.Refusal.TheVariants.{BadPlace}
 use Rattle.twkb_tree.specs.RowLists.{AreRowsOfOne, AreValid, AreValidRowsOfOne}
 use Rattle.twkb_tree.specs.Tree.{Tree}
 use Rattle.twkb_tree.proofs.RowForest.{within_test, both_true, both, below_test, test_below, test_within, facts}

@@ -7,8 +7,9 @@ use Rattle.twkb_tree.specs.declared.open_rows.OpenRow.{OpenRow}
 use Rattle.twkb_tree.specs.declared.row_place.RowPlace.{RowPlace}
 use Rattle.twkb_tree.specs.Limits.{Allowance}
 use Rattle.twkb_tree.specs.Open.{row_of, child_of}
-use Rattle.twkb_tree.specs.Refusal.{Refusal, Check, first_failed, place_checks, id_checks, precision_checks}
-use Rattle.twkb_tree.specs.RowPlace.{row_place_at, points_checks, row_checks}
+use Rattle.twkb_tree.specs.Refusal.{Check, first_failed, place_checks, id_checks, precision_checks}
+use Rattle.twkb_tree.specs.declared.row_checks.Refusal.{Refusal}
+use Rattle.twkb_tree.specs.RowPlace.{row_place_at, field_checks, points_checks, row_checks}
 use Rattle.twkb_tree.specs.Rows.{Row}
 use Rattle.twkb_tree.proofs.OpenLaws.{no_open_parent, open_parent_at}
 
@@ -66,19 +67,22 @@ first_failed-append (c ∷ checks) more = elim (cases_Bool c.holds) [
   | inr fails ↦ rw fails refl
 ]
 
--- the first test of a row that fails is one of its place, its id, its precision or its points
-pub in_parts : (in_range : Bool) (l : Allowance) (s : RowPlace) (r : Row)
-    (place id precision : Option Refusal)
+-- the first test of a row's fields that fails is one of its place, its id or its precision
+pub in_fields : (l : Allowance) (s : RowPlace) (r : Row) (place id precision : Option Refusal)
     → place ≡ first_failed (place_checks l true (row_of s.parent) s.nodes s.depth r.kind)
     → id ≡ first_failed (id_checks (row_of s.parent) (child_of s.parent) r)
     → precision ≡ first_failed (precision_checks (row_of s.parent) r)
-    → first_else place (first_else id (first_else precision (first_failed
-    (points_checks in_range l s r)))) ≡ first_failed (row_checks in_range l s r)
-in_parts in_range l s r place id precision a b c =
-    let points = points_checks in_range l s r in
+    → first_else place (first_else id precision) ≡ first_failed (field_checks l s r)
+in_fields l s r place id precision a b c =
     let precisions = precision_checks (row_of s.parent) r in
     let ids = id_checks (row_of s.parent) (child_of s.parent) r in
     let places = place_checks l true (row_of s.parent) s.nodes s.depth r.kind in
-    rw (a, b, c) (sym (first_failed-append places (ids ++ (precisions ++ points))
-    ∙ ap (first_else (first_failed places)) (first_failed-append ids (precisions ++ points)
-    ∙ ap (first_else (first_failed ids)) (first_failed-append precisions points))))
+    rw (a, b, c) (sym (first_failed-append places (ids ++ precisions)
+    ∙ ap (first_else (first_failed places)) (first_failed-append ids precisions)))
+
+-- the first test of a row that fails is one of its fields or of its points
+pub in_row : (in_range : Bool) (l : Allowance) (s : RowPlace) (r : Row) (fields points : Option Refusal)
+    → fields ≡ first_failed (field_checks l s r) → points ≡ first_failed (points_checks in_range l s r)
+    → first_else fields points ≡ first_failed (row_checks in_range l s r)
+in_row in_range l s r fields points a b =
+    rw (a, b) (sym (first_failed-append (field_checks l s r) (points_checks in_range l s r)))

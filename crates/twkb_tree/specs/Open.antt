@@ -7,7 +7,8 @@ use Rattle.twkb_tree.specs.declared.open_rows.OpenRow.{OpenRow}
 use Rattle.twkb_tree.specs.Rows.{Row}
 use Rattle.twkb_tree.specs.Limits.{Allowance}
 use Rattle.twkb_tree.specs.Admits.{last_at, first_below}
-use Rattle.twkb_tree.specs.Refusal.{Refusal, checks_under, first_failed}
+use Rattle.twkb_tree.specs.Refusal.{checks_under, first_failed}
+use Rattle.twkb_tree.specs.declared.row_checks.Refusal.{Refusal}
 
 -- whether the row has an id, if there is a row
 abbrev pub ids_by : Option Row → Option Bool

@@ -12,14 +12,12 @@ use Rattle.twkb_tree.specs.Admits.{parent, first_child, steps_to, has_place, id_
 use Rattle.twkb_tree.specs.Admits.{id_allowed, has_same_ids, precision_in_range, is_geometry}
 use Rattle.twkb_tree.specs.Admits.{has_needed_precision, precision_allowed, has_points, points_fit}
 use Rattle.twkb_tree.specs.Accepted.{nest_kept, geometry_rows, point_count}
--- the reasons for which a row may not come next
-pub use Rattle.twkb_tree.specs.declared.row_checks.Refusal.{Refusal}
-pub use Rattle.twkb_tree.specs.declared.row_checks.Refusal.TheVariants.{BadPlace, TooDeep, TooManyNodes}
-pub use Rattle.twkb_tree.specs.declared.row_checks.Refusal.TheVariants.{BadId, IdNotAllowed, MixedIds}
-pub use Rattle.twkb_tree.specs.declared.row_checks.Refusal.TheVariants.{BadPrecision, PrecisionMissing}
-pub use Rattle.twkb_tree.specs.declared.row_checks.Refusal.TheVariants.{PrecisionNotAllowed, PointsNotAllowed}
-pub use Rattle.twkb_tree.specs.declared.row_checks.Refusal.TheVariants.{CoordinateRange, TooManyPoints}
-pub use Rattle.twkb_tree.specs.declared.row_checks.Refusal.TheVariants.{PointCount}
+use Rattle.twkb_tree.specs.declared.row_checks.Refusal.{Refusal}
+use Rattle.twkb_tree.specs.declared.row_checks.Refusal.TheVariants.{BadPlace, TooDeep, TooManyNodes, BadId}
+use Rattle.twkb_tree.specs.declared.row_checks.Refusal.TheVariants.{IdNotAllowed, MixedIds, BadPrecision}
+use Rattle.twkb_tree.specs.declared.row_checks.Refusal.TheVariants.{PrecisionMissing, PrecisionNotAllowed}
+use Rattle.twkb_tree.specs.declared.row_checks.Refusal.TheVariants.{PointsNotAllowed, CoordinateRange, TooManyPoints}
+use Rattle.twkb_tree.specs.declared.row_checks.Refusal.TheVariants.{PointCount}
 
 -- a coordinate is below the bound and not below its negative
 abbrev pub is_coordinate : ℤ → Bool

@@ -8,8 +8,8 @@ use Rattle.twkb_tree.specs.declared.row_place.RowPlace.{RowPlace}
 use Rattle.twkb_tree.specs.Admits.{has_points}
 use Rattle.twkb_tree.specs.Limits.{Allowance}
 use Rattle.twkb_tree.specs.Open.{open_parent, count_at, row_of, child_of}
-use Rattle.twkb_tree.specs.Refusal.{Check, check, PointsNotAllowed, CoordinateRange, TooManyPoints}
-use Rattle.twkb_tree.specs.Refusal.{has_none, place_checks, id_checks, precision_checks, count_checks}
+use Rattle.twkb_tree.specs.Refusal.{Check, check, has_none, place_checks, id_checks, precision_checks, count_checks}
+use Rattle.twkb_tree.specs.declared.row_checks.Refusal.TheVariants.{PointsNotAllowed, CoordinateRange, TooManyPoints}
 use Rattle.twkb_tree.specs.Rows.{Row}
 
 -- the place of a row at this depth, from the open rows and the counts of rows and points since
@@ -32,6 +32,12 @@ row_there s k id precision points = record {
   points = points;
 }
 
+-- the tests of a row's place, its id and its precision
+abbrev pub field_checks : Allowance → RowPlace → Row → List Check
+field_checks l s r =
+    place_checks l true (row_of s.parent) s.nodes s.depth r.kind
+    ++ (id_checks (row_of s.parent) (child_of s.parent) r ++ precision_checks (row_of s.parent) r)
+
 -- the tests of a row's points at its place, given whether their coordinates are in range
 abbrev pub points_checks : Bool → Allowance → RowPlace → Row → List Check
 points_checks in_range l s r =
@@ -42,7 +48,4 @@ points_checks in_range l s r =
 
 -- all tests of a row at its place in order, given whether its coordinates are in range
 abbrev pub row_checks : Bool → Allowance → RowPlace → Row → List Check
-row_checks in_range l s r =
-    place_checks l true (row_of s.parent) s.nodes s.depth r.kind
-    ++ (id_checks (row_of s.parent) (child_of s.parent) r
-    ++ (precision_checks (row_of s.parent) r ++ points_checks in_range l s r))
+row_checks in_range l s r = field_checks l s r ++ points_checks in_range l s r

@@ -9,10 +9,13 @@ use Rattle.twkb_tree.specs.declared.limits.TheConstants.{NODES_CAP, POINTS_CAP}
 use Rattle.twkb_tree.specs.Tree.{simple, collection, end, ◌▷◌, point, line, multi_polygon}
 use Rattle.twkb_tree.specs.Limits.{Allowance}
 use Rattle.twkb_tree.specs.Rows.{Row, rows}
-use Rattle.twkb_tree.specs.Refusal.{Refusal, refusal_after, accepts, continues}
-use Rattle.twkb_tree.specs.Refusal.{BadPlace, TooDeep, TooManyNodes, BadId, IdNotAllowed, MixedIds}
-use Rattle.twkb_tree.specs.Refusal.{BadPrecision, PrecisionMissing, PrecisionNotAllowed}
-use Rattle.twkb_tree.specs.Refusal.{PointsNotAllowed, CoordinateRange, TooManyPoints, PointCount}
+use Rattle.twkb_tree.specs.Refusal.{refusal_after, accepts, continues}
+use Rattle.twkb_tree.specs.declared.row_checks.Refusal.{Refusal}
+use Rattle.twkb_tree.specs.declared.row_checks.Refusal.TheVariants.{BadPlace, TooDeep, TooManyNodes, BadId}
+use Rattle.twkb_tree.specs.declared.row_checks.Refusal.TheVariants.{IdNotAllowed, MixedIds, BadPrecision}
+use Rattle.twkb_tree.specs.declared.row_checks.Refusal.TheVariants.{PrecisionMissing, PrecisionNotAllowed}
+use Rattle.twkb_tree.specs.declared.row_checks.Refusal.TheVariants.{PointsNotAllowed, CoordinateRange, TooManyPoints}
+use Rattle.twkb_tree.specs.declared.row_checks.Refusal.TheVariants.{PointCount}
 
 -- each row is accepted, or the row with this number, from 1, is refused
 pub data Outcome : Type 0 where

@@ -5,7 +5,7 @@ ghost use Rattle.twkb_tree.specs.Admits.{id_in_range, precision_in_range};
 ghost use Rattle.twkb_tree.specs.Open.{row_of, child_of};
 ghost use Rattle.twkb_tree.specs.Refusal.{first_failed, place_checks, id_checks, precision_checks};
 ghost use Rattle.twkb_tree.specs.Refusal.{count_checks};
-ghost use Rattle.twkb_tree.specs.RowPlace.{points_checks, row_checks, row_there};
+ghost use Rattle.twkb_tree.specs.RowPlace.{field_checks, points_checks, row_checks, row_there};
 ghost use Rattle.twkb_tree.specs.Rows.{Row};
 
 use crate::geometry::{GREATEST_PRECISION, LEAST_PRECISION};
@@ -120,10 +120,11 @@ fn has_room(limits: &Limits, row_place: &RowPlace, count: usize) -> bool
     row_place.points <= limits.points() && count <= (limits.points() - row_place.points) as usize
 }
 
-// The first reason why a row of this kind at this place may not have `count` points in range,
-// within the limits; `None` if it may.
+/// The first reason why a row of this kind at this place may not have `count` points of its own,
+/// within the limits; `None` if it may. No coordinate is looked at: the answer is that for points
+/// in range. Takes no memory.
 #[inline(always)]
-fn points_refusal(
+pub fn points_refusal(
     limits: &Limits,
     row_place: &RowPlace,
     kind: Kind,
@@ -163,6 +164,32 @@ fn is_right_precision(precision: Option<i8>) -> bool
     }
 }
 
+/// The first reason why a row with these fields may not come at this place, whatever its points
+/// are; `None` if it may. The depth is that of the place. Takes no memory.
+#[inline(always)]
+pub fn field_refusal(
+    limits: &Limits,
+    row_place: &RowPlace,
+    kind: Kind,
+    id: Option<i64>,
+    precision: Option<i8>,
+) -> Option<Refusal>
+    ensures { (points : List Point) → result ≡ first_failed
+        (field_checks limits.now row_place.now (row_there row_place.now kind id precision points)) }
+{
+    if let Some(refusal) = place_refusal(limits, row_place, kind) {
+        return Some(refusal);
+    }
+    look_at_id(id);
+    if let Some(refusal) = id_refusal(row_place, kind, id.is_some()) {
+        return Some(refusal);
+    }
+    if !is_right_precision(precision) {
+        return Some(Refusal::BadPrecision);
+    }
+    precision_refusal(row_place, precision.is_some())
+}
+
 /// The first reason why a row with these fields and `count` points may not come at this place,
 /// within the limits; `None` if it may. The depth is that of the place. No coordinate is looked at:
 /// the answer is that for points in range. Takes no memory.
@@ -178,17 +205,7 @@ pub fn row_refusal(
     ensures { (points : List Point) → length points ≡ count → result ≡ first_failed
         (row_checks true limits.now row_place.now (row_there row_place.now kind id precision points)) }
 {
-    if let Some(refusal) = place_refusal(limits, row_place, kind) {
-        return Some(refusal);
-    }
-    look_at_id(id);
-    if let Some(refusal) = id_refusal(row_place, kind, id.is_some()) {
-        return Some(refusal);
-    }
-    if !is_right_precision(precision) {
-        return Some(Refusal::BadPrecision);
-    }
-    if let Some(refusal) = precision_refusal(row_place, precision.is_some()) {
+    if let Some(refusal) = field_refusal(limits, row_place, kind, id, precision) {
         return Some(refusal);
     }
     points_refusal(limits, row_place, kind, count)

@@ -2,7 +2,8 @@ use Rattle.std.proofs.Common.{◌∙◌, List, take, ap, arith, inl, inr, refl, 
 use Rattle.std.proofs.lemmas.Bool.{true≢false}
 use Rattle.twkb_points.specs.Point.{Point, AreInRange}
 use Rattle.twkb_tree.specs.Accepted.{Continues}
-use Rattle.twkb_tree.specs.Refusal.{BadPlace, CoordinateRange, first_failed}
+use Rattle.twkb_tree.specs.Refusal.{first_failed}
+use Rattle.twkb_tree.specs.declared.row_checks.Refusal.TheVariants.{BadPlace, CoordinateRange}
 use Rattle.twkb_tree.specs.Rows.{Row}
 use Rattle.twkb_tree.proofs.LimitLaws.{continues_largest}
 use Rattle.twkb_flat.specs.Rows.{row_with}

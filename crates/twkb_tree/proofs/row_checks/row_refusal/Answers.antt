@@ -1,39 +1,15 @@
-use Rattle.std.proofs.Common.{◌∙◌, true, Some, refl, sym}
-use Rattle.twkb_tree.specs.Refusal.{BadPrecision}
+use Rattle.std.proofs.Common.{true, refl}
 use Rattle.twkb_tree.specs.RowPlace.{row_there}
-use Rattle.twkb_tree.proofs.RowPlaceLemmas.{in_parts}
+use Rattle.twkb_tree.proofs.RowPlaceLemmas.{in_row}
 use Rattle.twkb_tree.proofs.row_checks.row_refusal.Goals as goal
 
-pub returns-in-Some-id_refusal : goal.returns-in-Some-id_refusal
-returns-in-Some-id_refusal c own many =
-    let s = c.args.row_place.now in
-    let r = row_there s c.args.kind c.args.id c.args.precision own in
-    in_parts true c.args.limits.now s r _ _ _ c.in_default.ensures
-    (c.in-Some-id_refusal.ensures r refl (sym c.is_some.ensures) c.look_at_id.ensures) refl
-
-pub returns-then-not-is_right_precision : goal.returns-then-not-is_right_precision
-returns-then-not-is_right_precision c own many =
-    let s = c.args.row_place.now in
-    let r = row_there s c.args.kind c.args.id c.args.precision own in
-    in_parts true c.args.limits.now s r _ _ (Some BadPrecision) c.in_default.ensures
-    (c.in_default-id_refusal.ensures r refl (sym c.is_some.ensures) c.look_at_id.ensures)
-    (rw (sym c.is_right_precision.ensures ∙ c.if-not-is_right_precision.true) refl)
-
-pub returns-in-Some-precision_refusal : goal.returns-in-Some-precision_refusal
-returns-in-Some-precision_refusal c own many =
-    let s = c.args.row_place.now in
-    let r = row_there s c.args.kind c.args.id c.args.precision own in
-    in_parts true c.args.limits.now s r _ _ _ c.in_default.ensures
-    (c.in_default-id_refusal.ensures r refl (sym c.is_some.ensures) c.look_at_id.ensures)
-    (c.in-Some-precision_refusal.ensures r (sym c.is_some-2.ensures)
-    (sym c.is_right_precision.ensures ∙ c.if-not-is_right_precision.false))
+pub returns-in-Some : goal.returns-in-Some
+returns-in-Some c own many =
+    let r = row_there c.args.row_place.now c.args.kind c.args.id c.args.precision own in
+    in_row true c.args.limits.now c.args.row_place.now r _ _ (c.in-Some.ensures own) refl
 
 pub returns : goal.returns
 returns c own many =
-    let s = c.args.row_place.now in
-    let r = row_there s c.args.kind c.args.id c.args.precision own in
-    c.points_refusal.ensures r refl many
-    ∙ in_parts true c.args.limits.now s r _ _ _ c.in_default.ensures
-    (c.in_default-id_refusal.ensures r refl (sym c.is_some.ensures) c.look_at_id.ensures)
-    (c.in_default-precision_refusal.ensures r (sym c.is_some-2.ensures)
-    (sym c.is_right_precision.ensures ∙ c.if-not-is_right_precision.false))
+    let r = row_there c.args.row_place.now c.args.kind c.args.id c.args.precision own in
+    in_row true c.args.limits.now c.args.row_place.now r _ _ (c.in_default.ensures own)
+    (c.points_refusal.ensures r refl many)
