@@ -65,34 +65,18 @@ pub record IsFlat (kept : List KeptNode) (points : List Point) : Type 0 where
   pub nodes : length kept ≤ NODES_CAP
   pub most : length points ≤ POINTS_CAP
 
--- a placed row with one more point
-abbrev pub longer : PlacedRow → PlacedRow
-longer s = record { row = s.row; first = s.first; points = s.points + 1 }
+-- a placed row with `n` more points
+abbrev pub longer : ℕ → PlacedRow → PlacedRow
+longer n s = record { row = s.row; first = s.first; points = s.points + n }
 
--- the placed rows, the last one with one more point
-abbrev pub last_longer : List PlacedRow → List PlacedRow
-last_longer [] = []
-last_longer (s ∷ []) = longer s ∷ []
-last_longer (s ∷ t ∷ ss) = s ∷ last_longer (t ∷ ss)
+-- the placed rows, the last one with `n` more points
+abbrev pub last_longer : ℕ → List PlacedRow → List PlacedRow
+last_longer n [] = []
+last_longer n (s ∷ []) = longer n s ∷ []
+last_longer n (s ∷ t ∷ ss) = s ∷ last_longer n (t ∷ ss)
 
--- a placed row with `more` more points
-abbrev pub longer_by : ℕ → PlacedRow → PlacedRow
-longer_by n s = record { row = s.row; first = s.first; points = s.points + n }
-
--- the placed rows, the last one with `more` more points
-abbrev pub last_longer_by : ℕ → List PlacedRow → List PlacedRow
-last_longer_by n [] = []
-last_longer_by n (s ∷ []) = longer_by n s ∷ []
-last_longer_by n (s ∷ t ∷ ss) = s ∷ last_longer_by n (t ∷ ss)
-
--- the last kept node can count this many more points
-abbrev pub LastHasRoomFor : ℕ → List KeptNode → Type 0
-LastHasRoomFor n [] = ⊤
-LastHasRoomFor n (e ∷ []) = e.placed.points + n < 2 ^ 32
-LastHasRoomFor n (e ∷ f ∷ es) = LastHasRoomFor n (f ∷ es)
-
--- the last kept node can count one more point
-abbrev pub LastHasRoom : List KeptNode → Type 0
-LastHasRoom [] = ⊤
-LastHasRoom (e ∷ []) = e.placed.points + 1 < 2 ^ 32
-LastHasRoom (e ∷ f ∷ es) = LastHasRoom (f ∷ es)
+-- the last kept node can count `n` more points
+abbrev pub LastHasRoom : ℕ → List KeptNode → Type 0
+LastHasRoom n [] = ⊤
+LastHasRoom n (e ∷ []) = e.placed.points + n < 2 ^ 32
+LastHasRoom n (e ∷ f ∷ es) = LastHasRoom n (f ∷ es)

@@ -5,7 +5,7 @@ ghost use Rattle.twkb_points.specs.Point.{Point};
 ghost use Rattle.twkb_tree.specs.declared.limits.TheConstants.{POINTS_CAP};
 ghost use Rattle.twkb_tree.specs.Open.{ids_by};
 ghost use Rattle.twkb_flat.specs.KeptNodes.{placed_of, depths_in, links_in, listed, last_longer};
-ghost use Rattle.twkb_flat.specs.KeptNodes.{LastHasRoom, LastHasRoomFor, last_longer_by, IsPut};
+ghost use Rattle.twkb_flat.specs.KeptNodes.{LastHasRoom, IsPut};
 ghost use Rattle.twkb_flat.specs.KeptNodes.{IsUnlinked};
 ghost use Rattle.twkb_flat.specs.Links.{levels, OpenPlace, Linked, AreClosed, MayFollow};
 ghost use Rattle.twkb_flat.specs.Lasts.{IsLineKind, LastIsLine};
@@ -174,27 +174,13 @@ pub(crate) fn child_ids(kept: &[KeptNode], at: usize) -> Option<bool>
     Some(kept[next].placed.row.id.is_some())
 }
 
-// Adds one to the number of points of the last node. There must be a node, and the sum must be
-// below 2^32.
-#[inline(always)]
-pub(crate) fn count_point(kept: &mut [KeptNode])
-    requires some { 0 < length kept.old }
-    requires room { LastHasRoom kept.old }
-    ensures placed_rows { map placed_of kept.new ≡ last_longer (map placed_of kept.old) }
-    ensures links { links_in kept.new ≡ links_in kept.old }
-{
-    let last = kept.len() - 1;
-    let kept_node = &mut kept[last];
-    kept_node.placed.points += 1;
-}
-
 // Adds `more` to the number of points of the last node. There must be a node, and the sum must be
 // below 2^32.
 #[inline(always)]
 pub(crate) fn count_points(kept: &mut [KeptNode], more: u32)
     requires some { 0 < length kept.old }
-    requires room { LastHasRoomFor more kept.old }
-    ensures placed_rows { map placed_of kept.new ≡ last_longer_by more (map placed_of kept.old) }
+    requires room { LastHasRoom more kept.old }
+    ensures placed_rows { map placed_of kept.new ≡ last_longer more (map placed_of kept.old) }
     ensures links { links_in kept.new ≡ links_in kept.old }
 {
     let last = kept.len() - 1;

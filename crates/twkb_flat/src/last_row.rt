@@ -7,9 +7,7 @@ ghost use Rattle.twkb_tree.specs.RowGrowth.{EndsInLine, point_added, points_adde
 ghost use Rattle.twkb_flat.specs.Members.{EndsInMember};
 
 use crate::flat::Flat;
-use crate::kept_nodes::{
-    KeptNode, PlacedRow, count_point, count_points, ends_in_line, link, put_point,
-};
+use crate::kept_nodes::{KeptNode, PlacedRow, count_points, ends_in_line, link, put_point};
 use crate::node::Row;
 use crate::room::{make_room, put_reserved};
 use crate::row_test::{MOST_POINTS, leaves_room, look, look_at_id};
@@ -54,7 +52,7 @@ impl Flat {
         if let Err(refused) = self.points.push(point) {
             return Err(refused.into());
         }
-        count_point(&mut self.kept);
+        count_points(&mut self.kept, 1);
         Ok(())
     }
 
@@ -74,8 +72,7 @@ impl Flat {
         make_room(&mut self.points, 2)?;
         self.points.push_reserved(first);
         self.points.push_reserved(second);
-        count_point(&mut self.kept);
-        count_point(&mut self.kept);
+        count_points(&mut self.kept, 2);
         Ok(())
     }
 
