@@ -6,10 +6,10 @@ use Rattle.std.specs.List.{AllByRecursion}
 use Rattle.std.proofs.lemmas.List.{length-append}
 use Rattle.twkb_points.specs.Point.{Point}
 use Rattle.twkb_tree.specs.Tree.{Ids, HasIds, point, line, polygon, multi_point, multi_line, multi_polygon, Tree, Trees}
-use Rattle.twkb_tree.specs.Tree.{simple, collection, end, ◌▷◌, trees, members, count, precision_of, IsTree, IsPrecision}
+use Rattle.twkb_tree.specs.Tree.{Simple, simple, collection, end, ◌▷◌, trees, members, count, precision_of, IsTree, IsPrecision}
 use Rattle.twkb_tree.specs.declared.kind.Kind.{Kind}
 use Rattle.twkb_tree.specs.Rows.{Row, first_id, other_ids, rows_of_each, plain_row, own_row, rows_with, rows_under}
-use Rattle.twkb_tree.specs.Rows.{rows, ring_rows}
+use Rattle.twkb_tree.specs.Rows.{rows, ring_rows, rows_below}
 use Rattle.twkb_tree.specs.RowLists.{IsAbove, AreValidRowsOfOne}
 use Rattle.twkb_tree.specs.declared.kind.Kind.TheVariants as kind
 use Rattle.twkb_tree.specs.Limits.{Allowance, IsValid}
@@ -21,7 +21,7 @@ use Rattle.twkb_tree.proofs.RowForest.{point_in}
 use Rattle.twkb_tree.proofs.Shapes.{fit-tree_of}
 use Rattle.twkb_tree.proofs.RowLaws.{geometries_are}
 use Rattle.twkb_flat.specs.Components.{component_rows}
-use Rattle.twkb_flat.specs.Taking.{IsAt, OneAt, EachAt, ids_in, id_list, TreeAt, IsAny, AreOf}
+use Rattle.twkb_flat.specs.Taking.{IsAt, OneAt, EachAt, ids_in, id_list, TreeAt, IsAny, AreOf, ComponentsAt}
 use Rattle.twkb_flat.specs.declared.node.Row.{Row as FlatRow}
 use Rattle.twkb_flat.specs.Rows.{row_with}
 
@@ -90,6 +90,12 @@ tree_heads d = λ id g. (
   own_row-depth id d g,
   own_row-id id d g,
 )
+
+-- the place of a geometry is before the end
+pub tree_within : (rows : List Row) (at d : ℕ) (id : Option ℤ) (g : Tree) (rest : List Row)
+    → TreeAt rows at d id g rest → at < length rows
+tree_within rows at d id g rest it =
+    item_within IsTree (λ i h. rows_with i d h) rows at d id g rest (tree_heads d) it
 
 -- ---- ids
 
@@ -263,33 +269,14 @@ shorter sound f rows at d id x rest next heads it dropped =
     let h = heads id x in
     omega (arith, ap length dropped, ap length it.here, length-append (f id x) rest, ap length h.2)
 
--- ==== The components of a geometry, and its kind by the kind of its own row.
+-- ==== The parts of a geometry, and its kind by the kind of its own row.
 
--- ---- the components of a geometry
+-- ---- the members of a collection
 
--- the ids of a geometry's members
+-- the ids of a collection's members
 abbrev pub ids_below : Tree → Ids
-ids_below (simple p (multi_point ids ps)) = ids
-ids_below (simple p (multi_line ids lines)) = ids
-ids_below (simple p (multi_polygon ids areas)) = ids
 ids_below (collection p ids gs) = ids
 ids_below _ = None
-
--- the points of a geometry, if they are members
-abbrev pub points_below : Tree → List Point
-points_below (simple p (multi_point ids ps)) = ps
-points_below _ = []
-
--- the lines or rings of a geometry
-abbrev pub lines_below : Tree → List (List Point)
-lines_below (simple p (polygon rings)) = rings
-lines_below (simple p (multi_line ids lines)) = lines
-lines_below _ = []
-
--- the polygons of a geometry
-abbrev pub areas_below : Tree → List (List (List Point))
-areas_below (simple p (multi_polygon ids areas)) = areas
-areas_below _ = []
 
 -- the geometries of a collection
 abbrev pub members_below : Tree → List Tree
@@ -321,31 +308,48 @@ pub is_line : (id : Option ℤ) (d : ℕ) (g : Tree) → (own_row id d g).kind �
 is_line id d (simple p (line ps)) e = refl
 is_line id d _ e = cc e
 
--- a geometry whose row is a polygon's is a polygon
-pub is_polygon : (id : Option ℤ) (d : ℕ) (g : Tree) → (own_row id d g).kind ≡ kind.Polygon
-    → simple (precision_of g) (polygon (lines_below g)) ≡ g
-is_polygon id d (simple p (polygon rings)) e = refl
-is_polygon id d _ e = cc e
+-- the geometry is made of these ids and parts, whose rows come below its own
+pub record IsMade {A : Type 0} (own : A → List Point) (below : ℕ → A → List Row) (part : Kind)
+    (make : Ids → List A → Simple) (d : ℕ) (g : Tree) : Type 0 where
+  pub ids : Ids
+  pub parts : List A
+  pub whole : simple (precision_of g) (make ids parts) ≡ g
+  pub ids_fit : HasIds ids (length parts)
+  pub rows_are : rows_under (suc d) g ≡ rows_of_each (component_rows own below part (suc d)) ids parts
 
--- a geometry whose row is a multipoint's is a multipoint
-pub is_multi_point : (id : Option ℤ) (d : ℕ) (g : Tree) → (own_row id d g).kind ≡ kind.MultiPoint
-    → simple (precision_of g) (multi_point (ids_below g) (points_below g)) ≡ g
-is_multi_point id d (simple p (multi_point ids ps)) e = refl
-is_multi_point id d _ e = cc e
+-- a geometry of this kind is made of such parts
+abbrev pub AreMade : {A : Type 0} → (A → List Point) → (ℕ → A → List Row) → Kind → (Ids → List A → Simple)
+    → Kind → Type 0
+AreMade own below part make k =
+    (id : Option ℤ) (d : ℕ) (g : Tree) → IsTree g → (own_row id d g).kind ≡ k → IsMade own below part make d g
 
--- a geometry whose row is a multilinestring's is a multilinestring
-pub is_multi_line : (id : Option ℤ) (d : ℕ) (g : Tree)
-    → (own_row id d g).kind ≡ kind.MultiLinestring
-    → simple (precision_of g) (multi_line (ids_below g) (lines_below g)) ≡ g
-is_multi_line id d (simple p (multi_line ids lines)) e = refl
-is_multi_line id d _ e = cc e
+-- a shape is made of its parts
+is_made : {A : Type 0} (own : A → List Point) (below : ℕ → A → List Row) (part : Kind)
+    (make : Ids → List A → Simple) (d : ℕ) (p : ℤ) (ids : Ids) (parts : List A) → HasIds ids (length parts)
+    → rows_below (suc d) (make ids parts) ≡ rows_of_each (component_rows own below part (suc d)) ids parts
+    → IsMade own below part make d (simple p (make ids parts))
+is_made own below part make d p ids parts fit are =
+    record { ids = ids; parts = parts; whole = refl; ids_fit = fit; rows_are = are }
 
--- a geometry whose row is a multipolygon's is a multipolygon
-pub is_multi_polygon : (id : Option ℤ) (d : ℕ) (g : Tree)
-    → (own_row id d g).kind ≡ kind.MultiPolygon → simple (precision_of g)
-    (multi_polygon (ids_below g) (areas_below g)) ≡ g
-is_multi_polygon id d (simple p (multi_polygon ids areas)) e = refl
-is_multi_polygon id d _ e = cc e
+-- a polygon is made of rings
+pub of_rings : AreMade (λ (ps : List Point). ps) (λ k ps. []) kind.Ring (λ ids. polygon) kind.Polygon
+of_rings id d (simple p (polygon rings)) t e = is_made _ _ _ _ d p None rings tt refl
+of_rings id d _ t e = absurd (cc e)
+
+-- a multipoint is made of points
+pub of_points : AreMade (λ (p : Point). p ∷ []) (λ k p. []) kind.Point multi_point kind.MultiPoint
+of_points id d (simple p (multi_point ids ps)) t e = is_made _ _ _ _ d p ids ps t.1 refl
+of_points id d _ t e = absurd (cc e)
+
+-- a multilinestring is made of linestrings
+pub of_lines : AreMade (λ (ps : List Point). ps) (λ k ps. []) kind.Linestring multi_line kind.MultiLinestring
+of_lines id d (simple p (multi_line ids lines)) t e = is_made _ _ _ _ d p ids lines t.1 refl
+of_lines id d _ t e = absurd (cc e)
+
+-- a multipolygon is made of polygons
+pub of_areas : AreMade (λ (rings : List (List Point)). []) ring_rows kind.Polygon multi_polygon kind.MultiPolygon
+of_areas id d (simple p (multi_polygon ids areas)) t e = is_made _ _ _ _ d p ids areas t.1 refl
+of_areas id d _ t e = absurd (cc e)
 
 -- a geometry whose row is a collection's is a collection
 pub is_members : (id : Option ℤ) (d : ℕ) (g : Tree) → (own_row id d g).kind ≡ kind.Collection
@@ -430,55 +434,26 @@ all_any : {A : Type 0} (xs : List A) → AllByRecursion IsAny xs
 all_any [] = tt
 all_any (x ∷ xs) = (tt, all_any xs)
 
--- the rings of a polygon come after its own row
-pub rings_at : (rows : List Row) (at d : ℕ) (id : Option ℤ) (g : Tree) (rest : List Row)
-    (row : FlatRow) → TreeAt rows at d id g rest → Told rows at row → row.kind ≡ kind.Polygon
-    → EachAt IsAny (component_rows (λ (ps : List Point). ps) (λ k ps. []) kind.Ring (row.depth + 1)) rows
-    (at + 1) (row.depth + 1) None (lines_below g) rest
-rings_at rows at d id g rest row it told k =
-    let whole = is_polygon id d g (sym (read_kind rows at d id g rest row it told) ∙ k) in
-    each_below IsAny (component_rows (λ (ps : List Point). ps) (λ k ps. []) kind.Ring) rows at d id g
-    rest row.depth None (lines_below g) it (read_depth rows at d id g rest row it told)
-    (all_any (lines_below g)) tt (ap (rows_under (suc d)) (sym whole))
+-- the parts of a geometry come after its own row
+pub parts_at : {A : Type 0} (own : A → List Point) (below : ℕ → A → List Row) (part : Kind)
+    (make : Ids → List A → Simple) (k : Kind) → AreMade own below part make k → (rows : List Row) (at d : ℕ)
+    (id : Option ℤ) (g : Tree) (rest : List Row) (row : FlatRow) → TreeAt rows at d id g rest
+    → Told rows at row → row.kind ≡ k
+    → (m : IsMade own below part make d g) × ComponentsAt own below part rows (at + 1) (row.depth + 1) m.ids m.parts rest
+parts_at own below part make k are rows at d id g rest row it told is =
+    let m = are id d g it.is_sound (sym (read_kind rows at d id g rest row it told) ∙ is) in (
+      m,
+      each_below IsAny (component_rows own below part) rows at d id g rest row.depth m.ids m.parts it
+          (read_depth rows at d id g rest row it told) (all_any m.parts) m.ids_fit m.rows_are,
+    )
 
--- the points of a multipoint come after its own row
-pub points_at : (rows : List Row) (at d : ℕ) (id : Option ℤ) (g : Tree) (rest : List Row)
-    (row : FlatRow) → TreeAt rows at d id g rest → Told rows at row → row.kind ≡ kind.MultiPoint
-    → EachAt IsAny (component_rows (λ (p : Point). p ∷ []) (λ k p. []) kind.Point (row.depth + 1)) rows
-    (at + 1) (row.depth + 1) (ids_below g) (points_below g) rest
-points_at rows at d id g rest row it told k =
-    let whole = is_multi_point id d g (sym (read_kind rows at d id g rest row it told) ∙ k) in
-    let sound = subst IsTree (sym whole) it.is_sound in
-    each_below IsAny (component_rows (λ (p : Point). p ∷ []) (λ k p. []) kind.Point) rows at d id g rest
-    row.depth (ids_below g) (points_below g) it (read_depth rows at d id g rest row it told)
-    (all_any (points_below g)) sound.1 (ap (rows_under (suc d)) (sym whole))
-
--- the linestrings of a multilinestring come after its own row
-pub lines_at : (rows : List Row) (at d : ℕ) (id : Option ℤ) (g : Tree) (rest : List Row)
-    (row : FlatRow) → TreeAt rows at d id g rest → Told rows at row
-    → row.kind ≡ kind.MultiLinestring → EachAt IsAny
-    (component_rows (λ (ps : List Point). ps) (λ k ps. []) kind.Linestring (row.depth + 1)) rows (at + 1)
-    (row.depth + 1) (ids_below g) (lines_below g) rest
-lines_at rows at d id g rest row it told k =
-    let whole = is_multi_line id d g (sym (read_kind rows at d id g rest row it told) ∙ k) in
-    let sound = subst IsTree (sym whole) it.is_sound in
-    each_below IsAny (component_rows (λ (ps : List Point). ps) (λ k ps. []) kind.Linestring) rows at d id
-    g rest row.depth (ids_below g) (lines_below g) it
-    (read_depth rows at d id g rest row it told) (all_any (lines_below g)) sound.1
-    (ap (rows_under (suc d)) (sym whole))
-
--- the polygons of a multipolygon come after its own row
-pub areas_at : (rows : List Row) (at d : ℕ) (id : Option ℤ) (g : Tree) (rest : List Row)
-    (row : FlatRow) → TreeAt rows at d id g rest → Told rows at row → row.kind ≡ kind.MultiPolygon
-    → EachAt IsAny (component_rows (λ (rings : List (List Point)). []) ring_rows kind.Polygon
-    (row.depth + 1)) rows (at + 1) (row.depth + 1) (ids_below g) (areas_below g) rest
-areas_at rows at d id g rest row it told k =
-    let whole = is_multi_polygon id d g (sym (read_kind rows at d id g rest row it told) ∙ k) in
-    let sound = subst IsTree (sym whole) it.is_sound in
-    each_below IsAny (component_rows (λ (rings : List (List Point)). []) ring_rows kind.Polygon) rows at
-    d id g rest row.depth (ids_below g) (areas_below g) it
-    (read_depth rows at d id g rest row it told) (all_any (areas_below g)) sound.1
-    (ap (rows_under (suc d)) (sym whole))
+-- the geometry is built from its parts
+pub made_taken : {A : Type 0} (own : A → List Point) (below : ℕ → A → List Row) (part : Kind)
+    (make : Ids → List A → Simple) (d : ℕ) (g : Tree) (m : IsMade own below part make d g) (parts : List A)
+    (ids : Ids) (left rest : List Row) → (parts ≡ m.parts) × (ids ≡ m.ids) × (left ≡ rest)
+    → (simple (precision_of g) (make ids parts) ≡ g) × (left ≡ rest)
+made_taken own below part make d g m parts ids left rest taken =
+    ((λ i. simple (precision_of g) (make (taken.1 i) (taken.0 i))) ∙ m.whole, taken.2)
 
 -- the members of a geometry are geometries, and their ids fit
 sound_members : (g : Tree) → IsTree g → AllByRecursion IsTree (members_below g)
@@ -527,33 +502,24 @@ component_rings_at rows at k d id rings rest row it told =
 -- ---- geometries without rows below their own
 
 -- the first point of a list, if there is one
-first_point : (ps : List Point) → slice_get ps 0 ≡ point_in ps
+pub first_point : (ps : List Point) → slice_get ps 0 ≡ point_in ps
 first_point [] = refl
 first_point (p ∷ ps) = refl
 
--- a point is built from its row alone
-pub point_taken : (rows : List Row) (at d : ℕ) (id : Option ℤ) (g : Tree) (rest : List Row)
-    (row : FlatRow) → TreeAt rows at d id g rest → Told rows at row → row.kind ≡ kind.Point
-    → (o : Option Point) → o ≡ slice_get (own_row id d g).points 0
-    → (simple (precision_of g) (point o) ≡ g) × (drop (at + 1) rows ≡ rest)
-point_taken rows at d id g rest row it told k o e =
-    let whole = is_point id d g (sym (read_kind rows at d id g rest row it told) ∙ k) in (
-      ap (λ q. simple (precision_of g) (point q)) (e ∙ first_point (own_row id d g).points)
-          ∙ whole,
-      under_at rows at d id g rest it ∙ ap (λ h. rows_under (suc d) h ++ rest)
-          (sym whole),
-    )
-
--- a linestring is built from its row alone
-pub line_taken : (rows : List Row) (at d : ℕ) (id : Option ℤ) (g : Tree) (rest : List Row)
-    (row : FlatRow) → TreeAt rows at d id g rest → Told rows at row → row.kind ≡ kind.Linestring
-    → (ps : List Point) → ps ≡ (own_row id d g).points
-    → (simple (precision_of g) (line ps) ≡ g) × (drop (at + 1) rows ≡ rest)
-line_taken rows at d id g rest row it told k ps e =
-    let whole = is_line id d g (sym (read_kind rows at d id g rest row it told) ∙ k) in (
-      ap (λ qs. simple (precision_of g) (line qs)) e ∙ whole,
-      under_at rows at d id g rest it
-          ∙ ap (λ h. rows_under (suc d) h ++ rest) (sym whole),
+-- a point or a linestring is built from its row alone
+pub own_taken : (k : Kind) (make : List Point → Simple)
+    → ((id : Option ℤ) (d : ℕ) (g : Tree) → (own_row id d g).kind ≡ k
+    → simple (precision_of g) (make (own_row id d g).points) ≡ g)
+    → ((d : ℕ) (ps : List Point) → rows_below d (make ps) ≡ [])
+    → (rows : List Row) (at d : ℕ) (id : Option ℤ) (g : Tree) (rest : List Row) (row : FlatRow)
+    → TreeAt rows at d id g rest → Told rows at row → row.kind ≡ k
+    → (s : Simple) → s ≡ make (own_row id d g).points
+    → (simple (precision_of g) s ≡ g) × (drop (at + 1) rows ≡ rest)
+own_taken k make are none rows at d id g rest row it told is s e =
+    let whole = are id d g (sym (read_kind rows at d id g rest row it told) ∙ is) in (
+      ap (simple (precision_of g)) e ∙ whole,
+      under_at rows at d id g rest it ∙ ap (λ h. rows_under (suc d) h ++ rest) (sym whole)
+          ∙ ap (λ rs. rs ++ rest) (none (suc d) (own_row id d g).points),
     )
 
 -- ---- the geometry of a precision and a shape
