@@ -7,7 +7,7 @@ use Rattle.std.proofs.Common.{[], ◌∷◌, length, take, drop, map, get_or, mi
 use Rattle.std.proofs.Common.{bit_and, bit_or, Fits, w8, w64, zero, ◌++◌, length-append, ltb}
 use Rattle.std.specs.Prelude.{nat_eq, nat_lt, not}
 use Rattle.std.specs.Int.{bit_at, bit_not, trailing_zeros}
-use Rattle.std.proofs.lemmas.Bool.{cases_lt, eq-eqb, lt-ltb, le-ltb, ltb-true, eqb-true}
+use Rattle.std.proofs.lemmas.Bool.{cases_lt, eq-eqb, lt-ltb, le-ltb, ltb-true, ltb-false, eqb-true}
 use Rattle.std.proofs.lemmas.List.{drop-drop, drop-map, drop_all, get_or-drop, get_or-map, get_or-take, get_or_past}
 use Rattle.std.proofs.lemmas.List.{length-drop, length-map, length-take-le, length-take, take-map, take-take, take_all}
 use Rattle.std.proofs.lemmas.List.{take_rest, drop-take, take-append-le, take-append-drop, map-id}
@@ -30,7 +30,8 @@ use Rattle.twkb_num.proofs.LaneLemmas.{lanes_are, wrapped_sub}
 use Rattle.twkb_num.proofs.MarkLemmas.{mask_l-drop, mask_l-take}
 use Rattle.twkb_num.proofs.TwoLemmas.{AreLanes}
 use Rattle.twkb_num.proofs.FourLemmas.{marks_of, number_spelled}
-use Rattle.twkb_num.proofs.WordLemmas.{number_l-append, number_l-drop, number_l-take, later_below, digits-number}
+use Rattle.twkb_num.proofs.SpellingLemmas.{number_of-append}
+use Rattle.twkb_num.proofs.WordLemmas.{number_l-drop, number_l-take, later_below, digits-number}
 use Rattle.twkb_num.proofs.WordLemmas.{Each1-append, groups_found, same_in_front}
 
 -- ==== Units at the start of some bytes, and the bits of their ends.
@@ -57,24 +58,38 @@ faults_fit m bad zeros =
       omega (arith, le_or_r (bit_or m.bad behind) 9223372036854775808),
     )
 
+-- the first of them is one of the 64
+pub fault_within : (m : Marks) → Fits w64 m.bad → Fits w64 m.zeros → trailing_zeros w64 (faults_of m) < 64
+fault_within m bad zeros =
+    let fit = faults_fit m bad zeros in (bit_at-trailing_zeros w64 (faults_of m) fit.1 fit.0).0
+
 -- a unit that is marked is there, and is what it is marked as
-marked : (p : ℕ → Bool) (us : List ℕ) (n k : ℕ) → n ≡ mask_l (map p us) → 0 < bit_at n k
+marked : (p : ℕ → Bool) (us : List ℕ) {n : ℕ} (k : ℕ) → n ≡ mask_l (map p us) → 0 < bit_at n k
     → (k < length us) × (p (get_or us k 0) ≡ true)
-marked p us n k is some = elim (cases_lt k (length us)) [
+marked p us k is some = elim (cases_lt k (length us)) [
   | inl within ↦ (
     within,
-    set (p (get_or us k 0)) (let bit = ap (λ m. bit_at m k) is
-        ∙ bit_of p us k within in omega arith),
+    set (p (get_or us k 0)) (let bit = ap (λ m. bit_at m k) is ∙ bit_of p us k within in omega arith),
   )
   | inr beyond ↦
       let past : get_or (map p us) k false ≡ false = get_or_past (map p us) k false (omega (arith, length-map us p)) in
-      let none : bit_at n k ≡ 0 = ap (λ m. bit_at m k) is ∙ bit_mask_l (map p us) k ∙ ap (λ b. cond b 1 0) past in
+      let none = ap (λ m. bit_at m k) is ∙ bit_mask_l (map p us) k ∙ ap (λ b. cond b 1 0) past in
       absurd (omega arith)
 ]
   where
     set : (b : Bool) → 0 < cond b 1 0 → b ≡ true
     set true h = refl
     set false h = absurd (omega (arith, h))
+
+-- a unit that is not marked is not what it would be marked as
+unmarked : (p : ℕ → Bool) (us : List ℕ) {n : ℕ} (k : ℕ) → n ≡ mask_l (map p us) → k < length us → bit_at n k ≡ 0
+    → p (get_or us k 0) ≡ false
+unmarked p us k is within none =
+    clear (p (get_or us k 0)) (sym (ap (λ m. bit_at m k) is ∙ bit_of p us k within) ∙ none)
+  where
+    clear : (b : Bool) → cond {A = ℕ} b 1 0 ≡ 0 → b ≡ false
+    clear true h = absurd (omega (arith, h))
+    clear false h = refl
 
 -- the first fault among the first 63 units is a unit at fault
 first_fault : (m : Marks) (t radix most : ℕ) (us : List ℕ) → Fits w64 m.ends → t < 63
@@ -85,30 +100,26 @@ first_fault m t radix most us ends_fit few set are =
     let outer = bit_at_or (bit_or m.bad behind) 9223372036854775808 t in
     let inner = bit_at_or m.bad behind t in
     elim (cases_lt 0 (bit_at m.bad t)) [
-      | inl bad ↦ inl (let is = marked (λ u. nat_lt most u) us m.bad t are.bad bad in
-          ltb-true most (get_or us t 0) is.1)
+      | inl bad ↦ inl (ltb-true most (get_or us t 0) (marked (λ u. nat_lt most u) us t are.bad bad).1)
       | inr good ↦
           let split = bit_at_and (m.zeros / 2) (bit_not w64 m.ends) t in
           let half = bit_at-suc m.zeros t in
-          let zero_set : 0 < bit_at m.zeros (suc t) = omega arith in
-          let is = marked (λ u. nat_eq u 0) us m.zeros (suc t) are.zeros zero_set in
+          let is = marked (λ u. nat_eq u 0) us (suc t) are.zeros (omega arith) in
           let small : m.ends < 2 ^ 64 = omega arith in
           let unset = bit_at_not w64 m.ends t small (omega (arith, few)) in
-          inr (is.0, eqb-true (get_or us (suc t) 0) 0 is.1, goes_on (omega (arith, is.0)) (omega arith))
+          inr (
+            is.0,
+            eqb-true (get_or us (suc t) 0) 0 is.1,
+            ltb-false (get_or us t 0) radix
+                (unmarked (λ u. nat_lt u radix) us t are.ends (omega (arith, is.0)) (omega arith)),
+          )
     ]
-  where
-    goes_on : t < length us → bit_at m.ends t ≡ 0 → radix ≤ get_or us t 0
-    goes_on within none =
-        let bit = ap (λ n. bit_at n t) are.ends ∙ bit_of (λ u. nat_lt u radix) us t within in
-        elim (cases_lt (get_or us t 0) radix) [
-          | inl less ↦ let set = rw (lt-ltb (get_or us t 0) radix less) at bit in absurd (omega arith)
-          | inr more ↦ more
-        ]
 
 -- no unit before the first fault is at fault
-pub ends_before : (m : Marks) (t radix most : ℕ) (us : List ℕ) → Fits w64 m.ends → Fits w64 m.bad → Fits w64 m.zeros
-    → t ≡ trailing_zeros w64 (faults_of m) → AreMarks radix most us m → AreEndsBefore radix most us (m.ends % 2 ^ t)
-ends_before m t radix most us ends_fit bad_fit zeros_fit is are =
+pub ends_before : (m : Marks) (radix most : ℕ) (us : List ℕ) → Fits w64 m.ends → Fits w64 m.bad → Fits w64 m.zeros
+    → AreMarks radix most us m → AreEndsBefore radix most us (m.ends % 2 ^ trailing_zeros w64 (faults_of m))
+ends_before m radix most us ends_fit bad_fit zeros_fit are =
+    let t = trailing_zeros w64 (faults_of m) in
     let behind = bit_and (m.zeros / 2) (bit_not w64 m.ends) in
     let fit = faults_fit m bad_fit zeros_fit in
     let lowest = bit_at-trailing_zeros w64 (faults_of m) fit.1 fit.0 in
@@ -120,21 +131,13 @@ ends_before m t radix most us ends_fit bad_fit zeros_fit is are =
       count = t;
       marks = ap (λ n. n % 2 ^ t) are.ends ∙ mask_l-take t (map (λ u. nat_lt u radix) us)
           ∙ ap mask_l (take-map (λ u. nat_lt u radix) t us);
-      below = λ k low within. not_bad k within (let both = clear k low in omega arith);
+      below = λ k low within. ltb-false most (get_or us k 0)
+          (unmarked (λ u. nat_lt most u) us k are.bad within (let both = clear k low in omega arith));
       shortest = λ k low within is_zero. ends_there k within is_zero (omega (arith, lowest.0))
           (let both = clear k low in omega arith);
-      far = λ few. first_fault m t radix most us ends_fit few
-          (subst (λ k. bit_at (faults_of m) k ≡ 1) (sym is) lowest.1) are;
+      far = λ few. first_fault m t radix most us ends_fit few lowest.1 are;
     }
   where
-    not_bad : (k : ℕ) → k < length us → bit_at m.bad k ≡ 0 → get_or us k 0 ≤ most
-    not_bad k within none =
-        let bit = ap (λ n. bit_at n k) are.bad ∙ bit_of (λ u. nat_lt most u) us k within in
-        elim (cases_lt most (get_or us k 0)) [
-          | inl above ↦ let set = rw (lt-ltb most (get_or us k 0) above) at bit in absurd (omega arith)
-          | inr small ↦ small
-        ]
-
     ends_there : (k : ℕ) → suc k < length us → get_or us (suc k) 0 ≡ 0 → k < 64
         → bit_at (bit_and (m.zeros / 2) (bit_not w64 m.ends)) k ≡ 0 → get_or us k 0 < radix
     ends_there k within is_zero low none =
@@ -144,11 +147,7 @@ ends_before m t radix most us ends_fit bad_fit zeros_fit is are =
         let split = bit_at_and (m.zeros / 2) (bit_not w64 m.ends) k in
         let small : m.ends < 2 ^ 64 = omega arith in
         let unset = bit_at_not w64 m.ends k small low in
-        let end_bit = ap (λ n. bit_at n k) are.ends ∙ bit_of (λ u. nat_lt u radix) us k (omega arith) in
-        elim (cases_lt (get_or us k 0) radix) [
-          | inl small ↦ small
-          | inr large ↦ let not_set = rw (le-ltb (get_or us k 0) radix large) at end_bit in absurd (omega arith)
-        ]
+        ltb-true (get_or us k 0) radix (marked (λ u. nat_lt u radix) us k are.ends (omega arith)).1
 
 -- ---- ends of numbers in bytes
 
@@ -358,7 +357,7 @@ module _ (text : List ℕ) (long : 8 ≤ length text) where
       ∙ (let sum : number_l 256 first + 18446744073709551616 * (number_l 256 last + 18446744073709551616 * 0)
       ≡ number_l 256 first + 18446744073709551616 * number_l 256 last = omega arith in sum)
       ∙ ap (λ n. number_l 256 first + n * number_l 256 last) (sym power)
-      ∙ sym (number_l-append 256 first last) in
+      ∙ sym (number_of-append 256 first last) in
       ap (digits_l 256 16) joined
       ∙ digits-number 256 16 (first_and_last text) length-first_and_last
       (Each1-append (λ b. b < 256) first last (Each1-chunk (λ b. b < 256) 0 8 text below) (later_below (length text - 8) text below))

@@ -18,7 +18,8 @@ use Rattle.twkb_num.specs.Shuffles.{units_within, lane_units, groups_after, mark
 use Rattle.twkb_num.specs.Shuffles.{AreSpelled}
 use Rattle.twkb_num.specs.Spelling.{shortest}
 use Rattle.twkb_num.specs.declared.shuffles.TheConstants.{SHUFFLES}
-use Rattle.twkb_num.proofs.WordLemmas.{Each1-append, digits-number, number_l-append, number_l-lt, number_l-more}
+use Rattle.twkb_num.proofs.SpellingLemmas.{number_of-append, number_of-lt}
+use Rattle.twkb_num.proofs.WordLemmas.{Each1-append, digits-number, number_l-more}
 use Rattle.twkb_num.proofs.WordLemmas.{four_cases, lane, lanes_brought}
 use Rattle.twkb_num.proofs.SpellingLemmas.{shortest_one, shortest_more}
 use Rattle.twkb_num.specs.AlphabetLemmas.{leb_numbered}
@@ -206,7 +207,7 @@ module _ (base radix : ℕ) (alphabet : IsRadix radix) (within : base + 2 * radi
       → number_l 4294967296 (map (lane_of base radix) ns) ≡ number_l 256 (units_of_all ns)
   all_lanes [] small = refl
   all_lanes (n ∷ ns) small = (λ i. lane_is n small.0 i + 4294967296 * all_lanes ns small.1 i)
-      ∙ sym (number_l-append 256 (lane_units base radix n) (units_of_all ns))
+      ∙ sym (number_of-append 256 (lane_units base radix n) (units_of_all ns))
 
 -- Four lanes are the units of four numbers.
 pub lanes_are : (base radix from_base bound a b c d : ℕ) → IsRadix radix
@@ -299,16 +300,16 @@ module _ (p q i j k l : ℕ) (is : i ≤ 3) (js : j ≤ 3) (ks : k ≤ 3) (ls : 
   places_split : digits_l 256 16 (joined_words p q) ≡ both_shuffles i j k l
   places_split =
       let moved = map (λ place. 8 + place) (shuffle_of k l) in
-      let low = number_l-lt 256 (shuffle_of i j)
+      let low = number_of-lt 256 (shuffle_of i j)
       (each_shuffled (λ x. x < 256) (λ x few. omega arith) (omega arith) i j is js) in
-      let high = number_l-lt 256 moved
+      let high = number_of-lt 256 moved
       (each_shuffled (λ x. 8 + x < 256) (λ x few. omega arith) (omega arith) k l ks ls) in
       let more = number_l-more 8 (shuffle_of k l) in
       let first : (p + 0) % 18446744073709551616 ≡ number_l 256 (shuffle_of i j) = omega arith in
       let second : (q + 578721382704613384) % 18446744073709551616 + 18446744073709551616 * 0 ≡ number_l 256 moved =
       omega arith in
       ap (digits_l 256 16) ((λ n. first n + 18446744073709551616 * second n)
-      ∙ sym (number_l-append 256 (shuffle_of i j) moved))
+      ∙ sym (number_of-append 256 (shuffle_of i j) moved))
       ∙ digits-number 256 16 (both_shuffles i j k l) refl
       (each_of_both (λ x. x < 256) (λ x few. omega arith) (omega arith) (omega arith))
 

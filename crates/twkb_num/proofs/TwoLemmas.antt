@@ -12,7 +12,8 @@ use Rattle.twkb_num.specs.Four.{number_in_front, joined_groups, run_of}
 use Rattle.twkb_num.specs.Places.{second_run, AreTwo}
 use Rattle.twkb_num.proofs.FourLemmas.{marks_of}
 use Rattle.twkb_num.proofs.MarkLemmas.{mask_l-drop}
-use Rattle.twkb_num.proofs.WordLemmas.{Each1-append, number_l-append, number_l-lt, places_moved, places_of, IsWithin}
+use Rattle.twkb_num.proofs.SpellingLemmas.{number_of-append, number_of-lt}
+use Rattle.twkb_num.proofs.WordLemmas.{Each1-append, places_moved, places_of, IsWithin}
 use Rattle.twkb_num.proofs.WordLemmas.{places_below, places_ok, numbers_brought, same_in_front}
 
 -- ==== Four numbers by the marks of their last units.
@@ -103,7 +104,7 @@ moved_places_are marks at moved places used same two =
 pub moved_places_below : (marks : List Bool) (at moved places used : ℕ) → moved ≡ at
     → AreTwo marks places used → at + used ≤ 16 → places + moved * 72340172838076673 < 18446744073709551616
 moved_places_below marks at moved places used same two within =
-    let below = number_l-lt 256 (places_of (two_at at marks))
+    let below = number_of-lt 256 (places_of (two_at at marks))
     (places_below (two_at at marks) (two_within at marks places used two within)) in
     omega (arith, moved_places_are marks at moved places used same two)
 
@@ -139,7 +140,7 @@ module _ (marks : List Bool) (skipped by places used moved later_places later_us
         moved_places_are marks skipped by places used first_same twice.low,
         moved_places_are (drop used marks) (skipped + used) moved later_places later_used same twice.high,
       )
-      (sym (number_l-append 256 (places_of (two_at skipped marks))
+      (sym (number_of-append 256 (places_of (two_at skipped marks))
       (places_of (two_at (skipped + used) (drop used marks))) ∙ omega arith))
 
   -- the sixteen places pass the test of `swizzle_dyn`

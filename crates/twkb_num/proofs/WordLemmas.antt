@@ -9,16 +9,15 @@ use Rattle.std.proofs.Common.{false, subst}
 use Rattle.std.specs.Prelude.{IsTrue, nat_eq, ◌↔◌}
 use Rattle.std.proofs.Math.Arith.{mod-mul}
 use Rattle.std.proofs.Math.Nat.{pow-suc, pow-zero, zero-div, zero-mod, div-div-eq-div-mul, mul_comm, one-le-pow}
-use Rattle.std.proofs.Math.Nat.{mul-le-mul_left}
 use Rattle.std.proofs.lemmas.Bool.{eq-eqb, eqb-true, cases_lt, lt-ltb, le-leb, lt-leb}
 use Rattle.std.proofs.lemmas.List.{length-drop, length-take-le, take-take, take_all, drop-drop, take-append-drop}
 use Rattle.std.proofs.lemmas.List.{get_or-drop, get_or_past}
 use Rattle.std.proofs.lemmas.Simd.{Each1-from_get_or, Each1-chunk, Each1-weaker, swz_l, SwzOk, SwzOk-from_Each1}
-use Rattle.std.proofs.lemmas.Nat.{div_below, mod_below}
+use Rattle.std.proofs.lemmas.Nat.{mod_below}
 use Rattle.twkb_num.specs.Alphabet.{IsRadix}
 use Rattle.twkb_num.specs.Four.{joined_groups, number_in_front, place_in, places_in}
 use Rattle.twkb_num.specs.WholeText.{eight_groups}
-use Rattle.twkb_num.proofs.SpellingLemmas.{low_digit, high_digits}
+use Rattle.twkb_num.proofs.SpellingLemmas.{low_digit, high_digits, number_of-low_digits, number_of-lt, number_of-same}
 
 -- ==== Bytes as numbers, low first.
 
@@ -26,15 +25,6 @@ use Rattle.twkb_num.proofs.SpellingLemmas.{low_digit, high_digits}
 pub Each1-append : {A : Type 0} (P : A → Type 0) (xs ys : List A) → Each1 P xs → Each1 P ys → Each1 P (xs ++ ys)
 Each1-append P [] ys p q = q
 Each1-append P (x ∷ xs) ys p q = (p.0, Each1-append P xs ys p.1 q)
-
--- digits below the base stand for a number below the power
-pub number_l-lt : (p : ℕ) (xs : List ℕ) → Each1 (λ x. x < p) xs → number_l p xs < p ^ length xs
-number_l-lt p [] below = rw (pow-zero p) (omega arith)
-number_l-lt p (x ∷ xs) below =
-    let rest = number_l-lt p xs below.1 in
-    let product : p * (number_l p xs + 1) ≤ p * p ^ length xs = mul-le-mul_left p
-    (let q : number_l p xs + 1 ≤ p ^ length xs = omega arith in q) in
-    rw (pow-suc p (length xs)) (omega (arith, below.0))
 
 -- the number of bytes to each of which a number is added
 pub number_l-more : (n : ℕ) (xs : List ℕ) → number_l 256 (map (λ x. n + x) xs) ≡ number_l 256 xs
@@ -49,11 +39,6 @@ digits-number p (suc n) (x ∷ xs) long below =
     rw (low_digit p x (number_l p xs) below.0, high_digits p x (number_l p xs) below.0)
     (ap (λ ys. x ∷ ys) (digits-number p n xs (omega arith) below.1))
 digits-number p _ _ long below = absurd (omega arith)
-
--- the number of two lists of bytes: the second counts from its place on
-pub number_l-append : (p : ℕ) (xs ys : List ℕ) → number_l p (xs ++ ys) ≡ number_l p xs + p ^ length xs * number_l p ys
-number_l-append p [] ys = rw (pow-zero p) (omega arith)
-number_l-append p (x ∷ xs) ys = rw (number_l-append p xs ys, pow-suc p (length xs)) (omega arith)
 
 -- a quotient by a power drops the low bytes
 pub number_l-drop : (p k : ℕ) (xs : List ℕ) → Each1 (λ x. x < p) xs → number_l p xs / p ^ k ≡ number_l p (drop k xs)
@@ -95,12 +80,6 @@ later_below _ _ p = p
 
 -- ---- words that are equal
 
--- equally many bytes with the same number are equal
-number_l-same : (xs ys : List ℕ) → Each1 (λ b. b < 256) xs → Each1 (λ b. b < 256) ys → length xs ≡ length ys
-    → number_l 256 xs ≡ number_l 256 ys → xs ≡ ys
-number_l-same xs ys p q count same = sym (digits-number 256 (length xs) xs refl p)
-    ∙ ap (digits_l 256 (length xs)) same ∙ digits-number 256 (length xs) ys (sym count) q
-
 -- bytes are equal if their first k and their last k are, and they are at most twice as many
 same_by_ends : (k : ℕ) (xs ys : List ℕ) → Each1 (λ b. b < 256) xs → Each1 (λ b. b < 256) ys
     → length xs ≡ length ys → k ≤ length ys → length ys ≤ k + k
@@ -110,12 +89,12 @@ same_by_ends k xs ys p q count long few front back =
     let at = length ys - k in
     let skip = k - at in
     let place : at + skip ≡ k = omega arith in
-    let first : take k xs ≡ take k ys = number_l-same (take k xs) (take k ys)
+    let first : take k xs ≡ take k ys = number_of-same 256 (take k xs) (take k ys)
     (Each1-chunk (λ b. b < 256) 0 k xs p) (Each1-chunk (λ b. b < 256) 0 k ys q)
     (length-take-le k xs (omega arith) ∙ sym (length-take-le k ys long)) front in
     let xs_last : length (drop at xs) ≡ k = omega (arith, length-drop at xs) in
     let ys_last : length (drop at ys) ≡ k = omega (arith, length-drop at ys) in
-    let last : drop at xs ≡ drop at ys = number_l-same (drop at xs) (drop at ys) (later_below at xs p)
+    let last : drop at xs ≡ drop at ys = number_of-same 256 (drop at xs) (drop at ys) (later_below at xs p)
     (later_below at ys q) (xs_last ∙ sym ys_last)
     (ap (number_l 256) (sym (take_all k (drop at xs) (omega arith))) ∙ back
     ∙ ap (number_l 256) (take_all k (drop at ys) (omega arith))) in
@@ -297,14 +276,6 @@ lanes_join radix (suc k) (a ∷ b ∷ c ∷ d ∷ us) alphabet long fit =
     ∙ sym (ap (map (joined_groups radix)) (first_word k (a ∷ b ∷ c ∷ d ∷ us) fit))
 lanes_join radix (suc k) _ alphabet long fit = absurd (omega arith)
 
--- a number equals the number of its digits
-number-digits : (p k n : ℕ) → 0 < p → n < p ^ k → number_l p (digits_l p k n) ≡ n
-number-digits p zero n some below = let one = pow-zero p in omega arith
-number-digits p (suc k) n some below =
-    let power = pow-suc p k in
-    let rest = number-digits p k (n / p) some (div_below n p (p ^ k) some (omega arith)) in
-    rw rest (omega arith)
-
 -- What the lanes compute are the numbers of the groups.
 pub joined_are : (radix square : ℕ) (us groups : List ℕ) → IsRadix radix
     → square ≡ radix * radix → length us ≡ 16 → Each1 (Fits w8) us
@@ -315,8 +286,8 @@ pub joined_are : (radix square : ℕ) (us groups : List ℕ) → IsRadix radix
     ≡ map (joined_groups radix) (digits_l 4294967296 4 (number_l 256 us))
 joined_are radix square us groups alphabet square_is long fit same =
     let halves = map (two_of radix) (digits_l 65536 8 (number_l 256 (map (λ u. u % radix) us))) in
-    let below = number_l-lt 65536 halves (half_below radix (digits_l 65536 8 (number_l 256 (map (λ u. u % radix) us)))) in
-    rw (square_is, same, number-digits 256 16 (number_l 65536 halves) (omega arith) below)
+    let below = number_of-lt 65536 halves (half_below radix (digits_l 65536 8 (number_l 256 (map (λ u. u % radix) us)))) in
+    rw (square_is, same, number_of-low_digits 256 16 (number_l 65536 halves) (omega arith) below)
     (lanes_join radix 4 us alphabet long (Each1-weaker (Fits w8) (λ u. u < 256) (λ u byte. byte.fits) us fit))
 
 -- ---- the size of a number
