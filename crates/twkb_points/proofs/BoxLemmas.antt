@@ -3,7 +3,7 @@ use Rattle.std.proofs.Common.{◌≡◌, ℤ, ◌+ℤ◌, ◌-ℤ◌, ◌≤ℤ�
 use Rattle.std.proofs.Common.{◌⊎◌, inl, inr, refl, sym, ◌∙◌, ap, subst, arith}
 use Rattle.std.specs.Prelude.{◌↔◌}
 use Rattle.std.specs.Int.{int_min, int_max}
-use Rattle.std.specs.List.{Contains}
+use Rattle.std.specs.List.{All, Contains}
 use Rattle.std.proofs.lemmas.Int.{ints, clamps}
 use Rattle.std.proofs.lemmas.List.{map-append}
 use Rattle.std.proofs.lemmas.List.Elements.{All-nil, All-cons, All-append, All-weaker, All-contains}
@@ -14,55 +14,42 @@ use Rattle.twkb_points.specs.Boxes.{xs, ys, IsLeast, IsGreatest, IsExtentOf, IsB
 
 -- ---- least and greatest numbers
 
-int_min-left : (m n : ℤ) → int_min m n ≤ℤ m
-int_min-left m n = omega (arith, ints, clamps)
-
-int_min-right : (m n : ℤ) → int_min m n ≤ℤ n
-int_min-right m n = omega (arith, ints, clamps)
-
-int_max-left : (m n : ℤ) → m ≤ℤ int_max m n
-int_max-left m n = omega (arith, ints, clamps)
-
-int_max-right : (m n : ℤ) → n ≤ℤ int_max m n
-int_max-right m n = omega (arith, ints, clamps)
-
 int_min-one : (m n : ℤ) → (int_min m n ≡ m) ⊎ (int_min m n ≡ n)
 int_min-one m n = grind (arith, ints)
 
 int_max-one : (m n : ℤ) → (int_max m n ≡ m) ⊎ (int_max m n ≡ n)
 int_max-one m n = grind (arith, ints)
 
-le_trans : (a b c : ℤ) → a ≤ℤ b → b ≤ℤ c → a ≤ℤ c
-le_trans a b c h k = omega (arith, ints)
-
 le_both : (a b : ℤ) → a ≤ℤ b → b ≤ℤ a → a ≡ b
 le_both a b h k = omega (arith, ints)
 
+-- the edge of two lists: it is that of one of them, and bounds the numbers that their edges bound
+edge-append : (Bounds : ℤ → ℤ → Type 0) (k m n : ℤ) (ms ns : List ℤ) → ((k ≡ m) ⊎ (k ≡ n))
+    → ((l : ℤ) → Bounds m l → Bounds k l) → ((l : ℤ) → Bounds n l → Bounds k l)
+    → Contains ms m × All (Bounds m) ms → Contains ns n × All (Bounds n) ns
+    → Contains (ms ++ ns) k × All (Bounds k) (ms ++ ns)
+edge-append Bounds k m n ms ns one left right a b = (
+  elim one [
+    | inl e ↦ subst (Contains (ms ++ ns)) (sym e) (Contains-append_left ms ns m a.0)
+    | inr e ↦ subst (Contains (ms ++ ns)) (sym e) (Contains-append_right ms ns n b.0)
+  ],
+  All-append (Bounds k) ms ns (All-weaker (Bounds m) (Bounds k) left ms a.1)
+      (All-weaker (Bounds n) (Bounds k) right ns b.1),
+)
+
 IsLeast-append : (m n : ℤ) (ms ns : List ℤ) → IsLeast m ms → IsLeast n ns → IsLeast (int_min m n) (ms ++ ns)
-IsLeast-append m n ms ns a b = record {
-  reached = elim (int_min-one m n) [
-    | inl e ↦ subst (λ (k : ℤ). Contains (ms ++ ns) k) (sym e) (Contains-append_left ms ns m a.reached)
-    | inr e ↦ subst (λ (k : ℤ). Contains (ms ++ ns) k) (sym e) (Contains-append_right ms ns n b.reached)
-  ];
-  bound = All-append (λ k. int_min m n ≤ℤ k) ms ns
-      (All-weaker (λ k. m ≤ℤ k) (λ k. int_min m n ≤ℤ k)
-      (λ k h. le_trans (int_min m n) m k (int_min-left m n) h) ms a.bound)
-      (All-weaker (λ k. n ≤ℤ k) (λ k. int_min m n ≤ℤ k)
-      (λ k h. le_trans (int_min m n) n k (int_min-right m n) h) ns b.bound);
-}
+IsLeast-append m n ms ns a b =
+    let edge = edge-append (λ k l. k ≤ℤ l) (int_min m n) m n ms ns (int_min-one m n)
+    (λ l h. omega (arith, ints, clamps)) (λ l h. omega (arith, ints, clamps))
+    (a.reached, a.bound) (b.reached, b.bound) in
+    record { reached = edge.0; bound = edge.1 }
 
 IsGreatest-append : (m n : ℤ) (ms ns : List ℤ) → IsGreatest m ms → IsGreatest n ns → IsGreatest (int_max m n) (ms ++ ns)
-IsGreatest-append m n ms ns a b = record {
-  reached = elim (int_max-one m n) [
-    | inl e ↦ subst (λ (k : ℤ). Contains (ms ++ ns) k) (sym e) (Contains-append_left ms ns m a.reached)
-    | inr e ↦ subst (λ (k : ℤ). Contains (ms ++ ns) k) (sym e) (Contains-append_right ms ns n b.reached)
-  ];
-  bound = All-append (λ k. k ≤ℤ int_max m n) ms ns
-      (All-weaker (λ k. k ≤ℤ m) (λ k. k ≤ℤ int_max m n)
-      (λ k h. le_trans k m (int_max m n) h (int_max-left m n)) ms a.bound)
-      (All-weaker (λ k. k ≤ℤ n) (λ k. k ≤ℤ int_max m n)
-      (λ k h. le_trans k n (int_max m n) h (int_max-right m n)) ns b.bound);
-}
+IsGreatest-append m n ms ns a b =
+    let edge = edge-append (λ k l. l ≤ℤ k) (int_max m n) m n ms ns (int_max-one m n)
+    (λ l h. omega (arith, ints, clamps)) (λ l h. omega (arith, ints, clamps))
+    (a.reached, a.bound) (b.reached, b.bound) in
+    record { reached = edge.0; bound = edge.1 }
 
 IsLeast-one : (m n : ℤ) (ns : List ℤ) → IsLeast m ns → IsLeast n ns → m ≡ n
 IsLeast-one m n ns a b =

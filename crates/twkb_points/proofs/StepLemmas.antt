@@ -13,7 +13,7 @@ use Rattle.twkb_num.specs.Four.{SignedInFront}
 use Rattle.twkb_num.specs.Spelling.{shortest}
 use Rattle.twkb_num.specs.Zigzag.{zigzag_of}
 use Rattle.twkb_num.specs.declared.four.Four.{Four}
-use Rattle.twkb_points.specs.Point.{Point, IsCoordinate, IsInner, IsInRange, moved_by, origin, AreInRange}
+use Rattle.twkb_points.specs.Point.{Point, IsCoordinate, IsInRange, moved_by, origin, AreInRange}
 use Rattle.twkb_points.specs.Near.{IsShortStep, IsNearCoordinate, IsNear}
 use Rattle.twkb_points.specs.Steps.{TwoInFront, IsStepTo, AreStepsTo, character_step, last_of}
 use Rattle.twkb_points.specs.Differences.{differences_from, differences, points_from, points_of, AreDifferences}
@@ -36,10 +36,7 @@ in_range x near = (omega (arith, ints, near.0), omega (arith, ints, near.1))
 
 -- ---- along both
 
--- an inner point is near by 0 steps
-pub near_inner : (p : Point) → IsInner p → IsNear 0 p
-near_inner p inner = inner
-
+-- a point near by n steps is near by any larger number of steps
 pub near_further : (n m : ℕ) (p : Point) → n ≤ m → IsNear n p → IsNear m p
 near_further n m p more near = (further n m p.x more near.0, further n m p.y more near.1)
 
@@ -90,77 +87,71 @@ characters_in_front bytes f found =
       ey_short = form_is_short f.third found.third_small;
     }
 
+-- two steps lead to two points
+pub two_led : {bytes_of : ℤ → ℤ → List ℕ} {bytes : List ℕ} {dx dy ex ey : ℤ} {count : ℕ} (from p q : Point)
+    → TwoInFront bytes_of bytes dx dy ex ey count → p ≡ moved_by from dx dy → IsInRange p
+    → q ≡ moved_by p ex ey → IsInRange q → AreStepsTo bytes_of from bytes (p ∷ q ∷ []) count
+two_led {bytes_of = bytes_of} {bytes = bytes} {dx = dx} {dy = dy} {ex = ex} {ey = ey} {count = count} from p q
+    two to_p p_kept to_q q_kept =
+    let first : List ℕ = bytes_of dx dy in
+    let next : List ℕ = bytes_of ex ey in
+    let rest : List ℕ = drop count bytes in
+    let whole : first ++ (next ++ rest) ≡ bytes = sym (append_assoc first next rest)
+    ∙ (ap (λ l. l ++ rest) (sym two.spelled) ∙ take-append-drop count bytes) in
+    let after : drop (length first) bytes ≡ next ++ rest =
+    ap (drop (length first)) (sym whole) ∙ drop-append_seam first (next ++ rest) in
+    let all : count ≡ length first + length next =
+    sym (length-take-le count bytes two.within) ∙ (ap length two.spelled ∙ length-append first next) in
+    let long : length bytes ≡ length first + length (next ++ rest) =
+    ap length (sym whole) ∙ length-append first (next ++ rest) in
+    let there : IsStepTo bytes_of from bytes p (length first) = record {
+      dx = dx;
+      dy = dy;
+      within = omega (arith, long);
+      spelled = ap (take (length first)) (sym whole) ∙ take-append_seam first (next ++ rest);
+      dx_short = two.dx_short;
+      dy_short = two.dy_short;
+      leads = to_p;
+      kept = p_kept;
+    } in
+    let on : IsStepTo bytes_of p (drop (length first) bytes) q (length next) = record {
+      dx = ex;
+      dy = ey;
+      within = omega (arith, ap length after, length-append next rest);
+      spelled = ap (take (length next)) after ∙ take-append_seam next rest;
+      dx_short = two.ex_short;
+      dy_short = two.ey_short;
+      leads = to_q;
+      kept = q_kept;
+    } in
+    (length first, length next, all, there, (length next, 0, omega arith, on, refl))
+
+-- and if the first point is near, no test of the range is needed
+pub two_near : {bytes_of : ℤ → ℤ → List ℕ} {bytes : List ℕ} {dx dy ex ey : ℤ} {count : ℕ} (from p q : Point)
+    → TwoInFront bytes_of bytes dx dy ex ey count → IsNear 6 from → p ≡ moved_by from dx dy
+    → q ≡ moved_by p ex ey → AreStepsTo bytes_of from bytes (p ∷ q ∷ []) count
+two_near from p q two near to_p to_q =
+    let one = step_near 6 from p _ _ near two.dx_short two.dy_short to_p in
+    let next = step_near 7 p q _ _ one two.ex_short two.ey_short to_q in
+    two_led from p q two to_p (near_in_range 7 p (omega arith) one) to_q (near_in_range 8 q (omega arith) next)
+
+-- the second step leads to a point in range
+pub second_kept : {bytes_of : ℤ → ℤ → List ℕ} {bytes : List ℕ} {dx dy ex ey : ℤ} {count : ℕ} (from p : Point)
+    → TwoInFront bytes_of bytes dx dy ex ey count → IsNear 6 from → p ≡ moved_by from dx dy
+    → IsInRange (moved_by p ex ey)
+second_kept {ex = ex} {ey = ey} from p two near to_p =
+    step_in_range 7 p ex ey (omega arith) (step_near 6 from p _ _ near two.dx_short two.dy_short to_p)
+    two.ex_short two.ey_short
+
+-- two short steps from a near point lead to a point near by two steps more
+pub two_further : {bytes_of : ℤ → ℤ → List ℕ} {bytes : List ℕ} {dx dy ex ey : ℤ} {count : ℕ} (n : ℕ)
+    (from p q : Point) → TwoInFront bytes_of bytes dx dy ex ey count → IsNear n from → p ≡ moved_by from dx dy
+    → q ≡ moved_by p ex ey → IsNear (n + 2) q
+two_further n from p q two near to_p to_q =
+    let one = step_near n from p _ _ near two.dx_short two.dy_short to_p in
+    near_further (n + 1 + 1) (n + 2) q (omega arith) (step_near (n + 1) p q _ _ one two.ex_short two.ey_short to_q)
+
 module _ (bytes_of : ℤ → ℤ → List ℕ) where
-  -- two steps lead to two points
-  pub two_led : (from p q : Point) (bytes : List ℕ) (dx dy ex ey : ℤ) (count : ℕ)
-      → TwoInFront bytes_of bytes dx dy ex ey count → p ≡ moved_by from dx dy → IsInRange p
-      → q ≡ moved_by p ex ey → IsInRange q → AreStepsTo bytes_of from bytes (p ∷ q ∷ []) count
-  two_led from p q bytes dx dy ex ey count two to_p p_kept to_q q_kept =
-      let first : List ℕ = bytes_of dx dy in
-      let next : List ℕ = bytes_of ex ey in
-      let rest : List ℕ = drop count bytes in
-      let whole : first ++ (next ++ rest) ≡ bytes = sym (append_assoc first next rest)
-      ∙ (ap (λ l. l ++ rest) (sym two.spelled) ∙ take-append-drop count bytes) in
-      let after : drop (length first) bytes ≡ next ++ rest =
-      ap (drop (length first)) (sym whole) ∙ drop-append_seam first (next ++ rest) in
-      let all : count ≡ length first + length next =
-      sym (length-take-le count bytes two.within) ∙ (ap length two.spelled ∙ length-append first next) in
-      let long : length bytes ≡ length first + length (next ++ rest) =
-      ap length (sym whole) ∙ length-append first (next ++ rest) in
-      let there : IsStepTo bytes_of from bytes p (length first) = record {
-        dx = dx;
-        dy = dy;
-        within = omega (arith, long);
-        spelled = ap (take (length first)) (sym whole) ∙ take-append_seam first (next ++ rest);
-        dx_short = two.dx_short;
-        dy_short = two.dy_short;
-        leads = to_p;
-        kept = p_kept;
-      } in
-      let on : IsStepTo bytes_of p (drop (length first) bytes) q (length next) = record {
-        dx = ex;
-        dy = ey;
-        within = omega (arith, ap length after, length-append next rest);
-        spelled = ap (take (length next)) after ∙ take-append_seam next rest;
-        dx_short = two.ex_short;
-        dy_short = two.ey_short;
-        leads = to_q;
-        kept = q_kept;
-      } in (
-        length first,
-        length next,
-        all,
-        there,
-        (length next, 0, omega arith, on, refl),
-      )
-
-  -- and if the first point is near, no test of the range is needed
-  pub two_near : (from p q : Point) (bytes : List ℕ) (dx dy ex ey : ℤ) (count : ℕ)
-      → TwoInFront bytes_of bytes dx dy ex ey count → IsNear 6 from → p ≡ moved_by from dx dy
-      → q ≡ moved_by p ex ey → AreStepsTo bytes_of from bytes (p ∷ q ∷ []) count
-  two_near from p q bytes dx dy ex ey count two near to_p to_q =
-      let one = step_near 6 from p dx dy near two.dx_short two.dy_short to_p in
-      let next = step_near 7 p q ex ey one two.ex_short two.ey_short to_q in
-      two_led from p q bytes dx dy ex ey count two to_p (near_in_range 7 p (omega arith) one) to_q
-      (near_in_range 8 q (omega arith) next)
-
-  -- the second step leads to a point in range
-  pub second_kept : (from p : Point) (bytes : List ℕ) (dx dy ex ey : ℤ) (count : ℕ)
-      → TwoInFront bytes_of bytes dx dy ex ey count → IsNear 6 from → p ≡ moved_by from dx dy
-      → IsInRange (moved_by p ex ey)
-  second_kept from p bytes dx dy ex ey count two near to_p =
-      step_in_range 7 p ex ey (omega arith) (step_near 6 from p dx dy near two.dx_short two.dy_short to_p)
-      two.ex_short two.ey_short
-
-  -- two short steps from a near point lead to a point near by two steps more
-  pub two_further : (n : ℕ) (from p q : Point) (bytes : List ℕ) (dx dy ex ey : ℤ) (count : ℕ)
-      → TwoInFront bytes_of bytes dx dy ex ey count → IsNear n from → p ≡ moved_by from dx dy
-      → q ≡ moved_by p ex ey → IsNear (n + 2) q
-  two_further n from p q bytes dx dy ex ey count two near to_p to_q =
-      let one = step_near n from p dx dy near two.dx_short two.dy_short to_p in
-      near_further (n + 1 + 1) (n + 2) q (omega arith)
-      (step_near (n + 1) p q ex ey one two.ex_short two.ey_short to_q)
-
   -- some points, and others after them
   pub steps_on : (ps qs : List Point) (from : Point) (bytes : List ℕ) (n m : ℕ)
       → AreStepsTo bytes_of from bytes ps n → AreStepsTo bytes_of (last_of from ps) (drop n bytes) qs m

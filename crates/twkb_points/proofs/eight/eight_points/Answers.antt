@@ -1,29 +1,29 @@
 use Rattle.std.proofs.Common.{◌+◌, rules, arith}
 use Rattle.twkb_num.proofs.BlockLemmas.{ends_after, ends_behind, ends_in_slice}
 use Rattle.twkb_points.specs.Point.{IsInner}
-use Rattle.twkb_points.proofs.StepLemmas.{near_further, near_inner, eight_led}
+use Rattle.twkb_points.proofs.StepLemmas.{near_further, eight_led}
 use Rattle.twkb_points.proofs.eight.eight_points.Goals as goal
 
 pub two_by-requires-clause-near : goal.two_by-requires-clause-near
 two_by-requires-clause-near g c =
     let inner : IsInner c.args.from = search rules in
-    near_further 0 6 c.args.from (omega arith) (near_inner c.args.from inner)
+    near_further 0 6 c.args.from (omega arith) inner
 
 pub two_by-requires-2-clause-near : goal.two_by-requires-2-clause-near
 two_by-requires-2-clause-near g c =
     let inner : IsInner c.args.from = search rules in
-    near_further 2 6 c.in_ok-a.b (omega arith) (c.in_ok-a.ensures.onward 0 (near_inner c.args.from inner))
+    near_further 2 6 c.in_ok-a.b (omega arith) (c.in_ok-a.ensures.onward 0 inner)
 
 pub two_by-requires-3-clause-near : goal.two_by-requires-3-clause-near
 two_by-requires-3-clause-near g c =
     let inner : IsInner c.args.from = search rules in
     near_further 4 6 c.in_ok-c.d (omega arith) (c.in_ok-c.ensures.onward 2
-    (c.in_ok-a.ensures.onward 0 (near_inner c.args.from inner)))
+    (c.in_ok-a.ensures.onward 0 inner))
 
 pub two_by-requires-4-clause-near : goal.two_by-requires-4-clause-near
 two_by-requires-4-clause-near g c =
     let inner : IsInner c.args.from = search rules in
-    c.in_ok-e.ensures.onward 4 (c.in_ok-c.ensures.onward 2 (c.in_ok-a.ensures.onward 0 (near_inner c.args.from inner)))
+    c.in_ok-e.ensures.onward 4 (c.in_ok-c.ensures.onward 2 (c.in_ok-a.ensures.onward 0 inner))
 
 pub two_by-requires-3-clause-ends : goal.two_by-requires-3-clause-ends
 two_by-requires-3-clause-ends g c =

@@ -5,19 +5,15 @@ use Rattle.twkb_points.proofs.eight.two_by.Goals as goal
 
 pub step-one-requires-clause-x_in_range : goal.step-one-requires-clause-x_in_range
 step-one-requires-clause-x_in_range g c =
-    let four = c.x_first-four.result in
     let two = c.x_first-four.ensures.steps _ c.in_ok-four_by_ends.ensures.four in
-    let fits : FitsSigned w64 four.first = search rules in
-    simp to_z-of_z (step_in_range 6 c.args.from four.first four.second (omega arith) c.requires.near
-    two.dx_short two.dy_short).0
+    let fits : FitsSigned w64 c.x_first-four.result.first = search rules in
+    simp to_z-of_z (step_in_range 6 c.args.from _ _ (omega arith) c.requires.near two.dx_short two.dy_short).0
 
 pub step-one-requires-clause-y_in_range : goal.step-one-requires-clause-y_in_range
 step-one-requires-clause-y_in_range g c =
-    let four = c.x_first-four.result in
     let two = c.x_first-four.ensures.steps _ c.in_ok-four_by_ends.ensures.four in
-    let fits : FitsSigned w64 four.second = search rules in
-    simp to_z-of_z (step_in_range 6 c.args.from four.first four.second (omega arith) c.requires.near
-    two.dx_short two.dy_short).1
+    let fits : FitsSigned w64 c.x_first-four.result.second = search rules in
+    simp to_z-of_z (step_in_range 6 c.args.from _ _ (omega arith) c.requires.near two.dx_short two.dy_short).1
 
 pub step-two-requires-clause-x_in_range : goal.step-two-requires-clause-x_in_range
 step-two-requires-clause-x_in_range g c =
@@ -26,9 +22,7 @@ step-two-requires-clause-x_in_range g c =
     let a_fits : FitsSigned w64 four.first = search rules in
     let b_fits : FitsSigned w64 four.second = search rules in
     let fits : FitsSigned w64 four.third = search rules in
-    simp to_z-of_z (second_kept g.C.StepCode.bytes_of c.args.from c.step-one.result c.args.bytes.now four.first
-    four.second four.third four.fourth four.used two c.requires.near
-    (simp to_z-of_z at c.step-one.ensures)).0
+    simp to_z-of_z (second_kept c.args.from _ two c.requires.near (simp to_z-of_z at c.step-one.ensures)).0
 
 pub step-two-requires-clause-y_in_range : goal.step-two-requires-clause-y_in_range
 step-two-requires-clause-y_in_range g c =
@@ -37,9 +31,7 @@ step-two-requires-clause-y_in_range g c =
     let a_fits : FitsSigned w64 four.first = search rules in
     let b_fits : FitsSigned w64 four.second = search rules in
     let fits : FitsSigned w64 four.fourth = search rules in
-    simp to_z-of_z (second_kept g.C.StepCode.bytes_of c.args.from c.step-one.result c.args.bytes.now four.first
-    four.second four.third four.fourth four.used two c.requires.near
-    (simp to_z-of_z at c.step-one.ensures)).1
+    simp to_z-of_z (second_kept c.args.from _ two c.requires.near (simp to_z-of_z at c.step-one.ensures)).1
 
 pub returns-clause-two : goal.returns-clause-two
 returns-clause-two g c =
@@ -49,8 +41,7 @@ returns-clause-two g c =
     let b_fits : FitsSigned w64 four.second = search rules in
     let c_fits : FitsSigned w64 four.third = search rules in
     let d_fits : FitsSigned w64 four.fourth = search rules in
-    two_near g.C.StepCode.bytes_of c.args.from c.step-one.result c.step-two.result c.args.bytes.now
-    four.first four.second four.third four.fourth four.used two c.requires.near
+    two_near c.args.from c.step-one.result c.step-two.result two c.requires.near
     (simp to_z-of_z at c.step-one.ensures) (simp to_z-of_z at c.step-two.ensures)
 
 pub returns-clause-onward : goal.returns-clause-onward
@@ -61,6 +52,5 @@ returns-clause-onward g c = λ n near.
     let b_fits : FitsSigned w64 four.second = search rules in
     let c_fits : FitsSigned w64 four.third = search rules in
     let d_fits : FitsSigned w64 four.fourth = search rules in
-    two_further g.C.StepCode.bytes_of n c.args.from c.step-one.result c.step-two.result c.args.bytes.now
-    four.first four.second four.third four.fourth four.used two near
+    two_further n c.args.from c.step-one.result c.step-two.result two near
     (simp to_z-of_z at c.step-one.ensures) (simp to_z-of_z at c.step-two.ensures)

@@ -1,4 +1,4 @@
-use Rattle.std.proofs.Common.{drop, refl, rules, subst, sym, FitsSigned, w64}
+use Rattle.std.proofs.Common.{refl, rules, subst, sym, FitsSigned, w64}
 use Rattle.std.proofs.lemmas.Int.{to_z-of_z}
 use Rattle.twkb_points.specs.Point.{IsInRange}
 use Rattle.twkb_points.proofs.StepLemmas.{short_is_near, two_led}
@@ -38,8 +38,7 @@ returns g c =
     let b_fits : FitsSigned w64 four.second = search rules in
     let c_fits : FitsSigned w64 four.third = search rules in
     let d_fits : FitsSigned w64 four.fourth = search rules in
-    two_led g.C.StepCode.bytes_of c.args.from first.first second.second (drop c.args.start c.args.bytes.now)
-    four.first four.second four.third four.fourth four.used two
+    two_led c.args.from first.first second.second two
     (simp to_z-of_z at first.ensures.value)
     (subst IsInRange (sym first.ensures.value) (first.ensures.range.0 refl))
     (simp to_z-of_z at second.ensures.value)
