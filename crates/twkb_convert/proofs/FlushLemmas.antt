@@ -7,7 +7,6 @@ use Rattle.twkb_io.specs.declared.output.OutFault.TheVariants as out
 use Rattle.twkb_io.specs.Outputs.{is_device}
 use Rattle.twkb_io.specs.Taps.{has_unflushed}
 use Rattle.twkb_grammar.specs.Blob.{Stream}
-use Rattle.twkb_grammar.proofs.Streams.{blob_long}
 use Rattle.twkb_convert.specs.LocatedBlobs.{TellsSpans}
 use Rattle.twkb_convert.specs.BlobReading.{Misses, RefusesBlob, Used, is_read}
 use Rattle.twkb_convert.specs.Causes.{cause_of_output, after_reads}
@@ -17,26 +16,12 @@ use Rattle.twkb_convert.specs.Listed.{ExplainsListingCause}
 use Rattle.twkb_convert.specs.declared.report.Cause.TheVariants as cause
 use Rattle.twkb_convert.proofs.Prelude.{◌≡◌, ◌≢◌, ◌+◌, ◌<◌, ℕ, false, List, [], ◌++◌, Option, Some, None, Err, IfSome}
 use Rattle.twkb_convert.proofs.Prelude.{length, ap, arith, refl, inl, inr, length-append, Consumes, OutFault, Allowance}
-use Rattle.twkb_convert.proofs.Prelude.{StreamFault, reason_of, Located, LocatedStream, geometries_of, listing_text}
+use Rattle.twkb_convert.proofs.Prelude.{BlobReason, StreamFault, reason_of, Located, LocatedStream, geometries_of, listing_text}
 use Rattle.twkb_convert.proofs.Prelude.{Layout, IsDeviceCause, Cause, ◌∙◌, ◌⊎◌, Bool, true, Result, Ok, sym, subst}
 use Rattle.twkb_convert.proofs.Prelude.{append-nil, count_failure, Refused, Sent, Took, is_spent, output_tap, sent_join}
 use Rattle.twkb_convert.proofs.Prelude.{Output, ConvertFault, Report, IfErr, IfOk}
 
 -- ==== Blobs with their spans, one after another.
-
--- a stream has at least one byte for each blob
-pub located_long : (l : Allowance) (offset : ℕ) (bytes : List ℕ) (bs : List Located)
-    → LocatedStream l offset bytes bs → length bs ≤ length bytes
-located_long l offset bytes [] s = omega arith
-located_long l offset bytes (b ∷ bs) s =
-    omega (
-      arith,
-      blob_long l s.0 b.geometry s.3.blob,
-      located_long l (offset + length s.0) s.1 bs
-          s.4,
-      ap length s.2,
-      length-append s.0 s.1,
-    )
 
 -- located blobs without their spans are a stream
 pub located-stream : (l : Allowance) (offset : ℕ) (bytes : List ℕ) (bs : List Located)
@@ -70,46 +55,44 @@ located-append l offset xs ys (b ∷ bs) cs s t =
 -- ==== What a cause says of the text that was sent, and of the devices.
 
 -- what a cause says after blobs with these bytes, if no further text was made
-pub explained : (layout : Layout) (l : Allowance) (old mid told : Option (List ℕ)) (middle : ℕ)
-    (bytes : List ℕ) (bs : List Located) (why : Cause) → LocatedStream l 0 bytes bs
-    → Used old 0 bytes mid middle → Misses l mid middle told why
-    → ExplainsListingCause geometries_of (listing_text layout) l old told bytes why bs [] []
-explained layout l old mid told middle bytes bs cause.Memory blobs used misses = (refl, refl)
-explained layout l old mid told middle bytes bs cause.ReadDevice blobs used misses = (
-  refl,
-  refl,
-  record {
-    cut = misses.cut;
-    consumed = Consumes-trans old mid told bytes misses.cut used.consumed misses.consumed;
-    cut_off = misses.cut_off;
-  },
-)
-explained layout l old mid told middle bytes bs cause.TooLong blobs used misses =
-    inl (long old mid used.consumed misses)
-  where
-    long : (known left : Option (List ℕ)) → Consumes known left bytes
-        → IfSome left (λ rest. MAX_BYTES < middle + length rest) → IfSome known (λ all. MAX_BYTES < length all)
-    long None left c far = tt
-    long (Some all) None c far = absurd c
-    long (Some all) (Some rest) c far = omega (arith, far, used.counted, ap length c, length-append bytes rest)
-explained layout l old mid told middle bytes bs (cause.Blob offset reason) blobs used misses =
-    (refl, refl, fault old mid used.consumed misses)
-  where
-    fault : (known left : Option (List ℕ)) → Consumes known left bytes
-        → IfSome left (λ rest. RefusesBlob l rest middle offset reason)
-        → IfSome known (λ all. StreamFault l all (geometries_of bs) offset (reason_of reason))
-    fault None left c refused = tt
-    fault (Some all) None c refused = absurd c
-    fault (Some all) (Some rest) c refused = record {
-      front = bytes;
-      rest = rest;
-      within = refused.within;
-      whole = c;
-      blobs = located-stream l 0 bytes bs blobs;
-      first = refused.first;
-      place = omega (arith, refused.place, used.counted);
-    }
-explained layout l old mid told middle bytes bs _ blobs used misses = absurd misses
+module _ (layout : Layout) (l : Allowance) (old mid told : Option (List ℕ)) (middle : ℕ) (bytes : List ℕ)
+    (bs : List Located) (blobs : LocatedStream l 0 bytes bs) (used : Used old 0 bytes mid middle) where
+  long : (known left : Option (List ℕ)) → Consumes known left bytes
+      → IfSome left (λ rest. MAX_BYTES < middle + length rest) → IfSome known (λ all. MAX_BYTES < length all)
+  long None left c far = tt
+  long (Some all) None c far = absurd c
+  long (Some all) (Some rest) c far = omega (arith, far, used.counted, ap length c, length-append bytes rest)
+
+  refused : (known left : Option (List ℕ)) (offset : ℕ) (why : BlobReason) → Consumes known left bytes
+      → IfSome left (λ rest. RefusesBlob l rest middle offset why)
+      → IfSome known (λ all. StreamFault l all (geometries_of bs) offset (reason_of why))
+  refused None left offset why c refuses = tt
+  refused (Some all) None offset why c refuses = absurd c
+  refused (Some all) (Some rest) offset why c refuses = record {
+    front = bytes;
+    rest = rest;
+    within = refuses.within;
+    whole = c;
+    blobs = located-stream l 0 bytes bs blobs;
+    first = refuses.first;
+    place = omega (arith, refuses.place, used.counted);
+  }
+
+  pub explained : (why : Cause) → Misses l mid middle told why
+      → ExplainsListingCause geometries_of (listing_text layout) l old told bytes why bs [] []
+  explained cause.Memory misses = (refl, refl)
+  explained cause.ReadDevice misses = (
+    refl,
+    refl,
+    record {
+      cut = misses.cut;
+      consumed = Consumes-trans old mid told bytes misses.cut used.consumed misses.consumed;
+      cut_off = misses.cut_off;
+    },
+  )
+  explained cause.TooLong misses = inl (long old mid used.consumed misses)
+  explained (cause.Blob offset why) misses = (refl, refl, refused old mid offset why used.consumed misses)
+  explained _ misses = absurd misses
 
 -- no device but the reader's is a cause if no text was made
 pub told_missed : (l : Allowance) (old told : Option (List ℕ)) (before : ℕ) (why : Cause)
@@ -155,10 +138,10 @@ write_refused A out.Write = refl
 write_refused A _ = refl
 
 -- no call was refused
-pub leaves_took : {A W : Type 0} (contents : W → Option (List ℕ)) (old new : Output W) (bytes : List ℕ)
-    (answer : Result A Cause) → is_spent old ≡ false → is_write answer ≡ false → Took contents old bytes new
+pub leaves_took : {A W : Type 0} {contents : W → Option (List ℕ)} {old new : Output W} {bytes : List ℕ}
+    (answer : Result A Cause) → Took contents old bytes new → is_spent old ≡ false → is_write answer ≡ false
     → Leaves contents old bytes new answer
-leaves_took contents old new bytes answer fresh quiet took = record {
+leaves_took {new = new} answer took fresh quiet = record {
   sends = took.sends;
   failures = rw quiet took.failures;
   quiet = λ still. took.failures;
@@ -166,10 +149,9 @@ leaves_took contents old new bytes answer fresh quiet took = record {
 }
 
 -- a put was refused
-pub leaves_refused : {A W : Type 0} (contents : W → Option (List ℕ)) (old new : Output W) (bytes : List ℕ)
-    (f : OutFault) → Refused contents old bytes f new
-    → Leaves {A = A} contents old bytes new (Err (cause_of_output f))
-leaves_refused {A} contents old new bytes f refused = record {
+pub leaves_refused : {A W : Type 0} {contents : W → Option (List ℕ)} {old new : Output W} {bytes : List ℕ}
+    {f : OutFault} → Refused contents old bytes f new → Leaves {A = A} contents old bytes new (Err (cause_of_output f))
+leaves_refused {A = A} {new = new} {f = f} refused = record {
   sends = refused.sends;
   failures = rw (write_refused A f) refused.failures;
   quiet = λ fresh. absurd (cc (fresh, refused.spent));
@@ -183,13 +165,14 @@ unless : {A : Type 0} (answer : Result A Cause) (P Q : Type 0) → (P → Q) →
 unless (Ok done) P Q more p = more p
 unless (Err why) P Q more p = λ no_write no_length. more (p no_write no_length)
 
-module _ {A W : Type 0} (contents : W → Option (List ℕ)) (old mid new : Output W) (bytes : List ℕ)
-    (answer last : Result A Cause) where
-  -- nothing is added to what was sent
-  sent_with : Sent contents old bytes mid → Sent contents mid [] new → Sent contents old bytes new
-  sent_with first second = subst (λ b. Sent contents old b new) (append-nil bytes)
-      (sent_join contents old mid new bytes [] first second)
+-- nothing is added to what was sent
+sent_with : {W : Type 0} {contents : W → Option (List ℕ)} {old mid new : Output W} {bytes : List ℕ}
+    → Sent contents old bytes mid → Sent contents mid [] new → Sent contents old bytes new
+sent_with {contents = contents} {old = old} {mid = mid} {new = new} {bytes = bytes} first second =
+    subst (λ b. Sent contents old b new) (append-nil bytes) (sent_join contents old mid new bytes [] first second)
 
+module _ {A W : Type 0} {contents : W → Option (List ℕ)} {old mid new : Output W} {bytes : List ℕ}
+    {answer last : Result A Cause} where
   -- the answer stays, unless the flush failed
   pub leaves_last : Leaves contents old bytes mid answer → Flushes contents mid answer new last
       → Leaves contents old bytes new last × ((last ≡ answer) ⊎ (last ≡ Err cause.WriteDevice))
@@ -218,29 +201,20 @@ module _ {A W : Type 0} (contents : W → Option (List ℕ)) (old mid new : Outp
   )
 
 -- all is flushed, unless the output refused a call
-pub flushed_last : {A W : Type 0} (contents : W → Option (List ℕ)) (mid new : Output W)
-    (answer last : Result A Cause) → UnlessRefused answer (is_spent mid ≡ false)
-    → Flushes contents mid answer new last
-    → UnlessRefused last (has_unflushed (output_tap new).now ≡ false)
-flushed_last contents mid new answer last unspent (inl (took, flushed, is)) =
-    subst (λ r. UnlessRefused r (has_unflushed (output_tap new).now ≡ false)) (sym is)
-    (always answer (has_unflushed (output_tap new).now ≡ false) flushed)
-flushed_last contents mid new answer last unspent (inr (inl (spent, same, is))) =
-    subst (λ r. UnlessRefused r (has_unflushed (output_tap new).now ≡ false)) (sym is)
-    (unless answer (is_spent mid ≡ false) (has_unflushed (output_tap new).now ≡ false)
-    (λ e. absurd (cc (e, spent))) unspent)
-flushed_last contents mid new answer last unspent (inr (inr (fresh, refused, is))) =
-    subst (λ r. UnlessRefused r (has_unflushed (output_tap new).now ≡ false)) (sym is)
-    (λ no_write no_length. absurd (no_write refl))
+pub flushed_last : {A W : Type 0} {contents : W → Option (List ℕ)} {mid new : Output W}
+    {answer last : Result A Cause} → Flushes contents mid answer new last
+    → UnlessRefused answer (is_spent mid ≡ false) → UnlessRefused last (has_unflushed (output_tap new).now ≡ false)
+flushed_last {answer = answer} (inl (took, flushed, is)) unspent = rw is (always answer _ flushed)
+flushed_last {answer = answer} (inr (inl (spent, same, is))) unspent =
+    rw is (unless answer _ _ (λ e. absurd (cc (e, spent))) unspent)
+flushed_last (inr (inr (fresh, refused, is))) unspent = rw is (λ no_write no_length. absurd (no_write refl))
 
 -- what holds if all was sent also holds if all was sent and flushed
-pub kept_last : {A W : Type 0} (contents : W → Option (List ℕ)) (mid new : Output W)
-    (answer last : Result A Cause) (done : A) (P : Type 0) → Flushes contents mid answer new last
-    → OnOk answer P → last ≡ Ok done → P
-kept_last contents mid new answer last done P (inl (took, flushed, is)) p ok = subst (λ r. OnOk r P) (sym is ∙ ok) p
-kept_last contents mid new answer last done P (inr (inl (spent, same, is))) p ok =
-    subst (λ r. OnOk r P) (sym is ∙ ok) p
-kept_last contents mid new answer last done P (inr (inr (fresh, refused, is))) p ok = absurd (cc (sym ok ∙ is))
+pub kept_last : {A W : Type 0} {contents : W → Option (List ℕ)} {mid new : Output W} {answer last : Result A Cause}
+    (done : A) (P : Type 0) → Flushes contents mid answer new last → OnOk answer P → last ≡ Ok done → P
+kept_last done P (inl (took, flushed, is)) p ok = subst (λ r. OnOk r P) (sym is ∙ ok) p
+kept_last done P (inr (inl (spent, same, is))) p ok = subst (λ r. OnOk r P) (sym is ∙ ok) p
+kept_last done P (inr (inr (fresh, refused, is))) p ok = absurd (cc (sym ok ∙ is))
 
 -- all was sent and flushed if that is the answer after the reads
 pub ok_before : {A : Type 0} (failed : Bool) (answer : Result A Cause) (done : A)
@@ -266,14 +240,13 @@ write_stays true = refl
 write_stays false = refl
 
 -- a flush of an answer after the reads is one of the answer before them
-pub flushes_before : {W : Type 0} (contents : W → Option (List ℕ)) (failed : Bool) (mid new : Output W)
-    (sending last : Result (Unit {0}) Cause) → Flushes contents mid (after_reads failed sending) new last
+pub flushes_before : {W : Type 0} {contents : W → Option (List ℕ)} {mid new : Output W}
+    {last : Result (Unit {0}) Cause} (failed : Bool) (sending : Result (Unit {0}) Cause)
+    → Flushes contents mid (after_reads failed sending) new last
     → (answer : Result (Unit {0}) Cause) × Flushes contents mid sending new answer × (last ≡ after_reads failed answer)
-flushes_before contents failed mid new sending last (inl (took, flushed, is)) =
-    (sending, inl (took, flushed, refl), is)
-flushes_before contents failed mid new sending last (inr (inl (spent, same, is))) =
-    (sending, inr (inl (spent, same, refl)), is)
-flushes_before contents failed mid new sending last (inr (inr (fresh, refused, is))) =
+flushes_before failed sending (inl (took, flushed, is)) = (sending, inl (took, flushed, refl), is)
+flushes_before failed sending (inr (inl (spent, same, is))) = (sending, inr (inl (spent, same, refl)), is)
+flushes_before failed sending (inr (inr (fresh, refused, is))) =
     (Err cause.WriteDevice, inr (inr (fresh, refused, refl)), is ∙ sym (write_stays failed))
 
 -- ---- what is reported

@@ -172,10 +172,6 @@ module _ {R : Type 0} {read : Ghosts R} (from to : Reader R read) where
     follows = follows (Err why) (is_read (cause_of_blob why)) (read_stops why) shared;
   }
 
-  -- a blob was read, and there was no memory for its text
-  pub missed_text : (found : Bool) → ReadsNext false from to (Ok found) → MissesText from to cause.Memory
-  missed_text found shared = record { misses = tt; follows = follows (Ok found) false refl shared }
-
   -- no blob is left
   pub ended : IsBetween from → ReadsNext false from to (Ok false)
       → IfGoingOn from (IsNext (limits_of from) (reader_input from) (reader_input to) (Ok None))
@@ -249,9 +245,9 @@ still_known None new bytes Fact c fact = tt
 still_known (Some xs) None bytes Fact c fact = absurd c
 still_known (Some xs) (Some ys) bytes Fact c fact = fact
 
-used_join : (a b c : Option (List ℕ)) (m n o : ℕ) (xs ys : List ℕ) → Used a m xs b n
-    → Used b n ys c o → Used a m (xs ++ ys) c o
-used_join a b c m n o xs ys first second = record {
+used_join : {a b c : Option (List ℕ)} {m n o : ℕ} {xs ys : List ℕ} → Used a m xs b n → Used b n ys c o
+    → Used a m (xs ++ ys) c o
+used_join {a = a} {b = b} {c = c} {xs = xs} {ys = ys} first second = record {
   consumed = Consumes-trans a b c xs ys first.consumed second.consumed;
   counted = omega (arith, first.counted, second.counted, length-append xs ys);
 }
@@ -279,30 +275,34 @@ text_more layout bs b = append_assoc layout.first (blobs_text layout bs) (layout
     ∙ ap (λ t. layout.first ++ t) (sym (blobs_text-append layout bs (b ∷ [])))
 
 -- a blob has at least one byte
-given_more : (l : Allowance) (old new : Option (List ℕ)) (before after : ℕ) (b : Located)
+given_more : {l : Allowance} {old new : Option (List ℕ)} {before after : ℕ} {b : Located}
     → GivesBlob l old before b new after → before < after
-given_more l old new before after b gives =
+given_more {l = l} {b = b} gives =
     omega (arith, gives.used.counted, blob_long l gives.front b.geometry gives.tells.blob)
 
 -- fewer bytes may still be given out after a blob was read
-pub fewer_left : {R : Type 0} {read : Ghosts R} (layout : Layout) (from to : Reader R read) (text : List ℕ)
+pub fewer_left : {R : Type 0} {read : Ghosts R} {layout : Layout} {from to : Reader R read} {text : List ℕ}
     → GivesText layout from to text → MAX_BYTES - given to < MAX_BYTES - given from
-fewer_left layout from to text one =
-    omega (
-      arith,
-      given_more (limits_of from) (rest_of from) (rest_of to) (given from) (given to) one.found
-          one.gives,
-      one.follows.within,
-    )
+fewer_left one = omega (arith, given_more one.gives, one.follows.within)
 
 -- ---- the loop
 
-module _ {R W : Type 0} {read : Ghosts R} (layout : Layout) (contents : W → Option (List ℕ))
-    (from : Reader R read) (old : Output W) where
+-- reads that failed or not, after reads that did not
+follows_on : {R : Type 0} {read : Ghosts R} {from mid to : Reader R read} {failed : Bool}
+    → Follows from mid false → Follows mid to failed → Follows from to failed
+follows_on first second = record {
+  same_tap = second.same_tap ∙ first.same_tap;
+  limits = second.limits ∙ first.limits;
+  failures = rw first.failures at second.failures;
+  within = second.within;
+}
+
+module _ {R W : Type 0} {read : Ghosts R} {layout : Layout} {contents : W → Option (List ℕ)}
+    {from : Reader R read} {old : Output W} where
   -- the text before the first blob was sent
-  pub sent_first : (new : Output W) (done : ℕ) → done ≡ 0 → IsFresh from old → Took contents old layout.first new
+  pub sent_first : {new : Output W} {done : ℕ} → done ≡ 0 → IsFresh from old → Took contents old layout.first new
       → SentSoFar layout contents from old from new done
-  sent_first new done none fresh took = record {
+  sent_first {new = new} none fresh took = record {
     found = [];
     bytes = [];
     blobs = refl;
@@ -315,127 +315,12 @@ module _ {R W : Type 0} {read : Ghosts R} (layout : Layout) (contents : W → Op
     few = omega (arith, none);
   }
 
-  -- the text of one more blob was sent
-  pub sent_more : (mid to : Reader R read) (out new : Output W) (done : ℕ) (text : List ℕ)
-      → SentSoFar layout contents from old mid out done → GivesText layout mid to text
-      → Took contents out text new → SentSoFar layout contents from old to new (done + 1)
-  sent_more mid to out new done text sent one took = record {
-    found = sent.found ++ one.found ∷ [];
-    bytes = sent.bytes ++ one.gives.front;
-    blobs = one_more (limits_of from) (limits_of mid) 0 (given mid) sent.bytes one.gives.front
-        sent.found one.found sent.blobs sent.follows.limits sent.used.counted one.gives.tells;
-    used = used_join (rest_of from) (rest_of mid) (rest_of to) 0 (given mid) (given to) sent.bytes
-        one.gives.front sent.used one.gives.used;
-    took = subst (λ text. Took contents old text new) (text_more layout sent.found one.found)
-        (took_join contents old out new (listing_text layout sent.found) (layout.text_of one.found) sent.took
-        (subst (λ t. Took contents out t new) one.own took));
-    count = omega (arith, sent.count, length-append sent.found (one.found ∷ []));
-    follows = record {
-      same_tap = one.follows.same_tap ∙ sent.follows.same_tap;
-      limits = one.follows.limits ∙ sent.follows.limits;
-      failures = one.follows.failures ∙ sent.follows.failures;
-      within = one.follows.within;
-    };
-    between = one.between;
-    unspent = took.spent ∙ sent.unspent;
-    few = omega (
-      arith,
-      sent.few,
-      given_more (limits_of mid) (rest_of mid) (rest_of to) (given mid) (given to) one.found one.gives,
-    );
-  }
-
-  -- no text was sent after those of whole blobs
-  lists_whole : (answer : Result (Unit {0}) Cause) (mid to : Reader R read) (out : Output W) (done : ℕ)
-      (failed : Bool) (sent : SentSoFar layout contents from old mid out done)
-      → Follows mid to failed → is_write answer ≡ false
-      → Ends layout from to sent.bytes sent.found [] [] failed answer
-      → Lists layout contents from old to out done answer
-  lists_whole answer mid to out done failed sent follows quiet ends = record {
-    text = listing_text layout sent.found;
-    part = record {
-      whole = sent.found;
-      later = [];
-      bytes = sent.bytes;
-      left = [];
-      blobs = subst (λ bs. LocatedStream (limits_of from) 0 sent.bytes bs)
-          (sym (append-nil sent.found)) sent.blobs;
-      begins = consumes_begins (rest_of from) (rest_of mid) sent.bytes sent.used.consumed;
-      cut = ap (listing_text layout) (append-nil sent.found) ∙ sym (append-nil (listing_text layout sent.found));
-      one = inl refl;
-      holds = inr ([], sym (append-nil (listing_text layout sent.found)));
-    };
-    leaves = leaves_took contents old out _ answer (sym sent.took.spent ∙ sent.unspent) quiet sent.took;
-    count = sent.count;
-    read_failed = failed;
-    follows = record {
-      same_tap = follows.same_tap ∙ sent.follows.same_tap;
-      limits = follows.limits ∙ sent.follows.limits;
-      failures = rw sent.follows.failures at follows.failures;
-      within = follows.within;
-    };
-    ends = ends;
-  }
-
-  -- a prefix of the text of one more blob was sent
-  pub lists_cut : (mid to : Reader R read) (out new : Output W) (done : ℕ) (text : List ℕ) (fault : OutFault)
-      → sent_of old ≡ 0 → SentSoFar layout contents from old mid out done → GivesText layout mid to text
-      → Cut contents out text fault new → Lists layout contents from old to new done (Err (cause_of_output fault))
-  lists_cut mid to out new done text fault none sent one refused_text =
-      let cut : Cut contents out (layout.text_of one.found) fault new =
-      subst (λ t. Cut contents out t fault new) one.own refused_text in
-      let all = used_join (rest_of from) (rest_of mid) (rest_of to) 0 (given mid) (given to)
-      sent.bytes one.gives.front sent.used one.gives.used in
-      let joined = text_more layout sent.found one.found in
-      record {
-        text = listing_text layout sent.found ++ cut.front;
-        part = record {
-          whole = sent.found;
-          later = one.found ∷ [];
-          bytes = sent.bytes ++ one.gives.front;
-          left = cut.rest;
-          blobs = one_more (limits_of from) (limits_of mid) 0 (given mid) sent.bytes one.gives.front
-              sent.found one.found sent.blobs sent.follows.limits sent.used.counted
-              one.gives.tells;
-          begins = consumes_begins (rest_of from) (rest_of to) (sent.bytes ++ one.gives.front) all.consumed;
-          cut = sym joined ∙ ap (λ t. listing_text layout sent.found ++ t) cut.whole
-              ∙ sym (append_assoc (listing_text layout sent.found) cut.front cut.rest);
-          one = inr (one.found, refl, cut.left sent.unspent);
-          holds = inr (cut.front, refl);
-        };
-        leaves = leaves_refused contents old new _ fault
-            (refused_join contents old out new (listing_text layout sent.found) cut.front fault sent.took cut.refused);
-        count = sent.count;
-        read_failed = false;
-        follows = record {
-          same_tap = one.follows.same_tap ∙ sent.follows.same_tap;
-          limits = one.follows.limits ∙ sent.follows.limits;
-          failures = one.follows.failures ∙ sent.follows.failures;
-          within = one.follows.within;
-        };
-        ends = record {
-          explains = put_explained layout (limits_of from) (rest_of from) (told_of to)
-              (sent.bytes ++ one.gives.front) fault sent.found (one.found ∷ []) cut.rest
-              (λ e. (let far = cut.too_long e in
-              omega (
-                arith,
-                far,
-                none,
-                sent.took.sends.sent,
-                ap length joined,
-                length-append (listing_text layout sent.found) (layout.text_of one.found),
-              )))
-              (cut.unspent sent.unspent);
-          tell = told_put fault;
-        };
-      }
-
   -- the text before the first blob was not sent whole
-  pub lists_none : (new : Output W) (done : ℕ) (text : List ℕ) (f : OutFault) → done ≡ 0 → text ≡ layout.first
+  pub lists_none : {new : Output W} {done : ℕ} {text : List ℕ} {f : OutFault} → done ≡ 0 → text ≡ layout.first
       → IsFresh from old → Cut contents old text f new
       → Lists layout contents from old from new done (Err (cause_of_output f))
-  lists_none new done text f none own fresh cut =
-      let whole : listing_text layout [] ≡ text = append-nil layout.first ∙ sym own in
+  lists_none {f = f} none own fresh cut =
+      let whole = append-nil layout.first ∙ sym own in
       record {
         text = cut.front;
         part = record {
@@ -449,7 +334,7 @@ module _ {R W : Type 0} {read : Ghosts R} (layout : Layout) (contents : W → Op
           one = inl refl;
           holds = inl refl;
         };
-        leaves = leaves_refused contents old new _ f cut.refused;
+        leaves = leaves_refused cut.refused;
         count = none;
         read_failed = false;
         follows = record { same_tap = refl; limits = refl; failures = refl; within = from.input.within };
@@ -461,32 +346,123 @@ module _ {R W : Type 0} {read : Ghosts R} (layout : Layout) (contents : W → Op
         };
       }
 
-  -- the end was found
-  pub lists_all : (mid to : Reader R read) (out : Output W) (done : ℕ)
-      → SentSoFar layout contents from old mid out done → EndsBlobs mid to
-      → Lists layout contents from old to out done (Ok tt)
-  lists_all mid to out done sent ends = lists_whole (Ok tt) mid to out done false sent ends.follows refl (record {
-    no_later = refl;
-    none_left = refl;
-    all = consumes_all (rest_of from) (rest_of mid) sent.bytes sent.used.consumed ends.empty;
-    ended = still_known (rest_of from) (rest_of mid) sent.bytes (IsAtEnd (told_of to)) sent.used.consumed ends.ended;
-    no_read = refl;
-  })
+  module _ {mid : Reader R read} {out : Output W} {done : ℕ} (sent : SentSoFar layout contents from old mid out done)
+      where
+    -- one more blob was read
+    one_read : {to : Reader R read} {text : List ℕ} (one : GivesText layout mid to text)
+        → LocatedStream (limits_of from) 0 (sent.bytes ++ one.gives.front) (sent.found ++ one.found ∷ [])
+    one_read one = one_more (limits_of from) (limits_of mid) 0 (given mid) sent.bytes one.gives.front
+        sent.found one.found sent.blobs sent.follows.limits sent.used.counted one.gives.tells
 
-  -- the text of the next blob was not made
-  pub lists_up_to : (mid to : Reader R read) (out : Output W) (done : ℕ) (why : Cause)
-      → SentSoFar layout contents from old mid out done → MissesText mid to why
-      → Lists layout contents from old to out done (Err why)
-  lists_up_to mid to out done why sent missed =
-      let misses : Misses (limits_of from) (rest_of mid) (given mid) (told_of to) why =
-      subst (λ l. Misses l (rest_of mid) (given mid) (told_of to) why) sent.follows.limits missed.misses in
-      let told = told_missed (limits_of from) (rest_of mid) (told_of to) (given mid) why misses in
-      lists_whole (Err why) mid to out done (is_read why) sent missed.follows told.0
-      (record {
-        explains = explained layout (limits_of from) (rest_of from) (rest_of mid) (told_of to)
-            (given mid) sent.bytes sent.found why sent.blobs sent.used misses;
-        tell = told.1;
-      })
+    -- the text of one more blob was sent
+    pub sent_more : {to : Reader R read} {new : Output W} {text : List ℕ} → GivesText layout mid to text
+        → Took contents out text new → SentSoFar layout contents from old to new (done + 1)
+    sent_more {new = new} one took = record {
+      found = sent.found ++ one.found ∷ [];
+      bytes = sent.bytes ++ one.gives.front;
+      blobs = one_read one;
+      used = used_join sent.used one.gives.used;
+      took = subst (λ text. Took contents old text new) (text_more layout sent.found one.found)
+          (took_join contents old out new _ _ sent.took (rw one.own at took));
+      count = omega (arith, sent.count, length-append sent.found (one.found ∷ []));
+      follows = follows_on sent.follows one.follows;
+      between = one.between;
+      unspent = took.spent ∙ sent.unspent;
+      few = omega (arith, sent.few, given_more one.gives);
+    }
+
+    -- a prefix of the text of one more blob was sent
+    pub lists_cut : {to : Reader R read} {new : Output W} {text : List ℕ} {fault : OutFault} → sent_of old ≡ 0
+        → GivesText layout mid to text → Cut contents out text fault new
+        → Lists layout contents from old to new done (Err (cause_of_output fault))
+    lists_cut {to = to} {new = new} {fault = fault} none one refused_text =
+        let cut : Cut contents out (layout.text_of one.found) fault new = rw one.own at refused_text in
+        let joined = text_more layout sent.found one.found in
+        record {
+          text = listing_text layout sent.found ++ cut.front;
+          part = record {
+            whole = sent.found;
+            later = one.found ∷ [];
+            bytes = sent.bytes ++ one.gives.front;
+            left = cut.rest;
+            blobs = one_read one;
+            begins = consumes_begins (rest_of from) (rest_of to) (sent.bytes ++ one.gives.front)
+                (used_join sent.used one.gives.used).consumed;
+            cut = sym joined ∙ ap (λ t. listing_text layout sent.found ++ t) cut.whole
+                ∙ sym (append_assoc (listing_text layout sent.found) cut.front cut.rest);
+            one = inr (one.found, refl, cut.left sent.unspent);
+            holds = inr (cut.front, refl);
+          };
+          leaves = leaves_refused (refused_join contents old out new _ cut.front fault sent.took cut.refused);
+          count = sent.count;
+          read_failed = false;
+          follows = follows_on sent.follows one.follows;
+          ends = record {
+            explains = put_explained layout (limits_of from) (rest_of from) (told_of to)
+                (sent.bytes ++ one.gives.front) fault sent.found (one.found ∷ []) cut.rest
+                (λ e. (let far = cut.too_long e in
+                omega (
+                  arith,
+                  far,
+                  none,
+                  sent.took.sends.sent,
+                  ap length joined,
+                  length-append (listing_text layout sent.found) (layout.text_of one.found),
+                )))
+                (cut.unspent sent.unspent);
+            tell = told_put fault;
+          };
+        }
+
+    -- no text was sent after those of whole blobs
+    lists_whole : {to : Reader R read} {failed : Bool} (answer : Result (Unit {0}) Cause) → Follows mid to failed
+        → is_write answer ≡ false → Ends layout from to sent.bytes sent.found [] [] failed answer
+        → Lists layout contents from old to out done answer
+    lists_whole {failed = failed} answer follows quiet ends =
+        let text = listing_text layout sent.found in
+        record {
+          text = text;
+          part = record {
+            whole = sent.found;
+            later = [];
+            bytes = sent.bytes;
+            left = [];
+            blobs = rw append-nil sent.blobs;
+            begins = consumes_begins (rest_of from) (rest_of mid) sent.bytes sent.used.consumed;
+            cut = ap (listing_text layout) (append-nil sent.found) ∙ sym (append-nil text);
+            one = inl refl;
+            holds = inr ([], sym (append-nil text));
+          };
+          leaves = leaves_took answer sent.took (sym sent.took.spent ∙ sent.unspent) quiet;
+          count = sent.count;
+          read_failed = failed;
+          follows = follows_on sent.follows follows;
+          ends = ends;
+        }
+
+    -- the end was found
+    pub lists_all : {to : Reader R read} → EndsBlobs mid to → Lists layout contents from old to out done (Ok tt)
+    lists_all {to = to} ends = lists_whole (Ok tt) ends.follows refl (record {
+      no_later = refl;
+      none_left = refl;
+      all = consumes_all (rest_of from) (rest_of mid) sent.bytes sent.used.consumed ends.empty;
+      ended = still_known (rest_of from) (rest_of mid) sent.bytes (IsAtEnd (told_of to)) sent.used.consumed ends.ended;
+      no_read = refl;
+    })
+
+    -- the text of the next blob was not made
+    pub lists_up_to : {to : Reader R read} {why : Cause} → MissesText mid to why
+        → Lists layout contents from old to out done (Err why)
+    lists_up_to {to = to} {why = why} missed =
+        let misses : Misses (limits_of from) (rest_of mid) (given mid) (told_of to) why =
+        subst (λ l. Misses l (rest_of mid) (given mid) (told_of to) why) sent.follows.limits missed.misses in
+        let told = told_missed (limits_of from) (rest_of mid) (told_of to) (given mid) why misses in
+        lists_whole (Err why) missed.follows told.0
+        (record {
+          explains = explained layout (limits_of from) (rest_of from) (rest_of mid) (told_of to)
+              (given mid) sent.bytes sent.found sent.blobs sent.used why misses;
+          tell = told.1;
+        })
 
 -- ==== The flush after the text of a stream, and what the caller of the conversion learns.
 
@@ -497,12 +473,12 @@ wrote false = refl
 wrote true = refl
 
 -- what was sent, after the flush
-pub lists_last : {R W : Type 0} {read : Ghosts R} (layout : Layout) (contents : W → Option (List ℕ))
-    (from : Reader R read) (old : Output W) (to : Reader R read) (mid new : Output W) (done : ℕ)
-    (answer last : Result (Unit {0}) Cause) → Lists layout contents from old to mid done answer
-    → Flushes contents mid answer new last → Lists layout contents from old to new done last
-lists_last layout contents from old to mid new done answer last lists flushes =
-    let after = leaves_last contents old mid new lists.text answer last lists.leaves flushes in
+pub lists_last : {R W : Type 0} {read : Ghosts R} {layout : Layout} {contents : W → Option (List ℕ)}
+    {from to : Reader R read} {old mid new : Output W} {done : ℕ} {answer last : Result (Unit {0}) Cause}
+    → Lists layout contents from old to mid done answer → Flushes contents mid answer new last
+    → Lists layout contents from old to new done last
+lists_last {layout = layout} {from = from} {to = to} {answer = answer} {last = last} lists flushes =
+    let after = leaves_last lists.leaves flushes in
     record {
       text = lists.text;
       part = lists.part;
@@ -516,21 +492,20 @@ lists_last layout contents from old to mid new done answer last lists flushes =
     ends : (last ≡ answer) ⊎ (last ≡ Err cause.WriteDevice)
         → Ends layout from to lists.part.bytes lists.part.whole lists.part.later lists.part.left
         lists.read_failed last
-    ends (inl same) = subst (Ends layout from to lists.part.bytes lists.part.whole lists.part.later lists.part.left
-        lists.read_failed) (sym same) lists.ends
-    ends (inr write) = subst (Ends layout from to lists.part.bytes lists.part.whole lists.part.later lists.part.left
-        lists.read_failed) (sym write) (record { explains = tt; tell = wrote lists.read_failed })
+    ends (inl same) = rw same lists.ends
+    ends (inr write) = rw write (record { explains = tt; tell = wrote lists.read_failed })
 
 -- what is flushed at the end
-module _ {W : Type 0} (contents : W → Option (List ℕ)) (mid new : Output W) (written : Tap W) (done : ℕ)
-    (sending : Result (Unit {0}) Cause) (report : Result Report ConvertFault)
-    (closes : (output_tap new).now ≡ written) (finishes : Finishes contents mid done sending new report)
-    (unspent : UnlessRefused sending (is_spent mid ≡ false)) where
+module _ {W : Type 0} {contents : W → Option (List ℕ)} {mid new : Output W} {done : ℕ}
+    {sending : Result (Unit {0}) Cause} {report : Result Report ConvertFault}
+    (finishes : Finishes contents mid done sending new report)
+    (unspent : UnlessRefused sending (is_spent mid ≡ false)) (written : Tap W)
+    (closes : (output_tap new).now ≡ written) where
   held : (answer : Result (Unit {0}) Cause) → finishes.answer ≡ answer
       → UnlessRefused answer (has_unflushed written ≡ false)
   held answer is = subst (λ t. UnlessRefused answer (has_unflushed t ≡ false)) closes
       (subst (λ a. UnlessRefused a (has_unflushed (output_tap new).now ≡ false)) is
-      (flushed_last contents mid new sending finishes.answer unspent finishes.flushes))
+      (flushed_last finishes.flushes unspent))
 
   flushed_as : (r : Result Report ConvertFault) → r ≡ reported done (sent_of new) finishes.answer
       → IsFlushed r written
@@ -556,17 +531,16 @@ whole_text layout whole later text left cut no_later none_left =
     sym (append-nil text) ∙ ap (λ l. text ++ l) (sym none_left) ∙ sym cut
     ∙ ap (λ bs. listing_text layout (whole ++ bs)) no_later ∙ ap (listing_text layout) (append-nil whole)
 
-module _ {R W : Type 0} {read : Ghosts R} (layout : Layout) (remaining : R → Option (List ℕ))
-    (contents : W → Option (List ℕ)) (l : Allowance) (reader after : Tap R) (writer written : Tap W)
-    (from to : Reader R read) (old mid new : Output W) (done : ℕ) (sending : Result (Unit {0}) Cause)
-    (report : Result Report ConvertFault)
+module _ {R W : Type 0} {read : Ghosts R} {layout : Layout} {contents : W → Option (List ℕ)} {l : Allowance}
+    {from to : Reader R read} {old mid new : Output W} {done : ℕ} {sending : Result (Unit {0}) Cause}
+    {report : Result Report ConvertFault} (remaining : R → Option (List ℕ)) (reader after : Tap R)
+    (writer written : Tap W) (finishes : Finishes contents mid done sending new report)
+    (sends : Lists layout contents from old to mid done sending)
     (limits : limits_of from ≡ l) (told : rest_of from ≡ remaining (device_of reader))
     (failures : reader_failures from ≡ failures_of reader)
     (borrowed : (output_tap old).now ≡ writer) (none : sent_of old ≡ 0)
     (ends : (reader_tap to).now ≡ after) (closes : (output_tap new).now ≡ written)
-    (later_told : told_of to ≡ remaining (device_of after))
-    (finishes : Finishes contents mid done sending new report)
-    (sends : Lists layout contents from old to mid done sending) where
+    (later_told : told_of to ≡ remaining (device_of after)) where
   appended : (text : List ℕ) → Sent contents old text new
       → Appends (contents (device_of writer)) (contents (device_of written)) text
   appended text sent = subst (λ t. Appends (contents (device_of t)) (contents (device_of written)) text) borrowed
@@ -584,8 +558,7 @@ module _ {R W : Type 0} {read : Ghosts R} (layout : Layout) (remaining : R → O
 
   lists_with : (answer : Result (Unit {0}) Cause) → finishes.answer ≡ answer
       → Lists layout contents from old to new done answer
-  lists_with answer is = subst (λ a. Lists layout contents from old to new done a) is
-      (lists_last layout contents from old to mid new done sending finishes.answer sends finishes.flushes)
+  lists_with answer is = rw is at (lists_last sends finishes.flushes)
 
   listed_as : (r : Report) → Ok r ≡ reported done (sent_of new) finishes.answer
       → Listed (LocatedStream l 0) (listing_text layout) remaining contents reader writer r after written

@@ -1,19 +1,13 @@
 -- Any records are packed to one output, with one refused too, and any bytes are unpacked to one.
 use Rattle.twkb_grammar.proofs.Streams.{one_stream_fault, stream_or_fault}
-use Rattle.twkb_table.proofs.FaultLaws.{one_complete, some_complete, named_or_fault, fault_none}
+use Rattle.twkb_table.proofs.FaultLaws.{one_complete, some_complete, named_or_fault}
 use Rattle.twkb_convert.proofs.Prelude.{◌⊎◌, ◌≡◌, ◌∙◌, ℕ, List, ap, refl, sym, inl, inr, Tree, Allowance, IsAllowance}
 use Rattle.twkb_convert.proofs.Prelude.{AreBytes, Stream, Reason, StreamFault, canonical_stream, Style, Record, Named}
 use Rattle.twkb_convert.proofs.Prelude.{NamesNone, AreComplete, RowFault, RowReason, PackTo, UnpackTo, table_text, []}
 use Rattle.twkb_convert.proofs.Prelude.{◌∷◌, ◌++◌, subst, append_assoc, IsRefusedText}
-use Rattle.twkb_convert.proofs.RoundTrips.{packed_records, unpacked_stream, one_records, first_records}
+use Rattle.twkb_convert.proofs.RoundTrips.{complete_none, first_records, one_records, packed_records, unpacked_stream}
 
 -- ==== Any records are packed to one output, and any bytes are unpacked to one.
-
--- records with a fault name no geometries
-pub complete_none : (l : Allowance) (records : List Record) (number : ℕ) (reason : RowReason)
-    (gs : List Tree) → AreComplete l records number reason gs → NamesNone l records
-complete_none l records number reason gs (inl f) = fault_none l records number reason (inl (f.0, f.1, f.2))
-complete_none l records number reason gs (inr f) = fault_none l records number reason (inr f.0)
 
 some_of : (style : Style) (l : Allowance) (records : List Record)
     → ((gs : List Tree) × Named l records gs) ⊎ ((number : ℕ) × (reason : RowReason)

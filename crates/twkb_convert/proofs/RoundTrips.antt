@@ -9,8 +9,6 @@ use Rattle.twkb_tree.proofs.LimitLaws.{valid_front}
 use Rattle.twkb_tree.proofs.RowLaws.{at_root, first_ended, below_root}
 use Rattle.twkb_grammar.proofs.Streams.{no_stream, one_stream, written_stream, behind_stream, fault-append}
 use Rattle.twkb_grammar.proofs.Streams.{stream-append}
-use Rattle.twkb_grammar.proofs.Parts.{peel, one_blob_lem}
-use Rattle.twkb_grammar.proofs.OneFault.{no_fault}
 use Rattle.twkb_grammar.proofs.SpanLaws.{blob_moved}
 use Rattle.twkb_table.specs.TableReading.{NameSoFar}
 use Rattle.twkb_table.specs.Parts.{BeginAtRoot}
@@ -21,7 +19,7 @@ use Rattle.twkb_table.proofs.FieldLemmas.{head_same, tail_same}
 use Rattle.twkb_table.proofs.TableSteps.{never_none}
 use Rattle.twkb_convert.proofs.Prelude.{◌≡◌, ◌∙◌, ℕ, List, [], ◌∷◌, None, ap, refl, sym, subst, inl, inr, Tree}
 use Rattle.twkb_convert.proofs.Prelude.{Allowance, IsAllowance, Stream, canonical_stream, Style, Record, table, Named}
-use Rattle.twkb_convert.proofs.Prelude.{AreComplete, RowReason, AreRecordsOf, IsTable, PackTextTo, PackTo, UnpackTo}
+use Rattle.twkb_convert.proofs.Prelude.{AreComplete, NamesNone, RowReason, map-append, AreRecordsOf, IsTable, PackTextTo, PackTo, UnpackTo}
 use Rattle.twkb_convert.proofs.Prelude.{table_text, ◌⊎◌, map, ◌++◌, Some, append_assoc, append-nil, flat_map-append}
 use Rattle.twkb_convert.proofs.Prelude.{BeginsWith, Row, rows, rows_of, FirstFault, Reason, canonical_blob, header}
 use Rattle.twkb_convert.proofs.Prelude.{record_of, HasNoHeader, all_but_last, BeginWith, FrontOfBlobs, rows_text}
@@ -30,35 +28,39 @@ use Rattle.twkb_convert.proofs.Prelude.{csvtext, Located, BeginLocated, LocatedS
 use Rattle.twkb_convert.proofs.Prelude.{lines_text, AreMovedLines, PackApart, RowsName, all_moved, span_lines}
 use Rattle.twkb_convert.proofs.ListingLemmas.{table_text-append, table_text-rows}
 use Rattle.twkb_convert.proofs.FlushLemmas.{located-append, located-stream}
-use Rattle.twkb_convert.proofs.ShownLemmas.{one_shown, some_located_stream}
+use Rattle.twkb_convert.proofs.ShownLemmas.{Begins, each_other, fault_no_blob, located_first, one_shown}
+use Rattle.twkb_convert.proofs.ShownLemmas.{some_located_stream}
 
 -- ==== Packing and unpacking give back what was put in.
 
 -- ---- a text has one list of records
 
-records_apart : (cfg : Config) (s : State) (xs : List ℕ) (rs qs : List Record)
-    → AreRecords cfg s xs rs → AreRecords cfg s xs qs → rs ≡ qs
+reached_first : (cfg : Config) (s : State) (xs : List ℕ) (rs qs : List Record)
+    → AreRecords cfg s xs rs → (state : State) (left : List ℕ) → Reached cfg s xs qs state left → Begins qs rs
 unfolding Reached
-records_apart cfg s xs [] [] a b = refl
-records_apart cfg s xs [] (q ∷ qs) a b =
+reached_first cfg s xs rs [] a state left b = (rs, refl)
+reached_first cfg s xs [] (q ∷ qs) a state left b =
     let ended : next_record cfg s [] [] xs ≡ None = subst (λ t. next_record cfg t [] [] xs ≡ None)
     (sym a.2.0) (subst (λ l. next_record cfg a.0 [] [] l ≡ None) (sym a.2.1) a.3) in
-    (let more = b.2.1 in cc)
-records_apart cfg s xs (r ∷ rs) [] a b =
-    let ended : next_record cfg s [] [] xs ≡ None = subst (λ t. next_record cfg t [] [] xs ≡ None)
-    (sym b.2.0) (subst (λ l. next_record cfg b.0 [] [] l ≡ None) (sym b.2.1) b.3) in
-    (let more = a.2.1 in cc)
-records_apart cfg s xs (r ∷ rs) (q ∷ qs) a b =
+    absurd (let more = b.1 in cc)
+reached_first cfg s xs (r ∷ rs) (q ∷ qs) a state left b =
     let first = a.2.1 in
-    let second = b.2.1 in
-    let same : a.2.0 ≡ b.2.0 = cc (first, second) in
-    let later : AreRecords cfg a.2.0.1 a.2.0.2 qs = subst (λ (p : Read). AreRecords cfg p.1 p.2 qs)
-    (sym same) (b.0, b.1, b.2.3, b.3) in
-    let tail = records_apart cfg a.2.0.1 a.2.0.2 rs qs (a.0, a.1, a.2.3, a.3) later in
-    ap (λ x. x ∷ rs) (a.2.2 ∙ ap (λ (p : Read). p.0) same ∙ sym b.2.2) ∙ ap (λ l. q ∷ l) tail
+    let second = b.1 in
+    let same : a.2.0 ≡ b.0 = cc (first, second) in
+    let later : AreRecords cfg b.0.1 b.0.2 rs = subst (λ (p : Read). AreRecords cfg p.1 p.2 rs) same
+    (a.0, a.1, a.2.3, a.3) in
+    let tail = reached_first cfg b.0.1 b.0.2 rs qs later state left b.3 in
+    (tail.0, ap (λ x. x ∷ rs) (a.2.2 ∙ ap (λ (p : Read). p.0) same ∙ sym b.2) ∙ ap (λ l. q ∷ l) tail.1)
+
+-- the records with which a text begins are the first of its records
+pub first_records : (text : List ℕ) (records seen : List Record) → AreRecordsOf text records
+    → BeginWith text seen → (more : List Record) × (records ≡ seen ++ more)
+first_records text records seen all begins = reached_first default_config StartRecord
+    (strip_bom text) records seen all begins.0 begins.1 begins.2
 
 pub one_records : (text : List ℕ) (rs qs : List Record) → AreRecordsOf text rs → AreRecordsOf text qs → rs ≡ qs
-one_records text rs qs a b = records_apart default_config StartRecord (strip_bom text) rs qs a b
+one_records text rs qs a b = each_other rs qs (first_records text qs rs b (a.0, a.1, a.2))
+    (first_records text rs qs a (b.0, b.1, b.2))
 
 -- ---- one output
 
@@ -70,11 +72,11 @@ unpacked_stream l bytes text gs stream (inr (offset, reason, hs, fault, e)) =
     absurd (no_stream l fault.front fault.rest hs gs fault.within reason fault.blobs
     fault.first.fault (subst (λ b. Stream l b gs) fault.whole stream))
 
-is_named : (l : Allowance) (records : List Record) (number : ℕ) (reason : RowReason)
-    (gs hs : List Tree) → Named l records gs → AreComplete l records number reason hs → ⊥
-is_named l records number reason gs hs named (inl (none, first, bad, e)) = fault_none l records
-    number reason (inl (none, first, bad)) gs named
-is_named l records number reason gs hs named (inr (fault, e)) = fault_none l records number reason (inr fault) gs named
+-- records with a fault name no geometries
+pub complete_none : (l : Allowance) (records : List Record) (number : ℕ) (reason : RowReason)
+    (gs : List Tree) → AreComplete l records number reason gs → NamesNone l records
+complete_none l records number reason gs (inl f) = fault_none l records number reason (inl (f.0, f.1, f.2))
+complete_none l records number reason gs (inr f) = fault_none l records number reason (inr f.0)
 
 -- the stream to which records that name geometries are packed
 pub packed_records : (style : Style) (l : Allowance) (records : List Record) (bytes : List ℕ)
@@ -83,7 +85,7 @@ pub packed_records : (style : Style) (l : Allowance) (records : List Record) (by
 packed_records style l records bytes gs allowed named (inl (hs, other, e)) = e
     ∙ ap (canonical_stream style) (one_table l records hs gs allowed other named)
 packed_records style l records bytes gs allowed named (inr (number, reason, hs, complete, e)) =
-    absurd (is_named l records number reason gs hs named complete)
+    absurd (complete_none l records number reason hs complete gs named)
 
 -- ---- round trips both ways
 
@@ -115,39 +117,11 @@ pack_of_unpack style l bytes text packed gs allowed stream unpacks (records, are
 
 -- ==== The bytes that may be written are a prefix of the whole output.
 
--- the list begins with these geometries
-abbrev BeginTrees : List Tree → List Tree → Type 0
-BeginTrees gs hs = (more : List Tree) × (hs ≡ gs ++ more)
-
 -- ---- records
-
-reached_first : (cfg : Config) (s : State) (xs : List ℕ) (rs qs : List Record)
-    → AreRecords cfg s xs rs → (state : State) (left : List ℕ) → Reached cfg s xs qs state left
-    → (more : List Record) × (rs ≡ qs ++ more)
-unfolding Reached
-reached_first cfg s xs rs [] a state left b = (rs, refl)
-reached_first cfg s xs [] (q ∷ qs) a state left b =
-    let ended : next_record cfg s [] [] xs ≡ None = subst (λ t. next_record cfg t [] [] xs ≡ None)
-    (sym a.2.0) (subst (λ l. next_record cfg a.0 [] [] l ≡ None) (sym a.2.1) a.3) in
-    absurd (let more = b.1 in cc)
-reached_first cfg s xs (r ∷ rs) (q ∷ qs) a state left b =
-    let first = a.2.1 in
-    let second = b.1 in
-    let same : a.2.0 ≡ b.0 = cc (first, second) in
-    let later : AreRecords cfg b.0.1 b.0.2 rs = subst (λ (p : Read). AreRecords cfg p.1 p.2 rs) same
-    (a.0, a.1, a.2.3, a.3) in
-    let tail = reached_first cfg b.0.1 b.0.2 rs qs later state left b.3 in
-    (tail.0, ap (λ x. x ∷ rs) (a.2.2 ∙ ap (λ (p : Read). p.0) same ∙ sym b.2) ∙ ap (λ l. q ∷ l) tail.1)
-
--- the records with which a text begins are the first of its records
-pub first_records : (text : List ℕ) (records seen : List Record) → AreRecordsOf text records
-    → BeginWith text seen → (more : List Record) × (records ≡ seen ++ more)
-first_records text records seen all begins = reached_first default_config StartRecord
-    (strip_bom text) records seen all begins.0 begins.1 begins.2
 
 -- of two prefixes of a list, one continues the other
 abbrev OneGoesOn : List Record → List Record → Record → Type 0
-OneGoesOn xs ys x = ((more : List Record) × (ys ≡ xs ++ more)) ⊎ ((more : List Record) × (xs ≡ (ys ++ x ∷ []) ++ more))
+OneGoesOn xs ys x = Begins xs ys ⊎ Begins (ys ++ x ∷ []) xs
 
 one_goes_on : (xs ys : List Record) (x : Record) (rest more : List Record)
     → xs ++ rest ≡ ys ++ x ∷ more → OneGoesOn xs ys x
@@ -170,33 +144,31 @@ no_row : (g : Tree) (gs : List Tree) (more : List Row) → AreGeometries (g ∷ 
 no_row g gs more are e = let (below, first, deep) = below_root g are.0 in
     cc (e ∙ ap (λ rs. (rs ++ rows_of gs) ++ more) first)
 
--- All but the last of the geometries are the first of others, and of all but the last of those.
-record ComeFirst (gs hs : List Tree) : Type 0 where
-  in_all : BeginTrees (all_but_last gs) hs
-  in_complete : BeginTrees (all_but_last gs) (all_but_last hs)
+-- all geometries but the last are the first of all
+all_but_last_first : (gs : List Tree) → Begins (all_but_last gs) gs
+all_but_last_first (g ∷ k ∷ gs) =
+    let rest = all_but_last_first (k ∷ gs) in (rest.0, ap (λ hs. g ∷ hs) rest.1)
+all_but_last_first gs = (gs, refl)
 
-first_and : (g k : Tree) (gs rest hs : List Tree) → hs ≡ g ∷ rest → (rest ≡ [] → ⊥)
-    → ComeFirst (k ∷ gs) rest → ComeFirst (g ∷ k ∷ gs) hs
-first_and g k gs [] hs whole some first = absurd (some refl)
-first_and g k gs (r ∷ rest) hs whole some first = record {
-  in_all = (first.in_all.0, whole ∙ ap (λ l. g ∷ l) first.in_all.1);
-  in_complete = (first.in_complete.0, ap all_but_last whole ∙ ap (λ l. g ∷ l) first.in_complete.1);
-}
+one_before : (g : Tree) (gs rest hs : List Tree) → hs ≡ g ∷ rest → (rest ≡ [] → ⊥) → Begins gs (all_but_last rest)
+    → Begins (g ∷ gs) (all_but_last hs)
+one_before g gs [] hs whole some first = absurd (some refl)
+one_before g gs (r ∷ rest) hs whole some first = (first.0, ap all_but_last whole ∙ ap (λ l. g ∷ l) first.1)
 
--- if rows of geometries begin with the rows of others
+-- if rows of geometries begin with the rows of others, all but the last of those come first, without the last too
 come_first : (gs hs : List Tree) (more : List Row) → AreGeometries gs → AreGeometries hs
-    → rows_of hs ≡ rows_of gs ++ more → ComeFirst gs hs
+    → rows_of hs ≡ rows_of gs ++ more → Begins (all_but_last gs) (all_but_last hs)
 come_first (g ∷ k ∷ gs) hs more a b e =
     let (rest, whole, others) = first_ended g (rows_of (k ∷ gs) ++ more) hs a.0 b
     (at_root k gs more a.1) (sym (append_assoc (rows 0 g) (rows_of (k ∷ gs)) more) ∙ sym e) in
     let are : AreGeometries (g ∷ rest) = subst AreGeometries whole b in
-    first_and g k gs rest hs whole (λ none. no_row k gs more a.1 (ap rows_of (sym none) ∙ others))
-    (come_first (k ∷ gs) rest more a.1 are.1 others)
-come_first _ hs more a b e = record { in_all = (hs, refl); in_complete = (all_but_last hs, refl) }
+    one_before g (all_but_last (k ∷ gs)) rest hs whole
+    (λ none. no_row k gs more a.1 (ap rows_of (sym none) ∙ others)) (come_first (k ∷ gs) rest more a.1 are.1 others)
+come_first _ hs more a b e = (all_but_last hs, refl)
 
 -- if records of geometries begin with the records of others, so do the rows
 named_first : (l : Allowance) (seen tail : List Record) (gs hs : List Tree) → IsAllowance l
-    → Named l seen gs → Named l (seen ++ tail) hs → ComeFirst gs hs
+    → Named l seen gs → Named l (seen ++ tail) hs → Begins (all_but_last gs) (all_but_last hs)
 named_first l [] tail gs hs allowed a b = absurd (let e = a.table_of in cc)
 named_first l (h ∷ front) tail gs hs allowed a b =
     let head = head_same h header (front ++ tail) (map record_of (rows_of hs)) b.table_of in
@@ -225,13 +197,15 @@ none_ready text seen trees gs none (inr e) = e.1 ∙ none
 
 ready_named : (l : Allowance) (text : List ℕ) (records seen : List Record) (trees gs hs : List Tree)
     → IsAllowance l → AreRecordsOf text records → BeginWith text seen → NameSoFar l seen trees
-    → IsReady text seen trees gs → Named l records hs → BeginTrees gs hs
+    → IsReady text seen trees gs → Named l records hs → Begins gs hs
 ready_named l text records [] trees gs hs allowed all begins named ready other =
     (hs, ap (λ ks. ks ++ hs) (sym (none_ready text [] trees gs named ready)))
 ready_named l text records (s ∷ seen) trees gs hs allowed all begins named (inl e) other =
     let (tail, whole) = first_records text records (s ∷ seen) all begins in
     let first = named_first l (s ∷ seen) tail trees hs allowed named (subst (λ r. Named l r hs) whole other) in
-    (first.in_all.0, first.in_all.1 ∙ ap (λ ks. ks ++ first.in_all.0) (sym e))
+    let (last, all) = all_but_last_first hs in
+    (first.0 ++ last, all ∙ ap (λ ks. ks ++ last) (first.1 ∙ ap (λ ks. ks ++ first.0) (sym e))
+    ∙ append_assoc gs first.0 last)
 ready_named l text records (s ∷ seen) trees gs hs allowed all begins named (inr (ended, e)) other =
     let same : s ∷ seen ≡ records = one_records text (s ∷ seen) records ended all in (
       [],
@@ -248,7 +222,7 @@ is_header l s seen tail (q ∷ qs) trees named e none =
 ready_complete : (l : Allowance) (text : List ℕ) (records seen : List Record) (number : ℕ)
     (reason : RowReason) (trees gs hs : List Tree) → IsAllowance l → AreRecordsOf text records
     → BeginWith text seen → NameSoFar l seen trees → IsReady text seen trees gs
-    → AreComplete l records number reason hs → BeginTrees gs hs
+    → AreComplete l records number reason hs → Begins gs hs
 ready_complete l text records [] number reason trees gs hs allowed all begins named ready complete =
     (hs, ap (λ ks. ks ++ hs) (sym (none_ready text [] trees gs named ready)))
 ready_complete l text records (s ∷ seen) number reason trees gs hs allowed all begins named ready (inl f) =
@@ -264,11 +238,11 @@ ready_complete l text records (s ∷ seen) number reason trees gs hs allowed all
     tail : (more : List Record) × (records ≡ (s ∷ seen) ++ more)
     tail = first_records text records (s ∷ seen) all begins
 
-    go : OneGoesOn (s ∷ seen) f.0.before f.0.here → BeginTrees gs hs
+    go : OneGoesOn (s ∷ seen) f.0.before f.0.here → Begins gs hs
     go (inl (more, longer)) =
         let first = named_first l (s ∷ seen) more trees f.0.geometries allowed named
         (subst (λ r. Named l r f.0.geometries) longer f.0.named) in
-        (first.in_complete.0, f.1 ∙ first.in_complete.1 ∙ ap (λ ks. ks ++ first.in_complete.0) (sym e))
+        (first.0, f.1 ∙ first.1 ∙ ap (λ ks. ks ++ first.0) (sym e))
     go (inr (more, longer)) =
         let front = table_front l (f.0.before ++ f.0.here ∷ []) more trees
         (never_none f.0.before f.0.here) (subst (λ r. Named l r trees) longer named) in
@@ -277,7 +251,7 @@ ready_complete l text records (s ∷ seen) number reason trees gs hs allowed all
 ready_packed : (style : Style) (l : Allowance) (text : List ℕ) (records : List Record)
     (gs : List Tree) (bytes : List ℕ) → IsAllowance l → AreRecordsOf text records
     → MayBeWritten l (Some text) gs → PackTo style l records bytes
-    → (hs : List Tree) × (bytes ≡ canonical_stream style hs) × BeginTrees gs hs
+    → (hs : List Tree) × (bytes ≡ canonical_stream style hs) × Begins gs hs
 ready_packed style l text records gs bytes allowed all may (inl (hs, named, e)) = (
   hs,
   e,
@@ -314,23 +288,17 @@ pack_front style l text written bytes allowed f (records, all, packs) =
 -- blobs before bytes with a fault are the first of those before the fault
 blobs_first : (l : Allowance) (a b x y : List ℕ) (gs hs : List Tree) (within : ℕ) (reason : Reason)
     → Stream l a gs → Stream l b hs → FirstFault l y within reason → a ++ x ≡ b ++ y
-    → BeginTrees gs hs
-blobs_first l a b x y [] hs within reason s t f e = (hs, refl)
-blobs_first l a b x y (g ∷ gs) [] within reason s t f e =
-    let whole : y ≡ s.0 ++ (s.1 ++ x) = ap (λ k. k ++ y) (sym t)
-    ∙ (sym e ∙ (ap (λ k. k ++ x) s.2 ∙ append_assoc s.0 s.1 x)) in
-    absurd (no_fault l y (s.1 ++ x) g within reason (record { front = s.0; whole = whole; blob = s.3 }) f.fault)
-blobs_first l a b x y (g ∷ gs) (h ∷ hs) within reason s t f e =
-    let whole : s.0 ++ (s.1 ++ x) ≡ t.0 ++ (t.1 ++ y) = sym (append_assoc s.0 s.1 x)
-    ∙ (ap (λ k. k ++ x) (sym s.2) ∙ (e ∙ (ap (λ k. k ++ y) t.2 ∙ append_assoc t.0 t.1 y))) in
-    let one = one_blob_lem l s.0 t.0 (s.1 ++ x) (t.1 ++ y) g h s.3 t.3 whole in
-    let rest = blobs_first l s.1 t.1 x y gs hs within reason s.4 t.4 f
-    (peel s.0 t.0 (s.1 ++ x) (t.1 ++ y) one.1 whole) in
-    (rest.0, ap (λ k. h ∷ k) rest.1 ∙ ap (λ k. k ∷ (gs ++ rest.0)) (sym one.0))
+    → Begins gs hs
+blobs_first l a b x y gs hs within reason s t f e =
+    let (bs, located, are) = some_located_stream l 0 a gs s in
+    let (cs, others, same) = some_located_stream l 0 b hs t in
+    let first = located_first l 0 a b x y bs cs located others (fault_no_blob l y within reason f) e in
+    (geometries_of first.0, sym same ∙ ap geometries_of first.1
+    ∙ map-append (λ (c : Located). c.geometry) bs first.0 ∙ ap (λ ks. ks ++ geometries_of first.0) are)
 
 blobs_unpacked : (l : Allowance) (all bytes rest : List ℕ) (gs : List Tree) (text : List ℕ)
     → all ≡ bytes ++ rest → Stream l bytes gs → UnpackTo l all text → (hs : List Tree)
-    × (text ≡ table_text hs) × BeginTrees gs hs
+    × (text ≡ table_text hs) × Begins gs hs
 blobs_unpacked l all bytes rest gs text whole s (inl (hs, t, e)) = let behind = behind_stream l
     bytes rest gs hs s (subst (λ k. Stream l k hs) whole t) in (hs, e, (behind.0, behind.1))
 blobs_unpacked l all bytes rest gs text whole s (inr (offset, reason, hs, f, e)) = (

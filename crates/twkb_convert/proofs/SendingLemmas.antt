@@ -46,28 +46,6 @@ use Rattle.twkb_convert.proofs.FlushLemmas.{flushes_before, kept_last, ok_before
 
 -- ==== The work of geometries, one after another.
 
--- ---- one geometry
-
--- the work of measuring and writing a geometry
-pub adds_work : (g : Tree) (flat_rows : List Row) (sizes : List Entry) (old mid new : Work)
-    → rows 0 g ≡ flat_rows → length (rows 0 g) ≡ nodes g → row_points (rows 0 g) ≡ flat g
-    → length sizes ≡ geometries g
-    → Counted old (length (row_points flat_rows)) (length flat_rows) (length sizes) mid
-    → Reads mid (2 * length flat_rows) (length (row_points flat_rows)) new → AddsWork g old new
-adds_work g flat_rows sizes old mid new same of_nodes of_points entry_count counted reads =
-    let node_count : length flat_rows ≡ nodes g = ap length (sym same) ∙ of_nodes in
-    let point_count : length (row_points flat_rows) ≡ points g = ap (λ rs. length (row_points rs))
-    (sym same) ∙ ap length of_points in
-    record {
-      more_points = reads.same_points ∙ counted.more_points ∙ ap (λ n. saturated (old.points + n)) point_count;
-      more_nodes = reads.same_nodes ∙ counted.more_nodes ∙ ap (λ n. saturated (old.nodes + n)) node_count;
-      more_entries = reads.same_entries ∙ counted.more_entries ∙ ap (λ n. saturated (old.entries + n)) entry_count;
-      point_reads = (let a = counted.point_reads in let b = reads.point_reads in omega (arith, a, b, point_count));
-      node_reads = (let a = counted.node_reads in let b = reads.node_reads in omega (arith, a, b, node_count));
-    }
-
--- ---- all geometries
-
 total-last : (count : Tree → ℕ) (gs : List Tree) (g : Tree) → total count (gs ++ g ∷ []) ≡ total count gs + count g
 total-last count [] g = omega arith
 total-last count (h ∷ gs) g = omega (arith, total-last count gs g)
@@ -93,13 +71,6 @@ work_more gs g old new before adds = record {
   point_reads = (let a = before.point_reads in let b = adds.point_reads in omega (arith, a, b, total-last points gs g));
   node_reads = (let a = before.node_reads in let b = adds.node_reads in omega (arith, a, b, total-last nodes gs g));
 }
-
--- the reads are at most a multiple of the sum, even if it was capped
-pub read_twice : (reads sum all : ℕ) → reads < 2 ^ 64 → sum ≡ saturated all → reads ≤ 2 * all → reads ≤ 2 * sum
-read_twice reads sum all fits stopped within = omega arith
-
-pub read_thrice : (reads sum all : ℕ) → reads < 2 ^ 64 → sum ≡ saturated all → reads ≤ 3 * all → reads ≤ 3 * sum
-read_thrice reads sum all fits stopped within = omega arith
 
 -- ==== The sending of a table, up to each place where it ends.
 
@@ -158,13 +129,13 @@ stream_long style (g ∷ gs) = omega (
   stream_long style gs,
 )
 
-module _ {R W : Type 0} (style : Style) (l : Allowance) (remaining : R → Option (List ℕ))
-    (contents : W → Option (List ℕ)) (told : Option (List ℕ)) where
+module _ {R W : Type 0} {style : Style} {l : Allowance} {remaining : R → Option (List ℕ)}
+    {contents : W → Option (List ℕ)} {told : Option (List ℕ)} where
   -- no geometry was sent yet
-  pub sent_none : (from : TableReader R) (old : Output W) (work : Work) → work ≡ no_work → is_spent old ≡ false
+  pub sent_none : {from : TableReader R} {old : Output W} {work : Work} → work ≡ no_work → is_spent old ≡ false
       → sent_of old ≡ 0 → StandsAfter l remaining told [] [] from
       → SentSoFar style l remaining contents told from old old (record { geometries = 0; work = work })
-  sent_none from old work idle fresh unsent stands = record {
+  sent_none {old = old} idle fresh unsent stands = record {
     records = [];
     geometries = [];
     stands = stands;
@@ -181,15 +152,15 @@ module _ {R W : Type 0} (style : Style) (l : Allowance) (remaining : R → Optio
     unsent = unsent;
   }
 
-  module _ (from : TableReader R) (old mid : Output W) (before after : Sent)
-      (s : SentSoFar style l remaining contents told from old mid before) where
+  module _ {from : TableReader R} {old mid : Output W} {before : Sent}
+      (s : SentSoFar style l remaining contents told from old mid before) (after : Sent) where
     -- one more geometry was sent
-    pub sent_more : (to : TableReader R) (new : Output W) (rows : List Row)
+    pub sent_more : {to : TableReader R} {new : Output W} {rows : List Row}
         (gives : GivesNext l remaining told s.records s.geometries rows to)
         → after.geometries ≡ before.geometries + 1
         → WritesBlob style contents gives.geometry mid before.work new after.work
         → SentSoFar style l remaining contents told to old new after
-    sent_more to new rows gives more writes = record {
+    sent_more {new = new} gives more writes = record {
       records = gives.seen;
       geometries = s.geometries ++ gives.geometry ∷ [];
       stands = gives.stands;
@@ -211,13 +182,12 @@ module _ {R W : Type 0} (style : Style) (l : Allowance) (remaining : R → Optio
         later = [];
         front = [];
         rest = [];
-        ready = subst (λ gs. MayBeWritten l told gs) (sym (append-nil s.geometries))
-            (ready_after l remaining told s.records s.geometries from s.stands);
+        ready = rw append-nil (ready_after l remaining told s.records s.geometries from s.stands);
         cut = refl;
         bytes = sym (append-nil (canonical_stream style s.geometries));
       };
       one = inl refl;
-      leaves = leaves_took contents old mid _ answer s.fresh quiet s.took;
+      leaves = leaves_took answer s.took s.fresh quiet;
       count = same ∙ s.count;
       ends = ends;
     }
@@ -253,11 +223,11 @@ module _ {R W : Type 0} (style : Style) (l : Allowance) (remaining : R → Optio
     cut_ends given _ later front long unspent = tt
 
     -- the output refused a prefix of the next blob
-    pub ends_cut : (to : TableReader R) (new : Output W) (given : ℕ) (f : OutFault) (rows : List Row)
+    pub ends_cut : {to : TableReader R} {new : Output W} {f : OutFault} {rows : List Row} (given : ℕ)
         (gives : GivesNext l remaining told s.records s.geometries rows to)
         → after.geometries ≡ before.geometries → Cut contents mid (canonical_blob style gives.geometry) f new
         → SendsTable style l contents told given old new after (Err (cause_of_output f))
-    ends_cut to new given f rows gives same cut =
+    ends_cut {to = to} {new = new} {f = f} given gives same cut =
         let fresh : is_spent mid ≡ false = s.took.spent ∙ s.fresh in
         record {
           bytes = canonical_stream style s.geometries ++ cut.front;
@@ -271,8 +241,7 @@ module _ {R W : Type 0} (style : Style) (l : Allowance) (remaining : R → Optio
             bytes = refl;
           };
           one = inr (gives.geometry, refl, cut.left fresh);
-          leaves = leaves_refused contents old new _ f
-              (refused_join contents old mid new _ cut.front f s.took cut.refused);
+          leaves = leaves_refused (refused_join contents old mid new _ cut.front f s.took cut.refused);
           count = same ∙ s.count;
           ends = cut_ends given f (gives.geometry ∷ []) cut.front
               (λ far. (let most = cut.too_long far in let sent = s.took.sends.sent in
@@ -288,24 +257,20 @@ module _ {R W : Type 0} (style : Style) (l : Allowance) (remaining : R → Optio
         }
 
     -- the blob of the next geometry was not sent whole
-    pub ends_blob : (to : TableReader R) (new : Output W) (given : ℕ) (why : Cause) (rows : List Row)
+    pub ends_blob : {to : TableReader R} {new : Output W} {why : Cause} {rows : List Row} (given : ℕ)
         (gives : GivesNext l remaining told s.records s.geometries rows to)
         → after.geometries ≡ before.geometries → CutsBlob style contents gives.geometry mid why new
         → SendsTable style l contents told given old new after (Err why)
-    ends_blob to new given why rows gives same (inl (memory, unsent)) =
-        subst (λ o. SendsTable style l contents told given old o after (Err why)) (sym unsent)
-        (subst (λ w. SendsTable style l contents told given old mid after (Err w)) (sym memory)
-        (ends_fault given table_fault.Memory same tt))
-    ends_blob to new given why rows gives same (inr (f, is, cut)) =
-        subst (λ w. SendsTable style l contents told given old new after (Err w)) (sym is)
-        (ends_cut to new given f rows gives same cut)
+    ends_blob given gives same (inl (memory, unsent)) =
+        rw (unsent, memory) (ends_fault given table_fault.Memory same tt)
+    ends_blob given gives same (inr (f, is, cut)) = rw is (ends_cut given gives same cut)
 
-  module _ (from : TableReader R) (old mid : Output W) (sent : Sent)
+  module _ {from : TableReader R} {old mid : Output W} {sent : Sent}
       (s : SentSoFar style l remaining contents told from old mid sent) where
     -- the table was read to its end
-    pub ends_table : (to : TableReader R) (given : ℕ) → MeetsEnd l remaining told s.records s.geometries to
+    pub ends_table : {to : TableReader R} (given : ℕ) → MeetsEnd l remaining told s.records s.geometries to
         → SendsTable style l contents told given old mid sent (Ok tt)
-    ends_table to given meets = sent_whole from old mid sent sent s given (Ok tt) refl refl (record {
+    ends_table given meets = sent_whole s sent given (Ok tt) refl refl (record {
       table = record {
         records = meets.seen;
         geometries = s.geometries;
@@ -322,7 +287,7 @@ module _ {R W : Type 0} (style : Style) (l : Allowance) (remaining : R → Optio
     -- more geometries than can be counted have more bytes than can be sent
     pub ends_uncounted : (given : ℕ) → MAX_BYTES < sent.geometries
         → SendsTable style l contents told given old mid sent (Err cause.TooLong)
-    ends_uncounted given many = sent_whole from old mid sent sent s given (Err cause.TooLong) refl refl
+    ends_uncounted given many = sent_whole s sent given (Err cause.TooLong) refl refl
         (inl (let c = s.count in omega (
           arith,
           many,
@@ -339,8 +304,8 @@ drained left given (Ok sent) (Ok done) drains = drains
 drained left given (Ok sent) (Err why) drains = tt
 drained left given (Err why) answer drains = subst (λ a. OnOk a (IsAtEnd left)) (sym drains) tt
 
-module _ {W : Type 0} (style : Style) (l : Allowance) (contents : W → Option (List ℕ)) (told : Option (List ℕ))
-    (given : ℕ) (old mid : Output W) (sent : Sent) where
+module _ {W : Type 0} {style : Style} {l : Allowance} {contents : W → Option (List ℕ)} {told : Option (List ℕ)}
+    {given : ℕ} {old mid : Output W} {sent : Sent} where
   -- the whole table was sent, and the reader was not read to its end
   undrained : (why : Cause) → is_write {A = Unit {0}} (Err why) ≡ false
       → (s : SendsTable style l contents told given old mid sent (Ok tt))
@@ -366,11 +331,9 @@ module _ {W : Type 0} (style : Style) (l : Allowance) (contents : W → Option (
       → SendsTable style l contents told given old mid sent answer
   sends_drained left (Ok all) (Ok end) drains s = s
   sends_drained left (Ok all) (Err why) (inl is) s =
-      subst (λ c. SendsTable style l contents told given old mid sent (Err c)) (sym is)
-      (undrained cause.ReadDevice refl s (s.ends.no_later, s.ends.no_front))
+      rw is (undrained cause.ReadDevice refl s (s.ends.no_later, s.ends.no_front))
   sends_drained left (Ok all) (Err why) (inr (is, many)) s =
-      subst (λ c. SendsTable style l contents told given old mid sent (Err c)) (sym is)
-      (undrained cause.TooLong refl s (inr (
+      rw is (undrained cause.TooLong refl s (inr (
         s.ends.no_later,
         s.ends.no_front,
         (
@@ -380,15 +343,14 @@ module _ {W : Type 0} (style : Style) (l : Allowance) (contents : W → Option (
         ),
         many,
       )))
-  sends_drained left (Err why) answer drains s =
-      subst (λ a. SendsTable style l contents told given old mid sent a) (sym drains) s
+  sends_drained left (Err why) answer drains s = rw drains s
 
   -- what was sent, after the flush
-  pub sends_last : (new : Output W) (answer last : Result (Unit {0}) Cause) → Flushes contents mid answer new last
-      → SendsTable style l contents told given old mid sent answer
+  pub sends_last : {new : Output W} {answer last : Result (Unit {0}) Cause}
+      → SendsTable style l contents told given old mid sent answer → Flushes contents mid answer new last
       → SendsTable style l contents told given old new sent last
-  sends_last new answer last flushes s =
-      let after = leaves_last contents old mid new s.bytes answer last s.leaves flushes in
+  sends_last {answer = answer} {last = last} s flushes =
+      let after = leaves_last s.leaves flushes in
       record {
         bytes = s.bytes;
         part = s.part;
@@ -400,10 +362,8 @@ module _ {W : Type 0} (style : Style) (l : Allowance) (contents : W → Option (
     where
       ends : (last ≡ answer) ⊎ (last ≡ Err cause.WriteDevice)
           → Ends style l told given sent.work s.part.whole s.part.later s.part.front last
-      ends (inl same) = subst (Ends style l told given sent.work s.part.whole s.part.later s.part.front) (sym same)
-          s.ends
-      ends (inr write) = subst (Ends style l told given sent.work s.part.whole s.part.later s.part.front) (sym write)
-          tt
+      ends (inl same) = rw same s.ends
+      ends (inr write) = rw write tt
 
 -- ==== From an output to the result that a conversion's caller sees.
 
@@ -451,18 +411,17 @@ changes_as before after first last was is = subst (λ n. Changes (not (eqb after
     (subst (λ n. Changes (not (eqb after before)) n after) was (changes_by before after))
 
 -- what is flushed at the end
-module _ {W : Type 0} (contents : W → Option (List ℕ)) (mid new : Output W) (written : Tap W) (failed : Bool)
-    (geometries : ℕ) (drained : Result (Unit {0}) Cause) (report : Result Report ConvertFault)
-    (closes : (output_tap new).now ≡ written)
+module _ {W : Type 0} {contents : W → Option (List ℕ)} {mid new : Output W} {geometries : ℕ}
+    {report : Result Report ConvertFault} (failed : Bool) (drained : Result (Unit {0}) Cause)
     (finishes : Finishes contents mid geometries (after_reads failed drained) new report)
-    (unspent : UnlessRefused drained (is_spent mid ≡ false)) where
+    (unspent : UnlessRefused drained (is_spent mid ≡ false)) (written : Tap W)
+    (closes : (output_tap new).now ≡ written) where
   flushes : (answer : Result (Unit {0}) Cause) × Flushes contents mid drained new answer
       × (finishes.answer ≡ after_reads failed answer)
-  flushes = flushes_before contents failed mid new drained finishes.answer finishes.flushes
+  flushes = flushes_before failed drained finishes.flushes
 
   held : UnlessRefused flushes.0 (has_unflushed written ≡ false)
-  held = subst (λ t. UnlessRefused flushes.0 (has_unflushed t ≡ false)) closes
-      (flushed_last contents mid new drained flushes.0 unspent flushes.1)
+  held = subst (λ t. UnlessRefused flushes.0 (has_unflushed t ≡ false)) closes (flushed_last flushes.1 unspent)
 
   pub flushed_ok : (done : Report) → report ≡ Ok done → has_unflushed written ≡ false
   flushed_ok done is =
@@ -477,21 +436,21 @@ module _ {W : Type 0} (contents : W → Option (List ℕ)) (mid new : Output W) 
       flushed_after failed flushes.0 fault.cause (has_unflushed written ≡ false) (sym stops ∙ flushes.2) held
       no_write no_read no_length
 
-module _ {R W : Type 0} (style : Style) (l : Allowance) (remaining : R → Option (List ℕ))
-    (contents : W → Option (List ℕ)) (reader read : Tap R) (writer written : Tap W) (old mid new : Output W)
-    (failed : Bool) (sent : Sent) (drained : Result (Unit {0}) Cause) (report : Result Report ConvertFault)
-    (borrowed : (output_tap old).now ≡ writer) (closes : (output_tap new).now ≡ written) (none : sent_of old ≡ 0)
+module _ {R W : Type 0} {style : Style} {l : Allowance} {contents : W → Option (List ℕ)} {old mid new : Output W}
+    {sent : Sent} {report : Result Report ConvertFault} (remaining : R → Option (List ℕ)) (reader read : Tap R)
+    (writer written : Tap W) (failed : Bool) (drained : Result (Unit {0}) Cause)
     (changes : Changes failed (failures_of reader) (failures_of read))
     (end : OnOk drained (IsAtEnd (remaining (device_of read))))
     (finishes : Finishes contents mid sent.geometries (after_reads failed drained) new report)
-    (sends : SendsTable style l contents (remaining (device_of reader)) (bytes_given read) old mid sent drained) where
+    (sends : SendsTable style l contents (remaining (device_of reader)) (bytes_given read) old mid sent drained)
+    (borrowed : (output_tap old).now ≡ writer) (closes : (output_tap new).now ≡ written) (none : sent_of old ≡ 0)
+    where
   flushed : (answer : Result (Unit {0}) Cause) × Flushes contents mid drained new answer
       × (finishes.answer ≡ after_reads failed answer)
-  flushed = flushes_before contents failed mid new drained finishes.answer finishes.flushes
+  flushed = flushes_before failed drained finishes.flushes
 
   s : SendsTable style l contents (remaining (device_of reader)) (bytes_given read) old new sent flushed.0
-  s = sends_last style l contents (remaining (device_of reader)) (bytes_given read) old mid sent new drained
-      flushed.0 flushed.1 sends
+  s = sends_last sends flushed.1
 
   told : Tells style l (remaining (device_of reader)) (bytes_given read) sent.work s.part.whole s.part.later
       s.part.front failed flushed.0 finishes.answer
@@ -527,16 +486,13 @@ module _ {R W : Type 0} (style : Style) (l : Allowance) (remaining : R → Optio
           count = ap (λ (r : Report). r.geometries) same ∙ s.count ∙ ap length (sym ends.same);
           bytes = (let more = s.leaves.sends.sent in let total = ap (λ (r : Report). r.bytes) same in
               omega (arith, total, more, none, ap length stream));
-          end = kept_last contents mid new drained flushed.0 tt (IsAtEnd (remaining (device_of read))) flushed.1 end
-              all;
+          end = kept_last tt (IsAtEnd (remaining (device_of read))) flushed.1 end all;
           reads = subst (λ f. Changes f (failures_of reader) (failures_of read)) quiet changes;
           writes = subst (λ a. failures_of written ≡ count_failure (is_write a) (failures_of writer)) all writes;
         };
         work_of = subst (λ gs. IsWorkOf gs sent.work) (sym ends.same) ends.work_of;
-        point_reads = read_twice sent.work.point_reads sent.work.points _ few_points
-            ends.work_of.all_points ends.work_of.point_reads;
-        node_reads = read_thrice sent.work.node_reads sent.work.nodes _ few_nodes
-            ends.work_of.all_nodes ends.work_of.node_reads;
+        point_reads = omega (arith, few_points, ends.work_of.all_points, ends.work_of.point_reads);
+        node_reads = omega (arith, few_nodes, ends.work_of.all_nodes, ends.work_of.node_reads);
       }
 
   -- not the whole table was sent, the flush failed, or a read failed
@@ -602,9 +558,8 @@ point_work p q old new m = record {
 
 -- ---- its blob
 
-module _ {R W : Type 0} (style : Style) (l : Allowance) (remaining : R → Option (List ℕ))
-    (contents : W → Option (List ℕ)) (told : Option (List ℕ)) (records : List Record) (given : List Tree)
-    (p : ℤ) (q : Point) (to : TableReader R) (old new : Output W)
+module _ {R : Type 0} {l : Allowance} {remaining : R → Option (List ℕ)} {told : Option (List ℕ)}
+    {records : List Record} {given : List Tree} {p : ℤ} {q : Point} {to : TableReader R}
     (gives : GivesNext l remaining told records given (point_row p q ∷ []) to) where
   -- the geometry is the point
   is_point : gives.geometry ≡ one_point p q
@@ -614,17 +569,16 @@ module _ {R W : Type 0} (style : Style) (l : Allowance) (remaining : R → Optio
   precise = (subst IsTree is_point gives.valid.tree).0
 
   -- the point was sent
-  pub writes_point : (before after : Work)
-      → (IsPrecision p → Took contents old (canonical_blob style (one_point p q)) new)
+  pub writes_point : {W : Type 0} {style : Style} {contents : W → Option (List ℕ)} {old new : Output W}
+      {before after : Work} → (IsPrecision p → Took contents old (canonical_blob style (one_point p q)) new)
       → Measures before 1 1 1 after → WritesBlob style contents gives.geometry old before new after
-  writes_point before after took measures = record {
-    took = subst (λ (g : Tree). Took contents old (canonical_blob style g) new) (sym is_point) (took precise);
-    work = subst (λ (g : Tree). AddsWork g before after) (sym is_point) (point_work p q before after measures);
-  }
+  writes_point {before = before} {after = after} took measures = rw is_point (record {
+    took = took precise;
+    work = point_work p q before after measures;
+  })
 
   -- the output refused a prefix of the point's blob
-  pub cuts_point : (fault : OutFault)
-      → (IsPrecision p → Cut contents old (canonical_blob style (one_point p q)) fault new)
+  pub cuts_point : {W : Type 0} {contents : W → Option (List ℕ)} {old new : Output W} {fault : OutFault}
+      (style : Style) → (IsPrecision p → Cut contents old (canonical_blob style (one_point p q)) fault new)
       → Cut contents old (canonical_blob style gives.geometry) fault new
-  cuts_point fault cut = subst (λ (g : Tree). Cut contents old (canonical_blob style g) fault new) (sym is_point)
-      (cut precise)
+  cuts_point style cut = rw is_point (cut precise)

@@ -2,7 +2,7 @@
 use Rattle.twkb_convert.proofs.Prelude.{◌⊎◌, ◌≡◌, ◌∙◌, ◌+◌, ℕ, List, [], ◌∷◌, ◌++◌, length, Some, ap, arith, refl}
 use Rattle.twkb_convert.proofs.Prelude.{sym, subst, inl, inr, length-append, append_assoc, append-nil}
 use Rattle.twkb_convert.proofs.Prelude.{flat_map-append, BeginsWith, Tree, Allowance, IsAllowance, AreBytes, Blob}
-use Rattle.twkb_convert.proofs.Prelude.{Stream, Reason, StreamFault, spans_of_blob, Span, Located, span_lines}
+use Rattle.twkb_convert.proofs.Prelude.{Stream, FirstFault, Reason, StreamFault, spans_of_blob, Span, Located, span_lines}
 use Rattle.twkb_convert.proofs.Prelude.{LocatedStream, ShowTo, TellsSpans, geometries_of, lines_text}
 use Rattle.twkb_grammar.proofs.Parts.{one_blob_lem, peel}
 use Rattle.twkb_grammar.proofs.OneFault.{no_fault}
@@ -37,14 +37,20 @@ NoBlob l bytes = (g : Tree) (front rest : List ℕ) → bytes ≡ front ++ rest 
 nothing_no_blob : (l : Allowance) → NoBlob l []
 nothing_no_blob l g front rest e b = omega (arith, blob_long l front g b, ap length e, length-append front rest)
 
--- the list begins with these blobs
-abbrev BeginBlobs : List Located → List Located → Type 0
-BeginBlobs bs cs = (more : List Located) × (cs ≡ bs ++ more)
+-- bytes with a first fault begin with no blob
+pub fault_no_blob : (l : Allowance) (bytes : List ℕ) (within : ℕ) (reason : Reason)
+    → FirstFault l bytes within reason → NoBlob l bytes
+fault_no_blob l bytes within reason f g front rest cut blob =
+    no_fault l bytes rest g within reason (record { front = front; whole = cut; blob = blob }) f.fault
+
+-- the list begins with these
+abbrev pub Begins : {A : Type 0} → List A → List A → Type 0
+Begins {A} xs ys = (more : List A) × (ys ≡ xs ++ more)
 
 -- the blobs with which some bytes begin are the first of all blobs with which they begin
-located_first : (l : Allowance) (offset : ℕ) (a b x y : List ℕ) (bs cs : List Located)
+pub located_first : (l : Allowance) (offset : ℕ) (a b x y : List ℕ) (bs cs : List Located)
     → LocatedStream l offset a bs → LocatedStream l offset b cs → NoBlob l y → a ++ x ≡ b ++ y
-    → BeginBlobs bs cs
+    → Begins bs cs
 located_first l offset a b x y [] cs s t none e = (cs, refl)
 located_first l offset a b x y (p ∷ bs) [] s t none e =
     let whole : y ≡ s.0 ++ (s.1 ++ x) = ap (λ k. k ++ y) (sym t)
@@ -62,12 +68,16 @@ located_first l offset a b x y (p ∷ bs) (q ∷ cs) s t none e =
           (sym (one_located l offset s.0 t.0 p q s.3 t.3 one.1 one.0)),
     )
 
-each_other : (bs cs : List Located) → BeginBlobs bs cs → BeginBlobs cs bs → bs ≡ cs
-each_other bs cs ([], e) second = sym (e ∙ append-nil bs)
-each_other bs cs (p ∷ more, e) second =
-    absurd (let fewer : length bs ≡ length cs + length second.0 = ap length second.1
-    ∙ length-append cs second.0 in
-    omega (arith, ap length e, length-append bs (p ∷ more), fewer))
+-- lists that begin with each other are equal
+pub each_other : {A : Type 0} (xs ys : List A) → Begins xs ys → Begins ys xs → xs ≡ ys
+each_other xs ys ([], e) second = sym (e ∙ append-nil xs)
+each_other xs ys (p ∷ more, e) second = absurd (omega (
+  arith,
+  ap length e,
+  ap length second.1,
+  length-append xs (p ∷ more),
+  length-append ys second.0,
+))
 
 pub one_located_stream : (l : Allowance) (offset : ℕ) (bytes : List ℕ) (bs cs : List Located)
     → LocatedStream l offset bytes bs → LocatedStream l offset bytes cs → bs ≡ cs
@@ -122,8 +132,7 @@ shows_all l bytes text (inr (offset, reason, bs, f, (front, rest, whole, blobs),
   front = f.front;
   rest = f.rest;
   whole = f.whole;
-  none = λ g first others cut blob. no_fault l f.rest others g f.within reason
-      (record { front = first; whole = cut; blob = blob }) f.first.fault;
+  none = fault_no_blob l f.rest f.within reason f.first;
   found = bs;
   blobs = subst (λ k. LocatedStream l 0 k bs) (one_front l front f.front rest f.rest
       (geometries_of bs) (located-stream l 0 front bs blobs) f.blobs (sym whole ∙ f.whole)) blobs;
@@ -133,7 +142,7 @@ shows_all l bytes text (inr (offset, reason, bs, f, (front, rest, whole, blobs),
 -- blobs with which the bytes begin are the first of those that are shown
 begins_all : (l : Allowance) (all bytes rest text : List ℕ) (bs : List Located)
     → all ≡ bytes ++ rest → LocatedStream l 0 bytes bs → (s : ShowsAll l all text)
-    → BeginBlobs bs s.found
+    → Begins bs s.found
 begins_all l all bytes rest text bs whole blobs s = located_first l 0 bytes s.front rest s.rest bs
     s.found blobs s.blobs s.none (sym whole ∙ s.whole)
 

@@ -9,48 +9,41 @@ pub returns-in_err-put : goal.returns-in_err-put
 returns-in_err-put g c =
     let p = err_from_is_err_and c.from_residual.result c.from_residual.ensures.1 in
     rw (p.1, p.2) (record {
-      lists = lists_none g.T.BlobText.layout g.W.Write.contents _ _ _ _ _ _ c.requires.none c.first_line.ensures.text
-          c.requires.fresh c.in_err-put.ensures.cut;
+      lists = lists_none c.requires.none c.first_line.ensures.text c.requires.fresh c.in_err-put.ensures.cut;
     })
 
 pub loop-output-init : goal.loop-output-init
-loop-output-init g c = sent_first g.T.BlobText.layout g.W.Write.contents _ _ _ _ c.requires.none c.requires.fresh
+loop-output-init g c = sent_first c.requires.none c.requires.fresh
     (subst (λ text. Took g.W.Write.contents c.args.output.now text c.put.new.self) c.first_line.ensures.text
     c.in_ok-put.ensures.ok)
 
 pub returns-in_err-read_next : goal.returns-in_err-read_next
 returns-in_err-read_next g c =
     let p = err_from_is_err_and c.from_residual-in_err-read_next.result c.from_residual-in_err-read_next.ensures.1 in
-    rw (p.1, p.2) (record {
-      lists = lists_up_to g.T.BlobText.layout g.W.Write.contents _ _ _ _ _ _ _ c.loop-output.invariant
-          c.in_err-read_next.ensures.reads;
-    })
+    rw (p.1, p.2) (record { lists = lists_up_to c.loop-output.invariant c.in_err-read_next.ensures.reads })
 
 pub returns-in_err-put-2 : goal.returns-in_err-put-2
 returns-in_err-put-2 g c =
     let found : c.in_ok-read_next.field-0 ≡ true = search rules in
     let p = err_from_is_err_and c.from_residual-in_err-put-2.result c.from_residual-in_err-put-2.ensures.1 in
     rw (p.1, p.2) (record {
-      lists = lists_cut g.T.BlobText.layout g.W.Write.contents _ _ _ _ _ _ _ _ _ c.requires.fresh.unsent
-          c.loop-output.invariant (rw found at c.in_ok-read_next.ensures.reads)
+      lists = lists_cut c.loop-output.invariant c.requires.fresh.unsent
+          (rw found at c.in_ok-read_next.ensures.reads)
           (rw c.as_slice.ensures.value at c.in_err-put-2.ensures.cut);
     })
 
 pub loop-output-smaller : goal.loop-output-smaller
 loop-output-smaller g c =
     let found : c.in_ok-read_next.field-0 ≡ true = search rules in
-    fewer_left g.T.BlobText.layout _ _ _ (rw found at c.in_ok-read_next.ensures.reads)
+    fewer_left (rw found at c.in_ok-read_next.ensures.reads)
 
 pub loop-output-preserved : goal.loop-output-preserved
 loop-output-preserved g c =
     let found : c.in_ok-read_next.field-0 ≡ true = search rules in
-    sent_more g.T.BlobText.layout g.W.Write.contents _ _ _ _ _ _ _ _ c.loop-output.invariant
-    (rw found at c.in_ok-read_next.ensures.reads) (rw c.as_slice.ensures.value at c.in_ok-put-2.ensures.ok)
+    sent_more c.loop-output.invariant (rw found at c.in_ok-read_next.ensures.reads)
+    (rw c.as_slice.ensures.value at c.in_ok-put-2.ensures.ok)
 
 pub returns : goal.returns
 returns g c =
     let none : c.in_ok-read_next.field-0 ≡ false = search rules in
-    record {
-      lists = lists_all g.T.BlobText.layout g.W.Write.contents _ _ _ _ _ _ c.loop-output.invariant
-          (rw none at c.in_ok-read_next.ensures.reads);
-    }
+    record { lists = lists_all c.loop-output.invariant (rw none at c.in_ok-read_next.ensures.reads) }

@@ -11,7 +11,7 @@ returns-in_err-found g c =
     rw (p.1, p.2) (record {
       sends = λ l told given first s.
           let so = c.loop-sent.invariant.sends l told first s in
-          ends_fault c.args.style l g.R.Read.remaining g.W.Write.contents told _ _ _ _ _ so given _ refl
+          ends_fault so _ given _ refl
           (c.in_err-found.ensures.fault l told so.records so.geometries so.stands);
     })
 
@@ -25,9 +25,8 @@ returns-in_err-write_point g c =
           let gives = (rw c.in-Some.is at c.in_ok-found.ensures.gives) l told so.records so.geometries so.stands in
           let range : SFits w8 c.in-Some.found.0 = search rules in
           let cut = simp (to_z-of_z w8 c.in-Some.found.0 range) at c.in_err-write_point.ensures.err in
-          ends_cut c.args.style l g.R.Read.remaining g.W.Write.contents told _ _ _ _ _ so _ _ given _ _ gives refl
-          (cuts_point c.args.style l g.R.Read.remaining g.W.Write.contents told _ _ _ _ _ _ _ gives _
-          (λ fits. cut_front g.W.Write.contents _ _ _ _ (cut fits)));
+          ends_cut so _ given gives refl
+          (cuts_point gives c.args.style (λ fits. cut_front g.W.Write.contents _ _ _ _ (cut fits)));
     })
 
 pub loop-sent-preserved : goal.loop-sent-preserved
@@ -38,14 +37,11 @@ loop-sent-preserved g c = record {
       let gives = (rw c.in-Some.is at c.in_ok-found.ensures.gives) l told so.records so.geometries so.stands in
       let range : SFits w8 c.in-Some.found.0 = search rules in
       let took = simp (to_z-of_z w8 c.in-Some.found.0 range) at c.in_ok-write_point.ensures.ok in
-      sent_more c.args.style l g.R.Read.remaining g.W.Write.contents told _ _ _ _ _ so _ _ _ gives refl
-      (writes_point c.args.style l g.R.Read.remaining g.W.Write.contents told _ _ _ _ _ _ _ gives _ _ took
-      c.write_point.ensures.work);
+      sent_more so _ gives refl (writes_point gives took c.write_point.ensures.work);
 }
 
 pub returns : goal.returns
 returns g c = record {
-  sends = λ l told given first s. ends_uncounted c.args.style l g.R.Read.remaining g.W.Write.contents told
-      c.loop-sent.table _ _ c.loop-sent.sent (c.loop-sent.invariant.sends l told first s) given
+  sends = λ l told given first s. ends_uncounted (c.loop-sent.invariant.sends l told first s) given
       (let all = c.loop-sent-test.false in omega (arith, all));
 }

@@ -16,7 +16,7 @@ returns-in_err-next_flat g c =
                 (w.in_ok-send_points.ensures.sends.2 l told first (c.loop-sent.invariant l told first s))
             | else-has_point w ↦ rw (w.table-is, w.output-is, w.sent-is) (c.loop-sent.invariant l told first s)
           ] in
-          ends_fault c.args.style l g.R.Read.remaining g.W.Write.contents told _ _ _ _ _ sent given _ refl
+          ends_fault sent _ given _ refl
           (c.in_err-next_flat.ensures.fault l told sent.records sent.geometries sent.stands);
     })
 
@@ -29,7 +29,7 @@ returns-then-not-branch g c = record {
             (w.in_ok-send_points.ensures.sends.2 l told first (c.loop-sent.invariant l told first s))
         | else-has_point w ↦ rw (w.table-is, w.output-is, w.sent-is) (c.loop-sent.invariant l told first s)
       ] in
-      ends_table c.args.style l g.R.Read.remaining g.W.Write.contents told _ _ _ _ sent _ given
+      ends_table sent given
       (c.in_ok-next_flat.ensures.ends (search rules) l told sent.records sent.geometries sent.stands);
 }
 
@@ -45,7 +45,7 @@ returns-in_err-write_blob g c =
             | else-has_point w ↦ rw (w.table-is, w.output-is, w.sent-is) (c.loop-sent.invariant l told first s)
           ] in
           let gives = c.in_ok-next_flat.ensures.gives (search rules) l told sent.records sent.geometries sent.stands in
-          ends_blob c.args.style l g.R.Read.remaining g.W.Write.contents told _ _ _ _ _ sent _ _ given _ _ gives refl
+          ends_blob sent _ given gives refl
           (c.in_err-write_blob.ensures.err gives.geometry gives.valid.tree gives.rows);
     })
 
@@ -58,12 +58,11 @@ loop-sent-preserved g c = λ l told first s.
       | else-has_point w ↦ rw (w.table-is, w.output-is, w.sent-is) (c.loop-sent.invariant l told first s)
     ] in
     let gives = c.in_ok-next_flat.ensures.gives (search rules) l told sent.records sent.geometries sent.stands in
-    sent_more c.args.style l g.R.Read.remaining g.W.Write.contents told _ _ _ _ _ sent _ _ _ gives refl
+    sent_more sent _ gives refl
     (c.in_ok-write_blob.ensures.ok gives.geometry gives.valid.tree gives.rows)
 
 pub returns : goal.returns
 returns g c = record {
-  ends = λ l told given first s. ends_uncounted c.args.style l g.R.Read.remaining g.W.Write.contents told
-      c.loop-sent.table _ _ c.loop-sent.sent (c.loop-sent.invariant l told first s) given
+  ends = λ l told given first s. ends_uncounted (c.loop-sent.invariant l told first s) given
       (let all = c.loop-sent-test.false in omega (arith, all));
 }
