@@ -64,9 +64,9 @@ IsNearest-more above below less whole more near = record {
 }
 
 -- a fraction that is at least a whole number is nearest to none below that
-pub nearest_from : (above below less least whole : ℕ) → 0 < below → less ≤ 1 → least * below ≤ above
-    → IsNearest above below less whole → least ≤ whole
-nearest_from above below less least whole some few large near = elim (cases_lt whole least) [
+pub nearest_from : {above below less whole : ℕ} (least : ℕ) → IsNearest above below less whole → 0 < below → less ≤ 1
+    → least * below ≤ above → least ≤ whole
+nearest_from {below = below} {whole = whole} least near some few large = elim (cases_lt whole least) [
   | inl fewer ↦
       let up : below * (whole + 1) ≤ below * least = mul-le-mul_left below (omega arith) in
       absurd (omega (arith, up, near.less_than_half_under))
@@ -74,15 +74,15 @@ nearest_from above below less least whole some few large near = elim (cases_lt w
 ]
 
 -- the halves below the nearest number are those that the fraction reaches
-pub half_before : (above below less size whole : ℕ) → IsNearest above below less size → whole < size
+pub half_before : {above below less size : ℕ} (whole : ℕ) → IsNearest above below less size → whole < size
     → (2 * whole + 1) * below + less ≤ 2 * above
-half_before above below less size whole near fewer =
+half_before {below = below} {size = size} whole near fewer =
     let up : below * (whole + 1) ≤ below * size = mul-le-mul_left below (omega arith) in
     omega (arith, up, near.at_most_half_over)
 
-pub before_half : (above below less size whole : ℕ) → IsNearest above below less size
+pub before_half : {above below less size : ℕ} (whole : ℕ) → IsNearest above below less size
     → (2 * whole + 1) * below + less ≤ 2 * above → whole < size
-before_half above below less size whole near half = elim (cases_lt whole size) [
+before_half {below = below} {size = size} whole near half = elim (cases_lt whole size) [
   | inl fewer ↦ fewer
   | inr most ↦
       let up : below * size ≤ below * whole = mul-le-mul_left below most in
@@ -173,8 +173,8 @@ pub far_product : (number factor below less : ℕ) → 0 < below → less ≤ 1
     → (number / below * factor ≤ COORDINATE_BOUND → ⊥)
     → (whole : ℕ) → IsNearest (number * factor) below less whole → COORDINATE_BOUND < whole
 far_product number factor below less some few beyond whole near =
-    let least = nearest_from (number * factor) below less (number / below * factor) whole some few
-    (omega (arith, split_product number factor below)) near in
+    let least = nearest_from (number / below * factor) near some few
+    (omega (arith, split_product number factor below)) in
     elim (cases_lt COORDINATE_BOUND whole) [
       | inl far ↦ far
       | inr within ↦ absurd (beyond (omega (arith, least)))
@@ -219,8 +219,8 @@ beyond_product number factor exponent less leading some large few whole near =
     let power : 2 ^ 11 ≤ 2 ^ (exponent - 1075) = power_more 11 (exponent - 1075) (omega arith) in
     let product = mul-le (2 ^ 52) (2 ^ 11) number (2 ^ (exponent - 1075)) leading power in
     let above = mul-le (2 ^ 63) 1 (number * 2 ^ (exponent - 1075)) factor product some in
-    let least = nearest_from (number * 2 ^ (exponent - 1075) * factor) 1 less (COORDINATE_BOUND + 1) whole
-    (omega arith) few (omega (arith, above)) (rw none at near) in
+    let near_one = rw none at near in
+    let least = nearest_from (COORDINATE_BOUND + 1) near_one (omega arith) few (omega (arith, above)) in
     omega (arith, least)
 
 -- a number that is beyond the coordinates after it is divided
@@ -232,8 +232,8 @@ beyond_quotient number divisor exponent less leading some small large few whole 
     let none : 1075 - exponent ≡ 0 = omega arith in
     let power : 2 ^ 37 ≤ 2 ^ (exponent - 1075) = power_more 37 (exponent - 1075) (omega arith) in
     let product = mul-le (2 ^ 52) (2 ^ 37) number (2 ^ (exponent - 1075)) leading power in
-    let least = nearest_from (number * 2 ^ (exponent - 1075) * 1) (1 * divisor) less (COORDINATE_BOUND + 1) whole
-    (omega arith) few (omega (arith, product)) (rw none at near) in
+    let near_one = rw none at near in
+    let least = nearest_from (COORDINATE_BOUND + 1) near_one (omega arith) few (omega (arith, product)) in
     omega (arith, least)
 
 -- a power of two up to 2^27

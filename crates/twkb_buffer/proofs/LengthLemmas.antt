@@ -5,7 +5,6 @@ use Rattle.std.proofs.lemmas.List.{append-nil}
 use Rattle.std.specs.Prelude.{◌≢◌}
 use Rattle.twkb_tree.specs.Limits.{Allowance}
 use Rattle.twkb_grammar.specs.Written.{canonical_stream}
-use Rattle.twkb_grammar.specs.declared.style.Style.{Style}
 use Rattle.twkb_engine.specs.Stops.{reason_of}
 use Rattle.twkb_table.specs.Named.{Named}
 use Rattle.twkb_convert.specs.LocatedBlobs.{LocatedStream, lines_text}
@@ -21,41 +20,10 @@ use Rattle.twkb_convert.proofs.RoundTrips.{one_records}
 use Rattle.twkb_buffer.specs.Calls.{Answers, IsRefusal, refused_length, whole_length_of, Counts, Ends, Measures}
 use Rattle.twkb_buffer.specs.Calls.{MeasuresBy, Stops, count_of}
 use Rattle.twkb_buffer.specs.Conversions.{Finished, HasLength, Stopped}
-use Rattle.twkb_buffer.specs.Lengths.{PacksTo, ShowsTo, UnpacksTo}
-use Rattle.twkb_buffer.specs.Slices.{PackedFront, PackedSlice, ShownFront, ShownSlice, UnpackedFront, UnpackedSlice}
 use Rattle.twkb_buffer.specs.Numbers.{status_of}
 use Rattle.twkb_buffer.specs.declared.report.BufferReport.{BufferReport}
 
 -- ==== The length of the whole output, as an answer counts it.
-
-packed_length : (style : Style) (l : Allowance) (table written : List ℕ) (done n : ℕ)
-    → PackedSlice style l table written done → n ≡ length written → PacksTo style l table n
-packed_length style l table written done n p e = λ records all. (
-  written,
-  inl (
-    p.whole.geometries,
-    subst (λ rs. Named l rs p.whole.geometries)
-        (one_records table p.whole.records records p.whole.all all) p.whole.named,
-    p.written_is,
-  ),
-  e,
-)
-
-refused_table_length : (style : Style) (l : Allowance) (table written : List ℕ) (done n : ℕ)
-    (why : Cause) → PackedFront style l table written done why → IsRefusal why → n ≡ length written
-    → PacksTo style l table n
-refused_table_length style l table written done n (cause.Row number reason) f refused e = λ records all.
-    let p = f.part in
-    let whole : written ≡ canonical_stream style p.whole = p.bytes
-    ∙ (ap (λ front. canonical_stream style p.whole ++ front) f.explains.1
-    ∙ append-nil (canonical_stream style p.whole)) in (
-      written,
-      subst (PackTo style l records) (sym whole)
-          (refused_output style l table records number reason p.whole (all, f.explains.2)),
-      e,
-    )
-refused_table_length style l table written done n (cause.Blob offset reason) f refused e = absurd f.explains
-refused_table_length style l table written done n _ f refused e = absurd refused
 
 -- no output is left, so all output of the complete geometries was written
 all_written : {A : Type 0} (text_of : List A → List ℕ) (whole later : List A)
@@ -66,58 +34,59 @@ all_written text_of whole later written left cut no_later none =
     ∙ (sym cut ∙ (ap (λ more. text_of (whole ++ more)) no_later
     ∙ ap text_of (append-nil whole))))
 
-unpacked_length : (l : Allowance) (stream written : List ℕ) (done n : ℕ)
-    → UnpackedSlice l stream written done → n ≡ length written → UnpacksTo l stream n
-unpacked_length l stream written done n p e = (written, inl (p.found, p.stream_is, p.written_is), e)
-
-refused_stream_length : (l : Allowance) (stream written : List ℕ) (done n : ℕ) (why : Cause)
-    → UnpackedFront l stream written done why → IsRefusal why → n ≡ length written
-    → UnpacksTo l stream n
-refused_stream_length l stream written done n (cause.Blob offset reason) f refused e =
-    let p = f.part in
-    let text : written ≡ table_text p.whole = all_written table_text p.whole p.later written p.left
-    p.cut f.explains.0 f.explains.1 in
-    (written, inr (offset, reason_of reason, p.whole, f.explains.2, text), e)
-refused_stream_length l stream written done n (cause.Row number reason) f refused e = absurd f.explains
-refused_stream_length l stream written done n _ f refused e = absurd refused
-
-shown_length : (l : Allowance) (stream written : List ℕ) (done n : ℕ)
-    → ShownSlice l stream written done → n ≡ length written → ShowsTo l stream n
-shown_length l stream written done n p e = (written, inl (p.found, p.stream_is, p.written_is), e)
-
-refused_lines_length : (l : Allowance) (stream written : List ℕ) (done n : ℕ) (why : Cause)
-    → ShownFront l stream written done why → IsRefusal why → n ≡ length written → ShowsTo l stream n
-refused_lines_length l stream written done n (cause.Blob offset reason) f refused e =
-    let p = f.part in
-    let text : written ≡ lines_text p.whole = all_written lines_text p.whole p.later written p.left
-    p.cut f.explains.0 f.explains.1 in
-    let none : p.whole ++ p.later ≡ p.whole = ap (λ later. p.whole ++ later) f.explains.0 ∙ append-nil p.whole in
-    let begin : LocatedStream l 0 p.bytes p.whole = subst (λ blobs. LocatedStream l 0 p.bytes blobs) none p.blobs in
-    (written, inr (offset, reason_of reason, p.whole, f.explains.2, (p.bytes, p.begins.0, p.begins.1, begin), text), e)
-refused_lines_length l stream written done n (cause.Row number reason) f refused e = absurd f.explains
-refused_lines_length l stream written done n _ f refused e = absurd refused
-
 -- if a length is reported, the input is refused
 is_refused : (why : Cause) (sent n : ℕ) → refused_length why sent ≡ Some n → IsRefusal why × (n ≡ sent)
 is_refused (cause.Row number reason) sent n e = (tt, cc)
 is_refused (cause.Blob offset reason) sent n e = (tt, cc)
 is_refused _ sent n e = absurd cc
 
+-- the length of the output of a refused input
 refused_length_is : (what : Conversion) (l : Allowance) (input written : List ℕ) (done n : ℕ)
     (why : Cause) → Stopped what l input written done why → IsRefusal why → n ≡ length written
     → HasLength what l input n
-refused_length_is (conversion.Pack style) l input written done n why f refused e =
-    refused_table_length style l input written done n why f refused e
-refused_length_is conversion.Unpack l input written done n why f refused e = refused_stream_length l
-    input written done n why f refused e
-refused_length_is conversion.Show l input written done n why f refused e = refused_lines_length l
-    input written done n why f refused e
+refused_length_is (conversion.Pack style) l input written done n (cause.Row number reason) f refused e =
+    λ records all.
+    let p = f.part in
+    let whole : written ≡ canonical_stream style p.whole = p.bytes
+    ∙ (ap (λ front. canonical_stream style p.whole ++ front) f.explains.1
+    ∙ append-nil (canonical_stream style p.whole)) in (
+      written,
+      subst (PackTo style l records) (sym whole)
+          (refused_output style l input records number reason p.whole (all, f.explains.2)),
+      e,
+    )
+refused_length_is conversion.Unpack l input written done n (cause.Blob offset reason) f refused e =
+    let p = f.part in
+    let text : written ≡ table_text p.whole = all_written table_text p.whole p.later written p.left
+    p.cut f.explains.0 f.explains.1 in
+    (written, inr (offset, reason_of reason, p.whole, f.explains.2, text), e)
+refused_length_is conversion.Show l input written done n (cause.Blob offset reason) f refused e =
+    let p = f.part in
+    let text : written ≡ lines_text p.whole = all_written lines_text p.whole p.later written p.left
+    p.cut f.explains.0 f.explains.1 in
+    let none : p.whole ++ p.later ≡ p.whole = ap (λ later. p.whole ++ later) f.explains.0 ∙ append-nil p.whole in
+    let begin : LocatedStream l 0 p.bytes p.whole = subst (λ blobs. LocatedStream l 0 p.bytes blobs) none p.blobs in
+    (written, inr (offset, reason_of reason, p.whole, f.explains.2, (p.bytes, p.begins.0, p.begins.1, begin), text), e)
+refused_length_is (conversion.Pack style) l input written done n (cause.Blob offset reason) f refused e =
+    absurd f.explains
+refused_length_is what l input written done n (cause.Row number reason) f refused e = absurd f.explains
+refused_length_is what l input written done n _ f refused e = absurd refused
 
+-- the length of the whole output
 finished_length_is : (what : Conversion) (l : Allowance) (input written : List ℕ) (done n : ℕ)
     → Finished what l input written done → n ≡ length written → HasLength what l input n
-finished_length_is (conversion.Pack style) l input written done n p e = packed_length style l input written done n p e
-finished_length_is conversion.Unpack l input written done n p e = unpacked_length l input written done n p e
-finished_length_is conversion.Show l input written done n p e = shown_length l input written done n p e
+finished_length_is (conversion.Pack style) l input written done n p e = λ records all. (
+  written,
+  inl (
+    p.whole.geometries,
+    subst (λ rs. Named l rs p.whole.geometries)
+        (one_records input p.whole.records records p.whole.all all) p.whole.named,
+    p.written_is,
+  ),
+  e,
+)
+finished_length_is conversion.Unpack l input written done n p e = (written, inl (p.found, p.stream_is, p.written_is), e)
+finished_length_is conversion.Show l input written done n p e = (written, inl (p.found, p.stream_is, p.written_is), e)
 
 -- the length that an answer counts as the whole output is that length
 pub whole_length : (what : Conversion) (l : Allowance) (input written : List ℕ)

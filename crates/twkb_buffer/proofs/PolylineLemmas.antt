@@ -10,7 +10,7 @@ pub record HasTaken (given left : List BufferPoint) (ps : List Point) : Type 0 w
   pub in_range : AreInRange ps
 
 -- the coordinates of two lists of points, one after the other
-coordinates_of-append : (ps qs : List Point) → coordinates_of (ps ++ qs) ≡ coordinates_of ps ++ coordinates_of qs
+pub coordinates_of-append : (ps qs : List Point) → coordinates_of (ps ++ qs) ≡ coordinates_of ps ++ coordinates_of qs
 coordinates_of-append [] qs = refl
 coordinates_of-append (p ∷ ps) qs = ap (λ r. coordinates_at p ∷ r) (coordinates_of-append ps qs)
 

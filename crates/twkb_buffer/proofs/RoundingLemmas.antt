@@ -325,10 +325,8 @@ module _ (factor divisor number : ℕ) where
           → IsNearest (above_halfway factor number) (below_halfway divisor number) (m % 2) size
           → IsSize factor divisor number size
       short_size size short near = λ w. (
-        λ fewer. within_reached short w
-            (half_before (above_halfway factor number) (below_halfway divisor number) (m % 2) size w near fewer),
-        λ reaches. before_half (above_halfway factor number) (below_halfway divisor number) (m % 2) size w near
-            (reached_within w reaches),
+        λ fewer. within_reached short w (half_before w near fewer),
+        λ reaches. before_half w near (reached_within w reaches),
       )
 
       -- that of a number of more units, if it is found in the same way
@@ -345,8 +343,7 @@ module _ (factor divisor number : ℕ) where
               | inr large ↦ large
             ] in
             omega (arith, most, large)),
-        λ reaches. before_half (above_halfway factor number) (below_halfway divisor number) (m % 2) size w near
-            (reached_within w reaches),
+        λ reaches. before_half w near (reached_within w reaches),
       )
 
       -- the size of a number of few units is small
@@ -356,9 +353,7 @@ module _ (factor divisor number : ℕ) where
         | inr most ↦ most
         | inl more ↦
             let all = divisor * 2 ^ 1074 in
-            let half = halfway_to (10 ^ 14)
-            (half_before
-            (above_halfway factor number) (below_halfway divisor number) (m % 2) size (10 ^ 14) near more) in
+            let half = halfway_to (10 ^ 14) (half_before (10 ^ 14) near more) in
             let exact : m * unit < (2 * 10 ^ 14) * all = few_units short in
             let wide : 2 * all < unit = omega (arith, half, exact) in
             let tenth : m < 10 ^ 14 = lt_of_mul-lt-mul_right unit (omega (arith, exact, wide)) in
@@ -405,9 +400,8 @@ module _ (factor divisor number : ℕ) (long : IsShort factor divisor number →
   pub long_size : (size : ℕ) → IsNearest (above factor number) (below divisor number) 0 size
       → IsSize factor divisor number size
   long_size size near = λ w. (
-    λ fewer. inl (omega (arith, half_before (above factor number) (below divisor number) 0 size w near fewer)),
-    λ reaches. before_half (above factor number) (below divisor number) 0 size w near
-        (omega (arith, has_half w reaches)),
+    λ fewer. inl (omega (arith, half_before w near fewer)),
+    λ reaches. before_half w near (omega (arith, has_half w reaches)),
   )
 
   at_most : (size : ℕ) → IsSize factor divisor number size
@@ -490,11 +484,12 @@ AllZip-more R (a ∷ xs) (b ∷ ys) x y all more = (all.0, AllZip-more R xs ys x
 AllZip-more R _ _ x y all more = absurd all
 
 -- one more number is rounded
-pub rounds_more : (factor divisor : ℕ) (numbers : List ℕ) (old new : List ℤ) (count : ℕ) (unit : ℤ)
-    → count < length numbers → length numbers ≤ length old → RoundsBefore factor divisor numbers old new count
+pub rounds_more : {factor divisor : ℕ} {numbers : List ℕ} {old new : List ℤ} {count : ℕ} {unit : ℤ}
+    → RoundsBefore factor divisor numbers old new count → count < length numbers → length numbers ≤ length old
     → IsUnit factor divisor (get_or numbers count 0) unit
     → RoundsBefore factor divisor numbers old (set new count unit) (count + 1)
-rounds_more factor divisor numbers old new count unit some room before is =
+rounds_more {factor = factor} {divisor = divisor} {numbers = numbers} {old = old} {new = new} {count = count}
+    {unit = unit} before some room is =
     let places : count < length new = omega (arith, before.as_many) in
     record {
       as_many = length-set new count unit ∙ before.as_many;
@@ -506,10 +501,10 @@ rounds_more factor divisor numbers old new count unit some room before is =
     }
 
 -- the next number is refused
-pub rounds_to : (factor divisor : ℕ) (numbers : List ℕ) (old new : List ℤ) (count : ℕ)
-    → count < length numbers → RoundsBefore factor divisor numbers old new count
+pub rounds_to : {factor divisor : ℕ} {numbers : List ℕ} {old new : List ℤ} {count : ℕ}
+    → RoundsBefore factor divisor numbers old new count → count < length numbers
     → FindsUnit factor divisor (get_or numbers count 0) None → RoundsFront factor divisor numbers old new count
-rounds_to factor divisor numbers old new count some before refused = record {
+rounds_to {factor = factor} {divisor = divisor} {numbers = numbers} {count = count} before some refused = record {
   within = omega arith;
   rounded = before.rounded;
   left = before.left;
@@ -518,12 +513,14 @@ rounds_to factor divisor numbers old new count some before refused = record {
 }
 
 -- no number is left
-pub rounds_all : (factor divisor : ℕ) (numbers : List ℕ) (old new : List ℤ)
-    → RoundsBefore factor divisor numbers old new (length numbers)
+pub rounds_all : {factor divisor : ℕ} {numbers : List ℕ} {old new : List ℤ} {count : ℕ}
+    → RoundsBefore factor divisor numbers old new count → count ≡ length numbers
     → RoundsFront factor divisor numbers old new (length numbers)
-rounds_all factor divisor numbers old new before = record {
-  within = omega arith;
-  rounded = before.rounded;
-  left = before.left;
-  stopped = λ number next. absurd (omega (arith, slice_get_within numbers (length numbers) number next));
-}
+rounds_all {numbers = numbers} before all =
+    let whole = rw all at before in
+    record {
+      within = omega arith;
+      rounded = whole.rounded;
+      left = whole.left;
+      stopped = λ number next. absurd (omega (arith, slice_get_within numbers (length numbers) number next));
+    }

@@ -80,80 +80,42 @@ of_many precision number size finite long near within =
       in_range = within;
     }
 
+-- two facts, one after the other
+infixr 10 ◌also◌
+◌also◌ : {A B : Type 0} → A → B → A × B
+a also b = (a, b)
+
 pub halves_rounded : AreRounded written_halves
-halves_rounded = (
-  of_few (pos 1) 0x3FC3333333333333 2 refl refl refl refl (omega arith, omega arith),
-  (
-    of_few (pos 1) 0xBFC3333333333333 2 refl refl refl refl (omega arith, omega arith),
-    (
-      of_few (pos 1) 0x3FD6666666666666 4 refl refl refl refl (omega arith, omega arith),
-      (
-        of_few (pos 2) 0x3FF0147AE147AE14 101 refl refl refl refl (omega arith, omega arith),
-        (
-          of_few (pos 0) 0x3FE0000000000000 1 refl refl refl refl (omega arith, omega arith),
-          (
-            of_few (pos 0) 0xC004000000000000 3 refl refl refl refl (omega arith, omega arith),
-            (
-              of_few (pos 5) 0x3ED4F8B588E368F1 1 refl refl refl refl (omega arith, omega arith),
-              (
-                of_few (pos 4) 0x401DCA9930BE0DED 74479 refl refl refl refl (omega arith, omega arith),
-                (
-                  of_few (pos 5) 0x3F904C059210385C 1592 refl refl refl refl (omega arith, omega arith),
-                  (
-                    of_few (pos 5) 0xBFD11BDA5119CE07 26733 refl refl refl refl (omega arith, omega arith),
-                    (
-                      of_few (pos 5) 0x40477956EAC86057 4694797 refl refl refl refl (omega arith, omega arith),
-                      (
-                        of_few (pos 6) 0x3EA0C6F7A0B5ED8D 1 refl refl refl refl (omega arith, omega arith),
-                        (
-                          of_few (pos 6) 0x404098F6A0DBAD3A 33195027 refl refl refl refl (omega arith, omega arith),
-                          (
-                            of_few (pos 7) 0x4040BCD3AB78BF2E 334752097 refl refl refl refl (omega arith, omega arith),
-                            tt,
-                          ),
-                        ),
-                      ),
-                    ),
-                  ),
-                ),
-              ),
-            ),
-          ),
-        ),
-      ),
-    ),
-  ),
-)
+halves_rounded =
+    of_few (pos 1) 0x3FC3333333333333 2 refl refl refl refl (omega arith, omega arith)
+    also of_few (pos 1) 0xBFC3333333333333 2 refl refl refl refl (omega arith, omega arith)
+    also of_few (pos 1) 0x3FD6666666666666 4 refl refl refl refl (omega arith, omega arith)
+    also of_few (pos 2) 0x3FF0147AE147AE14 101 refl refl refl refl (omega arith, omega arith)
+    also of_few (pos 0) 0x3FE0000000000000 1 refl refl refl refl (omega arith, omega arith)
+    also of_few (pos 0) 0xC004000000000000 3 refl refl refl refl (omega arith, omega arith)
+    also of_few (pos 5) 0x3ED4F8B588E368F1 1 refl refl refl refl (omega arith, omega arith)
+    also of_few (pos 4) 0x401DCA9930BE0DED 74479 refl refl refl refl (omega arith, omega arith)
+    also of_few (pos 5) 0x3F904C059210385C 1592 refl refl refl refl (omega arith, omega arith)
+    also of_few (pos 5) 0xBFD11BDA5119CE07 26733 refl refl refl refl (omega arith, omega arith)
+    also of_few (pos 5) 0x40477956EAC86057 4694797 refl refl refl refl (omega arith, omega arith)
+    also of_few (pos 6) 0x3EA0C6F7A0B5ED8D 1 refl refl refl refl (omega arith, omega arith)
+    also of_few (pos 6) 0x404098F6A0DBAD3A 33195027 refl refl refl refl (omega arith, omega arith)
+    also of_few (pos 7) 0x4040BCD3AB78BF2E 334752097 refl refl refl refl (omega arith, omega arith)
+    also tt
 
 pub others_rounded : AreRounded other_doubles
-others_rounded = (
-  of_few (pos 1) 0x3FC3333333333332 1 refl refl refl refl (omega arith, omega arith),
-  (
-    of_few (pos 5) 0x401DCA8EB463497B 744781 refl refl refl refl (omega arith, omega arith),
-    (
-      of_few (pos 7) 0x401DCA8EB463497B 74478100 refl refl refl refl (omega arith, omega arith),
-      (
-        of_few (negsuc 7) 0x41A1E1A300000000 2 refl refl refl refl (omega arith, omega arith),
-        (
-          of_few (pos 7) 0x8000000000000000 0 refl refl refl refl (omega arith, omega arith),
-          (
-            of_few (pos 7) 0x0000000000000001 0 refl refl refl refl (omega arith, omega arith),
-            tt,
-          ),
-        ),
-      ),
-    ),
-  ),
-)
+others_rounded =
+    of_few (pos 1) 0x3FC3333333333332 1 refl refl refl refl (omega arith, omega arith)
+    also of_few (pos 5) 0x401DCA8EB463497B 744781 refl refl refl refl (omega arith, omega arith)
+    also of_few (pos 7) 0x401DCA8EB463497B 74478100 refl refl refl refl (omega arith, omega arith)
+    also of_few (negsuc 7) 0x41A1E1A300000000 2 refl refl refl refl (omega arith, omega arith)
+    also of_few (pos 7) 0x8000000000000000 0 refl refl refl refl (omega arith, omega arith)
+    also of_few (pos 7) 0x0000000000000001 0 refl refl refl refl (omega arith, omega arith)
+    also tt
 
 pub large_rounded : AreRounded large_doubles
-large_rounded = (
-  of_many (pos 0) 0x4340000000000000 9007199254740992 refl refl refl (omega arith, omega arith),
-  (
-    of_many (pos 0) 0x43CFFFFFFFFFFFFF 4611686018427387392 refl refl refl (omega arith, omega arith),
-    (
-      of_many (pos 0) 0xC3D0000000000000 4611686018427387904 refl refl refl (omega arith, omega arith),
-      tt,
-    ),
-  ),
-)
+large_rounded =
+    of_many (pos 0) 0x4340000000000000 9007199254740992 refl refl refl (omega arith, omega arith)
+    also of_many (pos 0) 0x43CFFFFFFFFFFFFF 4611686018427387392 refl refl refl (omega arith, omega arith)
+    also of_many (pos 0) 0xC3D0000000000000 4611686018427387904 refl refl refl (omega arith, omega arith)
+    also tt
