@@ -1,6 +1,6 @@
 -- The bytes of the blob of a point or of a line.
 use Rattle.std.proofs.Common.{◌≡◌, ◌∙◌, ℕ, ◌+◌, ◌<◌, ℤ, List, [], ◌∷◌, ◌++◌, length, Some, refl, sym, ap, arith}
-use Rattle.std.proofs.Common.{append-nil, append_assoc, length-append, ◌^◌, take, drop, subst}
+use Rattle.std.proofs.Common.{append-nil, append_assoc, length-append, ◌^◌, take, drop}
 use Rattle.std.specs.Prelude.{None, ◌-ℤ◌}
 use Rattle.std.proofs.lemmas.List.{take_all}
 use Rattle.twkb_num.specs.Alphabet.{leb_unit}
@@ -8,7 +8,6 @@ use Rattle.twkb_num.specs.Varint.{varint_of}
 use Rattle.twkb_num.specs.Zigzag.{zigzag_of}
 use Rattle.twkb_num.proofs.SpellingLemmas.{shortest_one}
 use Rattle.twkb_points.specs.Point.{Point, origin}
-use Rattle.twkb_io.specs.Sinks.{TookFront}
 use Rattle.twkb_tree.specs.Tree.{point, IsPrecision, line, saturated}
 use Rattle.twkb_tree.specs.declared.kind.Kind.TheVariants as kind
 use Rattle.twkb_flat.specs.declared.work.Work.{Work}
@@ -117,25 +116,6 @@ line_bytes style p ps own_points own e fits count all found =
     ∙ sym (append-nil (geometry_lead style p (entry_of style (one_line p ps)) kind.Linestring 0 (length ps) []
     ++ way_bytes origin ps))
     ∙ rows_spell style (one_line p ps) (fits, tt)
-
--- a sink that took these bytes took the blob
-pub took_line : {S : Type 0} (took : S → List ℕ → S → Type 0) (a b : S) (style : Style) (p : ℤ)
-    (ps own_points : List Point) (own : ℕ) (e : Entry) → own ≡ length ps → own_points ≡ ps
-    → e ≡ entry_of style (one_line p ps)
-    → took a (geometry_lead style p e kind.Linestring 0 own [] ++ way_bytes origin own_points) b
-    → IsPrecision p → took a (canonical_blob style (one_line p ps)) b
-took_line took a b style p ps own_points own e count all found taken fits = subst (λ (l : List ℕ). took a l b)
-    (line_bytes style p ps own_points own e fits count all found) taken
-
--- a sink that took a prefix of these bytes took a prefix of the blob
-pub took_line_front : {S F : Type 0} (refused : S → List ℕ → F → S → Type 0) (a b : S) (fault : F) (style : Style)
-    (p : ℤ) (ps own_points : List Point) (own : ℕ) (e : Entry) → own ≡ length ps → own_points ≡ ps
-    → e ≡ entry_of style (one_line p ps)
-    → TookFront refused a (geometry_lead style p e kind.Linestring 0 own [] ++ way_bytes origin own_points) fault b
-    → IsPrecision p → TookFront refused a (canonical_blob style (one_line p ps)) fault b
-took_line_front refused a b fault style p ps own_points own e count all found front fits =
-    subst (λ (l : List ℕ). TookFront refused a l fault b)
-    (line_bytes style p ps own_points own e fits count all found) front
 
 -- the node's own points are all points
 pub all_own : (ps : List Point) (first own : ℕ) → first ≡ 0 → own ≡ length ps → take own (drop first ps) ≡ ps

@@ -17,6 +17,7 @@ use Rattle.twkb_tree.proofs.RowSteps.{above_less}
 use Rattle.twkb_grammar.specs.declared.style.Style.{Style}
 use Rattle.twkb_grammar.specs.Items.{Slot, OfCount, OfId, OfPoint, fields, slots, run_of, rings_of, id_slots, flags}
 use Rattle.twkb_grammar.specs.Items.{members, parts}
+use Rattle.twkb_grammar.specs.Roles.{Counted, Points, Components}
 use Rattle.twkb_grammar.specs.Written.{varints, is_empty}
 use Rattle.twkb_grammar.proofs.Bodies.{steps, slot_points, fields_are, points_are}
 use Rattle.twkb_writer.specs.declared.sizes.Entry.{Entry}
@@ -26,6 +27,7 @@ use Rattle.twkb_writer.specs.MeasuredRows.{totals, points_ahead, measured}
 use Rattle.twkb_writer.specs.declared.precisions.Precisions.TheVariants.{Absent}
 use Rattle.twkb_writer.specs.Tails.{signed_len, number_len, way_len, from_origin, tail_of}
 use Rattle.twkb_writer.specs.Sizes.{parts_in, ids_in}
+use Rattle.twkb_writer.proofs.TreeBytes.{part_slots, points_ones}
 use Rattle.twkb_writer.proofs.MeasuringSteps.{totals_at, totals_none, totals_past}
 use Rattle.twkb_writer.proofs.BelowLemmas.{deep-rings}
 
@@ -194,12 +196,6 @@ pub record IsCounted {A : Type 0} (w : Option ℤ → A → RowTotals → RowTot
   pub ids : (id : Option ℤ) (x : A) (l : RowTotals) → (w id x l).ids ≡ id_len id + l.ids
   pub named : (id : Option ℤ) (x : A) (l : RowTotals) → (w id x l).named ≡ (is_some id || l.named)
 
--- a component is counted
-pub component_counted : {A : Type 0} (k : Kind) (own : A → ℕ) (below : A → RowTotals)
-    → IsCounted (λ id x l. with_component k (own x) id (below x) l)
-component_counted k own below =
-    record { members = λ id x l. refl; ids = λ id x l. refl; named = λ id x l. refl }
-
 -- there are as many members as parts
 pub members_each : {A : Type 0} (w : Option ℤ → A → RowTotals → RowTotals) → IsCounted w
     → (ids : Ids) (xs : List A) → (with_each w ids xs blank).members ≡ length xs
@@ -245,62 +241,6 @@ named_each w counted None xs h = no_names_each w counted xs
 named_each w counted (Some []) xs h = absurd (omega (arith, h.0, h.1))
 named_each w counted (Some (id ∷ ids)) [] h = absurd (omega (arith, h.0))
 named_each w counted (Some (id ∷ ids)) (x ∷ xs) h = counted.named (Some id) x (with_each w (Some ids) xs blank)
-
--- the sum of a number over parts
-abbrev pub total : {A : Type 0} → (A → ℕ) → List A → ℕ
-total f [] = 0
-total f (x ∷ xs) = f x + total f xs
-
--- the bytes of parts
-bytes_each : {A : Type 0} (k : Kind) (own : A → ℕ) (below : A → RowTotals) (f : A → ℕ)
-    → ((x : A) → lead_len k (own x) (below x) + (below x).bytes ≡ f x)
-    → (ids : Ids) (xs : List A)
-    → (with_each (λ id x l. with_component k (own x) id (below x) l) ids xs
-    blank).bytes ≡ total f xs
-bytes_each k own below f is ids [] = refl
-bytes_each k own below f is ids (x ∷ xs) =
-    (λ i. is x i + bytes_each k own below f is (other_ids ids) xs i)
-
--- parts are not geometries, so they add no bounds
-bounds_each : {A : Type 0} (k : Kind) (own : A → ℕ) (below : A → RowTotals) (ids : Ids) (xs : List A)
-    → (with_each (λ id x l. with_component k (own x) id (below x) l) ids xs blank).bounds ≡ None
-bounds_each k own below ids [] = refl
-bounds_each k own below ids (x ∷ xs) = bounds_each k own below (other_ids ids) xs
-
--- parts add no precisions
-precisions_each : {A : Type 0} (k : Kind) (own : A → ℕ) (below : A → RowTotals) (ids : Ids) (xs : List A)
-    → (with_each (λ id x l. with_component k (own x) id (below x) l) ids xs blank).precisions
-    ≡ Absent
-precisions_each k own below ids [] = refl
-precisions_each k own below ids (x ∷ xs) = precisions_each k own below (other_ids ids) xs
-
--- the totals of parts: this many, with these ids and bytes
-pub record IsTotal (l : RowTotals) (n : ℕ) (ids : Ids) (bytes : ℕ) : Type 0 where
-  pub members : l.members ≡ n
-  pub ids_are : l.ids ≡ ids_len ids
-  pub named : l.named ≡ is_some ids
-  pub bytes_are : l.bytes ≡ bytes
-  pub no_bounds : l.bounds ≡ None
-  pub no_precisions : l.precisions ≡ Absent
-
--- the totals of parts, each with this many bytes
-pub total_each : {A : Type 0} (k : Kind) (own : A → ℕ) (below : A → RowTotals) (f : A → ℕ)
-    → ((x : A) → lead_len k (own x) (below x) + (below x).bytes ≡ f x)
-    → (ids : Ids) (xs : List A) → HasIds ids (length xs)
-    → IsTotal (with_each (λ id x l. with_component k (own x) id (below x) l) ids xs blank)
-    (length xs)
-    ids (total f xs)
-total_each k own below f is ids xs h = record {
-  members = members_each (λ id x l. with_component k (own x) id (below x) l)
-      (component_counted k own below) ids xs;
-  ids_are = ids_each (λ id x l. with_component k (own x) id (below x) l)
-      (component_counted k own below) ids xs h;
-  named = named_each (λ id x l. with_component k (own x) id (below x) l)
-      (component_counted k own below) ids xs h;
-  bytes_are = bytes_each k own below f is ids xs;
-  no_bounds = bounds_each k own below ids xs;
-  no_precisions = precisions_each k own below ids xs;
-}
 
 -- ==== The length of a simple geometry's body, from its rows.
 
@@ -371,24 +311,55 @@ slots_len-id_slots : (ids : Ids) → slots_len (id_slots ids) ≡ ids_len ids
 slots_len-id_slots None = refl
 slots_len-id_slots (Some ids) = slots_len-ids ids
 
-slots_len-each : {A : Type 0} (f : A → List Slot) (xs : List A)
-    → slots_len (flat_map f xs) ≡ total (λ x. slots_len (f x)) xs
-slots_len-each f [] = refl
-slots_len-each f (x ∷ xs) = slots_len-append (f x) (flat_map f xs)
-    ∙ ap (λ n. slots_len (f x) + n) (slots_len-each f xs)
-
 slots_len-run : (ps : List Point) → number_len (length ps) + 0 ≡ slots_len (run_of ps)
 slots_len-run ps = ap (λ n. number_len (length ps) + n) (sym (slots_len-points ps))
 
 -- ---- the totals of the parts of a shape
 
--- the number of bytes of the slots of its parts
-abbrev pub parts_bytes : Simple → ℕ
-parts_bytes (polygon rings) = total (λ ps. slots_len (run_of ps)) rings
-parts_bytes (multi_point ids ps) = total (λ (p : Point). 0) ps
-parts_bytes (multi_line ids lines) = total (λ ps. slots_len (run_of ps)) lines
-parts_bytes (multi_polygon ids areas) = total (λ rings. slots_len (rings_of rings)) areas
-parts_bytes _ = 0
+-- the totals of parts: this many, with these ids and bytes
+pub record IsTotal (l : RowTotals) (n : ℕ) (ids : Ids) (bytes : ℕ) : Type 0 where
+  pub members : l.members ≡ n
+  pub ids_are : l.ids ≡ ids_len ids
+  pub named : l.named ≡ is_some ids
+  pub bytes_are : l.bytes ≡ bytes
+  pub no_bounds : l.bounds ≡ None
+  pub no_precisions : l.precisions ≡ Absent
+
+-- the totals with one more part
+abbrev with_part : {A : Type 0} → Kind → (A → ℕ) → (A → RowTotals) → Option ℤ → A → RowTotals → RowTotals
+with_part k own below id x l = with_component k (own x) id (below x) l
+
+-- the bytes of parts are those of their slots, and parts add no bounds and no precisions
+sums_each : {A : Type 0} (k : Kind) (own : A → ℕ) (below : A → RowTotals) (ms : A → List Slot)
+    → ((x : A) → lead_len k (own x) (below x) + (below x).bytes ≡ slots_len (ms x)) → (ids : Ids) (xs : List A)
+    → ((with_each (with_part k own below) ids xs blank).bytes ≡ slots_len (flat_map ms xs))
+    × ((with_each (with_part k own below) ids xs blank).bounds ≡ None)
+    × ((with_each (with_part k own below) ids xs blank).precisions ≡ Absent)
+sums_each k own below ms is ids [] = (refl, refl, refl)
+sums_each k own below ms is ids (x ∷ xs) =
+    let more = sums_each k own below ms is (other_ids ids) xs in
+    (omega (arith, is x, more.0, slots_len-append (ms x) (flat_map ms xs)), more.1, more.2)
+
+-- the totals of parts, each with the bytes of these slots
+total_each : {A : Type 0} (k : Kind) (own : A → ℕ) (below : A → RowTotals) (ms : A → List Slot)
+    → ((x : A) → lead_len k (own x) (below x) + (below x).bytes ≡ slots_len (ms x))
+    → (ids : Ids) (xs : List A) → HasIds ids (length xs)
+    → IsTotal (with_each (with_part k own below) ids xs blank) (length xs) ids (slots_len (flat_map ms xs))
+total_each k own below ms is ids xs h =
+    let counted : IsCounted (with_part k own below) = record {
+      members = λ id x l. refl;
+      ids = λ id x l. refl;
+      named = λ id x l. refl;
+    } in
+    let sums = sums_each k own below ms is ids xs in
+    record {
+      members = members_each (with_part k own below) counted ids xs;
+      ids_are = ids_each (with_part k own below) counted ids xs h;
+      named = named_each (with_part k own below) counted ids xs h;
+      bytes_are = sums.0;
+      no_bounds = sums.1;
+      no_precisions = sums.2;
+    }
 
 no_parts : IsTotal blank 0 None 0
 no_parts = record {
@@ -401,9 +372,8 @@ no_parts = record {
 }
 
 total_rings : (rings : List (List Point)) → IsTotal (rings_totals rings) (length rings) None
-    (total (λ ps. slots_len (run_of ps)) rings)
-total_rings rings = total_each kind.Ring (λ ps. length ps) (λ ps. blank)
-    (λ ps. slots_len (run_of ps)) slots_len-run None rings tt
+    (slots_len (flat_map run_of rings))
+total_rings rings = total_each kind.Ring (λ ps. length ps) (λ ps. blank) run_of slots_len-run None rings tt
 
 -- the totals of a count, ids and parts
 lead_total : (l : RowTotals) (n : ℕ) (ids : Ids) (bytes : ℕ) → IsTotal l n ids bytes
@@ -412,32 +382,33 @@ lead_total l n ids bytes t = λ i. number_len (t.members i) + t.ids_are i + t.by
 
 lead_rings : (rings : List (List Point)) → number_len (rings_totals rings).members
     + (rings_totals rings).ids + (rings_totals rings).bytes ≡ slots_len (rings_of rings)
-lead_rings rings = omega (
-  arith,
-  lead_total (rings_totals rings) (length rings) None
-      (total (λ ps. slots_len (run_of ps)) rings) (total_rings rings),
-  slots_len-each run_of rings,
-)
+lead_rings rings = omega (arith, lead_total (rings_totals rings) (length rings) None _ (total_rings rings))
 
 -- the totals of the parts of a shape
-pub total_parts : (s : Simple) → IdsFit s → IsTotal (components_totals s) (parts_in s) (ids_in s) (parts_bytes s)
+pub total_parts : (s : Simple) → IdsFit s
+    → IsTotal (components_totals s) (parts_in s) (ids_in s) (slots_len (part_slots s))
 total_parts (polygon rings) h = total_rings rings
-total_parts (multi_point ids ps) h = total_each kind.Point (λ p. length (p ∷ [])) (λ p. blank)
-    (λ p. 0) (λ p. refl) ids ps h
+total_parts (multi_point ids ps) h = total_each kind.Point (λ p. 1) (λ p. blank) (λ p. OfPoint p ∷ [])
+    (λ p. refl) ids ps h
 total_parts (multi_line ids lines) h = total_each kind.Linestring (λ ps. length ps) (λ ps. blank)
-    (λ ps. slots_len (run_of ps)) slots_len-run ids lines h
-total_parts (multi_polygon ids areas) h = total_each kind.Polygon (λ rings. 0) rings_totals
-    (λ rings. slots_len (rings_of rings)) lead_rings ids areas h
+    run_of slots_len-run ids lines h
+total_parts (multi_polygon ids areas) h = total_each kind.Polygon (λ rings. 0) rings_totals rings_of lead_rings ids areas h
 total_parts _ h = no_parts
 
-total_none : (ps : List Point) → total (λ (p : Point). 0) ps ≡ 0
-total_none [] = refl
-total_none (p ∷ ps) = omega (arith, total_none ps)
-
--- the bytes of a count, ids and the slots after them
-slots_behind : (n : ℕ) (ids : Ids) (ps : List Slot) → number_len n + ids_len ids + slots_len ps
-    ≡ number_len n + slots_len (id_slots ids ++ ps)
-slots_behind n ids ps = omega (arith, slots_len-append (id_slots ids) ps, slots_len-id_slots ids)
+-- the bytes of a count, ids and parts are those of the slots
+lead_slots : (s : Simple) (c : Counted) → IdsFit s
+    → slots s ≡ OfCount c (parts_in s) ∷ id_slots (ids_in s) ++ part_slots s
+    → number_len (components_totals s).members + (components_totals s).ids + (components_totals s).bytes
+    ≡ slots_len (slots s)
+lead_slots s c h are =
+    let ms = part_slots s in
+    omega (
+      arith,
+      lead_total (components_totals s) (parts_in s) (ids_in s) (slots_len ms) (total_parts s h),
+      slots_len-append (id_slots (ids_in s)) ms,
+      slots_len-id_slots (ids_in s),
+      ap slots_len are,
+    )
 
 -- the bytes of the count and ids of a shape's row, and of its parts, are those of its slots
 pub lead_parts : (s : Simple) → IdsFit s → lead_len (kind_in s) (length (own_points s))
@@ -446,21 +417,10 @@ lead_parts (point None) h = refl
 lead_parts (point (Some p)) h = refl
 lead_parts (line ps) h = slots_len-run ps
 lead_parts (polygon rings) h = lead_rings rings
-lead_parts (multi_point ids ps) h =
-    lead_total (components_totals (multi_point ids ps)) (length ps) ids (total (λ (p : Point). 0) ps)
-    (total_parts (multi_point ids ps) h)
-    ∙ ap (λ n. number_len (length ps) + ids_len ids + n) (total_none ps ∙ sym (slots_len-points ps))
-    ∙ slots_behind (length ps) ids (map OfPoint ps)
-lead_parts (multi_line ids lines) h =
-    lead_total (components_totals (multi_line ids lines)) (length lines) ids
-    (parts_bytes (multi_line ids lines)) (total_parts (multi_line ids lines) h)
-    ∙ ap (λ n. number_len (length lines) + ids_len ids + n) (sym (slots_len-each run_of lines))
-    ∙ slots_behind (length lines) ids (flat_map run_of lines)
-lead_parts (multi_polygon ids areas) h =
-    lead_total (components_totals (multi_polygon ids areas)) (length areas) ids
-    (parts_bytes (multi_polygon ids areas)) (total_parts (multi_polygon ids areas) h)
-    ∙ ap (λ n. number_len (length areas) + ids_len ids + n) (sym (slots_len-each rings_of areas))
-    ∙ slots_behind (length areas) ids (flat_map rings_of areas)
+lead_parts (multi_point ids ps) h = lead_slots (multi_point ids ps) Points h
+    (ap (λ ms. OfCount Points (length ps) ∷ id_slots ids ++ ms) (points_ones ps))
+lead_parts (multi_line ids lines) h = lead_slots (multi_line ids lines) Components h refl
+lead_parts (multi_polygon ids areas) h = lead_slots (multi_polygon ids areas) Components h refl
 
 -- ---- whether there is a body
 

@@ -143,32 +143,31 @@ module _ {S F : Type 0} (took : S → List ℕ → S → Type 0) (refused : S �
       a.piece.now) (sym fresh) first)
 
   -- such a run that ended without a refusal and with an empty piece
-  pub whole_run : (a b c : Gatherer S F) (after : S) (o : Option F) (bytes : List ℕ)
+  pub whole_run : (a b c : Gatherer S F) (after : S) (o : Option F) (bytes all : List ℕ)
       → took a.sink.now [] a.sink.now → a.fault.now ≡ None → a.piece.now ≡ []
       → Put took refused a bytes b → Put took refused b [] c
-      → o ≡ c.fault.now → o ≡ None → c.piece.now ≡ [] → after ≡ c.sink.now → took a.sink.now bytes after
-  whole_run a b c after o bytes none fresh empty p q told_is no_fault left same =
-      let all = begin a c (bytes ++ []) none fresh empty (put_join a b c bytes [] p q) in
+      → o ≡ c.fault.now → o ≡ None → c.piece.now ≡ [] → after ≡ c.sink.now → bytes ≡ all
+      → took a.sink.now all after
+  whole_run a b c after o bytes all none fresh empty p q told_is no_fault left same are =
       let told : Stands took refused a.sink.now (bytes ++ []) None c.sink.now c.piece.now =
-      subst (λ (o : Option F). Stands took refused a.sink.now (bytes ++ []) o c.sink.now
-      c.piece.now) (sym told_is ∙ no_fault) all in
-      let front_is : told.0 ≡ bytes = sym (append-nil told.0)
-      ∙ ap (λ (l : List ℕ). told.0 ++ l) (sym left) ∙ sym told.2 ∙ append-nil bytes in
-      subst (took a.sink.now bytes) (sym same) (subst (λ (l : List ℕ). took a.sink.now l c.sink.now) front_is told.1)
+      subst (λ (o : Option F). Stands took refused a.sink.now (bytes ++ []) o c.sink.now c.piece.now)
+      (sym told_is ∙ no_fault) (begin a c (bytes ++ []) none fresh empty (put_join a b c bytes [] p q)) in
+      let front_is : told.0 ≡ all = sym (append-nil told.0)
+      ∙ ap (λ (l : List ℕ). told.0 ++ l) (sym left) ∙ sym told.2 ∙ append-nil bytes ∙ are in
+      subst (took a.sink.now all) (sym same) (subst (λ (l : List ℕ). took a.sink.now l c.sink.now) front_is told.1)
 
   -- such a run that ended with a refusal
-  pub cut_run : (a b c : Gatherer S F) (after : S) (o : Option F) (bytes : List ℕ) (fault : F)
+  pub cut_run : (a b c : Gatherer S F) (after : S) (o : Option F) (bytes all : List ℕ) (fault : F)
       → took a.sink.now [] a.sink.now → a.fault.now ≡ None → a.piece.now ≡ []
       → Put took refused a bytes b → Put took refused b [] c
-      → o ≡ c.fault.now → o ≡ Some fault → after ≡ c.sink.now → TookFront refused a.sink.now bytes fault after
-  cut_run a b c after o bytes fault none fresh empty p q told_is some same =
-      let all = begin a c (bytes ++ []) none fresh empty (put_join a b c bytes [] p q) in
+      → o ≡ c.fault.now → o ≡ Some fault → after ≡ c.sink.now → bytes ≡ all
+      → TookFront refused a.sink.now all fault after
+  cut_run a b c after o bytes all fault none fresh empty p q told_is some same are =
       let told : Stands took refused a.sink.now (bytes ++ []) (Some fault) c.sink.now c.piece.now =
-      subst (λ (o : Option F). Stands took refused a.sink.now (bytes ++ []) o c.sink.now
-      c.piece.now) (sym told_is ∙ some) all in
-      subst (TookFront refused a.sink.now bytes fault) (sym same)
-      (subst (λ (l : List ℕ). TookFront refused a.sink.now l fault c.sink.now)
-      (append-nil bytes) told)
+      subst (λ (o : Option F). Stands took refused a.sink.now (bytes ++ []) o c.sink.now c.piece.now)
+      (sym told_is ∙ some) (begin a c (bytes ++ []) none fresh empty (put_join a b c bytes [] p q)) in
+      subst (TookFront refused a.sink.now all fault) (sym same)
+      (subst (λ (l : List ℕ). TookFront refused a.sink.now l fault c.sink.now) (append-nil bytes ∙ are) told)
 
 -- the bytes that were held are put
 module _ {S F : Type 0} (took : S → List ℕ → S → Type 0) (refused : S → List ℕ → F → S → Type 0)

@@ -8,7 +8,6 @@ use Rattle.twkb_num.specs.Zigzag.{zigzag_of}
 use Rattle.twkb_num.specs.Varint.{varint_of}
 use Rattle.twkb_points.specs.Point.{Point, origin}
 use Rattle.twkb_points.specs.Extent.{Extent, extent, extent_of, joined_options, box_numbers, tight}
-use Rattle.twkb_io.specs.Sinks.{TookFront}
 use Rattle.twkb_tree.specs.Tree.{Simple, point, line, polygon, multi_point, multi_line, multi_polygon, Tree, simple}
 use Rattle.twkb_tree.specs.Tree.{collection, end, ◌▷◌, IsTree, IsPrecision, precision_of, flat, Ids, Trees, HasIds}
 use Rattle.twkb_tree.specs.Tree.{IdsFit, AreTrees, members, count}
@@ -296,7 +295,7 @@ polygon_spelled style d id rings = record {
 }
 
 -- the slots of the parts of a shape
-abbrev part_slots : Simple → List Slot
+abbrev pub part_slots : Simple → List Slot
 part_slots (polygon rings) = flat_map run_of rings
 part_slots (multi_point ids ps) = flat_map (λ p. OfPoint p ∷ []) ps
 part_slots (multi_line ids lines) = flat_map run_of lines
@@ -387,7 +386,7 @@ parts_body style p s d es rs c n named are ids full above =
     (sym (ap (reached origin) are ∙ reached-id_slots origin (ids_in s) ms))
 
 -- points as slots, one at a time
-points_ones : (ps : List Point) → map OfPoint ps ≡ flat_map (λ p. OfPoint p ∷ []) ps
+pub points_ones : (ps : List Point) → map OfPoint ps ≡ flat_map (λ p. OfPoint p ∷ []) ps
 points_ones [] = refl
 points_ones (p ∷ ps) = ap (λ ms. OfPoint p ∷ ms) (points_ones ps)
 
@@ -611,23 +610,6 @@ rows_written style (r ∷ rs) es sizes g t e =
     ∙ ap (λ (l : List Row). rows_bytes style origin (sizes_of style h) l) (sym sizes.2)
     ∙ rows_spell style h sizes.1
     ∙ ap (canonical_blob style) same
-
--- a sink that took these bytes took the blob
-pub took_blob : {S : Type 0} (took : S → List ℕ → S → Type 0) (a b : S) (style : Style)
-    (rs : List Row) (es : List Entry) → AreSizes style rs es
-    → took a (rows_bytes style origin es rs) b
-    → (g : Tree) → IsTree g → rows 0 g ≡ rs → took a (canonical_blob style g) b
-took_blob took a b style rs es sizes taken g t e = subst (λ (l : List ℕ). took a l b)
-    (rows_written style rs es sizes g t e) taken
-
--- a sink that took a prefix of these bytes took a prefix of the blob
-pub took_front : {S F : Type 0} (refused : S → List ℕ → F → S → Type 0) (a b : S) (fault : F)
-    (style : Style) (rs : List Row) (es : List Entry) → AreSizes style rs es
-    → TookFront refused a (rows_bytes style origin es rs) fault b → (g : Tree) → IsTree g
-    → rows 0 g ≡ rs → TookFront refused a (canonical_blob style g) fault b
-took_front refused a b fault style rs es sizes front g t e =
-    subst (λ (l : List ℕ). TookFront refused a l fault b)
-    (rows_written style rs es sizes g t e) front
 
 -- ==== The number of sizes.
 

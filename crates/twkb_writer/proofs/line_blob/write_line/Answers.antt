@@ -1,5 +1,5 @@
 use Rattle.std.proofs.Common.{◌∙◌, refl, rules, to_z-of_z}
-use Rattle.twkb_writer.proofs.LoneBlobLemmas.{took_line, took_line_front, all_own, line_work}
+use Rattle.twkb_writer.proofs.LoneBlobLemmas.{line_bytes, all_own, line_work}
 use Rattle.twkb_writer.proofs.PutLemmas.{put_join, whole_run, cut_run}
 use Rattle.twkb_writer.proofs.line_blob.write_line.Goals as goal
 
@@ -10,11 +10,11 @@ returns-in-Some-clause-err g c =
     let entry = simp (to_z-of_z, c.ranges.precision) at c.line_entry-entry.ensures.value in
     let lead = simp (to_z-of_z, c.ranges.precision) at c.put_line_lead.ensures in
     let way = rw c.origin.ensures at c.put_points.ensures.put in
-    took_line_front g.S.Sink.refused _ _ _ c.args.style c.args.precision ps _ c.line_node-node.result.points
-    c.line_entry-entry.result count (all_own ps _ _ c.line_node-node.ensures.first count) entry
-    (cut_run g.S.Sink.took g.S.Sink.refused _ _ _ _ _ _ _ (g.met.S.Sink.takes_nothing _) refl
+    λ fits. cut_run g.S.Sink.took g.S.Sink.refused _ _ _ _ _ _ _ _ (g.met.S.Sink.takes_nothing _) refl
     c.clear.ensures (put_join g.S.Sink.took g.S.Sink.refused _ _ _ _ _ lead way)
-    c.flush.ensures.put (search rules) c.in-Some.is (search rules))
+    c.flush.ensures.put (search rules) c.in-Some.is (search rules)
+    (line_bytes c.args.style c.args.precision ps _ c.line_node-node.result.points c.line_entry-entry.result fits
+    count (all_own ps _ _ c.line_node-node.ensures.first count) entry)
 
 pub returns-in-Some-clause-work : goal.returns-in-Some-clause-work
 returns-in-Some-clause-work g c =
@@ -30,11 +30,11 @@ returns-in-None-clause-ok g c =
     let entry = simp (to_z-of_z, c.ranges.precision) at c.line_entry-entry.ensures.value in
     let lead = simp (to_z-of_z, c.ranges.precision) at c.put_line_lead.ensures in
     let way = rw c.origin.ensures at c.put_points.ensures.put in
-    took_line g.S.Sink.took _ _ c.args.style c.args.precision ps _ c.line_node-node.result.points
-    c.line_entry-entry.result count (all_own ps _ _ c.line_node-node.ensures.first count) entry
-    (whole_run g.S.Sink.took g.S.Sink.refused _ _ _ _ _ _ (g.met.S.Sink.takes_nothing _) refl
+    λ fits. whole_run g.S.Sink.took g.S.Sink.refused _ _ _ _ _ _ _ (g.met.S.Sink.takes_nothing _) refl
     c.clear.ensures (put_join g.S.Sink.took g.S.Sink.refused _ _ _ _ _ lead way)
-    c.flush.ensures.put (search rules) c.in-None.is c.flush.ensures.empty (search rules))
+    c.flush.ensures.put (search rules) c.in-None.is c.flush.ensures.empty (search rules)
+    (line_bytes c.args.style c.args.precision ps _ c.line_node-node.result.points c.line_entry-entry.result fits
+    count (all_own ps _ _ c.line_node-node.ensures.first count) entry)
 
 pub returns-in-None-clause-work : goal.returns-in-None-clause-work
 returns-in-None-clause-work g c =
