@@ -31,16 +31,17 @@ use Rattle.twkb_writer.proofs.MeasuringTrees.{totals_blob}
 -- ---- rows before others
 
 -- the later ones of some rows may be added first
-pub awaits_last : (xs ys : List Row) (pass : RowPass) → Awaits pass (xs ++ ys) → Awaits pass ys
-awaits_last xs ys pass w = record {
+pub awaits_last : (xs : List Row) {ys : List Row} {pass : RowPass} → Awaits pass (xs ++ ys) → Awaits pass ys
+awaits_last xs {ys} w = record {
   rest = w.rest;
   stands = w.stands;
   fit = measurable_after xs (ys ++ w.rest) (subst AreMeasurable (append_assoc xs ys w.rest) w.fit);
 }
 
 -- then the earlier ones may be added
-pub awaits_first : (xs ys : List Row) (old now : RowPass) → Awaits old (xs ++ ys) → Adds old ys now → Awaits now xs
-awaits_first xs ys old now w added =
+pub awaits_first : (xs : List Row) {ys : List Row} {old now : RowPass} → Awaits old (xs ++ ys) → Adds old ys now
+    → Awaits now xs
+awaits_first xs {ys} w added =
     let fit = subst AreMeasurable (append_assoc xs ys w.rest) w.fit in
     record {
       rest = ys ++ w.rest;
@@ -49,8 +50,9 @@ awaits_first xs ys old now w added =
     }
 
 -- and then all are added
-pub adds_both : (xs ys : List Row) (old now new : RowPass) → Adds old ys now → Adds now xs new → Adds old (xs ++ ys) new
-adds_both xs ys old now new last first = record {
+pub adds_both : {xs ys : List Row} {old now new : RowPass} → Adds old ys now → Adds now xs new
+    → Adds old (xs ++ ys) new
+adds_both {xs} {ys} {new = new} last first = record {
   stands = λ rest stands fit.
       let all = subst AreMeasurable (append_assoc xs ys rest) fit in
       subst (λ rs. Stands Full rs new.depths new.tail) (sym (append_assoc xs ys rest))
@@ -58,11 +60,11 @@ adds_both xs ys old now new last first = record {
 }
 
 -- equal rows are added
-pub adds_same : (xs ys : List Row) (old new : RowPass) → Adds old xs new → xs ≡ ys → Adds old ys new
-adds_same xs ys old new added same = subst (λ rs. Adds old rs new) same added
+pub adds_same : {xs ys : List Row} {old new : RowPass} → Adds old xs new → xs ≡ ys → Adds old ys new
+adds_same {old = old} {new} added same = subst (λ rs. Adds old rs new) same added
 
-pub awaits_same : (xs ys : List Row) (pass : RowPass) → Awaits pass ys → xs ≡ ys → Awaits pass xs
-awaits_same xs ys pass w same = subst (λ rs. Awaits pass rs) (sym same) w
+pub awaits_same : {xs ys : List Row} {pass : RowPass} → Awaits pass ys → xs ≡ ys → Awaits pass xs
+awaits_same {pass = pass} w same = subst (λ rs. Awaits pass rs) (sym same) w
 
 -- nothing is added without rows
 pub adds_none : (pass : RowPass) → Adds pass [] pass
@@ -82,15 +84,15 @@ row_added node ps old new points e count first found short row is = record {
       let own = all_own ps node.first.0 node.points first (sym count) in
       subst (λ t. Stands Full (row_with node.row ps ∷ rest) new.depths t) (sym is)
       (stands_more Full node ps rest old.depths new.depths old.tail points e stands fit count
-      (found (points_ahead rest) stands.tail_is ∙ ap (λ qs. tail_of (qs ++ points_ahead rest)) own) short row);
+      (found (points_ahead rest) stands.tail_is ∙ ap (λ qs. tail_of (qs ++ points_ahead rest)) own) short row).0;
 }
 
 -- the rows of a polygon's rings are added
-pub rings_added : (d : ℕ) (items rings : List (List Point)) (old new : RowPass)
+pub rings_added : (d : ℕ) {items rings : List (List Point)} {old new : RowPass}
     → Adds old (ring_rows (d + 1) items) new → items ≡ rings → Adds old (ring_rows (suc d) rings) new
-rings_added d items rings old new added are =
+rings_added d added are =
     let next : d + 1 ≡ suc d = omega arith in
-    adds_same (ring_rows (d + 1) items) (ring_rows (suc d) rings) old new added (λ i. ring_rows (next i) (are i))
+    adds_same added (λ i. ring_rows (next i) (are i))
 
 -- ---- items, from the last to the first
 
@@ -112,7 +114,7 @@ awaits_from f ids [] (suc k) pass w = w
 awaits_from f ids (x ∷ xs) (suc k) pass w =
     subst (λ js. Awaits pass (rows_of_each f js (drop k xs))) (ids_further k ids)
     (awaits_from f (other_ids ids) xs k pass
-    (awaits_last (f (first_id ids) x) (rows_of_each f (other_ids ids) xs) pass w))
+    (awaits_last (f (first_id ids) x) w))
 
 -- the rows of the item before a place, and those from there on
 rows_before : {A : Type 0} (f : Option ℤ → A → List Row) (ids : Ids) (xs : List A) (k : ℕ) (x : A)
@@ -125,7 +127,7 @@ rows_before f ids xs k x id some within read eid =
 -- at first no item is added
 pub each_none : {A : Type 0} (f : Option ℤ → A → List Row) (ids : Ids) (xs : List A) (pass : RowPass)
     → Adds pass (rows_from f ids xs (length xs)) pass
-each_none f ids xs pass = adds_same [] (rows_from f ids xs (length xs)) pass pass (adds_none pass)
+each_none f ids xs pass = adds_same (adds_none pass)
     (ap (rows_of_each f (ids_from (length xs) ids)) (sym (drop_all (length xs) xs (omega arith))))
 
 -- the item before a place may be added next
@@ -134,9 +136,8 @@ pub each_awaits : {A : Type 0} (f : Option ℤ → A → List Row) (ids : Ids) (
     → id ≡ first_id (ids_from (k - 1) ids) → Awaits old (rows_of_each f ids xs)
     → Adds old (rows_from f ids xs k) now → Awaits now (f id x)
 each_awaits f ids xs k x id old now some within read eid w added =
-    awaits_first (f id x) (rows_from f ids xs k) old now
-    (subst (λ rs. Awaits old rs) (sym (rows_before f ids xs k x id some within read eid))
-    (awaits_from f ids xs (k - 1) old w)) added
+    awaits_first (f id x) (awaits_same (awaits_from f ids xs (k - 1) old w)
+    (rows_before f ids xs k x id some within read eid)) added
 
 -- the items from one place earlier on are added
 pub each_more : {A : Type 0} (f : Option ℤ → A → List Row) (ids : Ids) (xs : List A) (k : ℕ) (x : A)
@@ -144,16 +145,14 @@ pub each_more : {A : Type 0} (f : Option ℤ → A → List Row) (ids : Ids) (xs
     → id ≡ first_id (ids_from (k - 1) ids) → Adds old (rows_from f ids xs k) now
     → Adds now (f id x) new → Adds old (rows_from f ids xs (k - 1)) new
 each_more f ids xs k x id old now new some within read eid last first =
-    subst (λ rs. Adds old rs new) (rows_before f ids xs k x id some within read eid)
-    (adds_both (f id x) (rows_from f ids xs k) old now new last first)
+    adds_same (adds_both last first) (rows_before f ids xs k x id some within read eid)
 
 -- at the start all items are added
 pub each_all : {A : Type 0} (f : Option ℤ → A → List Row) (ids : Ids) (xs : List A) (k : ℕ)
     (old now : RowPass) → k ≤ 0 → Adds old (rows_from f ids xs k) now → Adds old (rows_of_each f ids xs) now
 each_all f ids xs k old now start added =
     let none : k ≡ 0 = omega arith in
-    subst (λ rs. Adds old rs now)
-    (ap (rows_from f ids xs) none ∙ ap (λ js. rows_of_each f js xs) (ids_from_start ids)) added
+    adds_same added (ap (rows_from f ids xs) none ∙ ap (λ js. rows_of_each f js xs) (ids_from_start ids))
 
 -- ---- a geometry
 
@@ -168,29 +167,26 @@ geometry_rows id d g r e =
 pub geometry_shallow : (id : Option ℤ) (d : ℕ) (g : Tree) (pass : RowPass) → Awaits pass (rows_with id d g)
     → d ≤ row_depth_cap
 geometry_shallow id d g pass w =
-    let own = awaits_same (own_row id d g ∷ rows_under (d + 1) g) (rows_with id d g) pass w
-    (geometry_rows id d g (own_row id d g) refl) in
+    let own = awaits_same w (geometry_rows id d g (own_row id d g) refl) in
     omega (arith, own.fit.nested.0, own_row-depth id d g)
 
 -- the rows under it may be added first
 pub under_awaits : (id : Option ℤ) (d : ℕ) (g : Tree) (pass : RowPass) → Awaits pass (rows_with id d g)
     → Awaits pass (rows_under (d + 1) g)
-under_awaits id d g pass w = awaits_last (own_row id d g ∷ []) (rows_under (d + 1) g) pass
-    (awaits_same (own_row id d g ∷ rows_under (d + 1) g) (rows_with id d g) pass w
-    (geometry_rows id d g (own_row id d g) refl))
+under_awaits id d g pass w = awaits_last (own_row id d g ∷ [])
+    (awaits_same w (geometry_rows id d g (own_row id d g) refl))
 
 -- then its own row may be added
 pub own_awaits : (id : Option ℤ) (d : ℕ) (g : Tree) (r : Row) (old now : RowPass) → r ≡ own_row id d g
     → Awaits old (rows_with id d g) → Adds old (rows_under (d + 1) g) now → Awaits now (r ∷ [])
-own_awaits id d g r old now e w added = awaits_first (r ∷ []) (rows_under (d + 1) g) old now
-    (awaits_same (r ∷ rows_under (d + 1) g) (rows_with id d g) old w (geometry_rows id d g r e)) added
+own_awaits id d g r old now e w added =
+    awaits_first (r ∷ []) (awaits_same w (geometry_rows id d g r e)) added
 
 -- and then all its rows are added
 pub geometry_added : (id : Option ℤ) (d : ℕ) (g : Tree) (r : Row) (old now new : RowPass) → r ≡ own_row id d g
     → Adds old (rows_under (d + 1) g) now → Adds now (r ∷ []) new → Adds old (rows_with id d g) new
 geometry_added id d g r old now new e last first =
-    adds_same (r ∷ rows_under (d + 1) g) (rows_with id d g) old new
-    (adds_both (r ∷ []) (rows_under (d + 1) g) old now new last first) (geometry_rows id d g r e)
+    adds_same (adds_both last first) (geometry_rows id d g r e)
 
 -- the rows of members, as items
 pub members_rows : (d : ℕ) (ids : Ids) (items gs : List Tree) → items ≡ gs

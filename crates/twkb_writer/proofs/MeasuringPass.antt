@@ -24,7 +24,7 @@ use Rattle.twkb_writer.specs.Nodes.{own_points_in}
 use Rattle.twkb_writer.specs.Sizes.{AreSizes}
 use Rattle.twkb_writer.specs.Tails.{tail_of}
 use Rattle.twkb_writer.specs.Reads.{ReadsExactly}
-use Rattle.twkb_writer.proofs.MeasuringSteps.{stands_none, stands_more, entry_more, measurable_from}
+use Rattle.twkb_writer.proofs.MeasuringSteps.{stands_none, stands_more, measurable_from}
 use Rattle.twkb_writer.proofs.MeasuringTrees.{measured_rows}
 use Rattle.twkb_writer.proofs.WalkLemmas.{rest_is, own_points, points_step}
 use Rattle.twkb_writer.proofs.PutLemmas.{part_more, nothing_left, whole_part}
@@ -68,16 +68,15 @@ pass_back style rows i node by_depth new tail points e es fit is pass found shor
     let points_are : points ≡ tail_of (is.own ++ points_ahead is.rest) =
     found (points_ahead is.rest) behind.stands.tail_is
     ∙ ap (λ ps. tail_of (ps ++ points_ahead is.rest)) (own_points rows i node is) in
+    let more = stands_more style node is.own is.rest by_depth new tail points e behind.stands here is.count
+    points_are short row in
     subst (λ (l : List Row). Pass style l new (tail_after node.row.precision points) (es ++ option_list e))
     (sym is.here) (record {
-      stands = stands_more style node is.own is.rest by_depth new tail points e behind.stands here is.count
-          points_are short row;
+      stands = more.0;
       kept =
           ap (λ l. l ++ option_list e) behind.kept
           ∙ ap (λ l. reverse (measured style is.rest) ++ l) (sym (reverse-option e))
-          ∙ sym (reverse-append (option_list e) (measured style is.rest))
-          ∙ ap reverse (entry_more style node is.own is.rest by_depth new tail points e behind.stands here
-          is.count points_are row);
+          ∙ sym (reverse-append (option_list e) (measured style is.rest)) ∙ ap reverse more.1;
     })
 
 -- the pass after one more node, with its place counted from the end

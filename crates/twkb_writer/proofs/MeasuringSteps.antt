@@ -199,46 +199,26 @@ pub tail_small : (style : Style) (rs : List Row) (by_depth : List RowTotals) (t 
     → Stands style rs by_depth t → AreMeasurable rs → t.bytes ≤ weights_cap
 tail_small style rs by_depth t stands fit = omega (arith, stands.small, fit.few_rows, fit.few_points)
 
--- the totals of the rows below a row and after it, and its points up to the end of its geometry
-record IsTaken (style : Style) (node : Node) (ps : List Point) (rs : List Row) (by_depth : List RowTotals)
-    (points : TailTotals) : Type 0 where
-  count : node.points ≡ length ps
-  points_are : points ≡ tail_of (ps ++ points_ahead rs)
-  below : get_or by_depth (node.row.depth + 1) blank ≡ totals style (suc node.row.depth) rs
-  others : get_or by_depth node.row.depth blank ≡ totals style node.row.depth rs
-
-taken : (style : Style) (node : Node) (ps : List Point) (rs : List Row) (by_depth : List RowTotals)
-    (tail points : TailTotals) → Stands style rs by_depth tail → AreMeasurable (row_with node.row ps ∷ rs)
-    → length ps ≡ node.points → points ≡ tail_of (ps ++ points_ahead rs)
-    → IsTaken style node ps rs by_depth points
-taken style node ps rs by_depth tail points stands fit count points_are =
-    let d : ℕ = node.row.depth in
-    let next : d + 1 ≡ suc d = omega arith in
-    record {
-      count = sym count;
-      points_are = points_are;
-      below = stands.totals_are (d + 1) (omega (arith, fit.nested.0)) ∙ ap (λ k. totals style k rs) next;
-      others = stands.totals_are d (omega (arith, fit.nested.0));
-    }
-
--- the pass after one more row before the others
+-- the pass after one more row before the others, and the row's entry if it is a geometry itself
 pub stands_more : (style : Style) (node : Node) (ps : List Point) (rs : List Row)
     (by_depth new : List RowTotals) (tail points : TailTotals) (e : Option Entry)
     → Stands style rs by_depth tail → AreMeasurable (row_with node.row ps ∷ rs) → length ps ≡ node.points
     → points ≡ tail_of (ps ++ points_ahead rs) → points.bytes ≤ tail.bytes + 20 * node.points
     → TakenRow style node points by_depth new e
     → Stands style (row_with node.row ps ∷ rs) new (tail_after node.row.precision points)
+    × (option_list e ++ measured style rs ≡ measured style (row_with node.row ps ∷ rs))
 stands_more style node ps rs by_depth new tail points e stands fit count points_are short row =
     let d : ℕ = node.row.depth in
     let r : Row = row_with node.row ps in
-    let t = taken style node ps rs by_depth tail points stands fit count points_are in
+    let next : d + 1 ≡ suc d = omega arith in
+    let own = sym count in
+    let below = stands.totals_are (d + 1) (omega (arith, fit.nested.0)) ∙ ap (λ k. totals style k rs) next in
+    let others = stands.totals_are d (omega (arith, fit.nested.0)) in
     let own_is : row.own ≡ row_totals style r.kind (length ps) r.id r.precision (totals style (suc d) rs)
     (tail_of (ps ++ points_ahead rs)) (totals style d rs) =
-    row.own_is ∙ (λ i. row_totals style r.kind (t.count i) r.id r.precision (t.below i) (t.points_are i)
-    (t.others i)) in
+    row.own_is ∙ (λ i. row_totals style r.kind (own i) r.id r.precision (below i) (points_are i) (others i)) in
     let deep : d + 1 < length by_depth = omega (arith, fit.nested.0, stands.size) in
-    subst (λ (l : List RowTotals). Stands style (r ∷ rs) l (tail_after r.precision points)) (sym row.set_both)
-    (record {
+    let after : Stands style (r ∷ rs) (set_row by_depth d row.own) (tail_after r.precision points) = record {
       size = length-set (set by_depth (d + 1) blank) d row.own ∙ length-set by_depth (d + 1) blank ∙ stands.size;
       totals_are = stands_step style by_depth r rs row.own stands.size fit.nested.0 fit.nested.1 own_is
           stands.totals_are;
@@ -253,19 +233,11 @@ stands_more style node ps rs by_depth new tail points e stands fit count points_
         count,
         length-append ps (row_points rs),
       );
-    })
-
--- the entry of that row, if it is a geometry itself
-pub entry_more : (style : Style) (node : Node) (ps : List Point) (rs : List Row)
-    (by_depth new : List RowTotals) (tail points : TailTotals) (e : Option Entry)
-    → Stands style rs by_depth tail → AreMeasurable (row_with node.row ps ∷ rs) → length ps ≡ node.points
-    → points ≡ tail_of (ps ++ points_ahead rs) → TakenRow style node points by_depth new e
-    → option_list e ++ measured style rs ≡ measured style (row_with node.row ps ∷ rs)
-entry_more style node ps rs by_depth new tail points e stands fit count points_are row =
-    let t = taken style node ps rs by_depth tail points stands fit count points_are in
-    (λ i. option_list (row.entry_is i) ++ measured style rs)
-    ∙ (λ i. option_list (row_entry style node.row.kind (t.count i) node.row.precision (t.below i)
-    (t.points_are i)) ++ measured style rs)
+    } in (
+      subst (λ (l : List RowTotals). Stands style (r ∷ rs) l (tail_after r.precision points)) (sym row.set_both) after,
+      (λ i. option_list (row.entry_is i) ++ measured style rs)
+          ∙ (λ i. option_list (row_entry style r.kind (own i) r.precision (below i) (points_are i)) ++ measured style rs),
+    )
 
 -- ==== Rows that can be measured.
 

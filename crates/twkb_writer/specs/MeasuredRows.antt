@@ -39,19 +39,12 @@ abbrev pub row_entry : Style → Kind → ℕ → Option ℤ → RowTotals → T
 row_entry style k own None below t = None
 row_entry style k own (Some p) below t = Some (entry_for style k p own below t)
 
--- the totals at depth k of a row at depth d and the rows after it: none if the row is above k,
--- `own` if it is at k, those of the rows after it if it is below k
-abbrev pub chosen : ℕ → ℕ → RowTotals → RowTotals → RowTotals
-chosen d k own others = if nat_lt d k then blank else if nat_eq d k then own else others
-
--- the totals of the rows at a depth, up to the first row above it
+-- the totals of the rows at a depth, up to the first row above it; deeper rows are passed over
 abbrev pub totals : Style → ℕ → List Row → RowTotals
 totals style k [] = blank
-totals style k (r ∷ rs) =
-    chosen r.depth k
-    (row_totals style r.kind (length r.points) r.id r.precision (totals style (suc k) rs)
-    (tail_of (r.points ++ points_ahead rs)) (totals style k rs))
-    (totals style k rs)
+totals style k (r ∷ rs) = if nat_lt r.depth k then blank else if nat_eq r.depth k then row_totals style r.kind
+    (length r.points) r.id r.precision (totals style (suc k) rs) (tail_of (r.points ++ points_ahead rs))
+    (totals style k rs) else totals style k rs
 
 -- the totals of points that the row before this one adds to: none if this row begins a geometry
 abbrev pub tail_after : Option ℤ → TailTotals → TailTotals

@@ -31,7 +31,7 @@ add_members-add_geometry-requires t c =
       search (rules, member_smaller),
       each_awaits (λ id g. rows_with id c.args.depth g) c.args.ids.now items c.loop-index.index
           _ _ _ _ c.loop-index-test.true c.loop-index.auto.index c.index-items-index.is
-          c.id_at.ensures (awaits_same _ _ _ c.requires same) c.loop-index.invariant,
+          c.id_at.ensures (awaits_same c.requires same) c.loop-index.invariant,
     )
 
 pub add_members-loop-index-preserved : goal.add_members-loop-index-preserved
@@ -42,30 +42,30 @@ add_members-loop-index-preserved t c =
 
 pub add_members-returns : goal.add_members-returns
 add_members-returns t c =
-    adds_same _ _ _ _ (each_all (λ id g. rows_with id c.args.depth g) c.args.ids.now
+    adds_same (each_all (λ id g. rows_with id c.args.depth g) c.args.ids.now
     c.as_slice-items.result.now _ _ _ (omega arith) c.loop-index.invariant)
     (members_rows c.args.depth c.args.ids.now _ _ c.as_slice-items.ensures.items)
 
 pub add_under-returns-in-Polygon : goal.add_under-returns-in-Polygon
 add_under-returns-in-Polygon t c =
-    adds_same _ _ _ _ c.add_each.ensures (ap (ring_rows c.args.depth) c.as_slice.ensures.items
+    adds_same c.add_each.ensures (ap (ring_rows c.args.depth) c.as_slice.ensures.items
     ∙ under_shape _ _ _ _ _ c.shape.ensures c.in-Polygon.is)
 
 pub add_under-returns-in-MultiPoint : goal.add_under-returns-in-MultiPoint
 add_under-returns-in-MultiPoint t c =
-    adds_same _ _ _ _ c.add_each-in-MultiPoint.ensures
+    adds_same c.add_each-in-MultiPoint.ensures
     (ap (λ ps. rows_below c.args.depth (multi_point c.in-MultiPoint.ids ps)) c.as_slice-in-MultiPoint.ensures.items
     ∙ under_shape _ _ _ _ _ c.shape.ensures c.in-MultiPoint.is)
 
 pub add_under-returns-in-MultiLine : goal.add_under-returns-in-MultiLine
 add_under-returns-in-MultiLine t c =
-    adds_same _ _ _ _ c.add_each-in-MultiLine.ensures
+    adds_same c.add_each-in-MultiLine.ensures
     (ap (λ ls. rows_below c.args.depth (multi_line c.in-MultiLine.ids ls)) c.as_slice-in-MultiLine.ensures.items
     ∙ under_shape _ _ _ _ _ c.shape.ensures c.in-MultiLine.is)
 
 pub add_under-returns-in-MultiPolygon : goal.add_under-returns-in-MultiPolygon
 add_under-returns-in-MultiPolygon t c =
-    adds_same _ _ _ _ c.add_each-in-MultiPolygon.ensures
+    adds_same c.add_each-in-MultiPolygon.ensures
     (ap (λ areas. rows_below c.args.depth (multi_polygon c.in-MultiPolygon.ids areas))
     c.as_slice-in-MultiPolygon.ensures.items
     ∙ under_shape _ _ _ _ _ c.shape.ensures c.in-MultiPolygon.is)
