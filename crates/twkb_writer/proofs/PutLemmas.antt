@@ -2,6 +2,7 @@
 use Rattle.std.proofs.Common.{◌≡◌, ◌∙◌, ℕ, ℤ, List, [], ◌∷◌, ◌++◌, Option, None, Some, IsTrue, refl, sym, ap}
 use Rattle.std.proofs.Common.{append_assoc, subst, suc, ◌+◌, ◌-◌, ◌<◌, ◌≤◌, take, drop, arith}
 use Rattle.std.specs.Prelude.{Result, Ok, Err, OnOk, IfErr, is_some, flat_map, slice_get, ◌-ℤ◌}
+use Rattle.std.specs.Borrow.{MutBor}
 use Rattle.std.specs.Result.{result_err}
 use Rattle.std.proofs.lemmas.List.{append-nil, drop_more}
 use Rattle.std.proofs.lemmas.Option.{get_or_from_slice_get, slice_get_within}
@@ -47,6 +48,7 @@ module _ {S F : Type 0} (took : S → List ℕ → S → Type 0) (refused : S �
   lost from all held left None sink some h = cc some
   lost from all held left (Some fault) sink some h = h
 
+module _ {S F : Type 0} {took : S → List ℕ → S → Type 0} {refused : S → List ℕ → F → S → Type 0} where
   -- nothing was put
   pub put_none : (a : Gatherer S F) → Put took refused a [] a
   put_none a = record {
@@ -56,9 +58,9 @@ module _ {S F : Type 0} (took : S → List ℕ → S → Type 0) (refused : S �
         a.piece.now) (sym (append-nil before)) h;
   }
 
-  pub put_join : (a b c : Gatherer S F) (first second : List ℕ) → Put took refused a first b
+  pub put_join : {a b c : Gatherer S F} {first second : List ℕ} → Put took refused a first b
       → Put took refused b second c → Put took refused a (first ++ second) c
-  put_join a b c first second p q = record {
+  put_join {c = c} {first} {second} p q = record {
     same_sink = q.same_sink ∙ p.same_sink;
     same_fault = q.same_fault ∙ p.same_fault;
     puts = λ from before h. subst (λ (l : List ℕ). Stands took refused from l c.fault.now c.sink.now
@@ -67,34 +69,17 @@ module _ {S F : Type 0} (took : S → List ℕ → S → Type 0) (refused : S �
   }
 
   -- room was made, and the bytes stayed in the piece
-  pub pushed : (a b c : Gatherer S F) (bytes : List ℕ) → Put took refused a [] b → c.sink ≡ b.sink
-      → c.fault ≡ b.fault → c.piece.now ≡ b.piece.now ++ bytes → Put took refused a bytes c
-  pushed a b c bytes p same kept e = record {
-    same_sink = ap (λ (sink : _). sink.ghost_name) same ∙ p.same_sink;
-    same_fault = ap (λ (fault : _). fault.ghost_name) kept ∙ p.same_fault;
+  pub pushed : {a b : Gatherer S F} {bytes : List ℕ} (piece : MutBor (List ℕ)) → Put took refused a [] b
+      → piece.now ≡ b.piece.now ++ bytes → Put took refused a bytes (record b { piece = piece })
+  pushed {b = b} {bytes} piece p e = record {
+    same_sink = p.same_sink;
+    same_fault = p.same_fault;
     puts = λ from before h.
         let room : Stands took refused from before b.fault.now b.sink.now b.piece.now =
         subst (λ (l : List ℕ). Stands took refused from l b.fault.now b.sink.now b.piece.now)
         (append-nil before) (p.puts from before h) in
-        subst (λ (l : List ℕ). Stands took refused from (before ++ bytes) c.fault.now c.sink.now l) (sym e)
-        (subst (λ (sink : _). Stands took refused from (before ++ bytes) c.fault.now sink.now
-        (b.piece.now ++ bytes)) (sym same)
-        (subst (λ (fault : _). Stands took refused from (before ++ bytes) fault.now b.sink.now
-        (b.piece.now ++ bytes)) (sym kept) (more from before bytes b.piece.now b.fault.now
-        b.sink.now room)));
-  }
-
-  -- the piece was emptied after a refusal
-  pub emptied : (a c : Gatherer S F) → IsTrue (is_some a.fault.now) → c.sink ≡ a.sink
-      → c.fault ≡ a.fault → Put took refused a [] c
-  emptied a c some same kept = record {
-    same_sink = ap (λ (sink : _). sink.ghost_name) same;
-    same_fault = ap (λ (fault : _). fault.ghost_name) kept;
-    puts = λ from before h.
-        subst (λ (l : List ℕ). Stands took refused from l c.fault.now c.sink.now c.piece.now) (sym (append-nil before))
-        (subst (λ (sink : _). Stands took refused from before c.fault.now sink.now c.piece.now) (sym same)
-        (subst (λ (fault : _). Stands took refused from before fault.now a.sink.now c.piece.now)
-        (sym kept) (lost from before a.piece.now c.piece.now a.fault.now a.sink.now some h)));
+        subst (λ (l : List ℕ). Stands took refused from (before ++ bytes) b.fault.now b.sink.now l) (sym e)
+        (more took refused from before bytes b.piece.now b.fault.now b.sink.now room);
   }
 
   -- ---- bytes that are still to be put
@@ -102,38 +87,38 @@ module _ {S F : Type 0} (took : S → List ℕ → S → Type 0) (refused : S �
   pub begun : (a : Gatherer S F) (all : List ℕ) → Progress took refused a all a all
   begun a all = record { written = []; put = put_none a; total = refl }
 
-  pub step : (a b c : Gatherer S F) (all rest bytes left : List ℕ) → rest ≡ bytes ++ left
-      → Progress took refused a all b rest → Put took refused b bytes c
-      → Progress took refused a all c left
-  step a b c all rest bytes left e p q = record {
+  pub step : {a b c : Gatherer S F} {all rest bytes left : List ℕ} → rest ≡ bytes ++ left
+      → Progress took refused a all b rest → Put took refused b bytes c → Progress took refused a all c left
+  step {bytes = bytes} {left} e p q = record {
     written = p.written ++ bytes;
-    put = put_join a b c p.written bytes p.put q;
+    put = put_join p.put q;
     total = append_assoc p.written bytes left ∙ ap (λ (l : List ℕ). p.written ++ l) (sym e) ∙ p.total;
   }
 
-  pub finished : (a b : Gatherer S F) (all rest : List ℕ) → rest ≡ []
-      → Progress took refused a all b rest → Put took refused a all b
-  finished a b all rest e p =
+  pub finished : {a b : Gatherer S F} {all rest : List ℕ} → rest ≡ [] → Progress took refused a all b rest
+      → Put took refused a all b
+  finished {a} {b} e p =
       subst (λ (l : List ℕ). Put took refused a l b) (sym (append-nil p.written)
       ∙ ap (λ (l : List ℕ). p.written ++ l) (sym e) ∙ p.total) p.put
 
   -- after a refusal it does not matter which bytes are left
-  pub given_up : (a b : Gatherer S F) (all rest : List ℕ) → IsTrue (is_some b.fault.now)
+  pub given_up : {a b : Gatherer S F} {all rest : List ℕ} → IsTrue (is_some b.fault.now)
       → Progress took refused a all b rest → Put took refused a all b
-  given_up a b all rest some p = record {
+  given_up {b = b} {all} {rest} some p = record {
     same_sink = p.put.same_sink;
     same_fault = p.put.same_fault;
     puts = λ from before h.
         let total : (before ++ p.written) ++ rest ≡ before ++ all = append_assoc before p.written
         rest ∙ ap (λ (l : List ℕ). before ++ l) p.total in
         subst (λ (l : List ℕ). Stands took refused from l b.fault.now b.sink.now b.piece.now) total
-        (lost from ((before ++ p.written) ++ rest) (b.piece.now ++ rest) b.piece.now b.fault.now
-        b.sink.now some (more from (before ++ p.written) rest b.piece.now b.fault.now b.sink.now
+        (lost took refused from ((before ++ p.written) ++ rest) (b.piece.now ++ rest) b.piece.now b.fault.now
+        b.sink.now some (more took refused from (before ++ p.written) rest b.piece.now b.fault.now b.sink.now
         (p.put.puts from before h)));
   }
 
-  -- ---- a run that began with an empty piece
+-- ---- a run that began with an empty piece
 
+module _ {S F : Type 0} (took : S → List ℕ → S → Type 0) (refused : S → List ℕ → F → S → Type 0) where
   begin : (a b : Gatherer S F) (bytes : List ℕ) → took a.sink.now [] a.sink.now → a.fault.now ≡ None
       → a.piece.now ≡ [] → Put took refused a bytes b
       → Stands took refused a.sink.now bytes b.fault.now b.sink.now b.piece.now
@@ -151,7 +136,7 @@ module _ {S F : Type 0} (took : S → List ℕ → S → Type 0) (refused : S �
   whole_run a b c after o bytes all none fresh empty p q told_is no_fault left same are =
       let told : Stands took refused a.sink.now (bytes ++ []) None c.sink.now c.piece.now =
       subst (λ (o : Option F). Stands took refused a.sink.now (bytes ++ []) o c.sink.now c.piece.now)
-      (sym told_is ∙ no_fault) (begin a c (bytes ++ []) none fresh empty (put_join a b c bytes [] p q)) in
+      (sym told_is ∙ no_fault) (begin a c (bytes ++ []) none fresh empty (put_join p q)) in
       let front_is : told.0 ≡ all = sym (append-nil told.0)
       ∙ ap (λ (l : List ℕ). told.0 ++ l) (sym left) ∙ sym told.2 ∙ append-nil bytes ∙ are in
       subst (took a.sink.now all) (sym same) (subst (λ (l : List ℕ). took a.sink.now l c.sink.now) front_is told.1)
@@ -165,7 +150,7 @@ module _ {S F : Type 0} (took : S → List ℕ → S → Type 0) (refused : S �
   cut_run a b c after o bytes all fault none fresh empty p q told_is some same are =
       let told : Stands took refused a.sink.now (bytes ++ []) (Some fault) c.sink.now c.piece.now =
       subst (λ (o : Option F). Stands took refused a.sink.now (bytes ++ []) o c.sink.now c.piece.now)
-      (sym told_is ∙ some) (begin a c (bytes ++ []) none fresh empty (put_join a b c bytes [] p q)) in
+      (sym told_is ∙ some) (begin a c (bytes ++ []) none fresh empty (put_join p q)) in
       subst (TookFront refused a.sink.now all fault) (sym same)
       (subst (λ (l : List ℕ). TookFront refused a.sink.now l fault c.sink.now) (append-nil bytes ∙ are) told)
 

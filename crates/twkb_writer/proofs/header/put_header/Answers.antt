@@ -7,5 +7,5 @@ returns g c =
     let first = simp (to_z-of_z, c.ranges.precision) at
     (rw (c.byte-kind.ensures, c.of.ensures.number, c.byte-flags.ensures, c.metadata.ensures) at
     c.put_two.ensures) in
-    put_join g.S.Sink.took g.S.Sink.refused _ _ _ _ _ first
-    (put_join g.S.Sink.took g.S.Sink.refused _ _ _ _ _ c.put_size.ensures c.put_box.ensures)
+    put_join first
+    (put_join c.put_size.ensures c.put_box.ensures)

@@ -11,7 +11,7 @@ returns-in-Some-clause-err g c =
     let lead = simp (to_z-of_z, c.ranges.precision) at c.put_line_lead.ensures in
     let way = rw c.origin.ensures at c.put_points.ensures.put in
     λ fits. cut_run g.S.Sink.took g.S.Sink.refused _ _ _ _ _ _ _ _ (g.met.S.Sink.takes_nothing _) refl
-    c.clear.ensures (put_join g.S.Sink.took g.S.Sink.refused _ _ _ _ _ lead way)
+    c.clear.ensures (put_join lead way)
     c.flush.ensures.put (search rules) c.in-Some.is (search rules)
     (line_bytes c.args.style c.args.precision ps _ c.line_node-node.result.points c.line_entry-entry.result fits
     count (all_own ps _ _ c.line_node-node.ensures.first count) entry)
@@ -31,7 +31,7 @@ returns-in-None-clause-ok g c =
     let lead = simp (to_z-of_z, c.ranges.precision) at c.put_line_lead.ensures in
     let way = rw c.origin.ensures at c.put_points.ensures.put in
     λ fits. whole_run g.S.Sink.took g.S.Sink.refused _ _ _ _ _ _ _ (g.met.S.Sink.takes_nothing _) refl
-    c.clear.ensures (put_join g.S.Sink.took g.S.Sink.refused _ _ _ _ _ lead way)
+    c.clear.ensures (put_join lead way)
     c.flush.ensures.put (search rules) c.in-None.is c.flush.ensures.empty (search rules)
     (line_bytes c.args.style c.args.precision ps _ c.line_node-node.result.points c.line_entry-entry.result fits
     count (all_own ps _ _ c.line_node-node.ensures.first count) entry)

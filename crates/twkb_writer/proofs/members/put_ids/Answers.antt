@@ -9,7 +9,7 @@ pub loop-child-init : goal.loop-child-init
 loop-child-init g c = record {
   after = omega arith;
   at = first_at _ _ _ c.requires;
-  progress = begun g.S.Sink.took g.S.Sink.refused _ _;
+  progress = begun _ _;
   read = (0, omega arith, reads_none _ _ _);
 }
 
@@ -23,7 +23,7 @@ loop-child-preserved g c =
     record {
       after = omega (arith, member.next.after, inv.after);
       at = next_at _ _ _ _ _ _ ends inv.at c.loop-child-test.true inv.after member;
-      progress = step g.S.Sink.took g.S.Sink.refused _ _ _ _ _ _ _ (ap ids_bytes more) inv.progress c.put_id.ensures;
+      progress = step (ap ids_bytes more) inv.progress c.put_id.ensures;
       read = (
         n + 1,
         omega (arith, total, ap length more),
@@ -36,8 +36,7 @@ loop-child-preserved g c =
 pub returns-clause-put : goal.returns-clause-put
 returns-clause-put g c =
     let inv = c.loop-child.invariant in
-    finished g.S.Sink.took g.S.Sink.refused _ _ _ _
-    (ap ids_bytes (members_end _ _ _ _ _ (node_ends _ _ _ c.requires) inv.at (omega arith)))
+    finished (ap ids_bytes (members_end _ _ _ _ _ (node_ends _ _ _ c.requires) inv.at (omega arith)))
     inv.progress
 
 pub returns-clause-reads : goal.returns-clause-reads

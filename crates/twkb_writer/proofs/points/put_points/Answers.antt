@@ -11,7 +11,7 @@ loop-index-init g c =
     record {
       behind = omega arith;
       within = omega arith;
-      progress = rw same (begun g.S.Sink.took g.S.Sink.refused _ _);
+      progress = rw same (begun _ _);
       last = ap (way_end c.args.cursor.now) same;
       reads = exactly_same _ _ 0 0 _ (exactly_none _ c.look_at_reads.ensures.nodes c.look_at_reads.ensures.points)
           (omega arith);
@@ -29,8 +29,7 @@ loop-index-preserved g c =
     record {
       behind = omega (arith, c.loop-index.invariant.behind);
       within = omega (arith, c.loop-index.invariant.within);
-      progress = rw c.put_steps.ensures.moved (step g.S.Sink.took g.S.Sink.refused _ _ _ _ _ _ _
-          (ap (way_bytes at) two ∙ way_two at c.point-to.result c.point-next.result _)
+      progress = rw c.put_steps.ensures.moved (step (ap (way_bytes at) two ∙ way_two at c.point-to.result c.point-next.result _)
           c.loop-index.invariant.progress c.put_steps.ensures.put);
       last = rw c.put_steps.ensures.moved
           (sym (ap (way_end at) two) ∙ c.loop-index.invariant.last);
@@ -45,9 +44,8 @@ returns-then-index-end-clause-put g c =
     let i = c.loop-index.index in
     let end = c.args.node.now.first.0 + c.args.node.now.points in
     let to = c.point-to-then-index-end.result in
-    finished g.S.Sink.took g.S.Sink.refused _ _ _ _ (ap (way_bytes to) (nothing_left ps (i + 1) end (omega arith)))
-    (step g.S.Sink.took g.S.Sink.refused _ _ _ _ _ _ _
-    (ap (way_bytes c.loop-index.cursor) (part_more ps i end to (omega arith)
+    finished (ap (way_bytes to) (nothing_left ps (i + 1) end (omega arith)))
+    (step (ap (way_bytes c.loop-index.cursor) (part_more ps i end to (omega arith)
     c.point-to-then-index-end.ensures.point)) c.loop-index.invariant.progress
     c.put_step.ensures.put)
 
@@ -69,8 +67,7 @@ returns-then-index-end-clause-reads g c =
 
 pub returns-else-index-end-clause-put : goal.returns-else-index-end-clause-put
 returns-else-index-end-clause-put g c =
-    finished g.S.Sink.took g.S.Sink.refused _ _ _ _
-    (ap (way_bytes c.loop-index.cursor) (nothing_left (g.P.PlacedPoints.points c.args.all.now)
+    finished (ap (way_bytes c.loop-index.cursor) (nothing_left (g.P.PlacedPoints.points c.args.all.now)
     c.loop-index.index (c.args.node.now.first.0 + c.args.node.now.points) (omega arith)))
     c.loop-index.invariant.progress
 

@@ -15,4 +15,4 @@ returns-in-Some-clause-put g c =
     c.args.at.now.node.row.kind c.args.at.now.node.row.depth c.args.at.now.node.points _
     c.in-Some.is here (c.index.ensures ∙ ap (λ (es : List Entry).
     get_or es c.args.entry c.index.result.now) c.sizes.view_is))
-    (put_join g.S.Sink.took g.S.Sink.refused _ _ _ _ _ first c.put_own.ensures.put)
+    (put_join first c.put_own.ensures.put)

@@ -10,7 +10,7 @@ use Rattle.twkb_writer.proofs.rows.put_rows.Goals as goal
 
 pub loop-index-init : goal.loop-index-init
 loop-index-init g c = record {
-  progress = rw c.origin.ensures (begun g.S.Sink.took g.S.Sink.refused _ _);
+  progress = rw c.origin.ensures (begun _ _);
   room = omega arith;
   read = (0, 0, omega arith, omega arith, reads_none _ _ _);
 }
@@ -37,7 +37,7 @@ loop-index-preserved g c =
     let e = rows_step c.args.job.now.style c.args.job.now.flat.now c.loop-index.index
     c.node-node.result node c.loop-index.start.cursor
     (drop c.loop-index.start.entry c.args.job.now.sizes.now) in
-    let after = step g.S.Sink.took g.S.Sink.refused _ _ _ _ _ _ _ e c.loop-index.invariant.progress
+    let after = step e c.loop-index.invariant.progress
     c.put_lead.ensures.put in
     let next = next_rows c.args.job.now.style c.node-node.result.row.precision
     c.args.job.now.sizes.now c.loop-index.start.entry c.start_of_points-start.result.entry
@@ -50,7 +50,7 @@ loop-index-preserved g c =
     let walk = walks_step c.args.job.now.flat.now c.loop-index.index c.node-node.result node in
     let see = points_step c.args.job.now.flat.now c.loop-index.index c.node-node.result node in
     record {
-      progress = step g.S.Sink.took g.S.Sink.refused _ _ _ _ _ _ _ next after c.put_points.ensures.put;
+      progress = step next after c.put_points.ensures.put;
       room = omega (arith, entries_step _ _ _ node, c.start_of_points-start.ensures.entry, c.loop-index.invariant.room);
       read = (
         n + (1 + members_read),
@@ -64,7 +64,7 @@ loop-index-preserved g c =
     }
 
 pub returns-then-is_some-clause-put : goal.returns-then-is_some-clause-put
-returns-then-is_some-clause-put g c = given_up g.S.Sink.took g.S.Sink.refused _ _ _ _ (search rules)
+returns-then-is_some-clause-put g c = given_up (search rules)
     c.loop-index.invariant.progress
 
 pub returns-then-is_some-clause-reads : goal.returns-then-is_some-clause-reads
@@ -75,8 +75,7 @@ returns-then-is_some-clause-reads g c =
 
 pub returns-clause-put : goal.returns-clause-put
 returns-clause-put g c =
-    finished g.S.Sink.took g.S.Sink.refused _ _ _ _
-    (ap (rows_bytes c.args.job.now.style c.loop-index.start.cursor
+    finished (ap (rows_bytes c.args.job.now.style c.loop-index.start.cursor
     (drop c.loop-index.start.entry c.args.job.now.sizes.now))
     (drop_all c.loop-index.index c.args.job.now.flat.now (omega arith)))
     c.loop-index.invariant.progress

@@ -1,4 +1,4 @@
-use Rattle.std.proofs.Common.{refl, rules, FitsSigned, w64}
+use Rattle.std.proofs.Common.{rules, FitsSigned, w64}
 use Rattle.std.proofs.lemmas.Int.{to_z-of_z}
 use Rattle.twkb_writer.proofs.PutLemmas.{pushed, four_pushed}
 use Rattle.twkb_writer.proofs.gatherer.Gatherer+S+S+Fault.put_four.Goals as goal
@@ -13,6 +13,5 @@ returns g c =
     let second = simp to_z-of_z at c.zigzag-2.ensures in
     let third = simp to_z-of_z at c.zigzag-3.ensures in
     let fourth = simp to_z-of_z at c.zigzag-4.ensures in
-    pushed g.S.Sink.took g.S.Sink.refused _ _ _ _ c.make_room.ensures.put refl refl
-    (four_pushed _ _ _ _ _ _ c.args.first c.args.second c.args.third c.args.fourth c.push_four_varints.ensures
+    pushed _ c.make_room.ensures.put (four_pushed _ _ _ _ _ _ c.args.first c.args.second c.args.third c.args.fourth c.push_four_varints.ensures
     first second third fourth)

@@ -1,8 +1,7 @@
-use Rattle.std.proofs.Common.{refl}
 use Rattle.twkb_writer.proofs.PutLemmas.{pushed}
 use Rattle.twkb_writer.proofs.gatherer.Gatherer+S+S+Fault.put_step.Goals as goal
 
 pub returns-clause-put : goal.returns-clause-put
 returns-clause-put g c =
     let spelled = rw (c.step_to-x.ensures.x, c.step_to-x.ensures.y) at c.push_two_varints.ensures in
-    pushed g.S.Sink.took g.S.Sink.refused _ _ _ _ c.make_room.ensures.put refl refl spelled
+    pushed _ c.make_room.ensures.put spelled

@@ -1,4 +1,3 @@
-use Rattle.std.proofs.Common.{refl}
 use Rattle.twkb_writer.proofs.PutLemmas.{pushed}
 use Rattle.twkb_writer.proofs.gatherer.Gatherer+S+S+Fault.put_steps.Goals as goal
 
@@ -11,4 +10,4 @@ returns-clause-put g c =
       c.step_to-next_x.ensures.y,
       c.step_to-x.ensures.moved,
     ) at c.push_four_varints.ensures in
-    pushed g.S.Sink.took g.S.Sink.refused _ _ _ _ c.make_room.ensures.put refl refl spelled
+    pushed _ c.make_room.ensures.put spelled
