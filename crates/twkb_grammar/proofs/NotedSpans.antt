@@ -126,48 +126,29 @@ ends_left (suc n) offset points w = one (note_ends n offset points w).begun (end
     one (x ∷ b) e = omega (arith, e)
 
 -- without an open geometry an end changes nothing
-none_ends : (n offset points : ℕ) (w : Notes) → length w.begun ≡ 0 → note_ends n offset points w ≡ w
-none_ends zero offset points w e = refl
-none_ends (suc n) offset points w e = ap (λ v. note_end offset points v)
-    (none_ends n offset points w e) ∙ one w.spans w.begun e
+none_ends : (offset points : ℕ) (w : Notes) → length w.begun ≡ 0 → note_end offset points w ≡ w
+none_ends offset points w e = go w.spans w.begun e
   where
-    one : (ss : List Span) (b : List ℕ) → length b ≡ 0
-        → note_end offset points (record { spans = ss; begun = b })
+    go : (ss : List Span) (b : List ℕ) → length b ≡ 0 → note_end offset points (record { spans = ss; begun = b })
         ≡ record { spans = ss; begun = b }
-    one ss [] e = refl
-    one ss (x ∷ b) e = absurd (omega (arith, e))
-
-ends_join : (m n offset points : ℕ) (w : Notes)
-    → note_ends (m + n) offset points w ≡ note_ends m offset points (note_ends n offset points w)
-ends_join zero n offset points w = ap (λ k. note_ends k offset points w) (let z : 0 + n ≡ n = omega arith in z)
-ends_join (suc m) n offset points w = ap (λ k. note_ends k offset points w)
-    (let z : suc m + n ≡ suc (m + n) = omega arith in z)
-    ∙ ap (λ v. note_end offset points v) (ends_join m n offset points w)
+    go ss [] e = refl
+    go ss (x ∷ b) e = absurd (omega (arith, e))
 
 -- a number of ends is given by the number of geometries they leave open
 pub ends_to : (n offset points : ℕ) (w : Notes)
     → note_ends n offset points w ≡ note_ends_to (length (note_ends n offset points w).begun)
     offset points w
-ends_to n offset points w =
-    ap (λ k. note_ends k offset points w) parts ∙ (ends_join (n - k) k offset points w
-    ∙ (go ∙ ap (λ q. note_ends q offset points w) is))
-  where
-    k : ℕ
-    k = length w.begun - (length w.begun - n)
-
-    parts : n ≡ (n - k) + k
-    parts = omega arith
-
-    is : k ≡ length w.begun - length (note_ends n offset points w).begun
-    is = ap (λ l. length w.begun - l) (sym (ends_left n offset points w))
-
-    go : note_ends (n - k) offset points (note_ends k offset points w) ≡ note_ends k offset points w
-    go = elim (cases_lt (length w.begun) n) [
-      | inl low ↦ none_ends (n - k) offset points (note_ends k offset points w)
-          (omega (arith, ends_left k offset points w, low))
-      | inr high ↦ ap (λ m. note_ends m offset points (note_ends k offset points w))
-          (let z : n - k ≡ 0 = omega (arith, high) in z)
-    ]
+ends_to zero offset points w = ap (λ k. note_ends k offset points w)
+    (let z : 0 ≡ length w.begun - length w.begun = omega arith in z)
+ends_to (suc n) offset points w = elim (cases_lt n (length w.begun)) [
+  | inl low ↦ ap (λ k. note_ends k offset points w)
+      (let z : suc n ≡ length w.begun - length (note_ends (suc n) offset points w).begun =
+      omega (arith, ends_left (suc n) offset points w, low) in z)
+  | inr high ↦
+      let same = none_ends offset points (note_ends n offset points w) (omega (arith, ends_left n offset points w, high))
+      in same ∙ (ends_to n offset points w ∙ ap (λ (v : Notes). note_ends (length w.begun - length v.begun) offset points w)
+      (sym same))
+]
 
 -- ==== Items noted one after another, and items that leave no note.
 

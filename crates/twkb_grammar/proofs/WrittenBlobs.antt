@@ -24,6 +24,7 @@ use Rattle.twkb_grammar.specs.Written.{varints, box_of, boxed, has_any, is_point
 use Rattle.twkb_grammar.specs.Written.{kind_of_tree, metadata_byte, framed, written, canonical_blob, canonical_members}
 use Rattle.twkb_grammar.specs.Bits.{bit}
 use Rattle.twkb_grammar.specs.Items.{BodyAt, Framed, Flags, MustBeEmpty, MayBeEmpty, HasBody, HasMembers, Agrees}
+use Rattle.twkb_grammar.specs.Items.{declared}
 use Rattle.twkb_grammar.specs.Items.{header_byte, end_item, Slot, OfCount, OfId, OfPoint, id_slots, run_of, rings_of}
 use Rattle.twkb_grammar.specs.Items.{slots, fields, Follow, Items, ItemsOfAll, id_fields, filled}
 use Rattle.twkb_grammar.specs.declared.style.Style.{Style}
@@ -250,38 +251,46 @@ pub body_or_none : (b : Bool) {Body : List Item → Type 0} {bytes : List ℕ} �
 body_or_none true s = record { items = []; are = refl; exact = tt; spelled = refl }
 body_or_none false s = record { items = s.items; are = s.are; exact = s.exact; spelled = s.spelled }
 
-plain_frame : (g : Tree) {Body : List Item → Type 0} (bytes : List ℕ)
-    → Spelling (BodyAt (is_empty (flags_of_tree g)) Body) bytes
-    → Spelling (Framed (kind_of_tree g) (precision_of g) (flags_of_tree g) Body)
-    (header_byte (kind_of_tree g) (precision_of g) ∷ metadata_byte Plain g ∷ framed Plain g bytes)
-plain_frame g {Body} bytes s =
-    let says = plain_says (flags_of_tree g) in
-    let meta = flag_bits (flags_of_tree g) in
-    let whole : List Item = item Header (header_byte (kind_of_tree g) (precision_of g)) ∷ item
-    (Metadata (kind_of_tree g)) meta ∷ s.items ++ end_item None s.items ∷ [] in
+-- the items of a geometry, from those of its size, its box and its body
+frame_spelling : (kind : ℕ) (p : ℤ) {meta : ℕ} {own : Flags} {sized box : Bool} {Body : List Item → Type 0}
+    {box_bytes bytes : List ℕ} (size : List Item) → Says meta own sized box
+    → HaveRoles (where_set sized (Size ∷ [])) size → AreExact size → (b : BoxItems box box_bytes)
+    → (s : Spelling (BodyAt (is_empty own) Body) bytes)
+    → IsExact (End (declared size) (length (join (b.items ++ s.items))))
+    → Spelling (Framed kind p own Body) (header_byte kind p ∷ meta ∷ join size ++ (box_bytes ++ bytes))
+frame_spelling kind p {meta} {Body = Body} {box_bytes = box_bytes} size says roles exact b s last_exact =
+    let rest : List Item = b.items ++ s.items in
+    let last : Item = end_item (declared size) rest in
     record {
-      items = whole;
+      items = item Header (header_byte kind p) ∷ item (Metadata kind) meta ∷ size ++ (rest ++ last ∷ []);
       are = record {
         meta = meta;
         extended = [];
-        size = [];
-        box = [];
+        size = size;
+        box = b.items;
         body = s.items;
         byte = says.byte;
         agrees = says.agrees;
         whole = refl;
         optional = record {
           extended_is = subst (λ b. HaveRoles (where_set b (Extended ∷ [])) []) (sym says.extended) tt;
-          size_is = subst (λ b. HaveRoles (where_set b (Size ∷ [])) []) (sym says.sized_is) tt;
-          box_is = subst (λ b. HaveRoles (where_set b (Box ∷ Box ∷ Box ∷ Box ∷ [])) []) (sym says.box_is) tt;
+          size_is = subst (λ b. HaveRoles (where_set b (Size ∷ [])) size) (sym says.sized_is) roles;
+          box_is = subst (λ c. HaveRoles (where_set c (Box ∷ Box ∷ Box ∷ Box ∷ [])) b.items) (sym says.box_is) b.roles;
         };
         body_is = subst (λ b. BodyAt b Body s.items) (sym says.empty_is) s.are;
       };
-      exact = (tt, (tt, AreExact-append s.items (end_item None s.items ∷ []) s.exact (tt, tt)));
-      spelled = ap (λ bs. header_byte (kind_of_tree g) (precision_of g) ∷ meta ∷ bs)
-          (join-append s.items (end_item None s.items ∷ [])
-          ∙ (append-nil (join s.items) ∙ s.spelled));
+      exact = (tt, (tt, AreExact-append size (rest ++ last ∷ []) exact
+          (AreExact-append rest (last ∷ []) (AreExact-append b.items s.items b.exact s.exact) (last_exact, tt))));
+      spelled = ap (λ bs. header_byte kind p ∷ meta ∷ bs) (join-append size (rest ++ last ∷ [])
+          ∙ ap (λ l. join size ++ l) (join-append rest (last ∷ []) ∙ (append-nil (join rest)
+          ∙ (join-append b.items s.items ∙ (ap (λ l. l ++ join s.items) b.spelled ∙ ap (λ l. box_bytes ++ l) s.spelled)))));
     }
+
+plain_frame : (g : Tree) {Body : List Item → Type 0} (bytes : List ℕ)
+    → Spelling (BodyAt (is_empty (flags_of_tree g)) Body) bytes
+    → Spelling (Framed (kind_of_tree g) (precision_of g) (flags_of_tree g) Body)
+    (header_byte (kind_of_tree g) (precision_of g) ∷ metadata_byte Plain g ∷ framed Plain g bytes)
+plain_frame g bytes s = frame_spelling (kind_of_tree g) (precision_of g) [] (plain_says (flags_of_tree g)) tt tt no_box s tt
 
 full_frame : (g : Tree) {Body : List Item → Type 0} (bytes : List ℕ) → AreInRange (flat g)
     → length (box_of g ++ bytes) < 2 ^ 64 → Spelling
@@ -290,49 +299,13 @@ full_frame : (g : Tree) {Body : List Item → Type 0} (bytes : List ℕ) → Are
     (header_byte (kind_of_tree g) (precision_of g) ∷ metadata_byte Full g ∷ framed Full g bytes)
 full_frame g {Body} bytes in_range few s =
     let b = box_items g in_range in
-    let says = full_says (flags_of_tree g) (boxed g) in
-    let meta = metadata_byte Full g in
-    let rest : List Item = b.items ++ s.items in
-    let rest_is : join rest ≡ box_of g ++ bytes = join-append b.items s.items
-    ∙ (ap (λ l. l ++ join s.items) b.spelled ∙ ap (λ l. box_of g ++ l) s.spelled) in
-    let small : length (join rest) < 2 ^ 64 = subst (λ l. length l < 2 ^ 64) (sym rest_is) few in
-    let size = number_item Size (length (join rest)) in
-    let last = end_item (Some (length (join rest))) rest in
-    record {
-      items = item Header (header_byte (kind_of_tree g) (precision_of g)) ∷ item
-          (Metadata (kind_of_tree g)) meta ∷ size ∷ rest ++ last ∷ [];
-      are = record {
-        meta = meta;
-        extended = [];
-        size = size ∷ [];
-        box = b.items;
-        body = s.items;
-        byte = says.byte;
-        agrees = says.agrees;
-        whole = refl;
-        optional = record {
-          extended_is = subst (λ b. HaveRoles (where_set b (Extended ∷ [])) []) (sym says.extended) tt;
-          size_is = subst (λ b. HaveRoles (where_set b (Size ∷ [])) (size ∷ [])) (sym says.sized_is)
-              (refl, spells Size (length (join rest)) tt small, tt);
-          box_is = subst (λ c. HaveRoles (where_set c (Box ∷ Box ∷ Box ∷ Box ∷ [])) b.items) (sym says.box_is) b.roles;
-        };
-        body_is = subst (λ b. BodyAt b Body s.items) (sym says.empty_is) s.are;
-      };
-      exact = (
-        tt,
-        (
-          tt,
-          (
-            tt,
-            AreExact-append rest (last ∷ [])
-                (AreExact-append b.items s.items b.exact s.exact) (refl, tt),
-          ),
-        ),
-      );
-      spelled = ap (λ bs. header_byte (kind_of_tree g) (precision_of g) ∷ meta ∷ bs)
-          (ap (λ bs. varint_of (length (join rest)) ++ bs) (join-append rest (last ∷ [])
-          ∙ append-nil (join rest)) ∙ ap (λ l. varint_of (length l) ++ l) rest_is);
-    }
+    let n : ℕ = length (box_of g ++ bytes) in
+    let came : n ≡ length (join (b.items ++ s.items)) = ap length (sym (join-append b.items s.items
+    ∙ (ap (λ l. l ++ join s.items) b.spelled ∙ ap (λ l. box_of g ++ l) s.spelled))) in
+    subst (λ l. Spelling (Framed (kind_of_tree g) (precision_of g) (flags_of_tree g) Body)
+    (header_byte (kind_of_tree g) (precision_of g) ∷ metadata_byte Full g ∷ l ++ (box_of g ++ bytes)))
+    (append-nil (varint_of n)) (frame_spelling (kind_of_tree g) (precision_of g) (number_item Size n ∷ [])
+    (full_says (flags_of_tree g) (boxed g)) (refl, spells Size n tt few, tt) (tt, tt) b s came)
 
 -- the items of a written blob, from those of its body
 pub frame : (style : Style) (g : Tree) {Body : List Item → Type 0} (bytes : List ℕ)
