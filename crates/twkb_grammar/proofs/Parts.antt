@@ -244,7 +244,7 @@ peel a b x y same e = cancel b x y (subst (λ l. l ++ x ≡ b ++ y) same e)
 -- two runs to a geometry over the same bytes are the same
 pub one_reading : (is js : List Item) (e : Sums) (st : Stack) (g h : Tree) (x y : List ℕ)
     → Runs e st is ([], Finished g) → Runs e st js ([], Finished h)
-    → join is ++ x ≡ join js ++ y → (g ≡ h) × (join is ≡ join js)
+    → join is ++ x ≡ join js ++ y → (g ≡ h) × (is ≡ js)
 one_reading [] [] e st g h x y r s eq = (
   let f : Finished g ≡ Finished h = ap (λ (t : Stack). t.1)
       (sym r ∙ s) in cc,
@@ -260,17 +260,22 @@ one_reading (i ∷ is) (j ∷ js) e st g h x y r s eq =
     let next = one_reading is js (added e j) (stack_after e j st) g h x y
     (subst (λ k. Runs (added e k) (stack_after e k st) is ([], Finished g)) same r.2) s.2
     (peel i.bytes j.bytes (join is ++ x) (join js ++ y) (ap (λ k. k.bytes) same) eq2) in
-    (next.0, ap (λ k. k.bytes ++ join is) same ∙ ap (λ l. j.bytes ++ l) next.1)
+    (next.0, ap (λ k. k ∷ is) same ∙ ap (λ l. j ∷ l) next.1)
+
+-- two blobs at the start of the same bytes have the same items
+pub one_blob_items : (limits : Allowance) (a b x y : List ℕ) (g h : Tree) (ba : Blob limits a g)
+    (bb : Blob limits b h) → a ++ x ≡ b ++ y → (g ≡ h) × (ba.items ≡ bb.items)
+one_blob_items limits a b x y g h ba bb e = one_reading ba.items bb.items nothing started g h x y
+    (tree_runs g [] nothing ba.items ba.valid.tree ba.are_items)
+    (tree_runs h [] nothing bb.items bb.valid.tree bb.are_items)
+    (ap (λ l. l ++ x) ba.spelled ∙ (e ∙ sym (ap (λ l. l ++ y) bb.spelled)))
 
 -- two blobs at the start of the same bytes are equal
 pub one_blob_lem : (limits : Allowance) (a b x y : List ℕ) (g h : Tree) → Blob limits a g
     → Blob limits b h → a ++ x ≡ b ++ y → (g ≡ h) × (a ≡ b)
 one_blob_lem limits a b x y g h ba bb e =
-    let r = one_reading ba.items bb.items nothing started g h x y
-    (tree_runs g [] nothing ba.items ba.valid.tree ba.are_items)
-    (tree_runs h [] nothing bb.items bb.valid.tree bb.are_items)
-    (ap (λ l. l ++ x) ba.spelled ∙ (e ∙ sym (ap (λ l. l ++ y) bb.spelled))) in
-    (r.0, sym ba.spelled ∙ (r.1 ∙ bb.spelled))
+    let r = one_blob_items limits a b x y g h ba bb e in
+    (r.0, sym ba.spelled ∙ (ap join r.1 ∙ bb.spelled))
 
 -- ==== Prefixes of items, and what the machine says about them.
 

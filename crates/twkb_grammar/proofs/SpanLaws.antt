@@ -11,13 +11,12 @@ use Rattle.twkb_grammar.specs.Bits.{bit}
 use Rattle.twkb_grammar.specs.Roles.{Item, join}
 use Rattle.twkb_grammar.specs.Items.{Follow, BodyAt, Agrees, flags_all, Items, ItemsOfAll}
 use Rattle.twkb_grammar.specs.Blob.{Blob}
-use Rattle.twkb_grammar.specs.Machine.{Finished, nothing, started, Runs}
+use Rattle.twkb_grammar.specs.Machine.{nothing}
 use Rattle.twkb_grammar.specs.Spans.{before_body, behind, spans, span_of, spans_of_all}
 use Rattle.twkb_grammar.specs.Spans.{spans_of_blob, moved_span, geometries, geometries_of_all}
 use Rattle.twkb_grammar.specs.Spans.{CoversBlob}
 use Rattle.twkb_grammar.specs.Noting.{no_notes, noted}
-use Rattle.twkb_grammar.proofs.Trees.{tree_runs}
-use Rattle.twkb_grammar.proofs.OneFault.{Compared, longer, shorter, same, two_fronts, none_beyond}
+use Rattle.twkb_grammar.proofs.Parts.{one_blob_items}
 use Rattle.twkb_grammar.proofs.NotedSpans.{blob_noted}
 
 below_many : (First : List Item → Type 0) (level offset : ℕ) (ids : Rattle.twkb_tree.specs.Tree.Ids)
@@ -74,24 +73,8 @@ blob_first limits bytes g start b = subst (λ l. CoversBlob start l g (spans_of_
 pub one_list : (limits : Allowance) (bytes : List ℕ) (g : Tree) (start : ℕ)
     (a b : Blob limits bytes g) → spans_of_blob start a ≡ spans_of_blob start b
 one_list limits bytes g start a b = ap (λ w. w.spans) (sym (blob_noted limits bytes g start a)
-    ∙ (ap (λ l. noted start nothing no_notes l) (go
-    (two_fronts a.items b.items nothing started ([], Finished g) ([], Finished g) [] [] first
-    second at))
+    ∙ (ap (λ l. noted start nothing no_notes l) (one_blob_items limits bytes bytes [] [] g g a b refl).1
     ∙ blob_noted limits bytes g start b))
-  where
-    first : Runs nothing started a.items ([], Finished g)
-    first = tree_runs g [] nothing a.items a.valid.tree a.are_items
-
-    second : Runs nothing started b.items ([], Finished g)
-    second = tree_runs g [] nothing b.items b.valid.tree b.are_items
-
-    at : join a.items ++ [] ≡ join b.items ++ []
-    at = ap (λ l. l ++ []) (a.spelled ∙ sym b.spelled)
-
-    go : Compared a.items b.items → a.items ≡ b.items
-    go (longer n) = absurd (none_beyond b.items a.items g ([], Finished g) second first n)
-    go (shorter n) = absurd (none_beyond a.items b.items g ([], Finished g) first second n)
-    go (same e) = e
 
 -- ---- the same bytes at another offset
 

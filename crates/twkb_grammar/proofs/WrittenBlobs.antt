@@ -279,8 +279,14 @@ frame_spelling kind p {meta} {Body = Body} {box_bytes = box_bytes} size says rol
         };
         body_is = subst (λ b. BodyAt b Body s.items) (sym says.empty_is) s.are;
       };
-      exact = (tt, (tt, AreExact-append size (rest ++ last ∷ []) exact
-          (AreExact-append rest (last ∷ []) (AreExact-append b.items s.items b.exact s.exact) (last_exact, tt))));
+      exact = (
+        tt,
+        (
+          tt,
+          AreExact-append size (rest ++ last ∷ []) exact
+              (AreExact-append rest (last ∷ []) (AreExact-append b.items s.items b.exact s.exact) (last_exact, tt)),
+        ),
+      );
       spelled = ap (λ bs. header_byte kind p ∷ meta ∷ bs) (join-append size (rest ++ last ∷ [])
           ∙ ap (λ l. join size ++ l) (join-append rest (last ∷ []) ∙ (append-nil (join rest)
           ∙ (join-append b.items s.items ∙ (ap (λ l. l ++ join s.items) b.spelled ∙ ap (λ l. box_bytes ++ l) s.spelled)))));
