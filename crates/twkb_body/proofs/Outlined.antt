@@ -49,7 +49,7 @@ use Rattle.twkb_body.specs.Growing.{header_change, kind_with, count_change, stag
 use Rattle.twkb_body.specs.Growing.{cut_before, Change, NewPoint, Takes}
 use Rattle.twkb_body.specs.Noting.{NotedOutline, notes_in}
 use Rattle.twkb_body.specs.Reading.{Outlined, outline_after, change_after, OutlineLanded, StageFits}
-use Rattle.twkb_body.proofs.Outlines.{body_grows, around_within, one_behind, each-snoc, ring-snoc, area_ring}
+use Rattle.twkb_body.proofs.Outlines.{body_grows, lefts_fit, one_behind, each-snoc, ring-snoc, area_ring}
 use Rattle.twkb_body.proofs.Outlines.{outline_steps, outline_at_ends}
 
 -- ==== The rows of a stack after an item, and after the ends of geometries.
@@ -180,15 +180,7 @@ past_end_rows true bytes g (f ∷ fs) st e = go f.left
 pub rows_at_ends : (bytes : ℕ) (fs : List Frame) (ph : Phase) (st : Stack)
     → ends bytes fs ph ≡ Ok st → rows_so_far st ≡ rows_so_far (fs, ph)
 rows_at_ends bytes fs (AtEnd h g) st e = past_end_rows (is_exact h.size (bytes - h.from)) bytes g fs st e
-rows_at_ends bytes fs AtHeader st e = let same : (fs, AtHeader) ≡ st = cc in ap rows_so_far (sym same)
-rows_at_ends bytes fs (AtMetadata k p) st e = let same : (fs, AtMetadata k p) ≡ st = cc in ap rows_so_far (sym same)
-rows_at_ends bytes fs (AtOption k h r rs) st e = let same : (fs, AtOption k h r rs) ≡ st = cc in
-    ap rows_so_far (sym same)
-rows_at_ends bytes fs (AtCount m h) st e = let same : (fs, AtCount m h) ≡ st = cc in ap rows_so_far (sym same)
-rows_at_ends bytes fs (AtId m h n ids left) st e = let same : (fs, AtId m h n ids left) ≡ st = cc in
-    ap rows_so_far (sym same)
-rows_at_ends bytes fs (AtBody h f ids b) st e = let same : (fs, AtBody h f ids b) ≡ st = cc in ap rows_so_far (sym same)
-rows_at_ends bytes fs (Finished g) st e = let same : (fs, Finished g) ≡ st = cc in ap rows_so_far (sym same)
+rows_at_ends bytes fs ph st e = let same : (fs, ph) ≡ st = cc in ap rows_so_far (sym same)
 
 -- ---- items
 
@@ -330,26 +322,20 @@ module _ (front : List Row) (d : ℕ) (id : Option ℤ) (h : Head) (ids : Ids) w
         line = inl refl;
         whole = refl;
       }
-  point_takes p n LineForm (within ps left (within others more a)) = absurd (omega (arith, around_within a))
   point_takes p n PolygonForm (within ps left (within rings more top)) = line_below front
       (own kinds.Polygon) (ring_rows (suc d) rings) _ (plain_row (suc d) kinds.Ring None ps)
       (ring-snoc (suc d) rings ps) (inr refl)
-  point_takes p n PolygonForm (within ps left (within others more (within further most a))) = absurd
-      (omega (arith, around_within a))
   point_takes p n MultiLineForm (within ps left (within lines more top)) = line_below front
       (own kinds.MultiLinestring) (rows_of_each line_rows ids lines) _
       (plain_row (suc d) kinds.Linestring (first_id (ids_behind ids lines)) ps)
       (each-snoc line_rows ids lines ps) (inl refl)
-  point_takes p n MultiLineForm (within ps left (within others more (within further most a))) =
-      absurd (omega (arith, around_within a))
   point_takes p n MultiPolygonForm (within ps left (within rings more (within areas most top))) =
       line_below front (own kinds.MultiPolygon) (rows_of_each (polygon_rows (suc d)) ids
       (areas ++ rings ∷ [])) _ (plain_row (suc (suc d)) kinds.Ring None ps)
       (area_ring (suc d) ids areas rings ps) (inr refl)
-  point_takes p n MultiPolygonForm (within ps left
-      (within others more (within further most (within last least a)))) = absurd
-      (omega (arith, around_within a))
-  point_takes p n _ a = tt
+  point_takes p n PointForm a = tt
+  point_takes p n MultiPointForm a = tt
+  point_takes p n f a = absurd (omega (arith, lefts_fit a))
 
 pub item_takes : (p : Point) (n : ℕ) (fs : List Frame) (ph : Phase)
     → Takes (stage_change p n (length fs) (id_within fs) (stage_of ph)) (rows_so_far (fs, ph))
@@ -591,10 +577,6 @@ module _ (limits : Allowance) where
       r.reached (role_of bytes e o rs role r says) some n
 
 -- ---- the shape of an outline
-
-lefts_fit : {whole d : ℕ} (a : Around whole d) → d + length (lefts_of a) ≡ whole
-lefts_fit top = omega arith
-lefts_fit (within done left a) = omega (arith, lefts_fit a)
 
 stage_fits : (ph : Phase) → StageFits (stage_of ph)
 stage_fits (AtBody h f ids (Want d a)) = lefts_fit a

@@ -1,7 +1,7 @@
 -- The outline after an item, and the change that the item makes to the rows.
 use Rattle.std.proofs.Common.{◌≡◌, ℕ, zero, suc, ◌-◌, Bool, true, false, List, [], ◌∷◌, ◌++◌, refl, ◌∙◌, ap, Some, None}
 use Rattle.std.proofs.Common.{◌≤◌, sym, arith, append_assoc, append-nil, Option}
-use Rattle.std.specs.Prelude.{map, if◌then◌else◌, Ok, ℤ}
+use Rattle.std.specs.Prelude.{map, if◌then◌else◌, Ok, ℤ, ◌+◌, length}
 use Rattle.twkb_num.specs.Zigzag.{unzigzag_of}
 use Rattle.twkb_points.specs.Point.{Point}
 use Rattle.twkb_tree.specs.Tree.{Ids, Tree, Trees, end, ◌▷◌, collection, simple}
@@ -259,10 +259,10 @@ point_below p front o others rs more r e h = ap (λ l. front ++ (o ∷ l)) h
 
 -- ---- bodies
 
--- the lists around a value are at most as deep as the whole
-pub around_within : {whole d : ℕ} (a : Around whole d) → d ≤ whole
-around_within top = omega arith
-around_within (within done left a) = omega (arith, around_within a)
+-- a value and the lists around it are as deep as the whole
+pub lefts_fit : {whole d : ℕ} (a : Around whole d) → d + length (lefts_of a) ≡ whole
+lefts_fit top = omega arith
+lefts_fit (within done left a) = omega (arith, lefts_fit a)
 
 -- the contents of a body when a value is complete, and when a list begins
 cut-closed : {whole d : ℕ} (a : Around whole d) (v : Nested d) → cut (closed a v) ≡ Some (cut_behind a v)
@@ -302,74 +302,49 @@ module _ (front : List Row) (d : ℕ) (id : Option ℤ) (h : Head) (ids : Ids) w
   list_begins : (f : BodyForm) (inner : ℕ) (a : Around (depth_of f) (suc inner))
       → rows_at f (cut_behind a []) ≡ rows_before f a ++ list_row d id h.precision f
       (first_id (ids_left ids a)) inner ∷ []
-  list_begins PointForm inner a = absurd (omega (arith, around_within a))
   list_begins LineForm zero top = first_row (own kinds.Linestring)
-  list_begins LineForm zero (within done left a) = absurd (omega (arith, around_within a))
-  list_begins LineForm (suc k) a = absurd (omega (arith, around_within a))
   list_begins PolygonForm zero (within rings left top) = row_below front (own kinds.Polygon)
       (ring_rows (suc d) rings) _ (plain_row (suc d) kinds.Ring None [])
       (ring-snoc (suc d) rings [])
-  list_begins PolygonForm zero (within done left (within others more a)) = absurd (omega (arith, around_within a))
   list_begins PolygonForm (suc zero) top = first_row (own kinds.Polygon)
-  list_begins PolygonForm (suc zero) (within done left a) = absurd (omega (arith, around_within a))
-  list_begins PolygonForm (suc (suc k)) a = absurd (omega (arith, around_within a))
   list_begins MultiPointForm zero top = first_row (own kinds.MultiPoint)
-  list_begins MultiPointForm zero (within done left a) = absurd (omega (arith, around_within a))
-  list_begins MultiPointForm (suc k) a = absurd (omega (arith, around_within a))
   list_begins MultiLineForm zero (within lines left top) = row_below front
       (own kinds.MultiLinestring) (rows_of_each line_rows ids lines) _
       (plain_row (suc d) kinds.Linestring (first_id (ids_behind ids lines)) [])
       (each-snoc line_rows ids lines [])
-  list_begins MultiLineForm zero (within done left (within others more a)) = absurd (omega (arith, around_within a))
   list_begins MultiLineForm (suc zero) top = first_row (own kinds.MultiLinestring)
-  list_begins MultiLineForm (suc zero) (within done left a) = absurd (omega (arith, around_within a))
-  list_begins MultiLineForm (suc (suc k)) a = absurd (omega (arith, around_within a))
   list_begins MultiPolygonForm zero (within rings left (within areas more top)) = row_below front
       (own kinds.MultiPolygon) (rows_of_each (polygon_rows (suc d)) ids (areas ++ rings ∷ [])) _
       (plain_row (suc (suc d)) kinds.Ring None []) (area_ring (suc d) ids areas rings [])
-  list_begins MultiPolygonForm zero (within done left (within others more (within further most a)))
-      = absurd (omega (arith, around_within a))
   list_begins MultiPolygonForm (suc zero) (within areas left top) = row_below front
       (own kinds.MultiPolygon) (rows_of_each (polygon_rows (suc d)) ids areas) _
       (plain_row (suc d) kinds.Polygon (first_id (ids_behind ids areas)) [])
       (each-snoc (polygon_rows (suc d)) ids areas [])
-  list_begins MultiPolygonForm (suc zero) (within done left (within others more a)) = absurd
-      (omega (arith, around_within a))
   list_begins MultiPolygonForm (suc (suc zero)) top = first_row (own kinds.MultiPolygon)
-  list_begins MultiPolygonForm (suc (suc zero)) (within done left a) = absurd (omega (arith, around_within a))
-  list_begins MultiPolygonForm (suc (suc (suc k))) a = absurd (omega (arith, around_within a))
+  list_begins f inner a = absurd (omega (arith, lefts_fit a))
 
   point_comes : (p : Point) (f : BodyForm) (a : Around (depth_of f) 0)
       → rows_at f (cut_behind a p) ≡ applied (point_change p d id h.precision f
       (first_id (ids_left ids a))) (rows_before f a)
   point_comes p PointForm top = first_row (whole_row d kinds.Point id h.precision (p ∷ []))
-  point_comes p PointForm (within done left a) = absurd (omega (arith, around_within a))
   point_comes p LineForm (within ps left top) =
       sym (point_last p front (whole_row d kinds.Linestring id h.precision ps))
-  point_comes p LineForm (within ps left (within others more a)) = absurd (omega (arith, around_within a))
   point_comes p PolygonForm (within ps left (within rings more top)) =
       point_below p front (own kinds.Polygon) (ring_rows (suc d) rings) _ _
       (plain_row (suc d) kinds.Ring None ps) (ring-snoc (suc d) rings ps)
       (ring-snoc (suc d) rings (ps ++ p ∷ []))
-  point_comes p PolygonForm (within ps left (within others more (within further most a))) = absurd
-      (omega (arith, around_within a))
   point_comes p MultiPointForm (within ps left top) = row_below front (own kinds.MultiPoint)
       (rows_of_each point_rows ids ps) _ (plain_row (suc d) kinds.Point
       (first_id (ids_behind ids ps)) (p ∷ [])) (each-snoc point_rows ids ps p)
-  point_comes p MultiPointForm (within ps left (within others more a)) = absurd (omega (arith, around_within a))
   point_comes p MultiLineForm (within ps left (within lines more top)) =
       point_below p front (own kinds.MultiLinestring) (rows_of_each line_rows ids lines) _ _
       (plain_row (suc d) kinds.Linestring (first_id (ids_behind ids lines)) ps)
       (each-snoc line_rows ids lines ps) (each-snoc line_rows ids lines (ps ++ p ∷ []))
-  point_comes p MultiLineForm (within ps left (within others more (within further most a))) = absurd
-      (omega (arith, around_within a))
   point_comes p MultiPolygonForm (within ps left (within rings more (within areas most top))) =
       point_below p front (own kinds.MultiPolygon) (rows_of_each (polygon_rows (suc d)) ids
       (areas ++ rings ∷ [])) _ _ (plain_row (suc (suc d)) kinds.Ring None ps)
       (area_ring (suc d) ids areas rings ps) (area_ring (suc d) ids areas rings (ps ++ p ∷ []))
-  point_comes p MultiPolygonForm (within ps left
-      (within others more (within further most (within last least a)))) = absurd
-      (omega (arith, around_within a))
+  point_comes p f a = absurd (omega (arith, lefts_fit a))
 
   -- the change of a number in a body
   pub body_grows : (p : Point) (n : ℕ) (f : BodyForm) (b : Body (depth_of f))

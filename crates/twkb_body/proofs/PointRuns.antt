@@ -20,6 +20,7 @@ use Rattle.twkb_grammar.specs.Roles.{Role, Item, Id}
 use Rattle.twkb_grammar.specs.Fault.{Reason}
 use Rattle.twkb_grammar.specs.Machine.{Sums, BodyForm, PointForm, MultiPointForm, added}
 use Rattle.twkb_grammar.proofs.OneFault.{NoEnd}
+use Rattle.twkb_body.specs.Outline.{OnOption, OnCount, OnEnd}
 use Rattle.twkb_body.specs.Outline.{Outline, Stage, OnHeader, OnMetadata, OnId, OnBody, OnFinished, Wanted, WantedY}
 use Rattle.twkb_body.specs.Outline.{Full, stage_role, FrameOutline, shut, next_ids}
 use Rattle.twkb_body.specs.Reading.{Outlined, OutlineLanded, Pair, sums_past}
@@ -42,15 +43,11 @@ use Rattle.twkb_body.proofs.HeaderParts.{noted_x, noted_point, noted_still, note
 -- no geometry's end comes next
 next_no_end : (level bytes : ℕ) (s : Stage) (role : Role) → IsPastEnds s
     → stage_role level bytes s ≡ Some role → NoEnd role
-next_no_end level bytes OnHeader role past says = λ d c e. cc
-next_no_end level bytes (OnMetadata k p) role past says = λ d c e. cc
-next_no_end level bytes (OnId m h members ids left) role past says = λ d c e. cc
+next_no_end level bytes (OnOption k h r rs) role past says = absurd past
+next_no_end level bytes (OnCount m h) role past says = absurd past
+next_no_end level bytes (OnEnd h) role past says = absurd past
 next_no_end level bytes (OnBody h f ids (Wanted zero lefts)) role past says = λ d c e. cc
-next_no_end level bytes (OnBody h f ids (Wanted (suc inner) lefts)) role past says = λ d c e. cc
-next_no_end level bytes (OnBody h f ids (WantedY lefts)) role past says = λ d c e. cc
-next_no_end level bytes (OnBody h f ids Full) role past says = absurd cc
-next_no_end level bytes OnFinished role past says = absurd cc
-next_no_end level bytes _ role past says = absurd past
+next_no_end level bytes _ role past says = λ d c e. cc
 
 pub outlined_judged : (limits : Allowance) (bytes : List ℕ) (e : Sums) (o : Outline) (rs : List Row)
     → Outlined limits bytes e o rs → IsPastEnds o.1 → IsJudged limits bytes
