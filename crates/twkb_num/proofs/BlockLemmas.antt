@@ -28,8 +28,8 @@ use Rattle.twkb_num.specs.Spelling.{shortest}
 use Rattle.twkb_num.specs.WholeText.{first_and_last, eight_groups, AreMarked, AreTwoRuns}
 use Rattle.twkb_num.proofs.LaneLemmas.{lanes_are, wrapped_sub}
 use Rattle.twkb_num.proofs.MarkLemmas.{mask_l-drop, mask_l-take}
-use Rattle.twkb_num.proofs.TwoLemmas.{AreLanes}
-use Rattle.twkb_num.proofs.FourLemmas.{marks_of, number_spelled}
+use Rattle.twkb_num.proofs.FoundLemmas.{AreLanes}
+use Rattle.twkb_num.proofs.FoundLemmas.{marks_of, number_spelled}
 use Rattle.twkb_num.proofs.SpellingLemmas.{number_of-append}
 use Rattle.twkb_num.proofs.WordLemmas.{number_l-drop, number_l-take, later_below, digits-number}
 use Rattle.twkb_num.proofs.WordLemmas.{Each1-append, groups_found, same_in_front}

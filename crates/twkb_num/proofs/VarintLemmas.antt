@@ -1,25 +1,37 @@
--- Varints: the answers of their reader, and varints appended to a piece.
-use Rattle.std.proofs.Common.{◌≡◌, ℕ, ◌+◌, ◌<◌, ◌≤◌, ◌^◌, Bool, true, false, ◌⊎◌, inl, inr, Option, Some, None, List}
-use Rattle.std.proofs.Common.{[], ◌∷◌, ◌++◌, length, refl, sym, ◌∙◌, ap, arith, append_assoc, length-append, ◌-◌, ◌*◌}
-use Rattle.std.proofs.Common.{◌/◌, ◌%◌, map, lit<, take, set}
+-- Varints: the answers of their reader, their lengths, and varints appended to a piece.
+use Rattle.std.proofs.Common.{◌≡◌, ℕ, ◌+◌, ◌<◌, ◌≤◌, ◌^◌, Bool, true, false, ◌⊎◌, inl, inr, Option, Some, None}
+use Rattle.std.proofs.Common.{List, [], ◌∷◌, ◌++◌, length, refl, sym, ◌∙◌, ap, arith, append_assoc, length-append}
+use Rattle.std.proofs.Common.{◌-◌, ◌*◌, ◌/◌, ◌%◌, map, lit<, take, set, zero, suc, Fits, w64, drop, length-take}
+use Rattle.std.proofs.Common.{length-drop}
 use Rattle.std.specs.Prelude.{IsTrue, ◌↔◌, if◌then◌else◌, nat_lt}
-use Rattle.std.proofs.lemmas.Bool.{false≢true, cases_lt, lt-ltb, le-ltb}
+use Rattle.std.proofs.lemmas.Bool.{false≢true, cases_lt, lt-ltb, le-ltb, le-leb, lt-leb}
 use Rattle.std.proofs.lemmas.List.{append-nil, length-map, take_more_set, take-set-le, length-set, length-take-le}
+use Rattle.std.proofs.lemmas.List.{take-append-le}
 use Rattle.std.specs.Int.Digits.{AllBelowBase}
 use Rattle.std.specs.List.{AllByRecursion}
 use Rattle.std.proofs.Math.Nat.{mod-eq_of_lt, mul-le-mul_left, pow-le-pow_right, pow-suc, pow-zero}
-use Rattle.std.proofs.lemmas.Nat.{mod_below}
+use Rattle.std.proofs.Math.Nat.{div-div-eq-div-mul, div-one}
+use Rattle.std.proofs.lemmas.Nat.{mod_below, leading_top, pow-add}
 use Rattle.twkb_num.specs.Alphabet.{AlphabetLaws, leb_unit, leb_group}
 use Rattle.twkb_num.specs.Answer.{IsAbove, IsAnswer}
-use Rattle.twkb_num.specs.Digits.{number_of}
+use Rattle.twkb_num.specs.Digits.{number_of, low_digits}
 use Rattle.twkb_num.specs.Spelling.{units_of, open_units, shortest, IsSpelling, IsOpen}
 use Rattle.twkb_num.specs.declared.partial.Step.{Step}
 use Rattle.twkb_num.specs.declared.partial.Step.TheVariants.{More, Done, BadUnit, TooLong}
 use Rattle.twkb_num.specs.Varint.{HasMarks, seven_bit_sum, IsVarint, varint_of, IsOpenVarint}
 use Rattle.twkb_num.specs.AlphabetLemmas.{leb_laws}
 use Rattle.twkb_num.proofs.SpellingLemmas.{base-le, AllBelowBase-push, number_of-lt, number_of-push, same_digits}
-use Rattle.twkb_num.proofs.SpellingLemmas.{spelling_one, shortest_spelling, power_fits, length-units_of, units_of-push}
-use Rattle.twkb_num.proofs.SpellingLemmas.{shortest_one, shortest_more}
+use Rattle.twkb_num.proofs.SpellingLemmas.{spelling_one, shortest_spelling, power_fits, length-units_of}
+use Rattle.twkb_num.proofs.SpellingLemmas.{units_of-push, shortest_one, shortest_more}
+use lib.Dec.{leb}
+use lib.Lanes.{top, zip2, sum_l, fold_l, put_chunk}
+use mathlib.Core.Bool.{cond}
+use Rattle.std.specs.Int.Count.{count_leading_zeros}
+use Rattle.twkb_num.specs.Lens.{four_lens, more_bytes, lanes_cap}
+use borrow.Rule.Slice.PartMut.{put_mid, mid_of, post_of}
+use Rattle.std.proofs.Math.Seq.{take-append-add}
+use Rattle.std.proofs.lemmas.Simd.{put_chunk_whole}
+use Rattle.std.specs.Int.{to_le_bytes, bytes_low_first, byte_at}
 
 -- ==== The answers of a reader: one answer fits, open units can become a spelling, and refused ones can't.
 
@@ -525,3 +537,191 @@ room_here room held whole n number so_far enough =
 -- a number takes at most ten bytes
 pub ten_at_most : (held now : List ℕ) (n : ℕ) → now ≡ held ++ varint_of n → n < 2 ^ 64 → length now ≤ length held + 10
 ten_at_most held now n e fits = omega (arith, ap length e, length-append held (varint_of n), length-varint_of n fits)
+
+-- ==== The length of the shortest varint, by the place of the number's highest bit.
+
+-- two to the power 7 + i is 128 times two to the power i
+pow-seven : (i : ℕ) → 2 ^ (7 + i) ≡ 128 * 2 ^ i
+pow-seven i = pow-add 2 7 i
+
+-- a number whose highest bit is at j has j / 7 + 1 bytes; so has 0, if j is 0
+pub length_by_top : (k j n : ℕ) → j / 7 ≡ k → 2 ^ j ≤ n / 2 * 2 + 1 → n < 2 ^ suc j → length (varint_of n) ≡ k + 1
+length_by_top zero j n first low high =
+    let few : 2 ^ suc j ≤ 2 ^ 7 = pow-le-pow_right {n = 2} (lit< tt) {i = suc j} {j = 7} (omega (arith, first)) in
+    omega (arith, one_byte n (omega (arith, high, few)))
+length_by_top (suc k) j n more low high =
+    let i : ℕ = j - 7 in
+    let place : j ≡ 7 + i = omega (arith, more) in
+    let next : suc j ≡ 7 + suc i = omega (arith, more) in
+    let least : 2 ^ j ≡ 128 * 2 ^ i = ap (λ m. 2 ^ m) place ∙ pow-seven i in
+    let past : 2 ^ suc j ≡ 128 * 2 ^ suc i = ap (λ m. 2 ^ m) next ∙ pow-seven (suc i) in
+    let some : 1 ≤ 2 ^ i = pow-le-pow_right {n = 2} (lit< tt) {i = 0} {j = i} (omega arith) in
+    let rest : length (varint_of (n / 128)) ≡ k + 1 = length_by_top k i (n / 128)
+    (omega (arith, more)) (omega (arith, low, least)) (omega (arith, high, past)) in
+    omega (arith, rest, one_byte_more n (omega (arith, low, least, some)))
+
+-- the leading zeros of the number with its last bit set give the length
+pub length_by_zeros : (n : ℕ) → n < 2 ^ 64 → (63 - count_leading_zeros 64 (n / 2 * 2 + 1)) / 7 + 1
+    ≡ length (varint_of n)
+length_by_zeros n fits =
+    let top = leading_top 64 (n / 2 * 2 + 1) (omega arith) (omega (arith, fits)) in
+    let j : ℕ = top.0 in
+    let place : 63 - count_leading_zeros 64 (n / 2 * 2 + 1) ≡ j = omega (arith, top.1) in
+    let bytes : length (varint_of n) ≡ j / 7 + 1 = length_by_top (j / 7) j n refl top.2 (omega (arith, top.3)) in
+    omega (arith, place, bytes)
+
+-- ---- lengths by comparisons
+
+-- what a comparison with a bound adds to a length
+abbrev pub one_from : ℕ → ℕ → ℕ
+one_from bound n = cond (top 31 (cond (leb bound n) 4294967295 0)) 1 0
+
+-- the bytes after the first, as the code adds them
+abbrev pub added : ℕ → ℕ
+added n = ((one_from 128 n + one_from 16384 n) % 4294967296 + one_from 2097152 n) % 4294967296
+
+-- comparisons with three bounds give the bytes after the first of a number below 2 ^ 28
+length_by_bounds : (n : ℕ) → n < 2 ^ 28 → length (varint_of n) ≡ added n + 1
+length_by_bounds n small =
+    elim (cases_lt n 128) [
+      | inl one ↦ rw (lt-leb 128 n one, lt-leb 16384 n (omega arith), lt-leb 2097152 n (omega arith)) (one_byte n one)
+      | inr two ↦ elim (cases_lt n 16384) [
+        | inl below ↦
+            rw (le-leb 128 n two, lt-leb 16384 n below, lt-leb 2097152 n (omega arith))
+            (omega (arith, one_byte_more n two, one_byte (n / 128) (omega arith)))
+        | inr three ↦ elim (cases_lt n 2097152) [
+          | inl below ↦
+              rw (le-leb 128 n two, le-leb 16384 n three, lt-leb 2097152 n below)
+              (omega (
+                arith,
+                one_byte_more n two,
+                one_byte_more (n / 128) (omega arith),
+                one_byte (n / 128 / 128) (omega arith),
+              ))
+          | inr four ↦
+              rw (le-leb 128 n two, le-leb 16384 n three, le-leb 2097152 n four)
+              (omega (
+                arith,
+                one_byte_more n two,
+                one_byte_more (n / 128) (omega arith),
+                one_byte_more (n / 128 / 128) (omega arith),
+                one_byte (n / 128 / 128 / 128)
+                    (omega arith),
+              ))
+        ]
+      ]
+    ]
+
+-- the sum that the code adds is the number of bytes after the first
+pub added_is : (n : ℕ) → n < 2 ^ 28 → added n ≡ more_bytes n
+added_is n small = omega (arith, length_by_bounds n small)
+
+-- a comparison adds at most one byte
+one_at_most : (more : Bool) → cond more 1 0 ≤ 1
+one_at_most true = omega arith
+one_at_most false = omega arith
+
+-- a number below 2 ^ 28 has at most four bytes
+short_length : (n : ℕ) → n < 2 ^ 28 → length (varint_of n) ≤ 4
+short_length n small =
+    let one = λ (bound : ℕ). let few : one_from bound n ≤ 1 = one_at_most (top 31 (cond (leb bound n) 4294967295 0))
+    in few in
+    omega (arith, length_by_bounds n small, one 128, one 16384, one 2097152)
+
+-- ---- sums of lanes
+
+-- lanes are added one by one, without a carry if both sums fit
+lanes_more : (ls ms : List ℕ) → length ls ≡ length ms → sum_l ls + sum_l ms < 4294967296
+    → sum_l (zip2 (λ x y. (x + y) % 4294967296) ls ms) ≡ sum_l ls + sum_l ms
+lanes_more [] [] count fits = refl
+lanes_more (l ∷ ls) (m ∷ ms) count fits = let rest = lanes_more ls ms (omega arith) (omega arith) in omega arith
+lanes_more _ _ count fits = absurd (omega arith)
+
+-- four varints of numbers below 2 ^ 28 have at most sixteen bytes
+pub few_lens : (a b c d : ℕ) → a < 2 ^ 28 → b < 2 ^ 28 → c < 2 ^ 28 → d < 2 ^ 28 → four_lens a b c d ≤ 16
+few_lens a b c d p q r s =
+    omega (arith, short_length a p, short_length b q, short_length c r, short_length d s)
+
+-- four lengths are added to the lanes and the other bytes
+pub lens_added : (ls : List ℕ) (o a b c d : ℕ) → length ls ≡ 4 → sum_l ls + o ≤ lanes_cap → a < 2 ^ 28
+    → b < 2 ^ 28 → c < 2 ^ 28 → d < 2 ^ 28
+    → sum_l (zip2 (λ x y. (x + y) % 4294967296) ls
+    (more_bytes a ∷ more_bytes b ∷ more_bytes c ∷ more_bytes d ∷ [])) + (o + 4)
+    ≡ sum_l ls + o + four_lens a b c d
+lens_added ls o a b c d four room p q r s =
+    let ms = more_bytes a ∷ more_bytes b ∷ more_bytes c ∷ more_bytes d ∷ [] in
+    let few = few_lens a b c d p q r s in
+    omega (arith, lanes_more ls ms four (omega arith), some_byte a, some_byte b, some_byte c, some_byte d)
+
+-- a sum grows by at most sixteen
+pub grown_few : (new old more : ℕ) → new ≡ old + more → more ≤ 16 → new ≤ old + 16
+grown_few new old more e few = omega arith
+
+-- lanes whose sum fits are added up without a carry
+pub lanes_total : (ls : List ℕ) (o : ℕ) → length ls ≡ 4 → sum_l ls + o ≤ lanes_cap
+    → fold_l (λ s x. (s + x) % 4294967296) 0 ls ≡ sum_l ls
+lanes_total (w ∷ x ∷ y ∷ z ∷ []) o four room = omega (arith, room)
+lanes_total _ o four room = absurd (omega arith)
+
+-- the lanes and the other bytes add up to the whole sum
+pub total_is : (ls : List ℕ) (sum o now : ℕ) → length ls ≡ 4
+    → sum ≡ fold_l (λ s x. (s + x) % 4294967296) 0 ls → sum_l ls + o ≡ now → now ≤ lanes_cap
+    → sum + o ≡ now
+total_is ls sum o now four sum_is whole room =
+    let lanes = lanes_total ls o four (omega (arith, whole, room)) in
+    ap (λ x. x + o) (sum_is ∙ lanes) ∙ whole
+
+-- the whole sum fits 64 bits
+pub total_fits : (sum o now : ℕ) → sum + o ≡ now → now ≤ lanes_cap → Fits w64 (sum + o)
+total_fits sum o now is room = record { fits = omega arith }
+
+-- ==== The bytes that a piece holds.
+
+-- the first k of the lowest m digits are the lowest k
+take-low_digits : (k m n : ℕ) → k ≤ m → take k (low_digits 256 m n) ≡ low_digits 256 k n
+take-low_digits zero m n few = refl
+take-low_digits (suc k) zero n few = absurd (omega arith)
+take-low_digits (suc k) (suc m) n few = ap (λ bs. (n % 256) ∷ bs) (take-low_digits k m (n / 256) (omega arith))
+
+-- std's `byte_at` is a quotient's remainder at every place
+byte_at-is : (i n : ℕ) → byte_at i n ≡ n / 256 ^ i % 256
+byte_at-is zero n = rw (pow-zero 256, div-one n) refl
+byte_at-is (suc i) n = refl
+
+-- std's `bytes_low_first` gives the lowest digits
+bytes_low_first-is : (i k n : ℕ) → bytes_low_first i k n ≡ low_digits 256 k (n / 256 ^ i)
+bytes_low_first-is i zero n = refl
+bytes_low_first-is i (suc k) n =
+    let next : n / 256 ^ i / 256 ≡ n / 256 ^ suc i = div-div-eq-div-mul n (256 ^ i) 256
+    ∙ ap (λ p. n / p) (sym (pow-suc 256 i)) in
+    ap (λ b. b ∷ bytes_low_first (suc i) k n) (byte_at-is i n)
+    ∙ ap (λ bs. (n / 256 ^ i % 256) ∷ bs) (bytes_low_first-is (suc i) k n ∙ ap (low_digits 256 k) (sym next))
+
+-- the lowest bytes of a word of 64 bits
+pub take-le_bytes : (k n : ℕ) → k ≤ 8 → take k (to_le_bytes w64 n) ≡ low_digits 256 k n
+take-le_bytes k n few =
+    ap (take k) (bytes_low_first-is 0 8 n ∙ ap (low_digits 256 8) (rw (pow-zero 256) (div-one n)))
+    ∙ take-low_digits k 8 n few
+
+-- bytes stored after those held, of which the first `count` are kept
+pub front_stored : (bytes held stored : List ℕ) (at room count : ℕ) → at ≤ length bytes
+    → take at bytes ≡ held → count ≤ length stored
+    → take (at + count) (put_mid at room bytes stored) ≡ held ++ take count stored
+front_stored bytes held stored at room count within view few =
+    let place : at + count ≡ length (take at bytes) + count = omega (arith, length-take-le at bytes within) in
+    ap (λ k. take k (put_mid at room bytes stored)) place
+    ∙ take-append-add (take at bytes) (stored ++ post_of at room bytes) count
+    ∙ ap (λ bs. take at bytes ++ bs) (take-append-le count stored (post_of at room bytes) few)
+    ∙ ap (λ bs. bs ++ take count stored) view
+
+-- eight bytes stored after those held, of which some are kept
+pub eight_stored : (bytes held stored : List ℕ) (at room count : ℕ) → room ≡ 8
+    → at + 8 ≤ length bytes → take at bytes ≡ held → count ≤ 8 → length stored ≡ 8
+    → take (at + count) (put_mid at room bytes (put_chunk 0 (mid_of at room bytes) stored)) ≡ held ++ take count stored
+eight_stored bytes held stored at room count eight within view few long =
+    let chunk : put_chunk 0 (mid_of at room bytes) stored ≡ stored = put_chunk_whole
+    (mid_of at room bytes) stored
+    (omega (arith, length-take room (drop at bytes), length-drop at bytes)) in
+    front_stored bytes held (put_chunk 0 (mid_of at room bytes) stored) at room count
+    (omega (arith, within)) view (omega (arith, ap length chunk))
+    ∙ ap (λ bs. held ++ take count bs) chunk

@@ -1,8 +1,16 @@
--- The two zigzag functions undo each other, and no two numbers have the same form.
-use Rattle.std.proofs.Common.{◌≡◌, ℕ, ℤ, pos, negsuc, ◌+◌, ◌*◌, ◌/◌, ◌%◌, ◌<◌, ◌^◌, ◌-◌, suc, refl, ap, arith}
-use Rattle.std.specs.Prelude.{◌≤ℤ◌}
-use Rattle.std.proofs.lemmas.Int.{ints}
+-- The two zigzag functions undo each other, also for four forms at once.
+use Rattle.std.proofs.Common.{◌≡◌, ℕ, ℤ, pos, negsuc, ◌+◌, ◌*◌, ◌/◌, ◌%◌, ◌<◌, ◌^◌, ◌-◌, suc, refl, ap, arith, zero}
+use Rattle.std.proofs.Common.{Bool, true, false, List, [], ◌∷◌, length, map, ◌∙◌, Fits, FitsSigned, w32, w64, eqb}
+use Rattle.std.specs.Prelude.{nat_eq}
+use Rattle.std.proofs.lemmas.Int.{to_z-of_z}
 use Rattle.twkb_num.specs.Zigzag.{zigzag_of, unzigzag_of}
+use mir.Syntax.{Width}
+use mir.Val.{hbits}
+use lib.Lanes.{Each1, zip2, sel_l, top}
+use lib.ListN.{replicate}
+use mathlib.Core.Bool.{cond}
+use Rattle.std.specs.Int.{cast_signed, cast_unsigned}
+use Rattle.twkb_num.specs.Four.{unzigzagged_bits}
 
 -- unzigzag undoes zigzag
 pub unzigzag_of-zigzag_of : (n : ℤ) → unzigzag_of (zigzag_of n) ≡ n
@@ -25,7 +33,55 @@ zigzag_one (pos m) (pos n) e = let h : m ≡ n = omega arith in ap pos h
 zigzag_one (negsuc m) (negsuc n) e = let h : m ≡ n = omega arith in ap negsuc h
 zigzag_one _ _ e = absurd (omega arith)
 
--- a form below 2 ^ 28 is that of a number from -2 ^ 27 to 2 ^ 27 - 1
-pub short_form : (d : ℤ) → zigzag_of d < 2 ^ 28 → (negsuc (2 ^ 27 - 1) ≤ℤ d) × (d ≤ℤ pos (2 ^ 27 - 1))
-short_form (pos k) small = (omega (arith, ints, small), omega (arith, ints, small))
-short_form (negsuc k) small = (omega (arith, ints, small), omega (arith, ints, small))
+-- ==== The numbers of four zigzag forms, computed at once in 32 bits each.
+
+-- the lanes as the code computes them
+abbrev unzigzagged_lanes : ℕ → List ℕ → List ℕ
+unzigzagged_lanes k forms =
+    sel_l (map (top 31) (zip2 (λ a b. cond (eqb a b) 4294967295 0)
+    (zip2 (λ a b. a % b) forms (replicate k 2)) (replicate k 0)))
+    (zip2 (λ a b. a / b) forms (replicate k 2))
+    (zip2 (λ a b. (a + (4294967296 - b)) % 4294967296) (replicate k 4294967295)
+    (zip2 (λ a b. a / b) forms (replicate k 2)))
+
+-- one lane is the unzigzagged number
+lane_is : (n : ℕ) → n < 4294967296
+    → cond (top 31 (cond (eqb (n % 2) 0) 4294967295 0)) (n / 2)
+    ((4294967295 + (4294967296 - n / 2)) % 4294967296) ≡ unzigzagged_bits n
+lane_is n small = go (n % 2) refl (omega arith)
+  where
+    go : (r : ℕ) → n % 2 ≡ r → r < 2 → cond (top 31 (cond (eqb (n % 2) 0) 4294967295 0)) (n / 2)
+        ((4294967295 + (4294967296 - n / 2)) % 4294967296) ≡ unzigzagged_bits n
+    go zero e h = rw e refl
+    go (suc zero) e h = rw e (omega arith)
+    go (suc (suc r)) e h = absurd (omega arith)
+
+-- all lanes are the unzigzagged numbers
+pub unzigzagged_are : (k : ℕ) (forms : List ℕ) → length forms ≡ k → Each1 (Fits w32) forms
+    → unzigzagged_lanes k forms ≡ map unzigzagged_bits forms
+unzigzagged_are zero [] long fit = refl
+unzigzagged_are (suc k) (n ∷ forms) long fit =
+    let small = fit.0 in
+    rw (lane_is n (omega arith)) (ap (λ ns. unzigzagged_bits n ∷ ns) (unzigzagged_are k forms (omega arith) fit.1))
+unzigzagged_are _ _ long fit = absurd (omega arith)
+
+-- ---- the bits of one number
+
+-- the number of a form fits a signed width if half the form fits its positive half
+number_fits : (w : Width) (n : ℕ) → n / 2 < 2 ^ hbits w → FitsSigned w (unzigzag_of n)
+number_fits w n half = fits (nat_eq (n % 2) 0)
+  where
+    fits : (even : Bool) → FitsSigned w (cond even (pos (n / 2)) (negsuc (n / 2)))
+    fits true = record { sfits = half }
+    fits false = record { sfits = half }
+
+-- A lane read with its sign, and then widened, is the number of its form.
+pub form_found : (n lane : ℕ) (read wide : ℤ) → n < 2 ^ 28 → lane ≡ unzigzagged_bits n → read ≡ cast_signed w32 lane
+    → wide ≡ cast_signed w32 (cast_unsigned w32 read) → zigzag_of (cast_signed w64 (cast_unsigned w64 wide)) ≡ n
+form_found n lane read wide small lane_is read_is wide_is =
+    let back = to_z-of_z w32 (unzigzag_of n) (number_fits w32 n (omega arith)) in
+    let same : read ≡ unzigzag_of n = read_is ∙ ap (cast_signed w32) lane_is ∙ back in
+    let widened : wide ≡ unzigzag_of n = wide_is ∙ ap (λ z. cast_signed w32 (cast_unsigned w32 z)) same ∙ back in
+    ap (λ z. zigzag_of (cast_signed w64 (cast_unsigned w64 z))) widened
+    ∙ ap zigzag_of (to_z-of_z w64 (unzigzag_of n) (number_fits w64 n (omega arith)))
+    ∙ zigzag_of-unzigzag_of n

@@ -3,10 +3,10 @@ use Rattle.std.specs.Prelude.{nat_lt}
 use Rattle.std.proofs.lemmas.List.{length-map}
 use Rattle.twkb_num.specs.Four.{unzigzagged_bits}
 use Rattle.twkb_num.proofs.BlockLemmas.{lanes_read, ends_dropped}
-use Rattle.twkb_num.proofs.FourLemmas.{marks_of}
+use Rattle.twkb_num.proofs.FoundLemmas.{marks_of}
 use Rattle.twkb_num.proofs.FoundLemmas.{four_found, numbers_small}
-use Rattle.twkb_num.proofs.TwoLemmas.{twice_found, moved_places_below, four_places_ok, numbers_found}
-use Rattle.twkb_num.proofs.UnzigzagLemmas.{form_found}
+use Rattle.twkb_num.proofs.FoundLemmas.{twice_found, moved_places_below, four_places_ok, numbers_found}
+use Rattle.twkb_num.proofs.ZigzagLemmas.{form_found}
 use Rattle.twkb_num.proofs.four.four_by.Goals as goal
 
 pub overflow_add-low_places : goal.overflow_add-low_places

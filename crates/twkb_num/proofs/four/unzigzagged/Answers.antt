@@ -1,6 +1,6 @@
 use Rattle.std.proofs.Common.{rules}
 use Rattle.std.proofs.lemmas.Simd.{Each2-splat, Each1-all}
-use Rattle.twkb_num.proofs.UnzigzagLemmas.{unzigzagged_are}
+use Rattle.twkb_num.proofs.ZigzagLemmas.{unzigzagged_are}
 use Rattle.twkb_num.proofs.four.unzigzagged.Goals as goal
 
 pub nonzero_div-half : goal.nonzero_div-half

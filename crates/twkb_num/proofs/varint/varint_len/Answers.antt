@@ -1,4 +1,4 @@
-use Rattle.twkb_num.proofs.LengthLemmas.{length_by_zeros}
+use Rattle.twkb_num.proofs.VarintLemmas.{length_by_zeros}
 use Rattle.twkb_num.proofs.varint.varint_len.Goals as goal
 
 pub returns-clause-value : goal.returns-clause-value

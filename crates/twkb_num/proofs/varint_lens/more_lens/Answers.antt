@@ -1,5 +1,5 @@
 use Rattle.std.proofs.Common.{[], ◌∷◌}
-use Rattle.twkb_num.proofs.LengthLemmas.{added_is}
+use Rattle.twkb_num.proofs.VarintLemmas.{added_is}
 use Rattle.twkb_num.proofs.varint_lens.more_lens.Goals as goal
 
 pub returns : goal.returns

@@ -2,7 +2,7 @@ use Rattle.std.proofs.Common.{◌∙◌, ◌-◌, ◌<◌, ◌^◌, refl, sym, s
 use Rattle.std.specs.Prelude.{nat_lt}
 use Rattle.std.proofs.lemmas.Int.{to_z-of_z}
 use Rattle.std.proofs.lemmas.List.{length-map}
-use Rattle.twkb_num.proofs.FourLemmas.{marks_of}
+use Rattle.twkb_num.proofs.FoundLemmas.{marks_of}
 use Rattle.twkb_num.proofs.WordLemmas.{bytes_of, groups_small}
 use Rattle.twkb_num.proofs.BlockLemmas.{units_below, length-first_and_last_units, first_groups, last_groups, two_read}
 use Rattle.twkb_num.proofs.whole_text.two_in_text.Goals as goal

@@ -1,6 +1,6 @@
 use Rattle.std.proofs.Common.{◌+◌, ◌≤◌, length, ap, arith}
 use Rattle.std.proofs.lemmas.List.{length-take-le}
-use Rattle.twkb_num.proofs.PieceLemmas.{eight_stored}
+use Rattle.twkb_num.proofs.VarintLemmas.{eight_stored}
 use Rattle.twkb_num.proofs.piece.Piece.push_eight.Goals as goal
 
 pub returns : goal.returns

@@ -1,5 +1,5 @@
 use Rattle.std.proofs.Common.{◌++◌, ◌∙◌, ap, take}
-use Rattle.twkb_num.proofs.PieceLemmas.{take-le_bytes}
+use Rattle.twkb_num.proofs.VarintLemmas.{take-le_bytes}
 use Rattle.twkb_num.proofs.piece.Piece.push_low.Goals as goal
 
 pub returns : goal.returns

@@ -1,5 +1,5 @@
 use Rattle.std.proofs.Common.{◌≡◌, ◌≤◌, ◌∙◌, length, take, ◌++◌, ap, arith}
-use Rattle.twkb_num.proofs.PieceLemmas.{front_stored}
+use Rattle.twkb_num.proofs.VarintLemmas.{front_stored}
 use Rattle.twkb_num.proofs.piece.Piece.push_prefix.Goals as goal
 
 pub returns : goal.returns

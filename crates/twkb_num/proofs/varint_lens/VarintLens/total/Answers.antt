@@ -1,4 +1,4 @@
-use Rattle.twkb_num.proofs.LengthLemmas.{total_is, total_fits}
+use Rattle.twkb_num.proofs.VarintLemmas.{total_is, total_fits}
 use Rattle.twkb_num.proofs.varint_lens.VarintLens.total.Goals as goal
 
 pub overflow_add-result : goal.overflow_add-result
