@@ -2,4 +2,3 @@
 pub mod StepLemmas
 pub mod PointLemmas
 pub mod ExtentLemmas
-pub mod BoxLemmas
