@@ -31,7 +31,7 @@ use Rattle.twkb_num.proofs.MarkLemmas.{mask_l-drop, mask_l-take}
 use Rattle.twkb_num.proofs.FoundLemmas.{AreLanes}
 use Rattle.twkb_num.proofs.FoundLemmas.{marks_of, number_spelled}
 use Rattle.twkb_num.proofs.SpellingLemmas.{number_of-append}
-use Rattle.twkb_num.proofs.WordLemmas.{number_l-drop, number_l-take, later_below, digits-number}
+use Rattle.twkb_num.proofs.WordLemmas.{number_l-drop, number_l-take, Each1-drop, digits-number}
 use Rattle.twkb_num.proofs.WordLemmas.{Each1-append, groups_found, same_in_front}
 
 -- ==== Units at the start of some bytes, and the bits of their ends.
@@ -360,7 +360,7 @@ module _ (text : List ℕ) (long : 8 ≤ length text) where
       ∙ sym (number_of-append 256 first last) in
       ap (digits_l 256 16) joined
       ∙ digits-number 256 16 (first_and_last text) length-first_and_last
-      (Each1-append (λ b. b < 256) first last (Each1-chunk (λ b. b < 256) 0 8 text below) (later_below (length text - 8) text below))
+      (Each1-append (λ b. b < 256) first last (Each1-chunk (λ b. b < 256) 0 8 text below) (Each1-drop (λ b. b < 256) (length text - 8) text below))
 
   -- the first eight and the last eight, cut at `used` characters, are the text cut there
   pub cut_apart : (used : ℕ) → used ≤ 8 → used ≤ length text → length text ≤ used + 8
@@ -411,21 +411,15 @@ run_of-last (false ∷ marks) (suc k) long mask =
     ap suc (run_of-last marks k (omega arith) (omega arith))
 
 -- no mark is set
-pub none_above : (us : List ℕ) (most : ℕ) → mask_l (map (λ u. ltb most u) us) ≡ 0 → (k : ℕ) → k < length us
-    → get_or us k 0 ≤ most
-none_above [] most none k within = absurd (omega arith)
-none_above (u ∷ us) most none k within =
+none_above : (us : List ℕ) (most : ℕ) → mask_l (map (λ u. ltb most u) us) ≡ 0 → Each1 (λ u. u ≤ most) us
+none_above [] most none = tt
+none_above (u ∷ us) most none =
     elim (cases_lt most u) [
       | inl above ↦ let set = rw (lt-ltb most u above) at none in absurd (omega arith)
       | inr below ↦
           let rest : 0 + 2 * mask_l (map (λ v. ltb most v) us) ≡ 0 = rw (le-ltb most u below) at none in
-          by_place k within below (none_above us most (omega arith))
+          (below, none_above us most (omega arith))
     ]
-  where
-    by_place : (k : ℕ) → k < length (u ∷ us) → u ≤ most → ((j : ℕ) → j < length us → get_or us j 0 ≤ most)
-        → get_or (u ∷ us) k 0 ≤ most
-    by_place zero within below rest = below
-    by_place (suc k) within below rest = rest k (omega arith)
 
 -- there are sixteen units, and each is a byte
 pub length-first_and_last_units : (text us : List ℕ) → 8 ≤ length text
@@ -450,19 +444,19 @@ length-less us long = ap length (zip2_splat wrapped_sub us 16 1 long) ∙ length
 pub marked_by : (us : List ℕ) (ends : ℕ) → length us ≡ 16 → Each1 (Fits w8) us
     → ends ≡ mask_l (map (λ u. nat_lt u 32) us)
     → mask_l (map (λ u. ltb 62 u) (zip2 wrapped_sub us (replicate 16 1))) ≡ 0 → AreMarked us ends
-marked_by us ends long fit ends_are none =
-    let less = λ (u : ℕ). wrapped_sub u 1 in
-    let lanes = zip2 wrapped_sub us (replicate 16 1) in
-    let lanes_are : lanes ≡ map less us = zip2_splat wrapped_sub us 16 1 long in
-    let few = λ (k : ℕ) (within : k < length us). let small : wrapped_sub (get_or us k 0) 1 ≤ 62 =
-    rw (sym (get_or-map less us k 0 0 within)) (none_above (map less us) 62
-    (subst (λ ls. mask_l (map (λ u. ltb 62 u) ls) ≡ 0) lanes_are none) k (omega (arith, length-map us less)))
-    in small in
-    record {
-      marks = ends_are;
-      below = λ k within. let byte = (Each1-get_or (Fits w8) us k 0 within fit).fits in omega (arith, few k within);
-      some = λ k within. let byte = (Each1-get_or (Fits w8) us k 0 within fit).fits in omega (arith, few k within);
-    }
+marked_by us ends long fit ends_are none = record {
+  marks = ends_are;
+  few = each us fit (none_above (map (λ u. wrapped_sub u 1) us) 62
+      (subst (λ ls. mask_l (map (λ u. ltb 62 u) ls) ≡ 0) (zip2_splat wrapped_sub us 16 1 long) none));
+}
+  where
+    each : (us : List ℕ) → Each1 (Fits w8) us → Each1 (λ v. v ≤ 62) (map (λ u. wrapped_sub u 1) us)
+        → Each1 (λ u. (0 < u) × (u < 64)) us
+    each [] fit few = tt
+    each (u ∷ us) fit few =
+        let byte = fit.0.fits in
+        let small : wrapped_sub u 1 ≤ 62 = few.0 in
+        ((omega arith, omega arith), each us fit.1 few.1)
 
 -- the last marks are those of a number that ends with the text
 pub last_run : (marks : List Bool) (ends rest : ℕ) → length marks ≡ 16 → ends ≡ mask_l marks → 1 ≤ rest
@@ -514,7 +508,7 @@ module _ (us : List ℕ) (long : length us ≡ 16) (fit : Each1 (λ u. u < 256) 
       → eight_groups (back / 2 ^ (64 - 8 * rest)) ≡ number_in_front 32 (rest - 1) (drop (16 - rest) us)
   last_groups back rest back_is some few =
       let last = drop 8 us in
-      let last_fit = later_below 8 us fit in
+      let last_fit = Each1-drop (λ b. b < 256) 8 us fit in
       let shift : 64 - 8 * rest ≡ 8 * (8 - rest) = omega arith in
       let place : 8 + (8 - rest) ≡ 16 - rest = omega arith in
       let count : length (drop (16 - rest) us) ≡ suc (rest - 1) = omega (arith, length-drop (16 - rest) us) in
@@ -527,17 +521,18 @@ module _ (us : List ℕ) (long : length us ≡ 16) (fit : Each1 (λ u. u < 256) 
       ∙ ap (number_l 256) (take_all 8 last (omega (arith, length-drop 8 us))))
       ∙ number_l-drop 256 (8 - rest) last last_fit
       ∙ ap (number_l 256) (drop-drop (8 - rest) 8 us ∙ ap (λ n. drop n us) place))
-      ∙ groups_found (drop (16 - rest) us) (rest - 1) (later_below (16 - rest) us fit) count (omega arith)
+      ∙ groups_found (drop (16 - rest) us) (rest - 1) (Each1-drop (λ b. b < 256) (16 - rest) us fit) count (omega arith)
 
 -- units up to the first that ends a number are its characters
-run_spelled : (us : List ℕ) (count : ℕ) → ((k : ℕ) → k < length us → get_or us k 0 < 64)
-    → ((k : ℕ) → k < length us → 0 < get_or us k 0) → suc (run_of (marks_of 32 us)) ≡ count → count ≤ length us
+run_spelled : (us : List ℕ) (count : ℕ) → Each1 (λ u. (0 < u) × (u < 64)) us
+    → suc (run_of (marks_of 32 us)) ≡ count → count ≤ length us
     → map (λ u. u + 63) (take count us) ≡ shortest five_unit 32 (number_in_front 32 (count - 1) us)
-run_spelled us count below some run within =
+run_spelled us count few run within =
     let number : count - 1 ≡ run_of (marks_of 32 us) = omega arith in
+    let unit = λ (k : ℕ) (low : k < length us). Each1-get_or (λ u. (0 < u) × (u < 64)) us k 0 low few in
     ap (λ n. map (λ u. u + 63) (take n us)) (sym run)
-    ∙ number_spelled 63 32 us (omega arith) (all_below us 64 (omega arith) below) (omega arith)
-    (λ _. some (run_of (marks_of 32 us)) (omega arith))
+    ∙ number_spelled 63 32 us (omega arith) (all_below us 64 (omega arith) (λ k low. (unit k low).1)) (omega arith)
+    (λ _. (unit (run_of (marks_of 32 us)) (omega arith)).0)
     ∙ ap (λ n. shortest five_unit 32 (number_in_front 32 n us)) (sym number)
 
 -- A text is the two numbers whose units are its first eight and its last eight.
@@ -555,22 +550,18 @@ two_read text us ends used long fit us_are marked first_short within second_shor
     let last_count : length last ≡ rest = omega (arith, length-drop (16 - rest) us) in
     let bytes_fit = Each1-weaker (λ b. b < 256) (Fits w8) (λ b small. record { fits = small }) bytes
     (Each1-append (λ b. b < 256) (take 8 text) (drop (length text - 8) text) (Each1-chunk (λ b. b < 256) 0 8 text fit)
-    (later_below (length text - 8) text fit)) in
+    (Each1-drop (λ b. b < 256) (length text - 8) text fit)) in
     let same : bytes ≡ map character us = same_units 63 63 bytes (omega arith) bytes_fit
-    (λ k low. let small : get_or us k 0 < 64 = marked.below k (omega (arith, count, length-first_and_last text long)) in
-    let is = ap (λ vs. get_or vs k 0) us_are in omega arith) ∙ ap (map character) (sym us_are) in
+    (λ k low. let unit = Each1-get_or (λ u. (0 < u) × (u < 64)) us k 0
+    (omega (arith, count, length-first_and_last text long)) marked.few in
+    let is = ap (λ vs. get_or vs k 0) us_are in omega (arith, unit.1)) ∙ ap (map character) (sym us_are) in
     let last_run : suc (run_of (marks_of 32 last)) ≡ rest =
     ap (λ marks. suc (run_of marks)) (sym (drop-map (λ u. nat_lt u 32) (16 - rest) us)) ∙ runs.second in
-    let at = λ (k : ℕ) (low : k < length last). let place : (16 - rest) + k < length us = omega arith in place in
-    let last_below = λ (k : ℕ) (low : k < length last). let e : get_or last k 0 < 64 =
-    rw (get_or-drop (16 - rest) us k 0) (marked.below ((16 - rest) + k) (at k low)) in e in
-    let last_some = λ (k : ℕ) (low : k < length last). let e : 0 < get_or last k 0 =
-    rw (get_or-drop (16 - rest) us k 0) (marked.some ((16 - rest) + k) (at k low)) in e in
     let first = ap (take used) same ∙ take-map character used us
-    ∙ run_spelled us used marked.below marked.some runs.first (omega arith) in
+    ∙ run_spelled us used marked.few runs.first (omega arith) in
     let second = ap (drop (16 - rest)) same ∙ drop-map character (16 - rest) us
     ∙ ap (map character) (sym (take_all rest last (omega arith)))
-    ∙ run_spelled last rest last_below last_some last_run (omega arith) in
+    ∙ run_spelled last rest (Each1-drop (λ u. (0 < u) × (u < 64)) (16 - rest) us marked.few) last_run (omega arith) in
     cut_apart text long used first_short (omega arith) second_short
     ∙ ap (λ xs. xs ++ drop (16 - rest) bytes) first
     ∙ ap (λ xs. shortest five_unit 32 (number_in_front 32 (used - 1) us) ++ xs) second

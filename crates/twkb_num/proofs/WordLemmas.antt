@@ -73,10 +73,10 @@ pub word_is : (k : ℕ) (bytes : List ℕ) → ((i : ℕ) → Fits w8 (get_or by
 word_is k bytes fit = number_l-take 256 k (take k bytes) (Each1-chunk (λ b. b < 256) 0 k bytes (bytes_of bytes fit))
     ∙ ap (number_l 256) (take-take k k bytes (omega arith))
 
--- bytes after a place
-pub later_below : (k : ℕ) (xs : List ℕ) → Each1 (λ b. b < 256) xs → Each1 (λ b. b < 256) (drop k xs)
-later_below (suc k) (x ∷ xs) p = later_below k xs p.1
-later_below _ _ p = p
+-- a fact about the elements of a list is one about those after a place
+pub Each1-drop : {A : Type 0} (P : A → Type 0) (k : ℕ) (xs : List A) → Each1 P xs → Each1 P (drop k xs)
+Each1-drop P (suc k) (x ∷ xs) p = Each1-drop P k xs p.1
+Each1-drop P _ _ p = p
 
 -- ---- words that are equal
 
@@ -94,8 +94,8 @@ same_by_ends k xs ys p q count long few front back =
     (length-take-le k xs (omega arith) ∙ sym (length-take-le k ys long)) front in
     let xs_last : length (drop at xs) ≡ k = omega (arith, length-drop at xs) in
     let ys_last : length (drop at ys) ≡ k = omega (arith, length-drop at ys) in
-    let last : drop at xs ≡ drop at ys = number_of-same 256 (drop at xs) (drop at ys) (later_below at xs p)
-    (later_below at ys q) (xs_last ∙ sym ys_last)
+    let last : drop at xs ≡ drop at ys = number_of-same 256 (drop at xs) (drop at ys) (Each1-drop (λ b. b < 256) at xs p)
+    (Each1-drop (λ b. b < 256) at ys q) (xs_last ∙ sym ys_last)
     (ap (number_l 256) (sym (take_all k (drop at xs) (omega arith))) ∙ back
     ∙ ap (number_l 256) (take_all k (drop at ys) (omega arith))) in
     let rest : drop k xs ≡ drop k ys = ap (λ n. drop n xs) (sym place) ∙ sym (drop-drop skip at xs)
@@ -184,7 +184,7 @@ groups_found us more fit long few =
     ∙ ap (λ n. n + 2 ^ 20 * joined_groups 32 (number_l 256 (drop 4 us)))
     (groups_are 32 3 (take 4 us) (inr refl) (Each1-chunk (λ u. u < 256) 0 4 us fit))
     ∙ ap (λ n. number_in_front 32 3 (take 4 us) + 2 ^ 20 * n)
-    (groups_are 32 3 (drop 4 us) (inr refl) (later_below 4 us fit))
+    (groups_are 32 3 (drop 4 us) (inr refl) (Each1-drop (λ b. b < 256) 4 us fit))
     ∙ four_and_four us
     ∙ same_in_front 32 more 7 us us few (λ i low. refl) (λ i low above. get_or_past us i 0 (omega arith))
 
