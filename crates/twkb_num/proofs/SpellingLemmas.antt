@@ -9,7 +9,7 @@ use Rattle.std.proofs.lemmas.Nat.{div_below, mod_below, div-add-mod', mul-lt, an
 use Rattle.std.proofs.lemmas.Nat.{pow_pos}
 use Rattle.std.proofs.lemmas.Bool.{lt-ltb, le-ltb, cases_lt, false≢true}
 use Rattle.std.specs.Int.Digits.{AllBelowBase}
-use Rattle.std.proofs.lemmas.List.{take_more_set, map-append, length-map}
+use Rattle.std.proofs.lemmas.List.{take_more_set, map-append, length-map, nil_from_length}
 use Rattle.std.specs.Prelude.{IsTrue, ◌↔◌}
 use Rattle.twkb_num.specs.Digits.{digits, digits_within, number_of, low_digits}
 use Rattle.twkb_num.specs.Spelling.{units_of, open_units, shortest, IsSpelling, IsOpen}
@@ -290,6 +290,32 @@ pub shortest_more : (unit : ℕ → Bool → ℕ) (base n : ℕ) → 2 ≤ base 
 shortest_more unit base n p h =
     rw (digits_more base n p h) (units_of-cons unit (n % base) (digits base (n / base)) (digits_some base (n / base) p))
 
+-- units are the shortest spelling of the number of their digits if the last digit is above 0 or alone
+pub shortest_by_last : (unit : ℕ → Bool → ℕ) (base : ℕ) (ds : List ℕ) (d : ℕ) → 2 ≤ base
+    → AllBelowBase base (ds ++ d ∷ []) → ((0 < d) ⊎ (ds ≡ []))
+    → units_of unit (ds ++ d ∷ []) ≡ shortest unit base (number_of base (ds ++ d ∷ []))
+shortest_by_last unit base ds d p below (inl high) =
+    ap (units_of unit) (sym (digits-number_of base (ds ++ d ∷ []) p below (EndsAbove-push ds d high)))
+shortest_by_last unit base [] d p below (inr alone) =
+    let same : d + base * 0 ≡ d = omega arith in
+    rw (same, digits_one base d below.0) refl
+shortest_by_last unit base (e ∷ ds) d p below (inr alone) = let none = ap length alone in absurd (omega arith)
+
+-- the last digit of a number is above 0 unless it is alone
+pub last_digit_above : (base n : ℕ) (ds : List ℕ) (d : ℕ) → 2 ≤ base → AllBelowBase base ds
+    → digits base n ≡ ds ++ d ∷ [] → 0 < length ds → 0 < d
+last_digit_above base n ds d p below e some =
+    elim (cases_lt 0 d) [
+      | inl high ↦ high
+      | inr low ↦
+          let none : base ^ length ds * d ≡ base ^ length ds * 0 = ap (λ x. base ^ length ds * x) (omega arith) in
+          let value : n ≡ number_of base ds = sym (number_of-digits base n p) ∙ ap (number_of base) e
+          ∙ number_of-push base ds d ∙ omega arith in
+          let whole : suc (length ds - 1) ≡ length ds = omega arith in
+          let small : n < base ^ suc (length ds - 1) = rw (whole, value) (number_of-lt base ds below) in
+          absurd (omega (arith, length-digits-le base (length ds - 1) n p small, ap length e, length-append ds (d ∷ [])))
+    ]
+
 -- ==== The loop that writes a number's units.
 
 -- the code's mask takes the remainder by a power of 2
@@ -544,21 +570,15 @@ module _ {bits longest : ℕ} {unit : ℕ → Bool → ℕ} {group : ℕ → Opt
   -- the spelling is the shortest if its last digit is above 0 or alone
   pub is_shortest : (k n d u : ℕ) → n < (2 ^ bits) ^ k → d < 2 ^ bits → u ≡ unit d false → ((0 < d) ⊎ (k ≡ 0))
       → open_units unit (low_digits (2 ^ bits) k n) ++ u ∷ [] ≡ shortest unit (2 ^ bits) (n + d * (2 ^ bits) ^ k)
-  is_shortest zero n d u h b e _ =
-      let only : n < 1 = rw (pow-zero (2 ^ bits)) at h in
-      let same : n + d * (2 ^ bits) ^ 0 ≡ d = rw (pow-zero (2 ^ bits)) (omega arith) in
-      rw (same, digits_one (2 ^ bits) d b, e) refl
-  is_shortest (suc k) n d u h b e which =
+  is_shortest k n d u h b e which =
       let base = base-le bits laws.five in
-      elim which [
-        | inl high ↦
-            done_units (suc k) n d u e
-            ∙ ap (units_of unit) (sym (digits-number_of (2 ^ bits)
-            (low_digits (2 ^ bits) (suc k) n ++ d ∷ []) (omega arith) (done_below (suc k) n d b)
-            (EndsAbove-push (low_digits (2 ^ bits) (suc k) n) d high)))
-            ∙ ap (shortest unit (2 ^ bits)) (done_number (suc k) n d h b)
-        | inr none ↦ absurd (omega arith)
-      ]
+      let short : (0 < d) ⊎ (low_digits (2 ^ bits) k n ≡ []) = elim which [
+        | inl high ↦ inl high
+        | inr none ↦ inr (nil_from_length (low_digits (2 ^ bits) k n) (length-low_digits (2 ^ bits) k n ∙ none))
+      ] in
+      done_units k n d u e
+      ∙ shortest_by_last unit (2 ^ bits) (low_digits (2 ^ bits) k n) d (omega arith) (done_below k n d b) short
+      ∙ ap (shortest unit (2 ^ bits)) (done_number k n d h b)
 
   -- the spelling is not the shortest if its last digit is 0 and not alone
   pub not_shortest : (k n u : ℕ) → n < (2 ^ bits) ^ k → 0 < k

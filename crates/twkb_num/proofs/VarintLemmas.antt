@@ -5,7 +5,7 @@ use Rattle.std.proofs.Common.{◌-◌, ◌*◌, ◌/◌, ◌%◌, map, lit<, tak
 use Rattle.std.proofs.Common.{length-drop}
 use Rattle.std.specs.Prelude.{IsTrue, ◌↔◌, if◌then◌else◌, nat_lt}
 use Rattle.std.proofs.lemmas.Bool.{false≢true, cases_lt, lt-ltb, le-ltb, le-leb, lt-leb}
-use Rattle.std.proofs.lemmas.List.{append-nil, length-map, take_more_set, take-set-le, length-set, length-take-le}
+use Rattle.std.proofs.lemmas.List.{append-nil, map-append, length-map, take_more_set, take-set-le, length-set, length-take-le}
 use Rattle.std.proofs.lemmas.List.{take-append-le}
 use Rattle.std.specs.Int.Digits.{AllBelowBase}
 use Rattle.std.specs.List.{AllByRecursion}
@@ -360,23 +360,16 @@ open_varint_is bs = (
 
 -- ---- varints that are too long
 
--- the sum of some bytes with one more after them
-seven_bit_sum-push : (bs : List ℕ) (b : ℕ) → seven_bit_sum (bs ++ b ∷ []) ≡ seven_bit_sum bs + 128
-    ^ length bs * (b % 128)
-seven_bit_sum-push [] b = rw (pow-zero 128) (omega arith)
-seven_bit_sum-push (c ∷ bs) b = rw (seven_bit_sum-push bs b, pow-suc 128 (length bs)) (omega arith)
-
--- the sum of k bytes is below 128 ^ k
-seven_bit_sum-lt : (bs : List ℕ) → seven_bit_sum bs < 128 ^ length bs
-seven_bit_sum-lt [] = rw (pow-zero 128) (omega arith)
-seven_bit_sum-lt (b ∷ bs) = rw (pow-suc 128 (length bs))
-    (omega (arith, seven_bit_sum-lt bs, mod_below b 128 (omega arith)))
-
 -- a sum of 2 ^ 64 or above needs nine bytes and a tenth above 1
 too_large : (us : List ℕ) (u : ℕ) → length us ≤ 9 → 2 ^ 64 ≤ seven_bit_sum (us ++ u ∷ []) → (length us ≡ 9) × (2 ≤ u)
 too_large us u room large =
-    let sum = rw (seven_bit_sum-push us u) at large in
-    let low = seven_bit_sum-lt us in
+    let ds = map (λ b. b % 128) us in
+    let sum : seven_bit_sum (us ++ u ∷ []) ≡ number_of 128 ds + 128 ^ length ds * (u % 128) =
+    sym (sevens_sum (us ++ u ∷ [])) ∙ ap (number_of 128) (map-append (λ b. b % 128) us (u ∷ []))
+    ∙ number_of-push 128 ds (u % 128) in
+    let count : 128 ^ length ds ≡ 128 ^ length us = ap (λ k. 128 ^ k) (length-map us (λ b. b % 128)) in
+    let scaled : 128 ^ length ds * (u % 128) ≡ 128 ^ length us * (u % 128) = ap (λ p. p * (u % 128)) count in
+    let low = number_of-lt 128 ds (sevens_below us) in
     let digit : u % 128 < 128 = mod_below u 128 (omega arith) in
     elim (cases_lt (length us) 9) [
       | inl short ↦

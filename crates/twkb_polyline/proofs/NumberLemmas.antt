@@ -1,12 +1,12 @@
 -- The characters of one number: their codes and groups, where they end, and the answers of their reader.
-use Rattle.std.proofs.Common.{◌≡◌, ℕ, ◌+◌, ◌-◌, ◌<◌, true, false, List, [], ◌∷◌, ◌++◌, map, refl, ◌∙◌, ap, arith, zero}
+use Rattle.std.proofs.Common.{◌≡◌, ℕ, ◌+◌, ◌-◌, ◌<◌, true, false, List, [], ◌∷◌, ◌++◌, map, refl, ◌∙◌, ap, arith}
 use Rattle.std.proofs.Common.{suc, ◌*◌, ◌/◌, ◌%◌, ◌≤◌, ◌^◌, length, ◌⊎◌, inl, inr, sym, lit≤, length-append, ℤ, drop}
 use Rattle.std.proofs.Common.{get_or, append_assoc, append-nil, lit<, subst}
 use Rattle.std.proofs.lemmas.Grind.{common_steps}
 use Rattle.std.specs.List.{AllByRecursion}
 use Rattle.std.specs.Int.Digits.{AllBelowBase}
 use Rattle.std.specs.Prelude.{Some, None, Option, nat_lt, if◌then◌else◌}
-use Rattle.std.proofs.Math.Nat.{pow-le-pow_right, div-lt_self, mul_comm}
+use Rattle.std.proofs.Math.Nat.{pow-le-pow_right, mul_comm}
 use Rattle.std.proofs.lemmas.Bool.{cases_lt}
 use Rattle.std.proofs.lemmas.List.{length-map, same_from_push, nil_from_length, drop_all, drop_more, map-append}
 use Rattle.twkb_num.specs.Alphabet.{five_unit, five_group}
@@ -16,7 +16,7 @@ use Rattle.twkb_num.specs.Answer.{IsAbove, IsAnswer}
 use Rattle.twkb_num.specs.Zigzag.{zigzag_of, unzigzag_of}
 use Rattle.twkb_num.specs.declared.partial.Step.TheVariants as step
 use Rattle.twkb_num.specs.AlphabetLemmas.{five_laws}
-use Rattle.twkb_num.proofs.SpellingLemmas.{EndsAbove, EndsAbove-push, digits_one, digits_more, digits-number_of}
+use Rattle.twkb_num.proofs.SpellingLemmas.{shortest_by_last, last_digit_above}
 use Rattle.twkb_num.proofs.SpellingLemmas.{number_of-lt, number_of-push, units_of-push, length-units_of}
 use Rattle.twkb_num.proofs.SpellingLemmas.{AllBelowBase-push, shortest_spelling, digits_below, number_of-digits}
 use Rattle.twkb_num.proofs.SpellingLemmas.{digits_some, more_sum, more_fits, last_sum, last_fits}
@@ -120,46 +120,6 @@ thirteenth front d below twelve =
     front d ∙ ap (λ k. number_of 32 front + 32 ^ k * d) twelve in
     let small = twelve_below front below (omega arith) in
     (λ above. omega arith, λ large. omega arith)
-
--- ---- the groups of a number
-
-EndsAbove-cons : (d : ℕ) (ds : List ℕ) → EndsAbove ds → EndsAbove (d ∷ ds)
-EndsAbove-cons d [] h = absurd h
-EndsAbove-cons d (e ∷ ds) h = h
-
-digits_end_within : (turns n : ℕ) → n ≤ turns → 0 < n → EndsAbove (digits 32 n)
-digits_end_within zero n h p = absurd (omega arith)
-digits_end_within (suc turns) n h p =
-    elim (cases_lt n 32) [
-      | inl small ↦ rw (digits_one 32 n small) p
-      | inr large ↦
-          let falls : n / 32 < n = div-lt_self p (lit≤ tt) in
-          rw (digits_more 32 n (lit≤ tt) large) (EndsAbove-cons (n % 32) (digits 32 (n / 32))
-          (digits_end_within turns (n / 32) (omega arith) (omega arith)))
-    ]
-
-EndsAbove-last : (front : List ℕ) (d : ℕ) → EndsAbove (front ++ d ∷ []) → 0 < d
-EndsAbove-last (x ∷ y ∷ front) d h = EndsAbove-last (y ∷ front) d h
-EndsAbove-last _ d h = h
-
--- the last group of a number is not 0 unless it is the only one
-pub last_above : (n : ℕ) (front : List ℕ) (d : ℕ) → digits 32 n ≡ front ++ d ∷ [] → 0 < length front → 0 < d
-last_above n front d e some =
-    elim (cases_lt n 32) [
-      | inl small ↦ let same = ap length (sym (digits_one 32 n small) ∙ e) in
-          absurd (omega (arith, length-append front (d ∷ [])))
-      | inr large ↦ EndsAbove-last front d (rw e at (digits_end_within n n (omega arith) (omega arith)))
-    ]
-
--- groups are those of their number if the last is not 0 or is the only one
-pub spelled_shortest : (front : List ℕ) (d : ℕ) → AllBelowBase 32 (front ++ d ∷ [])
-    → ((0 < d) ⊎ (front ≡ [])) → units_of five_unit (front ++ d ∷ []) ≡ shortest five_unit 32
-    (number_of 32 (front ++ d ∷ []))
-spelled_shortest front d below (inl high) = ap (units_of five_unit)
-    (sym (digits-number_of 32 (front ++ d ∷ []) (lit≤ tt) below (EndsAbove-push front d high)))
-spelled_shortest [] d below (inr alone) = let same : d + 32 * 0 ≡ d = omega arith in
-    rw (same, digits_one 32 d below.0) refl
-spelled_shortest (x ∷ front) d below (inr alone) = let no = ap length alone in absurd (omega arith)
 
 -- ==== The answers of a reader of characters: the number, or its fault.
 
@@ -270,7 +230,7 @@ padded {us = us} {u = u} next spelling longer =
     let below : AllBelowBase 32 (last.front ++ last.last ∷ []) = rw last.split at spelling.below in
     let short : ((0 < last.last) ⊎ (last.front ≡ [])) → ⊥ = λ why.
     longer (spelling.spelled ∙ ap (units_of five_unit) last.split
-    ∙ spelled_shortest last.front last.last below why
+    ∙ shortest_by_last five_unit 32 last.front last.last (lit≤ tt) below why
     ∙ ap (shortest five_unit 32) (ap (number_of 32) (sym last.split) ∙ spelling.number)) in
     let none : last.last ≡ 0 = elim (cases_lt 0 last.last)
     [ inl high ↦ absurd (short (inl high)) | inr low ↦ omega arith ] in
@@ -395,7 +355,7 @@ ended {us = us} {more = more} d next below above small =
           ]
     ] in
     let spelled : us ++ (d + 63) ∷ [] ≡ shortest five_unit 32 (number_of 32 ds) =
-    spells_groups us d next.go_on ∙ spelled_shortest front d all_below above in
+    spells_groups us d next.go_on ∙ shortest_by_last five_unit 32 front d (lit≤ tt) all_below above in
     is_number (unzigzag_of (number_of 32 ds)) more
     (read_number next spelled (zigzag_of-unzigzag_of (number_of 32 ds)) fits)
 
@@ -609,7 +569,8 @@ groups_stop rest after z ds last digits_are split few value fits =
     let count : length ds ≡ length last.front + 1 = ap length last.split ∙ length-append last.front (last.last ∷ []) in
     let units = length-open_units last.front in
     let whole : number_of 32 (last.front ++ last.last ∷ []) ≡ z = ap (number_of 32) (sym last.split) ∙ value in
-    let above : 0 < length last.front → 0 < last.last = last_above z last.front last.last (digits_are ∙ last.split) in
+    let above : 0 < length last.front → 0 < last.last = last_digit_above 32 z last.front last.last (lit≤ tt)
+    last.below (digits_are ∙ last.split) in
     let below : 12 ≤ length last.front → last.last < 16 = λ full.
     elim (cases_lt last.last 16) [
       | inl small ↦ small
@@ -701,7 +662,7 @@ module _ {text : List ℕ} {start at value : ℕ} (begun : IsBegun text start at
       let spelled : us ++ get_or text at 0 ∷ [] ≡ shortest five_unit 32 (value + d * 32 ^ length gs) =
       ap (λ u. us ++ u ∷ []) unit.0
       ∙ sym (units_of-push five_unit gs d)
-      ∙ spelled_shortest gs d (AllBelowBase-push 32 gs d begun.below unit.1) short
+      ∙ shortest_by_last five_unit 32 gs d (lit≤ tt) (AllBelowBase-push 32 gs d begun.below unit.1) short
       ∙ ap (shortest five_unit 32) (sym (pushed gs value d begun.number)) in
       let held : AreHeld text start at us = record {
         held = sym begun.split;
