@@ -2,7 +2,7 @@
 use Rattle.std.proofs.Common.{◌≡◌, ℕ, ◌<◌, ◌≤◌, Bool, true, false, List, [], length, Option, Some, None, sym, ◌∙◌, ap}
 use Rattle.std.proofs.Common.{subst, arith, zero, suc, ◌∷◌, ◌++◌, refl, inl, inr, ℤ, Result, Ok, Err, Bor}
 use Rattle.std.proofs.Common.{length-append, ◌≢◌, ◌-◌, ◌==◌}
-use Rattle.std.specs.Prelude.{is_some, nat_le, reverse, ◌&&◌, IsSome, IfOk, IfErr, option_map, IfSome}
+use Rattle.std.specs.Prelude.{is_some, nat_le, reverse, ◌&&◌, IsSome, option_map, IfSome}
 use Rattle.std.proofs.lemmas.Bool.Decides.{nat_tests}
 use Rattle.std.proofs.lemmas.List.{reverse-append, length-reverse}
 use Rattle.std.proofs.lemmas.Bool.{eqb-true, true≢false}
@@ -38,15 +38,15 @@ use Rattle.twkb_flat.specs.declared.node.Row.{Row as Bare}
 use Rattle.twkb_table.specs.Judged.{Verdict, place_of, JudgedByPlace, Accepted, Judged, Refused}
 use Rattle.twkb_table.specs.Standing.{place_seen, StandsAfter}
 use Rattle.twkb_table.specs.Record.{Record}
-use Rattle.twkb_table.specs.Waiting.{point_row, IsPoint, may_wait, root_row}
+use Rattle.twkb_table.specs.Waiting.{point_row, IsAlone, may_wait, root_row}
 use Rattle.twkb_table.specs.declared.row_reader.State.{State}
 use Rattle.twkb_table.specs.declared.row_reader.State.TheVariants as state
-use Rattle.twkb_table.specs.RowReading.{JudgedAfter}
+use Rattle.twkb_table.specs.RowReading.{JudgedAfter, Kept}
 use Rattle.twkb_table.specs.Fields.{IsDepthField}
 use Rattle.twkb_table.specs.declared.reason.RowReason.{RowReason}
 use Rattle.twkb_table.specs.declared.reason.RowReason.TheVariants.{BadKind, BadPlace, PolylineNotAllowed, Polyline}
 use Rattle.twkb_table.specs.declared.row_reader.Root.{Root}
-use Rattle.twkb_table.specs.Head.{head_row, JudgedAs}
+use Rattle.twkb_table.specs.Head.{head_row, JudgedAs, JudgedBy}
 use Rattle.twkb_table.specs.Places.{AllowsCount, RefusesCount}
 use Rattle.twkb_table.specs.declared.head.RowHead.{RowHead}
 use Rattle.twkb_table.proofs.Verdicts.{judged_row, has_room, both_true}
@@ -156,9 +156,13 @@ after_point l p q earlier (a ∷ b ∷ c ∷ e ∷ f ∷ []) v (inr (d, is, inr 
     inr (d, is, inr (k, word, by_place l p q earlier d k c e f v j))
 after_point l p q earlier _ v j = j
 
-pub judged_past : (l : Allowance) (rows : List Row) (fields : Record) (v : Verdict) → IsPoint rows
+-- a record is judged as the first one before any row, and after a point
+pub judged_alone : (l : Allowance) (rows : List Row) (fields : Record) (v : Verdict) → IsAlone rows
     → Judged l [] fields v → JudgedAfter l rows fields v
-judged_past l rows fields v (p, q, is) j earlier =
+judged_alone l rows fields v (inl none) j earlier same =
+    subst (λ (rs : List Row). Judged l (reverse (earlier ++ rs)) fields v) (sym none)
+    (subst (λ (rs : List Row). Judged l (reverse (rs ++ [])) fields v) (sym (same none)) j)
+judged_alone l rows fields v (inr (p, q, is)) j earlier same =
     subst (λ (rs : List Row). Judged l (reverse (earlier ++ rs)) fields v) (sym is)
     (subst (λ (before : List Row). Judged l before fields v) (sym (reverse-append earlier (point_row p q ∷ [])))
     (after_point l p q (reverse earlier) fields v j))
@@ -245,13 +249,10 @@ judged_of l before rows nodes points a b c e f d k row_place v depth word at j s
 
 -- ---- answers
 
-pub if_ok : {T E : Type 0} (P Q : T → Type 0) (r : Result T E) → ((x : T) → P x → Q x) → IfOk r P → IfOk r Q
-if_ok P Q (Ok x) f h = f x h
-if_ok P Q (Err e) f h = tt
-
-pub if_err : {T E : Type 0} (P Q : E → Type 0) (r : Result T E) → ((x : E) → P x → Q x) → IfErr r P → IfErr r Q
-if_err P Q (Ok x) f h = tt
-if_err P Q (Err e) f h = f e h
+pub judged_by : (P Q : Verdict → Type 0) (r : Result RowHead RowReason) → ((v : Verdict) → P v → Q v)
+    → JudgedBy P r → JudgedBy Q r
+judged_by P Q (Ok head) f h = λ v j. f v (h v j)
+judged_by P Q (Err reason) f h = f (Refused reason) h
 
 pub if_refused : (P Q : RowReason → Type 0) (why : Stop RowReason)
     → ((reason : RowReason) → P reason → Q reason) → IfRefused P why → IfRefused Q why
@@ -378,12 +379,6 @@ opens_next l rows os row a open_now =
     subst (λ xs. AreOpen xs (opened row.depth os row)) (sym (reverse-append rows (row ∷ [])))
     (open_more (reverse rows) os row (steps l (reverse rows) row a) open_now)
 
--- The rows of one geometry, at least one, and their open rows.
-pub record Kept (l : Allowance) (rows : List Row) (os : List OpenRow) : Type 0 where
-  pub of_one : AreValidRowsOfOne l rows
-  pub some : 0 < length rows
-  pub open_rows : AreOpen (reverse rows) os
-
 pub keeps_first : (l : Allowance) (row : Row) (rows : List Row) (cleared os : List OpenRow)
     → Continues l [] row → rows ≡ row ∷ [] → cleared ≡ [] → os ≡ opened row.depth cleared row
     → Kept l rows os
@@ -392,32 +387,32 @@ keeps_first l row rows cleared os c put clear open_now =
     record {
       of_one = subst (AreValidRowsOfOne l) (sym put) (continued l [] row tt c);
       some = omega (arith, ap (λ (rs : List Row). length rs) put);
-      open_rows = subst (λ rs. AreOpen (reverse rs) os) (sym put)
+      are_open = subst (λ rs. AreOpen (reverse rs) os) (sym put)
           (subst (λ xs. AreOpen (row ∷ []) xs) (sym open_are)
           (opens_next l [] [] row c.0 open_none));
     }
 
 pub keeps_next : (l : Allowance) (row : Row) (before rows : List Row) (was os : List OpenRow)
-    → AreValidRowsOfOne l before → 0 < length before → AreOpen (reverse before) was
-    → Accepts l (reverse before) row → 0 < row.depth → rows ≡ before ++ row ∷ []
+    → Kept l before was → Accepts l (reverse before) row → 0 < row.depth → rows ≡ before ++ row ∷ []
     → os ≡ opened row.depth was row → Kept l rows os
-keeps_next l row before rows was os v some open_before a below put open_now = record {
-  of_one = subst (AreValidRowsOfOne l) (sym put) (continued l before row v (continues_below l before row some a below));
+keeps_next l row before rows was os kept a below put open_now = record {
+  of_one = subst (AreValidRowsOfOne l) (sym put)
+      (continued l before row kept.of_one (continues_below l before row kept.some a below));
   some = omega (arith, ap (λ (rs : List Row). length rs) put, length-append before (row ∷ []));
-  open_rows = subst (λ rs. AreOpen (reverse rs) os) (sym put)
+  are_open = subst (λ rs. AreOpen (reverse rs) os) (sym put)
       (subst (λ xs. AreOpen (reverse (before ++ row ∷ [])) xs) (sym open_now)
-      (opens_next l before was row a open_before));
+      (opens_next l before was row a kept.are_open));
 }
 
 -- the verdict on a record by the open rows of one geometry is the verdict after all rows that end
 -- with that geometry
 pub judged_by_open : (l : Allowance) (rows : List Row) (os : List OpenRow) (nodes points : ℕ)
-    (fields : Record) (v : Verdict) → AreValidRowsOfOne l rows → 0 < length rows
-    → AreOpen (reverse rows) os → nodes ≡ length rows → points ≡ length (row_points rows)
+    (fields : Record) (v : Verdict) → Kept l rows os → nodes ≡ length rows → points ≡ length (row_points rows)
     → ((before : List Row) → StandsAfter before os nodes points → Judged l before fields v)
-    → (earlier : List Row) → Judged l (reverse (earlier ++ rows)) fields v
-judged_by_open l rows os nodes points fields v of_one some open_now nodes_are points_are j earlier =
-    j (reverse (earlier ++ rows)) (rw (nodes_are, points_are) (stands_after l os rows earlier of_one some open_now))
+    → JudgedAfter l rows fields v
+judged_by_open l rows os nodes points fields v kept nodes_are points_are j earlier same =
+    j (reverse (earlier ++ rows))
+    (rw (nodes_are, points_are) (stands_after l os rows earlier kept.of_one kept.some kept.are_open))
 
 -- ==== The row of a record whose points are read after its other fields.
 
@@ -435,16 +430,16 @@ pub record ComesNext (l : Allowance) (rows : List Row) (fields : Record) (row : 
   pub accepts : Accepts l (reverse rows) row
 
 -- if the verdict on the record is that on its points, it is the row with the points given
-pub comes_next : (l : Allowance) (rows : List Row) (fields : Record) (head : RowHead) (row : Row)
-    (own : List Point) → AreValidRowsOfOne l rows
+pub comes_next : (l : Allowance) (rows : List Row) (fields : Record) (head : RowHead) (row : Bare)
+    (cleared points own : List Point) → AreValidRowsOfOne l rows
     → ((v : Verdict) → JudgedAs head v → JudgedAfter l rows fields v)
-    → row_with (head_row head) own ≡ row → JudgedAs head (Accepted (row_with (head_row head) own))
-    → ComesNext l rows fields row
-comes_next l rows fields head row own of_one read row_is given =
-    let judged : JudgedAfter l rows fields (Accepted row) =
-    subst (λ r. JudgedAfter l rows fields (Accepted r)) row_is
+    → row ≡ head_row head → cleared ≡ [] → points ≡ cleared ++ own
+    → JudgedAs head (Accepted (row_with (head_row head) own)) → ComesNext l rows fields (row_with row points)
+comes_next l rows fields head row cleared points own of_one read row_is none put given =
+    let judged : JudgedAfter l rows fields (Accepted (row_with row points)) =
+    subst (λ r. JudgedAfter l rows fields (Accepted r)) (given_row head row cleared points own row_is none put)
     (read (Accepted (row_with (head_row head) own)) given) in
-    record { judged = judged; accepts = accepts_next l rows fields row of_one (judged []) }
+    record { judged = judged; accepts = accepts_next l rows fields (row_with row points) of_one (judged [] (λ e. refl)) }
 
 -- the place of the row allows this many points
 abbrev pub AllowsMany : RowHead → ℕ → Type 0

@@ -1,5 +1,5 @@
 -- What a call of a reader of tables shows, from its steps.
-use Rattle.std.proofs.Common.{◌≡◌, ℕ, ◌<◌, Bool, true, false, List, [], ◌∷◌, ◌++◌, length, Option, ℤ, ap, refl, sym, ◌∙◌}
+use Rattle.std.proofs.Common.{◌≡◌, ℕ, ◌<◌, Bool, true, List, [], ◌∷◌, ◌++◌, length, Option, ℤ, ap, refl, sym, ◌∙◌}
 use Rattle.std.proofs.Common.{Result, Ok, Err, subst, arith, inl, append-nil}
 use Rattle.std.specs.Prelude.{IfSome}
 use Rattle.std.proofs.lemmas.Bool.{true≢false}
@@ -17,10 +17,9 @@ use Rattle.twkb_table.specs.declared.table_reader.TableReader.{TableReader}
 use Rattle.twkb_table.specs.Named.{Named}
 use Rattle.twkb_table.specs.RowFault.{AreComplete}
 use Rattle.twkb_table.specs.CsvRecords.{AreRecordsOf, BeginWith, HasGiven, standing}
-use Rattle.twkb_table.specs.Waiting.{is_over, is_stopped, point_row, waiting_rows}
+use Rattle.twkb_table.specs.Waiting.{is_over, point_row, waiting_rows}
 use Rattle.twkb_table.specs.RowReading.{limits_of, waiting}
 use Rattle.twkb_table.specs.declared.row_reader.RowReader.{RowReader}
-use Rattle.twkb_table.specs.declared.row_reader.Root.{Root}
 use Rattle.twkb_table.specs.declared.row_reader.State.{State}
 use Rattle.twkb_table.specs.declared.row_reader.State.TheVariants as state
 use Rattle.twkb_table.specs.declared.reason.RowReason.TheVariants.{BadHeader}
@@ -28,14 +27,6 @@ use Rattle.twkb_table.proofs.RecordFacts.{row_place_begins}
 use Rattle.twkb_table.proofs.TableSteps.{begins_none, named_some, never_none, root_waits}
 
 -- ---- a reader that stands after records
-
--- no record was read
-pub only_fresh : (s : State) → is_over s ≡ false → is_stopped s ≡ false
-    → ((root : Root) → s ≡ state.Waiting root → ⊥) → s ≡ state.Fresh
-only_fresh state.Fresh going unspent none = refl
-only_fresh (state.Waiting root) going unspent none = absurd (none root refl)
-only_fresh state.Over going unspent none = cc going
-only_fresh state.Spent going unspent none = cc unspent
 
 none_read : (l : Allowance) (records : List Record) (given : List Tree) (ended : Bool)
     → 0 ≡ length records → HaveGiven l records given [] ended → (records ≡ []) × (given ≡ [])

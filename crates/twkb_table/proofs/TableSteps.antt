@@ -21,8 +21,8 @@ use Rattle.twkb_table.specs.Judged.{Verdict, Judged, Accepted, Refused}
 use Rattle.twkb_table.specs.RowFault.{all_but_last, AreComplete}
 use Rattle.twkb_table.specs.CsvRecords.{BeginWith, standing}
 use Rattle.twkb_table.specs.NumberedRecords.{MissesRecord, ReadsRecord, fault_of}
-use Rattle.twkb_table.specs.Waiting.{IsAlone, waiting_rows, is_over, is_stopped}
-use Rattle.twkb_table.specs.RowReading.{limits_of, waiting, JudgedAfter, BeginsFirst, GoesOn, ReadsRow}
+use Rattle.twkb_table.specs.Waiting.{waiting_rows, is_over, is_stopped}
+use Rattle.twkb_table.specs.RowReading.{limits_of, waiting, JudgedAfter, GoesOn, EndsBefore, Refuses, ReadsRow}
 use Rattle.twkb_table.specs.TableReading.{NameSoFar, Extends, Explains, HaveGiven, Progress}
 use Rattle.twkb_table.specs.TableReading.{NameReading, IsReading, Reaches, Completes, is_ended, records_read}
 use Rattle.twkb_table.specs.TableReading.{GivesRows, FaultsIn, IsMarked, ReadsNextRow, ReadsNextRoot}
@@ -34,7 +34,6 @@ use Rattle.twkb_table.specs.declared.row_reader.State.{State}
 use Rattle.twkb_table.specs.declared.row_reader.State.TheVariants as state
 use Rattle.twkb_table.specs.declared.reason.RowReason.{RowReason}
 use Rattle.twkb_table.proofs.RecordFacts.{row_place_begins}
-use Rattle.twkb_table.proofs.RowReaderLemmas.{if_refused, judged_past}
 use Rattle.twkb_table.proofs.FaultLaws.{row_more, root_more, refused_more}
 
 -- ==== What a reader of tables knows of the records read and the geometries returned.
@@ -126,18 +125,22 @@ completed l remaining told records seen given (root ∷ more) now (last, n, same
   stands = r.stands;
 }
 
+-- before the first root no geometry was returned
+none_before : (l : Allowance) (records : List Record) (given : List Tree) (so_far : List Row)
+    → NameReading l records given so_far → so_far ≡ [] → rows_of given ≡ []
+none_before l records given [] (n, none) e = ap rows_of none
+none_before l records given (root ∷ more) n e = cc e
+
 -- the geometry that is being read has one more row
 more_named : (l : Allowance) (seen : List Record) (given : List Tree) (so_far after : List Row)
-    (here : Record) (row : Row) → NameReading l seen given so_far → 0 < length so_far
+    (here : Record) (row : Row) (n : NameReading l seen given so_far) → 0 < length so_far
     → after ≡ so_far ++ row ∷ [] → 0 < row.depth
-    → Judged l (reverse (rows_of given ++ so_far)) here (Accepted row)
+    → Judged l (reverse (rows_of (all_named l seen given so_far n).geometries)) here (Accepted row)
     → NameReading l (seen ++ here ∷ []) given after
 unfolding all_named
 more_named l seen given [] after here row n some is below j = absurd (omega (arith, some))
 more_named l seen given (root ∷ more) after here row (last, named, same) some is below j =
-    let all = all_named l seen given (root ∷ more) (last, named, same) in
-    let n = row_more l seen here given last row named
-    (subst (λ rs. Judged l (reverse rs) here (Accepted row)) (sym all.rows) j) below in
+    let n = row_more l seen here given last row named j below in
     subst (NameReading l (seen ++ here ∷ []) given) (sym is)
     (n.geometry, n.named, n.rows_are ∙ ap (λ rs. rs ++ row ∷ []) same)
 
@@ -149,11 +152,12 @@ module _ {R : Type 0} (l : Allowance) (remaining : R → Option (List ℕ)) (tol
   all_now = all_named l r.seen given so_far r.named
 
   -- the verdict is that after the rows of all geometries
-  judged_all : (here : Record) (v : Verdict) → Judged (limits_of old.rows) (reverse (rows_of given ++ so_far)) here v
+  judged_all : (here : Record) (v : Verdict) → JudgedAfter (limits_of old.rows) so_far here v
       → Judged l (reverse (rows_of all_now.geometries)) here v
   judged_all here v j =
       subst (λ rs. Judged l (reverse rs) here v) (sym all_now.rows)
-      (subst (λ m. Judged m (reverse (rows_of given ++ so_far)) here v) r.limits j)
+      (subst (λ m. Judged m (reverse (rows_of given ++ so_far)) here v) r.limits
+      (j (rows_of given) (none_before l r.seen given so_far r.named)))
 
   -- one more record was read
   one_more : (here : Record) (number : ℕ) → number + 1 ≡ (old.number + 1) + 1
@@ -175,19 +179,18 @@ module _ {R : Type 0} (l : Allowance) (remaining : R → Option (List ℕ)) (tol
     few = (let count = one_more here new.number next in omega (arith, count, few));
     limits = limits ∙ r.limits;
     named = more_named l r.seen given so_far after here g.row r.named some g.rows g.below
-        (subst (λ m. Judged m (reverse (rows_of given ++ so_far)) here (Accepted g.row)) r.limits
-        (g.judged (rows_of given)));
+        (judged_all here (Accepted g.row) g.judged);
   }
 
   -- the root of another geometry
-  pub reads_root : (new : Progress R) (here : Record) (row : Row)
+  pub reads_root : (new : Progress R) (here : Record)
       → ReadsRecord remaining old.source (old.number + 1) (Ok true) here new.source (new.number + 1)
-      → limits_of new.rows ≡ limits_of old.rows → waiting new.rows ≡ row ∷ [] → row.depth ≡ 0
-      → Judged (limits_of old.rows) (reverse (rows_of given ++ so_far)) here (Accepted row)
+      → limits_of new.rows ≡ limits_of old.rows → EndsBefore old.rows so_far here new.rows
       → Completes l remaining told records given so_far new
-  reads_root new here row (comes, next, few) limits waits root j =
-      let n = root_more l r.seen here all_now.geometries row all_now.named (judged_all here (Accepted row) j) root in
-      let some = ap (λ (rs : List Row). length rs) waits in
+  reads_root new here (comes, next, few) limits e =
+      let n = root_more l r.seen here all_now.geometries e.row all_now.named
+      (judged_all here (Accepted e.row) e.judged) e.root in
+      let some = ap (λ (rs : List Row). length rs) e.waits in
       let (going, unspent, count) = root_waits new.rows.state new.rows.points.items new.number (omega (arith, some)) in
       let seen = r.seen ++ here ∷ [] in
       let source = comes told r.seen r.source in
@@ -201,7 +204,7 @@ module _ {R : Type 0} (l : Allowance) (remaining : R → Option (List ℕ)) (tol
           count = count ∙ many;
           few = omega (arith, many, few);
           limits = limits ∙ r.limits;
-          gave = subst (λ rs. HaveGiven l seen all_now.geometries rs (is_over new.rows.state)) (sym waits)
+          gave = subst (λ rs. HaveGiven l seen all_now.geometries rs (is_over new.rows.state)) (sym e.waits)
               (n.geometry, n.named, n.rows_are, going);
           unspent = unspent;
         };
@@ -234,7 +237,7 @@ module _ {R : Type 0} (l : Allowance) (remaining : R → Option (List ℕ)) (tol
 
   pub reads_stop : (here : Record) (csv : Reader (MutBor (Tap R))) (number : ℕ) (why : Stop RowReason)
       → ReadsRecord remaining old.source (old.number + 1) (Ok true) here csv (number + 1)
-      → IfRefused (λ reason. Judged (limits_of old.rows) (reverse (rows_of given ++ so_far)) here (Refused reason)) why
+      → IfRefused (λ reason. JudgedAfter (limits_of old.rows) so_far here (Refused reason)) why
       → Explains l told records given (fault_of (number + 1) why)
   reads_stop here csv number stop.Memory comes j = tt
   reads_stop here csv number (stop.Refused reason) (comes, next, few) j =
@@ -277,15 +280,6 @@ stop_fresh : (number : ℕ) (why : Stop RowReason) → fault_of number why ≡ f
 stop_fresh number stop.Memory e = cc e
 stop_fresh number (stop.Refused reason) e = cc e
 
--- the verdict on a record as the first one is that after a point, or before any row
-judged_alone : (m l : Allowance) (seen : List Record) (given : List Tree) (so_far : List Row)
-    (here : Record) (v : Verdict) → IsAlone so_far → NameReading l seen given so_far
-    → Judged m [] here v → Judged m (reverse (rows_of given ++ so_far)) here v
-judged_alone m l seen given so_far here v (inr point) n j = judged_past m so_far here v point j (rows_of given)
-judged_alone m l seen given [] here v (inl e) (named, none) j =
-    subst (λ gs. Judged m (reverse (rows_of gs ++ [])) here v) (sym none) j
-judged_alone m l seen given (root ∷ more) here v (inl e) n j = cc e
-
 -- a geometry that has rows is complete
 completes_some : {R : Type 0} (l : Allowance) (remaining : R → Option (List ℕ)) (told : Option (List ℕ))
     (records : List Record) (given : List Tree) (so_far : List Row) (now : Progress R)
@@ -322,25 +316,20 @@ row_shown remaining old new before after here true some reads limits g = (
 )
 row_shown remaining old new before after here false some reads limits (e, same) = (
   λ l told records given r. completes_some l remaining told records given before new some
-      (reads_root l remaining told records given before old r new here e.row reads limits
-      e.waits e.root (e.judged (rows_of given))),
+      (reads_root l remaining told records given before old r new here reads limits e),
   same,
   (let one = ap (λ (rs : List Row). length rs) e.waits in
       root_waits new.rows.state new.rows.points.items new.number (omega (arith, one))).1,
 )
 
--- the root of another geometry was read
+-- the root of the next geometry was read
 pub root_shown : {R : Type 0} (remaining : R → Option (List ℕ)) (old new : Progress R) (here : Record)
-    → IsAlone (waiting old.rows)
     → ReadsRecord remaining old.source (old.number + 1) (Ok true) here new.source (new.number + 1)
-    → limits_of new.rows ≡ limits_of old.rows → BeginsFirst old.rows here new.rows
+    → limits_of new.rows ≡ limits_of old.rows → EndsBefore old.rows (waiting old.rows) here new.rows
     → ReadsNextRoot remaining old (Ok true) new
-root_shown remaining old new here alone reads limits first = (
-  λ l told records given r. reads_root l remaining told records given (waiting old.rows) old r
-      new here first.row reads limits first.waits first.root
-      (judged_alone (limits_of old.rows) l r.seen given (waiting old.rows) here (Accepted first.row) alone
-      r.named first.judged),
-  (let one = ap (λ (rs : List Row). length rs) first.waits in omega (arith, one)),
+root_shown remaining old new here reads limits e = (
+  λ l told records given r. reads_root l remaining told records given (waiting old.rows) old r new here reads limits e,
+  (let one = ap (λ (rs : List Row). length rs) e.waits in omega (arith, one)),
 )
 
 -- no record was read
@@ -356,27 +345,9 @@ none_shown remaining old so_far f rows spent missed = (
 pub refusal_shown : {R : Type 0} (remaining : R → Option (List ℕ)) (old : Progress R) (so_far : List Row)
     (here : Record) (csv : Reader (MutBor (Tap R))) (number : ℕ) (rows : RowReader) (why : Stop RowReason)
     → ReadsRecord remaining old.source (old.number + 1) (Ok true) here csv (number + 1)
-    → IfRefused (λ reason. JudgedAfter (limits_of old.rows) so_far here (Refused reason)) why
-    × (rows.state ≡ state.Spent)
+    → Refuses old.rows so_far here why rows
     → FaultsIn remaining old so_far (fault_of (number + 1) why) × IsMarked (fault_of (number + 1) why) rows
 refusal_shown remaining old so_far here csv number rows why reads (refused, spent) = (
-  λ l told records given r. reads_stop l remaining told records given so_far old r here csv number why reads
-      (if_refused _ _ why (λ reason j. j (rows_of given)) refused),
-  (stop_fresh (number + 1) why, ap is_stopped spent),
-)
-
--- a record was refused as a root
-pub root_refusal_shown : {R : Type 0} (remaining : R → Option (List ℕ)) (old : Progress R) (here : Record)
-    (csv : Reader (MutBor (Tap R))) (number : ℕ) (rows : RowReader) (why : Stop RowReason)
-    → IsAlone (waiting old.rows)
-    → ReadsRecord remaining old.source (old.number + 1) (Ok true) here csv (number + 1)
-    → IfRefused (λ reason. Judged (limits_of old.rows) [] here (Refused reason)) why
-    × (rows.state ≡ state.Spent)
-    → FaultsIn remaining old (waiting old.rows) (fault_of (number + 1) why)
-    × IsMarked (fault_of (number + 1) why) rows
-root_refusal_shown remaining old here csv number rows why alone reads (refused, spent) = (
-  λ l told records given r. reads_stop l remaining told records given (waiting old.rows) old r here csv number
-      why reads (if_refused _ _ why (λ reason j. judged_alone (limits_of old.rows) l r.seen given
-      (waiting old.rows) here (Refused reason) alone r.named j) refused),
+  λ l told records given r. reads_stop l remaining told records given so_far old r here csv number why reads refused,
   (stop_fresh (number + 1) why, ap is_stopped spent),
 )

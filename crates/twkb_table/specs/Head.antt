@@ -1,8 +1,10 @@
 -- A row that was read except for its points, and the verdict that its points give the record.
+use Rattle.std.specs.Prelude.{Result, Ok, Err}
 use Rattle.twkb_flat.specs.declared.node.Row.{Row}
-use Rattle.twkb_table.specs.Judged.{Verdict, JudgedByPoints}
+use Rattle.twkb_table.specs.Judged.{Verdict, Refused, JudgedByPoints}
 use Rattle.twkb_table.specs.Standing.{place_seen}
 use Rattle.twkb_table.specs.declared.head.RowHead.{RowHead}
+use Rattle.twkb_table.specs.declared.reason.RowReason.{RowReason}
 
 -- the row, without points
 abbrev pub head_row : RowHead → Row
@@ -12,3 +14,9 @@ head_row head = record { depth = head.row_place.depth; kind = head.kind; id = he
 abbrev pub JudgedAs : RowHead → Verdict → Type 0
 JudgedAs head v = JudgedByPoints head.limits
     (place_seen head.row_place) head.kind head.id head.precision head.text.now v
+
+-- this holds of the verdict on a record: of the one that the points of its row give, or of a reason
+-- found before them
+abbrev pub JudgedBy : (Verdict → Type 0) → Result RowHead RowReason → Type 0
+JudgedBy Holds (Ok head) = (v : Verdict) → JudgedAs head v → Holds v
+JudgedBy Holds (Err reason) = Holds (Refused reason)

@@ -2,9 +2,9 @@
 ghost use Rattle.std.specs.Prelude.{List, IfOk, IfErr};
 ghost use Rattle.csv.specs.Records.{fields_of};
 ghost use Rattle.twkb_tree.specs.Rows.{Row as TableRow};
-ghost use Rattle.twkb_table.specs.Judged.{Verdict, Judged, Accepted, Refused, JudgedByPlace};
+ghost use Rattle.twkb_table.specs.Judged.{Judged, Accepted, Refused, JudgedByPlace};
 ghost use Rattle.twkb_table.specs.Standing.{place_seen, StandsAfter};
-ghost use Rattle.twkb_table.specs.Head.{JudgedAs};
+ghost use Rattle.twkb_table.specs.Head.{JudgedBy};
 ghost use Rattle.twkb_table.specs.FiveFields.{record_seen};
 ghost use Rattle.twkb_flat.specs.Rows.{row_with};
 ghost use Rattle.twkb_flat.specs.Stops.{IfRefused};
@@ -31,11 +31,8 @@ fn judge_at<'a>(
     precision_field: &[u8],
     text: &'a [u8],
 ) -> Result<RowHead<'a>, RowReason>
-    ensures read { IfOk result (λ head. (v : Verdict) → JudgedAs head v
-        → JudgedByPlace limits.now (place_seen row_place.now) kind id_field.now precision_field.now
-        text.now v) }
-    ensures refused { IfErr result (λ reason. JudgedByPlace limits.now (place_seen row_place.now)
-        kind id_field.now precision_field.now text.now (Refused reason)) }
+    ensures { JudgedBy (JudgedByPlace limits.now (place_seen row_place.now) kind id_field.now
+        precision_field.now text.now) result }
 {
     if let Some(reason) = refused_place(limits, row_place, kind) {
         return Err(reason);
@@ -68,12 +65,8 @@ fn judge_fields<'a>(
     points_before: u32,
     fields: &Fields<'a>,
 ) -> Result<RowHead<'a>, RowReason>
-    ensures read { IfOk result (λ head. (v : Verdict) → JudgedAs head v → (before : List TableRow)
-        → StandsAfter before rows.now nodes points_before → Judged limits.now before
-        (record_seen fields.now) v) }
-    ensures refused { IfErr result (λ reason. (before : List TableRow)
-        → StandsAfter before rows.now nodes points_before → Judged limits.now before (record_seen fields.now)
-        (Refused reason)) }
+    ensures { JudgedBy (λ v. (before : List TableRow) → StandsAfter before rows.now nodes points_before
+        → Judged limits.now before (record_seen fields.now) v) result }
 {
     let Some(depth) = parse_depth(fields.depth) else {
         return Err(RowReason::BadDepth);
@@ -106,12 +99,8 @@ pub(crate) fn judge_head<'a>(
     points_before: u32,
     csv_record: &'a ByteRecord,
 ) -> Result<RowHead<'a>, RowReason>
-    ensures read { IfOk result (λ head. (v : Verdict) → JudgedAs head v → (before : List TableRow)
-        → StandsAfter before rows.now nodes points_before
-        → Judged limits.now before (fields_of csv_record.now) v) }
-    ensures refused { IfErr result (λ reason. (before : List TableRow)
-        → StandsAfter before rows.now nodes points_before
-        → Judged limits.now before (fields_of csv_record.now) (Refused reason)) }
+    ensures { JudgedBy (λ v. (before : List TableRow) → StandsAfter before rows.now nodes points_before
+        → Judged limits.now before (fields_of csv_record.now) v) result }
 {
     if csv_record.len() != FIELD_COUNT {
         return Err(RowReason::FieldCount);

@@ -1,10 +1,9 @@
 //! Rows of a table, read into the flat form one geometry after another.
-ghost use Rattle.std.specs.Prelude.{◌≡◌, ◌<◌, [], ◌∷◌, length, true, OnOk, IfOk, IfErr, IfSome, IsSome};
+ghost use Rattle.std.specs.Prelude.{◌≡◌, ◌<◌, [], ◌∷◌, length, true, OnOk, IfSome, IsSome};
 ghost use Rattle.csv.specs.Records.{fields_of};
 ghost use Rattle.twkb_tree.specs.Limits.{IsAllowance};
-ghost use Rattle.twkb_table.specs.Judged.{Verdict, Refused};
-ghost use Rattle.twkb_table.specs.Head.{JudgedAs};
-ghost use Rattle.twkb_table.specs.Waiting.{may_wait, point_row, IsPoint};
+ghost use Rattle.twkb_table.specs.Head.{JudgedBy};
+ghost use Rattle.twkb_table.specs.Waiting.{may_wait, point_row, IsAlone, IsPoint};
 
 use crate::head::RowHead;
 use crate::open_rows::OpenRows;
@@ -78,11 +77,12 @@ impl RowReader {
         self.state = state;
     }
 
-    // Reads a record as the root of the next geometry, which then waits, in place of any root that
-    // did. That is right if no open row may have children: before the first geometry, and after a
-    // point. An `Err` is the first reason to refuse the record, or want of memory for its points.
+    // Reads a record as the root of the next geometry, which then waits. No root may wait before but
+    // a point that is not empty: no row may be its child. An `Err` is the first reason to refuse the
+    // record, or want of memory for its points.
     #[inline(always)]
     pub(crate) fn read_root(&mut self, csv_record: &ByteRecord) -> Result<(), Stop<RowReason>>
+        requires { IsAlone (waiting self.old) }
         ensures root { ReadsRoot self.old (fields_of csv_record.now) result self.new }
         ensures limits { limits_of self.new ≡ limits_of self.old }
     {
@@ -148,7 +148,7 @@ impl RowReader {
         csv_record: &ByteRecord,
         flat: &mut Flat,
     ) -> Result<bool, Stop<RowReason>>
-        requires keeps { Keeps self.old flat.old }
+        requires { Keeps self.old flat.old }
         ensures row { ReadsRow self.old flat.old (fields_of csv_record.now) result self.new flat.new }
         ensures limits { limits_of self.new ≡ limits_of self.old }
     {
@@ -185,11 +185,8 @@ impl RowReader {
         csv_record: &'a ByteRecord,
         flat: &Flat,
     ) -> Result<RowHead<'a>, RowReason>
-        requires keeps { Keeps self.now flat.now }
-        ensures read { IfOk result (λ head. (v : Verdict) → JudgedAs head v
-            → JudgedAfter (limits_of self.now) flat.now (fields_of csv_record.now) v) }
-        ensures refused { IfErr result (λ reason. JudgedAfter (limits_of self.now) flat.now
-            (fields_of csv_record.now) (Refused reason)) }
+        requires { Keeps self.now flat.now }
+        ensures { JudgedBy (JudgedAfter (limits_of self.now) flat.now (fields_of csv_record.now)) result }
     {
         let nodes = flat.node_count();
         let count = flat.point_count();

@@ -6,7 +6,7 @@ use Rattle.twkb_table.proofs.record_verdict.judge.Goals as goal
 
 pub returns-in-Err-append_to-clause-refused : goal.returns-in-Err-append_to-clause-refused
 returns-in-Err-append_to-clause-refused c =
-    if_refused _ _ c.in-Err-append_to.fault (λ reason j. c.in-Ok.ensures.read (Refused reason) j)
+    if_refused _ _ c.in-Err-append_to.fault (λ reason j. c.in-Ok.ensures (Refused reason) j)
     c.in-Err-append_to.ensures.refused
 
 pub returns-clause-read : goal.returns-clause-read
@@ -15,4 +15,4 @@ returns-clause-read c before stands =
     subst (λ r. Judged c.args.limits.now before (fields_of c.args.csv_record.now) (Accepted r))
     (given_row c.in-Ok.head c.row.result c.clear.new.self.items c.append_to.new.points.items
     own.0 c.row.ensures c.clear.ensures.items own.1)
-    (c.in-Ok.ensures.read _ own.2 before stands)
+    (c.in-Ok.ensures _ own.2 before stands)

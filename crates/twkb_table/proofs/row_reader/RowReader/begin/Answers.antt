@@ -19,7 +19,8 @@ pub returns-clause-keeps : goal.returns-clause-keeps
 returns-clause-keeps c =
     let old = c.args.self.now in
     let begins = waiting_begins old.limits old.state c.in-Waiting.root old.points.items old.waits c.in-Waiting.is in
-    let row = row_with (root_row c.in-Waiting.root) old.points.items in
-    let kept = keeps_first old.limits row c.begin.new.self [] c.open_row.new.self begins
-    c.in_ok-begin.ensures.begun refl (c.in_ok-open_row.ensures.opened old.points.items) in
-    record { of_one = kept.of_one; some = kept.some; open_rows = kept.open_rows; state = refl }
+    let row = row_with (root_row c.in-Waiting.root) old.points.items in (
+      keeps_first old.limits row c.begin.new.self [] c.open_row.new.self begins
+          c.in_ok-begin.ensures.begun refl (c.in_ok-open_row.ensures.opened old.points.items),
+      refl,
+    )

@@ -5,64 +5,32 @@ use Rattle.twkb_tree.specs.Rows.{Row}
 use Rattle.twkb_tree.proofs.LimitLaws.{continues_largest}
 use Rattle.twkb_flat.specs.Rows.{row_with}
 use Rattle.twkb_table.specs.Judged.{Refused}
-use Rattle.twkb_table.proofs.RowReaderLemmas.{given_row, comes_next, if_refused, begins_anew, continues_below}
+use Rattle.twkb_table.proofs.RowReaderLemmas.{comes_next, if_refused, begins_anew, continues_below}
 use Rattle.twkb_table.proofs.RowReaderLemmas.{depth_within, keeps_next, may_wait_as, root_is}
 use Rattle.twkb_table.proofs.row_reader.RowReader.read_row.Goals as goal
 
+-- ---- a root
+
 pub invariant_of-self-then-row-eq0-clause-waits : goal.invariant_of-self-then-row-eq0-clause-waits
 invariant_of-self-then-row-eq0-clause-waits c =
-    let l = c.args.self.now.limits in
     let own = c.in_default.ensures.given in
     let points = c.append_to.new.points.items in
-    let row_is = given_row c.in-Ok.head c.row-row.result c.clear.new.self.items points own.0
-    c.row-row.ensures c.clear.ensures.items own.1 in
-    let next = comes_next l c.args.flat.now (fields_of c.args.csv_record.now) c.in-Ok.head
-    (row_with c.row-row.result points) own.0 c.requires.keeps.of_one c.in-Ok.ensures.read
-    row_is own.2 in
-    may_wait_as l c.row-row.result points
-    (begins_anew l c.args.flat.now (row_with c.row-row.result points) next.accepts c.if-row-eq0.true)
-
-pub push_from-requires : goal.push_from-requires
-push_from-requires c own given =
-    let l = c.args.self.now.limits in
-    let row = row_with c.row-row.result own in
-    let below : 0 < c.row-row.result.depth = omega (arith, c.if-row-eq0.false) in
-    let next = comes_next l c.args.flat.now (fields_of c.args.csv_record.now) c.in-Ok.head row own
-    c.requires.keeps.of_one c.in-Ok.ensures.read (ap (λ r. row_with r own)
-    (sym c.row-row.ensures)) given in
-    continues_largest l c.args.flat.now row c.args.self.now.sound
-    (continues_below l c.args.flat.now row c.requires.keeps.some next.accepts below)
-
-pub open_row-requires : goal.open_row-requires
-open_row-requires c =
-    let l = c.args.self.now.limits in
-    let own = c.in_default-push_from.ensures.pushed in
-    let row = row_with c.row-row.result own.0 in
-    let next = comes_next l c.args.flat.now (fields_of c.args.csv_record.now) c.in-Ok.head row own.0
-    c.requires.keeps.of_one c.in-Ok.ensures.read (ap (λ r. row_with r own.0)
-    (sym c.row-row.ensures)) own.2 in
-    depth_within l (reverse c.args.flat.now) c.args.self.now.open_rows row next.accepts c.requires.keeps.open_rows
-
-pub returns-in-Err-clause-row : goal.returns-in-Err-clause-row
-returns-in-Err-clause-row c = (c.in-Err.ensures.refused, c.requires.keeps.state)
-
-pub returns-in-Err-append_to-clause-row : goal.returns-in-Err-append_to-clause-row
-returns-in-Err-append_to-clause-row c = (
-  if_refused _ _ c.in-Err-append_to.fault (λ reason j. c.in-Ok.ensures.read (Refused reason) j)
-      c.in-Err-append_to.ensures.refused,
-  c.requires.keeps.state,
-)
+    let next = comes_next c.args.self.now.limits c.args.flat.now (fields_of c.args.csv_record.now) c.in-Ok.head
+    c.row-row.result c.clear.new.self.items points own.0 c.requires.0.of_one c.in-Ok.ensures c.row-row.ensures
+    c.clear.ensures.items own.1 own.2 in
+    may_wait_as c.args.self.now.limits c.row-row.result points
+    (begins_anew c.args.self.now.limits c.args.flat.now (row_with c.row-row.result points) next.accepts
+    c.if-row-eq0.true)
 
 pub returns-then-row-eq0-clause-row : goal.returns-then-row-eq0-clause-row
 returns-then-row-eq0-clause-row c =
     let l = c.args.self.now.limits in
     let own = c.in_default.ensures.given in
     let points = c.append_to.new.points.items in
+    let next = comes_next l c.args.flat.now (fields_of c.args.csv_record.now) c.in-Ok.head
+    c.row-row.result c.clear.new.self.items points own.0 c.requires.0.of_one c.in-Ok.ensures c.row-row.ensures
+    c.clear.ensures.items own.1 own.2 in
     let row = row_with c.row-row.result points in
-    let row_is = given_row c.in-Ok.head c.row-row.result c.clear.new.self.items points own.0
-    c.row-row.ensures c.clear.ensures.items own.1 in
-    let next = comes_next l c.args.flat.now (fields_of c.args.csv_record.now) c.in-Ok.head row own.0
-    c.requires.keeps.of_one c.in-Ok.ensures.read row_is own.2 in
     let begins = begins_anew l c.args.flat.now row next.accepts c.if-row-eq0.true in (
       record {
         row = row;
@@ -73,38 +41,60 @@ returns-then-row-eq0-clause-row c =
       refl,
     )
 
-pub returns-in-Err-push_from-clause-row : goal.returns-in-Err-push_from-clause-row
-returns-in-Err-push_from-clause-row c = (
-  if_refused _ _ c.in-Err-push_from.fault (λ reason j. c.in-Ok.ensures.read (Refused reason) j)
-      c.in-Err-push_from.ensures.refused,
-  c.requires.keeps.state,
-)
+-- ---- a row of the same geometry
 
-pub returns-in_default-open_row-clause-row : goal.returns-in_default-open_row-clause-row
-returns-in_default-open_row-clause-row c = (tt, c.requires.keeps.state)
+pub push_from-requires : goal.push_from-requires
+push_from-requires c own given =
+    let l = c.args.self.now.limits in
+    let next = comes_next l c.args.flat.now (fields_of c.args.csv_record.now) c.in-Ok.head c.row-row.result []
+    own own c.requires.0.of_one c.in-Ok.ensures c.row-row.ensures refl refl given in
+    continues_largest l c.args.flat.now (row_with c.row-row.result own) c.args.self.now.sound
+    (continues_below l c.args.flat.now (row_with c.row-row.result own) c.requires.0.some next.accepts
+    (omega (arith, c.if-row-eq0.false)))
+
+pub open_row-requires : goal.open_row-requires
+open_row-requires c =
+    let l = c.args.self.now.limits in
+    let own = c.in_default-push_from.ensures.pushed in
+    let next = comes_next l c.args.flat.now (fields_of c.args.csv_record.now) c.in-Ok.head c.row-row.result []
+    own.0 own.0 c.requires.0.of_one c.in-Ok.ensures c.row-row.ensures refl refl own.2 in
+    depth_within l (reverse c.args.flat.now) c.args.self.now.open_rows (row_with c.row-row.result own.0)
+    next.accepts c.requires.0.are_open
 
 pub returns-clause-row : goal.returns-clause-row
 returns-clause-row c =
     let l = c.args.self.now.limits in
     let own = c.in_default-push_from.ensures.pushed in
+    let next = comes_next l c.args.flat.now (fields_of c.args.csv_record.now) c.in-Ok.head c.row-row.result []
+    own.0 own.0 c.requires.0.of_one c.in-Ok.ensures c.row-row.ensures refl refl own.2 in
     let row = row_with c.row-row.result own.0 in
     let below : 0 < c.row-row.result.depth = omega (arith, c.if-row-eq0.false) in
-    let next = comes_next l c.args.flat.now (fields_of c.args.csv_record.now) c.in-Ok.head row own.0
-    c.requires.keeps.of_one c.in-Ok.ensures.read (ap (λ r. row_with r own.0)
-    (sym c.row-row.ensures)) own.2 in
-    let kept = keeps_next l row c.args.flat.now c.push_from.new.self c.args.self.now.open_rows
-    c.open_row.new.self c.requires.keeps.of_one c.requires.keeps.some
-    c.requires.keeps.open_rows next.accepts below own.1
-    (c.in-Ok-open_row.ensures.opened own.0) in
     record {
       row = row;
       rows = own.1;
       below = below;
       judged = next.judged;
-      keeps = record {
-        of_one = kept.of_one;
-        some = kept.some;
-        open_rows = kept.open_rows;
-        state = c.requires.keeps.state;
-      };
+      keeps = (
+        keeps_next l row c.args.flat.now c.push_from.new.self c.args.self.now.open_rows c.open_row.new.self
+            c.requires.0 next.accepts below own.1 (c.in-Ok-open_row.ensures.opened own.0),
+        c.requires.1,
+      );
     }
+
+-- ---- a refusal
+
+pub returns-in-Err-clause-row : goal.returns-in-Err-clause-row
+returns-in-Err-clause-row c = (c.in-Err.ensures, c.requires.1)
+
+pub returns-in-Err-append_to-clause-row : goal.returns-in-Err-append_to-clause-row
+returns-in-Err-append_to-clause-row c =
+    (if_refused _ _ c.in-Err-append_to.fault (λ reason j. c.in-Ok.ensures (Refused reason) j)
+    c.in-Err-append_to.ensures.refused, c.requires.1)
+
+pub returns-in-Err-push_from-clause-row : goal.returns-in-Err-push_from-clause-row
+returns-in-Err-push_from-clause-row c =
+    (if_refused _ _ c.in-Err-push_from.fault (λ reason j. c.in-Ok.ensures (Refused reason) j)
+    c.in-Err-push_from.ensures.refused, c.requires.1)
+
+pub returns-in_default-open_row-clause-row : goal.returns-in_default-open_row-clause-row
+returns-in_default-open_row-clause-row c = (tt, c.requires.1)

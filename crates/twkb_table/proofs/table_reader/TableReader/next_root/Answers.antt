@@ -3,7 +3,7 @@ use Rattle.csv.specs.Records.{fields_of}
 use Rattle.twkb_table.specs.RowReading.{waiting}
 use Rattle.twkb_table.specs.TableReading.{progress}
 use Rattle.twkb_table.specs.Waiting.{is_over}
-use Rattle.twkb_table.proofs.TableSteps.{none_shown, reads_end, root_refusal_shown, root_shown}
+use Rattle.twkb_table.proofs.TableSteps.{none_shown, reads_end, refusal_shown, root_shown}
 use Rattle.twkb_table.proofs.table_reader.TableReader.next_root.Goals as goal
 
 pub returns-in-Ok-false : goal.returns-in-Ok-false
@@ -20,10 +20,10 @@ returns-in-Err g c = none_shown g.R.Read.remaining (progress c.args.self.now) (w
 
 pub returns-in-Ok : goal.returns-in-Ok
 returns-in-Ok g c = root_shown g.R.Read.remaining (progress c.args.self.now) _ (fields_of c.next_record.new.last)
-    c.requires (rw c.in-Ok-true.field-0-test at c.in-Ok-true.ensures) c.read_root.ensures.limits
-    c.in-Ok.ensures.root
+    (rw c.in-Ok-true.field-0-test at c.in-Ok-true.ensures) c.read_root.ensures.limits c.in-Ok.ensures.root
 
 pub returns-in-Err-read_root : goal.returns-in-Err-read_root
 returns-in-Err-read_root g c = rw c.fault_at.ensures.value
-    (root_refusal_shown g.R.Read.remaining (progress c.args.self.now) (fields_of c.next_record.new.last) _ _
-    c.read_root.new.self _ c.requires (rw c.in-Ok-true.field-0-test at c.in-Ok-true.ensures) c.in-Err-read_root.ensures.root)
+    (refusal_shown g.R.Read.remaining (progress c.args.self.now) (waiting c.args.self.now.rows)
+    (fields_of c.next_record.new.last) _ _ c.read_root.new.self _
+    (rw c.in-Ok-true.field-0-test at c.in-Ok-true.ensures) c.in-Err-read_root.ensures.root)
