@@ -23,7 +23,8 @@ given_none remaining None reader source state = tt
 given_none remaining (Some text) reader source state = (strip_bom text, source, (sym state, refl))
 
 -- one more record was given
-given_more : {R : Type 0} (remaining : R → Option (List ℕ)) (old new : Reader (MutBor (Tap R))) (fields : Record)
+given_more : {R : Type 0} (remaining : R → Option (List ℕ)) (old new : Reader (MutBor (Tap R)))
+    (fields : Record)
     → IsSetUp old → ReadRecord (told_by remaining) old new true fields
     → (told : Option (List ℕ)) (records : List Record) → HasGivenOf remaining told records old
     → HasGivenOf remaining told (records ++ fields ∷ []) new
@@ -33,7 +34,8 @@ given_more remaining old new fields set_up read (Some text) records given =
     given.0 records set_up.3 given.1 given.2 read
 
 -- there is no further record
-given_all : {R : Type 0} (remaining : R → Option (List ℕ)) (old new : Reader (MutBor (Tap R))) (fields : Record)
+given_all : {R : Type 0} (remaining : R → Option (List ℕ)) (old new : Reader (MutBor (Tap R)))
+    (fields : Record)
     → IsSetUp old → ReadRecord (told_by remaining) old new false fields
     → (told : Option (List ℕ)) (records : List Record) → HasGivenOf remaining told records old
     → IfSome told (λ text. AreRecordsOf text records)
@@ -58,7 +60,8 @@ row_place_begins remaining (Some text) records true reader s = (s.0, s.1, s.2)
 pub given_next : {R : Type 0} (remaining : R → Option (List ℕ)) (old new : Reader (MutBor (Tap R)))
     (fields : Record) (found : Bool) → (reader_trim old ≡ trim.None → took_first new ≡ true)
     → is_flexible new ≡ is_flexible old
-    → (reader_trim old ≡ trim.None → Ready old → ReadRecord (told_by remaining) old new found fields)
+    → (reader_trim old ≡ trim.None → Ready old → ReadRecord (told_by remaining) old new found
+    fields)
     → ReadsNext remaining old (Ok found) fields new
 given_next remaining old new fields true first flexible read = λ told records (set_up, given).
     (let step = read set_up.0 set_up.1 in (

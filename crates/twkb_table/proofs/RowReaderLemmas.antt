@@ -249,7 +249,8 @@ judged_of l before rows nodes points a b c e f d k row_place v depth word at j s
 
 -- ---- answers
 
-pub judged_by : (P Q : Verdict → Type 0) (r : Result RowHead RowReason) → ((v : Verdict) → P v → Q v)
+pub judged_by : (P Q : Verdict → Type 0) (r : Result RowHead RowReason)
+    → ((v : Verdict) → P v → Q v)
     → JudgedBy P r → JudgedBy Q r
 judged_by P Q (Ok head) f h = λ v j. f v (h v j)
 judged_by P Q (Err reason) f h = f (Refused reason) h
@@ -407,12 +408,14 @@ keeps_next l row before rows was os kept a below put open_now = record {
 -- the verdict on a record by the open rows of one geometry is the verdict after all rows that end
 -- with that geometry
 pub judged_by_open : (l : Allowance) (rows : List Row) (os : List OpenRow) (nodes points : ℕ)
-    (fields : Record) (v : Verdict) → Kept l rows os → nodes ≡ length rows → points ≡ length (row_points rows)
+    (fields : Record) (v : Verdict) → Kept l rows os → nodes ≡ length rows
+    → points ≡ length (row_points rows)
     → ((before : List Row) → StandsAfter before os nodes points → Judged l before fields v)
     → JudgedAfter l rows fields v
 judged_by_open l rows os nodes points fields v kept nodes_are points_are j earlier same =
     j (reverse (earlier ++ rows))
-    (rw (nodes_are, points_are) (stands_after l os rows earlier kept.of_one kept.some kept.are_open))
+    (rw (nodes_are, points_are) (stands_after l os rows earlier kept.of_one kept.some
+    kept.are_open))
 
 -- ==== The row of a record whose points are read after its other fields.
 
@@ -434,12 +437,15 @@ pub comes_next : (l : Allowance) (rows : List Row) (fields : Record) (head : Row
     (cleared points own : List Point) → AreValidRowsOfOne l rows
     → ((v : Verdict) → JudgedAs head v → JudgedAfter l rows fields v)
     → row ≡ head_row head → cleared ≡ [] → points ≡ cleared ++ own
-    → JudgedAs head (Accepted (row_with (head_row head) own)) → ComesNext l rows fields (row_with row points)
+    → JudgedAs head (Accepted (row_with (head_row head) own))
+    → ComesNext l rows fields (row_with row points)
 comes_next l rows fields head row cleared points own of_one read row_is none put given =
     let judged : JudgedAfter l rows fields (Accepted (row_with row points)) =
-    subst (λ r. JudgedAfter l rows fields (Accepted r)) (given_row head row cleared points own row_is none put)
+    subst (λ r. JudgedAfter l rows fields (Accepted r)) (given_row head row cleared points own
+    row_is none put)
     (read (Accepted (row_with (head_row head) own)) given) in
-    record { judged = judged; accepts = accepts_next l rows fields (row_with row points) of_one (judged [] (λ e. refl)) }
+    record { judged = judged; accepts = accepts_next l rows fields (row_with row points) of_one
+    (judged [] (λ e. refl)) }
 
 -- the place of the row allows this many points
 abbrev pub AllowsMany : RowHead → ℕ → Type 0

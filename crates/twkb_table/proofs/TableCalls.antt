@@ -36,7 +36,8 @@ none_read l (r ∷ records) given ended none h = absurd (omega (arith, none))
 so_far_named : (l : Allowance) (records : List Record) (given : List Tree) (ws : List Row)
     (ended : Bool) → HaveGiven l records given ws ended → ended ≡ true → NameSoFar l records given
 so_far_named l records given [] ended h over = h.0
-so_far_named l records given (root ∷ more) ended (last, named, same, going) over = absurd (true≢false (sym over ∙ going))
+so_far_named l records given (root ∷ more) ended (last, named, same, going) over = absurd
+    (true≢false (sym over ∙ going))
 
 over_read : (s : State) (number : ℕ) → is_over s ≡ true → 0 < records_read s number
 over_read state.Over number over = omega arith
@@ -55,16 +56,19 @@ module _ {R : Type 0} (l : Allowance) (remaining : R → Option (List ℕ)) (tol
   fresh is s =
       let (none, before) = none_read l records given (is_over now.rows.state)
       (subst (λ (t : State). records_read t now.number ≡ length records) is s.count)
-      (subst (λ (t : State). HaveGiven l records given (waiting_rows t now.rows.points.items) (is_over now.rows.state))
+      (subst (λ (t : State). HaveGiven l records given (waiting_rows t now.rows.points.items)
+      (is_over now.rows.state))
       is s.gave) in (
         none,
         before,
         subst (λ rs. HasGiven remaining told rs now.source) none
-            (subst (λ (t : State). standing remaining told records (is_over t) now.source) is s.source),
+            (subst (λ (t : State). standing remaining told records (is_over t) now.source) is
+            s.source),
       )
 
   -- the records are those read before the call
-  pub reaches : StandsAt l remaining told records given now → Reaches l remaining told records given now
+  pub reaches : StandsAt l remaining told records given now
+      → Reaches l remaining told records given now
   reaches s = record {
     seen = records;
     extends = ([], sym (append-nil records));
@@ -81,16 +85,19 @@ module _ {R : Type 0} (l : Allowance) (remaining : R → Option (List ℕ)) (tol
     all = subst (λ e. standing remaining told r.seen e now.source) over r.stands.source;
     named = named_some l r.seen given
         (subst (λ n. 0 < n) r.stands.count (over_read now.rows.state now.number over))
-        (so_far_named l r.seen given (waiting now.rows) (is_over now.rows.state) r.stands.gave over);
+        (so_far_named l r.seen given (waiting now.rows) (is_over now.rows.state) r.stands.gave
+        over);
     stands = r.stands;
   }
 
   -- the root that waits is that of the geometry which is read now
-  pub begun : (rows : RowReader) → limits_of rows ≡ limits_of now.rows → 0 < length (waiting now.rows)
+  pub begun : (rows : RowReader) → limits_of rows ≡ limits_of now.rows
+      → 0 < length (waiting now.rows)
       → Reaches l remaining told records given now
       → IsReading l remaining told records given (waiting now.rows) (record now { rows = rows })
   begun rows limits some r =
-      let (going, unspent, count) = root_waits now.rows.state now.rows.points.items now.number some in
+      let (going, unspent, count) = root_waits now.rows.state now.rows.points.items now.number
+      some in
       record {
         seen = r.seen;
         extends = r.extends;
@@ -98,12 +105,14 @@ module _ {R : Type 0} (l : Allowance) (remaining : R → Option (List ℕ)) (tol
         count = sym count ∙ r.stands.count;
         few = r.stands.few;
         limits = limits ∙ r.stands.limits;
-        named = a_tree l r.seen given (waiting now.rows) (is_over now.rows.state) r.stands.gave some;
+        named = a_tree l r.seen given (waiting now.rows) (is_over now.rows.state) r.stands.gave
+            some;
       }
 
   -- the geometry of the rows that were given
   pub tree_given : (flat : List Row) (tree : Tree) → rows 0 tree ≡ flat → IsTree tree
-      → GivesRows l remaining told records given flat now → GivesTree l remaining told records given tree now
+      → GivesRows l remaining told records given flat now → GivesTree l remaining told records given
+      tree now
   tree_given flat tree e is_tree n = record {
     seen = n.seen;
     extends = n.extends;
@@ -113,7 +122,8 @@ module _ {R : Type 0} (l : Allowance) (remaining : R → Option (List ℕ)) (tol
   }
 
   -- the point that waited is the next geometry
-  pub point_given : (new : Progress R) (p : ℤ) (q same : Point) → waiting now.rows ≡ point_row p q ∷ [] → same ≡ q
+  pub point_given : (new : Progress R) (p : ℤ) (q same : Point)
+      → waiting now.rows ≡ point_row p q ∷ [] → same ≡ q
       → (IsReading l remaining told records given (waiting now.rows) now
       → Completes l remaining told records given (waiting now.rows) new)
       → StandsAt l remaining told records given now
@@ -141,7 +151,8 @@ pub no_header : (l : Allowance) (told : Option (List ℕ)) (records : List Recor
     → records ≡ [] → given ≡ [] → IfSome told (λ text. AreRecordsOf text [])
     → IsRefusedAt l told records given 1 BadHeader
 no_header l told records given none before all =
-    refused_first l told [] records given none before (begins_none told) (λ e. all) (inl (tt, refl, refl, refl))
+    refused_first l told [] records given none before (begins_none told) (λ e. all)
+    (inl (tt, refl, refl, refl))
 
 pub other_header : (l : Allowance) (told : Option (List ℕ)) (records : List Record)
     (given : List Tree) (here : Record) → records ≡ [] → given ≡ []
@@ -154,9 +165,11 @@ other_header l told records given here none before begins other =
 pub the_header : {R : Type 0} (l : Allowance) (remaining : R → Option (List ℕ))
     (told : Option (List ℕ)) (records : List Record) (given : List Tree) (here : Record)
     (now : Progress R) → waiting now.rows ≡ [] → records ≡ [] → given ≡ []
-    → HasGiven remaining told (here ∷ []) now.source → here ≡ header → now.number ≡ 0 → limits_of now.rows ≡ l
+    → HasGiven remaining told (here ∷ []) now.source → here ≡ header → now.number ≡ 0
+    → limits_of now.rows ≡ l
     → IsReading l remaining told records given (waiting now.rows) now
-the_header l remaining told records given here now waits none before source same number limits = record {
+the_header l remaining told records given here now waits none before source same number limits =
+    record {
   seen = header ∷ [];
   extends = (header ∷ [], ap (λ (rs : List Record). rs ++ header ∷ []) (sym none));
   source = subst (λ (r : Record). HasGiven remaining told (r ∷ []) now.source) same source;
@@ -169,10 +182,12 @@ the_header l remaining told records given here now waits none before source same
 
 -- the header and the first root were read
 pub first_shown : {R : Type 0} (remaining : R → Option (List ℕ)) (old mid new : TableReader R)
-    (r : Result Bool TableFault) → Begins remaining old (waiting mid.rows) mid → waiting mid.rows ≡ []
+    (r : Result Bool TableFault) → Begins remaining old (waiting mid.rows) mid
+    → waiting mid.rows ≡ []
     → ReadsNextRoot remaining (progress mid) r (progress new) → FindsRoot remaining old r new
 first_shown remaining old mid new (Ok found) reads none (shows, ready) = (
-  λ l told records given s. subst (λ ws. Completes l remaining told records given ws (progress new)) none
+  λ l told records given s. subst (λ ws. Completes l remaining told records given ws (progress new))
+      none
       (shows l told records given (reads l told records given s)),
   ready,
 )

@@ -78,7 +78,8 @@ all_but_last-last (y ∷ z ∷ xs) x = ap (λ (l : List Tree). y ∷ l) (all_but
 all_but_last-last _ x = refl
 
 -- The geometries that the records name, of which all but the last were returned.
-record AllNamed (l : Allowance) (records : List Record) (given : List Tree) (so_far : List Row) : Type 0 where
+record AllNamed (l : Allowance) (records : List Record) (given : List Tree) (so_far : List Row) :
+    Type 0 where
   pub geometries : List Tree
   pub named : Named l records geometries
   pub but : all_but_last geometries ≡ given
@@ -191,7 +192,8 @@ module _ {R : Type 0} (l : Allowance) (remaining : R → Option (List ℕ)) (tol
       let n = root_more l r.seen here all_now.geometries e.row all_now.named
       (judged_all here (Accepted e.row) e.judged) e.root in
       let some = ap (λ (rs : List Row). length rs) e.waits in
-      let (going, unspent, count) = root_waits new.rows.state new.rows.points.items new.number (omega (arith, some)) in
+      let (going, unspent, count) = root_waits new.rows.state new.rows.points.items new.number
+      (omega (arith, some)) in
       let seen = r.seen ++ here ∷ [] in
       let source = comes told r.seen r.source in
       let many = one_more here new.number next in
@@ -204,7 +206,8 @@ module _ {R : Type 0} (l : Allowance) (remaining : R → Option (List ℕ)) (tol
           count = count ∙ many;
           few = omega (arith, many, few);
           limits = limits ∙ r.limits;
-          gave = subst (λ rs. HaveGiven l seen all_now.geometries rs (is_over new.rows.state)) (sym e.waits)
+          gave = subst (λ rs. HaveGiven l seen all_now.geometries rs (is_over new.rows.state))
+              (sym e.waits)
               (n.geometry, n.named, n.rows_are, going);
           unspent = unspent;
         };
@@ -213,7 +216,8 @@ module _ {R : Type 0} (l : Allowance) (remaining : R → Option (List ℕ)) (tol
   -- ---- the table ended
 
   pub reads_end : (new : Progress R) (here : Record)
-      → ReadsRecord remaining old.source (old.number + 1) (Ok false) here new.source (new.number + 1)
+      → ReadsRecord remaining old.source (old.number + 1) (Ok false) here new.source
+      (new.number + 1)
       → limits_of new.rows ≡ limits_of old.rows → new.rows.state ≡ state.Over
       → Completes l remaining told records given so_far new
   reads_end new here (all, same) limits over =
@@ -223,19 +227,23 @@ module _ {R : Type 0} (l : Allowance) (remaining : R → Option (List ℕ)) (tol
         extends = r.extends;
         begins = row_place_begins remaining told r.seen true new.source source;
         stands = record {
-          source = subst (λ (s : State). standing remaining told r.seen (is_over s) new.source) (sym over) source;
+          source = subst (λ (s : State). standing remaining told r.seen (is_over s) new.source)
+              (sym over) source;
           count = ap (λ (s : State). records_read s new.number) over ∙ (same ∙ r.count);
           few = r.few;
           limits = limits ∙ r.limits;
-          gave = subst (λ (s : State). HaveGiven l r.seen all_now.geometries (waiting_rows s new.rows.points.items)
-              (is_over s)) (sym over) (names_so_far l r.seen all_now.geometries all_now.named, inr refl);
+          gave = subst (λ (s : State). HaveGiven l r.seen all_now.geometries
+              (waiting_rows s new.rows.points.items)
+              (is_over s)) (sym over) (names_so_far l r.seen all_now.geometries all_now.named, inr
+              refl);
           unspent = ap is_stopped over;
         };
       })
 
   -- ---- the record is refused, or was not read
 
-  pub reads_stop : (here : Record) (csv : Reader (MutBor (Tap R))) (number : ℕ) (why : Stop RowReason)
+  pub reads_stop : (here : Record) (csv : Reader (MutBor (Tap R))) (number : ℕ)
+      (why : Stop RowReason)
       → ReadsRecord remaining old.source (old.number + 1) (Ok true) here csv (number + 1)
       → IfRefused (λ reason. JudgedAfter (limits_of old.rows) so_far here (Refused reason)) why
       → Explains l told records given (fault_of (number + 1) why)
@@ -250,7 +258,8 @@ module _ {R : Type 0} (l : Allowance) (remaining : R → Option (List ℕ)) (tol
         complete = subst (AreComplete l seen (number + 1) reason) all_now.but
             (subst (λ m. AreComplete l seen m reason (all_but_last all_now.geometries))
             (omega (arith, next, r.count))
-            (refused_more l r.seen here all_now.geometries reason (subst IsAllowance r.limits old.rows.sound)
+            (refused_more l r.seen here all_now.geometries reason
+            (subst IsAllowance r.limits old.rows.sound)
             all_now.named (judged_all here (Refused reason) j)));
       }
 
@@ -262,7 +271,8 @@ module _ {R : Type 0} (l : Allowance) (remaining : R → Option (List ℕ)) (tol
         before = r.seen;
         here = here;
         extends = r.extends;
-        begins = row_place_begins remaining told (r.seen ++ here ∷ []) false csv (comes told r.seen r.source);
+        begins = row_place_begins remaining told (r.seen ++ here ∷ []) false csv
+            (comes told r.seen r.source);
         many = omega (arith, last, r.count, r.few);
         geometries = all_now.geometries;
         named = all_now.named;
@@ -281,7 +291,8 @@ stop_fresh number stop.Memory e = cc e
 stop_fresh number (stop.Refused reason) e = cc e
 
 -- a geometry that has rows is complete
-completes_some : {R : Type 0} (l : Allowance) (remaining : R → Option (List ℕ)) (told : Option (List ℕ))
+completes_some : {R : Type 0} (l : Allowance) (remaining : R → Option (List ℕ))
+    (told : Option (List ℕ))
     (records : List Record) (given : List Tree) (so_far : List Row) (now : Progress R)
     → 0 < length so_far → Completes l remaining told records given so_far now
     → GivesRows l remaining told records given so_far now
@@ -289,7 +300,8 @@ completes_some l remaining told records given [] now some done = absurd (omega (
 completes_some l remaining told records given (root ∷ more) now some done = done
 
 -- the table ended
-pub end_shown : {R : Type 0} (remaining : R → Option (List ℕ)) (old new : Progress R) (so_far : List Row)
+pub end_shown : {R : Type 0} (remaining : R → Option (List ℕ)) (old new : Progress R)
+    (so_far : List Row)
     (here : Record) → 0 < length so_far
     → ReadsRecord remaining old.source (old.number + 1) (Ok false) here new.source (new.number + 1)
     → limits_of new.rows ≡ limits_of old.rows → new.rows.state ≡ state.Over
@@ -305,7 +317,8 @@ end_shown remaining old new so_far here some reads limits over = (
 pub row_shown : {R : Type 0} (remaining : R → Option (List ℕ)) (old new : Progress R)
     (before after : List Row) (here : Record) (more : Bool) → 0 < length before
     → ReadsRecord remaining old.source (old.number + 1) (Ok true) here new.source (new.number + 1)
-    → limits_of new.rows ≡ limits_of old.rows → ReadsRow old.rows before here (Ok more) new.rows after
+    → limits_of new.rows ≡ limits_of old.rows → ReadsRow old.rows before here (Ok more) new.rows
+    after
     → ReadsNextRow remaining old before (Ok more) after new
 row_shown remaining old new before after here true some reads limits g = (
   λ l told records given r. reads_more l remaining told records given before old r
@@ -323,31 +336,39 @@ row_shown remaining old new before after here false some reads limits (e, same) 
 )
 
 -- the root of the next geometry was read
-pub root_shown : {R : Type 0} (remaining : R → Option (List ℕ)) (old new : Progress R) (here : Record)
+pub root_shown : {R : Type 0} (remaining : R → Option (List ℕ)) (old new : Progress R)
+    (here : Record)
     → ReadsRecord remaining old.source (old.number + 1) (Ok true) here new.source (new.number + 1)
     → limits_of new.rows ≡ limits_of old.rows → EndsBefore old.rows (waiting old.rows) here new.rows
     → ReadsNextRoot remaining old (Ok true) new
 root_shown remaining old new here reads limits e = (
-  λ l told records given r. reads_root l remaining told records given (waiting old.rows) old r new here reads limits e,
+  λ l told records given r. reads_root l remaining told records given (waiting old.rows) old r new
+      here reads limits e,
   (let one = ap (λ (rs : List Row). length rs) e.waits in omega (arith, one)),
 )
 
 -- no record was read
-pub none_shown : {R : Type 0} (remaining : R → Option (List ℕ)) (old : Progress R) (so_far : List Row)
+pub none_shown : {R : Type 0} (remaining : R → Option (List ℕ)) (old : Progress R)
+    (so_far : List Row)
     (f : TableFault) (rows : RowReader) → rows.state ≡ state.Spent
-    → MissesRecord remaining old.source (old.number + 1) f → FaultsIn remaining old so_far f × IsMarked f rows
+    → MissesRecord remaining old.source (old.number + 1) f → FaultsIn remaining old so_far f ×
+    IsMarked f rows
 none_shown remaining old so_far f rows spent missed = (
   λ l told records given r. reads_none l remaining told records given so_far old r f missed,
   (missed_fresh remaining old.source (old.number + 1) f missed, ap is_stopped spent),
 )
 
 -- a record was refused
-pub refusal_shown : {R : Type 0} (remaining : R → Option (List ℕ)) (old : Progress R) (so_far : List Row)
-    (here : Record) (csv : Reader (MutBor (Tap R))) (number : ℕ) (rows : RowReader) (why : Stop RowReason)
+pub refusal_shown : {R : Type 0} (remaining : R → Option (List ℕ)) (old : Progress R)
+    (so_far : List Row)
+    (here : Record) (csv : Reader (MutBor (Tap R))) (number : ℕ) (rows : RowReader)
+    (why : Stop RowReason)
     → ReadsRecord remaining old.source (old.number + 1) (Ok true) here csv (number + 1)
     → Refuses old.rows so_far here why rows
-    → FaultsIn remaining old so_far (fault_of (number + 1) why) × IsMarked (fault_of (number + 1) why) rows
+    → FaultsIn remaining old so_far (fault_of (number + 1) why) × IsMarked
+    (fault_of (number + 1) why) rows
 refusal_shown remaining old so_far here csv number rows why reads (refused, spent) = (
-  λ l told records given r. reads_stop l remaining told records given so_far old r here csv number why reads refused,
+  λ l told records given r. reads_stop l remaining told records given so_far old r here csv number
+      why reads refused,
   (stop_fresh (number + 1) why, ap is_stopped spent),
 )

@@ -33,7 +33,8 @@ abbrev pub ReadsRecord : {R : Type 0} → (R → Option (List ℕ)) → Reader (
     → Result Bool TableFault → Record → Reader (MutBor (Tap R)) → ℕ → Type 0
 ReadsRecord remaining old count (Ok true) here new counted =
     Advances remaining old here new × (counted ≡ count + 1) × (counted < RECORD_CAP)
-ReadsRecord remaining old count (Ok false) here new counted = Finishes remaining old × (counted ≡ count)
+ReadsRecord remaining old count (Ok false) here new counted = Finishes remaining old ×
+    (counted ≡ count)
 ReadsRecord remaining old count (Err f) here new counted = MissesRecord remaining old count f
 
 -- the fault of the record with this number: memory was refused, or the record was refused for a

@@ -26,7 +26,8 @@ waiting reader = waiting_rows reader.state reader.points.items
 -- before them; if there are none, no row comes before
 abbrev pub JudgedAfter : Allowance → List TableRow → Record → Verdict → Type 0
 JudgedAfter l rows fields v =
-    (earlier : List TableRow) → (rows ≡ [] → earlier ≡ []) → Judged l (reverse (earlier ++ rows)) fields v
+    (earlier : List TableRow) → (rows ≡ [] → earlier ≡ []) → Judged l (reverse (earlier ++ rows))
+    fields v
 
 -- These are rows of one valid geometry, and their open rows.
 pub record Kept (l : Allowance) (rows : List TableRow) (open_rows : List OpenRow) : Type 0 where
@@ -57,7 +58,8 @@ pub record EndsBefore (old : RowReader) (before : List TableRow) (fields : Recor
 -- the record after these rows is refused, or there was no memory for its row
 abbrev pub Refuses : RowReader → List TableRow → Record → Stop RowReason → RowReader → Type 0
 Refuses old before fields why new =
-    IfRefused (λ reason. JudgedAfter (limits_of old) before fields (Refused reason)) why × (new.state ≡ state.Spent)
+    IfRefused (λ reason. JudgedAfter (limits_of old) before fields (Refused reason)) why ×
+    (new.state ≡ state.Spent)
 
 -- what reading a record as a root shows, before the first row or after a point that waits
 abbrev pub ReadsRoot : RowReader → Record → Result (Unit {0}) (Stop RowReason) → RowReader → Type 0
@@ -68,5 +70,6 @@ ReadsRoot old fields (Err why) new = Refuses old (waiting old) fields why new
 abbrev pub ReadsRow : RowReader → List TableRow → Record → Result Bool (Stop RowReason) → RowReader
     → List TableRow → Type 0
 ReadsRow old before fields (Ok true) new after = GoesOn old before fields new after
-ReadsRow old before fields (Ok false) new after = EndsBefore old before fields new × (after ≡ before)
+ReadsRow old before fields (Ok false) new after = EndsBefore old before fields new ×
+    (after ≡ before)
 ReadsRow old before fields (Err why) new after = Refuses old before fields why new

@@ -37,7 +37,8 @@ HaveGiven l records given [] ended = NameSoFar l records given × ((given ≡ []
 HaveGiven l records given (root ∷ more) ended = (last : Tree) × Named l records (given ++ last ∷ [])
     × (rows 0 last ≡ root ∷ more) × (ended ≡ false)
 
--- What a reader of tables has read: its reader of `csv`, the number of records after the header, and
+-- What a reader of tables has read: its reader of `csv`, the number of records after the header,
+-- and
 -- its rows.
 pub record Progress (R : Type 0) : Type 0 where
   pub source : Reader (MutBor (Tap R))
@@ -64,7 +65,8 @@ records_read _ number = number + 1
 -- A reader with these limits read these records, fewer than RECORD_CAP, of a text known at the start,
 -- and returned these geometries. They are all records of the text if the end was reached.
 pub record StandsAt {R : Type 0} (l : Allowance) (remaining : R → Option (List ℕ))
-    (told : Option (List ℕ)) (records : List Record) (given : List Tree) (now : Progress R) : Type 0 where
+    (told : Option (List ℕ)) (records : List Record) (given : List Tree) (now : Progress R) : Type 0
+    where
   pub source : standing remaining told records (is_over now.rows.state) now.source
   pub count : records_read now.rows.state now.number ≡ length records
   pub few : length records < RECORD_CAP
@@ -75,7 +77,8 @@ pub record StandsAt {R : Type 0} (l : Allowance) (remaining : R → Option (List
 -- this reader is such a reader
 abbrev pub StandsAfter : {R : Type 0} → Allowance → (R → Option (List ℕ)) → Option (List ℕ)
     → List Record → List Tree → TableReader R → Type 0
-StandsAfter l remaining told records given reader = StandsAt l remaining told records given (progress reader)
+StandsAfter l remaining told records given reader = StandsAt l remaining told records given
+    (progress reader)
 
 -- the end of the table was reached, and all its geometries were returned
 abbrev pub IsOver : {R : Type 0} → TableReader R → Type 0
@@ -106,7 +109,8 @@ pub record GivesRows {R : Type 0} (l : Allowance) (remaining : R → Option (Lis
 -- the same of a reader
 abbrev pub GivesNext : {R : Type 0} → Allowance → (R → Option (List ℕ)) → Option (List ℕ)
     → List Record → List Tree → List Row → TableReader R → Type 0
-GivesNext l remaining told records given flat reader = GivesRows l remaining told records given flat (progress reader)
+GivesNext l remaining told records given flat reader = GivesRows l remaining told records given flat
+    (progress reader)
 
 -- The records seen name one more geometry, which is this one.
 pub record GivesTree {R : Type 0} (l : Allowance) (remaining : R → Option (List ℕ))
@@ -119,7 +123,8 @@ pub record GivesTree {R : Type 0} (l : Allowance) (remaining : R → Option (Lis
 
 -- All records of the text name the geometries that were returned.
 pub record ReachesEnd {R : Type 0} (l : Allowance) (remaining : R → Option (List ℕ))
-    (told : Option (List ℕ)) (records : List Record) (given : List Tree) (now : Progress R) : Type 0 where
+    (told : Option (List ℕ)) (records : List Record) (given : List Tree) (now : Progress R) : Type 0
+    where
   pub seen : List Record
   pub extends : Extends records seen
   pub all : IfSome told (λ text. AreRecordsOf text seen)
@@ -129,7 +134,8 @@ pub record ReachesEnd {R : Type 0} (l : Allowance) (remaining : R → Option (Li
 -- the same of a reader
 abbrev pub MeetsEnd : {R : Type 0} → Allowance → (R → Option (List ℕ)) → Option (List ℕ)
     → List Record → List Tree → TableReader R → Type 0
-MeetsEnd l remaining told records given reader = ReachesEnd l remaining told records given (progress reader)
+MeetsEnd l remaining told records given reader = ReachesEnd l remaining told records given
+    (progress reader)
 
 -- The records seen are refused at the last of them, for this reason, and the geometries returned
 -- are those that the refusal leaves complete. If no record was seen, the text has none.
@@ -199,7 +205,8 @@ NameReading l records given [] = Named l records given × (given ≡ [])
 NameReading l records given (root ∷ more) =
     (last : Tree) × Named l records (given ++ last ∷ []) × (rows 0 last ≡ root ∷ more)
 
--- The records seen, fewer than RECORD_CAP, name the geometries that were returned and one more, which
+-- The records seen, fewer than RECORD_CAP, name the geometries that were returned and one more,
+-- which
 -- has these rows so far.
 pub record IsReading {R : Type 0} (l : Allowance) (remaining : R → Option (List ℕ))
     (told : Option (List ℕ)) (records : List Record) (given : List Tree) (so_far : List Row)
@@ -214,7 +221,8 @@ pub record IsReading {R : Type 0} (l : Allowance) (remaining : R → Option (Lis
 
 -- The records seen name these geometries, and one more if a root waits.
 pub record Reaches {R : Type 0} (l : Allowance) (remaining : R → Option (List ℕ))
-    (told : Option (List ℕ)) (records : List Record) (given : List Tree) (now : Progress R) : Type 0 where
+    (told : Option (List ℕ)) (records : List Record) (given : List Tree) (now : Progress R) : Type 0
+    where
   pub seen : List Record
   pub extends : Extends records seen
   pub begins : IfSome told (λ text. BeginWith text seen)
@@ -232,7 +240,8 @@ abbrev pub Begins : {R : Type 0} → (R → Option (List ℕ)) → TableReader R
 Begins remaining old so_far new = Wherever remaining old
     (λ l told records given. IsReading l remaining told records given so_far (progress new))
 
--- P holds of the limits, the text, the records read before the call and the geometries returned, for
+-- P holds of the limits, the text, the records read before the call and the geometries returned,
+-- for
 -- every state in which the reader may be reading rows
 abbrev pub WhereverReading : {R : Type 0} → (R → Option (List ℕ)) → Progress R → List Row
     → (Allowance → Option (List ℕ) → List Record → List Tree → Type 0) → Type 0
@@ -241,7 +250,8 @@ WhereverReading remaining old so_far Holds =
     → IsReading l remaining told records given so_far old → Holds l told records given
 
 -- the fault is true of the text, if a geometry was being read
-abbrev pub FaultsIn : {R : Type 0} → (R → Option (List ℕ)) → Progress R → List Row → TableFault → Type 0
+abbrev pub FaultsIn : {R : Type 0} → (R → Option (List ℕ)) → Progress R → List Row → TableFault
+    → Type 0
 FaultsIn remaining old so_far f = WhereverReading remaining old so_far
     (λ l told records given. Explains l told records given f)
 
@@ -257,24 +267,28 @@ IsReady false rows = is_over rows.state ≡ true
 -- what reading the header shows
 abbrev pub ReadsHeader : {R : Type 0} → (R → Option (List ℕ)) → TableReader R
     → Result (Unit {0}) TableFault → TableReader R → Type 0
-ReadsHeader remaining old (Ok done) new = Begins remaining old (waiting new.rows) new × (waiting new.rows ≡ [])
+ReadsHeader remaining old (Ok done) new = Begins remaining old (waiting new.rows) new ×
+    (waiting new.rows ≡ [])
 ReadsHeader remaining old (Err f) new = Faults remaining old f × IsMarked f new.rows
 
 -- what looking for the root of the next geometry shows
 abbrev pub FindsRoot : {R : Type 0} → (R → Option (List ℕ)) → TableReader R → Result Bool TableFault
     → TableReader R → Type 0
 FindsRoot remaining old (Ok found) new =
-    Wherever remaining old (λ l told records given. Reaches l remaining told records given (progress new))
+    Wherever remaining old (λ l told records given. Reaches l remaining told records given
+    (progress new))
     × IsReady found new.rows
 FindsRoot remaining old (Err f) new = Faults remaining old f × IsMarked f new.rows
 
 -- what reading a root shows, before the first geometry or after a point
-abbrev pub ReadsNextRoot : {R : Type 0} → (R → Option (List ℕ)) → Progress R → Result Bool TableFault
+abbrev pub ReadsNextRoot : {R : Type 0} → (R → Option (List ℕ)) → Progress R
+    → Result Bool TableFault
     → Progress R → Type 0
 ReadsNextRoot remaining old (Ok found) new =
     WhereverReading remaining old (waiting old.rows) (λ l told records given.
     Completes l remaining told records given (waiting old.rows) new) × IsReady found new.rows
-ReadsNextRoot remaining old (Err f) new = FaultsIn remaining old (waiting old.rows) f × IsMarked f new.rows
+ReadsNextRoot remaining old (Err f) new = FaultsIn remaining old (waiting old.rows) f × IsMarked f
+    new.rows
 
 -- what reading a record after these rows of a geometry shows
 abbrev pub ReadsNextRow : {R : Type 0} → (R → Option (List ℕ)) → Progress R → List Row
@@ -287,11 +301,14 @@ ReadsNextRow remaining old before (Ok false) after new =
     WhereverReading remaining old before (λ l told records given.
     GivesRows l remaining told records given before new)
     × (after ≡ before) × (is_stopped new.rows.state ≡ false)
-ReadsNextRow remaining old before (Err f) after new = FaultsIn remaining old before f × IsMarked f new.rows
+ReadsNextRow remaining old before (Err f) after new = FaultsIn remaining old before f × IsMarked f
+    new.rows
 
 -- what a call that is neither after the end nor after a refusal shows
-abbrev pub ReadsGeometry : {R : Type 0} → (R → Option (List ℕ)) → TableReader R → Result Bool TableFault
+abbrev pub ReadsGeometry : {R : Type 0} → (R → Option (List ℕ)) → TableReader R
+    → Result Bool TableFault
     → List Row → TableReader R → Type 0
-ReadsGeometry remaining old (Ok true) flat new = Gives remaining old flat new × (0 < length flat) × (is_spent new ≡ false)
+ReadsGeometry remaining old (Ok true) flat new = Gives remaining old flat new × (0 < length flat) ×
+    (is_spent new ≡ false)
 ReadsGeometry remaining old (Ok false) flat new = Ends remaining old new × (flat ≡ []) × IsOver new
 ReadsGeometry remaining old (Err f) flat new = Faults remaining old f × IsMarked f new.rows

@@ -2,7 +2,8 @@ use Rattle.twkb_table.specs.Judged.{Refused}
 use Rattle.twkb_table.proofs.record_verdict.judge_at.Goals as goal
 
 pub returns-in-Some : goal.returns-in-Some
-returns-in-Some c = c.in-Some.ensures.judged c.args.id_field.now c.args.precision_field.now c.args.text.now
+returns-in-Some c = c.in-Some.ensures.judged c.args.id_field.now c.args.precision_field.now
+    c.args.text.now
 
 pub returns-in-Err : goal.returns-in-Err
 returns-in-Err c =

@@ -9,7 +9,8 @@ pub begin-requires : goal.begin-requires
 begin-requires c =
     let old = c.args.self.now in
     continues_largest old.limits [] _ old.sound
-    (waiting_begins old.limits old.state c.in-Waiting.root old.points.items old.waits c.in-Waiting.is)
+    (waiting_begins old.limits old.state c.in-Waiting.root old.points.items old.waits
+    c.in-Waiting.is)
 
 pub returns-clause-put : goal.returns-clause-put
 returns-clause-put c = c.in_ok-begin.ensures.begun
@@ -18,7 +19,8 @@ returns-clause-put c = c.in_ok-begin.ensures.begun
 pub returns-clause-keeps : goal.returns-clause-keeps
 returns-clause-keeps c =
     let old = c.args.self.now in
-    let begins = waiting_begins old.limits old.state c.in-Waiting.root old.points.items old.waits c.in-Waiting.is in
+    let begins = waiting_begins old.limits old.state c.in-Waiting.root old.points.items old.waits
+    c.in-Waiting.is in
     let row = row_with (root_row c.in-Waiting.root) old.points.items in (
       keeps_first old.limits row c.begin.new.self [] c.open_row.new.self begins
           c.in_ok-begin.ensures.begun refl (c.in_ok-open_row.ensures.opened old.points.items),

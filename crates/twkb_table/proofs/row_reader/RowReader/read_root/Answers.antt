@@ -14,14 +14,16 @@ invariant_of-self-2-clause-waits c =
     let l = c.args.self.now.limits in
     let row = row_with c.in_ok-row.row c.judge.new.points.items in
     may_wait_as l c.in_ok-row.row c.judge.new.points.items
-    (begins_first l (fields_of c.args.csv_record.now) row (c.in_ok-row.ensures.read [] stands_nowhere))
+    (begins_first l (fields_of c.args.csv_record.now) row (c.in_ok-row.ensures.read []
+    stands_nowhere))
 
 pub returns-in_err-row-clause-root : goal.returns-in_err-row-clause-root
 returns-in_err-row-clause-root c =
     let old = c.args.self.now in
     let p = err_from_is_err_and c.from_residual.result c.from_residual.ensures.1 in
     rw (p.1, p.2) (
-      if_refused _ _ _ (λ reason j. judged_alone old.limits (waiting old) (fields_of c.args.csv_record.now)
+      if_refused _ _ _ (λ reason j. judged_alone old.limits (waiting old)
+      (fields_of c.args.csv_record.now)
           (Refused reason) c.requires (j [] stands_nowhere)) c.in_err-row.ensures.refused,
       refl,
     )
@@ -34,7 +36,9 @@ returns-clause-root c =
     let begins = begins_first old.limits (fields_of c.args.csv_record.now) row judged in
     record {
       row = row;
-      waits = ap (λ (r : Row). r ∷ []) (sym (root_is old.limits c.in_ok-row.row c.judge.new.points.items begins));
+      waits = ap (λ (r : Row). r ∷ []) (sym (root_is old.limits c.in_ok-row.row
+          c.judge.new.points.items begins));
       root = begins.1;
-      judged = judged_alone old.limits (waiting old) (fields_of c.args.csv_record.now) (Accepted row) c.requires judged;
+      judged = judged_alone old.limits (waiting old) (fields_of c.args.csv_record.now)
+          (Accepted row) c.requires judged;
     }

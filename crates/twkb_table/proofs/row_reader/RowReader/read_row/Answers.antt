@@ -15,11 +15,14 @@ pub invariant_of-self-then-row-eq0-clause-waits : goal.invariant_of-self-then-ro
 invariant_of-self-then-row-eq0-clause-waits c =
     let own = c.in_default.ensures.given in
     let points = c.append_to.new.points.items in
-    let next = comes_next c.args.self.now.limits c.args.flat.now (fields_of c.args.csv_record.now) c.in-Ok.head
-    c.row-row.result c.clear.new.self.items points own.0 c.requires.0.of_one c.in-Ok.ensures c.row-row.ensures
+    let next = comes_next c.args.self.now.limits c.args.flat.now (fields_of c.args.csv_record.now)
+    c.in-Ok.head
+    c.row-row.result c.clear.new.self.items points own.0 c.requires.0.of_one c.in-Ok.ensures
+    c.row-row.ensures
     c.clear.ensures.items own.1 own.2 in
     may_wait_as c.args.self.now.limits c.row-row.result points
-    (begins_anew c.args.self.now.limits c.args.flat.now (row_with c.row-row.result points) next.accepts
+    (begins_anew c.args.self.now.limits c.args.flat.now (row_with c.row-row.result points)
+    next.accepts
     c.if-row-eq0.true)
 
 pub returns-then-row-eq0-clause-row : goal.returns-then-row-eq0-clause-row
@@ -28,7 +31,8 @@ returns-then-row-eq0-clause-row c =
     let own = c.in_default.ensures.given in
     let points = c.append_to.new.points.items in
     let next = comes_next l c.args.flat.now (fields_of c.args.csv_record.now) c.in-Ok.head
-    c.row-row.result c.clear.new.self.items points own.0 c.requires.0.of_one c.in-Ok.ensures c.row-row.ensures
+    c.row-row.result c.clear.new.self.items points own.0 c.requires.0.of_one c.in-Ok.ensures
+    c.row-row.ensures
     c.clear.ensures.items own.1 own.2 in
     let row = row_with c.row-row.result points in
     let begins = begins_anew l c.args.flat.now row next.accepts c.if-row-eq0.true in (
@@ -46,26 +50,31 @@ returns-then-row-eq0-clause-row c =
 pub push_from-requires : goal.push_from-requires
 push_from-requires c own given =
     let l = c.args.self.now.limits in
-    let next = comes_next l c.args.flat.now (fields_of c.args.csv_record.now) c.in-Ok.head c.row-row.result []
+    let next = comes_next l c.args.flat.now (fields_of c.args.csv_record.now) c.in-Ok.head
+    c.row-row.result []
     own own c.requires.0.of_one c.in-Ok.ensures c.row-row.ensures refl refl given in
     continues_largest l c.args.flat.now (row_with c.row-row.result own) c.args.self.now.sound
-    (continues_below l c.args.flat.now (row_with c.row-row.result own) c.requires.0.some next.accepts
+    (continues_below l c.args.flat.now (row_with c.row-row.result own) c.requires.0.some
+    next.accepts
     (omega (arith, c.if-row-eq0.false)))
 
 pub open_row-requires : goal.open_row-requires
 open_row-requires c =
     let l = c.args.self.now.limits in
     let own = c.in_default-push_from.ensures.pushed in
-    let next = comes_next l c.args.flat.now (fields_of c.args.csv_record.now) c.in-Ok.head c.row-row.result []
+    let next = comes_next l c.args.flat.now (fields_of c.args.csv_record.now) c.in-Ok.head
+    c.row-row.result []
     own.0 own.0 c.requires.0.of_one c.in-Ok.ensures c.row-row.ensures refl refl own.2 in
-    depth_within l (reverse c.args.flat.now) c.args.self.now.open_rows (row_with c.row-row.result own.0)
+    depth_within l (reverse c.args.flat.now) c.args.self.now.open_rows
+    (row_with c.row-row.result own.0)
     next.accepts c.requires.0.are_open
 
 pub returns-clause-row : goal.returns-clause-row
 returns-clause-row c =
     let l = c.args.self.now.limits in
     let own = c.in_default-push_from.ensures.pushed in
-    let next = comes_next l c.args.flat.now (fields_of c.args.csv_record.now) c.in-Ok.head c.row-row.result []
+    let next = comes_next l c.args.flat.now (fields_of c.args.csv_record.now) c.in-Ok.head
+    c.row-row.result []
     own.0 own.0 c.requires.0.of_one c.in-Ok.ensures c.row-row.ensures refl refl own.2 in
     let row = row_with c.row-row.result own.0 in
     let below : 0 < c.row-row.result.depth = omega (arith, c.if-row-eq0.false) in
@@ -75,7 +84,8 @@ returns-clause-row c =
       below = below;
       judged = next.judged;
       keeps = (
-        keeps_next l row c.args.flat.now c.push_from.new.self c.args.self.now.open_rows c.open_row.new.self
+        keeps_next l row c.args.flat.now c.push_from.new.self c.args.self.now.open_rows
+        c.open_row.new.self
             c.requires.0 next.accepts below own.1 (c.in-Ok-open_row.ensures.opened own.0),
         c.requires.1,
       );
@@ -87,14 +97,18 @@ pub returns-in-Err-clause-row : goal.returns-in-Err-clause-row
 returns-in-Err-clause-row c = (c.in-Err.ensures, c.requires.1)
 
 pub returns-in-Err-append_to-clause-row : goal.returns-in-Err-append_to-clause-row
-returns-in-Err-append_to-clause-row c =
-    (if_refused _ _ c.in-Err-append_to.fault (λ reason j. c.in-Ok.ensures (Refused reason) j)
-    c.in-Err-append_to.ensures.refused, c.requires.1)
+returns-in-Err-append_to-clause-row c = (
+  if_refused _ _ c.in-Err-append_to.fault (λ reason j. c.in-Ok.ensures (Refused reason) j)
+      c.in-Err-append_to.ensures.refused,
+  c.requires.1,
+)
 
 pub returns-in-Err-push_from-clause-row : goal.returns-in-Err-push_from-clause-row
-returns-in-Err-push_from-clause-row c =
-    (if_refused _ _ c.in-Err-push_from.fault (λ reason j. c.in-Ok.ensures (Refused reason) j)
-    c.in-Err-push_from.ensures.refused, c.requires.1)
+returns-in-Err-push_from-clause-row c = (
+  if_refused _ _ c.in-Err-push_from.fault (λ reason j. c.in-Ok.ensures (Refused reason) j)
+      c.in-Err-push_from.ensures.refused,
+  c.requires.1,
+)
 
 pub returns-in_default-open_row-clause-row : goal.returns-in_default-open_row-clause-row
 returns-in_default-open_row-clause-row c = (tt, c.requires.1)

@@ -8,19 +8,24 @@ use Rattle.twkb_table.proofs.table_reader.TableReader.next_root.Goals as goal
 
 pub returns-in-Ok-false : goal.returns-in-Ok-false
 returns-in-Ok-false g c = (
-  λ l told records given r. reads_end l g.R.Read.remaining told records given (waiting c.args.self.now.rows)
+  λ l told records given r. reads_end l g.R.Read.remaining told records given
+      (waiting c.args.self.now.rows)
       (progress c.args.self.now) r _ (fields_of c.next_record.new.last)
-      (rw c.in-Ok-false.field-0-test at c.in-Ok-false.ensures) c.stop.ensures.limits c.stop.ensures.state,
+      (rw c.in-Ok-false.field-0-test at c.in-Ok-false.ensures) c.stop.ensures.limits
+      c.stop.ensures.state,
   ap is_over c.stop.ensures.state,
 )
 
 pub returns-in-Err : goal.returns-in-Err
-returns-in-Err g c = none_shown g.R.Read.remaining (progress c.args.self.now) (waiting c.args.self.now.rows)
+returns-in-Err g c = none_shown g.R.Read.remaining (progress c.args.self.now)
+    (waiting c.args.self.now.rows)
     c.in-Err.fault c.stop-in-Err.new.self c.stop-in-Err.ensures.state c.in-Err.ensures
 
 pub returns-in-Ok : goal.returns-in-Ok
-returns-in-Ok g c = root_shown g.R.Read.remaining (progress c.args.self.now) _ (fields_of c.next_record.new.last)
-    (rw c.in-Ok-true.field-0-test at c.in-Ok-true.ensures) c.read_root.ensures.limits c.in-Ok.ensures.root
+returns-in-Ok g c = root_shown g.R.Read.remaining (progress c.args.self.now) _
+    (fields_of c.next_record.new.last)
+    (rw c.in-Ok-true.field-0-test at c.in-Ok-true.ensures) c.read_root.ensures.limits
+    c.in-Ok.ensures.root
 
 pub returns-in-Err-read_root : goal.returns-in-Err-read_root
 returns-in-Err-read_root g c = rw c.fault_at.ensures.value

@@ -6,19 +6,24 @@ use Rattle.twkb_table.proofs.table_reader.TableReader.next_row.Goals as goal
 pub returns-in-Ok-false : goal.returns-in-Ok-false
 returns-in-Ok-false g c = end_shown g.R.Read.remaining (progress c.args.self.now) _ c.args.flat.now
     (fields_of c.next_record.new.last) c.requires.0.some
-    (rw c.in-Ok-false.field-0-test at c.in-Ok-false.ensures) c.stop.ensures.limits c.stop.ensures.state
+    (rw c.in-Ok-false.field-0-test at c.in-Ok-false.ensures) c.stop.ensures.limits
+    c.stop.ensures.state
 
 pub returns-in-Err : goal.returns-in-Err
-returns-in-Err g c = none_shown g.R.Read.remaining (progress c.args.self.now) c.args.flat.now c.in-Err.fault
+returns-in-Err g c = none_shown g.R.Read.remaining (progress c.args.self.now) c.args.flat.now
+    c.in-Err.fault
     c.args.self.now.rows c.requires.1 c.in-Err.ensures
 
 pub returns-in-Ok : goal.returns-in-Ok
-returns-in-Ok g c = row_shown g.R.Read.remaining (progress c.args.self.now) _ c.args.flat.now c.read_row.new.flat
+returns-in-Ok g c = row_shown g.R.Read.remaining (progress c.args.self.now) _ c.args.flat.now
+    c.read_row.new.flat
     (fields_of c.next_record.new.last) c.in-Ok.more c.requires.0.some
-    (rw c.in-Ok-true.field-0-test at c.in-Ok-true.ensures) c.read_row.ensures.limits c.in-Ok.ensures.row
+    (rw c.in-Ok-true.field-0-test at c.in-Ok-true.ensures) c.read_row.ensures.limits
+    c.in-Ok.ensures.row
 
 pub returns-in-Err-read_row : goal.returns-in-Err-read_row
 returns-in-Err-read_row g c = rw c.fault_at.ensures.value
     (refusal_shown g.R.Read.remaining (progress c.args.self.now) c.args.flat.now
-    (fields_of c.next_record.new.last) _ _ c.read_row.new.self _ (rw c.in-Ok-true.field-0-test at c.in-Ok-true.ensures)
+    (fields_of c.next_record.new.last) _ _ c.read_row.new.self _
+    (rw c.in-Ok-true.field-0-test at c.in-Ok-true.ensures)
     c.in-Err-read_row.ensures.row)

@@ -6,5 +6,6 @@ pub next_root-requires : goal.next_root-requires
 next_root-requires g c = inl c.in-Ok.ensures.1
 
 pub returns-in-Ok : goal.returns-in-Ok
-returns-in-Ok g c = first_shown g.R.Read.remaining c.args.self.now c.read_header.new.self c.next_root.new.self
+returns-in-Ok g c = first_shown g.R.Read.remaining c.args.self.now c.read_header.new.self
+    c.next_root.new.self
     c.next_root.result c.in-Ok.ensures.0 c.in-Ok.ensures.1 c.next_root.ensures

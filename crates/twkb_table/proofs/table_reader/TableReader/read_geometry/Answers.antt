@@ -18,7 +18,8 @@ loop-init g c =
     record {
       keeps = c.in-Ok.ensures.keeps;
       begins = λ l told records given s. rw c.in-Ok.ensures.put
-          (begun l g.R.Read.remaining told records given (progress c.find_root.new.self) c.begin.new.self
+          (begun l g.R.Read.remaining told records given (progress c.find_root.new.self)
+          c.begin.new.self
           c.begin.ensures.limits waits (reaches l told records given s));
     }
 
@@ -28,6 +29,7 @@ returns-in_err-next_row g c =
     c.from_residual-in_err-next_row.ensures.1 in
     let (faults, marked) = c.in_err-next_row.ensures in
     rw (p.1, p.2) (
-      λ l told records given s. faults l told records given (c.loop.invariant.begins l told records given s),
+      λ l told records given s. faults l told records given
+          (c.loop.invariant.begins l told records given s),
       marked,
     )

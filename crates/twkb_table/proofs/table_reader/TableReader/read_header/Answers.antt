@@ -9,7 +9,8 @@ use Rattle.twkb_table.proofs.table_reader.TableReader.read_header.Goals as goal
 
 pub returns-in-Ok-false : goal.returns-in-Ok-false
 returns-in-Ok-false g c = (
-  λ l told records given s. (let (none, before, source) = fresh l g.R.Read.remaining told records given
+  λ l told records given s. (let (none, before, source) = fresh l g.R.Read.remaining told records
+      given
       (progress c.args.self.now) c.requires s in
       no_header l told records given none before
       ((rw c.in-Ok-false.field-0-test at c.in-Ok-false.ensures) told [] source)),
@@ -18,7 +19,8 @@ returns-in-Ok-false g c = (
 
 pub returns-then-not-is_header : goal.returns-then-not-is_header
 returns-then-not-is_header g c = (
-  λ l told records given s. (let (none, before, source) = fresh l g.R.Read.remaining told records given
+  λ l told records given s. (let (none, before, source) = fresh l g.R.Read.remaining told records
+      given
       (progress c.args.self.now) c.requires s in
       other_header l told records given (fields_of c.read_next.new.last) none before
       (row_place_begins g.R.Read.remaining told _ false _
@@ -30,9 +32,11 @@ returns-then-not-is_header g c = (
 pub returns : goal.returns
 returns g c =
     let none = ap (λ s. waiting_rows s c.stop.new.self.points.items) c.stop.ensures.state in (
-      λ l told records given s. (let (no_record, before, source) = fresh l g.R.Read.remaining told records given
+      λ l told records given s. (let (no_record, before, source) = fresh l g.R.Read.remaining told
+          records given
           (progress c.args.self.now) c.requires s in
-          the_header l g.R.Read.remaining told records given (fields_of c.read_next.new.last) _ none no_record before
+          the_header l g.R.Read.remaining told records given (fields_of c.read_next.new.last) _ none
+          no_record before
           ((rw c.in-Ok-true.field-0-test at c.in-Ok-true.ensures) told [] source)
           (c.is_header.ensures.0 c.if-not-is_header.false) refl (c.stop.ensures.limits ∙ s.limits)),
       none,
