@@ -1,6 +1,6 @@
 -- The rows below a row, its members among them, and their slots.
-use Rattle.std.proofs.Common.{◌≡◌, ℕ, List, [], ◌∷◌, ◌++◌, map, refl, ap, sym, ◌∙◌, append_assoc, append-nil, suc}
-use Rattle.std.proofs.Common.{◌<◌, ◌≤◌, true, false, length, Option, Some, None, subst, arith}
+use Rattle.std.proofs.Common.{◌≡◌, ℕ, List, [], ◌∷◌, ◌++◌, map, refl, ap, sym, ◌∙◌, append_assoc, suc, ◌<◌, ◌≤◌, true}
+use Rattle.std.proofs.Common.{false, length, Option, Some, None, subst, arith}
 use Rattle.std.specs.Prelude.{ℤ, ◌-ℤ◌, nat_le, nat_eq}
 use Rattle.std.proofs.lemmas.Grind.{flat_map-append}
 use Rattle.std.proofs.lemmas.Bool.Decides.{nat_tests}
@@ -34,32 +34,18 @@ pub walked-append : (at : Point) (xs ys : List Slot) → walked at (xs ++ ys) �
 walked-append at xs ys = ap varints (steps-append at xs ys)
     ∙ flat_map-append (λ (f : Field). varint_of f.1) (steps at xs) (steps (reached at xs) ys)
 
--- the bytes of points, and of slots after them
-pub walked-points : (at : Point) (ps : List Point) (ms : List Slot)
-    → walked at (map OfPoint ps ++ ms) ≡ way_bytes at ps ++ walked (way_end at ps) ms
-walked-points at [] ms = refl
-walked-points at (p ∷ ps) ms =
+-- the bytes of points
+pub walked-way : (at : Point) (ps : List Point) → walked at (map OfPoint ps) ≡ way_bytes at ps
+walked-way at [] = refl
+walked-way at (p ∷ ps) =
     let x = signed (p.x -ℤ at.x) in
     let y = signed (p.y -ℤ at.y) in
-    ap (λ l. x ++ (y ++ l)) (walked-points p ps ms)
-    ∙ sym (append_assoc x (y ++ way_bytes p ps) (walked (way_end p ps) ms)
-    ∙ ap (λ l. x ++ l) (append_assoc y (way_bytes p ps) (walked (way_end p ps) ms)))
-    ∙ ap (λ l. l ++ walked (way_end p ps) ms) (sym (append_assoc x y (way_bytes p ps)))
+    ap (λ l. x ++ (y ++ l)) (walked-way p ps) ∙ sym (append_assoc x y (way_bytes p ps))
 
--- the position after points, and after slots after them
-pub reached-points : (at : Point) (ps : List Point) (ms : List Slot)
-    → reached at (map OfPoint ps ++ ms) ≡ reached (way_end at ps) ms
-reached-points at [] ms = refl
-reached-points at (p ∷ ps) ms = reached-points p ps ms
-
--- the bytes of points alone
-pub walked-way : (at : Point) (ps : List Point) → walked at (map OfPoint ps) ≡ way_bytes at ps
-walked-way at ps = ap (λ l. walked at l) (sym (append-nil (map OfPoint ps)))
-    ∙ walked-points at ps [] ∙ append-nil (way_bytes at ps)
-
--- the position after points alone
+-- the position after points
 pub reached-way : (at : Point) (ps : List Point) → reached at (map OfPoint ps) ≡ way_end at ps
-reached-way at ps = ap (λ l. reached at l) (sym (append-nil (map OfPoint ps))) ∙ reached-points at ps []
+reached-way at [] = refl
+reached-way at (p ∷ ps) = reached-way p ps
 
 -- ids do not change the position
 pub reached-ids : (at : Point) (ids : List ℤ) (ms : List Slot) → reached at (map OfId ids ++ ms) ≡ reached at ms

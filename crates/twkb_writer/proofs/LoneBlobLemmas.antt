@@ -103,8 +103,7 @@ pub line_entry_is : (style : Style) (p : ℤ) (ps : List Point) (own : ℕ) (bel
 line_entry_is style p ps own below t e count none points found =
     found
     ∙ (λ i. entry_for style kind.Linestring p (count i) (none i) (points i))
-    ∙ entry_is style (one_line p ps) kind.Linestring (length ps) blank (tail_of ps)
-    (simple_measured style p (line ps) tt)
+    ∙ entry_is (simple_measured style p (line ps) tt)
 
 -- the bytes of a line with its entry are its blob
 pub line_bytes : (style : Style) (p : ℤ) (ps own_points : List Point) (own : ℕ) (e : Entry) → IsPrecision p

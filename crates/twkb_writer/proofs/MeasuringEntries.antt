@@ -86,35 +86,26 @@ pub record IsMeasured (style : Style) (g : Tree) (k : Kind) (own : ℕ) (below :
   pub bare : is_bare own below ≡ is_empty (flags_of_tree g)
   pub body : lead_len k own below + below.bytes + from_origin t ≡ length (body_of style g)
 
-box_is : (style : Style) (g : Tree) (k : Kind) (own : ℕ) (below : RowTotals) (t : TailTotals)
-    → IsMeasured style g k own below t → box_for style k (precision_of g) below t
-    ≡ bounds_of style g
-box_is Full g k own below t m =
+box_is : {style : Style} {g : Tree} {k : Kind} {own : ℕ} {below : RowTotals} {t : TailTotals}
+    → IsMeasured style g k own below t → box_for style k (precision_of g) below t ≡ bounds_of style g
+box_is {style = Full} {g} m =
     (λ i. if not (m.point i) && m.uniform_is i then m.extent_is i else None)
     ∙ box_if (not (is_point_tree g)) (uniform g) (flat g)
-box_is Plain g k own below t m = refl
+box_is {style = Plain} m = refl
 
 size_is : (b : Option Extent) (e : Bool) (n : ℕ) (bytes : List ℕ) → n ≡ length bytes
     → box_len b + (if e then 0 else n) ≡ length (box_bytes b ++ (if e then [] else bytes))
 size_is b true n bytes h = omega (arith, length-append (box_bytes b) [], length-box b)
 size_is b false n bytes h = omega (arith, length-append (box_bytes b) bytes, length-box b)
 
-content_is : (style : Style) (g : Tree) (k : Kind) (own : ℕ) (below : RowTotals) (t : TailTotals)
-    → IsMeasured style g k own below t
-    → box_len (box_for style k (precision_of g) below t) + body_len k own below t ≡ length (content_of style g)
-content_is style g k own below t m =
-    (λ i. box_len (box_is style g k own below t m i)
-    + (if m.bare i then 0 else lead_len k own below + below.bytes + from_origin t))
-    ∙ size_is (bounds_of style g) (is_empty (flags_of_tree g))
-    (lead_len k own below + below.bytes + from_origin t) (body_of style g) m.body
-
 -- the entry of such a row is the geometry's
-pub entry_is : (style : Style) (g : Tree) (k : Kind) (own : ℕ) (below : RowTotals) (t : TailTotals)
+pub entry_is : {style : Style} {g : Tree} {k : Kind} {own : ℕ} {below : RowTotals} {t : TailTotals}
     → IsMeasured style g k own below t
     → entry_for style k (precision_of g) own below t ≡ entry_of style g
-entry_is style g k own below t m = λ i. record {
-  size = content_is style g k own below t m i;
-  bounds = box_is style g k own below t m i;
-  members = m.members i;
-  named = m.named i;
-}
+entry_is {style} {g} {k} {own} {below} {t} m =
+    let body = lead_len k own below + below.bytes + from_origin t in
+    let size : box_len (box_for style k (precision_of g) below t) + body_len k own below t
+    ≡ length (content_of style g) =
+    (λ i. box_len (box_is m i) + (if m.bare i then 0 else body))
+    ∙ size_is (bounds_of style g) (is_empty (flags_of_tree g)) body (body_of style g) m.body in
+    λ i. record { size = size i; bounds = box_is m i; members = m.members i; named = m.named i }

@@ -252,8 +252,7 @@ geometry_counted {style} {d} {g} {k} {May} {under} {add} {ps} {es} id own parts 
     λ rest h. parts.counts rest (may rest h) ∙ ap add (totals_none style (suc d) rest h.above) in
     let points : (rest : List Row) → IsBehind d rest → own ++ points_ahead (under ++ rest) ≡ own ++ ps =
     λ rest h. ap (λ l. own ++ l) (parts.ahead rest (may rest h) ∙ ap (λ l. ps ++ l) h.no_part ∙ append-nil ps) in
-    let entry : entry_for style k p (length own) (add blank) (tail_of (own ++ ps)) ≡ entry_of style g =
-    entry_is style g k (length own) (add blank) (tail_of (own ++ ps)) m in
+    let entry : entry_for style k p (length own) (add blank) (tail_of (own ++ ps)) ≡ entry_of style g = entry_is m in
     record {
       begins = λ rest h. record { above = (let lt : d < suc d = omega arith in lt); no_part = refl };
       counts = λ rest h.

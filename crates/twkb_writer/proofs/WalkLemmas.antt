@@ -230,15 +230,13 @@ rows_step style rows i node is at es =
     let r = node.row in
     let from = way_start r.precision at in
     let left = drop (entry_count r.precision) es in
+    let rest = rest_is rows i node is in
     rw own
     (ap (rows_bytes style at es) is.here
     ∙ append_assoc (lead style r.precision es r.kind r.depth (length is.own) is.rest)
     (way_bytes from is.own) (rows_bytes style (way_end from is.own) left is.rest)
-    ∙ ap (λ (n : ℕ). lead style r.precision es r.kind r.depth n is.rest
-    ++ (way_bytes from is.own ++ rows_bytes style (way_end from is.own) left is.rest)) is.count
-    ∙ ap (λ (rs : List Row). lead style r.precision es r.kind r.depth node.points rs
-    ++ (way_bytes from is.own ++ rows_bytes style (way_end from is.own) left rs))
-    (rest_is rows i node is))
+    ∙ (λ j. lead style r.precision es r.kind r.depth (is.count j) (rest j)
+    ++ (way_bytes from is.own ++ rows_bytes style (way_end from is.own) left (rest j))))
 
 -- the entries of a row, and of the rows after it
 pub entries_step : (rows : List Row) (i : ℕ) (node : Node) → IsNode rows i node
@@ -270,19 +268,13 @@ left_is : (p : Option ℤ) (es : List Entry) (h after : ℕ) → after ≡ h + e
 left_is p es h after e = drop-drop (entry_count p) h es
     ∙ ap (λ (n : ℕ). drop n es) (let same : h + entry_count p ≡ after = omega (arith, e) in same)
 
-own_geometry : (style : Style) (p : ℤ) (es : List Entry) (h : ℕ) (e : Entry) (k : Kind) (d own : ℕ)
-    (rs : List Row) → h < length es → e ≡ get_or es h e
-    → lead style (Some p) (drop h es) k d own rs ≡ geometry_lead style p e k d own rs
-own_geometry style p es h e k d own rs within is =
-    ap (λ (l : List Entry). lead style (Some p) l k d own rs) (drop_more es h e within
-    ∙ ap (λ (x : Entry). x ∷ drop (h + 1) es) (sym is))
-
 -- a row that is a geometry itself has the entry at its place
 pub own_at : (style : Style) (o : Option ℤ) (p : ℤ) (es : List Entry) (h : ℕ) (e : Entry) (k : Kind)
     (d own : ℕ) (rs : List Row) → o ≡ Some p → h < length es → e ≡ get_or es h e
     → lead style o (drop h es) k d own rs ≡ geometry_lead style p e k d own rs
 own_at style o p es h e k d own rs some within is =
-    ap (λ (q : Option ℤ). lead style q (drop h es) k d own rs) some ∙ own_geometry style p es h e k d own rs within is
+    let first = drop_more es h e within ∙ ap (λ (x : Entry). x ∷ drop (h + 1) es) (sym is) in
+    λ i. lead style (some i) (first i) k d own rs
 
 -- there is an entry at this place
 pub room_here : (o : Option ℤ) (p : ℤ) (h n : ℕ) → o ≡ Some p → h + entry_count o ≤ n → h < n
@@ -296,6 +288,7 @@ pub next_rows : (style : Style) (p : Option ℤ) (es : List Entry) (h after : �
     (drop (entry_count p) (drop h es)) rs ≡ way_bytes from ps ++ rows_bytes style last
     (drop after es) rs
 next_rows style p es h after at last from ps rs e f k =
-    ap (λ (q : Point). way_bytes q ps ++ rows_bytes style (way_end q ps) (drop (entry_count p) (drop h es)) rs) (sym f)
-    ∙ ap (λ (q : Point). way_bytes from ps ++ rows_bytes style q (drop (entry_count p) (drop h es)) rs) (sym k)
-    ∙ ap (λ (l : List Entry). way_bytes from ps ++ rows_bytes style last l rs) (left_is p es h after e)
+    let start = sym f in
+    let left = left_is p es h after e in
+    (λ i. way_bytes (start i) ps ++ rows_bytes style (way_end (start i) ps) (left i) rs)
+    ∙ ap (λ (q : Point). way_bytes from ps ++ rows_bytes style q (drop after es) rs) (sym k)

@@ -60,11 +60,7 @@ abbrev pub counts_bytes : Kind → ℕ → ℕ → List ℕ → List ℕ
 counts_bytes kind.Point own members ids = []
 counts_bytes kind.Linestring own members ids = varint_of own
 counts_bytes kind.Ring own members ids = varint_of own
-counts_bytes kind.Polygon own members ids = varint_of members ++ ids
-counts_bytes kind.MultiPoint own members ids = varint_of members ++ ids
-counts_bytes kind.MultiLinestring own members ids = varint_of members ++ ids
-counts_bytes kind.MultiPolygon own members ids = varint_of members ++ ids
-counts_bytes kind.Collection own members ids = varint_of members ++ ids
+counts_bytes _ own members ids = varint_of members ++ ids
 
 -- ---- headers
 

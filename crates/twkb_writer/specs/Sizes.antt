@@ -1,9 +1,8 @@
 -- The numbers of a geometry that its canonical blob needs before its body.
 use Rattle.std.specs.Prelude.{◌≡◌, ℕ, if◌then◌else◌, is_some, List, [], ◌∷◌, ◌++◌, length, Option, None}
 use Rattle.twkb_points.specs.Extent.{Extent, extent}
-use Rattle.twkb_tree.specs.Tree.{Simple, point, line, polygon, multi_point, multi_line}
-use Rattle.twkb_tree.specs.Tree.{multi_polygon, Tree, simple, collection, Trees, end, ◌▷◌, Ids}
-use Rattle.twkb_tree.specs.Tree.{IsTree, count, flat}
+use Rattle.twkb_tree.specs.Tree.{Simple, polygon, multi_point, multi_line, multi_polygon, Tree, simple, collection}
+use Rattle.twkb_tree.specs.Tree.{Trees, end, ◌▷◌, Ids, IsTree, count, flat}
 use Rattle.twkb_tree.specs.Rows.{Row, rows}
 use Rattle.twkb_grammar.specs.Roles.{Count, Geometries}
 use Rattle.twkb_grammar.specs.Items.{fields, id_fields}
@@ -34,12 +33,11 @@ content_of style g = box_bytes (bounds_of style g) ++ own_body style g
 
 -- the number of rings or members of a simple shape
 abbrev pub parts_in : Simple → ℕ
-parts_in (point o) = 0
-parts_in (line ps) = 0
 parts_in (polygon rings) = length rings
 parts_in (multi_point ids ps) = length ps
 parts_in (multi_line ids lines) = length lines
 parts_in (multi_polygon ids areas) = length areas
+parts_in _ = 0
 
 -- the number of rings or members of any geometry
 abbrev pub part_count : Tree → ℕ
@@ -48,12 +46,10 @@ part_count (collection p ids gs) = count gs
 
 -- the ids of a simple shape's members
 abbrev pub ids_in : Simple → Ids
-ids_in (point o) = None
-ids_in (line ps) = None
-ids_in (polygon rings) = None
 ids_in (multi_point ids ps) = ids
 ids_in (multi_line ids lines) = ids
 ids_in (multi_polygon ids areas) = ids
+ids_in _ = None
 
 -- the ids of a geometry's members
 abbrev pub ids_of : Tree → Ids

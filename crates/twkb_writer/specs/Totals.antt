@@ -36,11 +36,7 @@ abbrev pub lead_len : Kind → ℕ → RowTotals → ℕ
 lead_len kind.Point own below = 0
 lead_len kind.Linestring own below = number_len own
 lead_len kind.Ring own below = number_len own
-lead_len kind.Polygon own below = number_len below.members + below.ids
-lead_len kind.MultiPoint own below = number_len below.members + below.ids
-lead_len kind.MultiLinestring own below = number_len below.members + below.ids
-lead_len kind.MultiPolygon own below = number_len below.members + below.ids
-lead_len kind.Collection own below = number_len below.members + below.ids
+lead_len _ own below = number_len below.members + below.ids
 
 -- the row has no points, no members and no components
 abbrev pub is_bare : ℕ → RowTotals → Bool
