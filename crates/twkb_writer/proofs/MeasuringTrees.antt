@@ -2,7 +2,7 @@
 use Rattle.std.proofs.Common.{◌≡◌, ℤ, pos, negsuc, Bool, true, false, refl, sym, ◌∙◌, ap, ℕ, suc, ◌+◌, ◌<◌, List, []}
 use Rattle.std.proofs.Common.{◌∷◌, ◌++◌, length, Option, None, Some, subst, arith, append-nil, length-append, ◌-◌}
 use Rattle.std.specs.Prelude.{◌&&◌, if◌then◌else◌, is_some, ◌||◌, nat_eq, map}
-use Rattle.std.proofs.lemmas.Bool.{eqb-true, eq-eqb}
+use Rattle.std.proofs.lemmas.Bool.{eq-eqb}
 use Rattle.std.proofs.lemmas.Bool.Decides.{nat_tests}
 use Rattle.twkb_num.specs.Zigzag.{zigzag_of}
 use Rattle.twkb_num.specs.Varint.{varint_of}
@@ -44,40 +44,28 @@ use Rattle.twkb_writer.proofs.MeasuringEntries.{IsMeasured, entry_is, blob_lengt
 
 -- ==== The precisions of several geometries, which decide whether there is a box.
 
--- numbers that the test finds equal are equal
-int_eq_is : (m n : ℤ) → int_eq m n ≡ true → m ≡ n
-int_eq_is (pos m) (pos n) h = ap pos (eqb-true m n h)
-int_eq_is (negsuc m) (negsuc n) h = ap negsuc (eqb-true m n h)
-int_eq_is _ _ h = cc
-
 -- a number passes the test with itself
 int_eq_self : (n : ℤ) → int_eq n n ≡ true
 int_eq_self (pos n) = eq-eqb n n refl
 int_eq_self (negsuc n) = eq-eqb n n refl
 
-and_false : (b : Bool) → false ≡ (b && false)
+and_false : (b : Bool) → (b && false) ≡ false
 and_false true = refl
 and_false false = refl
 
-and_self : (b : Bool) → b ≡ (b && b)
-and_self true = refl
-and_self false = refl
-
--- a number is not equal to two numbers that differ
-apart : (p q r : ℤ) (b : Bool) → int_eq p q ≡ b → int_eq q r ≡ false → false ≡ (b && int_eq p r)
-apart p q r true h e = sym (ap (λ z. int_eq z r) (int_eq_is p q h) ∙ e)
-apart p q r false h e = refl
-
-two_ones : (p q r : ℤ) (b : Bool) → int_eq q r ≡ b
-    → all_are p (if b then One q else Several) ≡ (int_eq p q && int_eq p r)
-two_ones p q r true e = and_self (int_eq p q) ∙ ap (λ z. int_eq p q && int_eq p z) (int_eq_is q r e)
-two_ones p q r false e = apart p q r (int_eq p q) refl e
+-- a number is equal to two others, if these two are equal or not
+two_ones : (p q r : ℤ) → all_are p (if int_eq q r then One q else Several) ≡ (int_eq p q && int_eq p r)
+two_ones (pos a) (pos b) (pos c) = grind (arith, nat_tests)
+two_ones (negsuc a) (negsuc b) (negsuc c) = grind (arith, nat_tests)
+two_ones (pos a) (pos b) (negsuc c) = sym (and_false (nat_eq a b))
+two_ones (negsuc a) (negsuc b) (pos c) = sym (and_false (nat_eq a b))
+two_ones _ _ _ = grind (arith, nat_tests)
 
 -- all of both groups have a precision if all of each have it
 pub all_are-agreed : (p : ℤ) (a b : Precisions) → all_are p (agreed a b) ≡ (all_are p a && all_are p b)
 all_are-agreed p (One q) Absent = sym (and_true (int_eq p q))
-all_are-agreed p (One q) (One r) = two_ones p q r (int_eq q r) refl
-all_are-agreed p (One q) Several = and_false (int_eq p q)
+all_are-agreed p (One q) (One r) = two_ones p q r
+all_are-agreed p (One q) Several = sym (and_false (int_eq p q))
 all_are-agreed p _ b = refl
 
 -- the precisions of a geometry and of all members in it
@@ -134,25 +122,18 @@ trees_totals style ids gs = with_each (with_tree style) ids (members gs) blank
 pub tree_counted : (style : Style) → IsCounted (with_tree style)
 tree_counted style = record { members = λ id g l. refl; ids = λ id g l. refl; named = λ id g l. refl }
 
-trees_bytes : (style : Style) (ids : Ids) (gs : Trees)
-    → (trees_totals style ids gs).bytes ≡ length (canonical_members style gs)
-trees_bytes style ids end = refl
-trees_bytes style ids (g ▷ gs) = omega (
-  arith,
-  length-append (canonical_blob style g)
-      (canonical_members style gs),
-  trees_bytes style (other_ids ids) gs,
-)
-
-trees_bounds : (style : Style) (ids : Ids) (gs : Trees) → (trees_totals style ids gs).bounds ≡ extent (flat_all gs)
-trees_bounds style ids end = refl
-trees_bounds style ids (g ▷ gs) = ap (joined_options (extent (flat g)))
-    (trees_bounds style (other_ids ids) gs) ∙ sym (extent-append (flat g) (flat_all gs))
-
-pub trees_precisions : (style : Style) (ids : Ids) (gs : Trees)
-    → (trees_totals style ids gs).precisions ≡ precisions_of_all gs
-trees_precisions style ids end = refl
-trees_precisions style ids (g ▷ gs) = ap (agreed (precisions_of g)) (trees_precisions style (other_ids ids) gs)
+-- the bytes, the bounds and the precisions of the members
+pub trees_sums : (style : Style) (ids : Ids) (gs : Trees)
+    → ((trees_totals style ids gs).bytes ≡ length (canonical_members style gs))
+    × ((trees_totals style ids gs).bounds ≡ extent (flat_all gs))
+    × ((trees_totals style ids gs).precisions ≡ precisions_of_all gs)
+trees_sums style ids end = (refl, refl, refl)
+trees_sums style ids (g ▷ gs) =
+    let more = trees_sums style (other_ids ids) gs in (
+      omega (arith, length-append (canonical_blob style g) (canonical_members style gs), more.0),
+      ap (joined_options (extent (flat g))) more.1 ∙ sym (extent-append (flat g) (flat_all gs)),
+      ap (agreed (precisions_of g)) more.2,
+    )
 
 -- ---- a simple geometry is measured by its parts
 
@@ -211,7 +192,7 @@ body_trees style p ids gs h =
       arith,
       few,
       ids_each (with_tree style) (tree_counted style) ids (members gs) h,
-      trees_bytes style ids gs,
+      (trees_sums style ids gs).0,
       ids_bytes_len ids,
       length-append (varints ((Count (Geometries 0), count gs) ∷ id_fields ids)) (canonical_members style gs),
       length-append (varint_of (count gs)) (varints (id_fields ids)),
@@ -224,8 +205,8 @@ collection_measured style p ids gs h = record {
   point = refl;
   members = members_each (with_tree style) (tree_counted style) ids (members gs) ∙ length-members gs;
   named = named_each (with_tree style) (tree_counted style) ids (members gs) h;
-  extent_is = trees_bounds style ids gs;
-  uniform_is = ap (all_are p) (trees_precisions style ids gs) ∙ all_are-uniform (collection p ids gs);
+  extent_is = (trees_sums style ids gs).1;
+  uniform_is = ap (all_are p) (trees_sums style ids gs).2 ∙ all_are-uniform (collection p ids gs);
   bare = bare_trees style ids gs;
   body = body_trees style p ids gs h;
 }
@@ -290,7 +271,7 @@ mutual
       (λ rest h. record { above = above_less (suc d) rest h.above; no_part = h.no_part })
       (deep-below (suc d) (collection p ids gs))
       (collection_measured style p ids gs (has_members ids gs fits.1))
-      (ap (agreed (One p)) (trees_precisions style ids gs))
+      (ap (agreed (One p)) (trees_sums style ids gs).2)
 
   -- what the rows of members add, one after another
   members_counted : (style : Style) (d : ℕ) (ids : Ids) (gs : Trees) → AreTrees gs
