@@ -18,7 +18,8 @@ use Rattle.twkb_grammar.specs.declared.style.Style.{Style}
 use Rattle.twkb_grammar.specs.Items.{Slot, OfCount, OfId, OfPoint, fields, slots, run_of, rings_of, id_slots, flags}
 use Rattle.twkb_grammar.specs.Items.{members, parts}
 use Rattle.twkb_grammar.specs.Roles.{Counted, Points, Components}
-use Rattle.twkb_grammar.specs.Written.{varints, is_empty}
+use Rattle.twkb_flat.proofs.BuildLemmas.{AreFor}
+use Rattle.twkb_grammar.specs.Written.{varints, is_empty, has_any}
 use Rattle.twkb_grammar.proofs.Bodies.{steps, slot_points, fields_are, points_are}
 use Rattle.twkb_writer.specs.declared.sizes.Entry.{Entry}
 use Rattle.twkb_writer.specs.declared.totals.RowTotals.{RowTotals}
@@ -196,51 +197,34 @@ pub record IsCounted {A : Type 0} (w : Option ℤ → A → RowTotals → RowTot
   pub ids : (id : Option ℤ) (x : A) (l : RowTotals) → (w id x l).ids ≡ id_len id + l.ids
   pub named : (id : Option ℤ) (x : A) (l : RowTotals) → (w id x l).named ≡ (is_some id || l.named)
 
--- there are as many members as parts
-pub members_each : {A : Type 0} (w : Option ℤ → A → RowTotals → RowTotals) → IsCounted w
-    → (ids : Ids) (xs : List A) → (with_each w ids xs blank).members ≡ length xs
-members_each w counted ids [] = refl
-members_each w counted ids (x ∷ xs) =
-    omega (
-      arith,
-      counted.members (first_id ids) x (with_each w (other_ids ids) xs blank),
-      members_each w counted (other_ids ids) xs,
+-- there are as many members as parts, with the bytes of the parts' ids
+listed_each : {A : Type 0} (w : Option ℤ → A → RowTotals → RowTotals) → IsCounted w → (ids : Ids) (xs : List A)
+    → AreFor ids (length xs)
+    → ((with_each w ids xs blank).members ≡ length xs) × ((with_each w ids xs blank).ids ≡ ids_len ids)
+    × ((with_each w ids xs blank).named ≡ (is_some ids && has_any xs))
+listed_each w counted None [] e = (refl, refl, refl)
+listed_each w counted None (x ∷ xs) e =
+    let l = with_each w None xs blank in
+    let (members, bytes, named) = listed_each w counted None xs e in
+    (omega (arith, counted.members None x l), omega (arith, counted.ids None x l), counted.named None x l ∙ named)
+listed_each w counted (Some []) [] e = (refl, refl, refl)
+listed_each w counted (Some (id ∷ ids)) (x ∷ xs) e =
+    let l = with_each w (Some ids) xs blank in
+    let (members, bytes, named) = listed_each w counted (Some ids) xs (omega (arith, e)) in (
+      omega (arith, counted.members (Some id) x l),
+      counted.ids (Some id) x l ∙ ap (λ n. signed_len id + n) bytes,
+      counted.named (Some id) x l,
     )
+listed_each w counted _ _ e = absurd (omega (arith, e))
 
-no_ids_each : {A : Type 0} (w : Option ℤ → A → RowTotals → RowTotals) → IsCounted w → (xs : List A)
-    → (with_each w None xs blank).ids ≡ 0
-no_ids_each w counted [] = refl
-no_ids_each w counted (x ∷ xs) = omega (arith, counted.ids None x (with_each w None xs blank), no_ids_each w counted xs)
-
-some_ids_each : {A : Type 0} (w : Option ℤ → A → RowTotals → RowTotals) → IsCounted w
-    → (ids : List ℤ) (xs : List A) → length ids ≡ length xs
-    → (with_each w (Some ids) xs blank).ids ≡ ids_sum ids
-some_ids_each w counted [] [] e = refl
-some_ids_each w counted (id ∷ ids) (x ∷ xs) e =
-    counted.ids (Some id) x (with_each w (Some ids) xs blank)
-    ∙ ap (λ n. signed_len id + n) (some_ids_each w counted ids xs (omega (arith, e)))
-some_ids_each w counted _ _ e = absurd (omega (arith, e))
-
--- the bytes of the ids are those of the parts' ids
-pub ids_each : {A : Type 0} (w : Option ℤ → A → RowTotals → RowTotals) → IsCounted w
-    → (ids : Ids) (xs : List A) → HasIds ids (length xs)
-    → (with_each w ids xs blank).ids ≡ ids_len ids
-ids_each w counted None xs h = no_ids_each w counted xs
-ids_each w counted (Some ids) xs h = some_ids_each w counted ids xs h.1
-
-no_names_each : {A : Type 0} (w : Option ℤ → A → RowTotals → RowTotals) → IsCounted w → (xs : List A)
-    → (with_each w None xs blank).named ≡ false
-no_names_each w counted [] = refl
-no_names_each w counted (x ∷ xs) = counted.named None x (with_each w None xs blank) ∙ no_names_each w counted xs
-
--- the members have ids exactly if the parts have
-pub named_each : {A : Type 0} (w : Option ℤ → A → RowTotals → RowTotals) → IsCounted w
-    → (ids : Ids) (xs : List A) → HasIds ids (length xs)
-    → (with_each w ids xs blank).named ≡ is_some ids
-named_each w counted None xs h = no_names_each w counted xs
-named_each w counted (Some []) xs h = absurd (omega (arith, h.0, h.1))
-named_each w counted (Some (id ∷ ids)) [] h = absurd (omega (arith, h.0))
-named_each w counted (Some (id ∷ ids)) (x ∷ xs) h = counted.named (Some id) x (with_each w (Some ids) xs blank)
+-- the same of members that all have ids, or none
+pub members_listed : {A : Type 0} (w : Option ℤ → A → RowTotals → RowTotals) → IsCounted w → (ids : Ids)
+    (xs : List A) → HasIds ids (length xs)
+    → ((with_each w ids xs blank).members ≡ length xs) × ((with_each w ids xs blank).ids ≡ ids_len ids)
+    × ((with_each w ids xs blank).named ≡ is_some ids)
+members_listed w counted None xs h = listed_each w counted None xs tt
+members_listed w counted (Some ids) [] h = absurd (omega (arith, h.0))
+members_listed w counted (Some ids) (x ∷ xs) h = listed_each w counted (Some ids) (x ∷ xs) h.1
 
 -- ==== The length of a simple geometry's body, from its rows.
 
@@ -351,11 +335,12 @@ total_each k own below ms is ids xs h =
       ids = λ id x l. refl;
       named = λ id x l. refl;
     } in
+    let listed = members_listed (with_part k own below) counted ids xs h in
     let sums = sums_each k own below ms is ids xs in
     record {
-      members = members_each (with_part k own below) counted ids xs;
-      ids_are = ids_each (with_part k own below) counted ids xs h;
-      named = named_each (with_part k own below) counted ids xs h;
+      members = listed.0;
+      ids_are = listed.1;
+      named = listed.2;
       bytes_are = sums.0;
       no_bounds = sums.1;
       no_precisions = sums.2;

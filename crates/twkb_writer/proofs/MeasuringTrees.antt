@@ -31,14 +31,14 @@ use Rattle.twkb_writer.specs.declared.totals.RowTotals.{RowTotals}
 use Rattle.twkb_writer.specs.declared.sizes.Entry.{Entry}
 use Rattle.twkb_writer.specs.Totals.{blank, id_len, is_bare, entry_for, blob_len, is_point as is_point_kind}
 use Rattle.twkb_writer.specs.MeasuredRows.{totals, measured, points_ahead, row_totals}
-use Rattle.twkb_writer.specs.Sizes.{entry_of, sizes_of, sizes_of_all, body_of}
+use Rattle.twkb_writer.specs.Sizes.{entry_of, sizes_of, sizes_of_all}
 use Rattle.twkb_writer.specs.Tails.{number_len, tail_of}
 use Rattle.twkb_writer.proofs.MeasuringSteps.{totals_at, totals_none, totals_past}
 use Rattle.twkb_writer.proofs.BelowLemmas.{deep-below}
 use Rattle.twkb_writer.proofs.MeasuringParts.{with_each, components_totals, AreCounted, counted_none, counted_join}
-use Rattle.twkb_writer.proofs.MeasuringParts.{parts_counted, all_points, IsCounted, members_each, ids_each}
-use Rattle.twkb_writer.proofs.MeasuringParts.{named_each, ids_sum, ids_len, length-number, length-fields}
-use Rattle.twkb_writer.proofs.MeasuringParts.{from_origin-tail_of, total_parts, and_true, lead_parts, bare_shape}
+use Rattle.twkb_writer.proofs.MeasuringParts.{parts_counted, all_points, IsCounted, members_listed, ids_sum, ids_len}
+use Rattle.twkb_writer.proofs.MeasuringParts.{length-number, length-fields, from_origin-tail_of, total_parts}
+use Rattle.twkb_writer.proofs.MeasuringParts.{and_true, lead_parts, bare_shape}
 use Rattle.twkb_writer.proofs.TreeBytes.{length-members, has_members}
 use Rattle.twkb_writer.proofs.MeasuringEntries.{IsMeasured, entry_is, blob_length}
 
@@ -119,9 +119,6 @@ with_tree style id g l = record {
 abbrev pub trees_totals : Style → Ids → Trees → RowTotals
 trees_totals style ids gs = with_each (with_tree style) ids (members gs) blank
 
-pub tree_counted : (style : Style) → IsCounted (with_tree style)
-tree_counted style = record { members = λ id g l. refl; ids = λ id g l. refl; named = λ id g l. refl }
-
 -- the bytes, the bounds and the precisions of the members
 pub trees_sums : (style : Style) (ids : Ids) (gs : Trees)
     → ((trees_totals style ids gs).bytes ≡ length (canonical_members style gs))
@@ -181,35 +178,34 @@ bare_trees style ids end = refl
 bare_trees style None (g ▷ gs) = nat_eq_more (trees_totals style None gs).members
 bare_trees style (Some ids) (g ▷ gs) = nat_eq_more (trees_totals style (other_ids (Some ids)) gs).members
 
-body_trees : (style : Style) (p : ℤ) (ids : Ids) (gs : Trees) → HasIds ids (length (members gs))
-    → number_len (trees_totals style ids gs).members + (trees_totals style ids gs).ids
-    + (trees_totals style ids gs).bytes + 0 ≡ length (body_of style (collection p ids gs))
-body_trees style p ids gs h =
-    let few : number_len (trees_totals style ids gs).members ≡ number_len (count gs) = ap number_len
-    (members_each (with_tree style) (tree_counted style) ids (members gs)
-    ∙ length-members gs) in
-    omega (
-      arith,
-      few,
-      ids_each (with_tree style) (tree_counted style) ids (members gs) h,
-      (trees_sums style ids gs).0,
-      ids_bytes_len ids,
-      length-append (varints ((Count (Geometries 0), count gs) ∷ id_fields ids)) (canonical_members style gs),
-      length-append (varint_of (count gs)) (varints (id_fields ids)),
-      length-number (count gs),
-    )
-
-pub collection_measured : (style : Style) (p : ℤ) (ids : Ids) (gs : Trees) → HasIds ids (length (members gs))
+collection_measured : (style : Style) (p : ℤ) (ids : Ids) (gs : Trees) → HasIds ids (count gs)
     → IsMeasured style (collection p ids gs) kinds.Collection 0 (trees_totals style ids gs) (tail_of [])
-collection_measured style p ids gs h = record {
-  point = refl;
-  members = members_each (with_tree style) (tree_counted style) ids (members gs) ∙ length-members gs;
-  named = named_each (with_tree style) (tree_counted style) ids (members gs) h;
-  extent_is = (trees_sums style ids gs).1;
-  uniform_is = ap (all_are p) (trees_sums style ids gs).2 ∙ all_are-uniform (collection p ids gs);
-  bare = bare_trees style ids gs;
-  body = body_trees style p ids gs h;
-}
+collection_measured style p ids gs h =
+    let counted : IsCounted (with_tree style) = record {
+      members = λ id g l. refl;
+      ids = λ id g l. refl;
+      named = λ id g l. refl;
+    } in
+    let listed = members_listed (with_tree style) counted ids (members gs) (has_members ids gs h) in
+    let few = listed.0 ∙ length-members gs in
+    record {
+      point = refl;
+      members = few;
+      named = listed.2;
+      extent_is = (trees_sums style ids gs).1;
+      uniform_is = ap (all_are p) (trees_sums style ids gs).2 ∙ all_are-uniform (collection p ids gs);
+      bare = bare_trees style ids gs;
+      body = omega (
+        arith,
+        ap number_len few,
+        listed.1,
+        (trees_sums style ids gs).0,
+        ids_bytes_len ids,
+        length-append (varints ((Count (Geometries 0), count gs) ∷ id_fields ids)) (canonical_members style gs),
+        length-append (varint_of (count gs)) (varints (id_fields ids)),
+        length-number (count gs),
+      );
+    }
 
 -- ---- the rows of a geometry, one after the other
 
@@ -270,7 +266,7 @@ mutual
       geometry_counted id [] (members_counted style (suc d) ids gs fits.2)
       (λ rest h. record { above = above_less (suc d) rest h.above; no_part = h.no_part })
       (deep-below (suc d) (collection p ids gs))
-      (collection_measured style p ids gs (has_members ids gs fits.1))
+      (collection_measured style p ids gs fits.1)
       (ap (agreed (One p)) (trees_sums style ids gs).2)
 
   -- what the rows of members add, one after another
