@@ -96,10 +96,8 @@ pass_step style rows total back node by_depth new tail points before e es kept s
     let there : total - 1 - back ≡ total - (back + 1) = omega arith in
     let step = pass_back style rows (total - 1 - back) node by_depth new tail points e es fit is
     (subst (λ n. Pass style (drop n rows) by_depth tail es) here pass) found short row in
-    subst (λ n. Pass style (drop n rows) new before kept) there
-    (subst (λ (l : List Entry). Pass style (drop (total - 1 - back) rows) new before l) (sym kept_are)
-    (subst (λ (t : TailTotals). Pass style (drop (total - 1 - back) rows) new t (es ++ option_list e))
-    (sym tail_is) step))
+    rw (tail_is, kept_are) (subst (λ n. Pass style (drop n rows) new (tail_after node.row.precision points)
+    (es ++ option_list e)) there step)
 
 -- the number of points from a node on
 pub points_back : (rows : List Row) (total back : ℕ) (node : Node) → back < total → IsNode rows (total - 1 - back) node
@@ -204,13 +202,13 @@ measured_one : (style : Style) (rs : List Row) (node : Node) (is : IsNode rs 0 n
     → measured style rs ≡ option_list (row_entry style node.row.kind node.points node.row.precision
     blank (tail_of is.own))
 measured_one style rs node is one =
-    let entry_with = λ (n : ℕ) (ps : List Point).
-    option_list (row_entry style node.row.kind n node.row.precision blank (tail_of ps)) in
+    let none = none_behind rs node is one in
+    let own = append-nil is.own in
     ap (measured style) is.here
-    ∙ ap (λ (more : List Row). measured style (row_with node.row is.own ∷ more)) (none_behind rs node is one)
-    ∙ append-nil (entry_with (length is.own) (is.own ++ []))
-    ∙ ap (λ (n : ℕ). entry_with n (is.own ++ [])) is.count
-    ∙ ap (λ (ps : List Point). entry_with node.points ps) (append-nil is.own)
+    ∙ ap (λ (more : List Row). measured style (row_with node.row is.own ∷ more)) none
+    ∙ append-nil (option_list (row_entry style node.row.kind (length is.own) node.row.precision blank
+    (tail_of (is.own ++ []))))
+    ∙ (λ i. option_list (row_entry style node.row.kind (is.count i) node.row.precision blank (tail_of (own i))))
 
 -- the entry of the only node is all sizes
 pub sizes_of_one : (style : Style) (rs : List Row) (node : Node) (p : ℤ) (below : RowTotals)
@@ -219,10 +217,7 @@ pub sizes_of_one : (style : Style) (rs : List Row) (node : Node) (p : ℤ) (belo
     → points ≡ tail_of is.own → e ≡ entry_for style node.row.kind p node.points below points
     → AreSizes style rs (e ∷ [])
 sizes_of_one style rs node p below points e valid one is whole no_rows points_are entry_is =
-    let entry : e ≡ entry_for style node.row.kind p node.points blank (tail_of is.own) =
-    entry_is
-    ∙ ap (λ (l : RowTotals). entry_for style node.row.kind p node.points l points) no_rows
-    ∙ ap (λ (t : TailTotals). entry_for style node.row.kind p node.points blank t) points_are in
+    let entry = entry_is ∙ (λ i. entry_for style node.row.kind p node.points (no_rows i) (points_are i)) in
     sizes_are style rs (e ∷ []) valid
     (ap (λ (x : Entry). x ∷ []) entry
     ∙ ap (λ (q : Option ℤ). option_list (row_entry style node.row.kind node.points q blank
@@ -236,9 +231,8 @@ pub sizes_of_point : (style : Style) (rs : List Row) (node : Node) (p : ℤ) (q 
     → slice_get (row_points rs) node.first.0 ≡ Some q
     → e ≡ entry_for style kind.Point p 1 blank (tail_of (q ∷ [])) → AreSizes style rs (e ∷ [])
 sizes_of_point style rs node p q e valid one is whole is_point read entry_is =
+    let kind_is = sym is_point.0 in
+    let points_is = sym is_point.1 in
+    let own = sym (only_point rs node is q is_point.1 read) in
     sizes_of_one style rs node p blank (tail_of is.own) e valid one is whole refl refl
-    (entry_is
-    ∙ ap (λ k. entry_for style k p 1 blank (tail_of (q ∷ []))) (sym is_point.0)
-    ∙ ap (λ (n : ℕ). entry_for style node.row.kind p n blank (tail_of (q ∷ []))) (sym is_point.1)
-    ∙ ap (λ (ps : List Point). entry_for style node.row.kind p node.points blank (tail_of ps))
-    (sym (only_point rs node is q is_point.1 read)))
+    (entry_is ∙ (λ i. entry_for style (kind_is i) p (points_is i) blank (tail_of (own i))))

@@ -68,8 +68,8 @@ pub type_is : (id : Option ℤ) (d : ℕ) (g : Tree) → IsTree g
     → type_byte (own_row id d g).kind (precision_of g) ≡ header_byte (kind_of_tree g)
     (precision_of g)
 type_is id d g t =
-    ap (λ n. n + 16 * (zigzag_of (precision_of g) % 16)) (tree_type id d g)
-    ∙ ap (λ n. kind_of_tree g + 16 * n) (precision_bits (precision_of g) (tree_precision g t))
+    let bits = precision_bits (precision_of g) (tree_precision g t) in
+    λ i. tree_type id d g i + 16 * bits i
 
 -- ---- box
 
@@ -158,8 +158,7 @@ pub meta_is : (style : Style) (id : Option ℤ) (d : ℕ) (g : Tree)
 meta_is Full id d g =
     let own = length (own_row id d g).points in
     full_bits (is_bare own (entry_of Full g)) (entry_of Full g).named (bounds_of Full g)
-    ∙ (ap (λ n. n + (box_bit (bounds_of Full g) + 2)) (tree_bits Full id d g)
-    ∙ ap (λ n. flag_bits (flags_of_tree g) + (n + 2)) (bit_where (boxed g) (flat g) (boxed_any g)))
+    ∙ (λ i. tree_bits Full id d g i + (bit_where (boxed g) (flat g) (boxed_any g) i + 2))
 meta_is Plain id d g =
     let own = length (own_row id d g).points in
     plain_bits (is_bare own (entry_of Plain g)) (entry_of Plain g).named ∙ tree_bits Plain id d g
@@ -182,15 +181,7 @@ blob_is style (collection p ids gs) = refl
 pub headed : (style : Style) (id : Option ℤ) (d : ℕ) (g : Tree) → IsTree g
     → header style (own_row id d g).kind (precision_of g) (length (own_row id d g).points)
     (entry_of style g) ++ own_body style g ≡ canonical_blob style g
-headed style id d g t =
-    let own = length (own_row id d g).points in
-    ap (λ (n : ℕ). n ∷ metadata_of style own (entry_of style g)
-    ∷ ((size_bytes style (entry_of style g) ++ box_bytes (bounds_of style g)) ++ own_body style
-    g)) (type_is id d g t)
-    ∙ ap (λ (n : ℕ). header_byte (kind_of_tree g) (precision_of g) ∷ n
-    ∷ ((size_bytes style (entry_of style g) ++ box_bytes (bounds_of style g)) ++ own_body style g))
-    (meta_is style id d g)
-    ∙ ap (λ (l : List ℕ). header_byte (kind_of_tree g) (precision_of g) ∷ metadata_byte style g ∷ l) (framed_is style g)
+headed style id d g t = (λ i. type_is id d g t i ∷ meta_is style id d g i ∷ framed_is style g i)
     ∙ sym (blob_is style g)
 
 -- ==== The bytes of the rows that are parts of a geometry.
@@ -434,13 +425,6 @@ simple_body style p _ d es rs fit above = refl
 
 -- ---- geometries
 
--- header, body and what follows
-pub lead_join : (h b w x body t blob : List ℕ) → b ++ (w ++ x) ≡ body ++ t → h ++ body ≡ blob
-    → ((h ++ b) ++ w) ++ x ≡ blob ++ t
-lead_join h b w x body t blob e f =
-    append_assoc (h ++ b) w x ∙ append_assoc h b (w ++ x) ∙ ap (λ l. h ++ l) e
-    ∙ sym (append_assoc h body t) ∙ ap (λ l. l ++ t) f
-
 -- the members as a list are as many as the members
 pub length-members : (gs : Trees) → length (members gs) ≡ count gs
 length-members end = refl
@@ -484,9 +468,12 @@ geometry_spelled : (style : Style) (g : Tree) (k : Kind) (p : ℤ) (id : Option 
     ++ rows_bytes style (way_end origin own) es below) ≡ own_body style g ++ t
     → rows_bytes style at (entry_of style g ∷ es) (whole_row d k id p own ∷ below) ≡ canonical_blob style g ++ t
 geometry_spelled style g k p id d own at es below t head put =
-    lead_join (header style k p (length own) (entry_of style g)) (counts_of style g k d (length own) below)
-    (way_bytes origin own) (rows_bytes style (way_end origin own) es below) (own_body style g) t
-    (canonical_blob style g) put head
+    let h = header style k p (length own) (entry_of style g) in
+    let counts = counts_of style g k d (length own) below in
+    let way = way_bytes origin own in
+    let rest = rows_bytes style (way_end origin own) es below in
+    append_assoc (h ++ counts) way rest ∙ append_assoc h counts (way ++ rest) ∙ ap (λ l. h ++ l) put
+    ∙ sym (append_assoc h (own_body style g) t) ∙ ap (λ l. l ++ t) head
 
 mutual
   -- the bytes of a geometry's rows are its canonical blob, and other rows go on from some point

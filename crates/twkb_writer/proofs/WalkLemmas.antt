@@ -257,10 +257,9 @@ walks_step rows i node is = ap walks is.here
 pub points_step : (rows : List Row) (i : ℕ) (node : Node) → IsNode rows i node
     → length (row_points (drop i rows)) ≡ node.points + length (row_points (drop (i + 1) rows))
 points_step rows i node is =
+    let rest = rest_is rows i node is in
     ap (λ (rs : List Row). length (row_points rs)) is.here
-    ∙ length-append is.own (row_points is.rest)
-    ∙ ap (λ (n : ℕ). n + length (row_points is.rest)) is.count
-    ∙ ap (λ (rs : List Row). node.points + length (row_points rs)) (rest_is rows i node is)
+    ∙ length-append is.own (row_points is.rest) ∙ (λ j. is.count j + length (row_points (rest j)))
 
 -- the entries that are left
 left_is : (p : Option ℤ) (es : List Entry) (h after : ℕ) → after ≡ h + entry_count p
