@@ -20,7 +20,7 @@ use Rattle.twkb_grammar.proofs.Parts.{one_blob_lem, peel, runs_split, runs_same}
 use Rattle.twkb_grammar.proofs.Running.{part_ran, ran_part}
 use Rattle.twkb_grammar.proofs.OneFault.{Beyond, Compared, longer, shorter, same, two_fronts, part_front}
 use Rattle.twkb_grammar.proofs.OneFault.{none_beyond_fault}
-use Rattle.twkb_grammar.proofs.Streams.{first_item, no_stream, one_stream_fault}
+use Rattle.twkb_grammar.proofs.Streams.{no_items, no_stream, one_stream_fault, same_front}
 use Rattle.twkb_grammar.proofs.Frames.{reached_frames}
 use Rattle.twkb_grammar.proofs.Standing.{none_longer}
 use Rattle.twkb_body.specs.Reading.{open_count}
@@ -101,11 +101,6 @@ part_open : (limits : Allowance) (is : List Item) → Part limits is → AreOpen
 part_open limits is part = open_behind limits [] is part refl
 
 -- ---- what an engine holds and has begun
-
--- no bytes have no items
-pub no_items : (is : List Item) (st : Stack) → Runs nothing started is st → join is ≡ [] → is ≡ []
-no_items [] st r e = refl
-no_items (i ∷ is) st r e = absurd (first_item i is st r e)
 
 -- the geometries that are begun are those of the items that were taken
 frames_are : (bs : List ℕ) (rs : List Row) (d : Engine) (s : StandsAt bs rs d)
@@ -242,17 +237,6 @@ whole_or_cut limits bytes gs hs offset s f =
     no_stream limits f.front f.rest hs gs f.within Truncated f.blobs f.first.fault
     (subst (λ l. Stream limits l gs) f.whole s)
 
--- the same blobs in front of the same bytes
-same_blobs : (limits : Allowance) (gs : List Tree) (a b x y : List ℕ) → Stream limits a gs
-    → Stream limits b gs → a ++ x ≡ b ++ y → a ≡ b
-same_blobs limits [] a b x y s t e = s ∙ sym t
-same_blobs limits (g ∷ gs) a b x y s t e =
-    let whole : s.0 ++ (s.1 ++ x) ≡ t.0 ++ (t.1 ++ y) = sym (append_assoc s.0 s.1 x)
-    ∙ (ap (λ l. l ++ x) (sym s.2) ∙ (e ∙ (ap (λ l. l ++ y) t.2 ∙ append_assoc t.0 t.1 y))) in
-    let one = one_blob_lem limits s.0 t.0 (s.1 ++ x) (t.1 ++ y) g g s.3 t.3 whole in
-    let rest = same_blobs limits gs s.1 t.1 x y s.4 t.4 (peel s.0 t.0 (s.1 ++ x) (t.1 ++ y) one.1 whole) in
-    s.2 ∙ (ap (λ l. l ++ s.1) one.1 ∙ (ap (λ l. t.0 ++ l) rest ∙ sym t.2))
-
 -- one number of bytes
 pub one_held : (limits : Allowance) (bytes : List ℕ) (gs hs : List Tree) (m n : ℕ)
     → HeldOf limits bytes gs m → HeldOf limits bytes hs n → m ≡ n
@@ -269,10 +253,9 @@ one_frames limits bytes gs hs m n (inl a) (inl b) = a.1 ∙ sym b.1
 one_frames limits bytes gs hs m n (inl a) (inr b) = absurd (whole_or_cut limits bytes gs hs b.0 a.0 b.1)
 one_frames limits bytes gs hs m n (inr a) (inl b) = absurd (whole_or_cut limits bytes hs gs a.0 b.0 a.1)
 one_frames limits bytes gs hs m n (inr (o, a, many)) (inr (p, b, much)) =
-    let one = one_stream_fault limits bytes gs hs o p Truncated Truncated a b in
     let here : a.front ++ a.rest ≡ b.front ++ b.rest = sym a.whole ∙ b.whole in
-    let front : a.front ≡ b.front = same_blobs limits hs a.front b.front a.rest b.rest
-    (subst (λ l. Stream limits a.front l) one.0 a.blobs) b.blobs here in
+    let front : a.front ≡ b.front = (same_front limits a.front b.front a.rest b.rest gs hs a.within b.within Truncated
+    Truncated a.blobs b.blobs a.first b.first here).1 in
     let x = a.first.fault in
     let y = b.first.fault in
     let at : join y.before ++ y.rest ≡ a.rest = sym (peel a.front b.front a.rest b.rest front here ∙ y.split) in

@@ -5,19 +5,19 @@ use Rattle.std.proofs.Common.{inr, ◌≤◌}
 use Rattle.std.specs.Prelude.{ℤ, map, if◌then◌else◌, Ok, reverse, ◌⊎◌, ◌&&◌, ◌≢◌, Result, Err}
 use Rattle.std.proofs.lemmas.List.{length-map}
 use Rattle.twkb_num.specs.Zigzag.{unzigzag_of}
-use Rattle.twkb_points.specs.Point.{Point, origin}
+use Rattle.twkb_points.specs.Point.{Point, origin, IsInRange}
 use Rattle.twkb_tree.specs.Tree.{Ids, Tree, Trees, end, ◌▷◌, collection}
 use Rattle.twkb_tree.specs.Rows.{Row, whole_row, first_id, other_ids, rows_with, member_rows, rows, plain_row}
 use Rattle.twkb_tree.specs.Rows.{rows_of_each, ring_rows, polygon_rows}
 use Rattle.twkb_tree.specs.declared.kind.Kind.TheVariants as kinds
 use Rattle.twkb_tree.specs.Limits.{Allowance, IsValid, IsAllowance, largest_limits}
-use Rattle.twkb_tree.specs.Admits.{points_fit, fits, is_geometry, has_place, id_in_range, id_allowed, has_same_ids}
-use Rattle.twkb_tree.specs.Admits.{precision_in_range, precision_fits, steps_to, parent, first_child}
+use Rattle.twkb_tree.specs.Admits.{steps_to, parent, first_child}
 use Rattle.twkb_tree.specs.Accepted.{Accepts, IsOneRoot, Continues}
 use Rattle.twkb_tree.specs.RowLists.{AreValidRowsOfOne}
 use Rattle.twkb_tree.specs.RowGrowth.{with_point, point_added, EndsInLine}
 use Rattle.twkb_tree.specs.declared.kind.Kind as row
 use Rattle.twkb_tree.proofs.PointAdded.{point_last}
+use Rattle.twkb_tree.proofs.PointMore.{fits_same}
 use Rattle.twkb_tree.proofs.LimitLaws.{continued, continues_row, one_valid_front, continues_largest}
 use Rattle.twkb_grammar.specs.Bits.{bit}
 use Rattle.twkb_grammar.specs.Roles.{Role, Extended, Size, Count, End, Item, IsNumber}
@@ -36,14 +36,14 @@ use Rattle.twkb_grammar.specs.Blob.{Blob}
 use Rattle.twkb_grammar.specs.Noting.{Notes, no_notes, noted, noted_by}
 use Rattle.twkb_grammar.proofs.Parts.{runs_split, runs_same}
 use Rattle.twkb_grammar.proofs.Trees.{tree_runs}
-use Rattle.twkb_grammar.proofs.Refusing.{all_front}
+use Rattle.twkb_tree.proofs.AllJoined.{all_apart}
 use Rattle.twkb_grammar.proofs.Running.{ran_part, reached_nothing, reached_bytes, reached_on, landed, leads}
 use Rattle.twkb_grammar.proofs.Running.{reached_blob, reached_cut, reached_long, reached_end}
 use Rattle.twkb_grammar.proofs.NotedSpans.{noted-append}
 use Rattle.twkb_grammar.proofs.OneFault.{reached_part, NoEnd, no_size_wrong}
 use Rattle.twkb_grammar.proofs.Frames.{reached_depth}
 use Rattle.twkb_body.specs.Outline.{ids_after, frame_outline, stage_of, outline_of, ids_behind, body_stage, OnHeader}
-use Rattle.twkb_body.specs.Outline.{OnFinished, Outline, lefts_of, outline_role, outline_in, outline_ends, FrameOutline}
+use Rattle.twkb_body.specs.Outline.{OnFinished, Outline, outline_role, outline_in, outline_ends, FrameOutline}
 use Rattle.twkb_body.specs.Growing.{id_within, frame_rows, phase_rows, rows_so_far, Nothing, NewRow, applied, own_of}
 use Rattle.twkb_body.specs.Growing.{header_change, kind_with, count_change, stage_change, id_in, change_of, value_rows}
 use Rattle.twkb_body.specs.Growing.{cut_before, Change, NewPoint, Takes}
@@ -221,29 +221,6 @@ stack_grows p bytes n fs ph = item_grows p bytes n fs ph
 
 -- ---- a line with one point less
 
-fits_fewer : (k : row.Kind) (whole : Bool) (ps : List Point) → (k ≡ kinds.Linestring)
-    ⊎ (k ≡ kinds.Ring) → points_fit k whole ps ≡ true
-fits_fewer k whole ps (inl e) = subst (λ k. points_fit k whole ps ≡ true) (sym e) (go whole ps)
-  where
-    go : (whole : Bool) (ps : List Point) → points_fit kinds.Linestring whole ps ≡ true
-    go true [] = refl
-    go false [] = refl
-    go whole (p ∷ ps) = refl
-fits_fewer k whole ps (inr e) = subst (λ k. points_fit k whole ps ≡ true) (sym e) (go whole ps)
-  where
-    go : (whole : Bool) (ps : List Point) → points_fit kinds.Ring whole ps ≡ true
-    go true [] = refl
-    go false [] = refl
-    go whole (p ∷ ps) = refl
-
-fits_same : (p f : Option Row) (r : Row) (q : Point) → (r.kind ≡ kinds.Linestring)
-    ⊎ (r.kind ≡ kinds.Ring) → fits p f r ≡ fits p f (with_point r q)
-fits_same p f r q line =
-    ap (λ b. has_place p r.kind && id_in_range r.id && id_allowed p r.kind r.id && has_same_ids f
-    r.id && precision_in_range r.precision && precision_fits p r.precision && b)
-    (fits_fewer r.kind (is_geometry p) r.points line
-    ∙ sym (fits_fewer r.kind (is_geometry p) (r.points ++ q ∷ []) line))
-
 accepts_fewer : (l : Allowance) (before : List Row) (r : Row) (q : Point)
     → (r.kind ≡ kinds.Linestring) ⊎ (r.kind ≡ kinds.Ring) → Accepts l before (with_point r q)
     → Accepts l before r
@@ -252,7 +229,7 @@ accepts_fewer l before r q line a = record {
       (fits_same (parent r.depth before) (first_child r.depth before) r q line) ∙ a.admitted;
   nest = a.nest;
   nodes = a.nodes;
-  in_range = (all_front r.points (q ∷ []) a.in_range).0;
+  in_range = (all_apart IsInRange r.points (q ∷ []) a.in_range).0;
   points = omega (arith, a.points, length-append r.points (q ∷ []));
 }
 

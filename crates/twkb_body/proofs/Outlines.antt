@@ -1,6 +1,6 @@
 -- The outline after an item, and the change that the item makes to the rows.
 use Rattle.std.proofs.Common.{◌≡◌, ℕ, zero, suc, ◌-◌, Bool, true, false, List, [], ◌∷◌, ◌++◌, refl, ◌∙◌, ap, Some, None}
-use Rattle.std.proofs.Common.{◌≤◌, sym, arith, append_assoc, append-nil, Option}
+use Rattle.std.proofs.Common.{sym, arith, append_assoc, append-nil, Option}
 use Rattle.std.specs.Prelude.{map, if◌then◌else◌, Ok, ℤ, ◌+◌, length}
 use Rattle.twkb_num.specs.Zigzag.{unzigzag_of}
 use Rattle.twkb_points.specs.Point.{Point}

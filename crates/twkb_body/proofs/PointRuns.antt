@@ -4,7 +4,6 @@ use Rattle.std.proofs.Common.{◌≡◌, ℕ, zero, suc, ◌+◌, ◌-◌, ◌�
 use Rattle.std.proofs.Common.{Err, OnErr, arith, ◌<◌, [], ◌∷◌, refl, sym, ap, ◌∙◌, length-append}
 use Rattle.std.proofs.lemmas.List.{length-take-le, take-take, take-append-le, take_all, take_rest}
 use Rattle.std.specs.Prelude.{Option, ℤ, IsErr}
-use Rattle.twkb_num.specs.Varint.{HasMarks}
 use Rattle.twkb_num.specs.Zigzag.{unzigzag_of}
 use Rattle.twkb_points.specs.Point.{Point}
 use Rattle.twkb_points.specs.Steps.{AreStepsTo, last_of, varint_step}
@@ -21,8 +20,8 @@ use Rattle.twkb_grammar.specs.Fault.{Reason}
 use Rattle.twkb_grammar.specs.Machine.{Sums, BodyForm, PointForm, MultiPointForm, added}
 use Rattle.twkb_grammar.proofs.OneFault.{NoEnd}
 use Rattle.twkb_body.specs.Outline.{OnOption, OnCount, OnEnd}
-use Rattle.twkb_body.specs.Outline.{Outline, Stage, OnHeader, OnMetadata, OnId, OnBody, OnFinished, Wanted, WantedY}
-use Rattle.twkb_body.specs.Outline.{Full, stage_role, FrameOutline, shut, next_ids}
+use Rattle.twkb_body.specs.Outline.{Outline, Stage, OnId, OnBody, Wanted}
+use Rattle.twkb_body.specs.Outline.{stage_role, FrameOutline, shut, next_ids}
 use Rattle.twkb_body.specs.Reading.{Outlined, OutlineLanded, Pair, sums_past}
 use Rattle.twkb_body.specs.JudgedParts.{IsJudged, PartIn, IsPastEnds, Passes}
 use Rattle.twkb_body.specs.Growing.{applied, NewPoint, point_change, id_in}
@@ -34,6 +33,8 @@ use Rattle.twkb_body.specs.Running.{ListStops}
 use Rattle.twkb_body.specs.declared.head.Head.{Head}
 use Rattle.twkb_body.specs.declared.list_points.Taken.{Taken}
 use Rattle.twkb_body.proofs.Outlined.{outlined_part, noted_item, outlined_exact}
+use Rattle.twkb_grammar.proofs.Frames.{item_some}
+use Rattle.twkb_grammar.specs.Roles.{X}
 use Rattle.twkb_body.proofs.InFront.{one_front, one_within, used_join, points_in_front}
 use Rattle.twkb_body.proofs.HeaderParts.{noted_x, noted_point, noted_still, noted_join, sums_same}
 
@@ -153,11 +154,6 @@ point_runs h f ids rs from to bytes lefts used cut = λ limits e front gs told a
     (gs, shut (head_of h) f ids 0 lefts) (applied k rs) told)
     (same_change to gs h f (first_id ids) i.placed) next
 
--- a varint has bytes
-marked_some : (bytes : List ℕ) → HasMarks bytes → 0 < length bytes
-marked_some [] h = absurd h
-marked_some (b ∷ bs) h = omega arith
-
 -- a point for which there is no memory: its x was judged
 point_judged : (h : Head) (f : BodyForm) (ids : Ids) (rs : List Row) (from to : Point)
     (bytes lefts : List ℕ) (used : ℕ) → PointInFront from bytes to used
@@ -174,7 +170,7 @@ point_judged h f ids rs from to bytes lefts used cut = λ limits e front gs told
     ∙ (take-append-le (length xs) xs p.y_bytes (omega arith) ∙ take_all (length xs) xs (omega arith))) in
     record {
       used = length xs;
-      some = marked_some xs p.x_spelled.marked;
+      some = item_some X p.x xs (λ d c e. cc) p.x_spelled;
       within = omega (arith, within, cut.within);
       part = subst (λ l. IsJudged limits (front ++ l)) (sym is)
           (outlined_judged limits (front ++ xs) _ _ rs

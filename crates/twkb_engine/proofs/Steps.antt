@@ -22,6 +22,8 @@ use Rattle.twkb_grammar.specs.Machine.{kind_number, first_count, listed, Stack, 
 use Rattle.twkb_grammar.specs.Reading.{Ran, Reached, Gives}
 use Rattle.twkb_grammar.specs.Noting.{Notes, no_notes, noted, note_end, note_ends, note_ends_to, IsQuiet}
 use Rattle.twkb_grammar.specs.Spans.{spans_of_blob}
+use Rattle.twkb_grammar.proofs.NotedSpans.{ends_swap}
+use Rattle.twkb_grammar.proofs.Streams.{no_items}
 use Rattle.twkb_grammar.proofs.BodiesBack.{some_role}
 use Rattle.twkb_grammar.proofs.OneFault.{NoEnd, IsByteRole, byte_gives, number_gives, byte_no_end, number_no_end}
 use Rattle.twkb_grammar.proofs.OneFault.{blob_is_part, no_fault}
@@ -118,11 +120,6 @@ pub number_written : (d : Engine) (n : ℕ) (bs : List ℕ) → IsVarint bs n �
 number_written d n bs v spelled = number_gives (next_role d).0 n bs (next_number d spelled) v
 
 -- ---- the ends after an item, and what they note
-
-ends_swap : (n offset points : ℕ) (w : Notes) → note_ends n offset points (note_end offset points w)
-    ≡ note_end offset points (note_ends n offset points w)
-ends_swap zero offset points w = refl
-ends_swap (suc n) offset points w = ap (λ v. note_end offset points v) (ends_swap n offset points w)
 
 ok_same : (o p : Outline) → ◌≡◌ {A = Result Outline Reason} (Ok o) (Ok p) → o ≡ p
 ok_same o p at = cc
@@ -444,10 +441,6 @@ blob_judged limits bytes g b = record {
 }
 
 -- ---- an engine that took no byte since the last blob
-
-no_items : (is : List Item) (st : Stack) → Runs nothing started is st → join is ≡ [] → is ≡ []
-no_items [] st r e = refl
-no_items (i ∷ is) st r e = absurd (first_item i is st r e)
 
 type_byte : (i : NextItem) (d : Engine) → stage_at i d ≡ OnHeader → i ≡ next.TypeByte
 type_byte next.TypeByte d e = refl

@@ -9,6 +9,7 @@ use Rattle.twkb_num.specs.Zigzag.{zigzag_of, unzigzag_of}
 use Rattle.twkb_num.proofs.ZigzagLemmas.{unzigzag_of-zigzag_of}
 use Rattle.twkb_points.specs.Point.{IsCoordinate, Point, origin, point_at}
 use Rattle.twkb_points.specs.Differences.{differences_from}
+use Rattle.twkb_tree.proofs.AllJoined.{all_join}
 use Rattle.twkb_tree.specs.Tree.{IsPrecision, IsId, Simple, point, line, polygon, multi_point, multi_line}
 use Rattle.twkb_tree.specs.Tree.{multi_polygon, points_in, flatten, Ids, simple, IdsFit, HasIds, Tree}
 use Rattle.twkb_grammar.specs.Roles.{Field, Count, Id, X, Y, Item, Role, Counted, Vertices, Rings, AreFields, join}
@@ -457,12 +458,6 @@ pub bytes_after : (is : List Item) (e : Sums) → (sums_after e is).bytes ≡ e.
 bytes_after [] e = omega arith
 bytes_after (i ∷ is) e = omega (arith, bytes_after is (added e i), length-append i.bytes (join is))
 
--- what holds of all items of two lists holds of all items of both
-pub all_joined : {A : Type 0} (P : A → Type 0) (xs ys : List A) → AllByRecursion P xs → AllByRecursion P ys
-    → AllByRecursion P (xs ++ ys)
-all_joined P [] ys a b = b
-all_joined P (x ∷ xs) ys a b = (a.0, all_joined P xs ys a.1 b)
-
 -- what holds of roles holds of the roles of their items
 roles_each : (P : Role → Type 0) (b : Bool) (rs : List Role) (is : List Item) → HaveRoles (where_set b rs) is
     → AllByRecursion P rs → AllByRecursion (λ (i : Item). P i.role) is
@@ -475,9 +470,9 @@ roles_each P _ _ _ have all = absurd have
 pub options_each : (P : Role → Type 0) {meta : ℕ} {extended size box : List Item} → AreOptional meta extended size box
     → P Extended → P Size → P Box → AllByRecursion (λ (i : Item). P i.role) (extended ++ (size ++ box))
 options_each P {meta} {extended = x} {size = s} {box = o} optional e z b =
-    all_joined (λ (i : Item). P i.role) x (s ++ o)
+    all_join (λ (i : Item). P i.role) x (s ++ o)
     (roles_each P (bit meta 3) (Extended ∷ []) x optional.extended_is (e, tt))
-    (all_joined (λ (i : Item). P i.role) s o (roles_each P (bit meta 1) (Size ∷ []) s optional.size_is (z, tt))
+    (all_join (λ (i : Item). P i.role) s o (roles_each P (bit meta 1) (Size ∷ []) s optional.size_is (z, tt))
     (roles_each P (bit meta 0) (Box ∷ Box ∷ Box ∷ Box ∷ []) o optional.box_is (b, (b, (b, (b, tt))))))
 
 still : (is : List Item) (e : Sums) → AllByRecursion (λ (i : Item). (p : Point) (n : ℕ) → moved p i.role n ≡ p) is

@@ -7,6 +7,7 @@ use Rattle.twkb_num.specs.Varint.{HasMarks}
 use Rattle.twkb_points.specs.Point.{Point}
 use Rattle.twkb_tree.specs.Tree.{Tree, Ids}
 use Rattle.twkb_tree.specs.Limits.{Allowance}
+use Rattle.twkb_tree.proofs.AllJoined.{all_join}
 use Rattle.twkb_grammar.specs.Bits.{bit}
 use Rattle.twkb_grammar.specs.Roles.{Role, Count, Item, Header, Metadata, Extended, Size, Box, Id, X, Y}
 use Rattle.twkb_grammar.specs.Roles.{End, where_set, Spells}
@@ -22,7 +23,7 @@ use Rattle.twkb_grammar.specs.Reading.{Reached, open_by, open_after, frame_count
 use Rattle.twkb_grammar.proofs.BodiesBack.{some_role}
 use Rattle.twkb_grammar.proofs.TreesBack.{depth_run}
 use Rattle.twkb_grammar.proofs.Trees.{frame}
-use Rattle.twkb_grammar.proofs.Bodies.{head, all_joined}
+use Rattle.twkb_grammar.proofs.Bodies.{head}
 use Rattle.std.specs.List.{AllByRecursion}
 use Rattle.std.proofs.Common.{length-append}
 use Rattle.twkb_grammar.specs.Roles.{HasBytes}
@@ -124,9 +125,9 @@ IsOption Box = ⊤
 IsOption _ = ⊥
 
 asked_options : (meta : ℕ) → AllByRecursion IsOption (asked meta)
-asked_options meta = all_joined IsOption (where_set (bit meta 3) (Extended ∷ [])) _
+asked_options meta = all_join IsOption (where_set (bit meta 3) (Extended ∷ [])) _
     (go (bit meta 3) (Extended ∷ []) (tt, tt))
-    (all_joined IsOption (where_set (bit meta 1) (Size ∷ [])) _ (go (bit meta 1) (Size ∷ []) (tt, tt))
+    (all_join IsOption (where_set (bit meta 1) (Size ∷ [])) _ (go (bit meta 1) (Size ∷ []) (tt, tt))
     (go (bit meta 0) (Box ∷ Box ∷ Box ∷ Box ∷ []) (tt, (tt, (tt, (tt, tt))))))
   where
     go : (b : Bool) (rs : List Role) → AllByRecursion IsOption rs → AllByRecursion IsOption (where_set b rs)

@@ -9,6 +9,7 @@ use Rattle.twkb_points.specs.Point.{IsCoordinate, Point, IsInRange, origin}
 use Rattle.twkb_tree.specs.Tree.{Tree, Simple, point, line, polygon, multi_point, multi_line, multi_polygon, simple}
 use Rattle.twkb_tree.specs.Tree.{collection, Trees, end, ◌▷◌, count, Ids, IdsFit, IsTree, AreTrees, flat, flat_all}
 use Rattle.twkb_tree.specs.Tree.{points_in, nest, nest_all}
+use Rattle.twkb_tree.proofs.AllJoined.{all_join, all_apart}
 use Rattle.twkb_grammar.specs.Bits.{bit}
 use Rattle.twkb_grammar.specs.Roles.{Item, Header, Metadata, Count, Geometries, AreFields}
 use Rattle.twkb_grammar.specs.Roles.{item}
@@ -20,7 +21,7 @@ use Rattle.twkb_grammar.specs.Fault.{IsDeep}
 use Rattle.twkb_grammar.specs.Machine.{Sums, added, sums_after, Kind, SimpleKind, PointForm, empty_of}
 use Rattle.twkb_grammar.specs.Reading.{Here, Kept}
 use Rattle.twkb_grammar.proofs.Bodies.{steps, slot_points, points_are, fields_are, form_of, forth, moved_x, moved_y}
-use Rattle.twkb_grammar.proofs.Bodies.{moved_id, moved_count, still_options, options_each, framed_whole, all_joined}
+use Rattle.twkb_grammar.proofs.Bodies.{moved_id, moved_count, still_options, options_each, framed_whole}
 use Rattle.twkb_grammar.proofs.Trees.{left_out, names_steps}
 
 -- ==== Joined items, and items of roles of which nothing is asked.
@@ -156,12 +157,6 @@ all_slots most (OfPoint q ∷ ps) k = ((k.0, k.1.0), all_slots most ps k.1.1)
 
 -- ==== The items of a geometry.
 
--- the points of the first list are in range if all are
-pub all_front : (xs ys : List Point) → AllByRecursion IsInRange (xs ++ ys)
-    → AllByRecursion IsInRange xs × AllByRecursion IsInRange ys
-all_front [] ys h = (tt, h)
-all_front (x ∷ xs) ys h = let t = all_front xs ys h.1 in ((h.0, t.0), t.1)
-
 none_in : (k : Kind) (p : ℤ) → AllByRecursion IsInRange (flat (empty_of k p))
 none_in (SimpleKind PointForm) p = tt
 none_in _ p = tt
@@ -253,8 +248,8 @@ mutual
         (λ k. let two = kept_split most are.front are.rest e (subst (λ l. Kept most e l) are.whole k) in
             let t = one.0 two.0 in
             let m = more.0 two.1 in
-            (omega (arith, t.0, m.0), all_joined IsInRange (flat g) (flat_all gs) t.1 m.1)),
-        (λ all. let two = all_front (flat g) (flat_all gs) all.1 in
+            (omega (arith, t.0, m.0), all_join IsInRange (flat g) (flat_all gs) t.1 m.1)),
+        (λ all. let two = all_apart IsInRange (flat g) (flat_all gs) all.1 in
             subst (λ l. Kept most e l) (sym are.whole) (Kept-append most are.front are.rest e
             (one.1 (omega (arith, all.0), two.0)) (more.1 (omega (arith, all.0), two.1)))),
       )

@@ -80,7 +80,7 @@ end_adds e i d came is item =
     )
 
 -- an end noted before other ends gives the same notes as an end noted after them
-ends_swap : (n offset points : ℕ) (w : Notes) → note_ends n offset points (note_end offset points w)
+pub ends_swap : (n offset points : ℕ) (w : Notes) → note_ends n offset points (note_end offset points w)
     ≡ note_end offset points (note_ends n offset points w)
 ends_swap zero offset points w = refl
 ends_swap (suc n) offset points w = ap (λ v. note_end offset points v) (ends_swap n offset points w)

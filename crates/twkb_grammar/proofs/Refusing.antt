@@ -22,7 +22,6 @@ use Rattle.twkb_grammar.proofs.BodiesBack.{some_role}
 use Rattle.twkb_grammar.proofs.TreesBack.{kept_at}
 use Rattle.twkb_grammar.proofs.Trees.{tree_runs, tree_total, total, total_is, total-append}
 use Rattle.twkb_grammar.proofs.Keeping.{Kept-append, tree_keeps}
-pub use Rattle.twkb_grammar.proofs.Keeping.{all_front}
 use Rattle.twkb_grammar.proofs.Parts.{runs_split, runs_same, next_role, run_is_front, filler, filler_number}
 use Rattle.twkb_grammar.proofs.Dead.{Allowed, no_reason}
 

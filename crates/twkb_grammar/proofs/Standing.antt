@@ -19,6 +19,7 @@ use Rattle.twkb_grammar.specs.Noting.{note_ends, note_ends_to, IsQuiet, IsCalm, 
 use Rattle.twkb_grammar.specs.Spans.{spans_of_blob}
 use Rattle.twkb_grammar.proofs.BodiesBack.{some_role, sums_after-append}
 use Rattle.twkb_grammar.proofs.Dead.{run_ends}
+use Rattle.twkb_grammar.proofs.Streams.{no_items}
 use Rattle.twkb_grammar.proofs.Trees.{tree_runs, tree_total, total}
 use Rattle.twkb_grammar.proofs.Parts.{runs_split, runs_same, Split, peel, one_blob_lem}
 use Rattle.twkb_grammar.proofs.OneFault.{Beyond, Compared, longer, shorter, same, two_fronts, none_beyond, left_cancel}
@@ -172,11 +173,7 @@ none_held : (limits : Allowance) (bytes : List ℕ) (gs : List Tree) (e : Sums) 
 none_held limits bytes gs e st held s none = go s.number
   where
     at_start : s.reached.items ≡ []
-    at_start = empty s.reached.items s.reached.ran.runs (s.reached.spelled ∙ none)
-      where
-        empty : (is : List Item) → Runs nothing started is st → join is ≡ [] → is ≡ []
-        empty [] r e = refl
-        empty (i ∷ is) r e = absurd (Rattle.twkb_grammar.proofs.Streams.first_item i is st r e)
+    at_start = no_items s.reached.items st s.reached.ran.runs (s.reached.spelled ∙ none)
 
     role : s.role ≡ Header
     role = some_role Header s.role (sym (role_first ∙ refl) ∙ role_behind limits s.middle e st s.role s.reached s.wants)

@@ -20,11 +20,8 @@ use Rattle.twkb_grammar.proofs.Trees.{tree_runs}
 use Rattle.twkb_grammar.proofs.Parts.{front_runs, peel, one_blob_lem}
 use Rattle.twkb_grammar.proofs.OneFault.{left_cancel, one_first_fault, no_fault}
 use Rattle.twkb_grammar.proofs.WrittenBlobs.{written_blob}
+use Rattle.twkb_grammar.proofs.NotedSpans.{none_front}
 use Rattle.twkb_grammar.proofs.Decoding.{Outcome, bytes_left, decoded}
-
-front_empty : (a b : List ℕ) → a ++ b ≡ [] → a ≡ []
-front_empty [] b e = refl
-front_empty (x ∷ a) b e = absurd cc
 
 -- items run through from the start have at least one byte
 pub first_item : (i : Item) (is : List Item) (last : Stack) → Runs nothing started (i ∷ is) last
@@ -32,7 +29,12 @@ pub first_item : (i : Item) (is : List Item) (last : Stack) → Runs nothing sta
 first_item i is last r none =
     let head : Spells Header i.number i.bytes = subst (λ r. Spells r i.number i.bytes)
     (some_role Header i.role r.0) r.1 in
-    let z : i.number ∷ [] ≡ [] = sym head.3 ∙ front_empty i.bytes (join is) none in cc
+    let z : i.number ∷ [] ≡ [] = sym head.3 ∙ none_front i.bytes (join is) none in cc
+
+-- no bytes have no items
+pub no_items : (is : List Item) (st : Stack) → Runs nothing started is st → join is ≡ [] → is ≡ []
+no_items [] st r e = refl
+no_items (i ∷ is) st r e = absurd (first_item i is st r e)
 
 -- an empty list of bytes is not a blob
 pub blob_some : (limits : Allowance) (g : Tree) (bytes : List ℕ) → Blob limits bytes g → bytes ≡ [] → ⊥
@@ -55,7 +57,7 @@ no_fault_of_nothing limits bytes offset reason f none = go f.before refl
     go (i ∷ is) e =
         let run = front_runs f.before f.begins.1 f.begins.0 f.begins.2 f.begins.3 in
         first_item i is run.0 (subst (λ l. Runs nothing started l run.0) (sym e) run.1)
-        (ap join e ∙ front_empty (join f.before) f.rest spelled)
+        (ap join e ∙ none_front (join f.before) f.rest spelled)
     go [] e =
         let next = f.next f.begins.0 f.begins.1 f.begins.2 f.begins.3 in
         let at_start : Items 0 f.begins.0 (next.0 ∷ next.1) = subst (λ l. Items 0 f.begins.0 l)
@@ -84,7 +86,7 @@ record Behind (limits : Allowance) (rest : List ℕ) (g : Tree) (gs : List Tree)
 
 behind_blob : (limits : Allowance) (a rest : List ℕ) (g : Tree) (gs : List Tree) → Blob limits a g
     → Stream limits (a ++ rest) gs → Behind limits rest g gs
-behind_blob limits a rest g [] b s = absurd (blob_some limits g a b (front_empty a rest s))
+behind_blob limits a rest g [] b s = absurd (blob_some limits g a b (none_front a rest s))
 behind_blob limits a rest g (h ∷ gs) b s =
     let one = one_blob_lem limits a s.0 rest s.1 g h b s.3 s.2 in
     let tail : rest ≡ s.1 = peel a s.0 rest s.1 one.1 s.2 in
@@ -108,7 +110,7 @@ behind_stream limits bytes rest (g ∷ gs) hs s t =
 -- a stream of no bytes has no geometries
 none_of_nothing : (limits : Allowance) (gs : List Tree) → Stream limits [] gs → gs ≡ []
 none_of_nothing limits [] s = refl
-none_of_nothing limits (g ∷ gs) s = absurd (blob_some limits g s.0 s.3 (front_empty s.0 s.1 (sym s.2)))
+none_of_nothing limits (g ∷ gs) s = absurd (blob_some limits g s.0 s.3 (none_front s.0 s.1 (sym s.2)))
 
 -- a stream has one reading
 pub one_stream : (limits : Allowance) (bytes : List ℕ) (gs hs : List Tree) → Stream limits bytes gs
@@ -154,7 +156,7 @@ no_stream limits bytes rest gs hs offset reason s f t = let r = behind_stream li
     go (k ∷ ks) u = no_fault limits rest u.1 k offset reason (record { front = u.0; whole = u.2; blob = u.3 }) f
 
 -- two streams, each before a first fault of the same bytes, are the same
-same_front : (limits : Allowance) (a b x y : List ℕ) (gs hs : List Tree) (o p : ℕ) (r q : Reason)
+pub same_front : (limits : Allowance) (a b x y : List ℕ) (gs hs : List Tree) (o p : ℕ) (r q : Reason)
     → Stream limits a gs → Stream limits b hs → FirstFault limits x o r → FirstFault limits y p q
     → a ++ x ≡ b ++ y → (gs ≡ hs) × (a ≡ b)
 same_front limits a b x y [] [] o p r q s t f k e = (refl, s ∙ sym t)

@@ -30,7 +30,7 @@ use Rattle.twkb_grammar.specs.Items.{slots, fields, Follow, Items, ItemsOfAll, i
 use Rattle.twkb_grammar.specs.declared.style.Style.{Style}
 use Rattle.twkb_grammar.specs.declared.style.Style.TheVariants.{Full, Plain}
 use Rattle.twkb_grammar.proofs.Bodies.{difference_fits, coordinate_fits, id_fits, steps, fields_are}
-use Rattle.twkb_grammar.proofs.Refusing.{all_front}
+use Rattle.twkb_tree.proofs.AllJoined.{all_join, all_apart}
 
 -- ==== Fields as items, each number as its shortest varint.
 
@@ -370,10 +370,6 @@ SlotFits (OfPoint p) = IsInRange p
 abbrev SlotsFit : List Slot → Type 0
 SlotsFit ps = AllByRecursion SlotFits ps
 
-SlotsFit-append : (ps qs : List Slot) → SlotsFit ps → SlotsFit qs → SlotsFit (ps ++ qs)
-SlotsFit-append [] qs h k = k
-SlotsFit-append (p ∷ ps) qs h k = (h.0, SlotsFit-append ps qs h.1 k)
-
 fit-points : (ps : List Point) → AreInRange ps → SlotsFit (map OfPoint ps)
 fit-points [] h = tt
 fit-points (p ∷ ps) h = (h.0, fit-points ps h.1)
@@ -391,10 +387,10 @@ fit-runs : (ls : List (List Point)) → AreInRange (flatten ls) → length (flat
     → SlotsFit (flat_map run_of ls)
 fit-runs [] h few = tt
 fit-runs (ps ∷ ls) h few =
-    let both = all_front ps (flatten ls) h in
+    let both = all_apart IsInRange ps (flatten ls) h in
     let total : length (flatten (ps ∷ ls)) ≡ length ps + length (flatten ls) = length-append ps (flatten ls) in (
       omega (arith, few, total),
-      SlotsFit-append (map OfPoint ps) (flat_map run_of ls)
+      all_join SlotFits (map OfPoint ps) (flat_map run_of ls)
           (fit-points ps both.0) (fit-runs ls both.1 (omega (arith, few, total))),
     )
 
@@ -403,11 +399,11 @@ fit-areas : (areas : List (List (List Point))) → AreInRange (flat_map flatten 
     → SlotsFit (flat_map rings_of areas)
 fit-areas [] h few nodes = tt
 fit-areas (rings ∷ areas) h few nodes =
-    let both = all_front (flatten rings) (flat_map flatten areas) h in
+    let both = all_apart IsInRange (flatten rings) (flat_map flatten areas) h in
     let total : length (flat_map flatten (rings ∷ areas)) ≡ length (flatten rings) + length
     (flat_map flatten areas) = length-append (flatten rings) (flat_map flatten areas) in (
       omega (arith, nodes),
-      SlotsFit-append (flat_map run_of rings) (flat_map rings_of areas)
+      all_join SlotFits (flat_map run_of rings) (flat_map rings_of areas)
           (fit-runs rings both.0 (omega (arith, few, total)))
           (fit-areas areas both.1 (omega (arith, few, total)) (omega (arith, nodes))),
     )
@@ -424,17 +420,17 @@ fit-slots (line ps) fit h nodes few = (few, fit-points ps h)
 fit-slots (polygon rings) fit h nodes few = (omega (arith, nodes), fit-runs rings h few)
 fit-slots (multi_point ids ps) fit h nodes few = (
   few,
-  SlotsFit-append (id_slots ids) (map OfPoint ps) (fit-id_slots ids (length ps) fit)
+  all_join SlotFits (id_slots ids) (map OfPoint ps) (fit-id_slots ids (length ps) fit)
       (fit-points ps h),
 )
 fit-slots (multi_line ids ls) fit h nodes few = (
   omega (arith, nodes),
-  SlotsFit-append (id_slots ids) (flat_map run_of ls)
+  all_join SlotFits (id_slots ids) (flat_map run_of ls)
       (fit-id_slots ids (length ls) fit) (fit-runs ls h few),
 )
 fit-slots (multi_polygon ids areas) fit h nodes few = (
   omega (arith, nodes, length-area_nodes areas),
-  SlotsFit-append (id_slots ids)
+  all_join SlotFits (id_slots ids)
       (flat_map rings_of areas) (fit-id_slots ids (length areas) fit)
       (fit-areas areas h few (omega (arith, nodes))),
 )
@@ -654,7 +650,7 @@ mutual
   trees_written style level (g ▷ gs) fits h few_nodes few_points =
       let total : length (flat_all (g ▷ gs)) ≡ length (flat g) + length (flat_all gs) =
       length-append (flat g) (flat_all gs) in
-      let in_range = all_front (flat g) (flat_all gs) h in
+      let in_range = all_apart IsInRange (flat g) (flat_all gs) h in
       let one = tree_written style level g fits.0 in_range.0 (omega (arith, few_nodes))
       (omega (arith, few_points, total)) in
       let all = trees_written style level gs fits.1 in_range.1 (omega (arith, few_nodes))
