@@ -145,9 +145,10 @@ ends_to (suc n) offset points w = elim (cases_lt n (length w.begun)) [
       (let z : suc n ≡ length w.begun - length (note_ends (suc n) offset points w).begun =
       omega (arith, ends_left (suc n) offset points w, low) in z)
   | inr high ↦
-      let same = none_ends offset points (note_ends n offset points w) (omega (arith, ends_left n offset points w, high))
-      in same ∙ (ends_to n offset points w ∙ ap (λ (v : Notes). note_ends (length w.begun - length v.begun) offset points w)
-      (sym same))
+      let none : length (note_ends n offset points w).begun ≡ 0 = omega (arith, ends_left n offset points w, high) in
+      let same = none_ends offset points (note_ends n offset points w) none in
+      same ∙ (ends_to n offset points w ∙ ap (λ (v : Notes). note_ends (length w.begun - length v.begun) offset points
+      w) (sym same))
 ]
 
 -- ==== Items noted one after another, and items that leave no note.

@@ -165,7 +165,8 @@ pub one_place : (limits : Allowance) (bytes : List ℕ) (gs hs : List Tree) (e f
     (st su : Stack) (held kept : List ℕ) → Stands limits bytes gs e st held
     → Stands limits bytes hs f su kept → IsSamePlace gs hs e f st su held kept
 one_place limits bytes gs hs e f st su held kept s t =
-    one_cut limits s.front t.front bytes bytes gs hs gs hs e f st su held kept s t s.blobs t.blobs (sym s.whole ∙ t.whole)
+    one_cut limits s.front t.front bytes bytes gs hs gs hs e f st su held kept s t s.blobs t.blobs
+    (sym s.whole ∙ t.whole)
 
 -- before the first item no byte is held
 none_held : (limits : Allowance) (bytes : List ℕ) (gs : List Tree) (e : Sums) (st : Stack)
@@ -390,22 +391,18 @@ module _ (limits : Allowance) (bytes : List ℕ) (e : Sums) (st : Stack) (held :
   at_middle : s.middle ++ held ≡ bytes
   at_middle = sym (s.whole ∙ ap (λ l. l ++ (s.middle ++ held)) s.blobs)
 
+  left : (byte : ℕ) → join s.reached.items ++ (held ++ byte ∷ []) ≡ (s.middle ++ held) ++ byte ∷ []
+  left byte = ap (λ l. l ++ (held ++ byte ∷ [])) s.reached.spelled ∙ sym (append_assoc s.middle held (byte ∷ []))
+
   -- the notes after an item and the ends after it
   after_byte : (start : ℕ) (js : List Item) (su : Stack) (byte : ℕ) → Runs nothing started js su
-      → (t : Taken s.reached.items js held byte) → IsCalm st.1
-      → noted start nothing no_notes js ≡ note_ends (length t.ends)
-      (start + (sums_after nothing js).bytes) (sums_after nothing js).points
+      → (t : Taken s.reached.items js held byte) → IsCalm st.1 → (offset points : ℕ)
+      → start + (sums_after nothing js).bytes ≡ offset → (sums_after nothing js).points ≡ points
+      → noted start nothing no_notes js ≡ note_ends_to (length (noted start nothing no_notes js).begun) offset points
       (note_byte st.1 (start + e.bytes) e.points byte (notes_of start s))
-  after_byte start js su byte r t calm =
-      ap (λ l. noted start nothing no_notes l) t.whole
-      ∙ (noted-append start s.reached.items (t.next ∷ t.ends) nothing no_notes
-      ∙ (ap (λ x. noted start x (notes_of start s) (t.next ∷ t.ends)) s.reached.sums
-      ∙ (ap (λ v. noted start (added e t.next) v t.ends)
-      (item_noted start e st.0 st.1 t.next byte held (notes_of start s) calm role.0 role.1 t.bytes
-      number some)
-      ∙ ends_noted start t.ends (added e t.next) (start + (sums_after nothing js).bytes)
-      (sums_after nothing js).points (note_byte st.1 (start + e.bytes) e.points byte
-      (notes_of start s)) t.are_ends (ap (λ n. start + n) (sym behind.0)) (sym behind.1))))
+  after_byte start js su byte r t calm offset points at many =
+      a ∙ (ends_to (length t.ends) offset points V
+      ∙ ap (λ (w : Notes). note_ends_to (length w.begun) offset points V) (sym a))
     where
       role : role_at e st ≡ Some t.next.role × IsItem t.next
       role = taken_role limits bytes [] e st held s js su byte r t
@@ -428,6 +425,19 @@ module _ (limits : Allowance) (bytes : List ℕ) (e : Sums) (st : Stack) (held :
       behind = let b = ends_add t.ends (added e t.next) t.are_ends in
           (ap (λ x. x.bytes) sums ∙ b.0, ap (λ x. x.points) sums ∙ b.1)
 
+      V : Notes
+      V = note_byte st.1 (start + e.bytes) e.points byte (notes_of start s)
+
+      a : noted start nothing no_notes js ≡ note_ends (length t.ends) offset points V
+      a = ap (λ l. noted start nothing no_notes l) t.whole
+          ∙ (noted-append start s.reached.items (t.next ∷ t.ends) nothing no_notes
+          ∙ (ap (λ x. noted start x (notes_of start s) (t.next ∷ t.ends)) s.reached.sums
+          ∙ (ap (λ v. noted start (added e t.next) v t.ends)
+          (item_noted start e st.0 st.1 t.next byte held (notes_of start s) calm role.0 role.1 t.bytes
+          number some)
+          ∙ ends_noted start t.ends (added e t.next) offset points V t.are_ends
+          (ap (λ n. start + n) (sym behind.0) ∙ at) (sym behind.1 ∙ many))))
+
   -- one more byte with which the blob goes on
   pub goes_on : (start byte : ℕ) (f : Sums) (su : Stack) (kept : List ℕ)
       (t : Stands limits (bytes ++ byte ∷ []) [] f su kept) → IsCalm st.1
@@ -435,11 +445,8 @@ module _ (limits : Allowance) (bytes : List ℕ) (e : Sums) (st : Stack) (held :
       (note_byte st.1 (start + e.bytes) e.points byte (notes_of start s))
   goes_on start byte f su kept t calm = go (two_fronts s.reached.items t.reached.items nothing
       started st su (held ++ byte ∷ []) kept s.reached.ran.runs t.reached.ran.runs
-      (left ∙ (at ∙ sym right)))
+      (left byte ∙ (at ∙ sym right)))
     where
-      left : join s.reached.items ++ (held ++ byte ∷ []) ≡ (s.middle ++ held) ++ byte ∷ []
-      left = ap (λ l. l ++ (held ++ byte ∷ [])) s.reached.spelled ∙ sym (append_assoc s.middle held (byte ∷ []))
-
       right : join t.reached.items ++ kept ≡ t.middle ++ kept
       right = ap (λ l. l ++ kept) t.reached.spelled
 
@@ -454,14 +461,9 @@ module _ (limits : Allowance) (bytes : List ℕ) (e : Sums) (st : Stack) (held :
 
       grew : (x : Taken s.reached.items t.reached.items held byte)
           → notes_of start t ≡ note_ends_to (frame_count su) (start + f.bytes) f.points V
-      grew x =
-          let a = after_byte start t.reached.items su byte t.reached.ran.runs x calm in
-          let b : notes_of start t ≡ note_ends (length x.ends) (start + f.bytes) f.points V =
-          subst (λ z. notes_of start t ≡ note_ends (length x.ends) (start + z.bytes) z.points V)
-          t.reached.sums a in
-          b ∙ (ends_to (length x.ends) (start + f.bytes) f.points V
-          ∙ ap (λ n. note_ends_to n (start + f.bytes) f.points V)
-          (ap (λ w. length w.begun) (sym b) ∙ counts))
+      grew x = after_byte start t.reached.items su byte t.reached.ran.runs x calm (start + f.bytes) f.points
+          (ap (λ z. start + z.bytes) t.reached.sums) (ap (λ z. z.points) t.reached.sums)
+          ∙ ap (λ n. note_ends_to n (start + f.bytes) f.points V) counts
 
       -- a byte of a number that is not its last adds no note
       stayed : s.reached.items ≡ t.reached.items → notes_of start t ≡ note_ends_to (frame_count su)
@@ -486,7 +488,7 @@ module _ (limits : Allowance) (bytes : List ℕ) (e : Sums) (st : Stack) (held :
 
           held_is : held ++ byte ∷ [] ≡ kept
           held_is = peel (join s.reached.items) (join t.reached.items) (held ++ byte ∷ []) kept
-              (ap join alike) (left ∙ (at ∙ sym right))
+              (ap join alike) (left byte ∙ (at ∙ sym right))
 
           number : (kept ≡ []) ⊎ IsNumber t.role → IsNumber t.role
           number (inl z) = absurd (let y : length (held ++ byte ∷ []) ≡ 0 = ap length
@@ -500,7 +502,7 @@ module _ (limits : Allowance) (bytes : List ℕ) (e : Sums) (st : Stack) (held :
       go : Compared s.reached.items t.reached.items
           → notes_of start t ≡ note_ends_to (frame_count su) (start + f.bytes) f.points V
       go (longer n) = absurd (none_longer limits (bytes ++ byte ∷ []) [] f su kept t s.reached.items
-          st (held ++ byte ∷ []) s.reached.ran.runs (left ∙ at) n)
+          st (held ++ byte ∷ []) s.reached.ran.runs (left byte ∙ at) n)
       go (shorter n) = grew (taken limits bytes [] e st held s t.reached.items su byte kept
           t.reached.ran.runs (right ∙ sym at) n)
       go (same z) = stayed z
@@ -510,13 +512,10 @@ module _ (limits : Allowance) (bytes : List ℕ) (e : Sums) (st : Stack) (held :
       → spans_of_blob start b ≡ (note_ends_to 0 (start + length (bytes ++ byte ∷ []))
       (length (flat g)) (note_byte st.1 (start + e.bytes) e.points byte (notes_of start s))).spans
   ends_blob start byte g b calm = go (two_fronts s.reached.items b.items nothing started st
-      ([], Finished g) (held ++ byte ∷ []) [] s.reached.ran.runs whole (left ∙ sym right))
+      ([], Finished g) (held ++ byte ∷ []) [] s.reached.ran.runs whole (left byte ∙ sym right))
     where
       whole : Runs nothing started b.items ([], Finished g)
       whole = tree_runs g [] nothing b.items b.valid.tree b.are_items
-
-      left : join s.reached.items ++ (held ++ byte ∷ []) ≡ (s.middle ++ held) ++ byte ∷ []
-      left = ap (λ l. l ++ (held ++ byte ∷ [])) s.reached.spelled ∙ sym (append_assoc s.middle held (byte ∷ []))
 
       right : join b.items ++ [] ≡ (s.middle ++ held) ++ byte ∷ []
       right = append-nil (join b.items) ∙ (b.spelled ∙ ap (λ l. l ++ byte ∷ []) (sym at_middle))
@@ -541,18 +540,10 @@ module _ (limits : Allowance) (bytes : List ℕ) (e : Sums) (st : Stack) (held :
       grew : (x : Taken s.reached.items b.items held byte)
           → spans_of_blob start b ≡ (note_ends_to 0 (start + length (bytes ++ byte ∷ []))
           (length (flat g)) V).spans
-      grew x =
-          let a = after_byte start b.items ([], Finished g) byte whole x calm in
-          let c : noted start nothing no_notes b.items ≡ note_ends (length x.ends)
-          (start + length (bytes ++ byte ∷ [])) (length (flat g)) V =
-          a ∙ (ap (λ o. note_ends (length x.ends) o E.points V) size
-          ∙ ap (λ p. note_ends (length x.ends) (start + length (bytes ++ byte ∷ [])) p V) many)
-          in
-          ap (λ w. w.spans) (sym noted_all
-          ∙ (c ∙ (ends_to (length x.ends) (start + length (bytes ++ byte ∷ []))
-          (length (flat g)) V
-          ∙ ap (λ n. note_ends_to n (start + length (bytes ++ byte ∷ [])) (length (flat g)) V)
-          (ap (λ w. length w.begun) (sym c ∙ noted_all)))))
+      grew x = ap (λ w. w.spans) (sym noted_all ∙ (after_byte start b.items ([], Finished g) byte whole x calm
+          (start + length (bytes ++ byte ∷ [])) (length (flat g)) size many
+          ∙ ap (λ (w : Notes). note_ends_to (length w.begun) (start + length (bytes ++ byte ∷ [])) (length (flat g)) V)
+          noted_all))
 
       go : Compared s.reached.items b.items → spans_of_blob start b
           ≡ (note_ends_to 0 (start + length (bytes ++ byte ∷ [])) (length (flat g)) V).spans

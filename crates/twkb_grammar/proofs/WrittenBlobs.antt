@@ -289,14 +289,16 @@ frame_spelling kind p {meta} {Body = Body} {box_bytes = box_bytes} size says rol
       );
       spelled = ap (λ bs. header_byte kind p ∷ meta ∷ bs) (join-append size (rest ++ last ∷ [])
           ∙ ap (λ l. join size ++ l) (join-append rest (last ∷ []) ∙ (append-nil (join rest)
-          ∙ (join-append b.items s.items ∙ (ap (λ l. l ++ join s.items) b.spelled ∙ ap (λ l. box_bytes ++ l) s.spelled)))));
+          ∙ (join-append b.items s.items
+          ∙ (ap (λ l. l ++ join s.items) b.spelled ∙ ap (λ l. box_bytes ++ l) s.spelled)))));
     }
 
 plain_frame : (g : Tree) {Body : List Item → Type 0} (bytes : List ℕ)
     → Spelling (BodyAt (is_empty (flags_of_tree g)) Body) bytes
     → Spelling (Framed (kind_of_tree g) (precision_of g) (flags_of_tree g) Body)
     (header_byte (kind_of_tree g) (precision_of g) ∷ metadata_byte Plain g ∷ framed Plain g bytes)
-plain_frame g bytes s = frame_spelling (kind_of_tree g) (precision_of g) [] (plain_says (flags_of_tree g)) tt tt no_box s tt
+plain_frame g bytes s =
+    frame_spelling (kind_of_tree g) (precision_of g) [] (plain_says (flags_of_tree g)) tt tt no_box s tt
 
 full_frame : (g : Tree) {Body : List Item → Type 0} (bytes : List ℕ) → AreInRange (flat g)
     → length (box_of g ++ bytes) < 2 ^ 64 → Spelling
