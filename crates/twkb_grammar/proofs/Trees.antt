@@ -176,7 +176,7 @@ simple_body s p fs meta body fit agrees true bare body_is e size from here =
     (rw bare (ap (λ g. (fs, AtEnd h g)) (left_out s p meta fit agrees bare)))
 simple_body s p fs meta body fit agrees false full body_is e size from here =
     let h : Head = head p meta size from in
-    rw full (shape_run h fs (e.bytes + length (join body)) s fit agrees full e body here refl
+    rw full (shape_run h fs s fit agrees full e body here
     (subst (λ fields. AreFields fields body) (fields_are s) body_is))
 
 -- two lists of trees, one after the other
@@ -254,12 +254,11 @@ collection_body p ids gs fs meta body fit agrees each true bare body_is e size f
 collection_body p ids gs fs meta body fit agrees each false full body_is e size from here =
     let h : Head = head p meta size from in
     let mid : Stack = members_begin ManyGeometries h fs ids (count gs) in
-    let total : ℕ = e.bytes + length (join body_is.front) in
     rw full (subst (λ is. Runs e (fs, AtCount ManyGeometries h) is
     (fs, AtEnd h (collection p ids gs))) (sym body_is.whole)
     (Runs-append body_is.front e (fs, AtCount ManyGeometries h) mid body_is.rest (fs, AtEnd h (collection p ids gs))
-    (first_run ManyGeometries h fs total mid (count gs) ids [] origin (says_all h ids gs fit agrees)
-    (finish mid origin total) e body_is.front here refl
+    (first_run ManyGeometries h fs mid (count gs) ids [] origin (says_all h ids gs fit agrees)
+    (finish mid origin) e body_is.front here
     (subst (λ is. AreFields ((Count (Geometries (length fs)), count gs) ∷ is) body_is.front)
     (names_steps ids) body_is.first))
     (members_after gs each h ids fs (sums_after e body_is.front) body_is.rest fit body_is.second)))
