@@ -326,25 +326,6 @@ box_whole meta bytes used has s = record {
       (sym has) (s.parts h at);
 }
 
-pub no_box : (meta : ℕ) (bytes : List ℕ) → bit meta 0 ≡ false → BoxInFront meta bytes 0
-no_box meta bytes none = record {
-  within = omega arith;
-  parts = λ h at. subst (λ b. AreNumberParts h at (where_set b (sides 4)) [] h) (sym none)
-      (refl, refl);
-}
-
--- ---- the size
-
-pub no_size : (meta : ℕ) (bytes : List ℕ) → bit meta 1 ≡ false → SizeInFront meta bytes None 0
-no_size meta bytes none = record {
-  within = omega arith;
-  parts = λ precision at.
-      let here : at + 0 ≡ at = omega arith in
-      subst (λ b. AreNumberParts (bare_head precision meta at) at (where_set b (Size ∷ [])) []
-      (sized_head precision meta None (at + 0))) (sym none)
-      (refl, ap (sized_head precision meta None) here);
-}
-
 -- ---- all parts
 
 pub parts_whole : (meta : ℕ) (bytes : List ℕ) (size : Option ℕ) (from used : ℕ) → bit meta 3 ≡ false

@@ -27,12 +27,6 @@ use Rattle.twkb_grammar.proofs.Dead.{Allowed, no_reason}
 
 -- ==== A refusal of the machine is a fault, and a first fault if the items before it are a part.
 
--- the totals up to an item are at most those of the geometry
-within : (f : Role → ℕ → ℕ) (before : List Item) (i : Item) (more : List Item) (m : ℕ)
-    → total f (before ++ i ∷ more) ≤ m → sum_by (λ j. f j.role j.number) before + f i.role
-    i.number ≤ m
-within f before i more m h = omega (arith, h, total-append f before (i ∷ more), total_is f before)
-
 -- the position in the sums is the position of the items
 pub position_is : (is : List Item) (e : Sums) → (sums_after e is).position ≡ position_from e.position is
 position_is [] e = refl
@@ -47,14 +41,12 @@ allowed limits before i more g valid items = go i.role refl
     valid.tree (omega arith) items).1 (omega (arith, valid.nest_kept), valid.in_range))))
   where
     n : sum_by (λ j. nodes_by j.role j.number) before + nodes_by i.role i.number + 1 ≤ limits.nodes
-    n = let t = tree_total g 0 (before ++ i ∷ more) valid.tree items in
-        let h : total nodes_by (before ++ i ∷ more) ≤ total nodes_by (before ++ i ∷ more) = omega arith in
-        omega (arith, valid.nodes_kept, t.0, within nodes_by before i more (total nodes_by (before ++ i ∷ more)) h)
+    n = omega (arith, valid.nodes_kept, (tree_total g 0 (before ++ i ∷ more) valid.tree items).0,
+        total-append nodes_by before (i ∷ more), total_is nodes_by before)
 
     p : sum_by (λ j. points_by j.role j.number) before + points_by i.role i.number ≤ limits.points
-    p = let t = tree_total g 0 (before ++ i ∷ more) valid.tree items in
-        let h : total points_by (before ++ i ∷ more) ≤ total points_by (before ++ i ∷ more) = omega arith in
-        omega (arith, valid.points_kept, t.1, within points_by before i more (total points_by (before ++ i ∷ more)) h)
+    p = omega (arith, valid.points_kept, (tree_total g 0 (before ++ i ∷ more) valid.tree items).1,
+        total-append points_by before (i ∷ more), total_is points_by before)
 
     go : (r : Role) → i.role ≡ r → Here limits.nest (position before) r i.number → Allowed limits before r i.number
     go (Metadata k) e a = λ h. omega (arith, p, ap (λ r. points_by r i.number) e, one k i.number h)

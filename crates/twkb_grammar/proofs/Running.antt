@@ -51,39 +51,6 @@ deep_allowed nest level n others (inr h) =
     elim (nat_le nest level) as (λ v. others ≡ unless (v && nat_lt 0 n) TooDeep others)
     [ true ↦ rw b refl | false ↦ refl ]
 
-unless_none : (b : Bool) (r : Reason) (o : Option Reason) → unless b r o ≡ None → (b ≡ false) × (o ≡ None)
-unless_none true r o h = cc
-unless_none false r o h = (refl, h)
-
-sum_fits : (limit a b : ℕ) → nat_lt limit (a + b) ≡ false → a + b ≤ limit
-sum_fits limit a b h = grind (arith, nat_tests)
-
--- a count without an objection passes each of its tests
-count_passes : (deep nodes points : Bool) → unless deep TooDeep
-    (unless nodes TooManyNodes (unless points TooManyPoints None)) ≡ None → (nodes ≡ false)
-    × (points ≡ false)
-count_passes false false false h = (refl, refl)
-count_passes _ _ _ h = cc
-
-one_fits : (b : Bool) (limit p : ℕ) → p ≤ limit → (b && nat_le limit p) ≡ false → p + (if b then 1 else 0) ≤ limit
-one_fits true limit p low h = grind (arith, nat_tests)
-one_fits false limit p low h = omega arith
-
--- an item without an objection keeps the limits
-pub kept : (limits : Allowance) (e : Sums) (r : Role) (n : ℕ) → e.nodes ≤ limits.nodes
-    → e.points ≤ limits.points → objection limits e r n ≡ None
-    → (e.nodes + nodes_by r n ≤ limits.nodes) × (e.points + points_by r n ≤ limits.points)
-kept limits e (Count c) n a b h =
-    let t = count_passes (too_deep limits c n) (nat_lt limits.nodes (e.nodes + nodes_of c n))
-    (nat_lt limits.points (e.points + points_of c n)) h in
-    (sum_fits limits.nodes e.nodes (nodes_of c n) t.0, sum_fits limits.points e.points (points_of c n) t.1)
-kept limits e (Metadata k) n a b h = (
-  omega (arith, a),
-  one_fits (announces_point k n) limits.points
-      e.points b (unless_none _ _ _ h).0,
-)
-kept limits e _ n a b h = (omega (arith, a), omega (arith, b))
-
 -- ==== Items that the machine ran through within the limits: a part, a blob once the geometry is complete, and a
 -- first fault if it refuses.
 
