@@ -22,7 +22,7 @@ use Rattle.twkb_grammar.specs.Machine.{Sums, added, sums_after, Kind, SimpleKind
 use Rattle.twkb_grammar.specs.Reading.{Here, Kept}
 use Rattle.twkb_grammar.proofs.Bodies.{steps, slot_points, points_are, fields_are, form_of, forth, moved_x, moved_y}
 use Rattle.twkb_grammar.proofs.Bodies.{moved_id, moved_count, still_options, options_each, framed_whole}
-use Rattle.twkb_grammar.proofs.Trees.{left_out, names_steps}
+use Rattle.twkb_grammar.proofs.Trees.{left_out, names_steps, some_bare}
 
 -- ==== Joined items, and items of roles of which nothing is asked.
 
@@ -198,10 +198,8 @@ gathered_keeps : (most level : ℕ) (ids : Ids) (gs : Trees) (meta : ℕ) (body 
     → Kept most e body ↔ (nest_all gs + level ≤ most) × AllByRecursion IsInRange (flat_all gs)
 gathered_keeps most level ids end meta body e fits low agrees each true bare is here =
     ((λ k. (omega (arith, low), tt)), (λ all. subst (λ l. Kept most e l) (sym is) tt))
-gathered_keeps most level None (g ▷ gs) meta body e fits low agrees each true bare is here = absurd
-    (false≢true (sym agrees.0 ∙ bare))
-gathered_keeps most level (Some ids) (g ▷ gs) meta body e fits low agrees each true bare is here = absurd
-    (false≢true (sym agrees.0 ∙ bare))
+gathered_keeps most level ids (g ▷ gs) meta body e fits low agrees each true bare is here = absurd
+    (some_bare ids g gs meta agrees bare)
 gathered_keeps most level ids gs meta body e fits low agrees each false full is here = (
   (λ k. let two = kept_split most is.front is.rest e (subst (λ l. Kept most e l) is.whole k) in
       (each is.rest (sums_after e is.front) fits low (subst (λ T. T) same two.0).0 is.second).0 two.1),

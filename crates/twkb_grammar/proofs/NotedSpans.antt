@@ -224,36 +224,19 @@ head_noted : (offset points kind : ℕ) (p : ℤ) (k : Kind) (meta : ℕ) (w : N
     → note_metadata meta (note_header offset points (header_byte kind p) w)
     ≡ notes (w.spans ++ told (length w.begun) offset k p meta 0 points ∷ []) (length w.spans ∷ w.begun)
 head_noted offset points kind p k meta w fits low same =
-    changed ∙ ap (λ s. notes (w.spans ++ s ∷ []) (length w.spans ∷ w.begun)) is
+    ap (λ l. notes l (length w.spans ∷ w.begun)) (changed-behind w.spans (λ s. record s { metadata = meta })
+    (told (length w.begun) offset (shown (kind_at (n % 16))) (unzigzag_of (n / 16)) 0 0 points) []
+    ∙ (λ t. w.spans ++ told (length w.begun) offset (kinds t) (halves t) meta 0 points ∷ []))
   where
-    small : zigzag_of p < 16
-    small = zigzag_small p fits
-
     n : ℕ
     n = header_byte kind p
 
-    first : Span
-    first = told (length w.begun) offset (shown (kind_at (n % 16))) (unzigzag_of (n / 16)) 0 0 points
+    kinds : shown (kind_at (n % 16)) ≡ k
+    kinds = ap (λ m. shown (kind_at m)) (let z : n % 16 ≡ kind = omega (arith, low, zigzag_small p fits) in z) ∙ same
 
-    second : Span
-    second = told (length w.begun) offset (shown (kind_at (n % 16))) (unzigzag_of (n / 16)) meta 0 points
-
-    changed : notes (changed_at (length w.spans) (λ s. record s { metadata = meta })
-        (w.spans ++ first ∷ [])) (length w.spans ∷ w.begun) ≡ notes (w.spans ++ second ∷ [])
-        (length w.spans ∷ w.begun)
-    changed = ap (λ l. notes l (length w.spans ∷ w.begun))
-        (changed-behind w.spans (λ s. record s { metadata = meta }) first [])
-
-    kinds : n % 16 ≡ kind
-    kinds = omega (arith, low, small)
-
-    halves : n / 16 ≡ zigzag_of p
-    halves = omega (arith, low, small)
-
-    is : second ≡ told (length w.begun) offset k p meta 0 points
-    is = ap (λ m. told (length w.begun) offset (shown (kind_at m)) (unzigzag_of (n / 16)) meta 0 points) kinds
-        ∙ (ap (λ q. told (length w.begun) offset q (unzigzag_of (n / 16)) meta 0 points) same
-        ∙ ap (λ q. told (length w.begun) offset k q meta 0 points) (ap unzigzag_of halves ∙ unzigzag_of-zigzag_of p))
+    halves : unzigzag_of (n / 16) ≡ p
+    halves = ap unzigzag_of (let z : n / 16 ≡ zigzag_of p = omega (arith, low, zigzag_small p fits) in z)
+        ∙ unzigzag_of-zigzag_of p
 
 module _ (start kind : ℕ) (p : ℤ) (own : Flags) (Body : List Item → Type 0) (is : List Item)
     (e : Sums) (w : Notes) (f : Framed kind p own Body is) where
@@ -302,7 +285,8 @@ module _ (start kind : ℕ) (p : ℤ) (own : Flags) (Body : List Item → Type 0
         ∙ (ap (λ v. noted start e3 v (last ∷ [])) body_is
         ∙ (ap (λ l. notes (changed_at (length w.spans) ends l) w.begun) (append_assoc w.spans (s1 ∷ []) inner)
         ∙ (ap (λ l. notes l w.begun) (changed-behind w.spans ends s1 inner)
-        ∙ ap (λ s. notes (w.spans ++ s ∷ inner) w.begun) closed))))))
+        ∙ (λ t. notes (w.spans ++ told (length w.begun) (start + e.bytes) k p f.meta (size_is t) (counted t)
+        ∷ inner) w.begun)))))))
       where
         e3 : Sums
         e3 = sums_after e1 f.body
@@ -326,13 +310,6 @@ module _ (start kind : ℕ) (p : ℤ) (own : Flags) (Body : List Item → Type 0
           points_total f.body e1,
           points_total (before_body f) e,
         )
-
-        closed : told (length w.begun) (start + e.bytes) k p f.meta
-            ((start + e3.bytes) - (start + e.bytes)) (e3.points - e.points) ≡ told (length w.begun)
-            (start + e.bytes) k p f.meta (length (join is)) points
-        closed = ap (λ n. told (length w.begun) (start + e.bytes) k p f.meta n
-            (e3.points - e.points)) size_is ∙ ap (λ n. told (length w.begun) (start + e.bytes) k p
-            f.meta (length (join is)) n) counted
 
 -- without members nothing more is noted
 none_more : (w : Notes) → w ≡ notes (w.spans ++ []) w.begun

@@ -18,6 +18,7 @@ use Rattle.twkb_grammar.specs.Spans.{CoversBlob}
 use Rattle.twkb_grammar.specs.Noting.{no_notes, noted}
 use Rattle.twkb_grammar.proofs.Parts.{one_blob_items}
 use Rattle.twkb_grammar.proofs.NotedSpans.{blob_noted}
+use Rattle.twkb_grammar.proofs.Trees.{some_bare}
 
 below_many : (First : List Item → Type 0) (level offset : ℕ) (ids : Rattle.twkb_tree.specs.Tree.Ids)
     (gs : Trees) (meta : ℕ) → Agrees (flags_all ids gs) meta
@@ -27,10 +28,8 @@ below_many : (First : List Item → Type 0) (level offset : ℕ) (ids : Rattle.t
     → length (behind First (ItemsOfAll level gs) offset (λ o js h. spans_of_all level o gs js h) b
     body h) ≡ geometries_of_all gs
 below_many First level offset ids end meta agrees each true bare body h = refl
-below_many First level offset None (g ▷ gs) meta agrees each true bare body h = absurd
-    (false≢true (sym agrees.0 ∙ bare))
-below_many First level offset (Some ids) (g ▷ gs) meta agrees each true bare body h = absurd
-    (false≢true (sym agrees.0 ∙ bare))
+below_many First level offset ids (g ▷ gs) meta agrees each true bare body h = absurd
+    (some_bare ids g gs meta agrees bare)
 below_many First level offset ids gs meta agrees each false full body h = each
     (offset + length (join h.front)) h.rest h.second
 

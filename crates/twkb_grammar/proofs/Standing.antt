@@ -356,16 +356,15 @@ item_noted start e fs AtHeader i byte held w calm r item says number some =
     let is : i.role ≡ Header = some_role Header i.role r in
     let sp : Spells Header i.number i.bytes = subst (λ x. Spells x i.number i.bytes) is item in
     let none : held ≡ [] = no_held held Header (λ h. h) (subst (λ x. (held ≡ []) ⊎ IsNumber x) is number) in
-    ap (λ x. noted_by start e x i.number w) is
-    ∙ ap (λ n. note_header (start + e.bytes) e.points n w)
-    (head_is i.number byte held i.bytes sp.3 says none)
+    let same = head_is i.number byte held i.bytes sp.3 says none in
+    λ t. noted_by start e (is t) (same t) w
 item_noted start e fs (AtMetadata k q) i byte held w calm r item says number some =
     let is : i.role ≡ Metadata (kind_number k) = some_role (Metadata (kind_number k)) i.role r in
     let sp : Spells (Metadata (kind_number k)) i.number i.bytes = subst (λ x. Spells x i.number i.bytes) is item in
     let none : held ≡ [] = no_held held (Metadata (kind_number k)) (λ h. h)
     (subst (λ x. (held ≡ []) ⊎ IsNumber x) is number) in
-    ap (λ x. noted_by start e x i.number w) is ∙ ap (λ n. note_metadata n w)
-    (head_is i.number byte held i.bytes sp.1 says none)
+    let same = head_is i.number byte held i.bytes sp.1 says none in
+    λ t. noted_by start e (is t) (same t) w
 item_noted start e fs (AtOption k h o rs) i byte held w calm r item says number some = quiet start e
     i.role i.number w (subst IsQuiet (sym (some_role o i.role r)) calm)
 item_noted start e fs (AtCount m h) i byte held w calm r item says number some = quiet start e

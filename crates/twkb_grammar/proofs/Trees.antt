@@ -217,12 +217,17 @@ pub names_steps : (ids : Ids) → id_fields ids ≡ steps origin (id_slots ids +
 names_steps None = refl
 names_steps (Some ids) = ids_steps ids
 
+-- a collection with members has a body
+pub some_bare : (ids : Ids) (g : Tree) (gs : Trees) (meta : ℕ) → Agrees (flags_all ids (g ▷ gs)) meta
+    → bit meta 4 ≡ true → ⊥
+some_bare None g gs meta agrees bare = false≢true (sym agrees.0 ∙ bare)
+some_bare (Some ids) g gs meta agrees bare = false≢true (sym agrees.0 ∙ bare)
+
 empty_collection : (ids : Ids) (gs : Trees) (p : ℤ) (meta : ℕ) → HasIds ids (count gs)
     → Agrees (flags_all ids gs) meta → bit meta 4 ≡ true
     → empty_of CollectionKind p ≡ collection p ids gs
 empty_collection ids end p meta fit agrees bare = ap (λ i. collection p i end) (none_left ids fit)
-empty_collection None (g ▷ gs) p meta fit agrees bare = absurd (false≢true (sym agrees.0 ∙ bare))
-empty_collection (Some ids) (g ▷ gs) p meta fit agrees bare = absurd (false≢true (sym agrees.0 ∙ bare))
+empty_collection ids (g ▷ gs) p meta fit agrees bare = absurd (some_bare ids g gs meta agrees bare)
 
 -- the machine runs through the members
 abbrev RunsMembers : Trees → Type 0
@@ -470,9 +475,8 @@ gathered_total : (level : ℕ) (p : ℤ) (ids : Ids) (gs : Trees) (meta : ℕ) (
     → (total nodes_by body ≡ nodes_all gs) × (total points_by body ≡ length (flat_all gs))
 gathered_total level p ids end meta body fit agrees each true bare is =
     (ap (total nodes_by) is, ap (total points_by) is)
-gathered_total level p None (g ▷ gs) meta body fit agrees each true bare is = absurd (false≢true (sym agrees.0 ∙ bare))
-gathered_total level p (Some ids) (g ▷ gs) meta body fit agrees each true bare is = absurd
-    (false≢true (sym agrees.0 ∙ bare))
+gathered_total level p ids (g ▷ gs) meta body fit agrees each true bare is =
+    absurd (some_bare ids g gs meta agrees bare)
 gathered_total level p ids gs meta body fit agrees each false full is =
     let own_slots : List Slot = OfCount (Geometries level) (count gs) ∷ id_slots ids ++ [] in
     let are : AreFields (steps origin own_slots) is.front =
