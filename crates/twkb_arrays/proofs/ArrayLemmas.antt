@@ -24,6 +24,7 @@ use Rattle.twkb_tree.proofs.RowForest.{points_in_range}
 use Rattle.twkb_table.proofs.FieldLemmas.{ArePlain, IsPlain, head_same, tail_same}
 use Rattle.twkb_buffer.specs.Polylines.{coordinates_of, coordinates_at}
 use Rattle.twkb_buffer.specs.declared.point.BufferPoint.{BufferPoint}
+use Rattle.twkb_buffer.proofs.PolylineLemmas.{coordinates_of-append}
 use Rattle.twkb_arrays.specs.Rows.{point_of, points_of, row_in_c, rows_in_c, id_flag, id_number, kind_number}
 use Rattle.twkb_arrays.specs.Rows.{precision_number}
 use Rattle.twkb_arrays.specs.declared.row.BufferRow.{BufferRow}
@@ -49,10 +50,6 @@ pub one_in_range : (own : List BufferPoint) (i : ℕ) (d : BufferPoint) → i < 
 one_in_range own i d within in_range = one_of own i d within (points_in_range (points_of own) in_range)
 
 -- ==== Rows and points that are written into arrays one after another.
-
-pub coordinates_of-append : (ps qs : List Point) → coordinates_of (ps ++ qs) ≡ coordinates_of ps ++ coordinates_of qs
-coordinates_of-append [] qs = refl
-coordinates_of-append (p ∷ ps) qs = ap (λ (xs : List BufferPoint). coordinates_at p ∷ xs) (coordinates_of-append ps qs)
 
 pub length-coordinates_of : (ps : List Point) → length (coordinates_of ps) ≡ length ps
 length-coordinates_of [] = refl

@@ -20,6 +20,7 @@ use Rattle.twkb_table.proofs.FieldLemmas.{ArePlain, IsPlain, head_same}
 use Rattle.twkb_table.proofs.Verdicts.{plain_rows, geometries}
 use Rattle.twkb_buffer.specs.Polylines.{coordinates_of}
 use Rattle.twkb_buffer.specs.declared.point.BufferPoint.{BufferPoint}
+use Rattle.twkb_buffer.proofs.PolylineLemmas.{coordinates_of-append}
 use Rattle.twkb_arrays.specs.Rooms.{Fit}
 use Rattle.twkb_arrays.specs.Rows.{LacksRoom, array_points, array_rows, row_in_c, rows_in_c}
 use Rattle.twkb_arrays.specs.TakenGeometries.{HasTaken, IsFilled, IsWithin, TakesOne}
@@ -27,7 +28,7 @@ use Rattle.twkb_arrays.specs.declared.row.BufferRow.{BufferRow}
 use Rattle.twkb_arrays.specs.declared.taken_geometries.Taken.{Taken}
 use Rattle.twkb_arrays.specs.JudgedRow.{RefusedAfter}
 use Rattle.twkb_arrays.specs.WrittenArrays.{AreArrays, AreRead, ArePointsLeft, IsRefusedRow}
-use Rattle.twkb_arrays.proofs.ArrayLemmas.{coordinates_of-append, laid_length, laid_next, length-coordinates_of}
+use Rattle.twkb_arrays.proofs.ArrayLemmas.{laid_length, laid_next, length-coordinates_of}
 use Rattle.twkb_arrays.proofs.ArrayLemmas.{BeginsWith, begins_with, refused_row, row_points-append}
 use Rattle.twkb_arrays.proofs.RoomLemmas.{comes_after, has_none, has_room, no_more, one_after}
 

@@ -20,7 +20,8 @@ use Rattle.twkb_grammar.specs.Samples.{one_point, three_points, three_points_blo
 use Rattle.twkb_grammar.specs.Samples.{two_lines, named_areas, named_members, named_members_blob}
 use Rattle.twkb_grammar.specs.declared.style.Style.TheVariants.{Full}
 use Rattle.twkb_grammar.proofs.Streams.{written_stream}
-use Rattle.twkb_grammar.proofs.Either.{blob_by, standard_allowed}
+use Rattle.twkb_grammar.specs.PlainReader.{Made, decode}
+use Rattle.twkb_grammar.proofs.Either.{blob_by, some_bytes, standard_allowed}
 use Rattle.twkb_blob.specs.declared.fault.BlobFault.{BlobFault}
 use Rattle.twkb_blob.specs.declared.fault.BlobFault.TheVariants as reading
 use Rattle.twkb_buffer.specs.declared.point.BufferPoint.{BufferPoint}
@@ -210,70 +211,29 @@ written_canonical l style bytes old_rows new_rows old_points new_points counts g
 
 -- ==== A stream with a geometry of each kind is read and written as its rows and points.
 
--- the bytes after the first blobs
-abbrev after_areas : List ℕ
-after_areas = named_members_blob
+-- The bytes are a stream.
+record StreamOf (bytes : List ℕ) (gs : List Tree) : Type 0 where
+  is : Stream standard bytes gs
 
-abbrev after_lines : List ℕ
-after_lines = named_areas_blob ++ after_areas
+-- a blob before a stream, by the plain reader
+blob_first : (front : List ℕ) (g : Tree) {rest : List ℕ} {gs : List Tree} → some_bytes front ≡ true
+    → decode standard front ≡ Made g [] → StreamOf rest gs → StreamOf (front ++ rest) (g ∷ gs)
+blob_first front g {rest = rest} are made more =
+    record { is = (front, rest, refl, blob_by standard front g standard_allowed are made, more.is) }
 
-abbrev after_points : List ℕ
-after_points = two_lines_blob ++ after_lines
-
-abbrev after_rings : List ℕ
-after_rings = named_points_blob ++ after_points
-
-abbrev after_line : List ℕ
-after_line = two_rings_blob ++ after_rings
-
-abbrev after_point : List ℕ
-after_point = three_points_blob ++ after_line
+each_blob : StreamOf each_kind_stream each_kind
+each_blob =
+    blob_first one_point_blob one_point refl refl
+    (blob_first three_points_blob three_points refl refl
+    (blob_first two_rings_blob two_rings refl refl
+    (blob_first named_points_blob named_points refl refl
+    (blob_first two_lines_blob two_lines refl refl
+    (blob_first named_areas_blob named_areas refl refl
+    (blob_first named_members_blob named_members refl refl (record { is = refl })))))))
 
 -- the bytes are a stream of the geometries
 pub is_stream : Stream standard each_kind_stream each_kind
-is_stream = (
-  one_point_blob,
-  after_point,
-  refl,
-  blob_by standard one_point_blob one_point standard_allowed refl refl,
-  (
-    three_points_blob,
-    after_line,
-    refl,
-    blob_by standard three_points_blob three_points standard_allowed refl refl,
-    (
-      two_rings_blob,
-      after_rings,
-      refl,
-      blob_by standard two_rings_blob two_rings standard_allowed refl refl,
-      (
-        named_points_blob,
-        after_points,
-        refl,
-        blob_by standard named_points_blob named_points standard_allowed refl refl,
-        (
-          two_lines_blob,
-          after_lines,
-          refl,
-          blob_by standard two_lines_blob two_lines standard_allowed refl refl,
-          (
-            named_areas_blob,
-            after_areas,
-            refl,
-            blob_by standard named_areas_blob named_areas standard_allowed refl refl,
-            (
-              named_members_blob,
-              [],
-              refl,
-              blob_by standard named_members_blob named_members standard_allowed refl refl,
-              refl,
-            ),
-          ),
-        ),
-      ),
-    ),
-  ),
-)
+is_stream = each_blob.is
 
 -- the bytes are the geometries' canonical stream
 pub is_written : canonical_stream Full each_kind ≡ each_kind_stream

@@ -20,6 +20,7 @@ use Rattle.twkb_grammar.specs.Written.{canonical_blob, canonical_stream}
 use Rattle.twkb_grammar.specs.declared.style.Style.{Style}
 use Rattle.twkb_buffer.specs.Polylines.{coordinates_of}
 use Rattle.twkb_buffer.specs.declared.point.BufferPoint.{BufferPoint}
+use Rattle.twkb_buffer.proofs.PolylineLemmas.{coordinates_of-append}
 use Rattle.twkb_arrays.specs.Rooms.{Fit}
 use Rattle.twkb_arrays.specs.SentBlobs.{HasSent, IsSentWithin, IsStreamIn, LacksBytes, Sends, SendsOne}
 use Rattle.twkb_arrays.specs.declared.sent_blobs.Sent.{Sent}
@@ -31,7 +32,7 @@ use Rattle.twkb_arrays.specs.declared.row.BufferRow.{BufferRow}
 use Rattle.twkb_arrays.specs.declared.written_arrays.Writer.{Writer}
 use Rattle.twkb_arrays.specs.JudgedRow.{AcceptedAfter, HasRightId, id_of, is_no_precision, precision_of, RefusedAfter}
 use Rattle.twkb_arrays.specs.LoneRow.{BeginWithRoot, IsMadeFirst}
-use Rattle.twkb_arrays.proofs.ArrayLemmas.{coordinates_of-append, laid_length, laid_next, row_points-append}
+use Rattle.twkb_arrays.proofs.ArrayLemmas.{laid_length, laid_next, row_points-append}
 use Rattle.twkb_arrays.proofs.RoomLemmas.{comes_after, has_none, has_room, no_more, one_after}
 use Rattle.twkb_arrays.proofs.TakingLemmas.{rows_of-more}
 
