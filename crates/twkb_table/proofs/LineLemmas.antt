@@ -114,62 +114,50 @@ points_next rows i r here =
 counts_join : (before : Work) (nodes more points others : ℕ)
     → counted_on (counted_on before nodes points) more others ≡ counted_on before (nodes + more) (points + others)
 counts_join before nodes more points others =
-    ap (λ (n : ℕ). record before {
-      node_reads = n;
-      point_reads = saturated (saturated (before.point_reads + points) + others);
-    })
-    (joined before.node_reads nodes more)
-    ∙ ap (λ (n : ℕ). record before { node_reads = saturated (before.node_reads + (nodes + more)); point_reads = n })
-    (joined before.point_reads points others)
+    rw (joined before.node_reads nodes more, joined before.point_reads points others)
   where
     joined : (n k m : ℕ) → saturated (saturated (n + k) + m) ≡ saturated (n + (k + m))
     joined n k m = omega arith
 
-pub rows_put_more : (rows : List Row) (i : ℕ) (r : Row) (old text after : List ℕ)
-    (before work next : Work) → RowsPut rows i old text before work → slice_get rows i ≡ Some r
+pub rows_put_more : {rows : List Row} {i : ℕ} {r : Row} {old text after : List ℕ} {before work next : Work}
+    → RowsPut rows i old text before work → slice_get rows i ≡ Some r
     → next ≡ record work {
       node_reads = saturated (work.node_reads + 1);
       point_reads = saturated (work.point_reads + length r.points);
     }
     → after ≡ text ++ row_lines (r ∷ []) → RowsPut rows (i + 1) old after before next
-rows_put_more rows i r old text after before work next so_far here counted put =
-    let more = points_next rows i r here in
-    record {
-      lines = put ∙ ap (λ t. t ++ row_lines (r ∷ [])) so_far.lines
-          ∙ append_assoc old (row_lines (take i rows)) (row_lines (r ∷ []))
-          ∙ ap (λ t. old ++ t) (sym (row_lines-append (take i rows) (r ∷ []))
-          ∙ ap row_lines (sym (take_next rows i r here)));
-      counted = counted ∙ ap (λ (w : Work). counted_on w 1 (length r.points)) so_far.counted
-          ∙ counts_join before i 1 (length (row_points (take i rows))) (length r.points)
-          ∙ ap (λ (n : ℕ). counted_on before (i + 1) n) (sym more);
-    }
+rows_put_more {rows = rows} {i = i} {r = r} {old = old} {before = before} so_far here counted put = record {
+  lines = rw (take_next rows i r here, row_lines-append) (put
+      ∙ rw so_far.lines (append_assoc old (row_lines (take i rows)) (row_lines (r ∷ []))));
+  counted = rw (points_next rows i r here) (counted
+      ∙ ap (λ (w : Work). counted_on w 1 (length r.points)) so_far.counted
+      ∙ counts_join before i 1 (length (row_points (take i rows))) (length r.points));
+}
 
 -- the lines of all rows
-pub all_lines : (rows : List Row) (i : ℕ) (old text : List ℕ) (before work : Work)
+pub all_lines : {rows : List Row} {i : ℕ} {old text : List ℕ} {before work : Work}
     → RowsPut rows i old text before work → i ≡ length rows → text ≡ old ++ row_lines rows
-all_lines rows i old text before work so_far end = so_far.lines
+all_lines {rows = rows} {i = i} {old = old} so_far end = so_far.lines
     ∙ ap (λ (rs : List Row). old ++ row_lines rs) (take_all i rows (omega (arith, end)))
 
 -- all rows and points were read once
-pub all_counted : (rows : List Row) (i : ℕ) (old text : List ℕ) (before work : Work)
+pub all_counted : {rows : List Row} {i : ℕ} {old text : List ℕ} {before work : Work}
     → RowsPut rows i old text before work → i ≡ length rows
     → work ≡ counted_on before (length rows) (length (row_points rows))
-all_counted rows i old text before work so_far end =
-    so_far.counted ∙ ap (λ (n : ℕ). counted_on before n (length (row_points (take i rows)))) end
-    ∙ ap (λ (rs : List Row). counted_on before (length rows) (length (row_points rs)))
-    (take_all i rows (omega (arith, end)))
+all_counted {rows = rows} {i = i} so_far end =
+    let whole = take_all i rows (omega (arith, end)) in
+    rw (← end) (rw whole at so_far.counted)
 
 -- at most as many rows were read as there are
-pub few_nodes : (rows : List Row) (i : ℕ) (old text : List ℕ) (before work : Work)
+pub few_nodes : {rows : List Row} {i : ℕ} {old text : List ℕ} {before work : Work}
     → RowsPut rows i old text before work → i ≤ length rows → work.node_reads ≤ before.node_reads + length rows
-few_nodes rows i old text before work so_far within =
-    omega (arith, within, ap (λ (w : Work). w.node_reads) so_far.counted)
+few_nodes so_far within = omega (arith, within, ap (λ (w : Work). w.node_reads) so_far.counted)
 
 -- at most as many points were read as there are
-pub few_points : (rows : List Row) (i : ℕ) (old text : List ℕ) (before work : Work)
-    → RowsPut rows i old text before work → work.point_reads ≤ before.point_reads + length
-    (row_points rows)
-few_points rows i old text before work so_far =
+pub few_points : {rows : List Row} {i : ℕ} {old text : List ℕ} {before work : Work}
+    → RowsPut rows i old text before work
+    → work.point_reads ≤ before.point_reads + length (row_points rows)
+few_points {rows = rows} {i = i} so_far =
     let both : row_points (take i rows) ++ row_points (drop i rows) ≡ row_points rows =
     sym (flat_map-append (λ (q : Row). q.points) (take i rows) (drop i rows))
     ∙ ap row_points (take-append-drop i rows) in

@@ -10,7 +10,7 @@ use Rattle.twkb_table.proofs.RecordWritingLemmas.{geometry_written, has_written_
 use Rattle.twkb_table.proofs.geometry_text.+lines.Goals as goal
 
 pub write_members-loop-member-init : goal.write_members-loop-member-init
-write_members-loop-member-init t c = has_written_none _ _ _ _ c.requires.ready
+write_members-loop-member-init t c = has_written_none c.requires.ready
 
 pub write_members-write_geometry-requires : goal.write_members-write_geometry-requires
 write_members-write_geometry-requires t c = (
@@ -28,7 +28,7 @@ write_members-write_geometry-requires t c = (
 )
 
 pub write_members-loop-member-preserved : goal.write_members-loop-member-preserved
-write_members-loop-member-preserved t c = has_written_more _ _ _ _ _ _ _ _ _ _
+write_members-loop-member-preserved t c = has_written_more
     c.loop-member.invariant c.loop-member-test.true c.member-item.is c.id_at-id.ensures
     c.in_ok-write_geometry.ensures
 
@@ -38,7 +38,7 @@ write_members-returns t c =
     (member_rows_each c.args.depth c.args.ids.now c.as_slice-member-items.result.now
     ∙ ap (λ gs. member_rows c.args.depth c.args.ids.now (trees gs))
     c.as_slice-member-items.ensures.items)
-    (has_written_all _ _ _ _ _ _ _ c.loop-member.invariant c.loop-member-test.false)
+    (has_written_all c.loop-member.invariant c.loop-member-test.false)
 
 pub write_geometry-returns-in-Polygon : goal.write_geometry-returns-in-Polygon
 write_geometry-returns-in-Polygon t c =

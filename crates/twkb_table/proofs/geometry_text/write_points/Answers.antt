@@ -7,15 +7,15 @@ use Rattle.twkb_table.proofs.RecordWritingLemmas.{has_written_all, has_written_m
 use Rattle.twkb_table.proofs.geometry_text.write_points.Goals as goal
 
 pub loop-point-init : goal.loop-point-init
-loop-point-init c = has_written_none _ _ _ _ c.requires.ready
+loop-point-init c = has_written_none c.requires.ready
 
 pub loop-point-preserved : goal.loop-point-preserved
 loop-point-preserved c =
-    has_written_more _ _ _ _ _ _ _ _ _ _ c.loop-point.invariant c.loop-point-test.true
+    has_written_more c.loop-point.invariant c.loop-point-test.true
     c.point-item.is c.id_at-id.ensures
     (subst (λ ps. Writes c.loop-point.records.writer c.write_part.new.records.writer
     (row_lines (plain_row c.args.depth Kind.Point c.id_at-id.result ps ∷ [])))
     c.from_ref-points.ensures.value c.in_ok-write_part.ensures)
 
 pub returns : goal.returns
-returns c = has_written_all _ _ _ _ _ _ _ c.loop-point.invariant c.loop-point-test.false
+returns c = has_written_all c.loop-point.invariant c.loop-point-test.false
