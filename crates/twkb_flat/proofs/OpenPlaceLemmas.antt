@@ -1,7 +1,7 @@
 -- The open place of a row, and its test by the open rows.
 use mathlib.Core.List.{reverse_aux}
 use Rattle.std.proofs.Common.{◌≡◌, ℕ, zero, suc, ◌+◌, ◌<◌, ◌≤◌, ◌==◌, true, false, List, [], ◌∷◌, length, get_or, Some}
-use Rattle.std.proofs.Common.{refl, sym, ap, ◌∙◌, subst, arith, eq-eqb, ◌-◌, Bool, Option, None}
+use Rattle.std.proofs.Common.{refl, sym, ap, ◌∙◌, subst, arith, eq-eqb, ◌-◌, Bool}
 use Rattle.std.specs.Prelude.{reverse, slice_get, ◌&&◌, ◌↔◌, IsTrue, is_none, nat_lt, nat_le}
 use Rattle.std.proofs.lemmas.List.{length-map}
 use Rattle.std.proofs.lemmas.Bool.Decides.{nat_tests}
@@ -17,8 +17,9 @@ use Rattle.twkb_tree.specs.Accepted.{Continues}
 use Rattle.twkb_tree.specs.RowLists.{AreValidRowsOfOne}
 use Rattle.twkb_tree.specs.Refusal.{checks_under, first_failed, continues}
 use Rattle.twkb_tree.specs.RowPlace.{row_checks, row_place_at}
+use Rattle.twkb_tree.proofs.RowPlaceLemmas.{below_stands}
 use Rattle.twkb_tree.proofs.RowSteps.{last_at-other, other_depth}
-use Rattle.twkb_tree.proofs.OpenLaws.{stepless, no_open_parent, open_parent_at}
+use Rattle.twkb_tree.proofs.OpenLaws.{stepless}
 use Rattle.twkb_tree.proofs.OpenLaws.{continues_is, continues_true, continues_open, open_rows, open_none, open_at}
 use Rattle.twkb_tree.proofs.RowForest.{are_in_range-true, test_within}
 use Rattle.twkb_tree.proofs.LimitLaws.{of_one}
@@ -176,38 +177,17 @@ pub open_is : (d : ℕ) (before : List Row) (os : List OpenRow) (blank o : OpenR
     → AreOpen before os → d < length os → IsOpenAt d before o → get_or os d blank ≡ o
 open_is d before os blank o a lt h = open_alike d before (get_or os d blank) o (open_at d before os blank a lt) h
 
--- a root has no parent
-pub root_stands : (d nodes points : ℕ) (os : List OpenRow) → d ≡ 0
-    → record { depth = d; parent = None; nodes = 0; points = 0 } ≡ row_place_at d os nodes points
-root_stands zero nodes points os e = ap (λ (o : Option OpenRow).
-    record { depth = 0; parent = o; nodes = 0; points = 0 }) (sym (no_open_parent os))
-root_stands (suc d) nodes points os e = absurd (omega (arith, e))
-
--- any other row's parent is the open row above it
-child_stands : (d nodes points : ℕ) (before : List Row) (os : List OpenRow) (o : OpenRow) → 0 < d
-    → AreOpen before os → d ≤ length os → IsOpenAt (d - 1) before o
-    → record { depth = d; parent = Some o; nodes = nodes; points = points } ≡ row_place_at d os nodes points
-child_stands zero nodes points before os o some a le h = absurd (omega arith)
-child_stands (suc d) nodes points before os o some a le h =
-    let above : suc d - 1 ≡ d = omega arith in
-    let is = open_is d before os o o a (omega arith) (subst (λ (k : ℕ). IsOpenAt k before o) above h) in
-    ap (λ (p : Option OpenRow). record {
-      depth = suc d;
-      parent = p;
-      nodes = nodes;
-      points = points;
-    }) (ap (λ (p : OpenRow). Some p) (sym is)
-    ∙ sym (open_parent_at d os o (omega arith)))
-
 -- the place of a row that is not a root, with the counts of rows and points
 pub other_stands : (d n m nodes points : ℕ) (before : List Row) (os : List OpenRow) (o : OpenRow)
     → (d ≡ 0 → ⊥) → AreOpen before os → d ≤ open_count before → IsOpenAt (d - 1) before o
     → n ≡ nodes → m ≡ points
     → record { depth = d; parent = Some o; nodes = n; points = m } ≡ row_place_at d os nodes points
 other_stands d n m nodes points before os o some a le h n_is m_is =
-    ap (λ (k : ℕ). record { depth = d; parent = Some o; nodes = k; points = m }) n_is
-    ∙ ap (λ (k : ℕ). record { depth = d; parent = Some o; nodes = nodes; points = k }) m_is
-    ∙ child_stands d nodes points before os o (omega (arith, some)) a (omega (arith, a.all, le)) h
+    let within : d - 1 < length os = omega (arith, some, a.all, le) in
+    rw (n_is, m_is) (
+    ap (λ (p : OpenRow). record { depth = d; parent = Some p; nodes = nodes; points = points })
+    (sym (open_is (d - 1) before os o o a within h))
+    ∙ (below_stands d os nodes points o some within).1)
 
 -- ---- the rows of a form
 

@@ -420,11 +420,6 @@ all_hold : (cs : List Check) → first_failed cs ≡ None → AllHold cs
 all_hold [] e = tt
 all_hold (c ∷ cs) e = let h = fails_first c.holds c.otherwise cs e in (h.0, all_hold cs h.1)
 
--- none fails if each test holds
-none_fails : (cs : List Check) → AllHold cs → first_failed cs ≡ None
-none_fails [] h = refl
-none_fails (c ∷ cs) h = rw (h.0) (none_fails cs h.1)
-
 -- ---- the tests and what a row must be
 
 -- a precision that passes both tests fits
@@ -506,32 +501,21 @@ passes l steps p f nodes points r e =
 pub passed : (l : Allowance) (steps : Bool) (p f : Option Row) (nodes points : ℕ) (r : Row)
     → Passes l steps p f nodes points r → first_failed
     (checks_under l steps p f nodes points r) ≡ None
-passed l steps p f nodes points r h =
-    none_fails (checks_under l steps p f nodes points r) (
-      h.place,
-      (
-        h.nest,
-        (
-          h.nodes_left,
-          (
-            h.id_range,
-            (
-              h.id,
-              (
-                h.same,
-                (
-                  h.range,
-                  (
-                    h.needed,
-                    (h.precision, (h.allowed, (h.in_range, (h.points_left, (h.number, tt))))),
-                  ),
-                ),
-              ),
-            ),
-          ),
-        ),
-      ),
-    )
+passed l steps p f nodes points r h = rw (
+  h.place,
+  h.nest,
+  h.nodes_left,
+  h.id_range,
+  h.id,
+  h.same,
+  h.range,
+  h.needed,
+  h.precision,
+  h.allowed,
+  h.in_range,
+  h.points_left,
+  h.number,
+) refl
 
 -- a row that passes the tests fits
 pub joined : (l : Allowance) (steps : Bool) (p f : Option Row) (nodes points : ℕ) (r : Row)

@@ -284,10 +284,7 @@ pub row_is : (r : Row) (d : ℕ) (k : Kind) (q : Option ℤ) → r.depth ≡ d �
       precision = q;
       points = r.points;
     }
-row_is r d k q a b c =
-    ap (λ (x : ℕ). record { depth = x; kind = r.kind; id = r.id; precision = r.precision; points = r.points }) a
-    ∙ ap (λ (x : Kind). record { depth = d; kind = x; id = r.id; precision = r.precision; points = r.points }) b
-    ∙ ap (λ (x : Option ℤ). record { depth = d; kind = k; id = r.id; precision = x; points = r.points }) c
+row_is r d k q a b c = rw (sym a, sym b, sym c) refl
 
 -- an option that is none has no number
 pub is_none-none : (o : Option ℤ) → is_none o ≡ true → o ≡ None
@@ -600,6 +597,17 @@ record Shaped (d : ℕ) (r : Row) (c : Nodes) (s : Simple) : Type 0 where
   pub below : simple_below (suc d) s ≡ c
   pub ids : IdsFit s
 
+-- a row whose kind has parts, and the rows below it, make a shape without points of its own
+in_parts : (d : ℕ) (r : Row) (c : Nodes) (k : Kind) (s : Simple) → r.kind ≡ k → has_points k ≡ false
+    → points_fit r.kind true r.points ≡ true → kind_in s ≡ k → own_points s ≡ []
+    → simple_below (suc d) s ≡ c → IdsFit s → Shaped d r c s
+in_parts d r c k s e lacks h kind empty below ids = record {
+  kind = kind ∙ sym e;
+  points = empty ∙ sym (no_points_of k r.kind true r.points e lacks h);
+  below = below;
+  ids = ids;
+}
+
 -- a row and the rows below it make a simple shape
 shaped : (d : ℕ) (r : Row) (c : Nodes) (k : Kind) → r.kind ≡ k → is_ring k ≡ false
     → is_collection k ≡ false → points_fit r.kind true r.points ≡ true → Fit (suc d) (Some r) None c
@@ -610,49 +618,29 @@ shaped d r c kind.Point e ring coll h fit = record {
   below = sym (leaf (suc d) r None c fit (may_none r.kind kind.Point e (λ m. refl)));
   ids = tt;
 }
-shaped d r c kind.Linestring e ring coll h fit =
-    record {
-      kind = sym e;
-      points = refl;
-      below =
-          sym (leaf (suc d) r None c fit (may_none r.kind kind.Linestring e (λ m. refl)));
-      ids = tt;
-    }
-shaped d r c kind.Polygon e ring coll h fit =
-    record {
-      kind = sym e;
-      points = sym (no_points_of kind.Polygon r.kind true r.points e refl h);
-      below = rings_back (suc d) r None c e fit;
-      ids = tt;
-    }
+shaped d r c kind.Linestring e ring coll h fit = record {
+  kind = sym e;
+  points = refl;
+  below = sym (leaf (suc d) r None c fit (may_none r.kind kind.Linestring e (λ m. refl)));
+  ids = tt;
+}
+shaped d r c kind.Polygon e ring coll h fit = in_parts d r c kind.Polygon (polygon (lines_of c)) e refl h refl refl
+    (rings_back (suc d) r None c e fit) tt
 shaped d r c kind.Ring e ring coll h fit = cc ring
 shaped d r c kind.MultiPoint e ring coll h fit =
     let back = points_back (suc d) r None c (first_has_id c) e fit refl in
-    record {
-      kind = sym e;
-      points = sym (no_points_of kind.MultiPoint r.kind true r.points e refl
-          h);
-      below = back;
-      ids = has_ids (suc d) (Some r) None c (length (points_of c)) fit
-          (sym (width-each (λ id q. plain_row (suc d) kind.Point id (q ∷ [])) (λ q. none) (ids_of c)
-          (points_of c)) ∙ ap width back);
-    }
+    in_parts d r c kind.MultiPoint (multi_point (ids_of c) (points_of c)) e refl h refl refl back
+    (has_ids (suc d) (Some r) None c (length (points_of c)) fit
+    (sym (width-each (λ id q. plain_row (suc d) kind.Point id (q ∷ [])) (λ q. none) (ids_of c)
+    (points_of c)) ∙ ap width back))
 shaped d r c kind.MultiLinestring e ring coll h fit =
-    record {
-      kind = sym e;
-      points = sym (no_points_of kind.MultiLinestring r.kind true r.points e
-          refl h);
-      below = lines_back (suc d) r None c (first_has_id c) e fit refl;
-      ids = has_ids (suc d) (Some r) None c (length (lines_of c)) fit (length-lines_of c);
-    }
+    in_parts d r c kind.MultiLinestring (multi_line (ids_of c) (lines_of c)) e refl h refl refl
+    (lines_back (suc d) r None c (first_has_id c) e fit refl)
+    (has_ids (suc d) (Some r) None c (length (lines_of c)) fit (length-lines_of c))
 shaped d r c kind.MultiPolygon e ring coll h fit =
-    record {
-      kind = sym e;
-      points = sym (no_points_of kind.MultiPolygon r.kind true r.points e refl
-          h);
-      below = areas_back (suc d) r None c (first_has_id c) e fit refl;
-      ids = has_ids (suc d) (Some r) None c (length (areas_of c)) fit (length-areas_of c);
-    }
+    in_parts d r c kind.MultiPolygon (multi_polygon (ids_of c) (areas_of c)) e refl h refl refl
+    (areas_back (suc d) r None c (first_has_id c) e fit refl)
+    (has_ids (suc d) (Some r) None c (length (areas_of c)) fit (length-areas_of c))
 shaped d r c kind.Collection e ring coll h fit = cc coll
 
 -- the geometry that a row and the rows below it make
@@ -671,22 +659,7 @@ rebuilt_simple d p f r c w e h coll fit =
     let q = whole_precision p f r w h in
     record {
       tree = (q.1, s.ids);
-      own = ap (λ (k : Kind). record {
-        depth = d;
-        kind = k;
-        id = r.id;
-        precision = Some (number_in r.precision);
-        points = own_points
-            (simple_from r.kind r.points c);
-      }) s.kind
-          ∙ ap (λ (ps : List Point). record {
-            depth = d;
-            kind = r.kind;
-            id = r.id;
-            precision = Some (number_in r.precision);
-            points = ps;
-          }) s.points
-          ∙ sym (row_is r d r.kind (Some (number_in r.precision)) e refl q.0);
+      own = rw (s.kind, s.points) (sym (row_is r d r.kind (Some (number_in r.precision)) e refl q.0));
       below = s.below;
     }
 
@@ -700,15 +673,8 @@ rebuilt_collection d p f r c w e h coll fit trees below =
     let q = whole_precision p f r w h in
     record {
       tree = (q.1, has_ids (suc d) (Some r) None c (count (trees_from c)) fit (count-trees_from c), trees);
-      own = ap (λ (ps : List Point). record {
-        depth = d;
-        kind = kind.Collection;
-        id = r.id;
-        precision = Some (number_in r.precision);
-        points = ps;
-      })
-          (sym (no_points_of kind.Collection r.kind (is_geometry p) r.points k refl h.points))
-          ∙ sym (row_is r d kind.Collection (Some (number_in r.precision)) e k q.0);
+      own = rw (sym (no_points_of kind.Collection r.kind (is_geometry p) r.points k refl h.points))
+          (sym (row_is r d kind.Collection (Some (number_in r.precision)) e k q.0));
       below = below;
     }
 

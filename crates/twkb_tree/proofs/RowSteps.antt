@@ -13,6 +13,7 @@ use Rattle.twkb_tree.specs.RowLists.{IsAbove}
 use Rattle.twkb_tree.specs.Tree.{Tree, Trees, Simple, Ids, simple, collection, end, ◌▷◌, point, line, polygon}
 use Rattle.twkb_tree.specs.Tree.{multi_point, multi_line, multi_polygon, IsTree, AreTrees, AreIds, HasIds, IdsFit}
 use Rattle.twkb_tree.specs.Tree.{count}
+use Rattle.twkb_tree.specs.declared.kind.Kind.{Kind}
 use Rattle.twkb_tree.specs.declared.kind.Kind.TheVariants as kind
 use Rattle.twkb_tree.proofs.RowForest.{both_true, both, Nodes, none, node, listed, past, next_first, Fit, IsDeep, add}
 use Rattle.twkb_tree.proofs.RowForest.{each_nodes, ring_nodes, simple_below, tree_below, member_nodes, all_ids}
@@ -370,33 +371,26 @@ one_forest d p f p' f' (node r c l) (node s t b) x y fit fit' hx hy e =
 -- ==== The forest of a geometry's rows has its rows.
 
 -- the rows of the forest of parts
-listed-each : {A : Type 0} (row : Option ℤ → A → Row) (below : A → Nodes) (ids : Ids) (xs : List A)
-    → listed (each_nodes row below ids xs) ≡ rows_of_each
-    (λ id x. row id x ∷ listed (below x)) ids xs
-listed-each row below ids [] = refl
-listed-each row below ids (x ∷ xs) = ap (λ rs. row (first_id ids) x ∷ (listed (below x) ++ rs))
-    (listed-each row below (other_ids ids) xs)
+listed-each : {A : Type 0} (row : Option ℤ → A → Row) (below : A → Nodes) (rows : A → List Row)
+    → ((x : A) → listed (below x) ≡ rows x) → (ids : Ids) (xs : List A)
+    → listed (each_nodes row below ids xs) ≡ rows_of_each (λ id x. row id x ∷ rows x) ids xs
+listed-each row below rows same ids [] = refl
+listed-each row below rows same ids (x ∷ xs) = rw (same x) (ap (λ rs. row (first_id ids) x ∷ (rows x ++ rs))
+    (listed-each row below rows same (other_ids ids) xs))
 
 -- the rows of the forest of rings
 listed-rings : (d : ℕ) (rings : List (List Point)) → listed (ring_nodes d rings) ≡ ring_rows d rings
-listed-rings d [] = refl
-listed-rings d (ring ∷ rings) = ap (λ rs. plain_row d kind.Ring None ring ∷ rs) (listed-rings d rings)
-
--- the rows of the forest of polygons
-areas_listed : (d : ℕ) (ids : Ids) (areas : List (List (List Point)))
-    → listed (each_nodes (λ id rings. plain_row d kind.Polygon id []) (ring_nodes (suc d)) ids
-    areas) ≡ rows_below d (multi_polygon ids areas)
-areas_listed d ids [] = refl
-areas_listed d ids (rings ∷ areas) = rw (listed-rings (suc d) rings)
-    (ap (λ rs. plain_row d kind.Polygon (first_id ids) [] ∷ (ring_rows (suc d) rings ++ rs))
-    (areas_listed d (other_ids ids) areas))
+listed-rings d rings = listed-each (plain_row d kind.Ring) (λ ring. none) (λ ring. []) (λ ring. refl) None rings
 
 -- the rows of the forest below a simple shape
 listed-simple : (d : ℕ) (s : Simple) → listed (simple_below d s) ≡ rows_below d s
 listed-simple d (polygon rings) = listed-rings d rings
-listed-simple d (multi_point ids ps) = listed-each (λ id p. plain_row d kind.Point id (p ∷ [])) (λ p. none) ids ps
-listed-simple d (multi_line ids lines) = listed-each (plain_row d kind.Linestring) (λ ps. none) ids lines
-listed-simple d (multi_polygon ids areas) = areas_listed d ids areas
+listed-simple d (multi_point ids ps) = listed-each (λ id p. plain_row d kind.Point id (p ∷ [])) (λ p. none)
+    (λ p. []) (λ p. refl) ids ps
+listed-simple d (multi_line ids lines) = listed-each (plain_row d kind.Linestring) (λ ps. none)
+    (λ ps. []) (λ ps. refl) ids lines
+listed-simple d (multi_polygon ids areas) = listed-each (λ id rings. plain_row d kind.Polygon id [])
+    (ring_nodes (suc d)) (ring_rows (suc d)) (listed-rings (suc d)) ids areas
 listed-simple d _ = refl
 
 mutual
@@ -627,16 +621,11 @@ ids_of-members d (Some (id ∷ ids)) (g ▷ gs) h =
     let has : first_has_id (member_nodes d (Some (id ∷ ids)) (g ▷ gs)) ≡ true = rw (own_row-id (Some id) d g) refl in
     ap (λ b. ids_when b (member_nodes d (Some (id ∷ ids)) (g ▷ gs))) has ∙ ap (λ is. Some is) one
 
--- the forest of rings gives the rings
-lines_of-rings : (d : ℕ) (rings : List (List Point)) → lines_of (ring_nodes d rings) ≡ rings
-lines_of-rings d [] = refl
-lines_of-rings d (ring ∷ rings) = ap (λ ls. ring ∷ ls) (lines_of-rings d rings)
-
--- the forest of linestrings gives the linestrings
-lines_of-lines : (d : ℕ) (ids : Ids) (lines : List (List Point))
-    → lines_of (each_nodes (plain_row d kind.Linestring) (λ ps. none) ids lines) ≡ lines
-lines_of-lines d ids [] = refl
-lines_of-lines d ids (ps ∷ lines) = ap (λ ls. ps ∷ ls) (lines_of-lines d (other_ids ids) lines)
+-- the forest of rings or of linestrings gives them
+lines_of-each : (d : ℕ) (k : Kind) (ids : Ids) (lines : List (List Point))
+    → lines_of (each_nodes (plain_row d k) (λ ps. none) ids lines) ≡ lines
+lines_of-each d k ids [] = refl
+lines_of-each d k ids (ps ∷ lines) = ap (λ ls. ps ∷ ls) (lines_of-each d k (other_ids ids) lines)
 
 -- the forest of points gives the points
 points_of-points : (d : ℕ) (ids : Ids) (ps : List Point)
@@ -649,13 +638,13 @@ areas_of-areas : (d : ℕ) (ids : Ids) (areas : List (List (List Point)))
     → areas_of (each_nodes (λ id rings. plain_row d kind.Polygon id []) (ring_nodes (suc d)) ids
     areas) ≡ areas
 areas_of-areas d ids [] = refl
-areas_of-areas d ids (rings ∷ areas) = rw (lines_of-rings (suc d) rings)
+areas_of-areas d ids (rings ∷ areas) = rw (lines_of-each (suc d) kind.Ring None rings)
     (ap (λ ls. rings ∷ ls) (areas_of-areas d (other_ids ids) areas))
 
 -- the forest below a simple shape gives the shape
 simple_from-below : (d : ℕ) (s : Simple) → IdsFit s → simple_from (kind_in s) (own_points s) (simple_below d s) ≡ s
 simple_from-below d (point None) h = refl
-simple_from-below d (polygon rings) h = ap (λ ls. polygon ls) (lines_of-rings d rings)
+simple_from-below d (polygon rings) h = ap (λ ls. polygon ls) (lines_of-each d kind.Ring None rings)
 simple_from-below d (multi_point ids ps) h =
     ap (λ is. multi_point is (points_of (simple_below d (multi_point ids ps))))
     (ids_of-each (λ id p. plain_row d kind.Point id (p ∷ [])) (λ p. none) ids ps
@@ -664,7 +653,7 @@ simple_from-below d (multi_point ids ps) h =
 simple_from-below d (multi_line ids lines) h =
     ap (λ is. multi_line is (lines_of (simple_below d (multi_line ids lines))))
     (ids_of-each (plain_row d kind.Linestring) (λ ps. none) ids lines (λ id x. refl) h)
-    ∙ ap (λ ls. multi_line ids ls) (lines_of-lines d ids lines)
+    ∙ ap (λ ls. multi_line ids ls) (lines_of-each d kind.Linestring ids lines)
 simple_from-below d (multi_polygon ids areas) h =
     ap (λ is. multi_polygon is (areas_of (simple_below d (multi_polygon ids areas))))
     (ids_of-each (λ id rings. plain_row d kind.Polygon id []) (ring_nodes (suc d)) ids areas

@@ -1,12 +1,13 @@
 use Rattle.std.proofs.Common.{length}
 use Rattle.std.specs.Prelude.{reverse}
 use Rattle.twkb_tree.specs.Rows.{row_points}
-use Rattle.twkb_flat.proofs.OpenPlaceLemmas.{root_stands, other_stands}
+use Rattle.twkb_tree.proofs.RowPlaceLemmas.{root_stands}
+use Rattle.twkb_flat.proofs.OpenPlaceLemmas.{other_stands}
 use Rattle.twkb_flat.proofs.flat.Flat.row_place.Goals as goal
 
 pub returns-then-depth-eq0 : goal.returns-then-depth-eq0
-returns-then-depth-eq0 c = λ os a. root_stands c.args.depth (length c.args.self.now)
-    (length (row_points c.args.self.now)) os c.if-depth-eq0.true
+returns-then-depth-eq0 c = λ os a. (root_stands c.args.depth os (length c.args.self.now)
+    (length (row_points c.args.self.now)) c.if-depth-eq0.true).1
 
 pub returns : goal.returns
 returns c = λ os a.
