@@ -5,21 +5,19 @@ use Rattle.std.proofs.Common.{append-nil, add-one}
 use Rattle.std.specs.Prelude.{ℤ, Result, OnOk}
 use Rattle.std.proofs.lemmas.List.{drop_all}
 use Rattle.twkb_points.specs.Point.{Point}
-use Rattle.twkb_tree.specs.declared.kind.Kind.{Kind}
 use Rattle.twkb_tree.specs.Limits.{largest_limits}
 use Rattle.twkb_tree.specs.Tree.{Ids, Tree, trees}
 use Rattle.twkb_tree.specs.Shape.{tree_of}
 use Rattle.twkb_tree.specs.declared.geometry.Shape.{Shape}
-use Rattle.twkb_tree.specs.Rows.{Row, plain_row, first_id, ids_from, rows_of_each, rows_with}
-use Rattle.twkb_tree.specs.Rows.{rows_under, own_row, member_rows}
+use Rattle.twkb_tree.specs.Rows.{Row, first_id, ids_from, rows_of_each, rows_with}
+use Rattle.twkb_tree.specs.Rows.{rows_under, member_rows}
 use Rattle.twkb_tree.specs.Accepted.{Continues}
 use Rattle.twkb_tree.specs.RowLists.{AreValidRowsOfOne, AreShallow}
 use Rattle.twkb_tree.proofs.LimitLaws.{valid_list, continues_row, one_valid_front}
 use Rattle.twkb_tree.proofs.RowDepths.{valid_depths}
-use Rattle.twkb_tree.proofs.RowSteps.{own_row-depth}
-use Rattle.twkb_tree.proofs.MemberLemmas.{each_next, ids_from_start, member_rows_each, own_row_first, under_shape}
+use Rattle.twkb_tree.proofs.MemberLemmas.{each_next, ids_from_start, member_rows_each, under_shape}
 use Rattle.twkb_flat.specs.Rows.{row_depth_cap}
-use Rattle.twkb_flat.specs.Components.{IsSimple, component_rows}
+use Rattle.twkb_flat.specs.Components.{IsSimple}
 
 -- these are rows of one geometry within the largest limits
 abbrev pub AreFlatRows : List Row → Type 0
@@ -110,81 +108,38 @@ pub has_rows_all : {A : Type 0} (f : Option ℤ → A → List Row) (ids : Ids) 
 has_rows_all f ids xs i index old now has done = sym (append-nil now)
     ∙ ap (λ ys. now ++ rows_of_each f (ids_from i ids) ys) (sym (drop_all i xs done)) ∙ has.rows
 
--- ---- a component
+-- ---- a component or a geometry: its own row, and the rows under it
 
--- the component's own row may be pushed
-pub component_may_push : {A : Type 0} (own : A → List Point) (below : ℕ → A → List Row) (k : Kind)
-    (d : ℕ) (id : Option ℤ) (x : A) (ps : List Point) (now : List Row)
-    → AreFlatRows (now ++ component_rows own below k d id x) → ps ≡ own x
-    → Continues largest_limits now (plain_row d k id ps)
-component_may_push own below k d id x ps now v e =
-    subst (λ (qs : List Point). Continues largest_limits now (plain_row d k id qs)) (sym e)
-    (may_push now (plain_row d k id (own x)) (below (suc d) x) v)
-
--- after its own row the rows below it come next
-pub component_goes_on : {A : Type 0} (own : A → List Point) (below : ℕ → A → List Row) (k : Kind) (d : ℕ)
-    (id : Option ℤ) (x : A) (ps : List Point) (now after : List Row)
-    → AreFlatRows (now ++ component_rows own below k d id x) → ps ≡ own x
-    → after ≡ now ++ plain_row d k id ps ∷ [] → AreFlatRows (after ++ below (d + 1) x)
-component_goes_on own below k d id x ps now after v e pushed =
-    subst (λ j. AreFlatRows (after ++ below j x)) (sym (add-one d))
-    (others_go_on now (plain_row d k id (own x)) (below (suc d) x) after v
-    (pushed ∙ ap (λ (qs : List Point). now ++ plain_row d k id qs ∷ []) e))
-
--- with the rows below it, all rows of the component are pushed
-pub component_pushed : {A : Type 0} (own : A → List Point) (below : ℕ → A → List Row) (k : Kind) (d : ℕ)
-    (id : Option ℤ) (x : A) (ps : List Point) (now after last : List Row) → ps ≡ own x
-    → after ≡ now ++ plain_row d k id ps ∷ [] → last ≡ after ++ below (d + 1) x
-    → last ≡ now ++ component_rows own below k d id x
-component_pushed own below k d id x ps now after last e pushed all =
-    all ∙ ap (λ j. after ++ below j x) (add-one d)
-    ∙ ap (λ rs. rs ++ below (suc d) x)
-    (pushed ∙ ap (λ (qs : List Point). now ++ plain_row d k id qs ∷ []) e)
-    ∙ append_assoc now (plain_row d k id (own x) ∷ []) (below (suc d) x)
-
--- a component is no deeper than the cap
-pub component_no_deeper : {A : Type 0} (own : A → List Point) (below : ℕ → A → List Row) (k : Kind)
-    (d : ℕ) (id : Option ℤ) (x : A) (now : List Row)
-    → AreFlatRows (now ++ component_rows own below k d id x) → d ≤ row_depth_cap
-component_no_deeper own below k d id x now v = no_deeper now (plain_row d k id (own x)) (below (suc d) x) v
-
--- ---- a geometry
-
--- the geometry's own row may be pushed
-pub own_may_push : (id : Option ℤ) (d : ℕ) (g : Tree) (r : Row) (old : List Row)
-    → AreFlatRows (old ++ rows_with id d g) → r ≡ own_row id d g → Continues largest_limits old r
-own_may_push id d g r old v e = subst (Continues largest_limits old) (sym e)
-    (may_push old (own_row id d g) (rows_under (suc d) g)
-    (subst (λ rs. AreFlatRows (old ++ rs)) (own_row_first id d g) v))
+-- its own row may be pushed
+pub own_may_push : (under : ℕ → List Row) (d : ℕ) (old rows : List Row) (r s : Row)
+    → AreFlatRows (old ++ rows) → rows ≡ r ∷ under (suc d) → s ≡ r → Continues largest_limits old s
+own_may_push under d old rows r s v whole e = subst (Continues largest_limits old) (sym e)
+    (may_push old r (under (suc d)) (subst (λ rs. AreFlatRows (old ++ rs)) whole v))
 
 -- after its own row the rows under it come next
-pub under_goes_on : (id : Option ℤ) (d : ℕ) (g : Tree) (r : Row) (old now : List Row)
-    → AreFlatRows (old ++ rows_with id d g) → r ≡ own_row id d g → now ≡ old ++ r ∷ []
-    → AreFlatRows (now ++ rows_under (d + 1) g)
-under_goes_on id d g r old now v e pushed =
-    subst (λ j. AreFlatRows (now ++ rows_under j g)) (sym (add-one d))
-    (others_go_on old (own_row id d g) (rows_under (suc d) g) now
-    (subst (λ rs. AreFlatRows (old ++ rs)) (own_row_first id d g) v)
+pub under_goes_on : (under : ℕ → List Row) (d : ℕ) (old rows now : List Row) (r s : Row)
+    → AreFlatRows (old ++ rows) → rows ≡ r ∷ under (suc d) → s ≡ r → now ≡ old ++ s ∷ []
+    → AreFlatRows (now ++ under (d + 1))
+under_goes_on under d old rows now r s v whole e pushed =
+    subst (λ j. AreFlatRows (now ++ under j)) (sym (add-one d))
+    (others_go_on old r (under (suc d)) now (subst (λ rs. AreFlatRows (old ++ rs)) whole v)
     (pushed ∙ ap (λ q. old ++ q ∷ []) e))
 
--- with the rows under it, all rows of the geometry are pushed
-pub all_pushed : {T E : Type 0} (result : Result T E) (id : Option ℤ) (d : ℕ) (g : Tree) (r : Row)
-    (old now last : List Row) → r ≡ own_row id d g → now ≡ old ++ r ∷ []
-    → OnOk result (last ≡ now ++ rows_under (d + 1) g)
-    → OnOk result (last ≡ old ++ rows_with id d g)
-all_pushed result id d g r old now last e pushed told =
-    subst (λ rs. OnOk result (last ≡ rs))
-    (ap (λ j. now ++ rows_under j g) (add-one d) ∙ ap (λ rs. rs ++ rows_under (suc d) g) pushed
-    ∙ append_assoc old (r ∷ []) (rows_under (suc d) g)
-    ∙ ap (λ q. old ++ q ∷ rows_under (suc d) g) e ∙ ap (λ rs. old ++ rs) (sym (own_row_first id d g)))
-    told
+-- with the rows under it, all its rows are pushed
+pub all_pushed : (under : ℕ → List Row) (d : ℕ) (old rows now : List Row) (r s : Row)
+    → rows ≡ r ∷ under (suc d) → s ≡ r → now ≡ old ++ s ∷ [] → now ++ under (d + 1) ≡ old ++ rows
+all_pushed under d old rows now r s whole e pushed =
+    ap (λ j. now ++ under j) (add-one d)
+    ∙ ap (λ rs. rs ++ under (suc d)) (pushed ∙ ap (λ q. old ++ q ∷ []) e)
+    ∙ append_assoc old (r ∷ []) (under (suc d)) ∙ ap (λ rs. old ++ rs) (sym whole)
 
--- a geometry is no deeper than the cap
-pub own_no_deeper : (id : Option ℤ) (d : ℕ) (g : Tree) (old : List Row) → AreFlatRows (old ++ rows_with id d g)
-    → d ≤ row_depth_cap
-own_no_deeper id d g old v = subst (λ e. e ≤ row_depth_cap) (own_row-depth id d g)
-    (no_deeper old (own_row id d g) (rows_under (suc d) g)
-    (subst (λ rs. AreFlatRows (old ++ rs)) (own_row_first id d g) v))
+-- it is no deeper than the cap
+pub own_no_deeper : (under : ℕ → List Row) (d : ℕ) (old rows : List Row) (r : Row)
+    → AreFlatRows (old ++ rows) → rows ≡ r ∷ under (suc d) → r.depth ≡ d → d ≤ row_depth_cap
+own_no_deeper under d old rows r v whole at = subst (λ e. e ≤ row_depth_cap) at
+    (no_deeper old r (under (suc d)) (subst (λ rs. AreFlatRows (old ++ rs)) whole v))
+
+-- ---- a geometry
 
 -- the rows under a geometry, by their definition
 pub under_valid : (d : ℕ) (g : Tree) (under old : List Row) → AreFlatRows (old ++ rows_under d g)

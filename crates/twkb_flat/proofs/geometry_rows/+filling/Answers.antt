@@ -1,8 +1,10 @@
-use Rattle.std.proofs.Common.{◌∙◌, ◌++◌, ap, arith, rules}
+use Rattle.std.proofs.Common.{◌≡◌, ◌∙◌, ◌++◌, ap, arith, rules, subst}
+use Rattle.std.specs.Prelude.{OnOk}
 use Rattle.twkb_tree.specs.Tree.{trees}
-use Rattle.twkb_tree.specs.Rows.{rows_with, member_rows}
+use Rattle.twkb_tree.specs.Rows.{rows_with, rows_under, member_rows}
 use Rattle.twkb_tree.specs.Size.{member_smaller}
-use Rattle.twkb_tree.proofs.MemberLemmas.{member_rows_each, under_shape}
+use Rattle.twkb_tree.proofs.MemberLemmas.{member_rows_each, own_row_first, under_shape}
+use Rattle.twkb_tree.proofs.RowSteps.{own_row-depth}
 use Rattle.twkb_flat.proofs.FillLemmas.{is_simple, has_rows_none, has_rows_more, has_rows_all}
 use Rattle.twkb_flat.proofs.FillLemmas.{next_goes_on, members_valid, own_may_push, own_no_deeper}
 use Rattle.twkb_flat.proofs.FillLemmas.{under_goes_on, all_pushed, under_valid, under_pushed}
@@ -32,21 +34,28 @@ push_members-returns t c =
     c.as_slice-member-items.ensures.items)
 
 pub push_geometry-push-requires : goal.push_geometry-push-requires
-push_geometry-push-requires t c = own_may_push _ _ _ _ _ c.requires c.own_row.ensures
+push_geometry-push-requires t c = own_may_push (λ k. rows_under k c.args.geometry.now) _ _ _ _ _
+    c.requires (own_row_first _ _ _) c.own_row.ensures
 
 pub push_geometry-overflow_add-below : goal.push_geometry-overflow_add-below
-push_geometry-overflow_add-below t c = let small = own_no_deeper _ _ _ _ c.requires in omega arith
+push_geometry-overflow_add-below t c =
+    let g = c.args.geometry.now in
+    let small = own_no_deeper (λ k. rows_under k g) c.args.depth _ _ _ c.requires (own_row_first _ _ g)
+    (own_row-depth _ _ g) in
+    omega arith
 
 pub push_geometry-push_under-requires : goal.push_geometry-push_under-requires
 push_geometry-push_under-requires t c = (
   search rules,
-  under_goes_on _ _ _ _ _ _ c.requires c.own_row.ensures
-      c.in_ok-push.ensures.pushed,
+  under_goes_on (λ k. rows_under k c.args.geometry.now) _ _ _ _ _ _ c.requires (own_row_first _ _ _)
+      c.own_row.ensures c.in_ok-push.ensures.pushed,
 )
 
 pub push_geometry-returns : goal.push_geometry-returns
-push_geometry-returns t c = all_pushed _ _ _ _ _ _ _ _ c.own_row.ensures c.in_ok-push.ensures.pushed
-    c.push_under.ensures
+push_geometry-returns t c =
+    let all = all_pushed (λ k. rows_under k c.args.geometry.now) _ _ _ _ _ _ (own_row_first _ _ _)
+    c.own_row.ensures c.in_ok-push.ensures.pushed in
+    subst (λ rs. OnOk c.push_under.result (c.push_under.new.flat ≡ rs)) all c.push_under.ensures
 
 pub push_under-push_members-requires : goal.push_under-push_members-requires
 push_under-push_members-requires t c = (
