@@ -123,8 +123,7 @@ impl Engine {
     // Takes points of the open list, of which some must be left; an x must come next, none of it
     // held. Does not go past the list's end. Returns how many bytes they had; 0 if the next is out
     // of range, cut or too long, or if the form may lack room for all that are left. Takes memory.
-    // Not inlined, so that its callers keep their registers.
-    #[inline(never)]
+    #[inline(always)]
     fn take_list(&mut self, flat: &mut Flat, rest: &[u8]) -> Result<usize, AllocError>
         requires ahead { IsAhead X self.old (length rest.now) }
         requires some { 0 < self.old.points_left }
