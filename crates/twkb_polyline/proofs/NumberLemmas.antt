@@ -511,18 +511,24 @@ number_verdict k c more low high some few =
           ]
     ]
 
+-- a number stops at a character that does not go on, or is the thirteenth
+reached_stops : {rest : List ℕ} {k c : ℕ} {answer : Option (ℕ × PolyReason)} (reached : Reaches rest k c)
+    → (GoesOn c → 12 ≤ k) → verdict k (c ∷ reached.after) ≡ answer → Stops rest answer
+reached_stops {c = c} reached halts answered = record {
+  us = reached.before;
+  left = c ∷ reached.after;
+  split = reached.split;
+  go_on = reached.go_on;
+  within = omega (arith, reached.place, reached.within);
+  halts = λ goes. omega (arith, reached.place, halts goes);
+  answered = ap (λ n. verdict n (c ∷ reached.after)) reached.place ∙ answered;
+}
+
 -- the fault of a number is the verdict where it stops
 pub fault_stops : (rest : List ℕ) (k : ℕ) (reason : PolyReason) → IsNumberFault rest k reason
     → Stops rest (Some (k, reason))
-fault_stops rest k BadChar f = record {
-  us = f.1.before;
-  left = f.0 ∷ f.1.after;
-  split = f.1.split;
-  go_on = f.1.go_on;
-  within = omega (arith, f.1.place, f.1.within);
-  halts = λ goes. absurd (f.2 (omega (arith, goes.0), goes.1));
-  answered = ap (λ n. verdict n (f.0 ∷ f.1.after)) f.1.place ∙ outside_verdict k f.0 f.1.after f.2;
-}
+fault_stops rest k BadChar f = reached_stops f.1 (λ goes. absurd (f.2 (omega (arith, goes.0), goes.1)))
+    (outside_verdict k f.0 f.1.after f.2)
 fault_stops rest k Cut f = record {
   us = rest;
   left = [];
@@ -537,28 +543,11 @@ fault_stops rest k TooLong f =
     [ inl goes ↦ omega (arith, goes.0) | inr ends ↦ omega (arith, ends.1.0, ends.2) ] in
     let high : f.0.character ≤ 126 = elim f.0.too_much
     [ inl goes ↦ goes.1 | inr ends ↦ omega (arith, ends.1.0, ends.1.1) ] in
-    record {
-      us = f.0.reached.before;
-      left = f.0.character ∷ f.0.reached.after;
-      split = f.0.reached.split;
-      go_on = f.0.reached.go_on;
-      within = omega (arith, f.0.reached.place);
-      halts = λ goes. omega (arith, f.0.reached.place);
-      answered = ap (λ n. verdict n (f.0.character ∷ f.0.reached.after)) f.0.reached.place
-          ∙ too_long_verdict f.0.character f.0.reached.after low high
-          ∙ ap (λ n. Some (n, TooLong)) (sym f.1);
-    }
-fault_stops rest k Padded f = record {
-  us = f.0.reached.before;
-  left = f.0.character ∷ f.0.reached.after;
-  split = f.0.reached.split;
-  go_on = f.0.reached.go_on;
-  within = omega (arith, f.0.reached.place, f.0.reached.within);
-  halts = λ goes. absurd (omega (arith, goes.0, f.0.zero.0));
-  answered = padded_verdict (length f.0.reached.before) f.0.character f.0.reached.after
-      (omega (arith, f.0.reached.place, f.0.some)) (omega (arith, f.0.zero.0))
-      ∙ ap (λ n. Some (n, Padded)) (sym f.1);
-}
+    reached_stops f.0.reached (λ goes. omega arith) (too_long_verdict f.0.character f.0.reached.after low high
+    ∙ ap (λ n. Some (n, TooLong)) (sym f.1))
+fault_stops rest k Padded f = reached_stops f.0.reached (λ goes. absurd (omega (arith, goes.0, f.0.zero.0)))
+    (padded_verdict f.0.place f.0.character f.0.reached.after f.0.some (omega (arith, f.0.zero.0))
+    ∙ ap (λ n. Some (n, Padded)) (sym f.1))
 fault_stops rest k _ f = absurd f
 
 -- a number stops after its groups
