@@ -10,7 +10,7 @@ use Rattle.std.specs.Int.{bit_at, bit_not, trailing_zeros}
 use Rattle.std.proofs.lemmas.Bool.{cases_lt, eq-eqb, lt-ltb, le-ltb, ltb-true, ltb-false, eqb-true}
 use Rattle.std.proofs.lemmas.List.{drop-drop, drop-map, drop_all, get_or-drop, get_or-map, get_or-take, get_or_past}
 use Rattle.std.proofs.lemmas.List.{length-drop, length-map, length-take-le, length-take, take-map, take-take, take_all}
-use Rattle.std.proofs.lemmas.List.{take_rest, drop-take, take-append-le, take-append-drop, map-id}
+use Rattle.std.proofs.lemmas.List.{take_min, take_rest, drop-take, take-append-le, take-append-drop, map-id}
 use Rattle.std.proofs.lemmas.Nat.{and_le_l, le_or_r, or_lt, shr-shr, and_mask, one_shl, pow-add}
 use Rattle.std.proofs.lemmas.Nat.Bits.{bit_at-suc, bit_at_and, bit_at_or, bit_at_not, bit_at-pow_other}
 use Rattle.std.proofs.lemmas.Nat.Bits.{bit_at-trailing_zeros, ones_shr}
@@ -177,47 +177,37 @@ pub ends_of : (base radix most n ends : ℕ) (bytes : List ℕ) → most < 2 * r
     → AreEndsBefore radix most (units_in base (take n bytes)) ends → AreEnds base radix bytes ends
 ends_of base radix most n ends bytes bound room long fit before =
     let unit = λ (b : ℕ). (b + (2 ^ 8 - base)) % 2 ^ 8 in
-    let m = min before.count n in
     let all = units_in base (take n bytes) in
-    let us = units_in base (take m bytes) in
-    let all_long : length all ≡ n = length-map (take n bytes) unit ∙ length-take-le n bytes long in
-    let us_long : length us ≡ m = length-map (take m bytes) unit ∙ length-take-le m bytes (omega arith) in
-    let bytes_long : length (take m bytes) ≡ m = length-take-le m bytes (omega arith) in
-    let cut : take before.count all ≡ us = cut_at before.count n bytes in
-    let same = λ (k : ℕ) (low : k < m). get_or-map unit (take n bytes) k 0 0
-    (omega (arith, length-take-le n bytes long)) ∙ ap unit
-    (get_or-take n bytes k 0 (omega arith) ∙ sym (get_or-take m bytes k 0 low))
-    ∙ sym (get_or-map unit (take m bytes) k 0 0 (omega arith)) in
-    let each = λ (k : ℕ) (low : k < m). let is : get_or all k 0 ≡ get_or us k 0 = same k low in
+    let front = take before.count (take n bytes) in
+    let us = units_in base front in
+    let cut : take before.count all ≡ us = take-map unit before.count (take n bytes) in
+    let bytes_long = length-take-le n bytes long in
+    let all_long : length all ≡ n = length-map (take n bytes) unit ∙ bytes_long in
+    let us_long : length us ≡ min before.count n = length-map front unit
+    ∙ length-take before.count (take n bytes) ∙ ap (min before.count) bytes_long in
+    let same = λ (k : ℕ) (low : k < length us). let is : get_or us k 0 ≡ get_or all k 0 =
+    ap (λ vs. get_or vs k 0) (sym cut) ∙ get_or-take before.count all k 0 (omega arith) in is in
+    let each = λ (k : ℕ) (low : k < length us). let is = same k low in
     let small = before.below k (omega arith) (omega arith) in
     let few : get_or us k 0 ≤ most = omega arith in few in
     record {
       units = us;
       are = record {
         within = omega arith;
-        same = ap (λ k. take k bytes) us_long ∙ same_units base most (take m bytes) room
-            (chunk-fits w8 0 m bytes fit) (λ k low. each k (omega arith));
-        below = all_below us (2 * radix) (omega arith) (λ k low. let few = each k (omega arith) in omega arith);
+        same = ap (λ k. take k bytes) us_long ∙ sym (take-take (min before.count n) n bytes (omega arith))
+            ∙ ap (λ l. take (min before.count l) (take n bytes)) (sym bytes_long) ∙ take_min before.count (take n bytes)
+            ∙ same_units base most front room
+            (Each1-chunk (Fits w8) 0 before.count (take n bytes) (chunk-fits w8 0 n bytes fit))
+            (λ k low. each k (omega (arith, length-map front unit)));
+        below = all_below us (2 * radix) (omega arith) (λ k low. let few = each k low in omega arith);
         shortest = λ k low is_zero.
-            let next : get_or all (suc k) 0 ≡ get_or us (suc k) 0 = same (suc k) (omega arith) in
-            let this : get_or all k 0 ≡ get_or us k 0 = same k (omega arith) in
+            let next = same (suc k) low in
+            let this = same k (omega arith) in
             let ended = before.shortest k (omega arith) (omega arith) (omega arith) in
             omega arith;
         marks = before.marks ∙ ap (λ vs. mask_l (map (λ u. nat_lt u radix) vs)) cut;
       };
     }
-  where
-    cut_at : (count n : ℕ) (bytes : List ℕ) → take count (units_in base (take n bytes))
-        ≡ units_in base (take (min count n) bytes)
-    cut_at count n bytes = take-map (λ b. (b + (2 ^ 8 - base)) % 2 ^ 8) count (take n bytes)
-        ∙ ap (units_in base) (take_twice count n bytes)
-      where
-        take_twice : (i j : ℕ) (bs : List ℕ) → take i (take j bs) ≡ take (min i j) bs
-        take_twice i j bs = elim (cases_lt i j) [
-          | inl less ↦ let e : i ≡ min i j = omega arith in take-take i j bs (omega arith) ∙ ap (λ k. take k bs) e
-          | inr more ↦ let e : j ≡ min i j = omega arith in
-              take_all i (take j bs) (omega (arith, length-take j bs)) ∙ ap (λ k. take k bs) e
-        ]
 
 -- there are no ends if there are too few bytes
 pub no_ends : (base radix : ℕ) (bytes : List ℕ) → 0 < radix → AreEnds base radix bytes 0
