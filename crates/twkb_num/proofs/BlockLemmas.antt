@@ -350,7 +350,8 @@ module _ (text : List ℕ) (long : 8 ≤ length text) where
       ∙ sym (number_of-append 256 first last) in
       ap (digits_l 256 16) joined
       ∙ digits-number 256 16 (first_and_last text) length-first_and_last
-      (Each1-append (λ b. b < 256) first last (Each1-chunk (λ b. b < 256) 0 8 text below) (Each1-drop (λ b. b < 256) (length text - 8) text below))
+      (Each1-append (λ b. b < 256) first last (Each1-chunk (λ b. b < 256) 0 8 text below)
+      (Each1-drop (λ b. b < 256) (length text - 8) text below))
 
   -- the first eight and the last eight, cut at `used` characters, are the text cut there
   pub cut_apart : (used : ℕ) → used ≤ 8 → used ≤ length text → length text ≤ used + 8

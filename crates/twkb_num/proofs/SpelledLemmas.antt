@@ -411,10 +411,14 @@ module _ (base radix a b c d : ℕ) (alphabet : IsRadix radix) (p : a < radix ^ 
 
   module _ (units : List ℕ) (units_are : units ≡ units_of_four base radix a b c d) where
     low_is : mask_from (base + radix) units % 256 ≡ low_marks
-    low_is = let low = (shuffle_at (more_of a) (more_of b) (few a) (few b)).2 in omega (arith, marks_read units units_are)
+    low_is =
+        let low = (shuffle_at (more_of a) (more_of b) (few a) (few b)).2 in
+        omega (arith, marks_read units units_are)
 
     high_is : mask_from (base + radix) units / 256 ≡ high_marks
-    high_is = let low = (shuffle_at (more_of a) (more_of b) (few a) (few b)).2 in omega (arith, marks_read units units_are)
+    high_is =
+        let low = (shuffle_at (more_of a) (more_of b) (few a) (few b)).2 in
+        omega (arith, marks_read units units_are)
 
     -- the marks of the last two numbers are eight bits
     pub high_small : mask_from (base + radix) units / 256 < 256
@@ -450,7 +454,8 @@ module _ (base radix a b c d : ℕ) (alphabet : IsRadix radix) (p : a < radix ^ 
           let brought : swz_l w8 16 units 0 (digits_l 256 16 (joined_words x y))
           ≡ map (lane four) (both_shuffles (more_of a) (more_of b) (more_of c) (more_of d)) =
           ap (λ us. swz_l w8 16 us 0 (digits_l 256 16 (joined_words x y))) units_are
-          ∙ shuffled x y (more_of a) (more_of b) (more_of c) (more_of d) (few a) (few b) (few c) (few d) x_is y_is four in
+          ∙ shuffled x y (more_of a) (more_of b) (more_of c) (more_of d) (few a) (few b) (few c) (few d)
+          x_is y_is four in
           record {
             few_low = omega (arith, low, few a, few b);
             few_high = omega (arith, high, few c, few d);

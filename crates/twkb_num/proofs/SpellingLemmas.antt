@@ -313,7 +313,8 @@ last_digit_above base n ds d p below e some =
           ∙ number_of-push base ds d ∙ omega arith in
           let whole : suc (length ds - 1) ≡ length ds = omega arith in
           let small : n < base ^ suc (length ds - 1) = rw (whole, value) (number_of-lt base ds below) in
-          absurd (omega (arith, length-digits-le base (length ds - 1) n p small, ap length e, length-append ds (d ∷ [])))
+          let few = length-digits-le base (length ds - 1) n p small in
+          absurd (omega (arith, ap length e, length-append ds (d ∷ [])))
     ]
 
 -- ==== The loop that writes a number's units.

@@ -94,7 +94,8 @@ same_by_ends k xs ys p q count long few front back =
     (length-take-le k xs (omega arith) ∙ sym (length-take-le k ys long)) front in
     let xs_last : length (drop at xs) ≡ k = omega (arith, length-drop at xs) in
     let ys_last : length (drop at ys) ≡ k = omega (arith, length-drop at ys) in
-    let last : drop at xs ≡ drop at ys = number_of-same 256 (drop at xs) (drop at ys) (Each1-drop (λ b. b < 256) at xs p)
+    let last : drop at xs ≡ drop at ys = number_of-same 256 (drop at xs) (drop at ys)
+    (Each1-drop (λ b. b < 256) at xs p)
     (Each1-drop (λ b. b < 256) at ys q) (xs_last ∙ sym ys_last)
     (ap (number_l 256) (sym (take_all k (drop at xs) (omega arith))) ∙ back
     ∙ ap (number_l 256) (take_all k (drop at ys) (omega arith))) in
@@ -158,7 +159,8 @@ same_in_front radix more k (u ∷ us) [] few same none =
     ])
 same_in_front radix zero zero (u ∷ us) (v ∷ vs) few same none = ap (λ n. n % radix) (same 0 (omega arith))
 same_in_front radix zero (suc k) (u ∷ us) (v ∷ vs) few same none =
-    rw (same 0 (omega arith), none_in_front radix k us (λ i low. none (suc i) (omega arith) (omega arith))) (omega arith)
+    rw (same 0 (omega arith), none_in_front radix k us (λ i low. none (suc i) (omega arith) (omega arith)))
+    (omega arith)
 same_in_front radix (suc more) (suc k) (u ∷ us) (v ∷ vs) few same none =
     rw (
       same 0 (omega arith),
@@ -286,7 +288,8 @@ pub joined_are : (radix square : ℕ) (us groups : List ℕ) → IsRadix radix
     ≡ map (joined_groups radix) (digits_l 4294967296 4 (number_l 256 us))
 joined_are radix square us groups alphabet square_is long fit same =
     let halves = map (two_of radix) (digits_l 65536 8 (number_l 256 (map (λ u. u % radix) us))) in
-    let below = number_of-lt 65536 halves (half_below radix (digits_l 65536 8 (number_l 256 (map (λ u. u % radix) us)))) in
+    let below = number_of-lt 65536 halves (half_below radix (digits_l 65536 8
+    (number_l 256 (map (λ u. u % radix) us)))) in
     rw (square_is, same, number_of-low_digits 256 16 (number_l 65536 halves) (omega arith) below)
     (lanes_join radix 4 us alphabet long (Each1-weaker (Fits w8) (λ u. u < 256) (λ u byte. byte.fits) us fit))
 

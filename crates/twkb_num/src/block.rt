@@ -44,7 +44,8 @@ pub(crate) struct Marks {
 #[inline(always)]
 fn sixteen(bytes: &[u8], at: usize, alphabet: Alphabet) -> Marks
     requires long { at + 16 ≤ length bytes.now }
-    ensures marks { AreMarks alphabet.radix alphabet.most (units_in alphabet.base (take 16 (drop at bytes.now))) result }
+    ensures marks { AreMarks alphabet.radix alphabet.most
+        (units_in alphabet.base (take 16 (drop at bytes.now))) result }
     ensures small { AreBelow (2 ^ 16) result }
 {
     let units = u8x16::from_slice(&bytes[at..]) - u8x16::splat(alphabet.base);
@@ -59,7 +60,8 @@ fn sixteen(bytes: &[u8], at: usize, alphabet: Alphabet) -> Marks
 #[inline(always)]
 fn thirty_two(bytes: &[u8], at: usize, alphabet: Alphabet) -> Marks
     requires long { at + 32 ≤ length bytes.now }
-    ensures marks { AreMarks alphabet.radix alphabet.most (units_in alphabet.base (take 32 (drop at bytes.now))) result }
+    ensures marks { AreMarks alphabet.radix alphabet.most
+        (units_in alphabet.base (take 32 (drop at bytes.now))) result }
     ensures small { AreBelow (2 ^ 32) result }
 {
     let low = sixteen(bytes, at, alphabet);

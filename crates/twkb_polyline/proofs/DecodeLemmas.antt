@@ -8,13 +8,15 @@ use Rattle.twkb_num.specs.Zigzag.{zigzag_of}
 use Rattle.twkb_points.specs.Point.{Point, IsCoordinate, IsInRange, AreInRange, origin, moved_by}
 use Rattle.twkb_points.specs.Steps.{last_of, AreStepsTo, character_step}
 use Rattle.twkb_polyline.specs.Polyline.{number_text, polyline, polyline_from, AppendsDecoded, DecodesTo}
-use Rattle.twkb_polyline.specs.Fault.{IsNumberFault, IsLongitudeFault, IsNextFault, IsPointFault, IsTextFault, IsRefused}
+use Rattle.twkb_polyline.specs.Fault.{IsNumberFault, IsLongitudeFault, IsNextFault, IsPointFault, IsTextFault}
+use Rattle.twkb_polyline.specs.Fault.{IsRefused}
 use Rattle.twkb_polyline.specs.Reading.{IsNumberAt, IsPointAt, IsRefusedFrom, ArePointsAt, HasPutOn, IsShortOfMemory}
 use Rattle.twkb_polyline.specs.declared.fault.PolyReason.TheVariants.{Half, Range, TooMany}
 use Rattle.twkb_polyline.specs.declared.fault.PolyReason.{PolyReason}
 use Rattle.twkb_polyline.specs.declared.fault.PolyFault.{PolyFault}
 use Rattle.twkb_polyline.specs.declared.fault.PolyFault.TheVariants.{Memory, At}
-use Rattle.twkb_polyline.proofs.FaultLemmas.{after_latitude, behind_none, leaves_range, number_text_length, regroup, text_fault_none}
+use Rattle.twkb_polyline.proofs.FaultLemmas.{after_latitude, behind_none, leaves_range, number_text_length}
+use Rattle.twkb_polyline.proofs.FaultLemmas.{regroup, text_fault_none}
 
 -- ==== A point in a text: its two numbers, or its fault.
 

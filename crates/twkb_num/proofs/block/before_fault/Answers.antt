@@ -20,4 +20,5 @@ returns c = λ radix most units are.
     let zeros : Fits w64 c.args.marks.zeros = search rules in
     let t = trailing_zeros w64 (faults_of c.args.marks) in
     subst (λ d. AreEndsBefore radix most units (c.args.marks.ends % d))
-    (sym (one_shl t 64 (fault_within c.args.marks bad zeros))) (ends_before c.args.marks radix most units ends bad zeros are)
+    (sym (one_shl t 64 (fault_within c.args.marks bad zeros)))
+    (ends_before c.args.marks radix most units ends bad zeros are)

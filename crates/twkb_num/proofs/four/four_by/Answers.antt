@@ -14,7 +14,8 @@ overflow_add-low_places c =
     let twice = twice_found c.args.bytes.now c.requires.loaded c.requires.ends.are
     c.in_ok-low.ensures c.in_ok-high.ensures in
     record {
-      fits = moved_places_below _ c.args.skipped c.from.result _ _ c.from.ensures twice.low (omega (arith, twice.window));
+      fits = moved_places_below _ c.args.skipped c.from.result _ _ c.from.ensures twice.low
+          (omega (arith, twice.window));
     }
 
 pub overflow_add-high_places : goal.overflow_add-high_places

@@ -7,7 +7,8 @@ use Rattle.twkb_polyline.proofs.decoded_points.read_points.Given as goal
 abbrev pub invariant-loop-at : goal.invariant-loop-at
 invariant-loop-at g l =
     record {
-      read : HasPutOn l.text 0 l.max origin (g.L.PointTail.held l.fn.points) (g.L.PointTail.held l.points) l.cursor l.at;
+      read : HasPutOn l.text 0 l.max origin (g.L.PointTail.held l.fn.points) (g.L.PointTail.held l.points)
+          l.cursor l.at;
       held : l.held ≡ length (g.L.PointTail.held l.fn.points);
     }
 
