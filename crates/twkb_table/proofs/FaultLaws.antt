@@ -40,7 +40,7 @@ use Rattle.twkb_table.specs.Fields.{IsDepthField, IsOptionalId, IsOptionalPrecis
 use Rattle.twkb_table.proofs.FieldLemmas.{head_same, tail_same, IsPlain, ArePlain, one_list, SomeOrNone, decided_depth}
 use Rattle.twkb_table.proofs.FieldLemmas.{decided_kind, decided_optional_id, decided_optional_precision}
 use Rattle.twkb_table.proofs.Verdicts.{one_verdict, one_table, table_front, plain_rows, split, judged_row, has_room}
-use Rattle.twkb_table.proofs.Verdicts.{judged_only, both, both_true}
+use Rattle.twkb_table.proofs.Verdicts.{row_judged, both, both_true}
 
 -- ==== A fault excludes geometries, and records have at most one fault.
 
@@ -273,10 +273,11 @@ pub only_accepted : (l : Allowance) (records : List Record) (here : Record) (gs 
     (v : Verdict) → IsAllowance l → Named l records gs → Named l (records ++ here ∷ []) hs
     → Judged l (reverse (rows_of gs)) here v → (r : Row) × (v ≡ Accepted r)
 only_accepted l records here gs hs v cap n m j =
-    let last = last_row l records here gs hs cap n m in (
+    let last = last_row l records here gs hs cap n m in
+    let accepted = row_judged l (reverse (rows_of gs)) last.row last.accepts last.plain.depth in (
       last.row,
-      judged_only l (reverse (rows_of gs)) last.row v last.accepts last.plain.depth
-          (subst (λ q. Judged l (reverse (rows_of gs)) q v) last.text j),
+      one_verdict l (reverse (rows_of gs)) here v (Accepted last.row) j
+          (subst (λ q. Judged l (reverse (rows_of gs)) q (Accepted last.row)) (sym last.text) accepted),
     )
 
 pub refused_none : (l : Allowance) (records : List Record) (here : Record) (gs : List Tree)
@@ -491,86 +492,49 @@ some_text (c ∷ cs) = inl (λ e. cc e)
 abbrev pub Told : (Verdict → Type 0) → Type 0
 Told S = (v : Verdict) × S v
 
-told_when : (P : Type 0) (Others : Verdict → Type 0) (reason : RowReason) → Decided P → Told Others
+told_when : {P : Type 0} {Others : Verdict → Type 0} {reason : RowReason} → Decided P → Told Others
     → Told (λ v. When v P reason (Others v))
-told_when P Others reason (inl p) others = (Refused reason, inl (p, refl))
-told_when P Others reason (inr q) others = (others.0, inr (q, others.1))
+told_when {reason} (inl p) others = (Refused reason, inl (p, refl))
+told_when (inr q) others = (others.0, inr (q, others.1))
 
-told_unless : {A : Type 0} (P : A → Type 0) (Others : A → Verdict → Type 0) (reason : RowReason)
+told_unless : {A : Type 0} {P : A → Type 0} {Others : A → Verdict → Type 0} {reason : RowReason}
     → SomeOrNone P → ((a : A) → Told (Others a)) → Told (λ v. Unless v P reason (λ a. Others a v))
-told_unless P Others reason (inl a) others = ((others a.0).0, inr (a.0, a.1, (others a.0).1))
-told_unless P Others reason (inr none) others = (Refused reason, inl (none, refl))
+told_unless (inl a) others = ((others a.0).0, inr (a.0, a.1, (others a.0).1))
+told_unless {reason} (inr none) others = (Refused reason, inl (none, refl))
 
-told_text : (text : List ℕ) (most : ℕ) (Others : List Point → Verdict → Type 0)
+told_text : {text : List ℕ} {most : ℕ} {Others : List Point → Verdict → Type 0}
     → ((ps : List Point) × DecodesTo text most ps)
     ⊎ ((offset : ℕ) × (why : PolyReason) × IsTextFault text most offset why)
     → ((ps : List Point) → Told (Others ps))
     → Told (λ v. UnlessFaulty text most v (λ ps. Others ps v))
-told_text text most Others (inl d) others = ((others d.0).0, inr (d.0, d.1, (others d.0).1))
-told_text text most Others (inr f) others = (Refused (Polyline f.0 f.1), inl (f.0, f.1, f.2, refl))
-
-by_count : (here : Place) (k : Kind) (id q : Option ℤ) (ps : List Point)
-    → Told (JudgedByCount here k id q ps)
-by_count here k id q ps =
-    let row : Row = record { depth = here.depth; kind = k; id = id; precision = q; points = ps } in
-    told_when _ (λ v. v ≡ Accepted row) PointCount
-    (is_false (points_fit k (is_geometry here.parent) ps)) (Accepted row, refl)
+told_text (inl d) others = ((others d.0).0, inr (d.0, d.1, (others d.0).1))
+told_text (inr f) others = (Refused (Polyline f.0 f.1), inl (f.0, f.1, f.2, refl))
 
 by_points : (l : Allowance) (here : Place) (k : Kind) (id q : Option ℤ) (text : List ℕ)
     → Told (JudgedByPoints l here k id q text)
 by_points l here k id q text =
-    let Counted : List Point → Verdict → Type 0 = JudgedByCount here k id q in
-    told_when _ (λ v. UnlessFaulty text (points_left l here) v (λ ps. Counted ps v))
-    PolylineNotAllowed (both_decided (some_text text) (is_false (has_points k)))
-    (told_text text (points_left l here) Counted (text_or_fault text (points_left l here)) (by_count here k id q))
-
-by_precision : (l : Allowance) (here : Place) (k : Kind) (id : Option ℤ) (field text : List ℕ)
-    → Told (JudgedByPrecision l here k id field text)
-by_precision l here k id field text =
-    let p = here.parent in
-    told_unless (IsOptionalPrecision field)
-    (λ q v. When v (has_needed_precision p q ≡ false) PrecisionMissing
-    (When v (precision_allowed p q ≡ false) PrecisionNotAllowed
-    (JudgedByPoints l here k id q text v))) BadPrecision (decided_optional_precision field)
-    (λ q. told_when _ (λ v. When v (precision_allowed p q ≡ false) PrecisionNotAllowed
-    (JudgedByPoints l here k id q text v)) PrecisionMissing (is_false (has_needed_precision p q))
-    (told_when _ (JudgedByPoints l here k id q text) PrecisionNotAllowed
-    (is_false (precision_allowed p q)) (by_points l here k id q text)))
-
-by_id : (l : Allowance) (here : Place) (k : Kind) (id_field field text : List ℕ)
-    → Told (JudgedById l here k id_field field text)
-by_id l here k id_field field text =
-    let p = here.parent in
-    let f = here.first in
-    told_unless (IsOptionalId id_field)
-    (λ id v. When v (id_allowed p k id ≡ false) IdNotAllowed
-    (When v (has_same_ids f id ≡ false) MixedIds (JudgedByPrecision l here k id field text v)))
-    BadId (decided_optional_id id_field)
-    (λ id. told_when _ (λ v. When v (has_same_ids f id ≡ false) MixedIds
-    (JudgedByPrecision l here k id field text v)) IdNotAllowed (is_false (id_allowed p k id))
-    (told_when _ (JudgedByPrecision l here k id field text) MixedIds (is_false (has_same_ids f id))
-    (by_precision l here k id field text)))
+    told_when (both_decided (some_text text) (is_false (has_points k)))
+    (told_text (text_or_fault text (points_left l here)) (λ ps.
+    told_when (is_false (points_fit k (is_geometry here.parent) ps)) (_, refl)))
 
 by_place : (l : Allowance) (here : Place) (k : Kind) (id_field field text : List ℕ)
     → Told (JudgedByPlace l here k id_field field text)
 by_place l here k id_field field text =
-    let p = here.parent in
-    let Nodes : Verdict → Type 0 = λ v. When v (l.nodes ≤ here.nodes) TooManyNodes
-    (JudgedById l here k id_field field text v) in
-    told_when _ (λ v. When v (nest_kept l p here.depth ≡ false) TooDeep (Nodes v)) BadPlace
-    (is_false (here.steps && has_place p k))
-    (told_when _ Nodes TooDeep (is_false (nest_kept l p here.depth))
-    (told_when _ (JudgedById l here k id_field field text) TooManyNodes
-    (le_by l.nodes here.nodes (nat_le l.nodes here.nodes) refl)
-    (by_id l here k id_field field text)))
+    told_when (is_false (here.steps && has_place here.parent k))
+    (told_when (is_false (nest_kept l here.parent here.depth))
+    (told_when (le_by l.nodes here.nodes (nat_le l.nodes here.nodes) refl)
+    (told_unless (decided_optional_id id_field) (λ id.
+    told_when (is_false (id_allowed here.parent k id))
+    (told_when (is_false (has_same_ids here.first id))
+    (told_unless (decided_optional_precision field) (λ q.
+    told_when (is_false (has_needed_precision here.parent q))
+    (told_when (is_false (precision_allowed here.parent q)) (by_points l here k id q text)))))))))
 
 -- each record has a verdict
 pub some_verdict : (l : Allowance) (before : List Row) (fields : Record) → Told (Judged l before fields)
 some_verdict l before (a ∷ b ∷ c ∷ e ∷ f ∷ []) =
-    told_unless (IsDepthField a) (λ d v. Unless v (λ k. b ≡ word_of k) BadKind
-    (λ k. JudgedByPlace l (place_of d before) k c e f v)) BadDepth (decided_depth a)
-    (λ d. told_unless (λ k. b ≡ word_of k) (λ k. JudgedByPlace l (place_of d before) k c e f)
-    BadKind (decided_kind b) (λ k. by_place l (place_of d before) k c e f))
+    told_unless (decided_depth a) (λ d.
+    told_unless (decided_kind b) (λ k. by_place l (place_of d before) k c e f))
 some_verdict l before _ = (Refused FieldCount, refl)
 
 -- ---- whole lists of records

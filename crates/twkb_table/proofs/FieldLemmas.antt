@@ -94,44 +94,11 @@ pub record IsPlain (r : Row) : Type 0 where
   pub id : IfSome r.id IsId
   pub precision : IfSome r.precision IsPrecision
 
-same_row : (r s : Row) → r.depth ≡ s.depth → r.kind ≡ s.kind → r.id ≡ s.id
-    → r.precision ≡ s.precision → r.points ≡ s.points → r ≡ s
-same_row r s same_depth same_kind same_id same_precision same_points =
-    ap (λ (x : ℕ). record {
-      depth = x;
-      kind = r.kind;
-      id = r.id;
-      precision = r.precision;
-      points = r.points;
-    }) same_depth
-    ∙ ap (λ (x : Kind). record {
-      depth = s.depth;
-      kind = x;
-      id = r.id;
-      precision = r.precision;
-      points = r.points;
-    }) same_kind
-    ∙ ap (λ (x : Option ℤ). record {
-      depth = s.depth;
-      kind = s.kind;
-      id = x;
-      precision = r.precision;
-      points = r.points;
-    }) same_id
-    ∙ ap (λ (x : Option ℤ). record {
-      depth = s.depth;
-      kind = s.kind;
-      id = s.id;
-      precision = x;
-      points = r.points;
-    }) same_precision
-    ∙ ap (λ (x : List Point). record {
-      depth = s.depth;
-      kind = s.kind;
-      id = s.id;
-      precision = s.precision;
-      points = x;
-    }) same_points
+same_row : (d e : ℕ) (j k : Kind) (a b p q : Option ℤ) (xs ys : List Point) → d ≡ e → j ≡ k → a ≡ b
+    → p ≡ q → xs ≡ ys
+    → Path Row (record { depth = d; kind = j; id = a; precision = p; points = xs })
+    (record { depth = e; kind = k; id = b; precision = q; points = ys })
+same_row d e j k a b p q xs ys same_depth same_kind same_id same_precision same_points = cc
 
 -- two rows with the same record are equal
 pub one_record : (r s : Row) → IsPlain r → IsPlain s → record_of r ≡ record_of s → r ≡ s
@@ -147,7 +114,8 @@ one_record r s p q e =
     let same_precision = one_optional r.precision s.precision
     (precision-ids r.precision p.precision) (precision-ids s.precision q.precision)
     precisions in
-    same_row r s same_depth same_kind same_id same_precision (one_polyline r.points s.points lines)
+    same_row _ _ _ _ _ _ _ _ _ _ same_depth same_kind same_id same_precision
+    (one_polyline r.points s.points lines)
 
 -- each row is plain
 abbrev pub ArePlain : List Row → Type 0
@@ -252,31 +220,23 @@ precision_of field (inr none) = inr (λ q h. none q (h.0, precision-id q h.1))
 
 -- ---- optional numbers
 
-optional_id_of : (field : List ℕ) → SomeOrNone (IsIdField field) → SomeOrNone (IsOptionalId field)
-optional_id_of [] d = inl (None, (refl, tt))
-optional_id_of (c ∷ cs) (inl (n, h)) = inl (Some n, (h.0, h.1))
-optional_id_of (c ∷ cs) (inr none) = inr (missing_id c cs none)
+optional_of : (P : ℤ → Type 0) (field : List ℕ)
+    → SomeOrNone (λ n. (field ≡ signed_decimal n) × P n)
+    → SomeOrNone (λ o. (field ≡ optional o) × IfSome o P)
+optional_of P [] d = inl (None, (refl, tt))
+optional_of P (c ∷ cs) (inl (n, h)) = inl (Some n, (h.0, h.1))
+optional_of P (c ∷ cs) (inr none) = inr (missing c cs none)
   where
-    missing_id : (c : ℕ) (cs : List ℕ) → ((n : ℤ) → IsIdField (c ∷ cs) n → ⊥) → (o : Option ℤ)
-        → IsOptionalId (c ∷ cs) o → ⊥
-    missing_id c cs none None h = cc h.0
-    missing_id c cs none (Some n) h = none n (h.0, h.1)
+    missing : (c : ℕ) (cs : List ℕ) → ((n : ℤ) → (c ∷ cs ≡ signed_decimal n) × P n → ⊥)
+        → (o : Option ℤ) → (c ∷ cs ≡ optional o) × IfSome o P → ⊥
+    missing c cs none None h = cc h.0
+    missing c cs none (Some n) h = none n (h.0, h.1)
 
 pub decided_optional_id : (field : List ℕ) → SomeOrNone (IsOptionalId field)
-decided_optional_id field = optional_id_of field (decided_id field)
-
-optional_precision_of : (field : List ℕ) → SomeOrNone (IsPrecisionField field) → SomeOrNone (IsOptionalPrecision field)
-optional_precision_of [] d = inl (None, (refl, tt))
-optional_precision_of (c ∷ cs) (inl (n, h)) = inl (Some n, (h.0, h.1))
-optional_precision_of (c ∷ cs) (inr none) = inr (missing_precision c cs none)
-  where
-    missing_precision : (c : ℕ) (cs : List ℕ) → ((n : ℤ) → IsPrecisionField (c ∷ cs) n → ⊥)
-        → (o : Option ℤ) → IsOptionalPrecision (c ∷ cs) o → ⊥
-    missing_precision c cs none None h = cc h.0
-    missing_precision c cs none (Some n) h = none n (h.0, h.1)
+decided_optional_id field = optional_of IsId field (decided_id field)
 
 pub decided_optional_precision : (field : List ℕ) → SomeOrNone (IsOptionalPrecision field)
-decided_optional_precision field = optional_precision_of field (precision_of field (decided_id field))
+decided_optional_precision field = optional_of IsPrecision field (precision_of field (decided_id field))
 
 -- ---- kinds
 

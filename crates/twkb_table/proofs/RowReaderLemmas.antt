@@ -187,26 +187,11 @@ pub record AreFields (fs : Record) (a b c e f : List ℕ) : Type 0 where
   pub fourth : field_at fs 3 ≡ Some e
   pub fifth : field_at fs 4 ≡ Some f
 
-same_some : (x y : List ℕ) → Some x ≡ Some y → x ≡ y
-same_some x y e = cc e
-
 pub five_are : (fs : Record) (a b c e f : List ℕ) → AreFields fs a b c e f → fs ≡ a ∷ b ∷ c ∷ e ∷ f ∷ []
 unfolding field_at
-five_are [] a b c e f h = absurd (omega (arith, h.count))
-five_are (v ∷ []) a b c e f h = absurd (omega (arith, h.count))
-five_are (v ∷ w ∷ []) a b c e f h = absurd (omega (arith, h.count))
-five_are (v ∷ w ∷ x ∷ []) a b c e f h = absurd (omega (arith, h.count))
-five_are (v ∷ w ∷ x ∷ y ∷ []) a b c e f h = absurd (omega (arith, h.count))
-five_are (v ∷ w ∷ x ∷ y ∷ z ∷ u ∷ more) a b c e f h = absurd (omega (arith, h.count))
 five_are (v ∷ w ∷ x ∷ y ∷ z ∷ []) a b c e f h =
-    let one = same_some v a h.first in
-    let two = same_some w b h.second in
-    let three = same_some x c h.third in
-    let four = same_some y e h.fourth in
-    let five = same_some z f h.fifth in
-    ap (λ q. q ∷ w ∷ x ∷ y ∷ z ∷ []) one ∙ ap (λ q. a ∷ q ∷ x ∷ y ∷ z ∷ []) two
-    ∙ ap (λ q. a ∷ b ∷ q ∷ y ∷ z ∷ []) three ∙ ap (λ q. a ∷ b ∷ c ∷ q ∷ z ∷ []) four
-    ∙ ap (λ q. a ∷ b ∷ c ∷ e ∷ q ∷ []) five
+    cc (h.first, h.second, h.third, h.fourth, h.fifth)
+five_are _ a b c e f h = absurd (omega (arith, h.count))
 
 -- ---- what each refusal means
 

@@ -75,10 +75,10 @@ pub passed : {P Others : Type 0} (r : Row) (reason : RowReason) → When (Accept
 passed r reason (inl h) = absurd (accepted_apart r reason h.1)
 passed r reason (inr h) = h
 
-pub found : {A : Type 0} (P : A → Type 0) (Others : A → Type 0) (r : Row) (reason : RowReason)
+pub found : {A : Type 0} {P Others : A → Type 0} (r : Row) (reason : RowReason)
     → Unless (Accepted r) P reason Others → (a : A) × P a × Others a
-found P Others r reason (inl h) = absurd (accepted_apart r reason h.1)
-found P Others r reason (inr h) = h
+found r reason (inl h) = absurd (accepted_apart r reason h.1)
+found r reason (inr h) = h
 
 -- ---- a step whose reason does not hold is passed
 
@@ -186,26 +186,19 @@ passed_row l before a b c e f r d k id q points depth word ids precisions steps 
 pub judged_row : (l : Allowance) (before : List Row) (fields : Record) (r : Row) → HasRoom l before
     → Judged l before fields (Accepted r) → Passed l before fields r
 judged_row l before (a ∷ b ∷ c ∷ e ∷ f ∷ []) r room h =
-    let at = found (IsDepthField a) (λ d. Unless (Accepted r) (λ k. b ≡ word_of k) BadKind
-    (λ k. JudgedByPlace l (place_of d before) k c e f (Accepted r))) r BadDepth h in
+    let at = found r BadDepth h in
     let d = at.0 in
-    let of = found (λ k. b ≡ word_of k) (λ k. JudgedByPlace l (place_of d before) k c e f
-    (Accepted r)) r BadKind at.2 in
+    let of = found r BadKind at.2 in
     let k = of.0 in
     let p = parent d before in
     let place = passed r BadPlace of.2 in
     let nest = passed r TooDeep place.1 in
     let nodes = passed r TooManyNodes nest.1 in
-    let ids = found (IsOptionalId c) (λ id. When (Accepted r) (id_allowed p k id ≡ false)
-    IdNotAllowed (When (Accepted r) (has_same_ids (first_child d before) id ≡ false) MixedIds
-    (JudgedByPrecision l (place_of d before) k id e f (Accepted r)))) r BadId nodes.1 in
+    let ids = found r BadId nodes.1 in
     let id = ids.0 in
     let allowed = passed r IdNotAllowed ids.2 in
     let same = passed r MixedIds allowed.1 in
-    let precisions = found (IsOptionalPrecision e)
-    (λ q. When (Accepted r) (has_needed_precision p q ≡ false) PrecisionMissing
-    (When (Accepted r) (precision_allowed p q ≡ false) PrecisionNotAllowed
-    (JudgedByPoints l (place_of d before) k id q f (Accepted r)))) r BadPrecision same.1 in
+    let precisions = found r BadPrecision same.1 in
     let q = precisions.0 in
     let needed = passed r PrecisionMissing precisions.2 in
     let extra = passed r PrecisionNotAllowed needed.1 in
@@ -262,25 +255,16 @@ by_points : (l : Allowance) (here : Place) (k : Kind) (id q : Option ℤ) (text 
 by_points l here k id q text v w = when_one v w _
     (points_one text (points_left l here) _ _ v w (λ ps. when_one v w _ (λ a b. a ∙ sym b)))
 
-by_precision : (l : Allowance) (here : Place) (k : Kind) (id : Option ℤ) (field text : List ℕ)
-    (v w : Verdict) → JudgedByPrecision l here k id field text v
-    → JudgedByPrecision l here k id field text w → v ≡ w
-by_precision l here k id field text v w =
-    unless_one (IsOptionalPrecision field) _ _ v w _
-    (λ a b p q. one_optional a b (precision-ids a p.1) (precision-ids b q.1) (sym p.0 ∙ q.0))
-    (λ q. when_one v w _ (when_one v w _ (by_points l here k id q text v w)))
-
-by_id : (l : Allowance) (here : Place) (k : Kind) (id_field field text : List ℕ) (v w : Verdict)
-    → JudgedById l here k id_field field text v → JudgedById l here k id_field field text w → v ≡ w
-by_id l here k id_field field text v w =
-    unless_one (IsOptionalId id_field) _ _ v w _ (λ a b p q. one_optional a b p.1 q.1 (sym p.0 ∙ q.0))
-    (λ id. when_one v w _ (when_one v w _ (by_precision l here k id field text v w)))
-
 by_place : (l : Allowance) (here : Place) (k : Kind) (id_field field text : List ℕ) (v w : Verdict)
     → JudgedByPlace l here k id_field field text v
     → JudgedByPlace l here k id_field field text w → v ≡ w
-by_place l here k id_field field text v w = when_one v w _
-    (when_one v w _ (when_one v w _ (by_id l here k id_field field text v w)))
+by_place l here k id_field field text v w =
+    when_one v w _ (when_one v w _ (when_one v w _
+    (unless_one (IsOptionalId id_field) _ _ v w _ (λ a b p q. one_optional a b p.1 q.1 (sym p.0 ∙ q.0))
+    (λ id. when_one v w _ (when_one v w _
+    (unless_one (IsOptionalPrecision field) _ _ v w _
+    (λ a b p q. one_optional a b (precision-ids a p.1) (precision-ids b q.1) (sym p.0 ∙ q.0))
+    (λ q. when_one v w _ (when_one v w _ (by_points l here k id q text v w)))))))))
 
 pub one_verdict : (l : Allowance) (before : List Row) (fields : Record) (v w : Verdict)
     → Judged l before fields v → Judged l before fields w → v ≡ w
@@ -290,7 +274,7 @@ one_verdict l before (x ∷ y ∷ z ∷ t ∷ u ∷ []) v w a b =
     (λ k. by_place l (place_of d before) k z t u v w)) a b
 one_verdict l before _ v w a b = a ∙ sym b
 
--- ==== The verdict on the record of a row that may come next is that row, and nothing else.
+-- ==== The verdict on the record of a row that may come next is that row.
 
 pub optional_precision_is : (q : Option ℤ) → precision_in_range q ≡ true → IfSome q IsPrecision
 optional_precision_is None h = tt
@@ -304,63 +288,6 @@ decoded l before r a = record {
   in_range = a.in_range;
   few = (let few = a.points in omega (arith, few));
 }
-
-judged_polyline : (l : Allowance) (before : List Row) (r : Row) (v : Verdict)
-    → Facts (parent r.depth before) (first_child r.depth before) r
-    → DecodesTo (polyline r.points) (points_left l (place_of r.depth before)) r.points
-    → JudgedByPoints l (place_of r.depth before) r.kind r.id r.precision (polyline r.points) v → v ≡ Accepted r
-judged_polyline l before r v h own j =
-    let k = r.kind in
-    let w = is_geometry (parent r.depth before) in
-    let Last : List Point → Type 0 = λ (ps : List Point).
-    JudgedByCount (place_of r.depth before) k r.id r.precision ps v in
-    let of : UnlessFaulty (polyline r.points) (points_left l (place_of r.depth before)) v Last =
-    skip v PolylineNotAllowed j (λ e. e.0 (ap polyline (no_points_of k k w r.points refl e.1 h.points))) in
-    let last : Last r.points = elim of [
-      | inl fault ↦ absurd (text_fault_none (polyline r.points)
-          (points_left l (place_of r.depth before)) fault.0 fault.1 r.points fault.2 own)
-      | inr some ↦ subst Last (one_polyline some.0 r.points (sym some.1.spelled)) some.2
-    ] in
-    skip v PointCount last (stays_true (points_fit k w r.points) h.points)
-
-pub judged_only : (l : Allowance) (before : List Row) (r : Row) (v : Verdict) → Accepts l before r
-    → r.depth ≤ GREATEST_DEPTH → Judged l before (record_of r) v → v ≡ Accepted r
-judged_only l before r v a le j =
-    let d = r.depth in
-    let k = r.kind in
-    let p = parent d before in
-    let f = first_child d before in
-    let two = both_true (steps_to d before) (fits p f r) a.admitted in
-    let h = facts p f r two.1 in
-    let id = optional_id_is r.id h.id_range in
-    let precise = optional_precision_is r.precision h.range in
-    let at = pick (IsDepthField (decimal d)) (λ e. Unless v (λ m. word_of k ≡ word_of m) BadKind
-    (λ m. JudgedByPlace l (place_of e before) m (optional r.id) (optional r.precision)
-    (polyline r.points) v)) v BadDepth d j (refl, le) (λ e q. one_depth e d q.1 le (sym q.0)) in
-    let of = pick (λ m. word_of k ≡ word_of m) (λ m. JudgedByPlace l (place_of d before) m
-    (optional r.id) (optional r.precision) (polyline r.points) v) v BadKind k at refl
-    (λ m q. sym (one_word k m q)) in
-    let place = skip v BadPlace of (stays_true (steps_to d before && has_place p k)
-    (both (steps_to d before) (has_place p k) two.0 h.place)) in
-    let nest = skip v TooDeep place (stays_true (nest_kept l p d) a.nest) in
-    let nodes = skip v TooManyNodes nest (λ over. (let under = a.nodes in omega (arith, over, under))) in
-    let ids = pick (IsOptionalId (optional r.id))
-    (λ i. When v (id_allowed p k i ≡ false) IdNotAllowed
-    (When v (has_same_ids f i ≡ false) MixedIds (JudgedByPrecision l (place_of d before) k i
-    (optional r.precision) (polyline r.points) v))) v BadId r.id nodes (refl, id)
-    (λ i q. sym (one_optional r.id i id q.1 q.0)) in
-    let allowed = skip v IdNotAllowed ids (stays_true (id_allowed p k r.id) h.id) in
-    let same = skip v MixedIds allowed (stays_true (has_same_ids f r.id) h.same) in
-    let precisions = pick (IsOptionalPrecision (optional r.precision))
-    (λ q. When v (has_needed_precision p q ≡ false) PrecisionMissing
-    (When v (precision_allowed p q ≡ false) PrecisionNotAllowed
-    (JudgedByPoints l (place_of d before) k r.id q (polyline r.points) v))) v BadPrecision
-    r.precision same (refl, precise)
-    (λ q e. sym (one_optional r.precision q (precision-ids r.precision precise) (precision-ids q e.1) e.0)) in
-    let tested = precision_tested p r.precision h.precision in
-    let needed = skip v PrecisionMissing precisions (stays_true (has_needed_precision p r.precision) tested.0) in
-    let extra = skip v PrecisionNotAllowed needed (stays_true (precision_allowed p r.precision) tested.1) in
-    judged_polyline l before r v h (decoded l before r a) extra
 
 pub row_judged : (l : Allowance) (before : List Row) (r : Row) → Accepts l before r → r.depth ≤ GREATEST_DEPTH
     → Judged l before (record_of r) (Accepted r)
