@@ -1,5 +1,5 @@
 -- The totals of any geometry, from its rows and from its tree.
-use Rattle.std.proofs.Common.{◌≡◌, ℤ, pos, negsuc, Bool, true, false, refl, sym, ◌∙◌, ap, ℕ, suc, ◌+◌, ◌<◌, List, []}
+use Rattle.std.proofs.Common.{◌≡◌, ◌≤◌, ℤ, pos, negsuc, Bool, true, false, refl, sym, ◌∙◌, ap, ℕ, suc, ◌+◌, ◌<◌, List, []}
 use Rattle.std.proofs.Common.{◌∷◌, ◌++◌, length, Option, None, Some, subst, arith, append-nil, length-append, ◌-◌}
 use Rattle.std.specs.Prelude.{◌&&◌, if◌then◌else◌, is_some, ◌||◌, nat_eq, map}
 use Rattle.std.proofs.lemmas.Bool.{eq-eqb}
@@ -30,8 +30,10 @@ use Rattle.twkb_writer.specs.Precisions.{all_are, agreed}
 use Rattle.twkb_writer.specs.declared.totals.RowTotals.{RowTotals}
 use Rattle.twkb_writer.specs.declared.sizes.Entry.{Entry}
 use Rattle.twkb_writer.specs.Totals.{blank, id_len, is_bare, entry_for, blob_len, is_point as is_point_kind}
-use Rattle.twkb_writer.specs.MeasuredRows.{totals, measured, points_ahead, row_totals}
-use Rattle.twkb_writer.specs.Sizes.{entry_of, sizes_of, sizes_of_all}
+use Rattle.twkb_writer.specs.Bytes.{entry_count, entries_in}
+use Rattle.twkb_writer.specs.declared.tails.TailTotals.{TailTotals}
+use Rattle.twkb_writer.specs.MeasuredRows.{row_entry, option_list, totals, measured, points_ahead, row_totals}
+use Rattle.twkb_writer.specs.Sizes.{AreSizes, entry_of, sizes_of, sizes_of_all}
 use Rattle.twkb_writer.specs.Tails.{number_len, tail_of}
 use Rattle.twkb_writer.proofs.MeasuringSteps.{totals_at, totals_none, totals_past}
 use Rattle.twkb_writer.proofs.BelowLemmas.{deep-below}
@@ -283,6 +285,35 @@ measured_rows style g fits =
     ap (measured style) (sym (append-nil (rows 0 g)))
     ∙ (rows_counted style 0 None g fits).entries [] (record { above = tt; no_part = refl })
     ∙ append-nil (sizes_of style g)
+
+entry_counted : (style : Style) (k : Kind) (own : ℕ) (p : Option ℤ) (below : RowTotals) (t : TailTotals)
+    → length (option_list (row_entry style k own p below t)) ≡ entry_count p
+entry_counted style k own None below t = refl
+entry_counted style k own (Some p) below t = refl
+
+-- there is an entry for each row that is a geometry
+length-measured : (style : Style) (rs : List Row) → length (measured style rs) ≡ entries_in rs
+length-measured style [] = refl
+length-measured style (r ∷ rs) =
+    let below = totals style (suc r.depth) rs in
+    let t = tail_of (r.points ++ points_ahead rs) in
+    omega (
+      arith,
+      length-append (option_list (row_entry style r.kind (length r.points) r.precision below t)) (measured style rs),
+      entry_counted style r.kind (length r.points) r.precision below t,
+      length-measured style rs,
+    )
+
+-- there are as many sizes as the rows have entries
+pub sizes_suffice : (style : Style) (rs : List Row) (es : List Entry) → AreSizes style rs es → entries_in rs ≤ length es
+sizes_suffice style [] es sizes = omega arith
+sizes_suffice style (r ∷ rs) es sizes = omega (
+  arith,
+  length-measured style (r ∷ rs),
+  ap (λ (l : List Row). length (measured style l)) sizes.2,
+  ap length (measured_rows style sizes.0 sizes.1),
+  ap length sizes.3,
+)
 
 -- the number of bytes of a geometry's rows is the length of its blob
 pub totals_blob : (g : Tree) → IsTree g → (totals Full 0 (rows 0 g ++ [])).bytes ≡ length (canonical_blob Full g)

@@ -34,7 +34,7 @@ use Rattle.twkb_grammar.specs.Roles.{Counted, Points, Components, Count, Geometr
 use Rattle.twkb_grammar.specs.Spans.{geometries, geometries_of_all}
 use Rattle.twkb_grammar.proofs.Bodies.{reached, reached-append, fields_are}
 use Rattle.twkb_writer.specs.Bytes.{is_bare, metadata_of, size_bytes, box_bytes, header, signed, rows_bytes}
-use Rattle.twkb_writer.specs.Bytes.{counts_bytes, members_below, way_bytes, way_end, ids_bytes, entries_in}
+use Rattle.twkb_writer.specs.Bytes.{counts_bytes, members_below, way_bytes, way_end, ids_bytes}
 use Rattle.twkb_writer.specs.Sizes.{body_of, own_body, bounds_of, content_of, entry_of, sizes_of, sizes_of_all}
 use Rattle.twkb_writer.specs.Sizes.{parts_in, ids_in, part_count, ids_of, AreSizes}
 use Rattle.twkb_writer.specs.declared.sizes.Entry.{Entry}
@@ -525,61 +525,6 @@ rows_spell style g t =
     ∙ all.spelled origin [] [] tt ∙ append-nil (canonical_blob style g)
 
 -- ==== The rows of a flat form with its sizes.
-
--- ---- there are as many entries as rows that are geometries
-
-entries-append : (xs ys : List Row) → entries_in (xs ++ ys) ≡ entries_in xs + entries_in ys
-entries-append [] ys = omega arith
-entries-append (x ∷ xs) ys = let more = entries-append xs ys in omega (arith, more)
-
--- parts have no entries
-entries-each : {A : Type 0} (f : Option ℤ → A → List Row)
-    → ((id : Option ℤ) (x : A) → entries_in (f id x) ≡ 0) → (ids : Ids) (xs : List A)
-    → entries_in (rows_of_each f ids xs) ≡ 0
-entries-each f none ids [] = refl
-entries-each f none ids (x ∷ xs) =
-    let here = none (first_id ids) x in
-    let more = entries-each f none (other_ids ids) xs in
-    let both = entries-append (f (first_id ids) x) (rows_of_each f (other_ids ids) xs) in
-    omega (arith, here, more, both)
-
-entries-rings : (d : ℕ) (rings : List (List Point)) → entries_in (ring_rows d rings) ≡ 0
-entries-rings d rings = entries-each (λ none ring. plain_row d Kind.Ring none ring ∷ [])
-    (λ id x. omega arith) None rings
-
-entries-below : (d : ℕ) (s : Simple) → entries_in (rows_below d s) ≡ 0
-entries-below d (polygon rings) = entries-rings d rings
-entries-below d (multi_point ids ps) = entries-each
-    (λ id p. plain_row d Kind.Point id (p ∷ []) ∷ []) (λ id x. omega arith) ids ps
-entries-below d (multi_line ids lines) = entries-each
-    (λ id ps. plain_row d Kind.Linestring id ps ∷ []) (λ id x. omega arith) ids lines
-entries-below d (multi_polygon ids areas) = entries-each (polygon_rows d)
-    (λ id x. let none = entries-rings (suc d) x in omega (arith, none)) ids areas
-entries-below d _ = refl
-
-mutual
-  entries-tree : (style : Style) (id : Option ℤ) (d : ℕ) (g : Tree)
-      → entries_in (rows_with id d g) ≡ length (sizes_of style g)
-  entries-tree style id d (simple p s) = let none = entries-below (suc d) s in omega (arith, none)
-  entries-tree style id d (collection p ids gs) = let all = entries-members style ids (suc d) gs in omega (arith, all)
-
-  entries-members : (style : Style) (ids : Ids) (d : ℕ) (gs : Trees)
-      → entries_in (member_rows d ids gs) ≡ length (sizes_of_all style gs)
-  entries-members style ids d end = refl
-  entries-members style ids d (g ▷ gs) =
-      let one = entries-tree style (first_id ids) d g in
-      let all = entries-members style (other_ids ids) d gs in
-      let both = entries-append (rows_with (first_id ids) d g) (member_rows d (other_ids ids) gs) in
-      omega (arith, one, all, both, length-append (sizes_of style g) (sizes_of_all style gs))
-
--- there are as many sizes as the rows have entries
-pub sizes_suffice : (style : Style) (rs : List Row) (es : List Entry) → AreSizes style rs es → entries_in rs ≤ length es
-sizes_suffice style [] es sizes = omega arith
-sizes_suffice style (r ∷ rs) es sizes =
-    let count = entries-tree style None 0 sizes.0 in
-    omega (arith, count, ap entries_in sizes.2, ap length sizes.3)
-
--- ---- the bytes of the rows
 
 -- a geometry has at least one row
 pub some_row : (g : Tree) → rows 0 g ≡ [] → ⊥

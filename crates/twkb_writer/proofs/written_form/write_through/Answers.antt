@@ -1,6 +1,7 @@
 use Rattle.std.proofs.Common.{◌∙◌, refl, rules}
 use Rattle.twkb_writer.proofs.PutLemmas.{whole_run, cut_run}
-use Rattle.twkb_writer.proofs.TreeBytes.{sizes_suffice, some_row, rows_written}
+use Rattle.twkb_writer.proofs.MeasuringTrees.{sizes_suffice}
+use Rattle.twkb_writer.proofs.TreeBytes.{some_row, rows_written}
 use Rattle.twkb_writer.proofs.written_form.write_through.Goals as goal
 
 pub put_rows-requires : goal.put_rows-requires
