@@ -76,14 +76,13 @@ counted_join {style} {d} {May} {xs} {ys} {f} {g} {ps} {qs} {es} {fs} a b = recor
 }
 
 -- what parts add, none of which is a geometry
-parts_each : {A : Type 0} (style : Style) (d : ℕ) (f : Option ℤ → A → List Row)
-    (w : Option ℤ → A → RowTotals → RowTotals) (g : A → List Point)
+parts_each : {A : Type 0} {style : Style} {d : ℕ} {f : Option ℤ → A → List Row}
+    {w : Option ℤ → A → RowTotals → RowTotals} {g : A → List Point}
     → ((id : Option ℤ) (x : A) → AreCounted style d (IsAbove (suc d)) (f id x) (w id x) (g x) [])
     → (ids : Ids) (xs : List A)
     → AreCounted style d (IsAbove (suc d)) (rows_of_each f ids xs) (with_each w ids xs) (flat_map g xs) []
-parts_each style d f w g part ids [] = counted_none style d (IsAbove (suc d))
-parts_each style d f w g part ids (x ∷ xs) =
-    counted_join (part (first_id ids) x) (parts_each style d f w g part (other_ids ids) xs)
+parts_each {style = style} {d} part ids [] = counted_none style d (IsAbove (suc d))
+parts_each part ids (x ∷ xs) = counted_join (part (first_id ids) x) (parts_each part (other_ids ids) xs)
 
 -- ---- parts of one row each: rings, points, linestrings
 
@@ -107,8 +106,7 @@ one_part style d k id ps = record {
 ones : {A : Type 0} (style : Style) (d : ℕ) (k : Kind) (g : A → List Point) (ids : Ids) (xs : List A)
     → AreCounted style d (IsAbove (suc d)) (rows_of_each (λ id x. plain_row d k id (g x) ∷ []) ids xs)
     (with_each (with_row_of k g) ids xs) (flat_map g xs) []
-ones style d k g ids xs = parts_each style d (λ id x. plain_row d k id (g x) ∷ []) (with_row_of k g) g
-    (λ id x. one_part style d k id (g x)) ids xs
+ones style d k g ids xs = parts_each (λ id x. one_part style d k id (g x)) ids xs
 
 -- ---- polygons with their rings
 
@@ -164,8 +162,7 @@ pub parts_counted : (style : Style) (d : ℕ) (s : Simple)
 parts_counted style d (polygon rings) = ones style d kind.Ring (λ ps. ps) None rings
 parts_counted style d (multi_point ids ps) = ones style d kind.Point (λ p. p ∷ []) ids ps
 parts_counted style d (multi_line ids lines) = ones style d kind.Linestring (λ ps. ps) ids lines
-parts_counted style d (multi_polygon ids areas) = parts_each style d (polygon_rows d) with_polygon
-    flatten (polygon_part style d) ids areas
+parts_counted style d (multi_polygon ids areas) = parts_each (polygon_part style d) ids areas
 parts_counted style d _ = counted_none style d (IsAbove (suc d))
 
 flat_map_ones : (ps : List Point) → flat_map (λ p. p ∷ []) ps ≡ ps

@@ -219,12 +219,12 @@ abbrev HasSlots : Style → ℕ → List Row → List Slot → Type 0
 HasSlots style d rs ms = AreSpelled style d rs [] (λ at. walked at ms) (λ at. reached at ms)
 
 -- parts, one after another
-slots_each : {A : Type 0} (style : Style) (d : ℕ) (f : Option ℤ → A → List Row) (ms : A → List Slot)
+slots_each : {A : Type 0} {style : Style} {d : ℕ} {f : Option ℤ → A → List Row} (ms : A → List Slot)
     → ((id : Option ℤ) (x : A) → HasSlots style d (f id x) (ms x)) → (ids : Ids) (xs : List A)
     → HasSlots style d (rows_of_each f ids xs) (flat_map ms xs)
-slots_each style d f ms part ids [] = spelled_none style d
-slots_each style d f ms part ids (x ∷ xs) =
-    let all = spelled_join (part (first_id ids) x) (slots_each style d f ms part (other_ids ids) xs) in
+slots_each {style = style} {d} ms part ids [] = spelled_none style d
+slots_each {style = style} ms part ids (x ∷ xs) =
+    let all = spelled_join (part (first_id ids) x) (slots_each ms part (other_ids ids) xs) in
     record {
       begins = all.begins;
       spelled = λ at es rest h.
@@ -260,8 +260,7 @@ point_spelled style d id p = record {
 -- the rows of a polygon's rings
 rings_spelled : (style : Style) (d : ℕ) (rings : List (List Point))
     → HasSlots style d (ring_rows d rings) (flat_map run_of rings)
-rings_spelled style d rings = slots_each style d (λ none ring. plain_row d kind.Ring none ring ∷ []) run_of
-    (run_spelled style d kind.Ring (λ own members ids. refl)) None rings
+rings_spelled style d rings = slots_each run_of (run_spelled style d kind.Ring (λ own members ids. refl)) None rings
 
 -- the rings of a polygon are its members
 ring_members : (d : ℕ) (rings : List (List Point)) (rs : List Row) → IsAbove (suc d) rs
@@ -296,13 +295,10 @@ part_slots _ = []
 -- the rows of the parts of a shape
 parts_spelled : (style : Style) (d : ℕ) (s : Simple) → HasSlots style d (rows_below d s) (part_slots s)
 parts_spelled style d (polygon rings) = rings_spelled style d rings
-parts_spelled style d (multi_point ids ps) = slots_each style d
-    (λ id p. plain_row d kind.Point id (p ∷ []) ∷ []) (λ p. OfPoint p ∷ []) (point_spelled style d) ids ps
-parts_spelled style d (multi_line ids lines) = slots_each style d
-    (λ id ps. plain_row d kind.Linestring id ps ∷ []) run_of
-    (run_spelled style d kind.Linestring (λ own members ids. refl)) ids lines
-parts_spelled style d (multi_polygon ids areas) =
-    slots_each style d (polygon_rows d) rings_of (polygon_spelled style d) ids areas
+parts_spelled style d (multi_point ids ps) = slots_each (λ p. OfPoint p ∷ []) (point_spelled style d) ids ps
+parts_spelled style d (multi_line ids lines) =
+    slots_each run_of (run_spelled style d kind.Linestring (λ own members ids. refl)) ids lines
+parts_spelled style d (multi_polygon ids areas) = slots_each rings_of (polygon_spelled style d) ids areas
 parts_spelled style d _ = spelled_none style d
 
 -- ==== The bytes of a geometry's rows, with its own entries, are its canonical blob.

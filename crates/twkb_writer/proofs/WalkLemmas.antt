@@ -106,14 +106,11 @@ row_depth rows i node is =
     ap (λ (k : ℕ). get_or (depths rows) k 0) shift ∙ sym (depths_drop rows i 0)
     ∙ ap (λ (rs : List Row). get_or (depths rs) 0 0) is.here
 
-length_depths : (rows : List Row) → length (depths rows) ≡ length rows
-length_depths rows = length-map rows depth_of
-
 pub node_ends : (rows : List Row) (i : ℕ) (node : Node) → IsNode rows i node
     → Ends rows node.row.depth (i + 1) node.next.0
 node_ends rows i node is =
     let depth = row_depth rows i node is in
-    let total = length_depths rows in
+    let total = length-map rows depth_of in
     record {
       fits = omega (arith, is.next.within);
       deeper = λ j from before. let more = is.next.deeper j (omega arith) before in omega arith;
