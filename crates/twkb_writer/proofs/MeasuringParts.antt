@@ -374,7 +374,8 @@ total_parts (multi_point ids ps) h = total_each kind.Point (λ p. 1) (λ p. blan
     (λ p. refl) ids ps h
 total_parts (multi_line ids lines) h = total_each kind.Linestring (λ ps. length ps) (λ ps. blank)
     run_of slots_len-run ids lines h
-total_parts (multi_polygon ids areas) h = total_each kind.Polygon (λ rings. 0) rings_totals rings_of lead_rings ids areas h
+total_parts (multi_polygon ids areas) h = total_each kind.Polygon (λ rings. 0) rings_totals rings_of
+    lead_rings ids areas h
 total_parts _ h = no_parts
 
 -- the bytes of a count, ids and parts are those of the slots

@@ -234,9 +234,10 @@ stands_more style node ps rs by_depth new tail points e stands fit count points_
         length-append ps (row_points rs),
       );
     } in (
-      subst (λ (l : List RowTotals). Stands style (r ∷ rs) l (tail_after r.precision points)) (sym row.set_both) after,
-      (λ i. option_list (row.entry_is i) ++ measured style rs)
-          ∙ (λ i. option_list (row_entry style r.kind (own i) r.precision (below i) (points_are i)) ++ measured style rs),
+      subst (λ (l : List RowTotals). Stands style (r ∷ rs) l (tail_after r.precision points))
+          (sym row.set_both) after,
+      ap (λ (o : Option Entry). option_list o ++ measured style rs) (row.entry_is
+          ∙ (λ i. row_entry style r.kind (own i) r.precision (below i) (points_are i))),
     )
 
 -- ==== Rows that can be measured.

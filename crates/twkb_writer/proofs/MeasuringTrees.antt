@@ -1,6 +1,6 @@
 -- The totals of any geometry, from its rows and from its tree.
-use Rattle.std.proofs.Common.{◌≡◌, ◌≤◌, ℤ, pos, negsuc, Bool, true, false, refl, sym, ◌∙◌, ap, ℕ, suc, ◌+◌, ◌<◌, List, []}
-use Rattle.std.proofs.Common.{◌∷◌, ◌++◌, length, Option, None, Some, subst, arith, append-nil, length-append, ◌-◌}
+use Rattle.std.proofs.Common.{◌≡◌, ◌≤◌, ℤ, pos, negsuc, Bool, true, false, refl, sym, ◌∙◌, ap, ℕ, suc, ◌+◌, ◌<◌, List}
+use Rattle.std.proofs.Common.{[], ◌∷◌, ◌++◌, length, Option, None, Some, subst, arith, append-nil, length-append, ◌-◌}
 use Rattle.std.specs.Prelude.{◌&&◌, if◌then◌else◌, is_some, ◌||◌, nat_eq, map}
 use Rattle.std.proofs.lemmas.Bool.{eq-eqb}
 use Rattle.std.proofs.lemmas.Bool.Decides.{nat_tests}
@@ -261,7 +261,8 @@ mutual
   rows_counted style d id (simple p s) fits =
       geometry_counted id (own_points s) (parts_counted style (suc d) s)
       (λ rest h. above_less (suc d) rest h.above) (deep-below (suc d) (simple p s))
-      (subst (λ ps. IsMeasured style (simple p s) (kind_in s) (length (own_points s)) (components_totals s) (tail_of ps))
+      (subst (λ ps. IsMeasured style (simple p s) (kind_in s) (length (own_points s))
+      (components_totals s) (tail_of ps))
       (sym (all_points s)) (simple_measured style p s fits.1))
       (ap (agreed (One p)) (total_parts s fits.1).no_precisions)
   rows_counted style d id (collection p ids gs) fits =
@@ -305,7 +306,8 @@ length-measured style (r ∷ rs) =
     )
 
 -- there are as many sizes as the rows have entries
-pub sizes_suffice : (style : Style) (rs : List Row) (es : List Entry) → AreSizes style rs es → entries_in rs ≤ length es
+pub sizes_suffice : (style : Style) (rs : List Row) (es : List Entry) → AreSizes style rs es
+    → entries_in rs ≤ length es
 sizes_suffice style [] es sizes = omega arith
 sizes_suffice style (r ∷ rs) es sizes = omega (
   arith,

@@ -204,7 +204,8 @@ spelled_join : {style : Style} {d : ℕ} {xs ys : List Row} {own others : List E
     → AreSpelled style d xs own put last → AreSpelled style d ys others next end_of
     → AreSpelled style d (xs ++ ys) (own ++ others) (λ at. put at ++ next (last at)) (λ at. end_of (last at))
 spelled_join {style} {d} {xs} {ys} {own} {others} {put} {next} {last} {end_of} a b = record {
-  begins = λ rest h. subst (IsAbove (suc d)) (sym (append_assoc xs ys rest)) (a.begins (ys ++ rest) (b.begins rest h));
+  begins = λ rest h. subst (IsAbove (suc d)) (sym (append_assoc xs ys rest))
+      (a.begins (ys ++ rest) (b.begins rest h));
   spelled = λ at es rest h.
       (λ i. rows_bytes style at (append_assoc own others es i) (append_assoc xs ys rest i))
       ∙ a.spelled at (others ++ es) (ys ++ rest) (b.begins rest h)
@@ -475,33 +476,41 @@ mutual
   -- the bytes of a geometry's rows are its canonical blob, and other rows go on from some point
   tree_spelled : (style : Style) (g : Tree) (id : Option ℤ) (d : ℕ) → IsTree g → (last : Point → Point)
       × AreSpelled style d (rows_with id d g) (sizes_of style g) (λ at. canonical_blob style g) last
-  tree_spelled style (simple p s) id d t = (λ at. reached origin (slots s), record {
-    begins = λ rest h. (let le : d < suc d = omega arith in le);
-    spelled = λ at es rest h. geometry_spelled style (simple p s) (kind_in s) p id d (own_points s) at es
-        (rows_below (suc d) s ++ rest) (rows_bytes style (reached origin (slots s)) es rest)
-        (headed style id d (simple p s) t) (simple_body style p s d es rest t.1 h);
-  })
-  tree_spelled style (collection p ids end) id d t = (λ at. origin, record {
-    begins = λ rest h. (let le : d < suc d = omega arith in le);
-    spelled = λ at es rest h. geometry_spelled style (collection p ids end) kind.Collection p id d [] at es
-        rest (rows_bytes style origin es rest) (headed style id d (collection p ids end) t) refl;
-  })
+  tree_spelled style (simple p s) id d t = (
+    λ at. reached origin (slots s),
+    record {
+      begins = λ rest h. (let le : d < suc d = omega arith in le);
+      spelled = λ at es rest h. geometry_spelled style (simple p s) (kind_in s) p id d (own_points s) at es
+          (rows_below (suc d) s ++ rest) (rows_bytes style (reached origin (slots s)) es rest)
+          (headed style id d (simple p s) t) (simple_body style p s d es rest t.1 h);
+    },
+  )
+  tree_spelled style (collection p ids end) id d t = (
+    λ at. origin,
+    record {
+      begins = λ rest h. (let le : d < suc d = omega arith in le);
+      spelled = λ at es rest h. geometry_spelled style (collection p ids end) kind.Collection p id d [] at es
+          rest (rows_bytes style origin es rest) (headed style id d (collection p ids end) t) refl;
+    },
+  )
   tree_spelled style (collection p ids (g ▷ gs)) id d t =
       let (last, members) = trees_spelled style (g ▷ gs) ids (suc d) t.2 in
       let all = canonical_members style (g ▷ gs) in
       let n = varint_of (count (g ▷ gs)) in
-      let body = varints ((Count (Geometries 0), count (g ▷ gs)) ∷ id_fields ids) ++ all in
-      (λ at. last origin, record {
-        begins = λ rest h. (let le : d < suc d = omega arith in le);
-        spelled = λ at es rest h.
-            geometry_spelled style (collection p ids (g ▷ gs)) kind.Collection p id d [] at
-            (sizes_of_all style (g ▷ gs) ++ es) (member_rows (suc d) ids (g ▷ gs) ++ rest)
-            (rows_bytes style (last origin) es rest) (headed style id d (collection p ids (g ▷ gs)) t)
-            (many_bytes n _ _ _ all _ _ (collection_ids d ids (g ▷ gs) rest h t.1)
-            (members.spelled origin es rest (above_less (suc d) rest h))
-            (collection_body ids g gs body ∙ append_assoc n (varints (id_fields ids)) all
-            ∙ ap (λ l. n ++ (l ++ all)) (id_fields-walked ids)));
-      })
+      let body = varints ((Count (Geometries 0), count (g ▷ gs)) ∷ id_fields ids) ++ all in (
+        λ at. last origin,
+        record {
+          begins = λ rest h. (let le : d < suc d = omega arith in le);
+          spelled = λ at es rest h.
+              geometry_spelled style (collection p ids (g ▷ gs)) kind.Collection p id d [] at
+              (sizes_of_all style (g ▷ gs) ++ es) (member_rows (suc d) ids (g ▷ gs) ++ rest)
+              (rows_bytes style (last origin) es rest) (headed style id d (collection p ids (g ▷ gs)) t)
+              (many_bytes n _ _ _ all _ _ (collection_ids d ids (g ▷ gs) rest h t.1)
+              (members.spelled origin es rest (above_less (suc d) rest h))
+              (collection_body ids g gs body ∙ append_assoc n (varints (id_fields ids)) all
+              ∙ ap (λ l. n ++ (l ++ all)) (id_fields-walked ids)));
+        },
+      )
 
   trees_spelled : (style : Style) (gs : Trees) (ids : Ids) (d : ℕ) → AreTrees gs → (last : Point → Point)
       × AreSpelled style d (member_rows d ids gs) (sizes_of_all style gs) (λ at. canonical_members style gs) last

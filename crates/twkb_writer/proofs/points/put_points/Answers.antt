@@ -29,7 +29,8 @@ loop-index-preserved g c =
     record {
       behind = omega (arith, c.loop-index.invariant.behind);
       within = omega (arith, c.loop-index.invariant.within);
-      progress = rw c.put_steps.ensures.moved (step (ap (way_bytes at) two ∙ way_two at c.point-to.result c.point-next.result _)
+      progress = rw c.put_steps.ensures.moved
+          (step (ap (way_bytes at) two ∙ way_two at c.point-to.result c.point-next.result _)
           c.loop-index.invariant.progress c.put_steps.ensures.put);
       last = rw c.put_steps.ensures.moved
           (sym (ap (way_end at) two) ∙ c.loop-index.invariant.last);

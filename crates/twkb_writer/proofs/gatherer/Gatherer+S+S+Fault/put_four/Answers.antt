@@ -13,5 +13,5 @@ returns g c =
     let second = simp to_z-of_z at c.zigzag-2.ensures in
     let third = simp to_z-of_z at c.zigzag-3.ensures in
     let fourth = simp to_z-of_z at c.zigzag-4.ensures in
-    pushed _ c.make_room.ensures.put (four_pushed _ _ _ _ _ _ c.args.first c.args.second c.args.third c.args.fourth c.push_four_varints.ensures
-    first second third fourth)
+    pushed _ c.make_room.ensures.put (four_pushed _ _ _ _ _ _ c.args.first c.args.second c.args.third
+    c.args.fourth c.push_four_varints.ensures first second third fourth)
