@@ -619,17 +619,11 @@ framed_run k p own Body fs e is g fits f runs =
     subst (λ js. Runs e (fs, AtHeader) js (ended fs g)) (sym f.whole) (
       refl,
       (byte, omega (arith, kind_small k, small, low), omega (arith, kind_small k, low), refl),
-      subst (λ n. Runs e1 (fs, AtMetadata (kind_at n) (unzigzag_of (hb / 16)))
-          (item (Metadata (kind_number k)) f.meta ∷ tail) (ended fs g)) (sym low)
-          (subst (λ q. Runs e1 (fs, AtMetadata q (unzigzag_of (hb / 16)))
-          (item (Metadata (kind_number k)) f.meta ∷ tail) (ended fs g)) (sym (kind_again k))
-          (subst (λ q. Runs e1 (fs, AtMetadata k q) (item (Metadata (kind_number k)) f.meta ∷ tail)
-          (ended fs g)) (sym (ap unzigzag_of high ∙ unzigzag_of-zigzag_of p)) (
-            refl,
-            (f.byte, refl),
-            tail_run k p own Body fs
-                (added e1 (item (Metadata (kind_number k)) f.meta)) is g f runs refl,
-          ))),
+      subst (λ ph. Runs e1 (fs, ph) (item (Metadata (kind_number k)) f.meta ∷ f.extended ++ (f.size
+          ++ ((f.box ++ f.body) ++ end_item (declared f.size) (f.box ++ f.body) ∷ []))) (ended fs g))
+          (λ t. AtMetadata (kinds t) (precisions t))
+          (refl, (f.byte, refl), tail_run k p own Body fs (added e1 (item (Metadata (kind_number k)) f.meta)) is g f
+          runs refl),
     )
   where
     hb : ℕ
@@ -641,14 +635,15 @@ framed_run k p own Body fs e is g fits f runs =
     low : hb % 16 ≡ kind_number k
     low = omega (arith, kind_small k, small)
 
-    high : hb / 16 ≡ zigzag_of p
-    high = omega (arith, kind_small k, small)
-
     byte : hb < 256
     byte = omega (arith, kind_small k, small)
 
     e1 : Sums
     e1 = added e (item Header hb)
 
-    tail : List Item
-    tail = f.extended ++ (f.size ++ ((f.box ++ f.body) ++ end_item (declared f.size) (f.box ++ f.body) ∷ []))
+    kinds : k ≡ kind_at (hb % 16)
+    kinds = sym (ap kind_at low ∙ kind_again k)
+
+    precisions : p ≡ unzigzag_of (hb / 16)
+    precisions = sym (ap unzigzag_of (let z : hb / 16 ≡ zigzag_of p = omega (arith, kind_small k, small) in z)
+        ∙ unzigzag_of-zigzag_of p)

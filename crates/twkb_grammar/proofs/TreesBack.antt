@@ -403,6 +403,18 @@ module _ (fs : List Frame) (before : List Item) (outer : Inside fs before) (e : 
   now : (ph : Phase) → Own (length fs) (length (join before)) e ph own → Holds e (fs, ph) (before ++ own)
   now ph inner = record { before = before; own = own; whole = refl; outer = outer; bytes = bytes; inner = inner }
 
+  -- the next member of a collection
+  member_next : (f : Frame) → Open CollectionKind (length (join before)) f.head
+      (Gathered (length fs) f.head f.ids f.done (suc f.left)) own → Holds e (f ∷ fs, AtHeader) (before ++ own)
+  member_next f o = record {
+    before = before ++ own;
+    own = [];
+    whole = sym (append-nil (before ++ own));
+    bytes = omega (arith, bytes, long before own);
+    inner = refl;
+    outer = (before, own, refl, outer, o);
+  }
+
   settled_holds : (h : Head) (f : BodyForm) (ids : Ids) (b : Body (depth_of f))
       → Open (SimpleKind f) (length (join before)) h (Bodied h f ids b e.position) own
       → Holds e (fs, settled h f ids b) (before ++ own)
@@ -464,14 +476,8 @@ module _ (fs : List Frame) (before : List Item) (outer : Inside fs before) (e : 
         (gathered_all (length fs) (length (join before)) e h None end own
         (open_as o (subst (λ i. Gathered (length fs) h i end 0 o.body) o.body_is.says
         (gathered_none (length fs) h 0 ids o.body o.body_is))))
-    members_holds ManyGeometries ids (suc n) here o = record {
-      before = before ++ own;
-      own = [];
-      whole = sym (append-nil (before ++ own));
-      bytes = omega (arith, bytes, long before own);
-      inner = refl;
-      outer = (before, own, refl, outer, open_as o (gathered_none (length fs) h (suc n) ids o.body o.body_is));
-    }
+    members_holds ManyGeometries ids (suc n) here o =
+        member_next (frame h ids end n) (open_as o (gathered_none (length fs) h (suc n) ids o.body o.body_is))
 
     -- the first count of a multi type or a collection was read
     counted_holds : (m : Many) (n : ℕ) → e.position ≡ origin → Open (many_kind m) (length (join before)) h
@@ -531,14 +537,8 @@ ended_holds (f ∷ fs) before e g own (pre, mine, cut, out, o) bytes items fits 
     go zero o = now fs pre out e (mine ++ own) total
         (AtEnd f.head (collection f.head.precision f.ids (snoc f.done g)))
         (gathered_all (length fs) (length (join pre)) e f.head f.ids (snoc f.done g) (mine ++ own) (more 0 o))
-    go (suc left) o = record {
-      before = pre ++ (mine ++ own);
-      own = [];
-      whole = sym (append-nil (pre ++ (mine ++ own)));
-      bytes = omega (arith, total, long pre (mine ++ own));
-      inner = refl;
-      outer = (pre, mine ++ own, refl, out, more (suc left) o);
-    }
+    go (suc left) o =
+        member_next fs pre out e (mine ++ own) total (frame f.head f.ids (snoc f.done g) left) (more (suc left) o)
 
 -- a kind found by its number has that number
 kind_number_at : (n : ℕ) → 0 < n → n < 8 → kind_number (kind_at n) ≡ n
