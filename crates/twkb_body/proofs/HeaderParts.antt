@@ -51,17 +51,14 @@ sums_still e at same = sums_same (omega arith) same refl refl
 module _ (limits : Allowance) (front : List ℕ) (e : Sums) (o : Outline) (rs : List Row) (told : ℕ → Notes) where
   pub noted_still : (at : Point) → e.position ≡ at → NotedOutline limits front e o rs told
       → NotedOutline limits (front ++ []) (sums_past e [] at) o rs told
-  noted_still at same n = subst (λ l. NotedOutline limits l (sums_past e [] at) o rs told)
-      (sym (append-nil front)) (subst (λ s. NotedOutline limits front s o rs told)
-      (sums_still e at same) n)
+  noted_still at same n = subst (λ T. T)
+      (λ t. NotedOutline limits (sym (append-nil front) t) (sums_still e at same t) o rs told) n
 
   pub noted_join : (xs ys : List ℕ) (at to : Point)
       → NotedOutline limits ((front ++ xs) ++ ys) (sums_past (sums_past e xs at) ys to) o rs told
       → NotedOutline limits (front ++ (xs ++ ys)) (sums_past e (xs ++ ys) to) o rs told
-  noted_join xs ys at to n = subst (λ l. NotedOutline limits l (sums_past e (xs ++ ys) to) o rs
-      told) (append_assoc front xs ys)
-      (subst (λ s. NotedOutline limits ((front ++ xs) ++ ys) s o rs told)
-      (sums_join e xs ys at to) n)
+  noted_join xs ys at to n = subst (λ T. T)
+      (λ t. NotedOutline limits (append_assoc front xs ys t) (sums_join e xs ys at to t) o rs told) n
 
 -- ==== The two numbers of a point add no notes.
 
@@ -106,12 +103,8 @@ noted_point limits front e gs h f ids lefts rs told bytes to r p =
     record { bytes = sum t; position = there t; nodes = nodes t; points = points t } in
     let spelled : (front ++ p.x_bytes) ++ p.y_bytes ≡ front ++ bytes = append_assoc front p.x_bytes
     p.y_bytes ∙ ap (λ l. front ++ l) (sym p.whole) in
-    subst (λ l. NotedOutline limits l (sums_past e bytes to) (gs, shut h f ids 0 lefts)
-    (applied (point_after to gs h f ids) rs) told) spelled
-    (subst (λ s. NotedOutline limits ((front ++ p.x_bytes) ++ p.y_bytes) s
-    (gs, shut h f ids 0 lefts) (applied (point_after to gs h f ids) rs) told) same
-    (subst (λ q. NotedOutline limits ((front ++ p.x_bytes) ++ p.y_bytes) (added (added e i) j)
-    (gs, shut h f ids 0 lefts) (applied (point_after q gs h f ids) rs) told) there b))
+    subst (λ T. T) (λ t. NotedOutline limits (spelled t) (same t) (gs, shut h f ids 0 lefts)
+    (applied (point_after (there t) gs h f ids) rs) told) b
 
 -- ==== The two numbers of a point, taken at once.
 
@@ -151,9 +144,7 @@ pub parts_join : (h mid to : Head) (at : ℕ) (rs qs : List Role) (xs ys : List 
     → AreNumberParts h at (rs ++ qs) (xs ++ ys) to
 parts_join h mid to at [] qs xs ys (none, same) next =
     let still : at + length xs ≡ at = omega (arith, ap length none) in
-    subst (λ l. AreNumberParts h at qs (l ++ ys) to) (sym none)
-    (subst (λ g. AreNumberParts g at qs ys to) same
-    (subst (λ a. AreNumberParts mid a qs ys to) still next))
+    subst (λ T. T) (λ t. AreNumberParts (same t) (still t) qs (sym none t ++ ys) to) next
 parts_join h mid to at (r ∷ rs) qs xs ys (n, part, rest, is, v, whole, more) next =
     let behind : at + length xs ≡ (at + length part) + length rest = omega
     (arith, ap length whole, length-append part rest) in (
@@ -284,10 +275,7 @@ header_read limits front e gs k precision rows told meta parts size from low ful
     let goes : options k to [] ≡ begins k to = ap (λ t. if t then OnEnd to else begins k to) full in
     let sums : sums_past (added e i) parts e.position ≡ sums_behind_header e k meta parts =
     sums_same (omega arith) refl (omega arith) refl in
-    subst (λ bs. Behind bs (sums_behind_header e k meta parts) (begins k to) rows)
-    (append_assoc front (meta ∷ []) parts)
-    (subst (λ s. Behind (own ++ parts) s (begins k to) rows) sums
-    (subst (λ q. Behind (own ++ parts) (sums_past (added e i) parts e.position) q rows) goes c))
+    subst (λ T. T) (λ t. Behind (append_assoc front (meta ∷ []) parts t) (sums t) (goes t) rows) c
 
 -- ==== Optional parts of a header that are complete at the start of bytes.
 
@@ -311,11 +299,10 @@ sides_more count bytes used n width first number =
     record {
       within = one_within bytes used width first.within number.within;
       parts = λ h at.
-          subst (λ l. AreNumberParts h at (sides (count + 1)) l h) (sym (used_join bytes used width))
-          (subst (λ rs. AreNumberParts h at rs (take used bytes ++ take width left) h) more
+          subst (λ T. T) (λ t. AreNumberParts h at (more t) (sym (used_join bytes used width) t) h)
           (parts_join h h h at (sides count) (Box ∷ []) (take used bytes) (take width left)
           (first.parts h at) (one_part h (at + length (take used bytes)) n Box (take width left)
-          tt number.spelled)));
+          tt number.spelled));
     }
 
 pub box_whole : (meta : ℕ) (bytes : List ℕ) (used : ℕ) → bit meta 0 ≡ true
@@ -344,9 +331,8 @@ parts_whole meta bytes size from used none first next =
           let both = parts_join h to to at (where_set (bit meta 1) (Size ∷ []))
           (where_set (bit meta 0) (sides 4)) (take from bytes) (take used left)
           (first.parts precision at) (next.parts to (at + length (take from bytes))) in
-          subst (λ l. AreNumberParts h at (asked meta) l to) (sym (used_join bytes from used))
-          (subst (λ b. AreNumberParts h at (where_set b (Extended ∷ []) ++ rest)
-          (take from bytes ++ take used left) to) (sym none) both);
+          subst (λ T. T) (λ t. AreNumberParts h at (where_set (sym none t) (Extended ∷ []) ++ rest)
+          (sym (used_join bytes from used) t) to) both;
     }
 
 -- ---- a reader after a metadata byte
@@ -387,8 +373,7 @@ read_ahead limits front e gs k precision rows told rest size from used points so
     let noted : ℕ → Notes = λ start. note_metadata meta (told start) in
     let read = header_read limits front e gs k precision rows told meta parts size
     ((e.bytes + 1) + from) low full free (p.parts precision (e.bytes + 1)) there in
-    subst (λ l. NotedOutline limits (front ++ l) behind o rows noted) whole
-    (subst (λ s. NotedOutline limits (front ++ meta ∷ parts) s o rows noted) sums read)
+    subst (λ T. T) (λ t. NotedOutline limits (front ++ whole t) (sums t) o rows noted) read
 
 -- ==== The header of a point that asks for nothing, or for a size of one byte.
 
@@ -491,6 +476,4 @@ header_point_read limits front e gs rs header steps h to read pair =
     let a = outlined_point limits (front ++ header) begun gs h PointForm None [] rs steps to read pair in
     let sums : sums_past begun steps to ≡ sums_behind e (length (header ++ steps)) to =
     sums_same (omega (arith, length-append header steps)) refl refl refl in
-    subst (λ l. Outlined limits l (sums_behind e (length (header ++ steps)) to) (gs, OnEnd h) Rows)
-    (append_assoc front header steps)
-    (subst (λ s. Outlined limits ((front ++ header) ++ steps) s (gs, OnEnd h) Rows) sums a)
+    subst (λ T. T) (λ t. Outlined limits (append_assoc front header steps t) (sums t) (gs, OnEnd h) Rows) a
