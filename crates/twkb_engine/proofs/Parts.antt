@@ -187,8 +187,7 @@ pub end_noted : {S : Type 0} (holds : S → Notes → Type 0) (new : S) (w : Not
     → holds new (note_ends many offset points w)
 end_noted holds new w k many offset points o p eo ep em held =
     subst (λ (m : ℕ). holds new (note_ends m offset points w)) (sym em)
-    (subst (λ (q : ℕ). holds new (note_end q points (note_ends k offset points w))) eo
-    (subst (λ (q : ℕ). holds new (note_end o q (note_ends k offset points w))) ep held))
+    (subst (λ T. T) (λ t. holds new (note_end (eo t) (ep t) (note_ends k offset points w))) held)
 
 -- ---- what comes with an end
 

@@ -149,9 +149,7 @@ module _ (limits : Allowance) (bytes : List ℕ) (e : Sums) (rs : List Row) wher
         nodes = add-zero e.nodes t;
         points = add-zero e.points t;
       } in
-      subst (λ s. NotedOutline limits bytes s (outline_ended gs) rs after) same
-      (subst (λ l. NotedOutline limits l (added e i) (outline_ended gs) rs after)
-      (append-nil bytes) a)
+      subst (λ T. T) (λ t. NotedOutline limits (append-nil bytes t) (same t) (outline_ended gs) rs after) a
 
   abbrev Past : Outline → (ℕ → Notes) → Type 0
   Past p told = (k : ℕ) × NotedOutline limits bytes e p rs

@@ -244,11 +244,8 @@ module _ (h : Head) (f : BodyForm) (ids : Ids) (fs : List Frame) (last : Stack) 
       (sym (append_assoc (slots_of d v) (flat_map (slots_of d) (w ∷ ws)) more))
       (each v (within done (suc (length ws)) a) (flat_map (slots_of d) (w ∷ ws) ++ more) p
       (rest_runs d each ws w (done ++ v ∷ []) a more (reached p (slots_of d v))
-      (subst (λ vs. Reaches (at_body (closed a vs)) more
-      (reached (reached p (slots_of d v)) (flat_map (slots_of d) (w ∷ ws))) last)
-      (sym (append_assoc done (v ∷ []) (w ∷ ws)))
-      (subst (λ q. Reaches (at_body (closed a (done ++ v ∷ w ∷ ws))) more q last)
-      (reached-append p (slots_of d v) (flat_map (slots_of d) (w ∷ ws))) k))))
+      (subst (λ T. T) (λ t. Reaches (at_body (closed a (sym (append_assoc done (v ∷ []) (w ∷ ws)) t))) more
+      (reached-append p (slots_of d v) (flat_map (slots_of d) (w ∷ ws)) t) last) k)))
 
   all_run : (d : ℕ) → RunsThrough d → (vs : List (Nested d)) (a : Around (depth_of f) (suc d))
       (more : List Slot) (p : Point)
@@ -395,12 +392,10 @@ parts_run : (m : Many) (h : Head) (f : BodyForm) (ids : Ids) (fs : List Frame)
     ++ ps) origin last
 parts_run m h f ids fs last d vs a ps same is_last begins says =
     first_run m h fs last (length vs) ids ps origin says
-    (subst (λ st. Reaches st ps origin last) begins
-    (subst (λ qs. Reaches (fs, settled h f ids (opened d (length vs) a)) qs origin last)
-    (append-nil (flat_map (slots_of d) vs) ∙ same)
+    (subst (λ T. T) (λ t. Reaches (begins t) ((append-nil (flat_map (slots_of d) vs) ∙ same) t) origin last)
     (all_run h f ids fs last d (value_runs h f ids fs last d) vs a [] origin
     (subst (λ st. Reaches st [] (reached origin (flat_map (slots_of d) vs)) last)
-    (sym is_last) (finish last (reached origin (flat_map (slots_of d) vs)))))))
+    (sym is_last) (finish last (reached origin (flat_map (slots_of d) vs))))))
 
 -- the machine runs through the body of a shape
 pub shape_run : (h : Head) (fs : List Frame) (s : Simple) → IdsFit s

@@ -61,9 +61,8 @@ refuse : (limits : Allowance) (bytes : List ℕ) (before : List Item) (st : Stac
     → FirstFault limits bytes (sums_after nothing before).bytes reason
 refuse limits bytes before st rest r reason s says refused =
     let n : length (join before) ≡ (sums_after nothing before).bytes = omega (arith, bytes_after before nothing) in
-    subst (λ l. FirstFault limits l (sums_after nothing before).bytes reason) (sym s.split)
-    (subst (λ k. FirstFault limits (join before ++ rest) k reason) n
-    (ran_fault limits before rest st r reason s.ran says refused))
+    subst (λ T. T) (λ t. FirstFault limits (sym s.split t) (n t) reason)
+    (ran_fault limits before rest st r reason s.ran says refused)
 
 -- the rest of a list of bytes is a list of bytes
 pub bytes_left : (front more : List ℕ) → AreBytes (front ++ more) → AreBytes more

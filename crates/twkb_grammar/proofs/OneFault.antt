@@ -44,26 +44,14 @@ two_fronts (i ∷ is) (j ∷ js) e st last other x y r s eq =
     let eq2 : i.bytes ++ (join is ++ x) ≡ j.bytes ++ (join js ++ y) =
     sym (append_assoc i.bytes (join is) x) ∙ (eq ∙ append_assoc j.bytes (join js) y) in
     let one = one_item i j (join is ++ x) (join js ++ y) role r.1 s.1 eq2 in
-    behind i j is js one (two_fronts is js (added e j) (stack_after e j st) last other x y
-    (subst (λ k. Runs (added e k) (stack_after e k st) is last) one r.2) s.2
-    (peel i.bytes j.bytes (join is ++ x) (join js ++ y) (ap (λ k. k.bytes) one) eq2))
+    subst (λ k. Compared (k ∷ is) (j ∷ js)) (sym one) (behind j is js (two_fronts is js (added e j)
+    (stack_after e j st) last other x y (subst (λ k. Runs (added e k) (stack_after e k st) is last) one r.2) s.2
+    (peel i.bytes j.bytes (join is ++ x) (join js ++ y) (ap (λ k. k.bytes) one) eq2)))
   where
-    behind : (i j : Item) (is js : List Item) → i ≡ j → Compared is js → Compared (i ∷ is) (j ∷ js)
-    behind i j is js one (longer b) = longer
-        (record {
-          next = b.next;
-          more = b.more;
-          whole = ap (λ k. k ∷ is) one
-              ∙ ap (λ l. j ∷ l) b.whole;
-        })
-    behind i j is js one (shorter b) = shorter
-        (record {
-          next = b.next;
-          more = b.more;
-          whole = ap (λ k. k ∷ js) (sym one)
-              ∙ ap (λ l. i ∷ l) b.whole;
-        })
-    behind i j is js one (same e) = same (ap (λ k. k ∷ is) one ∙ ap (λ l. j ∷ l) e)
+    behind : (j : Item) (is js : List Item) → Compared is js → Compared (j ∷ is) (j ∷ js)
+    behind j is js (longer b) = longer (record { next = b.next; more = b.more; whole = ap (λ l. j ∷ l) b.whole })
+    behind j is js (shorter b) = shorter (record { next = b.next; more = b.more; whole = ap (λ l. j ∷ l) b.whole })
+    behind j is js (same e) = same (ap (λ l. j ∷ l) e)
 
 -- no items go on beyond a geometry that is complete
 pub none_beyond : (is js : List Item) (g : Tree) (last : Stack)
@@ -193,12 +181,7 @@ one_first_fault limits bytes o p r s a b =
         let rest : a.fault.rest ≡ b.fault.rest = left_cancel (join b.fault.before) a.fault.rest
         b.fault.rest (ap (λ l. join l ++ a.fault.rest) (sym e)
         ∙ (sym a.fault.split ∙ b.fault.split)) in
-        let x : Refused limits b.fault.before a.fault.rest a.fault.role r =
-        subst (λ l. Refused limits l a.fault.rest a.fault.role r) e a.fault.refused in
-        let y : Refused limits b.fault.before b.fault.rest a.fault.role r =
-        subst (λ l. Refused limits b.fault.before l a.fault.role r) rest x in
-        let z : Refused limits b.fault.before b.fault.rest b.fault.role r =
-        subst (λ l. Refused limits b.fault.before b.fault.rest l r) role y in (
+        let z = subst (λ T. T) (λ t. Refused limits (e t) (rest t) (role t) r) a.fault.refused in (
           a.fault.place ∙ (ap (λ l. length (join l)) e ∙ sym b.fault.place),
           one_reason limits b.fault.before b.fault.rest b.fault.role r s z b.fault.refused,
         )

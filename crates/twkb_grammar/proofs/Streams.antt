@@ -67,11 +67,7 @@ no_fault_of_nothing limits bytes offset reason f none = go f.before refl
         let rest : f.rest ≡ [] = left_cancel (join f.before) f.rest []
         (ap (λ l. join l ++ f.rest) (sym e) ∙ (ap (λ l. join l ++ f.rest) e
         ∙ (spelled ∙ ap (λ l. join l ++ []) e))) in
-        let x : Refused limits f.before f.rest Header reason =
-        subst (λ r. Refused limits f.before f.rest r reason) role f.refused in
-        let y : Refused limits [] f.rest Header reason = subst (λ l. Refused limits l f.rest Header reason) (sym e) x in
-        let z : Refused limits [] [] Header reason = subst (λ l. Refused limits [] l Header reason) rest y in
-        nothing_refused z
+        nothing_refused (subst (λ T. T) (λ t. Refused limits (sym e t) (rest t) (role t) reason) f.refused)
       where
         nothing_refused : Refused limits [] [] Header reason → ⊥
         nothing_refused (inl h) = h.0.0 refl
