@@ -81,11 +81,9 @@ module _ (Holds : List Row → Type 0) (again : Bool) where
 
   found_keeps : (test : Rule → Bool) (others : List Rule) → EachKeeps others → IfKeeps (find test others)
   found_keeps test [] each = tt
-  found_keeps test (a ∷ others) each = go (test a) (found_keeps test others each.1)
-    where
-      go : (b : Bool) → IfKeeps (find test others) → IfKeeps (cond b (Some a) (find test others))
-      go true later = each.0
-      go false later = later
+  found_keeps test (a ∷ others) each =
+      elim (test a) as (λ (b : Bool). IfKeeps (cond b (Some a) (find test others)))
+      [ true ↦ each.0 | false ↦ found_keeps test others each.1 ]
 
   by_id : (found : Option Rule) (values : List Text) (rows : List Row) → IfKeeps found → Holds rows
       → option_map_or (λ a. use_fault again a values rows) found [] ≡ [] → Holds (used_by_id found values rows)
@@ -142,17 +140,15 @@ module _ (Holds : List Row → Type 0) (s : Shape) (each : EachKeeps Holds s.arg
       → ((x : Held) → Holds x.rows → later x ≡ [] → Holds (further x).0.rows) → Holds h.rows
       → short_fault s.rules s.args_override_self found rest h later ≡ []
       → Holds (short_met s.rules found rest h further).0.rows
-  short_holds None rest h further later keeps then holds none = holds
-  short_holds (Some a) rest h further later keeps then holds none = go (takes_values a) none
-    where
-      go : (b : Bool)
-          → cond b (option_fault s.rules s.args_override_self a (attached_value rest) h)
-          (or_else (react_fault s.rules s.args_override_self a [] h)
-          (later (reacted s.rules a [] h))) ≡ []
-          → Holds (cond b (option_met s.rules a (attached_value rest) h) (further (reacted s.rules a [] h))).0.rows
-      go true none = option_holds a (attached_value rest) h keeps holds none
-      go false none = then (reacted s.rules a [] h)
-          (reacted_holds a [] h keeps holds (first_none _ _ none)) (last_none _ _ none)
+  short_holds None rest h further later keeps then holds = λ none. holds
+  short_holds (Some a) rest h further later keeps then holds = elim (takes_values a) as (λ (b : Bool).
+      cond b (option_fault s.rules s.args_override_self a (attached_value rest) h)
+      (or_else (react_fault s.rules s.args_override_self a [] h) (later (reacted s.rules a [] h))) ≡ []
+      → Holds (cond b (option_met s.rules a (attached_value rest) h) (further (reacted s.rules a [] h))).0.rows) [
+        | true ↦ option_holds a (attached_value rest) h keeps holds
+        | false ↦ λ none. then (reacted s.rules a [] h)
+            (reacted_holds a [] h keeps holds (first_none _ _ none)) (last_none _ _ none)
+      ]
 
   flag_holds : (x : Option ℕ) (flags : Text) (skip : ℕ) (so_far : Outcome) (h : Held)
       (further : Text → ℕ → Outcome → Held → Held × Outcome) (later : Text → ℕ → Held → Kinds)
@@ -215,13 +211,11 @@ module _ (Holds : List Row → Type 0) (s : Shape) (each : EachKeeps Holds s.arg
   other_holds : (name : Option Text) (waiting : Waiting) (position : ℕ) (word : Text) (h : Held)
       → Holds h.rows → other_fault s name word h ≡ []
       → Holds (subcommand_or_other s.rules name waiting position word h).0.rows
-  other_holds (Some name) waiting position word h holds none = holds
-  other_holds None waiting position word h holds none = go (bytes_eq word (45 ∷ 45 ∷ [])) none
-    where
-      go : (b : Bool) → cond b [] (flag_word_fault s.rules s.args_override_self (long_of word) word h) ≡ []
-          → Holds (cond b (h, trailing position) (long_or_other s.rules waiting word (long_of word) h)).0.rows
-      go true none = holds
-      go false none = flag_word_holds (long_of word) waiting word h holds none
+  other_holds (Some name) waiting position word h holds = λ none. holds
+  other_holds None waiting position word h holds = elim (bytes_eq word (45 ∷ 45 ∷ [])) as (λ (b : Bool).
+      cond b [] (flag_word_fault s.rules s.args_override_self (long_of word) word h) ≡ []
+      → Holds (cond b (h, trailing position) (long_or_other s.rules waiting word (long_of word) h)).0.rows)
+      [ true ↦ λ none. holds | false ↦ flag_word_holds (long_of word) waiting word h holds ]
 
   word_holds : (is_trailing : Bool) (names : Names) (waiting : Waiting) (position : ℕ) (word : Text)
       (h : Held) → Holds h.rows
@@ -234,12 +228,9 @@ module _ (Holds : List Row → Type 0) (s : Shape) (each : EachKeeps Holds s.arg
   positional_holds : (a : Rule) (word : Text) (h : Held) → Holds h.rows
       → positional_fault s.rules s.args_override_self a h ≡ []
       → Holds (positional_held s.rules a word h).rows
-  positional_holds a word h holds none = go (is_pending a h.pending && takes_several a) none
-    where
-      go : (b : Bool) → cond b [] (settle_fault s.rules s.args_override_self h) ≡ []
-          → Holds (cond b h (settled s.rules h)).rows
-      go true none = holds
-      go false none = settled_holds h.pending h.rows holds none
+  positional_holds a word h holds = elim (is_pending a h.pending && takes_several a) as (λ (b : Bool).
+      cond b [] (settle_fault s.rules s.args_override_self h) ≡ [] → Holds (cond b h (settled s.rules h)).rows)
+      [ true ↦ λ none. holds | false ↦ settled_holds h.pending h.rows holds ]
 
   to_positional_holds : (found : Option Rule) (word : Text) (w : Walk) (h : Held) → Holds h.rows
       → (fallback : Kinds) → option_map_or (λ a. positional_fault s.rules s.args_override_self a h)
@@ -317,11 +308,9 @@ module _ (Holds : List Row → Type 0) where
 
   found_level : (test : Shape → Bool) (ss : List Shape) → EachLevel ss → IfLevel (find test ss)
   found_level test [] each = tt
-  found_level test (s ∷ ss) each = go (test s) (found_level test ss each.1)
-    where
-      go : (b : Bool) → IfLevel (find test ss) → IfLevel (cond b (Some s) (find test ss))
-      go true later = each.0
-      go false later = later
+  found_level test (s ∷ ss) each =
+      elim (test s) as (λ (b : Bool). IfLevel (cond b (Some s) (find test ss)))
+      [ true ↦ each.0 | false ↦ found_level test ss each.1 ]
 
   level_below : (found : Option Shape) (words : List Text) → IfLevel found → Holds []
       → option_map_or (λ s. level_fault s [] nothing_held words false []) found [] ≡ []
@@ -456,11 +445,9 @@ named_line styles (Err e) words kinds is = tt
 
 without_minus-cond : (t : Text) → without_minus t ≡ cond (starts_with_minus t) (drop 1 t) t
 without_minus-cond [] = refl
-without_minus-cond (x ∷ xs) = go (x == 45)
-  where
-    go : (b : Bool) → unwrap_or (cond b (Some xs) None) (x ∷ xs) ≡ cond b xs (x ∷ xs)
-    go true = refl
-    go false = refl
+without_minus-cond (x ∷ xs) =
+    elim (x == 45) as (λ (b : Bool). unwrap_or (cond b (Some xs) None) (x ∷ xs) ≡ cond b xs (x ∷ xs))
+    [ true ↦ refl | false ↦ refl ]
 
 no_plus : (ds : Text) → IsNumeral 10 ds → without_leading_plus ds ≡ ds
 no_plus [] h = refl

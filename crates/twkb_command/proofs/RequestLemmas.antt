@@ -27,7 +27,7 @@ use Rattle.clap.specs.Values.{refused_kind}
 use Rattle.clap.specs.ValueTests.{accepts}
 use Rattle.clap.specs.Walk.{Held, Names, Row, Rule, Step, Text, Walk, action_of, answers_to, arg_by_id, arg_by_index}
 use Rattle.clap.specs.Walk.{arg_by_long, arg_by_short, attached_value, has_row, is_empty, is_pending, most_values}
-use Rattle.clap.specs.Walk.{nothing_held, reacted, settled, subcommand, subcommand_met, takes_several, takes_values}
+use Rattle.clap.specs.Walk.{nothing_held, reacted, settled, subcommand_met, takes_several, takes_values}
 use Rattle.clap.specs.Walk.{value, values_or_missing, walk, walk_from, walked, with_default, word_met}
 use Rattle.clap.specs.declared.builder.action.ArgAction.{ArgAction}
 use Rattle.clap.specs.declared.builder.value_parser.ValueParser.{ValueParser}
@@ -110,20 +110,16 @@ not_among : (k : ErrorKind) → is_asked k ≡ true → (kinds : Kinds) → list
     → IsAmong k kinds → ⊥
 not_among k asked [] plain listed = listed
 not_among k asked (x ∷ xs) plain listed = elim listed [
-  | inl same ↦ absurd (true≢false (sym (subst (λ y. is_asked y ≡ true) same asked) ∙ here))
-  | inr later ↦ not_among k asked xs (any_later (is_asked x) (list_any is_asked xs) plain) later
+  | inl same ↦ absurd (true≢false (sym (subst (λ y. is_asked y ≡ true) same asked) ∙ both.0))
+  | inr later ↦ not_among k asked xs both.1 later
 ]
   where
-    any_here : (a b : Bool) → (a || b) ≡ false → a ≡ false
-    any_here true b e = e
-    any_here false b e = refl
+    neither : (a b : Bool) → (a || b) ≡ false → (a ≡ false) × (b ≡ false)
+    neither true b e = absurd (true≢false e)
+    neither false b e = (refl, e)
 
-    any_later : (a b : Bool) → (a || b) ≡ false → b ≡ false
-    any_later true b e = absurd (true≢false e)
-    any_later false b e = e
-
-    here : is_asked x ≡ false
-    here = any_here (is_asked x) (list_any is_asked xs) plain
+    both : (is_asked x ≡ false) × (list_any is_asked xs ≡ false)
+    both = neither (is_asked x) (list_any is_asked xs) plain
 
 plain_one : (kinds : Kinds) → list_any is_asked kinds ≡ false → IsOneRequest kinds
 plain_one kinds plain = inr
@@ -322,13 +318,11 @@ LackHelp (s ∷ ss) = (s.disable_help_subcommand ≡ true) × LackHelp ss
 found_one : (test : Shape → Bool) (ss : List Shape) (words : List Text) → LackHelp ss
     → IsOneRequest (option_map_or (λ s. level_fault s [] nothing_held words false []) (find test ss) [])
 found_one test [] words lack = none_one
-found_one test (s ∷ ss) words lack = go (test s) (found_one test ss words lack.1)
-  where
-    go : (b : Bool) → IsOneRequest (option_map_or (λ x. level_fault x [] nothing_held words false []) (find test ss) [])
-        → IsOneRequest (option_map_or (λ x. level_fault x [] nothing_held words false [])
-        (cond b (Some s) (find test ss)) [])
-    go true later = level_one s lack.0 [] nothing_held words false [] none_one
-    go false later = later
+found_one test (s ∷ ss) words lack = elim (test s) as (λ (b : Bool). IsOneRequest
+    (option_map_or (λ x. level_fault x [] nothing_held words false []) (cond b (Some s) (find test ss)) [])) [
+      | true ↦ level_one s lack.0 [] nothing_held words false [] none_one
+      | false ↦ found_one test ss words lack.1
+    ]
 
 entered_one : (a : App) (stop : Option (Text × List Text)) → LackHelp a.subs → IsOneRequest (entered_fault a stop)
 entered_one a None lack = none_one
