@@ -6,7 +6,7 @@ use Rattle.std.specs.List.{AllByRecursion}
 use Rattle.std.proofs.lemmas.List.{length-append}
 use Rattle.twkb_points.specs.Point.{Point}
 use Rattle.twkb_tree.specs.Tree.{Ids, HasIds, point, line, polygon, multi_point, multi_line, multi_polygon, Tree, Trees}
-use Rattle.twkb_tree.specs.Tree.{Simple, simple, collection, end, ◌▷◌, trees, members, count, precision_of, IsTree, IsPrecision}
+use Rattle.twkb_tree.specs.Tree.{Simple, simple, collection, end, ◌▷◌, trees, members, precision_of, IsTree, IsPrecision}
 use Rattle.twkb_tree.specs.declared.kind.Kind.{Kind}
 use Rattle.twkb_tree.specs.Rows.{Row, first_id, other_ids, rows_of_each, plain_row, own_row, rows_with, rows_under}
 use Rattle.twkb_tree.specs.Rows.{rows, ring_rows, rows_below}
@@ -16,7 +16,7 @@ use Rattle.twkb_tree.specs.Limits.{Allowance, IsValid}
 use Rattle.twkb_tree.specs.declared.geometry.Shape.{Shape}
 use Rattle.twkb_tree.specs.Shape.{HasFitIds}
 use Rattle.twkb_tree.proofs.MemberLemmas.{own_row_first, member_rows_each}
-use Rattle.twkb_tree.proofs.RowSteps.{own_row-depth, own_row-id, above_less}
+use Rattle.twkb_tree.proofs.RowSteps.{own_row-depth, own_row-id, above_less, length-members}
 use Rattle.twkb_tree.proofs.RowForest.{point_in}
 use Rattle.twkb_tree.proofs.Shapes.{fit-tree_of}
 use Rattle.twkb_tree.proofs.RowLaws.{geometries_are}
@@ -287,11 +287,6 @@ members_below _ = []
 trees-members : (gs : Trees) → trees (members gs) ≡ gs
 trees-members end = refl
 trees-members (g ▷ gs) = ap (λ hs. g ▷ hs) (trees-members gs)
-
--- there are as many in the list as members
-pub length-members : (gs : Trees) → length (members gs) ≡ count gs
-length-members end = refl
-length-members (g ▷ gs) = ap suc (length-members gs)
 
 -- ---- the shape of a geometry by the kind of its row
 

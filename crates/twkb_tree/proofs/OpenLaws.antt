@@ -165,17 +165,11 @@ refused_at l d before os r a =
     elim (cases_Bool (nat_le d (length os))) [
       | inl near ↦
           let le = within_test d (length os) near in
-          ap (λ n. first_failed (checks_under l (nat_le d (length os)) (row_of (open_parent d os))
-          (child_of (open_parent d os)) n (count_at d (point_count (since_root before))) r))
-          (nodes_under d before)
-          ∙ ap (λ n. first_failed (checks_under l (nat_le d (length os)) (row_of (open_parent d os))
-          (child_of (open_parent d os)) nodes n r)) (points_under d before)
-          ∙ ap (λ s. first_failed (checks_under l s (row_of (open_parent d os))
-          (child_of (open_parent d os)) nodes points r)) (sym steps)
-          ∙ parent_checks l (steps_to d before) (row_of (open_parent d os)) (parent d before)
+          rw (nodes_under d before, points_under d before, sym steps)
+          (parent_checks l (steps_to d before) (row_of (open_parent d os)) (parent d before)
           (child_of (open_parent d os)) nodes points r (kind_under d before os a le)
           ∙ first_checks l (steps_to d before) (parent d before) (child_of (open_parent d os))
-          (first_child d before) nodes points r (ids_under d before os a le)
+          (first_child d before) nodes points r (ids_under d before os a le))
       | inr far ↦
           stepless l (nat_le d (length os)) (row_of (open_parent d os))
           (child_of (open_parent d os)) (count_at d (length (since_root before)))

@@ -10,7 +10,7 @@ use Rattle.twkb_tree.specs.Tree.{Tree, Trees, Simple, Ids, simple, collection, e
 use Rattle.twkb_tree.specs.Tree.{multi_point, multi_line, multi_polygon, flat, flat_all, flatten, points_in, trees}
 use Rattle.twkb_tree.specs.Tree.{members, AreTrees, nest, nest_all, IsTree}
 use Rattle.twkb_tree.specs.Rows.{Row, rows, rows_with, member_rows, rows_below, ring_rows, row_points, own_points}
-use Rattle.twkb_tree.specs.Rows.{first_id, other_ids, rows_of, own_row, plain_row}
+use Rattle.twkb_tree.specs.Rows.{first_id, other_ids, rows_of, own_row, plain_row, polygon_rows, rows_of_each}
 use Rattle.twkb_tree.specs.Accepted.{point_count, nest_kept, IsOneRoot}
 use Rattle.twkb_tree.specs.RowLists.{AreGeometries, AreRows, AreRowsOfOne, IsAtRoot, IsAbove}
 use Rattle.twkb_tree.specs.Limits.{Allowance}
@@ -31,30 +31,25 @@ row_points-append [] ys = refl
 row_points-append (x ∷ xs) ys = ap (λ ps. x.points ++ ps) (row_points-append xs ys)
     ∙ sym (append_assoc x.points (row_points xs) (row_points ys))
 
+-- the points of the rows of parts
+row_points-each : {A : Type 0} (f : Option ℤ → A → List Row) (own : A → List Point)
+    → ((id : Option ℤ) (x : A) → row_points (f id x) ≡ own x) → (ids : Ids) (xs : List A)
+    → row_points (rows_of_each f ids xs) ≡ flat_map own xs
+row_points-each f own same ids [] = refl
+row_points-each f own same ids (x ∷ xs) =
+    row_points-append (f (first_id ids) x) (rows_of_each f (other_ids ids) xs)
+    ∙ ap (λ ps. ps ++ row_points (rows_of_each f (other_ids ids) xs)) (same (first_id ids) x)
+    ∙ ap (λ ps. own x ++ ps) (row_points-each f own same (other_ids ids) xs)
+
 -- the points of the rows of rings
 row_points-rings : (d : ℕ) (rings : List (List Point)) → row_points (ring_rows d rings) ≡ flatten rings
-row_points-rings d [] = refl
-row_points-rings d (ring ∷ rings) = ap (λ ps. ring ++ ps) (row_points-rings d rings)
+row_points-rings d rings = row_points-each (λ id ring. plain_row d kind.Ring id ring ∷ []) (λ ring. ring)
+    (λ id ring. append-nil ring) None rings
 
 -- the points of the rows of points
 row_points-points : (d : ℕ) (ids : Ids) (ps : List Point) → row_points (rows_below d (multi_point ids ps)) ≡ ps
 row_points-points d ids [] = refl
 row_points-points d ids (p ∷ ps) = ap (λ qs. p ∷ qs) (row_points-points d (other_ids ids) ps)
-
--- the points of the rows of linestrings
-row_points-lines : (d : ℕ) (ids : Ids) (lines : List (List Point))
-    → row_points (rows_below d (multi_line ids lines)) ≡ flatten lines
-row_points-lines d ids [] = refl
-row_points-lines d ids (ps ∷ lines) = ap (λ qs. ps ++ qs) (row_points-lines d (other_ids ids) lines)
-
--- the points of the rows of polygons
-row_points-areas : (d : ℕ) (ids : Ids) (areas : List (List (List Point)))
-    → row_points (rows_below d (multi_polygon ids areas)) ≡ flat_map flatten areas
-row_points-areas d ids [] = refl
-row_points-areas d ids (rings ∷ areas) =
-    row_points-append (ring_rows (suc d) rings) (rows_below d (multi_polygon (other_ids ids) areas))
-    ∙ ap (λ ps. ps ++ row_points (rows_below d (multi_polygon (other_ids ids) areas))) (row_points-rings (suc d) rings)
-    ∙ ap (λ ps. flatten rings ++ ps) (row_points-areas d (other_ids ids) areas)
 
 -- the points of the rows of a simple shape
 row_points-simple : (d : ℕ) (s : Simple) → own_points s ++ row_points (rows_below d s) ≡ points_in s
@@ -63,8 +58,10 @@ row_points-simple d (point (Some p)) = refl
 row_points-simple d (line ps) = append-nil ps
 row_points-simple d (polygon rings) = row_points-rings d rings
 row_points-simple d (multi_point ids ps) = row_points-points d ids ps
-row_points-simple d (multi_line ids lines) = row_points-lines d ids lines
-row_points-simple d (multi_polygon ids areas) = row_points-areas d ids areas
+row_points-simple d (multi_line ids lines) = row_points-each (λ id ps. plain_row d kind.Linestring id ps ∷ [])
+    (λ ps. ps) (λ id ps. append-nil ps) ids lines
+row_points-simple d (multi_polygon ids areas) = row_points-each (polygon_rows d) flatten
+    (λ id rings. row_points-rings (suc d) rings) ids areas
 
 mutual
   pub row_points-with : (id : Option ℤ) (d : ℕ) (g : Tree) → row_points (rows_with id d g) ≡ flat g
@@ -332,16 +329,17 @@ deep_listed d (node r c l) h = (
 pub one_tree : (g : Tree) → rows_of (g ∷ []) ≡ rows 0 g
 one_tree g = append-nil (rows 0 g)
 
+-- the rows of a geometry are the root's row and the rows below it
+root_rows : (g : Tree) → rows 0 g ≡ own_row None 0 g ∷ listed (tree_below 1 g)
+root_rows g = sym (one_tree g) ∙ sym (listed-members 0 None (g ▷ end))
+    ∙ ap (λ rs. own_row None 0 g ∷ rs) (append-nil (listed (tree_below 1 g)))
+
 -- the rows below the root are deeper than it
 pub below_root : (g : Tree) → IsTree g → (below : List Row) × (rows 0 g ≡ own_row None 0 g ∷ below) × AreDeep 1 below
 below_root g t =
     let fit = fit_roots (g ▷ end) (t, tt) in
-    let deep = fit_deep 1 (Some (own_row None 0 g)) None (tree_below 1 g) fit.2 in (
-      listed (tree_below 1 g),
-      sym (one_tree g) ∙ sym (listed-members 0 None (g ▷ end))
-          ∙ ap (λ rs. own_row None 0 g ∷ rs) (append-nil (listed (tree_below 1 g))),
-      deep_listed 1 (tree_below 1 g) deep,
-    )
+    let deep = fit_deep 1 (Some (own_row None 0 g)) None (tree_below 1 g) fit.2 in
+    (listed (tree_below 1 g), root_rows g, deep_listed 1 (tree_below 1 g) deep)
 
 -- the root's row is at depth 0
 root_is_root : (g : Tree) → IsTree g → (own_row None 0 g).depth ≡ 0
@@ -428,11 +426,6 @@ goes_on_below g h r more a b e =
     deep_mid 1 c.0 r more (rest_deep h (own_row None 0 g) (c.0 ++ r ∷ more) b w)
 
 -- ==== A geometry ends if the next row is a root, or if there is no next row.
-
--- the rows of a geometry are the root's row and the rows below it
-root_rows : (g : Tree) → rows 0 g ≡ own_row None 0 g ∷ listed (tree_below 1 g)
-root_rows g = sym (one_tree g) ∙ sym (listed-members 0 None (g ▷ end))
-    ∙ ap (λ rs. own_row None 0 g ∷ rs) (append-nil (listed (tree_below 1 g)))
 
 -- the rows below the root fit
 below_fits : (g : Tree) → IsTree g → Fit 1 (Some (own_row None 0 g)) None (tree_below 1 g)

@@ -12,7 +12,7 @@ use Rattle.twkb_tree.specs.Admits.{IsAdmitted, has_same_ids, id_in_range, is_col
 use Rattle.twkb_tree.specs.RowLists.{IsAbove}
 use Rattle.twkb_tree.specs.Tree.{Tree, Trees, Simple, Ids, simple, collection, end, ◌▷◌, point, line, polygon}
 use Rattle.twkb_tree.specs.Tree.{multi_point, multi_line, multi_polygon, IsTree, AreTrees, AreIds, HasIds, IdsFit}
-use Rattle.twkb_tree.specs.Tree.{count}
+use Rattle.twkb_tree.specs.Tree.{count, members}
 use Rattle.twkb_tree.specs.declared.kind.Kind.{Kind}
 use Rattle.twkb_tree.specs.declared.kind.Kind.TheVariants as kind
 use Rattle.twkb_tree.proofs.RowForest.{both_true, both, Nodes, none, node, listed, past, next_first, Fit, IsDeep, add}
@@ -602,24 +602,23 @@ ids_of-each row below (Some (id ∷ ids)) (x ∷ xs) at h =
     let has : first_has_id (each_nodes row below (Some (id ∷ ids)) (x ∷ xs)) ≡ true = rw (at (Some id) x) refl in
     ap (λ b. ids_when b (each_nodes row below (Some (id ∷ ids)) (x ∷ xs))) has ∙ ap (λ is. Some is) one
 
--- the ids of members, if they have any
-all_ids-members : (d : ℕ) (ids : List ℤ) (gs : Trees) → length ids ≡ count gs
-    → all_ids (member_nodes d (Some ids) gs) ≡ ids
-all_ids-members d [] end e = refl
-all_ids-members d (id ∷ ids) (g ▷ gs) e = rw (own_row-id (Some id) d g)
-    (ap (λ is. id ∷ is) (all_ids-members d ids gs (omega arith)))
-all_ids-members d _ _ e = absurd (omega arith)
+-- the forest of members is that of their list
+member_nodes-each : (d : ℕ) (ids : Ids) (gs : Trees) → member_nodes d ids gs
+    ≡ each_nodes (λ id g. own_row id d g) (tree_below (suc d)) ids (members gs)
+member_nodes-each d ids end = refl
+member_nodes-each d ids (g ▷ gs) = ap (node (own_row (first_id ids) d g) (tree_below (suc d) g))
+    (member_nodes-each d (other_ids ids) gs)
+
+-- there are as many in the list as members
+pub length-members : (gs : Trees) → length (members gs) ≡ count gs
+length-members end = refl
+length-members (g ▷ gs) = ap suc (length-members gs)
 
 -- the ids of members
 ids_of-members : (d : ℕ) (ids : Ids) (gs : Trees) → HasIds ids (count gs) → ids_of (member_nodes d ids gs) ≡ ids
-ids_of-members d None end h = refl
-ids_of-members d None (g ▷ gs) h = rw (own_row-id None d g) refl
-ids_of-members d (Some ids) end h = absurd (omega (arith, h.0))
-ids_of-members d (Some []) (g ▷ gs) h = absurd (omega (arith, h.1))
-ids_of-members d (Some (id ∷ ids)) (g ▷ gs) h =
-    let one = all_ids-members d (id ∷ ids) (g ▷ gs) h.1 in
-    let has : first_has_id (member_nodes d (Some (id ∷ ids)) (g ▷ gs)) ≡ true = rw (own_row-id (Some id) d g) refl in
-    ap (λ b. ids_when b (member_nodes d (Some (id ∷ ids)) (g ▷ gs))) has ∙ ap (λ is. Some is) one
+ids_of-members d ids gs h = ap ids_of (member_nodes-each d ids gs)
+    ∙ ids_of-each (λ id g. own_row id d g) (tree_below (suc d)) ids (members gs)
+    (λ id g. own_row-id id d g) (subst (HasIds ids) (sym (length-members gs)) h)
 
 -- the forest of rings or of linestrings gives them
 lines_of-each : (d : ℕ) (k : Kind) (ids : Ids) (lines : List (List Point))
