@@ -1,6 +1,6 @@
 -- The reason of the first test of a row that fails.
 use Rattle.std.proofs.Common.{◌≡◌, ◌∙◌, ◌<◌, ◌^◌, ℕ, Bool, true, false, List, [], ◌∷◌, Some}
-use Rattle.std.proofs.Common.{None, ap, ◌+◌, refl, sym, subst, bit_or, inl, inr, arith, length, lit<, slice_index_or}
+use Rattle.std.proofs.Common.{None, refl, sym, subst, bit_or, inl, inr, arith, length, slice_index_or}
 use Rattle.std.specs.Prelude.{◌↔◌, nat_lt, if◌then◌else◌}
 use Rattle.std.specs.Simd.Lanes.{zip2}
 use Rattle.std.proofs.lemmas.Bool.{cases_Bool}
@@ -15,7 +15,7 @@ use Rattle.twkb_tree.specs.declared.row_checks.Refusal.TheVariants.{PointsNotAll
 use Rattle.twkb_tree.specs.declared.row_checks.Refusal.TheVariants.{PointCount}
 use Rattle.twkb_tree.proofs.RowForest.{are_in_range-true, points_in_range}
 use Rattle.twkb_buffer.specs.declared.point.BufferPoint.{BufferPoint}
-use Rattle.twkb_arrays.specs.JudgedRow.{AreBelow, in_range_front}
+use Rattle.twkb_arrays.specs.JudgedRow.{AreBelow}
 use Rattle.twkb_arrays.specs.Rows.{point_of, points_of}
 
 -- ---- the tests of a row's points
@@ -72,14 +72,6 @@ pub record Decides (own left : List BufferPoint) (joined : List ℕ) : Type 0 wh
   pub if_below : AreBelow joined → AreInRange (points_of left) → AreInRange (points_of own)
   pub is_below : AreInRange (points_of own) → AreBelow joined × AreInRange (points_of left)
 
--- before a point is looked at, the points decide
-pub decides_at_first : (own : List BufferPoint) → Decides own own (0 ∷ 0 ∷ [])
-decides_at_first own = record {
-  two = refl;
-  if_below = λ below in_range. in_range;
-  is_below = λ in_range. ((lit< tt, (lit< tt, tt)), in_range);
-}
-
 -- the numbers of one more point are joined
 pub decides_more : (own left after : List BufferPoint) (c : BufferPoint) (joined numbers : List ℕ)
     → Decides own left joined → left ≡ c ∷ after → length numbers ≡ 2 → AreBelow numbers ↔ IsInRange (point_of c)
@@ -120,30 +112,3 @@ pub decided : (own left : List BufferPoint) (joined : List ℕ) → Decides own 
     ≡ are_in_range (points_of own)
 decided own left (x ∷ y ∷ []) all none = decided_by own left x y all none
 decided own left _ all none = absurd (omega (arith, all.two))
-
--- ---- the first point out of range
-
--- one more point is in range
-pub front_more : (own left after : List BufferPoint) (c : BufferPoint) (n : ℕ)
-    → in_range_front own ≡ n + in_range_front left → left ≡ c ∷ after → are_in_range (points_of (c ∷ [])) ≡ true
-    → in_range_front own ≡ (n + 1) + in_range_front after
-front_more own left after c n so_far next is_in =
-    let more : in_range_front left ≡ in_range_front after + 1 = ap in_range_front next
-    ∙ ap (λ (b : Bool). if b then in_range_front after + 1 else 0) is_in in
-    omega (arith, so_far, more)
-
--- the next point is out of range
-pub front_ends : (own left after : List BufferPoint) (c : BufferPoint) (n : ℕ)
-    → in_range_front own ≡ n + in_range_front left → left ≡ c ∷ after → are_in_range (points_of (c ∷ [])) ≡ false
-    → n ≡ in_range_front own
-front_ends own left after c n so_far next is_out =
-    let none : in_range_front left ≡ 0 = ap in_range_front next
-    ∙ ap (λ (b : Bool). if b then in_range_front after + 1 else 0) is_out in
-    omega (arith, so_far, none)
-
--- no point is left
-pub front_all : (own left : List BufferPoint) (n : ℕ) → in_range_front own ≡ n + in_range_front left → left ≡ []
-    → n ≡ in_range_front own
-front_all own left n so_far none =
-    let zero : in_range_front left ≡ 0 = ap in_range_front none in
-    omega (arith, so_far, zero)
