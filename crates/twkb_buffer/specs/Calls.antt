@@ -39,21 +39,13 @@ pub record Fills (Ended : Ends) (Halted : Stops) (slice : List ℕ) (answer : Re
 abbrev pub IsRefusal : Cause → Type 0
 IsRefusal (cause.Row number reason) = ⊤
 IsRefusal (cause.Blob offset reason) = ⊤
-IsRefusal cause.ReadDevice = ⊥
-IsRefusal cause.WriteDevice = ⊥
-IsRefusal cause.Memory = ⊥
-IsRefusal cause.TooLong = ⊥
-IsRefusal cause.TooManyRecords = ⊥
+IsRefusal _ = ⊥
 
 -- the number of bytes sent, if the input is refused
 abbrev pub refused_length : Cause → ℕ → Option ℕ
 refused_length (cause.Row number reason) sent = Some sent
 refused_length (cause.Blob offset reason) sent = Some sent
-refused_length cause.ReadDevice sent = None
-refused_length cause.WriteDevice sent = None
-refused_length cause.Memory sent = None
-refused_length cause.TooLong sent = None
-refused_length cause.TooManyRecords sent = None
+refused_length _ sent = None
 
 -- the number of bytes that an answer counts, if they are the whole output
 abbrev pub whole_length_of : Result Report ConvertFault → Option ℕ

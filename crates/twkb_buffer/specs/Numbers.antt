@@ -12,13 +12,10 @@ use Rattle.twkb_convert.specs.declared.report.Cause.TheVariants as cause
 -- the status: 1 if the input is refused, 3 if the reader failed, 4 if memory was refused, 5 if the
 -- output is full
 abbrev pub status_of : Cause → ℕ
-status_of (cause.Row number reason) = 1
-status_of (cause.Blob offset reason) = 1
 status_of cause.ReadDevice = 3
 status_of cause.WriteDevice = 5
 status_of cause.Memory = 4
-status_of cause.TooLong = 1
-status_of cause.TooManyRecords = 1
+status_of _ = 1
 
 -- the numbers of the reasons for which a polyline is refused: 21 to 27
 abbrev pub point_text_number_of : PolyReason → ℕ
@@ -72,21 +69,15 @@ blob_number_of blob.SizeMismatch = 49
 abbrev pub reason_number_of : Cause → ℕ
 reason_number_of (cause.Row number reason) = row_number_of reason
 reason_number_of (cause.Blob offset reason) = blob_number_of reason
-reason_number_of cause.ReadDevice = 0
-reason_number_of cause.WriteDevice = 0
-reason_number_of cause.Memory = 0
 reason_number_of cause.TooLong = 61
 reason_number_of cause.TooManyRecords = 62
+reason_number_of _ = 0
 
 -- the number of the refused record, from 1, or the offset of the refused item; 0 if none is refused
 abbrev pub place_of : Cause → ℕ
 place_of (cause.Row number reason) = number
 place_of (cause.Blob offset reason) = offset
-place_of cause.ReadDevice = 0
-place_of cause.WriteDevice = 0
-place_of cause.Memory = 0
-place_of cause.TooLong = 0
-place_of cause.TooManyRecords = 0
+place_of _ = 0
 
 -- the offset at which the text of points of a record is refused
 abbrev pub row_text_offset_of : RowReason → ℕ
@@ -96,9 +87,4 @@ row_text_offset_of reason = 0
 -- the offset at which a text of points is refused, and 0 if none is
 abbrev pub text_offset_of : Cause → ℕ
 text_offset_of (cause.Row number reason) = row_text_offset_of reason
-text_offset_of (cause.Blob offset reason) = 0
-text_offset_of cause.ReadDevice = 0
-text_offset_of cause.WriteDevice = 0
-text_offset_of cause.Memory = 0
-text_offset_of cause.TooLong = 0
-text_offset_of cause.TooManyRecords = 0
+text_offset_of _ = 0
