@@ -166,42 +166,28 @@ digits_more base (suc n) p h =
     ∙ ap (λ ds. (suc n % base) ∷ ds) (digits_within-turns n (suc n / base) base (suc n / base) p
     (omega arith) (omega arith))
 
--- the digits stand for the number, whatever the number of turns
-number_of-digits_within : (f base n : ℕ) → 2 ≤ base → number_of base (digits_within f base n) ≡ n
-number_of-digits_within zero base n p = rw (digits_within-zero base n) (omega arith)
-number_of-digits_within (suc f) base n p =
+-- the digits stand for their number, and each is below the base
+digits_are : (turns base n : ℕ) → 2 ≤ base → n ≤ turns
+    → (number_of base (digits base n) ≡ n) × AllBelowBase base (digits base n)
+digits_are zero base n p h = rw (digits_one base n (omega arith)) (omega arith, (omega arith, tt))
+digits_are (suc turns) base n p h =
     elim (cases_lt n base) [
-      | inl small ↦ rw (digits_within-small f base n small) (omega arith)
-      | inr large ↦ rw (
-        digits_within-large f base n large,
-        number_of-digits_within f base
-            (n / base) p,
-      ) (omega (arith, div-add-mod' n base))
-    ]
-
--- with as many turns as the number, each digit is below the base
-digits_within_below : (f base n : ℕ) → 2 ≤ base → n ≤ f → AllBelowBase base (digits_within f base n)
-digits_within_below zero base n p h = rw (digits_within-zero base n) (omega arith, tt)
-digits_within_below (suc f) base n p h =
-    elim (cases_lt n base) [
-      | inl small ↦ rw (digits_within-small f base n small) (small, tt)
+      | inl small ↦ rw (digits_one base n small) (omega arith, (small, tt))
       | inr large ↦
           let falls : n / base < n = div-lt_self (omega arith) p in
-          rw (digits_within-large f base n large) (
-            mod_below n base (omega arith),
-            digits_within_below f base (n / base) p (omega arith),
-          )
+          let rest = digits_are turns base (n / base) p (omega arith) in
+          let value : n % base + base * number_of base (digits base (n / base)) ≡ n =
+          rw rest.0 (omega (arith, div-add-mod' n base)) in
+          rw (digits_more base n p large) (value, (mod_below n base (omega arith), rest.1))
     ]
 
 -- the digits stand for their number
 pub number_of-digits : (base n : ℕ) → 2 ≤ base → number_of base (digits base n) ≡ n
-unfolding digits
-number_of-digits base n p = number_of-digits_within n base n p
+number_of-digits base n p = (digits_are n base n p (omega arith)).0
 
 -- each digit is below the base
 pub digits_below : (base n : ℕ) → 2 ≤ base → AllBelowBase base (digits base n)
-unfolding digits
-digits_below base n p = digits_within_below n base n p (omega arith)
+digits_below base n p = (digits_are n base n p (omega arith)).1
 
 -- a number below base ^ k has at most k digits
 pub length-digits-le : (base k n : ℕ) → 2 ≤ base → n < base ^ suc k → length (digits base n) ≤ suc k

@@ -53,64 +53,39 @@ same_flag P true false a b = sym (b.1 (a.0 refl))
 same_flag P false true a b = a.1 (b.0 refl)
 same_flag P _ _ a b = refl
 
--- the unit u comes after the units us in a spelling by the digits ds
-record StandsIn (group : ℕ → Option (ℕ × Bool)) (us : List ℕ) (u : ℕ) (ds : List ℕ) : Type 0 where
-  pub digit : ℕ
-  pub more : Bool
-  pub read : group u ≡ Some (digit, more)
-  pub goes_on : more ≡ true → length us + 1 < length ds
+-- the unit u after the units us, in a spelling of `count` digits, says that more follow only if another does
+abbrev StandsIn : (ℕ → Option (ℕ × Bool)) → List ℕ → ℕ → ℕ → Type 0
+StandsIn group us u count = ((d : ℕ) × (group u ≡ Some (d, true)) × (length us + 1 < count))
+    ⊎ ((d : ℕ) × (group u ≡ Some (d, false)))
 
 module _ {bits longest : ℕ} {unit : ℕ → Bool → ℕ} {group : ℕ → Option (ℕ × Bool)}
     (laws : AlphabetLaws bits longest unit group) where
   -- each unit of a spelling is in the alphabet, and says that more follow only if another follows
   stands_in : (us : List ℕ) (u : ℕ) (more ds : List ℕ) → AllBelowBase (2 ^ bits) ds
-      → us ++ u ∷ more ≡ units_of unit ds → StandsIn group us u ds
-  stands_in us u more [] below e = absurd (omega (arith, ap length e, length-append us (u ∷ more)))
+      → us ++ u ∷ more ≡ units_of unit ds → StandsIn group us u (length ds)
   stands_in [] u more (d ∷ []) below e =
       let head : u ≡ unit d false = cc in
-      record {
-        digit = d;
-        more = false;
-        read = ap group head ∙ laws.read_back d false below.0;
-        goes_on = λ t. absurd (false≢true t);
-      }
+      inr (d, ap group head ∙ laws.read_back d false below.0)
   stands_in [] u more (d ∷ f ∷ ds) below e =
       let head : u ≡ unit d true = cc in
-      record {
-        digit = d;
-        more = true;
-        read = ap group head ∙ laws.read_back d true below.0;
-        goes_on = λ _. omega arith;
-      }
-  stands_in (x ∷ us) u more (d ∷ []) below e = absurd (omega (arith, ap length e, length-append us (u ∷ more)))
+      inl (d, ap group head ∙ laws.read_back d true below.0, omega arith)
   stands_in (x ∷ us) u more (d ∷ f ∷ ds) below e =
       let rest : us ++ u ∷ more ≡ units_of unit (f ∷ ds) = cc in
-      let there = stands_in us u more (f ∷ ds) below.1 rest in
-      record {
-        digit = there.digit;
-        more = there.more;
-        read = there.read;
-        goes_on = λ t. omega (arith, there.goes_on t);
-      }
+      elim (stands_in us u more (f ∷ ds) below.1 rest) [
+        | inl goes_on ↦ inl (goes_on.0, goes_on.1, omega (arith, goes_on.2))
+        | inr ends ↦ inr ends
+      ]
+  stands_in us u more ds below e =
+      absurd (omega (arith, ap length e, length-append us (u ∷ more), length-units_of unit ds))
 
   -- the last unit of a spelling says that no more follow
   last_unit : (us : List ℕ) (u : ℕ) (ds : List ℕ) → AllBelowBase (2 ^ bits) ds
       → us ++ u ∷ [] ≡ units_of unit ds → (d : ℕ) × (group u ≡ Some (d, false))
-  last_unit us u ds below e = go (stands_in us u [] ds below e).digit
-      (stands_in us u [] ds below e).more (stands_in us u [] ds below e).read
-      (stands_in us u [] ds below e).goes_on
-    where
-      go : (d : ℕ) (more : Bool) → group u ≡ Some (d, more)
-          → (more ≡ true → length us + 1 < length ds) → (d : ℕ) × (group u ≡ Some (d, false))
-      go d false read goes_on = (d, read)
-      go d true read goes_on = absurd
-          (omega (
-            arith,
-            goes_on refl,
-            ap length e,
-            length-append us (u ∷ []),
-            length-units_of unit ds,
-          ))
+  last_unit us u ds below e = elim (stands_in us u [] ds below e) [
+    | inl goes_on ↦
+        absurd (omega (arith, goes_on.2, ap length e, length-append us (u ∷ []), length-units_of unit ds))
+    | inr ends ↦ ends
+  ]
 
   -- units before the last one have digits
   some_digits : (us : List ℕ) (u : ℕ) (more ds : List ℕ) → us ++ u ∷ more ≡ units_of unit ds → 1 ≤ length ds
@@ -201,18 +176,14 @@ module _ {bits longest : ℕ} {unit : ℕ → Bool → ℕ} {group : ℕ → Opt
       → (IsAnswer unit group (2 ^ bits) longest us u BadUnit)
       ⊎ (IsAnswer unit group (2 ^ bits) longest us u TooLong)
       → IsSpelling unit (2 ^ bits) longest (us ++ u ∷ more) n → ⊥
-  refused_ends us u more n (inl bad) s =
-      let there = stands_in us u more s.ds s.below s.spelled in
-      none_apart (group u) (there.digit, there.more) bad there.read
-  refused_ends us u more n (inr (inl long)) s = go
-      (stands_in us u more s.ds s.below s.spelled).digit
-      (stands_in us u more s.ds s.below s.spelled).more
-      (stands_in us u more s.ds s.below s.spelled).read
-      (stands_in us u more s.ds s.below s.spelled).goes_on
-    where
-      go : (d : ℕ) (m : Bool) → group u ≡ Some (d, m) → (m ≡ true → length us + 1 < length s.ds) → ⊥
-      go d true read goes_on = omega (arith, goes_on refl, long.0, s.within)
-      go d false read goes_on = marks_apart (group u) long.1.0 d long.1.1 read
+  refused_ends us u more n (inl bad) s = elim (stands_in us u more s.ds s.below s.spelled) [
+    | inl goes_on ↦ none_apart (group u) (goes_on.0, true) bad goes_on.1
+    | inr ends ↦ none_apart (group u) (ends.0, false) bad ends.1
+  ]
+  refused_ends us u more n (inr (inl long)) s = elim (stands_in us u more s.ds s.below s.spelled) [
+    | inl goes_on ↦ omega (arith, goes_on.2, long.0, s.within)
+    | inr ends ↦ marks_apart (group u) long.1.0 ends.0 long.1.1 ends.1
+  ]
   refused_ends us u more n (inr (inr above)) s = not_above us u more n above s
 
   -- ---- when each answer is due

@@ -50,14 +50,14 @@ pub has_put_none : (start : Point) (points : List Point) (old : List ℕ) → Ha
 has_put_none start points old = record { put = []; held = sym (append-nil old); told = refl; ends = refl }
 
 -- some more points are written
-pub has_put_more : (start : Point) (points part left : List Point) (p q : Point)
-    (old text after : List ℕ) → HasPut start points (part ++ left) p old text
+pub has_put_more : {start p q : Point} {points left : List Point} {old text after : List ℕ} (part : List Point)
+    → HasPut start points (part ++ left) p old text
     → q ≡ last_of p part → after ≡ text ++ polyline_from p part → HasPut start points left q old after
-has_put_more start points part left p q old text after has moved e = record {
+has_put_more {p = p} {left = left} {old = old} part has moved e = record {
   put = has.put ++ polyline_from p part;
   held = e ∙ ap (λ t. t ++ polyline_from p part) has.held ∙ append_assoc old has.put (polyline_from p part);
   told =
-      append_assoc has.put (polyline_from p part) (polyline_from q left)
+      append_assoc has.put (polyline_from p part) (polyline_from _ left)
       ∙ ap (λ r. has.put ++ (polyline_from p part ++ polyline_from r left)) moved
       ∙ ap (λ t. has.put ++ t) (sym (polyline_from-append p part left))
       ∙ has.told;
@@ -65,18 +65,16 @@ has_put_more start points part left p q old text after has moved e = record {
 }
 
 -- the first points of all are written
-pub has_put_first : (start : Point) (points part left : List Point) (q : Point) (old after : List ℕ)
-    → points ≡ part ++ left
-    → q ≡ last_of start part → after ≡ old ++ polyline_from start part → HasPut start points left q old after
-has_put_first start points part left q old after split moved e =
-    has_put_more start points part left start q old old after
-    (subst (λ ps. HasPut start points ps start old old) split (has_put_none start points old))
-    moved e
+pub has_put_first : {start q : Point} {points left : List Point} {old after : List ℕ} (part : List Point)
+    → points ≡ part ++ left → q ≡ last_of start part → after ≡ old ++ polyline_from start part
+    → HasPut start points left q old after
+has_put_first {start = start} {points = points} {old = old} part split moved e =
+    has_put_more part (subst (λ ps. HasPut start points ps start old old) split (has_put_none start points old)) moved e
 
 -- after all points the cursor is at the last one
-pub has_put_last : (start : Point) (points left : List Point) (p : Point) (old text : List ℕ)
+pub has_put_last : {start p : Point} {points left : List Point} {old text : List ℕ}
     → HasPut start points left p old text → left ≡ [] → p ≡ last_of start points
-has_put_last start points left p old text has done = sym (ap (last_of p) done) ∙ has.ends
+has_put_last {p = p} has done = sym (ap (last_of p) done) ∙ has.ends
 
 -- a text appended to what was written
 pub put_behind : (old put more text middle : List ℕ) → text ≡ old ++ put → middle ≡ text ++ more

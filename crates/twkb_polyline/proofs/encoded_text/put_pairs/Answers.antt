@@ -1,4 +1,4 @@
-use Rattle.std.proofs.Common.{◌+◌, [], ◌++◌, drop, sym, ap, append-nil, rules}
+use Rattle.std.proofs.Common.{[], sym, ap, append-nil, rules}
 use Rattle.std.proofs.lemmas.List.{drop_all}
 use Rattle.twkb_polyline.specs.SpelledNumbers.{points_of}
 use Rattle.twkb_polyline.proofs.EncodeLemmas.{has_put_none, has_put_more, has_put_last, put_behind, left_pair}
@@ -23,11 +23,8 @@ loop-pair-preserved c =
     let grown = c.loop-pair.invariant.grown in
     let more = c.in_ok-push_pair.ensures.grown in
     record {
-      put =
-          has_put_more c.args.cursor.now (points_of pairs) c.pair-item.result
-          (points_of (drop (i + 1) pairs)) c.loop-pair.moved c.push_pair.new.cursor old
-          (text ++ c.loop-pair.piece) (c.push_pair.new.text.items ++ c.push_pair.new.piece)
-          (rw left at c.loop-pair.invariant.put) c.in_ok-push_pair.ensures.moved c.in_ok-push_pair.ensures.appended;
+      put = has_put_more c.pair-item.result (rw left at c.loop-pair.invariant.put) c.in_ok-push_pair.ensures.moved
+          c.in_ok-push_pair.ensures.appended;
       grown = (_, put_behind old grown.0 more.0 text c.push_pair.new.text.items grown.1 more.1);
     }
 
@@ -35,6 +32,5 @@ pub returns-clause-moved : goal.returns-clause-moved
 returns-clause-moved c =
     let pairs = c.args.pairs.now in
     let none = ap points_of (drop_all c.loop-pair.pair-index pairs c.loop-pair-test.false) in
-    let last = has_put_last c.args.cursor.now (points_of pairs) _ c.loop-pair.moved
-    c.args.text.now.items _ c.loop-pair.invariant.put none in
+    let last = has_put_last c.loop-pair.invariant.put none in
     search rules

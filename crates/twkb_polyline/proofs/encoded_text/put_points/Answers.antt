@@ -1,6 +1,5 @@
-use Rattle.std.proofs.Common.{◌≡◌, ◌∙◌, ◌+◌, [], ◌∷◌, drop, sym, ap, append-nil, rules}
+use Rattle.std.proofs.Common.{◌≡◌, ◌∙◌, [], ◌∷◌, sym, ap, append-nil, rules}
 use Rattle.std.proofs.lemmas.List.{nil_from_length}
-use Rattle.twkb_points.specs.Point.{origin}
 use Rattle.twkb_polyline.proofs.EncodeLemmas.{has_put_first, has_put_more, points_are, left_one}
 use Rattle.twkb_polyline.specs.SpelledNumbers.{points_of}
 use Rattle.twkb_polyline.proofs.encoded_text.put_points.Goals as goal
@@ -16,12 +15,11 @@ loop-point-init c =
     elim c.if-not-is_empty.branch [
       | then-not-is_empty+in_ok-put_pairs w ↦
           let ensures = rw c.origin-cursor.ensures at w.in_ok-put_pairs.ensures in
-          has_put_first origin points (points_of pairs) rest _ old _ split
-          (w.cursor-is ∙ ensures.moved) (ap (λ t. t.items) w.text-is ∙ ensures.appended)
+          has_put_first (points_of pairs) split (w.cursor-is ∙ ensures.moved)
+          (ap (λ t. t.items) w.text-is ∙ ensures.appended)
       | else-not-is_empty w ↦
           let none : pairs ≡ [] = nil_from_length pairs (search rules) in
-          has_put_first origin points [] rest _ old _ (rw none at split)
-          (w.cursor-is ∙ c.origin-cursor.ensures) (ap (λ t. t.items) w.text-is
+          has_put_first [] (rw none at split) (w.cursor-is ∙ c.origin-cursor.ensures) (ap (λ t. t.items) w.text-is
           ∙ sym (append-nil old))
     ]
 
@@ -30,7 +28,5 @@ loop-point-preserved c =
     let rest = c.as_chunks.result.1.now in
     let i = c.loop-point.point-index in
     let left = left_one rest i c.point-item.result c.loop-point-test.true c.point-item.is in
-    has_put_more origin c.args.points.now (c.point-item.result ∷ []) (drop (i + 1) rest)
-    c.loop-point.cursor c.put_point.new.cursor c.args.text.now.items c.loop-point.text.items
-    c.put_point.new.text.items
-    (rw left at c.loop-point.invariant) c.in_ok-put_point.ensures.moved c.in_ok-put_point.ensures.appended
+    has_put_more (c.point-item.result ∷ []) (rw left at c.loop-point.invariant)
+    c.in_ok-put_point.ensures.moved c.in_ok-put_point.ensures.appended
