@@ -19,24 +19,20 @@ use Rattle.twkb_tree.specs.Accepted.{Accepts, nest_kept}
 use Rattle.twkb_tree.specs.declared.kind.Kind.{Kind}
 use Rattle.twkb_tree.specs.Admits.{has_place, id_allowed, has_same_ids, has_needed_precision, precision_allowed}
 use Rattle.twkb_tree.specs.Admits.{is_geometry, points_fit, has_points}
-use Rattle.twkb_tree.specs.Kind.{word_of}
 use Rattle.twkb_tree.proofs.LimitLaws.{row_accepted, accepts_row, accepted_rows}
 use Rattle.twkb_tree.proofs.AllJoined.{all_join, all_apart}
 use Rattle.twkb_tree.proofs.OpenLaws.{grown_geometry, new_geometry, rows_of-last}
 use Rattle.twkb_table.specs.Record.{Record, record_of, header, table}
 use Rattle.twkb_table.specs.Named.{Named, NamesNone}
 use Rattle.twkb_table.specs.Judged.{Refused, Judged, Verdict, Accepted, When, Unless, UnlessFaulty, Place, place_of}
-use Rattle.twkb_table.specs.Judged.{points_left, JudgedByCount, JudgedByPoints, JudgedByPrecision, JudgedById}
+use Rattle.twkb_table.specs.Judged.{points_left, JudgedByPoints}
 use Rattle.twkb_table.specs.Judged.{JudgedByPlace}
 use Rattle.twkb_table.specs.RowFault.{HasNoHeader, IsLaterFault, RowFault, AreComplete, all_but_last}
 use Rattle.twkb_table.specs.declared.reason.RowReason.{RowReason}
 use Rattle.twkb_table.specs.Reading.{Stopped, read_rows, read_table, reading_after, is_record, Judges, IsReading}
 use Rattle.twkb_table.specs.Reading.{Reading, Whole}
-use Rattle.twkb_table.specs.declared.reason.RowReason.TheVariants.{BadHeader, FieldCount, BadDepth, BadKind, BadPlace}
-use Rattle.twkb_table.specs.declared.reason.RowReason.TheVariants.{TooDeep, TooManyNodes, BadId, IdNotAllowed, MixedIds}
-use Rattle.twkb_table.specs.declared.reason.RowReason.TheVariants.{BadPrecision, PrecisionMissing, PrecisionNotAllowed}
-use Rattle.twkb_table.specs.declared.reason.RowReason.TheVariants.{PolylineNotAllowed, Polyline, PointCount}
-use Rattle.twkb_table.specs.Fields.{IsDepthField, IsOptionalId, IsOptionalPrecision}
+use Rattle.twkb_table.specs.declared.reason.RowReason.TheVariants.{BadHeader, FieldCount}
+use Rattle.twkb_table.specs.declared.reason.RowReason.TheVariants.{Polyline}
 use Rattle.twkb_table.proofs.FieldLemmas.{head_same, tail_same, IsPlain, ArePlain, one_list, SomeOrNone, decided_depth}
 use Rattle.twkb_table.proofs.FieldLemmas.{decided_kind, decided_optional_id, decided_optional_precision}
 use Rattle.twkb_table.proofs.Verdicts.{one_verdict, one_table, table_front, plain_rows, split, judged_row, has_room}

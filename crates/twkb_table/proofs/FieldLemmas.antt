@@ -94,7 +94,8 @@ pub record IsPlain (r : Row) : Type 0 where
   pub id : IfSome r.id IsId
   pub precision : IfSome r.precision IsPrecision
 
-same_row : (d e : ℕ) (j k : Kind) (a b p q : Option ℤ) (xs ys : List Point) → d ≡ e → j ≡ k → a ≡ b
+-- two rows with the same fields are equal
+pub same_row : (d e : ℕ) (j k : Kind) (a b p q : Option ℤ) (xs ys : List Point) → d ≡ e → j ≡ k → a ≡ b
     → p ≡ q → xs ≡ ys
     → Path Row (record { depth = d; kind = j; id = a; precision = p; points = xs })
     (record { depth = e; kind = k; id = b; precision = q; points = ys })

@@ -1,15 +1,15 @@
 -- The next row of a record, judged by the open rows of the geometry that is being read.
 use Rattle.std.proofs.Common.{◌≡◌, ℕ, ◌<◌, ◌≤◌, Bool, true, false, List, [], length, Option, Some, None, sym, ◌∙◌, ap}
 use Rattle.std.proofs.Common.{subst, arith, zero, suc, ◌∷◌, ◌++◌, refl, inl, inr, ℤ, Result, Ok, Err, Bor}
-use Rattle.std.proofs.Common.{length-append, ◌≢◌, ◌-◌, ◌==◌}
+use Rattle.std.proofs.Common.{length-append, ◌-◌}
 use Rattle.std.specs.Prelude.{is_some, nat_le, reverse, ◌&&◌, IsSome, option_map, IfSome}
 use Rattle.std.proofs.lemmas.Bool.Decides.{nat_tests}
 use Rattle.std.proofs.lemmas.List.{reverse-append, length-reverse}
-use Rattle.std.proofs.lemmas.Bool.{eqb-true, true≢false}
+use Rattle.std.proofs.lemmas.Bool.{true≢false}
 use Rattle.csv.specs.Records.{field_at}
 use Rattle.twkb_points.specs.Point.{Point}
 use Rattle.twkb_polyline.specs.Polyline.{AppendsDecoded, DecodesTo}
-use Rattle.twkb_polyline.specs.Fault.{IsRefused, IsTextFault}
+use Rattle.twkb_polyline.specs.Fault.{IsRefused}
 use Rattle.twkb_polyline.specs.declared.fault.PolyFault.{PolyFault}
 use Rattle.twkb_polyline.specs.declared.fault.PolyFault.TheVariants.{At}
 use Rattle.twkb_polyline.specs.declared.fault.PolyReason.{PolyReason}
@@ -44,11 +44,12 @@ use Rattle.twkb_table.specs.declared.row_reader.State.TheVariants as state
 use Rattle.twkb_table.specs.RowReading.{JudgedAfter, Kept}
 use Rattle.twkb_table.specs.Fields.{IsDepthField}
 use Rattle.twkb_table.specs.declared.reason.RowReason.{RowReason}
-use Rattle.twkb_table.specs.declared.reason.RowReason.TheVariants.{BadKind, BadPlace, PolylineNotAllowed, Polyline}
+use Rattle.twkb_table.specs.declared.reason.RowReason.TheVariants.{BadKind, BadPlace, Polyline}
 use Rattle.twkb_table.specs.declared.row_reader.Root.{Root}
-use Rattle.twkb_table.specs.Head.{head_row, JudgedAs, JudgedBy}
+use Rattle.twkb_table.specs.Head.{head_row, most_points, HasNeedlessText, JudgedAs, JudgedBy}
 use Rattle.twkb_table.specs.Places.{AllowsCount, RefusesCount}
 use Rattle.twkb_table.specs.declared.head.RowHead.{RowHead}
+use Rattle.twkb_table.proofs.FieldLemmas.{same_row}
 use Rattle.twkb_table.proofs.Verdicts.{judged_row, has_room, both_true}
 
 -- ==== The verdict on a record by the open rows is the verdict by the rows so far.
@@ -331,15 +332,8 @@ root_of row = record { kind = row.kind; precision = row.precision }
 pub root_is : (l : Allowance) (row : Bare) (points : List Point)
     → Continues l [] (row_with row points) → row_with row points ≡ row_with
     (root_row (root_of row)) points
-root_is l row points c =
-    ap (λ d. record { depth = d; kind = row.kind; id = row.id; precision = row.precision; points = points }) c.1
-    ∙ ap (λ i. record {
-      depth = 0;
-      kind = row.kind;
-      id = i;
-      precision = row.precision;
-      points = points;
-    }) (root_id (row_with row points) c.1 c.0.admitted)
+root_is l row points c = same_row _ _ _ _ _ _ _ _ _ _ c.1 refl
+    (root_id (row_with row points) c.1 c.0.admitted) refl refl
 
 -- a root may wait
 pub may_wait_as : (l : Allowance) (row : Bare) (points : List Point)
@@ -464,50 +458,11 @@ one_judged head (Some p) is room allows read = one_accepted head p is room allow
 
 -- ---- the points of a row
 
--- the kind of the row has no points, but its record has a text of points
-abbrev pub HasNeedlessText : RowHead → Type 0
-HasNeedlessText head = (head.text.now ≢ []) × (has_points head.kind ≡ false)
-
-nil_of : (xs : List ℕ) → (length xs == 0) ≡ true → xs ≡ []
-nil_of [] e = refl
-nil_of (x ∷ xs) e = absurd (omega (arith, eqb-true (length (x ∷ xs)) 0 e))
-
-pub no_text : (head : RowHead) (empty : Bool) → empty ≡ (length head.text.now == 0) → empty ≡ true
-    → HasNeedlessText head → ⊥
-no_text head empty is none needless = needless.0 (nil_of head.text.now (sym is ∙ none))
-
-pub kind_has : (head : RowHead) (has : Bool) → has ≡ has_points head.kind → has ≡ true → HasNeedlessText head → ⊥
-kind_has head has is some needless = true≢false (sym some ∙ is ∙ needless.1)
-
-pub not_allowed : (head : RowHead) (empty has : Bool) → empty ≡ (length head.text.now == 0)
-    → empty ≡ false → has ≡ has_points head.kind → has ≡ false
-    → JudgedAs head (Refused PolylineNotAllowed)
-not_allowed head empty has is some of_kind none =
-    inl ((λ nil. true≢false (ap (λ (t : List ℕ). length t == 0) (sym nil) ∙ sym is ∙ some), sym of_kind ∙ none), refl)
-
--- this many points are left for the row
-abbrev pub AreLeft : RowHead → ℕ → ℕ → Type 0
-AreLeft head points left = (points ≡ head.limits.points) × (left ≡ points - head.row_place.points)
-
-left_is : (head : RowHead) (points left : ℕ) → AreLeft head points left
-    → left ≡ head.limits.points - head.row_place.points
-left_is head points left (most, is) = is ∙ ap (λ m. m - head.row_place.points) most
-
-pub text_refused : (head : RowHead) (points left offset : ℕ) (why : PolyReason) (f : PolyFault)
-    → (HasNeedlessText head → ⊥) → AreLeft head points left → f ≡ At offset why
-    → IsRefused head.text.now left f → JudgedAs head (Refused (Polyline offset why))
-text_refused head points left offset why f needed are_left is refused =
-    let fault = subst (IsRefused head.text.now left) is refused in
-    inr (
-      needed,
-      inl (
-        offset,
-        why,
-        subst (λ m. IsTextFault head.text.now m offset why)
-            (left_is head points left are_left) fault,
-        refl,
-      ),
-    )
+pub text_refused : (head : RowHead) (offset : ℕ) (why : PolyReason) (f : PolyFault)
+    → (HasNeedlessText head → ⊥) → f ≡ At offset why → IsRefused head.text.now (most_points head) f
+    → JudgedAs head (Refused (Polyline offset why))
+text_refused head offset why f needed is refused =
+    inr (needed, inl (offset, why, subst (IsRefused head.text.now (most_points head)) is refused, refl))
 
 -- the list grew by the points that were decoded
 pub has_grown : (text : List ℕ) (left start count : ℕ) (old new : List Point)
@@ -521,46 +476,23 @@ grown_by : (text : List ℕ) (left start count : ℕ) (old new : List Point) (a 
 grown_by text left start count old new a before after = omega
     (arith, before, after, ap length a.appended, length-append old a.ps)
 
-decoded_left : (head : RowHead) (points left : ℕ) (ps : List Point) → AreLeft head points left
-    → DecodesTo head.text.now left ps → DecodesTo head.text.now
-    (head.limits.points - head.row_place.points) ps
-decoded_left head points left ps are_left = subst (λ m. DecodesTo head.text.now m ps)
-    (left_is head points left are_left)
-
-pub points_accepted : (head : RowHead) (points left start count : ℕ) (old new : List Point)
-    → (HasNeedlessText head → ⊥) → AreLeft head points left → AppendsDecoded head.text.now left old new
+pub points_accepted : (head : RowHead) (start count : ℕ) (old new : List Point)
+    → (HasNeedlessText head → ⊥) → AppendsDecoded head.text.now (most_points head) old new
     → start ≡ length old → count ≡ length new → AllowsMany head (count - start)
     → (own : List Point) × (new ≡ old ++ own) × JudgedAs head (Accepted (row_with (head_row head) own))
-points_accepted head points left start count old new needed are_left a before after allows =
-    let many = grown_by head.text.now left start count old new a before after in (
-      a.ps,
-      a.appended,
-      inr (
-        needed,
-        inr (
-          a.ps,
-          decoded_left head points left a.ps are_left a.decoded,
-          allows a.ps many head.id head.precision,
-        ),
-      ),
-    )
+points_accepted head start count old new needed a before after allows =
+    let many = grown_by head.text.now (most_points head) start count old new a before after in
+    (a.ps, a.appended, inr (needed, inr (a.ps, a.decoded, allows a.ps many head.id head.precision)))
 
 -- the place of the row refuses this many points for this reason
 abbrev pub RefusesMany : RowHead → ℕ → RowReason → Type 0
 RefusesMany head count reason =
     (ps : List Point) → length ps ≡ count → RefusesCount (place_seen head.row_place) head.kind ps reason
 
-pub points_refused : (head : RowHead) (points left start count : ℕ) (old new : List Point) (reason : RowReason)
-    → (HasNeedlessText head → ⊥) → AreLeft head points left → AppendsDecoded head.text.now left old new
+pub points_refused : (head : RowHead) (start count : ℕ) (old new : List Point) (reason : RowReason)
+    → (HasNeedlessText head → ⊥) → AppendsDecoded head.text.now (most_points head) old new
     → start ≡ length old → count ≡ length new → RefusesMany head (count - start) reason
     → JudgedAs head (Refused reason)
-points_refused head points left start count old new reason needed are_left a before after refuses =
-    let many = grown_by head.text.now left start count old new a before after in
-    inr (
-      needed,
-      inr (
-        a.ps,
-        decoded_left head points left a.ps are_left a.decoded,
-        refuses a.ps many head.id head.precision,
-      ),
-    )
+points_refused head start count old new reason needed a before after refuses =
+    let many = grown_by head.text.now (most_points head) start count old new a before after in
+    inr (needed, inr (a.ps, a.decoded, refuses a.ps many head.id head.precision))

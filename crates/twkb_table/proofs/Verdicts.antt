@@ -23,15 +23,14 @@ use Rattle.twkb_tree.specs.Accepted.{nest_kept, geometry_rows, point_count, sinc
 use Rattle.twkb_tree.specs.Kind.{word_of}
 use Rattle.twkb_tree.specs.RowLists.{AreValid, AreGeometries, AreShallow, AreValidRows, IsAtRoot, IsShallow}
 use Rattle.twkb_tree.proofs.OpenLaws.{precision_joined, precision_tested}
-use Rattle.twkb_tree.proofs.RowForest.{fits_by, id_in_range-true, is_precision-true, Facts, facts, no_points_of}
+use Rattle.twkb_tree.proofs.RowForest.{fits_by, id_in_range-true, is_precision-true, facts, no_points_of}
 use Rattle.twkb_tree.proofs.RowForest.{optional_id_is, precision_is}
 use Rattle.twkb_tree.proofs.RowDepths.{valid_depths}
 use Rattle.twkb_tree.proofs.RowLaws.{one_reading, first_all_ended}
 use Rattle.twkb_tree.proofs.LimitLaws.{accepted_rows, valid_front, row_accepted}
 use Rattle.twkb_tree.proofs.AllJoined.{all_apart, all_join}
 use Rattle.twkb_table.specs.Judged.{Verdict, Accepted, Refused, When, Unless, place_of, points_left, JudgedByPoints}
-use Rattle.twkb_table.specs.Judged.{JudgedByPrecision, JudgedByPlace, Judged, Place, UnlessFaulty, JudgedById}
-use Rattle.twkb_table.specs.Judged.{JudgedByCount}
+use Rattle.twkb_table.specs.Judged.{JudgedByPlace, Judged, Place, UnlessFaulty}
 use Rattle.twkb_table.specs.declared.reason.RowReason.{RowReason}
 use Rattle.twkb_table.specs.Fields.{optional, IsDepthField, IsOptionalId, IsOptionalPrecision}
 use Rattle.twkb_table.specs.Record.{Record, record_of, header}

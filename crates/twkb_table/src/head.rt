@@ -19,10 +19,10 @@ pub(crate) struct RowHead<'a> {
 }
 
 impl RowHead<'_> {
-    ghost use Rattle.std.specs.Prelude.{◌≡◌, ◌∷◌, [], IfSome};
+    ghost use Rattle.std.specs.Prelude.{◌≡◌, ◌↔◌, ◌∷◌, [], IfSome, IsTrue};
     ghost use Rattle.twkb_flat.specs.Rows.{row_with};
     ghost use Rattle.twkb_table.specs.Judged.{Accepted};
-    ghost use Rattle.twkb_table.specs.Head.{head_row, JudgedAs};
+    ghost use Rattle.twkb_table.specs.Head.{head_row, most_points, HasNeedlessText, JudgedAs};
 
     // The row without its points.
     #[inline(always)]
@@ -35,6 +35,22 @@ impl RowHead<'_> {
             id: self.id,
             precision: self.precision,
         }
+    }
+
+    // Whether the row's kind has no points, but its text is not empty.
+    #[inline(always)]
+    fn has_needless_text(&self) -> bool
+        ensures { IsTrue result ↔ HasNeedlessText self.now }
+    {
+        !self.text.is_empty() && !has_points(self.kind)
+    }
+
+    // The most points that the row may have by the limits.
+    #[inline(always)]
+    fn points_left(&self) -> u32
+        ensures { result ≡ most_points self.now }
+    {
+        self.limits.points().saturating_sub(self.row_place.points)
     }
 
     // Fast path: reads the point of the row, if the row is of kind point and its text is exactly
@@ -78,10 +94,10 @@ impl PointSource for RowHead<'_> {
                 Err(_) => Err(Stop::Memory),
             };
         }
-        if !self.text.is_empty() && !has_points(self.kind) {
+        if self.has_needless_text() {
             return Err(Stop::Refused(RowReason::PolylineNotAllowed));
         }
-        let left = self.limits.points().saturating_sub(self.row_place.points);
+        let left = self.points_left();
         let start = points.count();
         match decode_into(self.text, left, points) {
             Ok(()) => {}
