@@ -4,7 +4,7 @@ use Rattle.std.proofs.Common.{length-append, inl, inr, ◌≤◌, ◌+◌, suc, 
 use Rattle.std.specs.Prelude.{map, reverse, if◌then◌else◌, ℤ, ◌&&◌, nat_le}
 use Rattle.std.specs.Str.{bytes_eq}
 use Rattle.std.proofs.lemmas.Bool.{true≢false}
-use Rattle.std.proofs.lemmas.List.{reverse-append}
+use Rattle.std.proofs.lemmas.List.{map-append, reverse-append}
 use Rattle.std.proofs.lemmas.Slice.Eq.{bytes_eq-Decides}
 use Rattle.std.proofs.lemmas.Bool.Decides.{nat_tests}
 use Rattle.twkb_points.specs.Point.{Point}
@@ -119,17 +119,11 @@ pub record AreOne (l : Allowance) (records : List Record) (m n : ℕ) (why other
   pub geometries : f.geometries ≡ g.geometries
   pub reason : why ≡ other
 
-same_reason : (why reason : RowReason) → Refused why ≡ Refused reason → why ≡ reason
-same_reason why reason e = cc e
-
 judged_alike : (l : Allowance) (gs hs : List Tree) (x y : Record) (why reason : RowReason) → gs ≡ hs
     → x ≡ y → Judged l (reverse (rows_of gs)) x (Refused why)
     → Judged l (reverse (rows_of hs)) y (Refused reason) → why ≡ reason
 judged_alike l gs hs x y why reason same here a b =
-    let there : Judged l (reverse (rows_of hs)) x (Refused why) =
-    subst (λ ts. Judged l (reverse (rows_of ts)) x (Refused why)) same a in
-    same_reason why reason (one_verdict l (reverse (rows_of hs)) y (Refused why) (Refused reason)
-    (subst (λ r. Judged l (reverse (rows_of hs)) r (Refused why)) here there) b)
+    cc (one_verdict l (reverse (rows_of hs)) y (Refused why) (Refused reason) (rw (sym same, sym here) a) b)
 
 pub are_one : (l : Allowance) (records : List Record) (m n : ℕ) (why other : RowReason)
     (f : IsLaterFault l records m why) (g : IsLaterFault l records n other) → IsAllowance l
@@ -195,10 +189,6 @@ early_none l records number reason gs early (inr f) = f.1
 
 -- ==== One more record: records that name geometries still name geometries with it exactly if its verdict is a row.
 
-map-append : (rs ss : List Row) → map record_of (rs ++ ss) ≡ map record_of rs ++ map record_of ss
-map-append [] ss = refl
-map-append (r ∷ rs) ss = ap (λ xs. record_of r ∷ xs) (map-append rs ss)
-
 -- the records with one more name geometries
 pub record Grown (l : Allowance) (records : List Record) (gs : List Tree) (r : Row) : Type 0 where
   pub geometries : List Tree
@@ -217,7 +207,7 @@ grows l records here gs r n j =
       named = record {
         table_of = ap (λ rs. rs ++ here ∷ []) n.table_of
             ∙ ap (λ q. header ∷ (map record_of (rows_of gs) ++ q ∷ [])) p.text
-            ∙ ap (λ qs. header ∷ qs) (sym (map-append (rows_of gs) (r ∷ []))
+            ∙ ap (λ qs. header ∷ qs) (sym (map-append record_of (rows_of gs) (r ∷ []))
             ∙ ap (λ rs. map record_of rs) (sym v.2));
         valid = v.1;
       };
@@ -231,10 +221,6 @@ pub record Last (l : Allowance) (here : Record) (gs hs : List Tree) : Type 0 whe
   pub text : here ≡ record_of row
   pub accepts : Accepts l (reverse (rows_of gs)) row
   pub plain : IsPlain row
-
-plain_end : (xs ys : List Row) → ArePlain (xs ++ ys) → ArePlain xs × ArePlain ys
-plain_end [] ys p = (tt, p)
-plain_end (x ∷ xs) ys p = let t = plain_end xs ys p.1 in ((p.0, t.0), t.1)
 
 one_more : (ys : List Row) (here : Record) → map record_of ys ≡ here ∷ [] → (r : Row)
     × (ys ≡ r ∷ []) × (here ≡ record_of r)
@@ -251,7 +237,7 @@ last_row l records here gs hs cap n m =
     (tail_same header header (map record_of (rows_of hs))
     (map record_of (rows_of gs) ++ here ∷ []) lists) in
     let end = one_more cut.more here cut.others in
-    let plain = plain_end cut.front cut.more (subst ArePlain cut.whole (plain_rows l hs cap m.valid)) in
+    let plain = all_apart IsPlain cut.front cut.more (subst ArePlain cut.whole (plain_rows l hs cap m.valid)) in
     let same : cut.front ≡ rows_of gs = one_list cut.front (rows_of gs) plain.0
     (plain_rows l gs cap n.valid) cut.fronts in
     let rows : rows_of hs ≡ rows_of gs ++ end.0 ∷ [] = cut.whole ∙ ap (λ rs. rs ++ cut.more) same
