@@ -149,39 +149,6 @@ judged_points l before d k id q text r h = elim (passed r PolylineNotAllowed h).
       }
 ]
 
-passed_row : (l : Allowance) (before : List Row) (a b c e f : List ℕ) (r : Row) (d : ℕ) (k : Kind)
-    (id q : Option ℤ) (points : PointsPassed l before d k id q f r)
-    → IsDepthField a d → b ≡ word_of k → IsOptionalId c id → IsOptionalPrecision e q
-    → steps_to d before ≡ true → has_place (parent d before) k ≡ true
-    → nest_kept l (parent d before) d ≡ true → length (geometry_rows d before) < l.nodes
-    → id_allowed (parent d before) k id ≡ true → has_same_ids (first_child d before) id ≡ true
-    → precision_fits (parent d before) q ≡ true → point_count (geometry_rows d before) ≤ l.points
-    → Passed l before (a ∷ b ∷ c ∷ e ∷ f ∷ []) r
-passed_row l before a b c e f r d k id q points depth word ids precisions steps place nest nodes
-    allowed same precision room =
-    let ps = points.points in
-    let row : Row = record { depth = d; kind = k; id = id; precision = q; points = ps } in
-    let fit = fits_by (parent d before) (first_child d before) row (record {
-      place = place;
-      id_range = id_in_range-true id ids.1;
-      id = allowed;
-      same = same;
-      range = precision_in_range-true q precisions.1;
-      precision = precision;
-      points = points.fit;
-    }) in
-    subst (λ (s : Row). Passed l before (a ∷ b ∷ c ∷ e ∷ f ∷ []) s) (sym points.row) (record {
-      text = five_same a b c e f (decimal d) (word_of k) (optional id) (optional q) (polyline ps)
-          depth.0 word ids.0 precisions.0 points.decoded.spelled;
-      accepts = record {
-        admitted = both (steps_to d before) (fits (parent d before) (first_child d before) row) steps fit;
-        nest = nest;
-        nodes = nodes;
-        in_range = points.decoded.in_range;
-        points = (let few = points.decoded.few in omega (arith, few, room));
-      };
-    })
-
 pub judged_row : (l : Allowance) (before : List Row) (fields : Record) (r : Row) → HasRoom l before
     → Judged l before fields (Accepted r) → Passed l before fields r
 judged_row l before (a ∷ b ∷ c ∷ e ∷ f ∷ []) r room h =
@@ -205,11 +172,28 @@ judged_row l before (a ∷ b ∷ c ∷ e ∷ f ∷ []) r room h =
     (not_false (precision_allowed p q) extra.0) in
     let stood = both_true (steps_to d before) (has_place p k)
     (not_false (steps_to d before && has_place p k) place.0) in
-    passed_row l before a b c e f r d k id q (judged_points l before d k id q f r extra.1) at.1 of.1 ids.1 precisions.1
-    stood.0 stood.1 (not_false (nest_kept l p d) nest.0) (omega (arith, nodes.0))
-    (not_false (id_allowed p k id) allowed.0) (not_false
-    (has_same_ids (first_child d before) id) same.0)
-    precise (room d)
+    let points = judged_points l before d k id q f r extra.1 in
+    let row : Row = record { depth = d; kind = k; id = id; precision = q; points = points.points } in
+    let fit = fits_by p (first_child d before) row (record {
+      place = stood.1;
+      id_range = id_in_range-true id ids.1.1;
+      id = not_false (id_allowed p k id) allowed.0;
+      same = not_false (has_same_ids (first_child d before) id) same.0;
+      range = precision_in_range-true q precisions.1.1;
+      precision = precise;
+      points = points.fit;
+    }) in
+    subst (λ (s : Row). Passed l before (a ∷ b ∷ c ∷ e ∷ f ∷ []) s) (sym points.row) (record {
+      text = five_same a b c e f (decimal d) (word_of k) (optional id) (optional q)
+          (polyline points.points) at.1.0 of.1 ids.1.0 precisions.1.0 points.decoded.spelled;
+      accepts = record {
+        admitted = both (steps_to d before) (fits p (first_child d before) row) stood.0 fit;
+        nest = not_false (nest_kept l p d) nest.0;
+        nodes = omega (arith, nodes.0);
+        in_range = points.decoded.in_range;
+        points = (let few = points.decoded.few in let most = room d in omega (arith, few, most));
+      };
+    })
 judged_row l before _ r room h = absurd (accepted_apart r FieldCount h)
 
 -- ---- what the rows so far allow
