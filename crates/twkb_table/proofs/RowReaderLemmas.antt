@@ -359,18 +359,14 @@ opens_next l rows os row a open_now =
     subst (λ xs. AreOpen xs (opened row.depth os row)) (sym (reverse-append rows (row ∷ [])))
     (open_more (reverse rows) os row (steps l (reverse rows) row a) open_now)
 
-pub keeps_first : (l : Allowance) (row : Row) (rows : List Row) (cleared os : List OpenRow)
-    → Continues l [] row → rows ≡ row ∷ [] → cleared ≡ [] → os ≡ opened row.depth cleared row
-    → Kept l rows os
-keeps_first l row rows cleared os c put clear open_now =
-    let open_are : os ≡ opened row.depth [] row = open_now ∙ ap (λ xs. opened row.depth xs row) clear in
-    record {
-      of_one = subst (AreValidRowsOfOne l) (sym put) (continued l [] row tt c);
-      some = omega (arith, ap (λ (rs : List Row). length rs) put);
-      are_open = subst (λ rs. AreOpen (reverse rs) os) (sym put)
-          (subst (λ xs. AreOpen (row ∷ []) xs) (sym open_are)
-          (opens_next l [] [] row c.0 open_none));
-    }
+pub keeps_first : (l : Allowance) (row : Row) (rows : List Row) (os : List OpenRow)
+    → Continues l [] row → rows ≡ row ∷ [] → os ≡ opened row.depth [] row → Kept l rows os
+keeps_first l row rows os c put open_now = record {
+  of_one = subst (AreValidRowsOfOne l) (sym put) (continued l [] row tt c);
+  some = omega (arith, ap (λ (rs : List Row). length rs) put);
+  are_open = subst (λ rs. AreOpen (reverse rs) os) (sym put)
+      (subst (λ xs. AreOpen (row ∷ []) xs) (sym open_now) (opens_next l [] [] row c.0 open_none));
+}
 
 pub keeps_next : (l : Allowance) (row : Row) (before rows : List Row) (was os : List OpenRow)
     → Kept l before was → Accepts l (reverse before) row → 0 < row.depth → rows ≡ before ++ row ∷ []

@@ -22,10 +22,10 @@ use Rattle.twkb_table.specs.RowFault.{all_but_last, AreComplete}
 use Rattle.twkb_table.specs.CsvRecords.{BeginWith, standing}
 use Rattle.twkb_table.specs.NumberedRecords.{MissesRecord, ReadsRecord, fault_of}
 use Rattle.twkb_table.specs.Waiting.{waiting_rows, is_over, is_stopped}
-use Rattle.twkb_table.specs.RowReading.{limits_of, waiting, JudgedAfter, GoesOn, EndsBefore, Refuses, ReadsRow}
+use Rattle.twkb_table.specs.RowReading.{limits_of, JudgedAfter, GoesOn, EndsBefore, Refuses, ReadsRow}
 use Rattle.twkb_table.specs.TableReading.{NameSoFar, Extends, Explains, HaveGiven, Progress}
 use Rattle.twkb_table.specs.TableReading.{NameReading, IsReading, Reaches, Completes, is_ended, records_read}
-use Rattle.twkb_table.specs.TableReading.{GivesRows, FaultsIn, IsMarked, ReadsNextRow, ReadsNextRoot}
+use Rattle.twkb_table.specs.TableReading.{GivesRows, FaultsIn, IsMarked, ReadsNextRow}
 use Rattle.twkb_table.specs.declared.table_fault.TableFault.{TableFault}
 use Rattle.twkb_table.specs.declared.table_reader.TableReader.{TableReader}
 use Rattle.twkb_table.specs.declared.table_fault.TableFault.TheVariants as fault
@@ -291,27 +291,13 @@ stop_fresh number stop.Memory e = cc e
 stop_fresh number (stop.Refused reason) e = cc e
 
 -- a geometry that has rows is complete
-completes_some : {R : Type 0} (l : Allowance) (remaining : R → Option (List ℕ))
+pub completes_some : {R : Type 0} (l : Allowance) (remaining : R → Option (List ℕ))
     (told : Option (List ℕ))
     (records : List Record) (given : List Tree) (so_far : List Row) (now : Progress R)
     → 0 < length so_far → Completes l remaining told records given so_far now
     → GivesRows l remaining told records given so_far now
 completes_some l remaining told records given [] now some done = absurd (omega (arith, some))
 completes_some l remaining told records given (root ∷ more) now some done = done
-
--- the table ended
-pub end_shown : {R : Type 0} (remaining : R → Option (List ℕ)) (old new : Progress R)
-    (so_far : List Row)
-    (here : Record) → 0 < length so_far
-    → ReadsRecord remaining old.source (old.number + 1) (Ok false) here new.source (new.number + 1)
-    → limits_of new.rows ≡ limits_of old.rows → new.rows.state ≡ state.Over
-    → ReadsNextRow remaining old so_far (Ok false) so_far new
-end_shown remaining old new so_far here some reads limits over = (
-  λ l told records given r. completes_some l remaining told records given so_far new some
-      (reads_end l remaining told records given so_far old r new here reads limits over),
-  refl,
-  ap is_stopped over,
-)
 
 -- a record was read
 pub row_shown : {R : Type 0} (remaining : R → Option (List ℕ)) (old new : Progress R)
@@ -333,18 +319,6 @@ row_shown remaining old new before after here false some reads limits (e, same) 
   same,
   (let one = ap (λ (rs : List Row). length rs) e.waits in
       root_waits new.rows.state new.rows.points.items new.number (omega (arith, one))).1,
-)
-
--- the root of the next geometry was read
-pub root_shown : {R : Type 0} (remaining : R → Option (List ℕ)) (old new : Progress R)
-    (here : Record)
-    → ReadsRecord remaining old.source (old.number + 1) (Ok true) here new.source (new.number + 1)
-    → limits_of new.rows ≡ limits_of old.rows → EndsBefore old.rows (waiting old.rows) here new.rows
-    → ReadsNextRoot remaining old (Ok true) new
-root_shown remaining old new here reads limits e = (
-  λ l told records given r. reads_root l remaining told records given (waiting old.rows) old r new
-      here reads limits e,
-  (let one = ap (λ (rs : List Row). length rs) e.waits in omega (arith, one)),
 )
 
 -- no record was read

@@ -1,7 +1,7 @@
 -- The verdict on a record is its row exactly if that row may come next, and tables consist of such records.
 use mathlib.Core.List.{reverse_aux}
 use Rattle.std.proofs.Common.{◌≡◌, Bool, true, false, List, [], ◌∷◌, None, refl, sym, ◌∙◌, subst, inl, inr, ℕ, zero}
-use Rattle.std.proofs.Common.{suc, ◌+◌, ◌<◌, ◌≤◌, ◌==◌, length, Option, Some, ap, arith, ◌++◌}
+use Rattle.std.proofs.Common.{suc, ◌+◌, ◌≤◌, ◌==◌, length, Option, Some, ap, arith, ◌++◌}
 use Rattle.std.specs.Prelude.{◌&&◌, ℤ, decimal, IfSome, map, reverse, ◌↔◌}
 use Rattle.std.proofs.lemmas.Bool.{true≢false, cases_Bool}
 use Rattle.std.specs.List.{AllByRecursion}
@@ -18,7 +18,7 @@ use Rattle.twkb_tree.specs.Tree.{IsPrecision, Tree, IsId}
 use Rattle.twkb_tree.specs.Limits.{Allowance, IsAllowance, IsValid}
 use Rattle.twkb_tree.specs.Admits.{parent, first_child, steps_to, has_place, id_allowed, has_same_ids}
 use Rattle.twkb_tree.specs.Admits.{has_needed_precision, precision_allowed, is_geometry, points_fit, precision_in_range}
-use Rattle.twkb_tree.specs.Admits.{precision_fits, fits, has_points}
+use Rattle.twkb_tree.specs.Admits.{fits, has_points}
 use Rattle.twkb_tree.specs.Accepted.{nest_kept, geometry_rows, point_count, since_root, Accepts, AreAccepted}
 use Rattle.twkb_tree.specs.Kind.{word_of}
 use Rattle.twkb_tree.specs.RowLists.{AreValid, AreGeometries, AreShallow, AreValidRows, IsAtRoot, IsShallow}

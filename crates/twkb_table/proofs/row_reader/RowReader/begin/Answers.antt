@@ -22,7 +22,7 @@ returns-clause-keeps c =
     let begins = waiting_begins old.limits old.state c.in-Waiting.root old.points.items old.waits
     c.in-Waiting.is in
     let row = row_with (root_row c.in-Waiting.root) old.points.items in (
-      keeps_first old.limits row c.begin.new.self [] c.open_row.new.self begins
-          c.in_ok-begin.ensures.begun refl (c.in_ok-open_row.ensures.opened old.points.items),
+      keeps_first old.limits row c.begin.new.self c.open_row.new.self begins
+          c.in_ok-begin.ensures.begun (c.in_ok-open_row.ensures.opened old.points.items),
       refl,
     )

@@ -1,13 +1,19 @@
+use Rattle.std.proofs.Common.{ap, refl}
 use Rattle.csv.specs.Records.{fields_of}
 use Rattle.twkb_table.specs.TableReading.{progress}
-use Rattle.twkb_table.proofs.TableSteps.{end_shown, none_shown, refusal_shown, row_shown}
+use Rattle.twkb_table.specs.Waiting.{is_stopped}
+use Rattle.twkb_table.proofs.TableSteps.{completes_some, none_shown, reads_end, refusal_shown, row_shown}
 use Rattle.twkb_table.proofs.table_reader.TableReader.next_row.Goals as goal
 
 pub returns-in-Ok-false : goal.returns-in-Ok-false
-returns-in-Ok-false g c = end_shown g.R.Read.remaining (progress c.args.self.now) _ c.args.flat.now
-    (fields_of c.next_record.new.last) c.requires.0.some
-    (rw c.in-Ok-false.field-0-test at c.in-Ok-false.ensures) c.stop.ensures.limits
-    c.stop.ensures.state
+returns-in-Ok-false g c = (
+  λ l told records given r. completes_some l g.R.Read.remaining told records given c.args.flat.now _
+      c.requires.0.some (reads_end l g.R.Read.remaining told records given c.args.flat.now
+      (progress c.args.self.now) r _ (fields_of c.next_record.new.last)
+      (rw c.in-Ok-false.field-0-test at c.in-Ok-false.ensures) c.stop.ensures.limits c.stop.ensures.state),
+  refl,
+  ap is_stopped c.stop.ensures.state,
+)
 
 pub returns-in-Err : goal.returns-in-Err
 returns-in-Err g c = none_shown g.R.Read.remaining (progress c.args.self.now) c.args.flat.now
