@@ -123,7 +123,8 @@ judged_alike : (l : Allowance) (gs hs : List Tree) (x y : Record) (why reason : 
     → x ≡ y → Judged l (reverse (rows_of gs)) x (Refused why)
     → Judged l (reverse (rows_of hs)) y (Refused reason) → why ≡ reason
 judged_alike l gs hs x y why reason same here a b =
-    cc (one_verdict l (reverse (rows_of hs)) y (Refused why) (Refused reason) (rw (sym same, sym here) a) b)
+    cc (one_verdict l (reverse (rows_of hs)) y (Refused why) (Refused reason)
+    (rw (sym same, sym here) a) b)
 
 pub are_one : (l : Allowance) (records : List Record) (m n : ℕ) (why other : RowReason)
     (f : IsLaterFault l records m why) (g : IsLaterFault l records n other) → IsAllowance l
@@ -237,7 +238,8 @@ last_row l records here gs hs cap n m =
     (tail_same header header (map record_of (rows_of hs))
     (map record_of (rows_of gs) ++ here ∷ []) lists) in
     let end = one_more cut.more here cut.others in
-    let plain = all_apart IsPlain cut.front cut.more (subst ArePlain cut.whole (plain_rows l hs cap m.valid)) in
+    let plain = all_apart IsPlain cut.front cut.more (subst ArePlain cut.whole
+    (plain_rows l hs cap m.valid)) in
     let same : cut.front ≡ rows_of gs = one_list cut.front (rows_of gs) plain.0
     (plain_rows l gs cap n.valid) cut.fronts in
     let rows : rows_of hs ≡ rows_of gs ++ end.0 ∷ [] = cut.whole ∙ ap (λ rs. rs ++ cut.more) same
@@ -259,7 +261,8 @@ only_accepted l records here gs hs v cap n m j =
     let accepted = row_judged l (reverse (rows_of gs)) last.row last.accepts last.plain.depth in (
       last.row,
       one_verdict l (reverse (rows_of gs)) here v (Accepted last.row) j
-          (subst (λ q. Judged l (reverse (rows_of gs)) q (Accepted last.row)) (sym last.text) accepted),
+          (subst (λ q. Judged l (reverse (rows_of gs)) q (Accepted last.row)) (sym last.text)
+          accepted),
     )
 
 pub refused_none : (l : Allowance) (records : List Record) (here : Record) (gs : List Tree)

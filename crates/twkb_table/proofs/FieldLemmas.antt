@@ -95,7 +95,8 @@ pub record IsPlain (r : Row) : Type 0 where
   pub precision : IfSome r.precision IsPrecision
 
 -- two rows with the same fields are equal
-pub same_row : (d e : ℕ) (j k : Kind) (a b p q : Option ℤ) (xs ys : List Point) → d ≡ e → j ≡ k → a ≡ b
+pub same_row : (d e : ℕ) (j k : Kind) (a b p q : Option ℤ) (xs ys : List Point) → d ≡ e → j ≡ k
+    → a ≡ b
     → p ≡ q → xs ≡ ys
     → Path Row (record { depth = d; kind = j; id = a; precision = p; points = xs })
     (record { depth = e; kind = k; id = b; precision = q; points = ys })
@@ -237,7 +238,8 @@ pub decided_optional_id : (field : List ℕ) → SomeOrNone (IsOptionalId field)
 decided_optional_id field = optional_of IsId field (decided_id field)
 
 pub decided_optional_precision : (field : List ℕ) → SomeOrNone (IsOptionalPrecision field)
-decided_optional_precision field = optional_of IsPrecision field (precision_of field (decided_id field))
+decided_optional_precision field = optional_of IsPrecision field
+    (precision_of field (decided_id field))
 
 -- ---- kinds
 

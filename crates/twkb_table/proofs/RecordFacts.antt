@@ -1,5 +1,6 @@
 -- What a read of `csv` says about the place in a text.
-use Rattle.std.proofs.Common.{◌≡◌, ◌∙◌, ℕ, List, [], ◌∷◌, ◌++◌, Option, Some, None, Bool, true, false, Ok, sym, refl, inl}
+use Rattle.std.proofs.Common.{◌≡◌, ◌∙◌, ℕ, List, [], ◌∷◌, ◌++◌, Option, Some, None, Bool, true, false, Ok, sym}
+use Rattle.std.proofs.Common.{refl, inl}
 use Rattle.std.specs.Prelude.{option_map, IfSome}
 use Rattle.std.specs.Borrow.{MutBor}
 use Rattle.csv.specs.Reading.{Reached, ReadRecord, Ready, default_config, is_flexible, reader_state}

@@ -208,19 +208,9 @@ pub bad_place : (l : Allowance) (before : List Row) (rows : List OpenRow) (nodes
     → length rows < d → StandsAfter before rows nodes points
     → Judged l before (a ∷ b ∷ c ∷ e ∷ f ∷ []) (Refused BadPlace)
 bad_place l before rows nodes points a b c e f d k depth word lt stands =
-    inr (
-      d,
-      depth,
-      inr (
-        k,
-        word,
-        inl (
-          no_steps (steps_to d before) (has_place (parent d before) k)
-              (steps_missing before rows nodes points d stands lt),
-          refl,
-        ),
-      ),
-    )
+    let none = no_steps (steps_to d before) (has_place (parent d before) k)
+    (steps_missing before rows nodes points d stands lt) in
+    inr (d, depth, inr (k, word, inl (none, refl)))
 
 -- the verdict by the place that the open rows give
 pub judged_of : (l : Allowance) (before : List Row) (rows : List OpenRow) (nodes points : ℕ)
@@ -419,8 +409,11 @@ comes_next l rows fields head row cleared points own of_one read row_is none put
     subst (λ r. JudgedAfter l rows fields (Accepted r)) (given_row head row cleared points own
     row_is none put)
     (read (Accepted (row_with (head_row head) own)) given) in
-    record { judged = judged; accepts = accepts_next l rows fields (row_with row points) of_one
-    (judged [] (λ e. refl)) }
+    record {
+      judged = judged;
+      accepts = accepts_next l rows fields (row_with row points) of_one
+          (judged [] (λ e. refl));
+    }
 
 -- the place of the row allows this many points
 abbrev pub AllowsMany : RowHead → ℕ → Type 0
@@ -432,17 +425,11 @@ one_accepted : (head : RowHead) (p : Point) → head.kind ≡ kind.Point
     → head.row_place.points < head.limits.points → AllowsMany head 1
     → DecodesTo head.text.now 1 (p ∷ []) → JudgedAs head (Accepted (row_with (head_row head) (p ∷ [])))
 one_accepted head p is room allows read =
+    let one : DecodesTo head.text.now (most_points head) (p ∷ []) =
+    record { spelled = read.spelled; in_range = read.in_range; few = omega (arith, room) } in
     inr (
       λ bare. true≢false (sym (ap has_points is) ∙ bare.1),
-      inr (
-        p ∷ [],
-        record {
-          spelled = read.spelled;
-          in_range = read.in_range;
-          few = omega (arith, room);
-        },
-        allows (p ∷ []) refl head.id head.precision,
-      ),
+      inr (p ∷ [], one, allows (p ∷ []) refl head.id head.precision),
     )
 
 pub one_judged : (head : RowHead) (r : Option Point) → head.kind ≡ kind.Point
@@ -458,7 +445,15 @@ pub text_refused : (head : RowHead) (offset : ℕ) (why : PolyReason) (f : PolyF
     → (HasNeedlessText head → ⊥) → f ≡ At offset why → IsRefused head.text.now (most_points head) f
     → JudgedAs head (Refused (Polyline offset why))
 text_refused head offset why f needed is refused =
-    inr (needed, inl (offset, why, subst (IsRefused head.text.now (most_points head)) is refused, refl))
+    inr (
+      needed,
+      inl (
+        offset,
+        why,
+        subst (IsRefused head.text.now (most_points head)) is refused,
+        refl,
+      ),
+    )
 
 -- the list grew by the points that were decoded
 pub has_grown : (text : List ℕ) (left start count : ℕ) (old new : List Point)

@@ -170,15 +170,15 @@ pub the_header : {R : Type 0} (l : Allowance) (remaining : R → Option (List �
     → IsReading l remaining told records given (waiting now.rows) now
 the_header l remaining told records given here now waits none before source same number limits =
     record {
-  seen = header ∷ [];
-  extends = (header ∷ [], ap (λ (rs : List Record). rs ++ header ∷ []) (sym none));
-  source = subst (λ (r : Record). HasGiven remaining told (r ∷ []) now.source) same source;
-  count = omega (arith, number);
-  few = omega arith;
-  limits = limits;
-  named = subst (NameReading l (header ∷ []) given) (sym waits)
-      (subst (Named l (header ∷ [])) (sym before) (record { table_of = refl; valid = tt }), before);
-}
+      seen = header ∷ [];
+      extends = (header ∷ [], ap (λ (rs : List Record). rs ++ header ∷ []) (sym none));
+      source = subst (λ (r : Record). HasGiven remaining told (r ∷ []) now.source) same source;
+      count = omega (arith, number);
+      few = omega arith;
+      limits = limits;
+      named = subst (NameReading l (header ∷ []) given) (sym waits)
+          (subst (Named l (header ∷ [])) (sym before) (record { table_of = refl; valid = tt }), before);
+    }
 
 -- the header and the first root were read
 pub first_shown : {R : Type 0} (remaining : R → Option (List ℕ)) (old mid new : TableReader R)

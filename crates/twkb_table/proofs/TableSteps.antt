@@ -234,8 +234,11 @@ module _ {R : Type 0} (l : Allowance) (remaining : R → Option (List ℕ)) (tol
           limits = limits ∙ r.limits;
           gave = subst (λ (s : State). HaveGiven l r.seen all_now.geometries
               (waiting_rows s new.rows.points.items)
-              (is_over s)) (sym over) (names_so_far l r.seen all_now.geometries all_now.named, inr
-              refl);
+              (is_over s)) (sym over) (
+                names_so_far l r.seen all_now.geometries all_now.named,
+                inr
+                    refl,
+              );
           unspent = ap is_stopped over;
         };
       })

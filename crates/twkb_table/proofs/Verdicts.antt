@@ -173,7 +173,8 @@ judged_row l before (a ∷ b ∷ c ∷ e ∷ f ∷ []) r room h =
     let stood = both_true (steps_to d before) (has_place p k)
     (not_false (steps_to d before && has_place p k) place.0) in
     let points = judged_points l before d k id q f r extra.1 in
-    let row : Row = record { depth = d; kind = k; id = id; precision = q; points = points.points } in
+    let row : Row = record { depth = d; kind = k; id = id; precision = q; points = points.points }
+    in
     let fit = fits_by p (first_child d before) row (record {
       place = stood.1;
       id_range = id_in_range-true id ids.1.1;
@@ -243,7 +244,8 @@ by_place : (l : Allowance) (here : Place) (k : Kind) (id_field field text : List
     → JudgedByPlace l here k id_field field text w → v ≡ w
 by_place l here k id_field field text v w =
     when_one v w _ (when_one v w _ (when_one v w _
-    (unless_one (IsOptionalId id_field) _ _ v w _ (λ a b p q. one_optional a b p.1 q.1 (sym p.0 ∙ q.0))
+    (unless_one (IsOptionalId id_field) _ _ v w _ (λ a b p q. one_optional a b p.1 q.1
+    (sym p.0 ∙ q.0))
     (λ id. when_one v w _ (when_one v w _
     (unless_one (IsOptionalPrecision field) _ _ v w _
     (λ a b p q. one_optional a b (precision-ids a p.1) (precision-ids b q.1) (sym p.0 ∙ q.0))
@@ -292,22 +294,12 @@ row_judged l before r a le =
     let counted = inr (stays_true (points_fit k (is_geometry p) r.points) h.points, refl) in
     let points = inr (no_text, inr (r.points, decoded l before r a, counted)) in
     let tested = precision_tested p r.precision h.precision in
-    let precisions = inr (
-      r.precision,
-      (refl, precise),
-      inr (
-        stays_true (has_needed_precision p r.precision) tested.0,
-        inr (stays_true (precision_allowed p r.precision) tested.1, points),
-      ),
-    ) in
-    let ids = inr (
-      r.id,
-      (refl, id),
-      inr (
-        stays_true (id_allowed p k r.id) h.id,
-        inr (stays_true (has_same_ids f r.id) h.same, precisions),
-      ),
-    ) in
+    let needed = stays_true (has_needed_precision p r.precision) tested.0 in
+    let extra = stays_true (precision_allowed p r.precision) tested.1 in
+    let precisions = inr (r.precision, (refl, precise), inr (needed, inr (extra, points))) in
+    let allowed = stays_true (id_allowed p k r.id) h.id in
+    let same = stays_true (has_same_ids f r.id) h.same in
+    let ids = inr (r.id, (refl, id), inr (allowed, inr (same, precisions))) in
     inr (d, (refl, le), inr (k, refl, inr (placed, inr (stays_true (nest_kept l p d) a.nest, inr (few, ids)))))
 
 -- ==== Tables: each of their rows is plain, they are read in one way, and their prefixes are tables.

@@ -66,13 +66,13 @@ records_read _ number = number + 1
 -- and returned these geometries. They are all records of the text if the end was reached.
 pub record StandsAt {R : Type 0} (l : Allowance) (remaining : R → Option (List ℕ))
     (told : Option (List ℕ)) (records : List Record) (given : List Tree) (now : Progress R) : Type 0
-    where
-  pub source : standing remaining told records (is_over now.rows.state) now.source
-  pub count : records_read now.rows.state now.number ≡ length records
-  pub few : length records < RECORD_CAP
-  pub limits : limits_of now.rows ≡ l
-  pub gave : HaveGiven l records given (waiting now.rows) (is_over now.rows.state)
-  pub unspent : is_stopped now.rows.state ≡ false
+  where
+    pub source : standing remaining told records (is_over now.rows.state) now.source
+    pub count : records_read now.rows.state now.number ≡ length records
+    pub few : length records < RECORD_CAP
+    pub limits : limits_of now.rows ≡ l
+    pub gave : HaveGiven l records given (waiting now.rows) (is_over now.rows.state)
+    pub unspent : is_stopped now.rows.state ≡ false
 
 -- this reader is such a reader
 abbrev pub StandsAfter : {R : Type 0} → Allowance → (R → Option (List ℕ)) → Option (List ℕ)
@@ -124,12 +124,12 @@ pub record GivesTree {R : Type 0} (l : Allowance) (remaining : R → Option (Lis
 -- All records of the text name the geometries that were returned.
 pub record ReachesEnd {R : Type 0} (l : Allowance) (remaining : R → Option (List ℕ))
     (told : Option (List ℕ)) (records : List Record) (given : List Tree) (now : Progress R) : Type 0
-    where
-  pub seen : List Record
-  pub extends : Extends records seen
-  pub all : IfSome told (λ text. AreRecordsOf text seen)
-  pub named : Named l seen given
-  pub stands : StandsAt l remaining told seen given now
+  where
+    pub seen : List Record
+    pub extends : Extends records seen
+    pub all : IfSome told (λ text. AreRecordsOf text seen)
+    pub named : Named l seen given
+    pub stands : StandsAt l remaining told seen given now
 
 -- the same of a reader
 abbrev pub MeetsEnd : {R : Type 0} → Allowance → (R → Option (List ℕ)) → Option (List ℕ)
@@ -222,11 +222,11 @@ pub record IsReading {R : Type 0} (l : Allowance) (remaining : R → Option (Lis
 -- The records seen name these geometries, and one more if a root waits.
 pub record Reaches {R : Type 0} (l : Allowance) (remaining : R → Option (List ℕ))
     (told : Option (List ℕ)) (records : List Record) (given : List Tree) (now : Progress R) : Type 0
-    where
-  pub seen : List Record
-  pub extends : Extends records seen
-  pub begins : IfSome told (λ text. BeginWith text seen)
-  pub stands : StandsAt l remaining told seen given now
+  where
+    pub seen : List Record
+    pub extends : Extends records seen
+    pub begins : IfSome told (λ text. BeginWith text seen)
+    pub stands : StandsAt l remaining told seen given now
 
 -- the geometry with these rows is complete; before the first root there is none
 abbrev pub Completes : {R : Type 0} → Allowance → (R → Option (List ℕ)) → Option (List ℕ)

@@ -10,13 +10,17 @@ pub returns-in-Ok-clause-given : goal.returns-in-Ok-clause-given
 returns-in-Ok-clause-given g c = (c.in-Some.point ∷ [], c.in-Ok.ensures.appended, c.in-Some.ensures)
 
 pub returns-in-Err-At-clause-refused : goal.returns-in-Err-At-clause-refused
-returns-in-Err-At-clause-refused g c = text_refused c.args.self.now c.in-Err-At.offset c.in-Err-At.reason
-    c.in-Err-At.field-0 (λ h. false≢true (c.if-has_needless_text.ensures.1 h)) c.in-Err-At.field-0-is
+returns-in-Err-At-clause-refused g c = text_refused c.args.self.now c.in-Err-At.offset
+    c.in-Err-At.reason
+    c.in-Err-At.field-0 (λ h. false≢true (c.if-has_needless_text.ensures.1 h))
+    c.in-Err-At.field-0-is
     (rw c.points_left-left.ensures at c.in-Err-At.ensures.refuses)
 
 pub returns-in-Some-refused_count-clause-refused : goal.returns-in-Some-refused_count-clause-refused
-returns-in-Some-refused_count-clause-refused g c = points_refused c.args.self.now c.count-start.result
-    c.count.result _ _ c.in-Some-refused_count.reason (λ h. false≢true (c.if-has_needless_text.ensures.1 h))
+returns-in-Some-refused_count-clause-refused g c = points_refused c.args.self.now
+    c.count-start.result
+    c.count.result _ _ c.in-Some-refused_count.reason (λ h. false≢true
+    (c.if-has_needless_text.ensures.1 h))
     (rw c.points_left-left.ensures at c.in-Ok-decode_into.ensures.decodes)
     c.count-start.ensures c.count.ensures c.in-Some-refused_count.ensures.judged
 

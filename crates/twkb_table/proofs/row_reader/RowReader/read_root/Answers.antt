@@ -23,7 +23,7 @@ returns-in_err-row-clause-root c =
     let p = err_from_is_err_and c.from_residual.result c.from_residual.ensures.1 in
     rw (p.1, p.2) (
       if_refused _ _ _ (λ reason j. judged_alone old.limits (waiting old)
-      (fields_of c.args.csv_record.now)
+          (fields_of c.args.csv_record.now)
           (Refused reason) c.requires (j [] stands_nowhere)) c.in_err-row.ensures.refused,
       refl,
     )

@@ -85,7 +85,7 @@ returns-clause-row c =
       judged = next.judged;
       keeps = (
         keeps_next l row c.args.flat.now c.push_from.new.self c.args.self.now.open_rows
-        c.open_row.new.self
+            c.open_row.new.self
             c.requires.0 next.accepts below own.1 (c.in-Ok-open_row.ensures.opened own.0),
         c.requires.1,
       );

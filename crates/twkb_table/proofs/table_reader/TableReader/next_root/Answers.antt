@@ -23,9 +23,11 @@ returns-in-Err g c = none_shown g.R.Read.remaining (progress c.args.self.now)
 
 pub returns-in-Ok : goal.returns-in-Ok
 returns-in-Ok g c = (
-  λ l told records given r. reads_root l g.R.Read.remaining told records given (waiting c.args.self.now.rows)
+  λ l told records given r. reads_root l g.R.Read.remaining told records given
+      (waiting c.args.self.now.rows)
       (progress c.args.self.now) r _ (fields_of c.next_record.new.last)
-      (rw c.in-Ok-true.field-0-test at c.in-Ok-true.ensures) c.read_root.ensures.limits c.in-Ok.ensures.root,
+      (rw c.in-Ok-true.field-0-test at c.in-Ok-true.ensures) c.read_root.ensures.limits
+      c.in-Ok.ensures.root,
   (let one = ap length c.in-Ok.ensures.root.waits in omega (arith, one)),
 )
 

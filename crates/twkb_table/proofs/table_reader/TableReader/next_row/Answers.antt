@@ -10,7 +10,8 @@ returns-in-Ok-false g c = (
   λ l told records given r. completes_some l g.R.Read.remaining told records given c.args.flat.now _
       c.requires.0.some (reads_end l g.R.Read.remaining told records given c.args.flat.now
       (progress c.args.self.now) r _ (fields_of c.next_record.new.last)
-      (rw c.in-Ok-false.field-0-test at c.in-Ok-false.ensures) c.stop.ensures.limits c.stop.ensures.state),
+      (rw c.in-Ok-false.field-0-test at c.in-Ok-false.ensures) c.stop.ensures.limits
+      c.stop.ensures.state),
   refl,
   ap is_stopped c.stop.ensures.state,
 )
