@@ -51,34 +51,6 @@ pass_start style rs n by_depth t es all blanks no_tail no_entries =
     subst (λ (l : List Row). Pass style l by_depth t es) (sym (drop_all n rs all))
     (record { stands = stands_none style by_depth t blanks no_tail; kept = no_entries })
 
--- the pass after one more node, before the rows already seen
-pass_back : (style : Style) (rows : List Row) (i : ℕ) (node : Node) (by_depth new : List RowTotals)
-    (tail points : TailTotals) (e : Option Entry) (es : List Entry)
-    → AreMeasurable rows → IsNode rows i node → Pass style (drop (i + 1) rows) by_depth tail es
-    → ((ahead : List Point) → tail ≡ tail_of ahead
-    → points ≡ tail_of (own_points_in node (row_points rows) ++ ahead))
-    → points.bytes ≤ tail.bytes + 20 * node.points
-    → TakenRow style node points by_depth new e
-    → Pass style (drop i rows) new (tail_after node.row.precision points) (es ++ option_list e)
-pass_back style rows i node by_depth new tail points e es fit is pass found short row =
-    let behind : Pass style is.rest by_depth tail es =
-    subst (λ (l : List Row). Pass style l by_depth tail es) (sym (rest_is rows i node is)) pass in
-    let here : AreMeasurable (row_with node.row is.own ∷ is.rest) =
-    subst AreMeasurable is.here (measurable_from i rows fit) in
-    let points_are : points ≡ tail_of (is.own ++ points_ahead is.rest) =
-    found (points_ahead is.rest) behind.stands.tail_is
-    ∙ ap (λ ps. tail_of (ps ++ points_ahead is.rest)) (own_points rows i node is) in
-    let more = stands_more style node is.own is.rest by_depth new tail points e behind.stands here is.count
-    points_are short row in
-    subst (λ (l : List Row). Pass style l new (tail_after node.row.precision points) (es ++ option_list e))
-    (sym is.here) (record {
-      stands = more.0;
-      kept =
-          ap (λ l. l ++ option_list e) behind.kept
-          ∙ ap (λ l. reverse (measured style is.rest) ++ l) (sym (reverse-option e))
-          ∙ sym (reverse-append (option_list e) (measured style is.rest)) ∙ ap reverse more.1;
-    })
-
 -- the pass after one more node, with its place counted from the end
 pub pass_step : (style : Style) (rows : List Row) (total back : ℕ) (node : Node)
     (by_depth new : List RowTotals) (tail points before : TailTotals) (e : Option Entry) (es kept : List Entry)
@@ -92,12 +64,24 @@ pub pass_step : (style : Style) (rows : List Row) (total back : ℕ) (node : Nod
     → Pass style (drop (total - (back + 1)) rows) new before kept
 pass_step style rows total back node by_depth new tail points before e es kept some fit is pass found
     short row tail_is kept_are =
-    let here : total - back ≡ total - 1 - back + 1 = omega arith in
-    let there : total - 1 - back ≡ total - (back + 1) = omega arith in
-    let step = pass_back style rows (total - 1 - back) node by_depth new tail points e es fit is
-    (subst (λ n. Pass style (drop n rows) by_depth tail es) here pass) found short row in
-    rw (tail_is, kept_are) (subst (λ n. Pass style (drop n rows) new (tail_after node.row.precision points)
-    (es ++ option_list e)) there step)
+    let i : ℕ = total - 1 - back in
+    let after : i + 1 ≡ total - back = omega arith in
+    let there : i ≡ total - (back + 1) = omega arith in
+    let rest = rest_is rows i node is ∙ ap (λ n. drop n rows) after in
+    let behind = subst (λ (l : List Row). Pass style l by_depth tail es) (sym rest) pass in
+    let here = subst AreMeasurable is.here (measurable_from i rows fit) in
+    let points_are = found (points_ahead is.rest) behind.stands.tail_is
+    ∙ ap (λ ps. tail_of (ps ++ points_ahead is.rest)) (own_points rows i node is) in
+    let more = stands_more style node is.own is.rest by_depth new tail points e behind.stands here is.count
+    points_are short row in
+    rw (tail_is, kept_are) (subst (λ (l : List Row). Pass style l new (tail_after node.row.precision points)
+    (es ++ option_list e)) (sym is.here ∙ ap (λ n. drop n rows) there) (record {
+      stands = more.0;
+      kept =
+          ap (λ l. l ++ option_list e) behind.kept
+          ∙ ap (λ l. reverse (measured style is.rest) ++ l) (sym (reverse-option e))
+          ∙ sym (reverse-append (option_list e) (measured style is.rest)) ∙ ap reverse more.1;
+    }))
 
 -- the number of points from a node on
 pub points_back : (rows : List Row) (total back : ℕ) (node : Node) → back < total → IsNode rows (total - 1 - back) node
