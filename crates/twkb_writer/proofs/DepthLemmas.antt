@@ -1,7 +1,8 @@
 -- Totals by depth, of no rows from a depth on.
 use Rattle.std.proofs.Common.{◌≡◌, ◌≢◌, ℕ, ◌-◌, ◌<◌, List, length, get_or, ◌≤◌, ◌∙◌, sym, ap, subst, inl, inr, arith}
 use lib.ListN.{replicate, set}
-use Rattle.std.proofs.lemmas.List.{get_or-replicate, set-get_or, get_or-set_same, get_or-set_other}
+use Rattle.std.proofs.lemmas.Grind.{get_or-set_at}
+use Rattle.std.proofs.lemmas.List.{get_or-replicate, set-get_or, get_or-set_other}
 use Rattle.std.proofs.lemmas.List.{length-set, length-replicate}
 use Rattle.std.proofs.lemmas.Bool.{cases_eq}
 use Rattle.twkb_writer.specs.declared.depths.TheConstants.{DEPTHS}
@@ -21,8 +22,7 @@ set_blank : (by_depth : List RowTotals) (i k : ℕ) (l : RowTotals) → l ≡ bl
     → (k ≢ i → get_or by_depth k blank ≡ blank) → get_or (set by_depth i l) k blank ≡ blank
 set_blank by_depth i k l none here there =
     elim (cases_eq k i) [
-      | inl same ↦ ap (λ (j : ℕ). get_or (set by_depth i l) j blank) same
-          ∙ get_or-set_same by_depth i l blank here ∙ none
+      | inl same ↦ get_or-set_at by_depth i k l blank same here ∙ none
       | inr other ↦ get_or-set_other by_depth i k l blank other ∙ there other
     ]
 

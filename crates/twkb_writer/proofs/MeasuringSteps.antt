@@ -6,7 +6,8 @@ use Rattle.std.proofs.Common.{set, sym, subst, append-nil}
 use Rattle.std.specs.Prelude.{nat_lt, nat_eq, ℤ}
 use Rattle.std.proofs.lemmas.Bool.Decides.{nat_tests}
 use Rattle.std.proofs.lemmas.Bool.{cases_lt, cases_eq}
-use Rattle.std.proofs.lemmas.List.{get_or-set_same, get_or-set_other, length-set, take-append-drop}
+use Rattle.std.proofs.lemmas.Grind.{get_or-set_at}
+use Rattle.std.proofs.lemmas.List.{get_or-set_other, length-set, take-append-drop}
 use Rattle.twkb_points.specs.Point.{Point}
 use Rattle.twkb_tree.specs.Admits.{steps_to, parent, first_child, fits, IsAdmitted}
 use Rattle.twkb_tree.specs.Rows.{Row, row_points, rows}
@@ -117,28 +118,23 @@ stands_step style by_depth r rs own whole deep child is stands k small =
     let whole2 : length cleared ≡ DEPTHS = length-set by_depth (d + 1) blank ∙ whole in
     elim (cases_eq k d) [
       | inl same ↦
-          ap (λ (j : ℕ). get_or (set cleared d own) j blank) same
-          ∙ get_or-set_same cleared d own blank (omega arith)
-          ∙ is ∙ sym (totals_at style d r rs refl) ∙ ap (λ (j : ℕ). totals style j (r ∷ rs)) (sym same)
+          get_or-set_at cleared d k own blank same (omega arith) ∙ is ∙ sym (totals_at style d r rs refl)
+          ∙ ap (λ (j : ℕ). totals style j (r ∷ rs)) (sym same)
       | inr other ↦
           get_or-set_other cleared d k own blank other
-          ∙ elim (cases_lt k d) [
-            | inl lower ↦
-                (let apart : k ≢ d + 1 = λ e. omega arith in
+          ∙ elim (cases_eq k (d + 1)) [
+            | inl next ↦
+                get_or-set_at by_depth (d + 1) k blank blank next (omega arith)
+                ∙ sym (totals_above style k r rs (omega arith))
+            | inr apart ↦
                 get_or-set_other by_depth (d + 1) k blank blank apart ∙ stands k small
-                ∙ sym (totals_below style k r rs lower))
-            | inr upper ↦ elim (cases_eq k (d + 1)) [
-              | inl next ↦
-                  (let low : d < k = omega arith in
-                  ap (λ (j : ℕ). get_or cleared j blank) next ∙ get_or-set_same by_depth (d + 1) blank
-                  blank (omega arith) ∙ sym (totals_above style k r rs low))
-              | inr apart ↦
-                  (let low : d < k = omega arith in
-                  let far : d + 2 ≤ k = omega arith in
-                  get_or-set_other by_depth (d + 1) k blank blank apart ∙ stands k small
-                  ∙ totals_none style k rs (above_more (d + 2) k rs far child)
-                  ∙ sym (totals_above style k r rs low))
-            ]
+                ∙ elim (cases_lt k d) [
+                  | inl lower ↦ sym (totals_below style k r rs lower)
+                  | inr upper ↦
+                      (let far : d + 2 ≤ k = omega arith in
+                      totals_none style k rs (above_more (d + 2) k rs far child)
+                      ∙ sym (totals_above style k r rs (omega arith)))
+                ]
           ]
     ]
 
