@@ -1,6 +1,6 @@
 -- The rows below a row, its members among them, and their slots.
 use Rattle.std.proofs.Common.{◌≡◌, ℕ, List, [], ◌∷◌, ◌++◌, map, refl, ap, sym, ◌∙◌, append_assoc, suc, ◌<◌, ◌≤◌, true}
-use Rattle.std.proofs.Common.{false, length, Option, Some, None, subst, arith}
+use Rattle.std.proofs.Common.{false, length, Option, Some, None, arith}
 use Rattle.std.specs.Prelude.{ℤ, ◌-ℤ◌, nat_le, nat_eq}
 use Rattle.std.proofs.lemmas.Grind.{flat_map-append}
 use Rattle.std.proofs.lemmas.Bool.Decides.{nat_tests}
@@ -13,9 +13,7 @@ use Rattle.twkb_tree.specs.Rows.{Row, plain_row, polygon_rows, rows_with, rows_b
 use Rattle.twkb_tree.specs.Rows.{rows_of_each, first_id, other_ids, rows_under}
 use Rattle.twkb_tree.specs.RowLists.{IsAbove}
 use Rattle.twkb_tree.proofs.AllJoined.{all_join}
-use Rattle.twkb_tree.proofs.MemberLemmas.{own_row_first}
 use Rattle.twkb_tree.proofs.RowLaws.{AreDeep, IsDeeper}
-use Rattle.twkb_tree.proofs.RowSteps.{own_row-depth}
 use Rattle.twkb_grammar.specs.Roles.{Field}
 use Rattle.twkb_grammar.specs.Items.{Slot, OfId, OfPoint, filled}
 use Rattle.twkb_grammar.specs.Written.{varints}
@@ -158,9 +156,8 @@ pub deep-each : {A : Type 0} (d : ℕ) (f : Option ℤ → A → List Row)
     → ((id : Option ℤ) (x : A) → AreDeep d (f id x)) → (ids : Ids) (xs : List A)
     → AreDeep d (rows_of_each f ids xs)
 deep-each d f deep ids [] = tt
-deep-each d f deep ids (x ∷ xs) = all_join (IsDeeper d) (f (first_id ids) x)
-    (rows_of_each f (other_ids ids) xs) (deep (first_id ids) x)
-    (deep-each d f deep (other_ids ids) xs)
+deep-each d f deep ids (x ∷ xs) =
+    all_join (IsDeeper d) _ _ (deep (first_id ids) x) (deep-each d f deep (other_ids ids) xs)
 
 -- rows deeper than one depth are deeper than a smaller one
 pub deep-less : (d : ℕ) (rs : List Row) → AreDeep (suc d) rs → AreDeep d rs
@@ -182,22 +179,22 @@ deep-simple d (multi_polygon ids areas) = deep-each d (polygon_rows d)
     (λ id x. (omega arith, deep-less d (ring_rows (suc d) x) (deep-rings (suc d) x))) ids areas
 deep-simple d _ = tt
 
--- a geometry's rows are at its depth or deeper
-deep-own : (d : ℕ) (id : Option ℤ) (g : Tree) → AreDeep (suc d) (rows_under (suc d) g) → AreDeep d (rows_with id d g)
-deep-own d id g h =
-    let own = own_row-depth id d g in
-    subst (AreDeep d) (sym (own_row_first id d g)) (omega (arith, own), deep-less d (rows_under (suc d) g) h)
-
 mutual
-  pub deep-below : (d : ℕ) (g : Tree) → AreDeep d (rows_under d g)
-  deep-below d (simple p s) = deep-simple d s
-  deep-below d (collection p ids gs) = deep-members d ids gs
+  -- a geometry's rows are at its depth or deeper
+  deep-with : (d : ℕ) (id : Option ℤ) (g : Tree) → AreDeep d (rows_with id d g)
+  deep-with d id (simple p s) = (omega arith, deep-less d (rows_below (suc d) s) (deep-simple (suc d) s))
+  deep-with d id (collection p ids gs) =
+      (omega arith, deep-less d (member_rows (suc d) ids gs) (deep-members (suc d) ids gs))
 
   deep-members : (d : ℕ) (ids : Ids) (gs : Trees) → AreDeep d (member_rows d ids gs)
   deep-members d ids end = tt
-  deep-members d ids (g ▷ gs) = all_join (IsDeeper d) (rows_with (first_id ids) d g)
-      (member_rows d (other_ids ids) gs) (deep-own d (first_id ids) g (deep-below (suc d) g))
-      (deep-members d (other_ids ids) gs)
+  deep-members d ids (g ▷ gs) =
+      all_join (IsDeeper d) _ _ (deep-with d (first_id ids) g) (deep-members d (other_ids ids) gs)
+
+-- the rows below a geometry's own are deep
+pub deep-below : (d : ℕ) (g : Tree) → AreDeep d (rows_under d g)
+deep-below d (simple p s) = deep-simple d s
+deep-below d (collection p ids gs) = deep-members d ids gs
 
 -- the rows of members are those of each member
 pub member_rows-each : (d : ℕ) (ids : Ids) (gs : Trees)

@@ -393,21 +393,18 @@ simple_body style p (line (q ∷ ps)) d es rs fit above =
     ∙ ap (λ at. varints (fields (line (q ∷ ps))) ++ rows_bytes style at es rs) (sym (reached-way origin (q ∷ ps)))
 simple_body style p (polygon (ring ∷ rings)) d es rs fit above =
     parts_body style p (polygon (ring ∷ rings)) d es rs Rings (length (ring ∷ rings)) [] refl refl refl above
-simple_body style p (multi_point ids []) d es rs fit above = ap (λ at. rows_bytes style at es rs)
-    (sym (reached-id_slots origin ids []))
+simple_body style p (multi_point (Some ids) []) d es rs fit above = absurd (omega (arith, fit.0))
 simple_body style p (multi_point ids (q ∷ ps)) d es rs fit above =
     parts_body style p (multi_point ids (q ∷ ps)) d es rs Points (length (q ∷ ps)) _
     (ap (λ ms. OfCount Points (length (q ∷ ps)) ∷ id_slots ids ++ ms) (points_ones (q ∷ ps)))
     (part_ids (one_heads d kind.Point (λ x. x ∷ [])) origin ids (q ∷ ps) rs above fit)
     (has_body ids q ps _) above
-simple_body style p (multi_line ids []) d es rs fit above = ap (λ at. rows_bytes style at es rs)
-    (sym (reached-id_slots origin ids []))
+simple_body style p (multi_line (Some ids) []) d es rs fit above = absurd (omega (arith, fit.0))
 simple_body style p (multi_line ids (ps ∷ lines)) d es rs fit above =
     parts_body style p (multi_line ids (ps ∷ lines)) d es rs Components (length (ps ∷ lines)) _ refl
     (part_ids (one_heads d kind.Linestring (λ x. x)) origin ids (ps ∷ lines) rs above fit)
     (has_body ids ps lines _) above
-simple_body style p (multi_polygon ids []) d es rs fit above = ap (λ at. rows_bytes style at es rs)
-    (sym (reached-id_slots origin ids []))
+simple_body style p (multi_polygon (Some ids) []) d es rs fit above = absurd (omega (arith, fit.0))
 simple_body style p (multi_polygon ids (rings ∷ areas)) d es rs fit above =
     let heads : Heads d (polygon_rows (suc d)) (λ id x. plain_row (suc d) kind.Polygon id [])
     (λ id x. ring_rows (suc (suc d)) x) = record {
