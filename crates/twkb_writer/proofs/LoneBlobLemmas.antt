@@ -95,8 +95,7 @@ pub line_bytes : (style : Style) (p : ℤ) (ps own_points : List Point) (own : �
     ≡ canonical_blob style (one_line p ps)
 line_bytes style p ps own_points own e fits count all found =
     (λ i. geometry_lead style p (found i) kind.Linestring 0 (count i) [] ++ way_bytes origin (all i))
-    ∙ sym (append-nil (geometry_lead style p (entry_of style (one_line p ps)) kind.Linestring 0 (length ps) []
-    ++ way_bytes origin ps))
+    ∙ sym (append-nil _)
     ∙ rows_spell style (one_line p ps) (fits, tt)
 
 -- the node's own points are all points

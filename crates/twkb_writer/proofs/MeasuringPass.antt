@@ -190,8 +190,7 @@ measured_one style rs node is one =
     let own = append-nil is.own in
     ap (measured style) is.here
     ∙ ap (λ (more : List Row). measured style (row_with node.row is.own ∷ more)) none
-    ∙ append-nil (option_list (row_entry style node.row.kind (length is.own) node.row.precision blank
-    (tail_of (is.own ++ []))))
+    ∙ append-nil _
     ∙ (λ i. option_list (row_entry style node.row.kind (is.count i) node.row.precision blank (tail_of (own i))))
 
 -- the entry of the only node is all sizes

@@ -219,8 +219,7 @@ part_two ps i end p q h e f =
 pub way_two : (at p q : Point) (ps : List Point)
     → way_bytes at (p ∷ q ∷ ps) ≡ (step_bytes (p.x -ℤ at.x, p.y -ℤ at.y)
     ++ step_bytes (q.x -ℤ p.x, q.y -ℤ p.y)) ++ way_bytes q ps
-way_two at p q ps = sym (append_assoc (step_bytes (p.x -ℤ at.x, p.y -ℤ at.y))
-    (step_bytes (q.x -ℤ p.x, q.y -ℤ p.y)) (way_bytes q ps))
+way_two at p q ps = sym (append_assoc _ _ (way_bytes q ps))
 
 -- no points are left
 pub nothing_left : (ps : List Point) (i end : ℕ) → end ≤ i → part ps i end ≡ []

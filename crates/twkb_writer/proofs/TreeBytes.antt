@@ -463,11 +463,10 @@ geometry_spelled : (style : Style) (g : Tree) (k : Kind) (p : ℤ) (id : Option 
     → rows_bytes style at (entry_of style g ∷ es) (whole_row d k id p own ∷ below) ≡ canonical_blob style g ++ t
 geometry_spelled style g k p id d own at es below t head put =
     let h = header style k p (length own) (entry_of style g) in
-    let counts = counts_of style g k d (length own) below in
-    let way = way_bytes origin own in
     let rest = rows_bytes style (way_end origin own) es below in
-    append_assoc (h ++ counts) way rest ∙ append_assoc h counts (way ++ rest) ∙ ap (λ l. h ++ l) put
-    ∙ sym (append_assoc h (own_body style g) t) ∙ ap (λ l. l ++ t) head
+    append_assoc (h ++ counts_of style g k d (length own) below) (way_bytes origin own) rest
+    ∙ append_assoc h _ _ ∙ ap (λ l. h ++ l) put ∙ sym (append_assoc h (own_body style g) t)
+    ∙ ap (λ l. l ++ t) head
 
 mutual
   -- the bytes of a geometry's rows are its canonical blob, and other rows go on from some point

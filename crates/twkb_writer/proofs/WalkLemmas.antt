@@ -230,8 +230,7 @@ rows_step style rows i node is at es =
     let rest = rest_is rows i node is in
     rw own
     (ap (rows_bytes style at es) is.here
-    ∙ append_assoc (lead style r.precision es r.kind r.depth (length is.own) is.rest)
-    (way_bytes from is.own) (rows_bytes style (way_end from is.own) left is.rest)
+    ∙ append_assoc _ (way_bytes from is.own) _
     ∙ (λ j. lead style r.precision es r.kind r.depth (is.count j) (rest j)
     ++ (way_bytes from is.own ++ rows_bytes style (way_end from is.own) left (rest j))))
 
