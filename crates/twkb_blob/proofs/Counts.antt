@@ -16,7 +16,7 @@ use Rattle.twkb_grammar.specs.Machine.{Frame, Phase, AtHeader, Finished, Sums, n
 use Rattle.twkb_grammar.specs.Machine.{role_at, Runs}
 use Rattle.twkb_grammar.specs.Reading as reading
 use Rattle.twkb_grammar.specs.Reading.{open_by, open_after, frame_count}
-use Rattle.twkb_grammar.proofs.Parts.{one_blob_lem, peel, runs_split, runs_same}
+use Rattle.twkb_grammar.proofs.Parts.{one_blob_lem, peel, run_on}
 use Rattle.twkb_grammar.proofs.Running.{part_ran, ran_part}
 use Rattle.twkb_grammar.proofs.OneFault.{Beyond, Compared, longer, shorter, same, two_fronts, part_front}
 use Rattle.twkb_grammar.proofs.OneFault.{none_beyond_fault}
@@ -56,12 +56,10 @@ open_at_end : (limits : Allowance) (before : List Item) (i : Item) (d : Option �
 open_at_end limits before i d came part is =
     let whole = part_ran limits (before ++ i ∷ []) part in
     let front = part_ran limits before (part_front limits before (i ∷ []) part) in
-    let s = runs_split before (i ∷ []) nothing started whole.0 whole.1.runs in
-    let frames : frame_count s.mid ≡ open_after 0 before =
-    ap frame_count (runs_same before nothing started s.mid front.0 s.front front.1.runs)
-    ∙ reached_frames limits (join before) (sums_after nothing before) front.0
-    (record { items = before; ran = front.1; sums = refl; spelled = refl }) in
-    subst (λ n. 0 < n) frames (frame_at_end (sums_after nothing before) s.mid.0 s.mid.1 i.role d came s.rest.0 is)
+    let next = run_on before (i ∷ []) front.0 whole.0 whole.1.runs front.1.runs in
+    subst (λ n. 0 < n) (reached_frames limits (join before) (sums_after nothing before) front.0
+    (record { items = before; ran = front.1; sums = refl; spelled = refl }))
+    (frame_at_end (sums_after nothing before) front.0.0 front.0.1 i.role d came next.0 is)
 
 -- one item more
 open_stage : (n a b : ℕ) (r : Role) → ((d : Option ℕ) (came : ℕ) → r ≡ End d came → 0 < n)

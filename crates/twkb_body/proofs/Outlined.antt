@@ -30,11 +30,11 @@ use Rattle.twkb_grammar.specs.Machine.{wanting, asked, with_option, members_begi
 use Rattle.twkb_grammar.specs.Machine.{within, WantY, BodyForm, depth_of, Sums, nothing, added, sums_after}
 use Rattle.twkb_grammar.specs.Machine.{started, stack_after, Runs, first_count, role_at}
 use Rattle.twkb_grammar.specs.Reading.{past_end, ends, Ran, Reached, Gives, Landed, Leads}
-use Rattle.twkb_grammar.specs.Fault.{Part, moved, Reason, Truncated, BadVarint, FirstFault, IsPart, IsCut, IsTooLong}
+use Rattle.twkb_grammar.specs.Fault.{moved, Reason, Truncated, BadVarint, FirstFault, IsPart, IsCut, IsTooLong}
 use Rattle.twkb_grammar.specs.Fault.{SizeMismatch}
 use Rattle.twkb_grammar.specs.Blob.{Blob}
 use Rattle.twkb_grammar.specs.Noting.{Notes, no_notes, noted, noted_by}
-use Rattle.twkb_grammar.proofs.Parts.{runs_split, runs_same}
+use Rattle.twkb_grammar.proofs.Parts.{run_on}
 use Rattle.twkb_grammar.proofs.Trees.{tree_runs}
 use Rattle.twkb_tree.proofs.AllJoined.{all_apart}
 use Rattle.twkb_grammar.proofs.Running.{ran_part, reached_nothing, reached_bytes, reached_on, landed, leads}
@@ -350,16 +350,12 @@ whole_rows l g v [] e = tt
 whole_rows l g v (r ∷ rs) e = (g, v, e)
 
 pub ran_valid : (l : Allowance) (is : List Item) (st : Stack) → Ran l is st → AreValidRowsOfOne l (rows_so_far st)
-ran_valid l is st r = go (ran_part l is st r)
-  where
-    go : Part l is → AreValidRowsOfOne l (rows_so_far st)
-    go part =
-        let s = runs_split is part.more nothing started ([], Finished part.tree)
-        (tree_runs part.tree [] nothing (is ++ part.more) part.valid.tree part.items) in
-        let same : s.mid ≡ st = runs_same is nothing started s.mid st s.front r.runs in
-        subst (λ m. AreValidRowsOfOne l (rows_so_far m)) same
-        (before_run l part.more (sums_after nothing is) s.mid ([], Finished part.tree) s.rest
-        (whole_rows l part.tree part.valid (rows 0 part.tree) refl))
+ran_valid l is st r =
+    let part = ran_part l is st r in
+    before_run l part.more (sums_after nothing is) st ([], Finished part.tree)
+    (run_on is part.more st ([], Finished part.tree)
+    (tree_runs part.tree [] nothing (is ++ part.more) part.valid.tree part.items) r.runs)
+    (whole_rows l part.tree part.valid (rows 0 part.tree) refl)
 
 -- the rows of a reader's state are valid
 pub reached_valid : (l : Allowance) (bytes : List ℕ) (e : Sums) (st : Stack) → Reached l bytes e st

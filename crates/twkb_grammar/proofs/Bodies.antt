@@ -616,9 +616,12 @@ framed_run k p own Body fs e is g fits f runs =
       (byte, omega (arith, kind_small k, small, low), omega (arith, kind_small k, low), refl),
       subst (λ ph. Runs e1 (fs, ph) (item (Metadata (kind_number k)) f.meta ∷ f.extended ++ (f.size
           ++ ((f.box ++ f.body) ++ end_item (declared f.size) (f.box ++ f.body) ∷ []))) (ended fs g))
-          (λ t. AtMetadata (kinds t) (precisions t))
-          (refl, (f.byte, refl), tail_run k p own Body fs (added e1 (item (Metadata (kind_number k)) f.meta)) is g f
-          runs refl),
+          (λ t. AtMetadata (kinds t) (precisions t)) (
+            refl,
+            (f.byte, refl),
+            tail_run k p own Body fs (added e1 (item (Metadata (kind_number k)) f.meta)) is g f
+                runs refl,
+          ),
     )
   where
     hb : ℕ

@@ -11,10 +11,10 @@ use Rattle.twkb_grammar.specs.Items.{Items}
 use Rattle.twkb_grammar.specs.Blob.{AreExact, Blob, BlobInFront}
 use Rattle.twkb_grammar.specs.Fault.{Reason, Part, Fault, Truncated, BadVarint, When, NumberFirst, Refused, IsCut}
 use Rattle.twkb_grammar.specs.Fault.{IsTooLong, FirstFault, SizeMismatch, IsPart}
-use Rattle.twkb_grammar.specs.Machine.{Finished, Sums, nothing, added, sums_after, Stack, started, role_at, stack_after}
+use Rattle.twkb_grammar.specs.Machine.{Finished, Sums, nothing, added, Stack, started, role_at, stack_after}
 use Rattle.twkb_grammar.specs.Machine.{Runs}
 use Rattle.twkb_grammar.specs.Reading.{Reached, Gives}
-use Rattle.twkb_grammar.proofs.Parts.{one_item, peel, runs_split, runs_same, front_runs}
+use Rattle.twkb_grammar.proofs.Parts.{one_item, peel, run_on, front_runs}
 use Rattle.twkb_grammar.proofs.Trees.{tree_runs}
 use Rattle.twkb_grammar.proofs.Running.{ran_part, part_ran}
 use Rattle.twkb_grammar.proofs.Frames.{item_some}
@@ -57,10 +57,8 @@ two_fronts (i ∷ is) (j ∷ js) e st last other x y r s eq =
 pub none_beyond : (is js : List Item) (g : Tree) (last : Stack)
     → Runs nothing started is ([], Finished g) → Runs nothing started js last → Beyond js is → ⊥
 none_beyond is js g last r s b =
-    let t = runs_split is (b.next ∷ b.more) nothing started last (subst (λ l. Runs nothing started l last) b.whole s) in
-    let z : None ≡ Some b.next.role = ap (λ x. role_at (sums_after nothing is) x)
-    (runs_same is nothing started ([], Finished g) t.mid r t.front) ∙ t.rest.0 in
-    absurd cc
+    let t = run_on is (b.next ∷ b.more) ([], Finished g) last (subst (λ l. Runs nothing started l last) b.whole s) r in
+    let z : None ≡ Some b.next.role = t.0 in absurd cc
 
 -- a prefix of exact items is exact
 pub exact_front : (is js : List Item) → AreExact (is ++ js) → AreExact is
@@ -263,11 +261,8 @@ no_size_wrong limits bytes more e st r no_end f = go
         → Runs nothing started (r.items ++ i ∷ is) last → NoEnd i.role
         × Spells i.role i.number i.bytes
     next_open i is last run =
-        let t = runs_split r.items (i ∷ is) nothing started last run in
-        let says : role_at (sums_after nothing r.items) st ≡ Some i.role =
-        ap (λ x. role_at (sums_after nothing r.items) x)
-        (runs_same r.items nothing started st t.mid r.ran.runs t.front) ∙ t.rest.0 in
-        (no_end i.role (ap (λ s. role_at s st) (sym r.sums) ∙ says), t.rest.1)
+        let t = run_on r.items (i ∷ is) st last run r.ran.runs in
+        (no_end i.role (ap (λ s. role_at s st) (sym r.sums) ∙ t.0), t.1)
 
     go : Compared r.items f.fault.before → ⊥
     go (longer n) = none_beyond_fault limits (bytes ++ more) (length bytes) SizeMismatch f.fault

@@ -292,31 +292,26 @@ runs_split (i ∷ xs) ys e st last r =
     let s = runs_split xs ys (added e i) (stack_after e i st) last r.2 in
     record { mid = s.mid; front = (r.0, r.1, s.front); rest = s.rest }
 
+-- a run through joined items goes on from where a run through the first of them ends
+pub run_on : (before more : List Item) (st last : Stack) → Runs nothing started (before ++ more) last
+    → Runs nothing started before st → Runs (sums_after nothing before) st more last
+run_on before more st last r s =
+    let t = runs_split before more nothing started last r in
+    subst (λ m. Runs (sums_after nothing before) m more last)
+    (runs_same before nothing started t.mid st t.front s) t.rest
+
 -- the next item of any geometry that begins with these items has the role that the machine says
 pub next_role : (before : List Item) (st : Stack) (role : Role) → Runs nothing started before st
     → role_at (sums_after nothing before) st ≡ Some role
     → (g : Tree) (more : List Item) → IsTree g → Items 0 g (before ++ more)
     → (i : Item) × (after : List Item) × (more ≡ i ∷ after) × (i.role ≡ role)
-next_role before st role r says g more fits items = go more s.rest
+next_role before st role r says g more fits items = go more (run_on before more st ([], Finished g)
+    (tree_runs g [] nothing (before ++ more) fits items) r)
   where
-    s : Split nothing started before more ([], Finished g)
-    s = runs_split before more nothing started ([], Finished g) (tree_runs g [] nothing (before ++ more) fits items)
-
-    same : s.mid ≡ st
-    same = runs_same before nothing started s.mid st s.front r
-
-    go : (more : List Item) → Runs (sums_after nothing before) s.mid more ([], Finished g)
+    go : (more : List Item) → Runs (sums_after nothing before) st more ([], Finished g)
         → (i : Item) × (after : List Item) × (more ≡ i ∷ after) × (i.role ≡ role)
-    go [] t =
-        let z : None ≡ Some role = ap (λ x. role_at (sums_after nothing before) x) (sym t ∙ same) ∙ says in
-        absurd cc
-    go (i ∷ after) t = (
-      i,
-      after,
-      refl,
-      some_role role i.role
-          (sym says ∙ (ap (λ x. role_at (sums_after nothing before) x) (sym same) ∙ t.0)),
-    )
+    go [] t = let z : None ≡ Some role = ap (λ x. role_at (sums_after nothing before) x) (sym t) ∙ says in absurd cc
+    go (i ∷ after) t = (i, after, refl, some_role role i.role (sym says ∙ t.0))
 
 -- the machine runs through a prefix of the items of a geometry
 pub front_runs : (before more : List Item) (g : Tree) → IsTree g → Items 0 g (before ++ more)

@@ -22,7 +22,7 @@ use Rattle.twkb_grammar.proofs.BodiesBack.{some_role}
 use Rattle.twkb_grammar.proofs.TreesBack.{kept_at}
 use Rattle.twkb_grammar.proofs.Trees.{tree_runs, tree_total, total, total_is, total-append}
 use Rattle.twkb_grammar.proofs.Keeping.{Kept-append, tree_keeps}
-use Rattle.twkb_grammar.proofs.Parts.{runs_split, runs_same, next_role, run_is_front, filler, filler_number}
+use Rattle.twkb_grammar.proofs.Parts.{run_on, next_role, run_is_front, filler, filler_number}
 use Rattle.twkb_grammar.proofs.Dead.{Allowed, no_reason}
 
 -- ==== A refusal of the machine is a fault, and a first fault if the items before it are a part.
@@ -41,12 +41,22 @@ allowed limits before i more g valid items = go i.role refl
     valid.tree (omega arith) items).1 (omega (arith, valid.nest_kept), valid.in_range))))
   where
     n : sum_by (λ j. nodes_by j.role j.number) before + nodes_by i.role i.number + 1 ≤ limits.nodes
-    n = omega (arith, valid.nodes_kept, (tree_total g 0 (before ++ i ∷ more) valid.tree items).0,
-        total-append nodes_by before (i ∷ more), total_is nodes_by before)
+    n = omega (
+      arith,
+      valid.nodes_kept,
+      (tree_total g 0 (before ++ i ∷ more) valid.tree items).0,
+      total-append nodes_by before (i ∷ more),
+      total_is nodes_by before,
+    )
 
     p : sum_by (λ j. points_by j.role j.number) before + points_by i.role i.number ≤ limits.points
-    p = omega (arith, valid.points_kept, (tree_total g 0 (before ++ i ∷ more) valid.tree items).1,
-        total-append points_by before (i ∷ more), total_is points_by before)
+    p = omega (
+      arith,
+      valid.points_kept,
+      (tree_total g 0 (before ++ i ∷ more) valid.tree items).1,
+      total-append points_by before (i ∷ more),
+      total_is points_by before,
+    )
 
     go : (r : Role) → i.role ≡ r → Here limits.nest (position before) r i.number → Allowed limits before r i.number
     go (Metadata k) e a = λ h. omega (arith, p, ap (λ r. points_by r i.number) e, one k i.number h)
@@ -74,13 +84,11 @@ pub dead : (limits : Allowance) (before : List Item) (rest : List ℕ) (st : Sta
 dead limits before rest st role reason r says refused i more e part =
     let items : Items 0 part.tree (before ++ i ∷ part.more) = subst (λ l. Items 0 part.tree l)
     (append_assoc before (i ∷ []) part.more) part.items in
-    let s = runs_split before (i ∷ part.more) nothing started ([], Finished part.tree)
-    (tree_runs part.tree [] nothing (before ++ i ∷ part.more) part.valid.tree items) in
-    let same = runs_same before nothing started s.mid st s.front r in
-    let is_role : i.role ≡ role = some_role role i.role
-    (sym says ∙ (ap (λ x. role_at (sums_after nothing before) x) (sym same) ∙ s.rest.0)) in
+    let t = run_on before (i ∷ part.more) st ([], Finished part.tree)
+    (tree_runs part.tree [] nothing (before ++ i ∷ part.more) part.valid.tree items) r in
+    let is_role : i.role ≡ role = some_role role i.role (sym says ∙ t.0) in
     let may = allowed limits before i part.more part.tree part.valid items in
-    no_reason limits before rest i.role reason i.number i.bytes more s.rest.1 e may
+    no_reason limits before rest i.role reason i.number i.bytes more t.1 e may
     (exact_last before i part.exact) (subst (λ x. Refused limits before rest x reason)
     (sym is_role) refused)
 

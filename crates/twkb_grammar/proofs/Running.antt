@@ -11,10 +11,10 @@ use Rattle.twkb_tree.specs.Limits.{Allowance, IsAllowance, IsValid}
 use Rattle.twkb_tree.specs.Tree.{Tree, collection}
 use Rattle.twkb_grammar.specs.Roles.{Role, Header, Metadata, Extended, Count, X, Y, End, Item, IsItem}
 use Rattle.twkb_grammar.specs.Roles.{join, IsNumber, Spells}
-use Rattle.twkb_grammar.specs.Fault.{Reason, TooDeep, TooManyNodes, TooManyPoints, announces_point, nodes_by, points_by}
-use Rattle.twkb_grammar.specs.Fault.{nodes_of, points_of, Part, FirstFault, Refused, announced_nodes, announced_points}
+use Rattle.twkb_grammar.specs.Fault.{Reason, TooDeep, announces_point, nodes_by, points_by}
+use Rattle.twkb_grammar.specs.Fault.{Part, FirstFault, Refused, announced_nodes, announced_points}
 use Rattle.twkb_grammar.specs.Fault.{position, Truncated, BadVarint, SizeMismatch, IsCut, IsTooLong}
-use Rattle.twkb_grammar.specs.PlainReader.{objection, unless, too_deep, is_exact}
+use Rattle.twkb_grammar.specs.PlainReader.{objection, unless, is_exact}
 use Rattle.twkb_grammar.specs.Machine.{Sums, Finished, nothing, added, sums_after, Stack, started, role_at}
 use Rattle.twkb_grammar.specs.Machine.{stack_after, Runs, Head, Frame, Phase, AtHeader, AtEnd, snoc, ended}
 use Rattle.twkb_grammar.specs.Blob.{IsExact, Blob}
@@ -22,7 +22,7 @@ use Rattle.twkb_grammar.specs.Reading.{Here, Kept, Ran, Reached, Gives, past_end
 use Rattle.twkb_grammar.proofs.Trees.{tree_runs, tree_total, total, total_is, total-append}
 use Rattle.twkb_grammar.proofs.Bodies.{Runs-append, bytes_after}
 use Rattle.twkb_grammar.proofs.TreesBack.{runs_are_items}
-use Rattle.twkb_grammar.proofs.Parts.{runs_split, runs_same}
+use Rattle.twkb_grammar.proofs.Parts.{runs_split, run_on}
 use Rattle.twkb_grammar.proofs.Dead.{Allowed}
 use Rattle.twkb_grammar.proofs.Refusing.{refusal_is_first, position_is, alive}
 use Rattle.twkb_grammar.proofs.Keeping.{Kept-append, kept_split, tree_keeps}
@@ -92,19 +92,14 @@ ran_part limits before st r = alive limits before st r.runs r.kept r.nodes_kept 
 -- a part that is complete is its geometry
 valid_tree : (limits : Allowance) (before : List Item) (g : Tree)
     → Runs nothing started before ([], Finished g) → Part limits before → IsValid limits g
-valid_tree limits before g runs part = subst (λ t. IsValid limits t) (sym (go part.more s.rest)) part.valid
+valid_tree limits before g runs part = subst (λ t. IsValid limits t) (sym (go part.more
+    (run_on before part.more ([], Finished g) ([], Finished part.tree)
+    (tree_runs part.tree [] nothing (before ++ part.more) part.valid.tree part.items) runs))) part.valid
   where
-    s : Rattle.twkb_grammar.proofs.Parts.Split nothing started before part.more ([], Finished part.tree)
-    s = runs_split before part.more nothing started ([], Finished part.tree)
-        (tree_runs part.tree [] nothing (before ++ part.more) part.valid.tree part.items)
-
-    same : s.mid ≡ ([], Finished g)
-    same = runs_same before nothing started s.mid ([], Finished g) s.front runs
-
-    go : (more : List Item) → Runs (sums_after nothing before) s.mid more ([], Finished part.tree) → g ≡ part.tree
-    go [] t = let z : Finished g ≡ Finished part.tree = ap (λ (x : Stack). x.1) (sym same ∙ t) in cc
-    go (i ∷ more) t = let z : None ≡ Some i.role = ap (λ x. role_at (sums_after nothing before) x)
-        (sym same) ∙ t.0 in absurd cc
+    go : (more : List Item) → Runs (sums_after nothing before) ([], Finished g) more ([], Finished part.tree)
+        → g ≡ part.tree
+    go [] t = let z : Finished g ≡ Finished part.tree = ap (λ (x : Stack). x.1) t in cc
+    go (i ∷ more) t = let z : None ≡ Some i.role = t.0 in absurd cc
 
 -- items run through to the end within the limits are a blob
 pub ran_blob : (limits : Allowance) (before : List Item) (g : Tree)

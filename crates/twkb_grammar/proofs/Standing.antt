@@ -14,14 +14,14 @@ use Rattle.twkb_grammar.specs.Machine.{first_count, phase_role, Phase}
 use Rattle.twkb_grammar.specs.Machine.{AtHeader, AtMetadata, AtOption, AtCount, AtId, AtBody, AtEnd, kind_number, Frame}
 use Rattle.twkb_grammar.specs.Machine.{added}
 use Rattle.twkb_grammar.specs.Reading.{Stands, IsSamePlace, frame_count}
-use Rattle.twkb_grammar.specs.Noting.{Notes, no_notes, note_header, note_metadata, noted_by, noted, note_byte}
+use Rattle.twkb_grammar.specs.Noting.{Notes, no_notes, noted_by, noted, note_byte}
 use Rattle.twkb_grammar.specs.Noting.{note_ends, note_ends_to, IsQuiet, IsCalm, notes_of}
 use Rattle.twkb_grammar.specs.Spans.{spans_of_blob}
 use Rattle.twkb_grammar.proofs.BodiesBack.{some_role, sums_after-append}
 use Rattle.twkb_grammar.proofs.Dead.{run_ends}
 use Rattle.twkb_grammar.proofs.Streams.{no_items}
 use Rattle.twkb_grammar.proofs.Trees.{tree_runs, tree_total, total}
-use Rattle.twkb_grammar.proofs.Parts.{runs_split, runs_same, Split, peel, one_blob_lem}
+use Rattle.twkb_grammar.proofs.Parts.{runs_same, run_on, peel, one_blob_lem}
 use Rattle.twkb_grammar.proofs.OneFault.{Beyond, Compared, longer, shorter, same, two_fronts, none_beyond, left_cancel}
 use Rattle.twkb_grammar.proofs.OneFault.{join-beyond}
 use Rattle.twkb_grammar.proofs.Running.{reached_nothing, role_behind, reached_bytes, reached_cut, reached_end}
@@ -55,12 +55,10 @@ module _ (limits : Allowance) (bytes : List ℕ) (gs : List Tree) (e : Sums) (st
   pub none_longer : (is : List Item) (last : Stack) (x : List ℕ) → Runs nothing started is last
       → join is ++ x ≡ s.middle ++ held → Beyond is s.reached.items → ⊥
   none_longer is last x r at b =
-      let t = runs_split s.reached.items (b.next ∷ b.more) nothing started last
-      (subst (λ l. Runs nothing started l last) b.whole r) in
-      let mid : t.mid ≡ st = runs_same s.reached.items nothing started t.mid st t.front s.reached.ran.runs in
+      let t = run_on s.reached.items (b.next ∷ b.more) st last (subst (λ l. Runs nothing started l last) b.whole r)
+      s.reached.ran.runs in
       let role : b.next.role ≡ s.role = some_role s.role b.next.role
-      (sym (role_behind limits s.middle e st s.role s.reached s.wants)
-      ∙ (ap (λ y. role_at (sums_after nothing s.reached.items) y) (sym mid) ∙ t.rest.0)) in
+      (sym (role_behind limits s.middle e st s.role s.reached s.wants) ∙ t.0) in
       let here : join s.reached.items ++ ((b.next.bytes ++ join b.more) ++ x) ≡ join s.reached.items ++ held =
       sym (append_assoc (join s.reached.items) (b.next.bytes ++ join b.more) x)
       ∙ (ap (λ l. l ++ x) (sym (join-beyond s.reached.items b.more b.next)
@@ -69,7 +67,7 @@ module _ (limits : Allowance) (bytes : List ℕ) (gs : List Tree) (e : Sums) (st
       sym (left_cancel (join s.reached.items) ((b.next.bytes ++ join b.more) ++ x) held here)
       ∙ append_assoc b.next.bytes (join b.more) x in
       no_item s.role b.next.number b.next.bytes (join b.more ++ x)
-      (subst (λ r. Spells r b.next.number b.next.bytes) role t.rest.1) s.spelled
+      (subst (λ r. Spells r b.next.number b.next.bytes) role t.1) s.spelled
       (subst (λ l. GoOn l) stands s.go_on) (subst (λ l. (l ≡ []) ⊎ IsNumber s.role) stands s.number)
 
   -- no blob is at the start of such bytes
@@ -288,9 +286,9 @@ module _ (limits : Allowance) (bytes : List ℕ) (gs : List Tree) (e : Sums) (st
       → Taken s.reached.items js held byte
   taken js su byte kept r at b = go (ended (join b.more ++ kept))
     where
-      t : Split nothing started s.reached.items (b.next ∷ b.more) su
-      t = runs_split s.reached.items (b.next ∷ b.more) nothing started su
-          (subst (λ l. Runs nothing started l su) b.whole r)
+      t : Runs (sums_after nothing s.reached.items) st (b.next ∷ b.more) su
+      t = run_on s.reached.items (b.next ∷ b.more) st su (subst (λ l. Runs nothing started l su) b.whole r)
+          s.reached.ran.runs
 
       here : b.next.bytes ++ (join b.more ++ kept) ≡ held ++ byte ∷ []
       here = left_cancel s.middle (b.next.bytes ++ (join b.more ++ kept)) (held ++ byte ∷ [])
@@ -305,7 +303,7 @@ module _ (limits : Allowance) (bytes : List ℕ) (gs : List Tree) (e : Sums) (st
         next = b.next;
         ends = b.more;
         whole = b.whole;
-        are_ends = ends_only b.more _ _ su t.rest.2 (none_front (join b.more) kept n);
+        are_ends = ends_only b.more _ _ su t.2 (none_front (join b.more) kept n);
         bytes = sym (append-nil b.next.bytes) ∙ (ap (λ l. b.next.bytes ++ l) (sym n) ∙ here);
       }
       go (has_last ys y n) =
@@ -318,24 +316,19 @@ module _ (limits : Allowance) (bytes : List ℕ) (gs : List Tree) (e : Sums) (st
           ∙ (ap (λ l. l ++ ((b.next.bytes ++ []) ++ ys)) s.reached.spelled
           ∙ ap (λ l. s.middle ++ l) (ap (λ l. l ++ ys) (append-nil b.next.bytes) ∙ whole))) in
           absurd (none_longer limits bytes gs e st held s (s.reached.items ++ b.next ∷ [])
-          (stack_after (sums_after nothing s.reached.items) b.next t.mid) ys
-          (Runs-append s.reached.items nothing started t.mid (b.next ∷ [])
-          (stack_after (sums_after nothing s.reached.items) b.next t.mid) t.front
-          (t.rest.0, t.rest.1, refl)) spelled
+          (stack_after (sums_after nothing s.reached.items) b.next st) ys
+          (Runs-append s.reached.items nothing started st (b.next ∷ [])
+          (stack_after (sums_after nothing s.reached.items) b.next st) s.reached.ran.runs
+          (t.0, t.1, refl)) spelled
           (record { next = b.next; more = []; whole = refl }))
 
   -- the role of the item taken
   pub taken_role : (js : List Item) (su : Stack) (byte : ℕ) → Runs nothing started js su
       → (t : Taken s.reached.items js held byte) → role_at e st ≡ Some t.next.role × IsItem t.next
   taken_role js su byte r t =
-      let p = runs_split s.reached.items (t.next ∷ t.ends) nothing started su
-      (subst (λ l. Runs nothing started l su) t.whole r) in
-      let mid : p.mid ≡ st = runs_same s.reached.items nothing started p.mid st p.front s.reached.ran.runs in (
-        subst (λ x. role_at x st ≡ Some t.next.role) s.reached.sums
-            (subst (λ x. role_at (sums_after nothing s.reached.items) x ≡ Some t.next.role) mid
-            p.rest.0),
-        p.rest.1,
-      )
+      let p = run_on s.reached.items (t.next ∷ t.ends) st su (subst (λ l. Runs nothing started l su) t.whole r)
+      s.reached.ran.runs in
+      (subst (λ x. role_at x st ≡ Some t.next.role) s.reached.sums p.0, p.1)
 
 -- ==== What one more byte adds to the notes of a reader.
 
