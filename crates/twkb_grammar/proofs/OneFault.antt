@@ -354,13 +354,11 @@ byte_gives Extended n is low = (low, refl)
 byte_gives _ n is low = absurd is
 
 pub number_gives : (r : Role) (n : ℕ) (bytes : List ℕ) → IsNumber r → IsVarint bytes n → Gives r n bytes
-number_gives Size n bytes is v = v
-number_gives Box n bytes is v = v
-number_gives (Count c) n bytes is v = v
-number_gives Id n bytes is v = v
-number_gives X n bytes is v = v
-number_gives Y n bytes is v = v
-number_gives _ n bytes is v = absurd is
+number_gives Header n bytes is v = absurd is
+number_gives (Metadata kind) n bytes is v = absurd is
+number_gives Extended n bytes is v = absurd is
+number_gives (End d c) n bytes is v = absurd is
+number_gives _ n bytes is v = v
 
 pub byte_no_end : (r : Role) → IsByteRole r → NoEnd r
 byte_no_end Header is = λ d c e. cc
@@ -369,10 +367,5 @@ byte_no_end Extended is = λ d c e. cc
 byte_no_end _ is = absurd is
 
 pub number_no_end : (r : Role) → IsNumber r → NoEnd r
-number_no_end Size is = λ d c e. cc
-number_no_end Box is = λ d c e. cc
-number_no_end (Count k) is = λ d c e. cc
-number_no_end Id is = λ d c e. cc
-number_no_end X is = λ d c e. cc
-number_no_end Y is = λ d c e. cc
-number_no_end _ is = absurd is
+number_no_end (End k m) is = absurd is
+number_no_end _ is = λ d c e. cc

@@ -14,6 +14,7 @@ use Rattle.twkb_grammar.specs.Roles.{join, IsNumber, Spells}
 use Rattle.twkb_grammar.specs.Fault.{Reason, TooDeep, announces_point, nodes_by, points_by}
 use Rattle.twkb_grammar.specs.Fault.{Part, FirstFault, Refused, announced_nodes, announced_points}
 use Rattle.twkb_grammar.specs.Fault.{position, Truncated, BadVarint, SizeMismatch, IsCut, IsTooLong}
+use Rattle.twkb_grammar.specs.Fault.{NumberFirst}
 use Rattle.twkb_grammar.specs.PlainReader.{objection, unless, is_exact}
 use Rattle.twkb_grammar.specs.Machine.{Sums, Finished, nothing, added, sums_after, Stack, started, role_at}
 use Rattle.twkb_grammar.specs.Machine.{stack_after, Runs, Head, Frame, Phase, AtHeader, AtEnd, snoc, ended}
@@ -254,37 +255,30 @@ reached_fault limits bytes e st rest role reason r says refused =
     (ran_fault limits r.items rest st role reason r.ran
     (role_behind limits bytes e st role r says) refused))
 
--- the bytes end inside a number
-cut_refused : (limits : Allowance) (before : List Item) (rest : List ℕ) (r : Role) → IsNumber r
-    → IsCut rest → Refused limits before rest r Truncated
-cut_refused limits before rest Header n c = absurd n
-cut_refused limits before rest (Metadata k) n c = absurd n
-cut_refused limits before rest Extended n c = absurd n
-cut_refused limits before rest (End d came) n c = absurd n
-cut_refused limits before rest _ n c = inl (c, refl)
+-- a reason of any number is one of a number in this role
+number_refused : (limits : Allowance) (before : List Item) (rest : List ℕ) (r : Role) (reason : Reason) → IsNumber r
+    → ((Others : Type 0) → NumberFirst reason rest Others) → Refused limits before rest r reason
+number_refused limits before rest Header reason n first = absurd n
+number_refused limits before rest (Metadata k) reason n first = absurd n
+number_refused limits before rest Extended reason n first = absurd n
+number_refused limits before rest (End d came) reason n first = absurd n
+number_refused limits before rest _ reason n first = first _
 
 -- bytes that end inside a number are truncated there, as the first fault
 pub reached_cut : (limits : Allowance) (bytes : List ℕ) (e : Sums) (st : Stack) (rest : List ℕ)
     (role : Role) → Reached limits bytes e st → role_at e st ≡ Some role
     → IsNumber role → IsCut rest → FirstFault limits (bytes ++ rest) e.bytes Truncated
 reached_cut limits bytes e st rest role r says n c = reached_fault limits bytes e st rest role
-    Truncated r says (cut_refused limits r.items rest role n c)
-
--- a number is too long
-long_refused : (limits : Allowance) (before : List Item) (rest : List ℕ) (r : Role) → IsNumber r
-    → IsTooLong rest → Refused limits before rest r BadVarint
-long_refused limits before rest Header n h = absurd n
-long_refused limits before rest (Metadata k) n h = absurd n
-long_refused limits before rest Extended n h = absurd n
-long_refused limits before rest (End d came) n h = absurd n
-long_refused limits before rest _ n h = inr (long_not_cut rest h, inl (h, refl))
+    Truncated r says (number_refused limits r.items rest role Truncated n
+    (λ Others. inl (c, refl)))
 
 -- a number that is too long is the first fault
 pub reached_long : (limits : Allowance) (bytes : List ℕ) (e : Sums) (st : Stack) (rest : List ℕ)
     (role : Role) → Reached limits bytes e st → role_at e st ≡ Some role
     → IsNumber role → IsTooLong rest → FirstFault limits (bytes ++ rest) e.bytes BadVarint
 reached_long limits bytes e st rest role r says n h = reached_fault limits bytes e st rest role
-    BadVarint r says (long_refused limits r.items rest role n h)
+    BadVarint r says (number_refused limits r.items rest role BadVarint n
+    (λ Others. inr (long_not_cut rest h, inl (h, refl))))
 
 -- bytes that end where an item with bytes is expected, and not at a blob's end
 end_refused : (limits : Allowance) (before : List Item) (r : Role) → before ≢ []

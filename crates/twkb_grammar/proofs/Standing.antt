@@ -19,7 +19,7 @@ use Rattle.twkb_grammar.specs.Noting.{note_ends, note_ends_to, IsQuiet, IsCalm, 
 use Rattle.twkb_grammar.specs.Spans.{spans_of_blob}
 use Rattle.twkb_grammar.proofs.BodiesBack.{some_role, sums_after-append}
 use Rattle.twkb_grammar.proofs.Dead.{run_ends}
-use Rattle.twkb_grammar.proofs.Streams.{no_items}
+use Rattle.twkb_grammar.proofs.Streams.{no_items, streams_same}
 use Rattle.twkb_grammar.proofs.Trees.{tree_runs, tree_total, total}
 use Rattle.twkb_grammar.proofs.Parts.{runs_same, run_on, peel, one_blob_lem}
 use Rattle.twkb_grammar.proofs.OneFault.{Beyond, Compared, longer, shorter, same, two_fronts, none_beyond, left_cancel}
@@ -121,50 +121,18 @@ same_place limits bytes other gs hs e f st su held kept s t at =
       bytes = peel (join s.reached.items) (join t.reached.items) held kept (ap join i) there;
     }
 
--- two cuts into blobs, with the states after them, are the same
-one_cut : (limits : Allowance) (a b bytes other : List ℕ) (gs hs ks ls : List Tree) (e f : Sums)
-    (st su : Stack) (held kept : List ℕ) (s : Stands limits bytes ks e st held)
-    (t : Stands limits other ls f su kept)
-    → Stream limits a gs → Stream limits b hs → a ++ (s.middle ++ held) ≡ b ++ (t.middle ++ kept)
-    → IsSamePlace gs hs e f st su held kept
-one_cut limits a b bytes other [] [] ks ls e f st su held kept s t u v at =
-    same_place limits bytes other ks ls e f st su held kept s t
-    (ap (λ l. l ++ (s.middle ++ held)) (sym u) ∙ (at ∙ ap (λ l. l ++ (t.middle ++ kept)) v))
-one_cut limits a b bytes other [] (h ∷ hs) ks ls e f st su held kept s t u v at =
-    let whole : v.0 ++ (v.1 ++ (t.middle ++ kept)) ≡ s.middle ++ held =
-    sym (append_assoc v.0 v.1 (t.middle ++ kept))
-    ∙ (ap (λ l. l ++ (t.middle ++ kept)) (sym v.2)
-    ∙ (sym at ∙ ap (λ l. l ++ (s.middle ++ held)) u)) in
-    absurd (none_whole limits bytes ks e st held s h v.0 (v.1 ++ (t.middle ++ kept)) v.3 whole)
-one_cut limits a b bytes other (g ∷ gs) [] ks ls e f st su held kept s t u v at =
-    let whole : u.0 ++ (u.1 ++ (s.middle ++ held)) ≡ t.middle ++ kept =
-    sym (append_assoc u.0 u.1 (s.middle ++ held))
-    ∙ (ap (λ l. l ++ (s.middle ++ held)) (sym u.2)
-    ∙ (at ∙ ap (λ l. l ++ (t.middle ++ kept)) v)) in
-    absurd (none_whole limits other ls f su kept t g u.0 (u.1 ++ (s.middle ++ held)) u.3 whole)
-one_cut limits a b bytes other (g ∷ gs) (h ∷ hs) ks ls e f st su held kept s t u v at =
-    let whole : u.0 ++ (u.1 ++ (s.middle ++ held)) ≡ v.0 ++ (v.1 ++ (t.middle ++ kept)) =
-    sym (append_assoc u.0 u.1 (s.middle ++ held))
-    ∙ (ap (λ l. l ++ (s.middle ++ held)) (sym u.2)
-    ∙ (at ∙ (ap (λ l. l ++ (t.middle ++ kept)) v.2 ∙ append_assoc v.0 v.1 (t.middle ++ kept))))
-    in
-    let one = one_blob_lem limits u.0 v.0 (u.1 ++ (s.middle ++ held)) (v.1 ++ (t.middle ++ kept)) g h u.3 v.3 whole in
-    let tail = peel u.0 v.0 (u.1 ++ (s.middle ++ held)) (v.1 ++ (t.middle ++ kept)) one.1 whole in
-    let rest = one_cut limits u.1 v.1 bytes other gs hs ks ls e f st su held kept s t u.4 v.4 tail in
-    record {
-      geometries = ap (λ c. c ∷ gs) one.0 ∙ ap (λ l. h ∷ l) rest.geometries;
-      sums = rest.sums;
-      stack = rest.stack;
-      bytes = rest.bytes;
-    }
-
 -- the bytes determine the state of a reader
 pub one_place : (limits : Allowance) (bytes : List ℕ) (gs hs : List Tree) (e f : Sums)
     (st su : Stack) (held kept : List ℕ) → Stands limits bytes gs e st held
     → Stands limits bytes hs f su kept → IsSamePlace gs hs e f st su held kept
 one_place limits bytes gs hs e f st su held kept s t =
-    one_cut limits s.front t.front bytes bytes gs hs gs hs e f st su held kept s t s.blobs t.blobs
-    (sym s.whole ∙ t.whole)
+    let at : s.front ++ (s.middle ++ held) ≡ t.front ++ (t.middle ++ kept) = sym s.whole ∙ t.whole in
+    let cut = streams_same limits s.front t.front (s.middle ++ held) (t.middle ++ kept) gs hs s.blobs t.blobs
+    (λ g front x. none_whole limits bytes gs e st held s g front x)
+    (λ g front x. none_whole limits bytes hs f su kept t g front x) at in
+    let same = same_place limits bytes bytes gs hs e f st su held kept s t
+    (peel s.front t.front (s.middle ++ held) (t.middle ++ kept) cut.1 at) in
+    record { geometries = cut.0; sums = same.sums; stack = same.stack; bytes = same.bytes }
 
 -- before the first item no byte is held
 none_held : (limits : Allowance) (bytes : List ℕ) (gs : List Tree) (e : Sums) (st : Stack)

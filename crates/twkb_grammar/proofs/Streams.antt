@@ -151,29 +151,36 @@ no_stream limits bytes rest gs hs offset reason s f t = let r = behind_stream li
     go [] e = no_fault_of_nothing limits rest offset reason f e
     go (k ∷ ks) u = no_fault limits rest u.1 k offset reason (record { front = u.0; whole = u.2; blob = u.3 }) f
 
--- two streams, each before a first fault of the same bytes, are the same
-pub same_front : (limits : Allowance) (a b x y : List ℕ) (gs hs : List Tree) (o p : ℕ) (r q : Reason)
-    → Stream limits a gs → Stream limits b hs → FirstFault limits x o r → FirstFault limits y p q
-    → a ++ x ≡ b ++ y → (gs ≡ hs) × (a ≡ b)
-same_front limits a b x y [] [] o p r q s t f k e = (refl, s ∙ sym t)
-same_front limits a b x y [] (h ∷ hs) o p r q s t f k e =
-    let whole : x ≡ t.0 ++ (t.1 ++ y) = ap (λ l. l ++ x) (sym s)
-    ∙ (e ∙ (ap (λ l. l ++ y) t.2 ∙ append_assoc t.0 t.1 y)) in
-    absurd (no_fault limits x (t.1 ++ y) h o r (record { front = t.0; whole = whole; blob = t.3 }) f.fault)
-same_front limits a b x y (g ∷ gs) [] o p r q s t f k e =
-    let whole : y ≡ s.0 ++ (s.1 ++ x) = ap (λ l. l ++ y) (sym t)
-    ∙ (sym e ∙ (ap (λ l. l ++ x) s.2 ∙ append_assoc s.0 s.1 x)) in
-    absurd (no_fault limits y (s.1 ++ x) g p q (record { front = s.0; whole = whole; blob = s.3 }) k.fault)
-same_front limits a b x y (g ∷ gs) (h ∷ hs) o p r q s t f k e =
+-- no blob is at the start of these bytes
+abbrev pub NoBlob : Allowance → List ℕ → Type 0
+NoBlob limits bytes = (g : Tree) (front rest : List ℕ) → Blob limits front g → front ++ rest ≡ bytes → ⊥
+
+-- two streams at the start of the same bytes, each as far as blobs go, are the same
+pub streams_same : (limits : Allowance) (a b x y : List ℕ) (gs hs : List Tree) → Stream limits a gs
+    → Stream limits b hs → NoBlob limits x → NoBlob limits y → a ++ x ≡ b ++ y → (gs ≡ hs) × (a ≡ b)
+streams_same limits a b x y [] [] s t m n e = (refl, s ∙ sym t)
+streams_same limits a b x y [] (h ∷ hs) s t m n e =
+    absurd (m h t.0 (t.1 ++ y) t.3 (sym (append_assoc t.0 t.1 y) ∙ (ap (λ l. l ++ y) (sym t.2)
+    ∙ (sym e ∙ ap (λ l. l ++ x) s))))
+streams_same limits a b x y (g ∷ gs) [] s t m n e =
+    absurd (n g s.0 (s.1 ++ x) s.3 (sym (append_assoc s.0 s.1 x) ∙ (ap (λ l. l ++ x) (sym s.2)
+    ∙ (e ∙ ap (λ l. l ++ y) t))))
+streams_same limits a b x y (g ∷ gs) (h ∷ hs) s t m n e =
     let whole : s.0 ++ (s.1 ++ x) ≡ t.0 ++ (t.1 ++ y) = sym (append_assoc s.0 s.1 x)
     ∙ (ap (λ l. l ++ x) (sym s.2) ∙ (e ∙ (ap (λ l. l ++ y) t.2 ∙ append_assoc t.0 t.1 y))) in
     let one = one_blob_lem limits s.0 t.0 (s.1 ++ x) (t.1 ++ y) g h s.3 t.3 whole in
     let tail = peel s.0 t.0 (s.1 ++ x) (t.1 ++ y) one.1 whole in
-    let rest = same_front limits s.1 t.1 x y gs hs o p r q s.4 t.4 f k tail in (
-      ap (λ c. c ∷ gs) one.0 ∙ ap (λ l. h ∷ l) rest.0,
-      s.2
-          ∙ (ap (λ l. l ++ s.1) one.1 ∙ (ap (λ l. t.0 ++ l) rest.1 ∙ sym t.2)),
-    )
+    let rest = streams_same limits s.1 t.1 x y gs hs s.4 t.4 m n tail in
+    ((λ k. one.0 k ∷ rest.0 k), s.2 ∙ ((λ k. one.1 k ++ rest.1 k) ∙ sym t.2))
+
+-- two streams, each before a first fault of the same bytes, are the same
+pub same_front : (limits : Allowance) (a b x y : List ℕ) (gs hs : List Tree) (o p : ℕ) (r q : Reason)
+    → Stream limits a gs → Stream limits b hs → FirstFault limits x o r → FirstFault limits y p q
+    → a ++ x ≡ b ++ y → (gs ≡ hs) × (a ≡ b)
+same_front limits a b x y gs hs o p r q s t f k e = streams_same limits a b x y gs hs s t
+    (λ g front rest blob at. no_fault limits x rest g o r (record { front = front; whole = sym at; blob = blob }) f.fault)
+    (λ g front rest blob at. no_fault limits y rest g p q (record { front = front; whole = sym at; blob = blob }) k.fault)
+    e
 
 -- a stream's first fault is unique, and so are the geometries before it
 pub one_stream_fault : (limits : Allowance) (bytes : List ℕ) (gs hs : List Tree) (o p : ℕ)
