@@ -98,56 +98,49 @@ body_keeps most p (OfPoint q ∷ ps) (i ∷ j ∷ is) e are here =
     ∙ (λ t. IsCoordinate (forth p.x q.x t) × (IsCoordinate (forth p.y q.y t) × SlotsKept most ps))
 body_keeps most p _ _ e are here = absurd are
 
--- none of the slots is a count of geometries
-abbrev Plain : List Slot → Type 0
-Plain [] = ⊤
-Plain (OfCount (Geometries l) n ∷ ps) = ⊥
-Plain (_ ∷ ps) = Plain ps
+-- the slot is not a count of geometries
+abbrev IsPlain : Slot → Type 0
+IsPlain (OfCount (Geometries l) n) = ⊥
+IsPlain _ = ⊤
 
-plain_fit : (most : ℕ) (ps : List Slot) → Plain ps → AllByRecursion IsInRange (slot_points ps) → SlotsKept most ps
-plain_fit most [] plain all = tt
-plain_fit most (OfCount (Geometries l) n ∷ ps) plain all = absurd plain
-plain_fit most (OfCount _ n ∷ ps) plain all = (λ h. absurd h, plain_fit most ps plain all)
-plain_fit most (OfId id ∷ ps) plain all = (tt, plain_fit most ps plain all)
-plain_fit most (OfPoint q ∷ ps) plain all = (all.0.0, (all.0.1, plain_fit most ps plain all.1))
+plain_kept : (most : ℕ) (ps : List Slot) → AllByRecursion IsPlain ps → AllByRecursion IsInRange (slot_points ps)
+    → SlotsKept most ps
+plain_kept most [] plain all = tt
+plain_kept most (OfCount (Geometries l) n ∷ ps) plain all = absurd plain.0
+plain_kept most (OfCount _ n ∷ ps) plain all = (λ h. absurd h, plain_kept most ps plain.1 all)
+plain_kept most (OfId id ∷ ps) plain all = (tt, plain_kept most ps plain.1 all)
+plain_kept most (OfPoint q ∷ ps) plain all = (all.0.0, (all.0.1, plain_kept most ps plain.1 all.1))
 
-plain_points : (ps : List Point) (qs : List Slot) → Plain qs → Plain (map OfPoint ps ++ qs)
-plain_points [] qs h = h
-plain_points (p ∷ ps) qs h = plain_points ps qs h
+plain_points : (ps : List Point) → AllByRecursion IsPlain (map OfPoint ps)
+plain_points [] = tt
+plain_points (p ∷ ps) = (tt, plain_points ps)
 
-plain_runs : (ls : List (List Point)) (qs : List Slot) → Plain qs → Plain (flat_map run_of ls ++ qs)
-plain_runs [] qs h = h
-plain_runs (ps ∷ ls) qs h = subst (λ l. Plain l)
-    (sym (append_assoc (run_of ps) (flat_map run_of ls) qs))
-    (plain_points ps (flat_map run_of ls ++ qs) (plain_runs ls qs h))
+plain_runs : (ls : List (List Point)) → AllByRecursion IsPlain (flat_map run_of ls)
+plain_runs [] = tt
+plain_runs (ps ∷ ls) = (tt, all_join IsPlain (map OfPoint ps) (flat_map run_of ls) (plain_points ps) (plain_runs ls))
 
-plain_areas : (areas : List (List (List Point))) (qs : List Slot) → Plain qs → Plain (flat_map rings_of areas ++ qs)
-plain_areas [] qs h = h
-plain_areas (ls ∷ areas) qs h = subst (λ l. Plain l)
-    (sym (append_assoc (rings_of ls) (flat_map rings_of areas) qs))
-    (plain_runs ls (flat_map rings_of areas ++ qs) (plain_areas areas qs h))
+plain_areas : (areas : List (List (List Point))) → AllByRecursion IsPlain (flat_map rings_of areas)
+plain_areas [] = tt
+plain_areas (ls ∷ areas) =
+    (tt, all_join IsPlain (flat_map run_of ls) (flat_map rings_of areas) (plain_runs ls) (plain_areas areas))
 
-plain_ids : (ids : List ℤ) (qs : List Slot) → Plain qs → Plain (map OfId ids ++ qs)
-plain_ids [] qs h = h
-plain_ids (id ∷ ids) qs h = plain_ids ids qs h
+plain_ids : (ids : List ℤ) → AllByRecursion IsPlain (map OfId ids)
+plain_ids [] = tt
+plain_ids (id ∷ ids) = (tt, plain_ids ids)
 
--- the slots of ids have no count of geometries
-plain_names : (ids : Ids) (qs : List Slot) → Plain qs → Plain (id_slots ids ++ qs)
-plain_names None qs h = h
-plain_names (Some ids) qs h = plain_ids ids qs h
+plain_names : (ids : Ids) → AllByRecursion IsPlain (id_slots ids)
+plain_names None = tt
+plain_names (Some ids) = plain_ids ids
 
 -- the slots of a simple shape have no count of geometries
-plain_shape : (s : Simple) → Plain (slots s)
+plain_shape : (s : Simple) → AllByRecursion IsPlain (slots s)
 plain_shape (point None) = tt
-plain_shape (point (Some q)) = tt
-plain_shape (line ps) = subst (λ l. Plain l) (append-nil (map OfPoint ps)) (plain_points ps [] tt)
-plain_shape (polygon ls) = subst (λ l. Plain l) (append-nil (flat_map run_of ls)) (plain_runs ls [] tt)
-plain_shape (multi_point ids ps) = plain_names ids (map OfPoint ps)
-    (subst (λ l. Plain l) (append-nil (map OfPoint ps)) (plain_points ps [] tt))
-plain_shape (multi_line ids ls) = plain_names ids (flat_map run_of ls)
-    (subst (λ l. Plain l) (append-nil (flat_map run_of ls)) (plain_runs ls [] tt))
-plain_shape (multi_polygon ids areas) = plain_names ids (flat_map rings_of areas)
-    (subst (λ l. Plain l) (append-nil (flat_map rings_of areas)) (plain_areas areas [] tt))
+plain_shape (point (Some q)) = (tt, tt)
+plain_shape (line ps) = (tt, plain_points ps)
+plain_shape (polygon ls) = (tt, plain_runs ls)
+plain_shape (multi_point ids ps) = (tt, all_join IsPlain (id_slots ids) _ (plain_names ids) (plain_points ps))
+plain_shape (multi_line ids ls) = (tt, all_join IsPlain (id_slots ids) _ (plain_names ids) (plain_runs ls))
+plain_shape (multi_polygon ids areas) = (tt, all_join IsPlain (id_slots ids) _ (plain_names ids) (plain_areas areas))
 
 all_slots : (most : ℕ) (ps : List Slot) → SlotsKept most ps → AllByRecursion IsInRange (slot_points ps)
 all_slots most [] k = tt
@@ -172,7 +165,7 @@ simple_keeps most s p meta body e fit agrees true bare is here = (
 simple_keeps most s p meta body e fit agrees false full is here =
     let same = body_keeps most origin (slots s) body e (subst (λ fs. AreFields fs body) (fields_are s) is) here in (
       (λ k. subst (λ l. AllByRecursion IsInRange l) (points_are s) (all_slots most (slots s) (subst (λ T. T) same k))),
-      (λ all. subst (λ T. T) (sym same) (plain_fit most (slots s) (plain_shape s)
+      (λ all. subst (λ T. T) (sym same) (plain_kept most (slots s) (plain_shape s)
           (subst (λ l. AllByRecursion IsInRange l) (sym (points_are s)) all))),
     )
 

@@ -167,13 +167,18 @@ left_out (multi_polygon None (q ∷ qs)) p meta fit agrees bare = absurd (false�
 left_out (multi_polygon (Some ids) (q ∷ qs)) p meta fit agrees bare = absurd (false≢true (sym agrees.0 ∙ bare))
 left_out _ p meta fit agrees bare = refl
 
+bare_body : (k : Kind) (p : ℤ) (fs : List Frame) (meta : ℕ) (body : List Item) (g : Tree) → bit meta 4 ≡ true
+    → body ≡ [] → empty_of k p ≡ g → RunsBody k p fs meta body g
+bare_body k p fs meta body g bare none same e size from here =
+    let h : Head = head p meta size from in
+    subst (λ is. Runs e (fs, wanting k h []) is (fs, AtEnd h g)) (sym none) (rw bare (ap (λ g. (fs, AtEnd h g)) same))
+
 simple_body : (s : Simple) (p : ℤ) (fs : List Frame) (meta : ℕ) (body : List Item) → IdsFit s → Agrees (flags s) meta
     → (b : Bool) → bit meta 4 ≡ b → BodyAt b (AreFields (fields s)) body
     → RunsBody (SimpleKind (form_of s)) p fs meta body (simple p s)
 simple_body s p fs meta body fit agrees true bare body_is e size from here =
-    let h : Head = head p meta size from in
-    subst (λ is. Runs e (fs, wanting (SimpleKind (form_of s)) h []) is (fs, AtEnd h (simple p s))) (sym body_is)
-    (rw bare (ap (λ g. (fs, AtEnd h g)) (left_out s p meta fit agrees bare)))
+    bare_body (SimpleKind (form_of s)) p fs meta body (simple p s) bare body_is (left_out s p meta fit agrees bare) e size
+    from here
 simple_body s p fs meta body fit agrees false full body_is e size from here =
     let h : Head = head p meta size from in
     rw full (shape_run h fs s fit agrees full e body here
@@ -253,9 +258,8 @@ collection_body : (p : ℤ) (ids : Ids) (gs : Trees) (fs : List Frame) (meta : �
     (ItemsOfAll (suc (length fs)) gs)) body
     → RunsBody CollectionKind p fs meta body (collection p ids gs)
 collection_body p ids gs fs meta body fit agrees each true bare body_is e size from here =
-    let h : Head = head p meta size from in
-    subst (λ is. Runs e (fs, wanting CollectionKind h []) is (fs, AtEnd h (collection p ids gs))) (sym body_is)
-    (rw bare (ap (λ g. (fs, AtEnd h g)) (empty_collection ids gs p meta fit agrees bare)))
+    bare_body CollectionKind p fs meta body (collection p ids gs) bare body_is
+    (empty_collection ids gs p meta fit agrees bare) e size from here
 collection_body p ids gs fs meta body fit agrees each false full body_is e size from here =
     let h : Head = head p meta size from in
     let mid : Stack = members_begin ManyGeometries h fs ids (count gs) in
