@@ -12,11 +12,11 @@ use Rattle.twkb_tree.specs.Limits.{Allowance}
 use Rattle.twkb_grammar.specs.Roles.{Role, End, Item, join}
 use Rattle.twkb_grammar.specs.Blob.{Stream}
 use Rattle.twkb_grammar.specs.Fault.{Part, FirstFault, StreamFault, Truncated}
-use Rattle.twkb_grammar.specs.Machine.{Frame, Phase, AtHeader, Finished, Sums, nothing, sums_after, Stack, started}
-use Rattle.twkb_grammar.specs.Machine.{role_at, Runs}
+use Rattle.twkb_grammar.specs.Machine.{Frame, Phase, AtHeader, Finished, Sums, nothing, sums_after, started}
+use Rattle.twkb_grammar.specs.Machine.{role_at}
 use Rattle.twkb_grammar.specs.Reading as reading
 use Rattle.twkb_grammar.specs.Reading.{open_by, open_after, frame_count}
-use Rattle.twkb_grammar.proofs.Parts.{one_blob_lem, peel, run_on}
+use Rattle.twkb_grammar.proofs.Parts.{peel, run_on}
 use Rattle.twkb_grammar.proofs.Running.{part_ran, ran_part}
 use Rattle.twkb_grammar.proofs.OneFault.{Beyond, Compared, longer, shorter, same, two_fronts, part_front}
 use Rattle.twkb_grammar.proofs.OneFault.{none_beyond_fault}

@@ -35,7 +35,7 @@ use Rattle.twkb_engine.specs.State.{allowance_of}
 use Rattle.twkb_engine.specs.Stops.{Stop, reason_of}
 use Rattle.twkb_engine.proofs.Feeds.{count_is}
 use Rattle.twkb_blob.specs.Faults.{fault_of}
-use Rattle.twkb_blob.specs.Feeding.{Feeds, EndsAt, Goes, IsCutAt, Reads, ReadsBlob, ReadsNoBlob, Turns}
+use Rattle.twkb_blob.specs.Feeding.{FedPiece, Feeds, EndsAt, Goes, IsCutAt, Reads, ReadsBlob, ReadsNoBlob, Turns}
 use Rattle.twkb_blob.specs.Readers.{AreCutOff, HasNone, Left, failed_by_read, told_by}
 use Rattle.twkb_blob.specs.declared.fault.BlobFault.TheVariants.{Device}
 use Rattle.twkb_blob.specs.declared.fault.BlobFault.TheVariants as fault
@@ -152,27 +152,18 @@ module _ {S : Type 0} {holds : S → Notes → Type 0} {d e : Engine} {rs more :
         unread = refl;
       }
 
+  halted : (why : BlobFault) → e.limits ≡ d.limits → FedPiece holds d rs old piece (Err why) e more new
+      → failed_by_read {A = ℕ × Bool} (Err why) ≡ false → Feeds holds d rs old piece (Err why) e more new
+  halted why limits fed unread =
+      record { limits = limits; fed = fed; within = tt; all = tt; few = tt; alive = tt; unread = unread }
+
   -- the engine stopped
   pub stopped : {place : ℕ} (count : ℕ) (stop : Stop) → IsAnswer holds d rs old (take count piece) (Err stop) e more new
       → place ≡ d.start + offset_in e → Feeds holds d rs old piece (Err (fault_of place stop)) e more new
-  stopped count Memory f at = record {
-    limits = f.limits;
-    fed = piece_fed holds d e rs more old new piece count (Err Memory) f.fed;
-    within = tt;
-    all = tt;
-    few = tt;
-    alive = tt;
-    unread = refl;
-  }
-  stopped count (Refused why) f at = record {
-    limits = f.limits;
-    fed = (piece_fed holds d e rs more old new piece count (Err (Refused why)) f.fed, at);
-    within = tt;
-    all = tt;
-    few = tt;
-    alive = tt;
-    unread = refl;
-  }
+  stopped count Memory f at =
+      halted fault.Memory f.limits (piece_fed holds d e rs more old new piece count (Err Memory) f.fed) refl
+  stopped {place} count (Refused why) f at = halted (fault.At place why) f.limits
+      (piece_fed holds d e rs more old new piece count (Err (Refused why)) f.fed, at) refl
 
   -- the stream has no room for all of the piece
   pub too_far : (used count : ℕ) (ends : Bool) → ends ≡ false
@@ -182,23 +173,15 @@ module _ {S : Type 0} {holds : S → Notes → Type 0} {d e : Engine} {rs more :
       → ((bs : List ℕ) (rs : List Row) → StandsAt bs rs e → AreCutOff (allowance_of e) bs)
       → Feeds holds d rs old piece (Err (fault.Device TooLong)) e more new
   too_far used count true off all fed full less limits cut = absurd cc
-  too_far used count false off all fed full less limits cut = record {
-    limits = limits;
-    fed = (
-      refl,
-      omega (arith, full, less),
-      λ bs s. let room : count ≡ MAX_BYTES - (d.start + count_of d) = omega (arith, full) in
-          let whole : take used (take count piece) ≡ take (MAX_BYTES - (d.start + count_of d)) piece =
-          ap (λ n. take n (take count piece)) all ∙ take-length (take count piece) ∙ ap (λ n. take n piece) room in
-          subst (λ l. AreCutOff l (bs ++ take (MAX_BYTES - (d.start + count_of d)) piece)) limits
-          (cut _ more (subst (λ l. StandsAt (bs ++ l) more e) whole (fed bs s).2)),
-    );
-    within = tt;
-    all = tt;
-    few = tt;
-    alive = tt;
-    unread = refl;
-  }
+  too_far used count false off all fed full less limits cut = halted (fault.Device TooLong) limits (
+    refl,
+    omega (arith, full, less),
+    λ bs s. let room : count ≡ MAX_BYTES - (d.start + count_of d) = omega (arith, full) in
+        let whole : take used (take count piece) ≡ take (MAX_BYTES - (d.start + count_of d)) piece =
+        ap (λ n. take n (take count piece)) all ∙ take-length (take count piece) ∙ ap (λ n. take n piece) room in
+        subst (λ l. AreCutOff l (bs ++ take (MAX_BYTES - (d.start + count_of d)) piece)) limits
+        (cut _ more (subst (λ l. StandsAt (bs ++ l) more e) whole (fed bs s).2)),
+  ) refl
 
   -- it is one byte, which was used
   pub byte_feeds : {byte : ℕ} (ends : Bool) → e.limits ≡ d.limits → length piece ≡ 1 → byte ≡ get_or piece 0 0

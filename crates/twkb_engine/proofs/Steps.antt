@@ -18,7 +18,7 @@ use Rattle.twkb_grammar.specs.Blob.{Blob}
 use Rattle.twkb_grammar.specs.Fault.{Reason, SizeMismatch, points_by}
 use Rattle.twkb_grammar.specs.PlainReader.{is_exact, unless}
 use Rattle.twkb_grammar.specs.Machine.{Head, Frame, Phase, AtBody, Finished, Want, Sums, nothing, added}
-use Rattle.twkb_grammar.specs.Machine.{kind_number, first_count, listed, Stack, Runs, started, sums_after}
+use Rattle.twkb_grammar.specs.Machine.{kind_number, first_count, listed, Runs, started, sums_after}
 use Rattle.twkb_grammar.specs.Reading.{Ran, Reached, Gives}
 use Rattle.twkb_grammar.specs.Noting.{Notes, no_notes, noted, note_end, note_ends, note_ends_to, IsQuiet}
 use Rattle.twkb_grammar.specs.Spans.{spans_of_blob}
@@ -31,7 +31,6 @@ use Rattle.twkb_grammar.proofs.NotedSpans.{blob_noted, quiet, all_open, ends_to}
 use Rattle.twkb_grammar.proofs.Frames.{reached_frames}
 use Rattle.twkb_grammar.proofs.Running.{ran_blob}
 use Rattle.twkb_grammar.proofs.TreesBack.{runs_are_items}
-use Rattle.twkb_grammar.proofs.Streams.{first_item}
 use Rattle.twkb_body.specs.Outline.{Outline, FrameOutline, frame_outline, Stage, OnEnd, OnFinished, stage_of}
 use Rattle.twkb_body.specs.Outline.{stage_role, outline_ended, outline_past_end, outline_ends, OnHeader, outline_of}
 use Rattle.twkb_body.specs.Reading.{Outlined, open_count, OutlineLanded}
