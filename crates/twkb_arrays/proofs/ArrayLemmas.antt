@@ -100,9 +100,9 @@ few_points rs n = omega (
 )
 
 -- the points of the next row are within the array
-pub points_left : {rs : List Row} {i first : ℕ} {in_rows : List BufferRow} {in_points : List BufferPoint}
-    {r : Row} → IsWritten rs i first in_rows in_points → slice_get rs i ≡ Some r
-    → first + length r.points ≤ length in_points
+pub points_left : {rs : List Row} {i first : ℕ} {in_rows : List BufferRow}
+    {in_points : List BufferPoint} {r : Row} → IsWritten rs i first in_rows in_points
+    → slice_get rs i ≡ Some r → first + length r.points ≤ length in_points
 points_left {rs = rs} {i = i} {r = r} w is = omega (
   arith,
   w.first_is,
@@ -113,11 +113,13 @@ points_left {rs = rs} {i = i} {r = r} w is = omega (
 )
 
 -- the next row and its points are written
-pub written_more : {rs : List Row} {i first : ℕ} {in_rows : List BufferRow} {in_points own : List BufferPoint}
-    {r : Row} {row : BufferRow} (k : ℕ) → IsWritten rs i first in_rows in_points → slice_get rs i ≡ Some r
-    → row ≡ row_in_c r → own ≡ coordinates_of r.points → k ≡ length r.points
-    → IsWritten rs (i + 1) (first + length r.points) (slice_set in_rows i row) (put_mid first k in_points own)
-written_more {rs = rs} {i = i} {first = first} {in_rows = in_rows} {in_points = in_points} {own = own} {r = r}
+pub written_more : {rs : List Row} {i first : ℕ} {in_rows : List BufferRow}
+    {in_points own : List BufferPoint} {r : Row} {row : BufferRow} (k : ℕ)
+    → IsWritten rs i first in_rows in_points → slice_get rs i ≡ Some r → row ≡ row_in_c r
+    → own ≡ coordinates_of r.points → k ≡ length r.points → IsWritten rs (i + 1)
+    (first + length r.points) (slice_set in_rows i row) (put_mid first k in_points own)
+written_more {rs = rs} {i = i} {first = first} {in_rows = in_rows} {in_points = in_points}
+    {own = own} {r = r}
     {row = row} k w is row_is own_is count =
     let within = slice_get_within rs i r is in
     let fits = points_left w is in
@@ -130,11 +132,14 @@ written_more {rs = rs} {i = i} {first = first} {in_rows = in_rows} {in_points = 
     record {
       as_many_rows = length-set in_rows i row ∙ w.as_many_rows;
       as_many_points = all ∙ w.as_many_points;
-      rows_are = rw (next_rows rs i r is) (take_more_set in_rows i row (omega (arith, w.as_many_rows))
+      rows_are = rw (next_rows rs i r is)
+          (take_more_set in_rows i row (omega (arith, w.as_many_rows))
           ∙ rw (w.rows_are, row_is) (sym (map-append row_in_c (take i rs) (r ∷ []))));
-      first_is = rw (next_points rs i r is, w.first_is) (sym (length-append (row_points (take i rs)) r.points));
+      first_is = rw (next_points rs i r is, w.first_is)
+          (sym (length-append (row_points (take i rs)) r.points));
       points_are = rw (next_points rs i r is) (taken
-          ∙ rw (w.points_are, own_is) (sym (coordinates_of-append (row_points (take i rs)) r.points)));
+          ∙ rw (w.points_are, own_is)
+          (sym (coordinates_of-append (row_points (take i rs)) r.points)));
     }
   where
     put_len : (a n : ℕ) (xs ys : List BufferPoint) → length ys ≡ n → a + n ≤ length xs
@@ -149,19 +154,21 @@ written_more {rs = rs} {i = i} {first = first} {in_rows = in_rows} {in_points = 
     )
 
 -- what is written after what was written
-pub laid_next : {X : Type 0} {k n : ℕ} {now all new : List X} (old done more : List X) (m : ℕ) → k ≡ length done
-    → n ≡ k + m → now ≡ done ++ drop k old → all ≡ done ++ more → new ≡ take k now ++ (more ++ drop (k + m) now)
-    → new ≡ all ++ drop n old
+pub laid_next : {X : Type 0} {k n : ℕ} {now all new : List X} (old done more : List X) (m : ℕ)
+    → k ≡ length done → n ≡ k + m → now ≡ done ++ drop k old → all ≡ done ++ more
+    → new ≡ take k now ++ (more ++ drop (k + m) now) → new ≡ all ++ drop n old
 laid_next {k = k} {now = now} old done more m long count is all_is new_is =
-    let front : take k now ≡ done = ap (λ l. take k l) is ∙ take_at done (drop k old) k (sym long) in
+    let front : take k now ≡ done = ap (λ l. take k l) is
+    ∙ take_at done (drop k old) k (sym long) in
     let after : drop (k + m) now ≡ drop (k + m) old =
     sym (drop-drop m k now) ∙ ap (λ l. drop m (drop k l)) is
     ∙ ap (λ l. drop m l) (drop_at done (drop k old) k (sym long)) ∙ drop-drop m k old in
-    rw (all_is, count) (new_is ∙ rw (front, after) (sym (append_assoc done more (drop (k + m) old))))
+    rw (all_is, count)
+    (new_is ∙ rw (front, after) (sym (append_assoc done more (drop (k + m) old))))
 
 -- what is written at the start of a list leaves its length
-pub laid_length : {X : Type 0} {n : ℕ} {now : List X} (done old : List X) → n ≡ length done → now ≡ done ++ drop n old
-    → n ≤ length old → length now ≡ length old
+pub laid_length : {X : Type 0} {n : ℕ} {now : List X} (done old : List X) → n ≡ length done
+    → now ≡ done ++ drop n old → n ≤ length old → length now ≡ length old
 laid_length {n = n} done old long is room = omega (
   arith,
   ap (λ l. length l) is,
@@ -182,7 +189,8 @@ parts_join xs used = ap (λ l. take used xs ++ l) (take_rest xs used) ∙ take-a
 -- a list up to a place, and the first of what is after it
 pub some_more : {X : Type 0} (xs : List X) (used more : ℕ)
     → take used xs ++ take more (rest_of xs used) ≡ take (used + more) xs
-some_more xs used more = ap (λ l. take used xs ++ take more l) (take_rest xs used) ∙ sym (take-add used more xs)
+some_more xs used more = ap (λ l. take used xs ++ take more l) (take_rest xs used)
+    ∙ sym (take-add used more xs)
 
 pub length-rest_of : {X : Type 0} (xs : List X) (used : ℕ) → length (rest_of xs used) ≡ length xs - used
 length-rest_of xs used = ap (λ l. length l) (take_rest xs used) ∙ length-drop used xs
@@ -223,15 +231,16 @@ one_precision (Some a) None p q e = absurd (never a p e)
 one_precision (Some a) (Some b) p q e = ap (λ (n : ℤ). Some n) e
 
 -- a row with the fields of another is that row
-pub same_row : (r : Row) (depth : ℕ) (k : Kind) (id precision : Option ℤ) (points : List Point) → depth ≡ r.depth
-    → k ≡ r.kind → id ≡ r.id → precision ≡ r.precision → points ≡ r.points
+pub same_row : (r : Row) (depth : ℕ) (k : Kind) (id precision : Option ℤ) (points : List Point)
+    → depth ≡ r.depth → k ≡ r.kind → id ≡ r.id → precision ≡ r.precision → points ≡ r.points
     → record { depth = depth; kind = k; id = id; precision = precision; points = points } ≡ r
 same_row r depth k id precision points depths kinds ids precisions points_are =
     rw (depths, kinds, ids, precisions, points_are) refl
 
 one_row : (r s : Row) → IsPlain r → IsPlain s → row_in_c r ≡ row_in_c s → r.points ≡ s.points → r ≡ s
 one_row r s p q e same_points =
-    same_row s _ _ _ _ _ (ap (λ (x : BufferRow). x.depth) e) (one_kind r.kind s.kind (ap (λ (x : BufferRow). x.kind) e))
+    same_row s _ _ _ _ _ (ap (λ (x : BufferRow). x.depth) e)
+    (one_kind r.kind s.kind (ap (λ (x : BufferRow). x.kind) e))
     (one_id r.id s.id (ap (λ (x : BufferRow). x.has_id) e) (ap (λ (x : BufferRow). x.id) e))
     (one_precision r.precision s.precision p.precision q.precision (ap (λ (x : BufferRow). x.precision) e))
     same_points

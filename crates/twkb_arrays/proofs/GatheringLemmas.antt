@@ -188,8 +188,8 @@ has_precision (negsuc n) h = grind (arith, ints, nat_tests)
 root_row : (l : Allowance) (row : BufferRow) (ahead : List BufferPoint) (k : Kind) (ps : List Point)
     → BeginsAlone l row ahead → points_of (take row.points ahead) ≡ ps
     → row_from_c k row (take row.points ahead) ≡ whole_row 0 k None row.precision ps
-root_row l row ahead k ps b own = same_row (whole_row 0 k None row.precision ps) _ _ _ _ _ b.is_root refl
-    (no_id row.has_id row.id b.has_no_id) (has_precision row.precision b.has_precision) own
+root_row l row ahead k ps b own = same_row (whole_row 0 k None row.precision ps) _ _ _ _ _ b.is_root
+    refl (no_id row.has_id row.id b.has_no_id) (has_precision row.precision b.has_precision) own
 
 -- the row of a point with a precision may come first, if the limits allow one row and one point
 pub point_first : (l : Allowance) (n : ℤ) (p : Point) → 0 < l.nodes → 0 < l.points → IsPrecision n → IsInRange p

@@ -71,21 +71,24 @@ status_zero l bytes gs full (Err _) e ends = absurd (omega (arith, e))
 -- a reading with status 0 took the geometries of the stream
 pub all_given : {l : Allowance} {bytes : List ℕ} {old_rows new_rows : List BufferRow}
     {old_points new_points : List BufferPoint} {counts : BufferCounts} (gs : List Tree)
-    (read : ReadsArrays l bytes old_rows old_points new_rows new_points counts) → counts.status ≡ 0 → Stream l bytes gs
-    → read.given ≡ gs
+    (read : ReadsArrays l bytes old_rows old_points new_rows new_points counts) → counts.status ≡ 0
+    → Stream l bytes gs → read.given ≡ gs
 all_given {l = l} {bytes = bytes} gs read zero stream =
     let end = status_zero l bytes (read.given ++ read.later) (are_more read.later) read.answer
     (sym read.counted.status_is ∙ zero) read.ended in
     sym (append-nil read.given)
-    ∙ rw (no_more read.later end.0) at (one_stream l bytes (read.given ++ read.later) gs end.1 stream)
+    ∙ rw (no_more read.later end.0) at (one_stream l bytes (read.given ++ read.later) gs end.1
+    stream)
 
 pub rows_of_text : (l : Allowance) (bytes : List ℕ) (old_rows new_rows : List BufferRow)
     (old_points new_points : List BufferPoint) (counts : BufferCounts) (text : List ℕ) (done : ℕ)
     → ReadsArrays l bytes old_rows old_points new_rows new_points counts → counts.status ≡ 0
     → UnpackedSlice l bytes text done → AreSameRows text old_rows old_points new_rows new_points
-rows_of_text l bytes old_rows new_rows old_points new_points counts text done read zero unpacked = record {
+rows_of_text l bytes old_rows new_rows old_points new_points counts text done read zero
+    unpacked = record {
   rs = rows_of read.given;
-  text_is = unpacked.written_is ∙ ap table_text (sym (all_given unpacked.found read zero unpacked.stream_is));
+  text_is = unpacked.written_is
+      ∙ ap table_text (sym (all_given unpacked.found read zero unpacked.stream_is));
   rows_are = read.filled.rows_are;
   points_are = read.filled.points_are;
 }

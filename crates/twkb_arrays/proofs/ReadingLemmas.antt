@@ -30,8 +30,8 @@ begins blobs used at = (
 )
 
 -- why a feed refused the rest of the bytes is how their reading ends
-pub stopped : {gs : List Tree} {old : Session} (blobs : List ℕ) (used : ℕ) (new : Session) (why : BlobFault)
-    → Stands (take used blobs) gs old → session_limits new ≡ session_limits old
+pub stopped : {gs : List Tree} {old : Session} (blobs : List ℕ) (used : ℕ) (new : Session)
+    (why : BlobFault) → Stands (take used blobs) gs old → session_limits new ≡ session_limits old
     → FedSession (take used blobs) gs (rest_of blobs used) (Err why) new
     → EndsReading {A = Unit {0}} (session_limits old) blobs gs (Err why)
 stopped blobs used new fault.Memory at kept fed = begins blobs used at
@@ -55,8 +55,8 @@ finished l blobs gs (Err (fault.At offset reason)) f = f
 finished l blobs gs (Err _) f = absurd f
 
 -- a geometry was read to its end, and was taken or counted
-pub took : {start_rows in_rows : List BufferRow} {start_points in_points : List BufferPoint} {new : Session}
-    {taken : Taken} (blobs : List ℕ) (used more : ℕ) (gs : List Tree) (g : Tree)
+pub took : {start_rows in_rows : List BufferRow} {start_points in_points : List BufferPoint}
+    {new : Session} {taken : Taken} (blobs : List ℕ) (used more : ℕ) (gs : List Tree) (g : Tree)
     → Stands (take used blobs ++ take more (rest_of blobs used)) (gs ++ g ∷ []) new
     → TakesOne start_rows start_points gs g in_rows in_points taken
     → IsReading start_rows start_points (take (used + more) blobs) in_rows in_points new taken
@@ -66,8 +66,8 @@ took blobs used more gs g at (given, later, all, h) =
 -- the bytes were read to their end inside a geometry, or after one
 pub went_on : {start_rows in_rows : List BufferRow} {start_points in_points : List BufferPoint}
     {given later : List Tree} {new : Session} {taken : Taken} (blobs : List ℕ) (used more : ℕ)
-    → more ≡ length (rest_of blobs used) → Stands (take used blobs ++ rest_of blobs used) (given ++ later) new
-    → HasTaken start_rows start_points given later in_rows in_points taken
+    → more ≡ length (rest_of blobs used) → Stands (take used blobs ++ rest_of blobs used)
+    (given ++ later) new → HasTaken start_rows start_points given later in_rows in_points taken
     → IsReading start_rows start_points (take (used + more) blobs) in_rows in_points new taken
 went_on {given = given} {later = later} blobs used more all at h =
     let piece = rest_of blobs used in

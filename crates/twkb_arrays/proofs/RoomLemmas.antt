@@ -15,8 +15,9 @@ pub one_after : (given later : List Tree) (g : Tree) → later ≡ []
 one_after given later g none = rw none (simp append-nil)
 
 -- there was room for one more
-pub has_room : {lacks : List Tree → Type 0} {given later : List Tree} {full : Bool} {done : ℕ} (g : Tree)
-    → Fit lacks given later full done → full ≡ false → Fit lacks (given ++ g ∷ []) [] full (done + 1)
+pub has_room : {lacks : List Tree → Type 0} {given later : List Tree} {full : Bool} {done : ℕ}
+    (g : Tree) → Fit lacks given later full done → full ≡ false
+    → Fit lacks (given ++ g ∷ []) [] full (done + 1)
 has_room {given = given} g f empty = record {
   stops = tt;
   full_is = empty;
@@ -24,14 +25,15 @@ has_room {given = given} g f empty = record {
 }
 
 -- there was no room for one more
-pub has_none : {lacks : List Tree → Type 0} {given later : List Tree} {full : Bool} {done : ℕ} (g : Tree)
-    → Fit lacks given later full done → full ≡ false → lacks (given ++ g ∷ [])
+pub has_none : {lacks : List Tree → Type 0} {given later : List Tree} {full : Bool} {done : ℕ}
+    (g : Tree) → Fit lacks given later full done → full ≡ false → lacks (given ++ g ∷ [])
     → Fit lacks given (later ++ g ∷ []) true done
 has_none {later = []} g f empty lack = record { stops = lack; full_is = refl; done_is = f.done_is }
 has_none {later = x ∷ xs} g f empty lack = absurd (false≢true (sym empty ∙ f.full_is))
 
 -- one more came after others for which there was no room
-pub comes_after : {lacks : List Tree → Type 0} {given later : List Tree} {full : Bool} {done : ℕ} (g : Tree)
-    → Fit lacks given later full done → full ≡ true → Fit lacks given (later ++ g ∷ []) full done
+pub comes_after : {lacks : List Tree → Type 0} {given later : List Tree} {full : Bool} {done : ℕ}
+    (g : Tree) → Fit lacks given later full done → full ≡ true
+    → Fit lacks given (later ++ g ∷ []) full done
 comes_after {later = []} g f is = absurd (false≢true (sym f.full_is ∙ is))
 comes_after {later = x ∷ xs} g f is = record { stops = f.stops; full_is = is; done_is = f.done_is }

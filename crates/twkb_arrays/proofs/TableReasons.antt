@@ -168,12 +168,12 @@ by_precision l before r v why precise not_range not_many e j =
       ]
     ]
 
-in_precision : (l : Allowance) (before : List Row) (r : Row) (v : Verdict) (why : Refusal) → IfSome r.precision IsId
-    → why ≢ Refusal.CoordinateRange → why ≢ Refusal.TooManyPoints
-    → first_failed (precision_checks (parent r.depth before) r
-    ++ point_checks l (parent r.depth before) (point_count (geometry_rows r.depth before)) r) ≡ Some why
-    → JudgedByPrecision l (place_of r.depth before) r.kind r.id (optional r.precision) (polyline r.points) v
-    → Says v why
+in_precision : (l : Allowance) (before : List Row) (r : Row) (v : Verdict) (why : Refusal)
+    → IfSome r.precision IsId → why ≢ Refusal.CoordinateRange → why ≢ Refusal.TooManyPoints
+    → first_failed (precision_checks (parent r.depth before) r ++ point_checks l
+    (parent r.depth before) (point_count (geometry_rows r.depth before)) r) ≡ Some why
+    → JudgedByPrecision l (place_of r.depth before) r.kind r.id (optional r.precision)
+    (polyline r.points) v → Says v why
 in_precision l before r v why precise not_range not_many e j =
     let p = parent r.depth before in
     let b = precision_in_range r.precision in
@@ -202,17 +202,19 @@ in_precision l before r v why precise not_range not_many e j =
 
 -- ---- the id and the place
 
-by_id : (l : Allowance) (before : List Row) (r : Row) (v : Verdict) (why : Refusal) → IfSome r.id IsId
-    → IfSome r.precision IsId → why ≢ Refusal.CoordinateRange → why ≢ Refusal.TooManyPoints
-    → first_failed (id_checks (parent r.depth before) (first_child r.depth before) r
-    ++ (precision_checks (parent r.depth before) r
-    ++ point_checks l (parent r.depth before) (point_count (geometry_rows r.depth before)) r)) ≡ Some why
-    → JudgedById l (place_of r.depth before) r.kind (optional r.id) (optional r.precision) (polyline r.points) v
-    → Says v why
+by_id : (l : Allowance) (before : List Row) (r : Row) (v : Verdict) (why : Refusal)
+    → IfSome r.id IsId → IfSome r.precision IsId → why ≢ Refusal.CoordinateRange
+    → why ≢ Refusal.TooManyPoints
+    → first_failed (id_checks (parent r.depth before) (first_child r.depth before)
+    r ++ (precision_checks (parent r.depth before) r ++ point_checks l (parent r.depth before)
+    (point_count (geometry_rows r.depth before)) r)) ≡ Some why
+    → JudgedById l (place_of r.depth before) r.kind (optional r.id) (optional r.precision)
+    (polyline r.points) v → Says v why
 by_id l before r v why id precise not_range not_many e j =
     let p = parent r.depth before in
     let f = first_child r.depth before in
-    let precisions = precision_checks p r ++ point_checks l p (point_count (geometry_rows r.depth before)) r in
+    let precisions = precision_checks p r ++ point_checks l p
+    (point_count (geometry_rows r.depth before)) r in
     let same = check (has_same_ids f r.id) Refusal.MixedIds ∷ precisions in
     let allowed = check (id_allowed p r.kind r.id) Refusal.IdNotAllowed ∷ same in
     let having = pick (IsOptionalId (optional r.id)) (λ (i : Option ℤ). JudgedHavingId l (place_of r.depth before)

@@ -43,7 +43,8 @@ rows_of-more gs g form same = flat_map-append (rows 0) gs (g ∷ [])
 
 points_of-more : (gs : List Tree) (g : Tree) (form : List Row) → rows 0 g ≡ form
     → row_points (rows_of (gs ++ g ∷ [])) ≡ row_points (rows_of gs) ++ row_points form
-points_of-more gs g form same = ap row_points (rows_of-more gs g form same) ∙ row_points-append (rows_of gs) form
+points_of-more gs g form same = ap row_points (rows_of-more gs g form same)
+    ∙ row_points-append (rows_of gs) form
 
 -- their numbers
 count_more : (gs : List Tree) (g : Tree) (form : List Row) → rows 0 g ≡ form
@@ -53,8 +54,8 @@ count_more gs g form same = ap (λ (xs : List Row). length xs) (rows_of-more gs 
 
 point_count_more : (gs : List Tree) (g : Tree) (form : List Row) → rows 0 g ≡ form
     → length (row_points (rows_of (gs ++ g ∷ []))) ≡ length (row_points (rows_of gs)) + length (row_points form)
-point_count_more gs g form same = ap (λ (xs : List Point). length xs) (points_of-more gs g form same)
-    ∙ length-append (row_points (rows_of gs)) (row_points form)
+point_count_more gs g form same = ap (λ (xs : List Point). length xs)
+    (points_of-more gs g form same) ∙ length-append (row_points (rows_of gs)) (row_points form)
 
 -- a geometry has a row
 pub some_rows : (g : Tree) → 0 < length (rows 0 g)
@@ -69,17 +70,19 @@ few_geometries (g ∷ gs) = omega (arith, length-append (rows 0 g) (rows_of gs),
 -- ---- the arrays
 
 -- arrays that are filled are as long as they were
-filled_lengths : {start_rows in_rows : List BufferRow} {start_points in_points : List BufferPoint} {gs : List Tree}
-    → IsFilled start_rows start_points gs in_rows in_points
+filled_lengths : {start_rows in_rows : List BufferRow} {start_points in_points : List BufferPoint}
+    {gs : List Tree} → IsFilled start_rows start_points gs in_rows in_points
     → (length in_rows ≡ length start_rows) × (length in_points ≡ length start_points)
 filled_lengths {start_rows = start_rows} {start_points = start_points} {gs = gs} f = (
-  laid_length (array_rows gs) start_rows (sym (length-map (rows_of gs) row_in_c)) f.rows_are f.room.0,
-  laid_length (array_points gs) start_points (sym (length-coordinates_of (row_points (rows_of gs)))) f.points_are
-      f.room.1,
+  laid_length (array_rows gs) start_rows (sym (length-map (rows_of gs) row_in_c)) f.rows_are
+  f.room.0,
+  laid_length (array_points gs) start_points (sym (length-coordinates_of (row_points (rows_of gs))))
+      f.points_are f.room.1,
 )
 
-pub within : {start_rows in_rows : List BufferRow} {start_points in_points : List BufferPoint} {given later : List Tree}
-    {taken : Taken} → HasTaken start_rows start_points given later in_rows in_points taken
+pub within : {start_rows in_rows : List BufferRow} {start_points in_points : List BufferPoint}
+    {given later : List Tree} {taken : Taken}
+    → HasTaken start_rows start_points given later in_rows in_points taken
     → IsWithin in_rows in_points taken
 within {given = given} h =
     let lengths = filled_lengths h.filled in
@@ -94,27 +97,34 @@ within {given = given} h =
 -- a geometry was read that has this many rows and points
 abbrev pub counted_with : Taken → ℕ → ℕ → Taken
 counted_with t n m =
-    record t { needed_rows = saturated (t.needed_rows + n); needed_points = saturated (t.needed_points + m) }
+    record t { needed_rows = saturated (t.needed_rows + n); needed_points = saturated
+        (t.needed_points + m) }
 
 -- one more geometry was read
-module _ {start_rows in_rows : List BufferRow} {start_points in_points : List BufferPoint} {given later : List Tree}
-    {old : Taken} (h : HasTaken start_rows start_points given later in_rows in_points old) (g : Tree)
+module _ {start_rows in_rows : List BufferRow} {start_points in_points : List BufferPoint}
+    {given later : List Tree}
+    {old : Taken} (h : HasTaken start_rows start_points given later in_rows in_points old)
+    (g : Tree)
     {form : List Row} (same : rows 0 g ≡ form) where
   -- the rows and points that are needed
   needed : (hs : List Tree) → hs ≡ (given ++ later) ++ g ∷ []
       → (saturated (old.needed_rows + length form) ≡ saturated (length (rows_of hs)))
-      × (saturated (old.needed_points + length (row_points form)) ≡ saturated (length (row_points (rows_of hs))))
+      × (saturated (old.needed_points + length (row_points form)) ≡ saturated
+      (length (row_points (rows_of hs))))
   needed hs is =
       let rows_are = count_more (given ++ later) g form same in
       let points_are = point_count_more (given ++ later) g form same in
-      rw is (omega (arith, rows_are, h.needed_rows_is), omega (arith, points_are, h.needed_points_is))
+      rw is (omega (arith, rows_are, h.needed_rows_is), omega
+      (arith, points_are, h.needed_points_is))
 
   -- it was counted, and not taken
-  not_taken : (full : Bool) → Fit (LacksRoom start_rows start_points) given (later ++ g ∷ []) full old.done
+  not_taken : (full : Bool)
+      → Fit (LacksRoom start_rows start_points) given (later ++ g ∷ []) full old.done
       → TakesOne start_rows start_points (given ++ later) g in_rows in_points
       (record (counted_with old (length form) (length (row_points form))) { full = full })
   not_taken full fit =
-      let all : given ++ (later ++ g ∷ []) ≡ (given ++ later) ++ g ∷ [] = sym (append_assoc given later (g ∷ [])) in
+      let all : given ++ (later ++ g ∷ []) ≡ (given ++ later) ++ g ∷ [] = sym
+      (append_assoc given later (g ∷ [])) in
       let counts = needed (given ++ (later ++ g ∷ [])) all in (
         given,
         later ++ g ∷ [],
@@ -130,13 +140,15 @@ module _ {start_rows in_rows : List BufferRow} {start_points in_points : List Bu
       )
 
   -- others were not taken before
-  pub passed : old.full ≡ true → TakesOne start_rows start_points (given ++ later) g in_rows in_points
+  pub passed : old.full ≡ true
+      → TakesOne start_rows start_points (given ++ later) g in_rows in_points
       (counted_with old (length form) (length (row_points form)))
   passed full = not_taken old.full (comes_after g h.fit full)
 
   -- there is no room for it
   pub lacking : old.full ≡ false
-      → (length in_rows - old.rows < length form) ⊎ (length in_points - old.points < length (row_points form))
+      → (length in_rows - old.rows < length form) ⊎ (length in_points - old.points < length
+      (row_points form))
       → TakesOne start_rows start_points (given ++ later) g in_rows in_points
       (record (counted_with old (length form) (length (row_points form))) { full = true })
   lacking empty lacks =
@@ -151,11 +163,12 @@ module _ {start_rows in_rows : List BufferRow} {start_points in_points : List Bu
 
   -- it was taken
   pub taken_one : {new_rows : List BufferRow} {new_points : List BufferPoint} → old.full ≡ false
-      → old.rows + length form ≤ length in_rows → old.points + length (row_points form) ≤ length in_points
-      → new_rows ≡ take old.rows in_rows ++ (rows_in_c form ++ drop (old.rows + length form) in_rows)
-      → new_points ≡ take old.points in_points
-      ++ (coordinates_of (row_points form) ++ drop (old.points + length (row_points form)) in_points)
-      → TakesOne start_rows start_points (given ++ later) g new_rows new_points
+      → old.rows + length form ≤ length in_rows → old.points + length (row_points form) ≤ length
+      in_points
+      → new_rows ≡ take old.rows in_rows ++ (rows_in_c form ++ drop (old.rows + length form)
+      in_rows) → new_points ≡ take old.points in_points
+      ++ (coordinates_of (row_points form) ++ drop (old.points + length (row_points form))
+      in_points) → TakesOne start_rows start_points (given ++ later) g new_rows new_points
       (record (counted_with old (length form) (length (row_points form))) {
         done = old.done + 1;
         rows = old.rows + length form;
@@ -167,7 +180,8 @@ module _ {start_rows in_rows : List BufferRow} {start_points in_points : List Bu
       let lengths = filled_lengths h.filled in
       let rows_are = count_more given g form same in
       let points_are = point_count_more given g form same in
-      let were : in_rows ≡ array_rows given ++ drop old.rows start_rows = rw h.rows_is h.filled.rows_are in
+      let were : in_rows ≡ array_rows given ++ drop old.rows start_rows = rw h.rows_is
+      h.filled.rows_are in
       let points_were : in_points ≡ array_points given ++ drop old.points start_points =
       rw h.points_is h.filled.points_are in (
         given ++ g ∷ [],
@@ -178,12 +192,13 @@ module _ {start_rows in_rows : List BufferRow} {start_points in_points : List Bu
             rows_are = laid_next start_rows (array_rows given) (rows_in_c form) (length form)
                 (h.rows_is ∙ sym (length-map (rows_of given) row_in_c))
                 (rows_are ∙ ap (λ (n : ℕ). n + length form) (sym h.rows_is)) were
-                (ap rows_in_c (rows_of-more given g form same) ∙ map-append row_in_c (rows_of given) form) rows_new;
-            points_are = laid_next start_points (array_points given) (coordinates_of (row_points form))
-                (length (row_points form))
+                (ap rows_in_c (rows_of-more given g form same)
+                ∙ map-append row_in_c (rows_of given) form) rows_new;
+            points_are = laid_next start_points (array_points given)
+                (coordinates_of (row_points form)) (length (row_points form))
                 (h.points_is ∙ sym (length-coordinates_of (row_points (rows_of given))))
-                (points_are ∙ ap (λ (n : ℕ). n + length (row_points form)) (sym h.points_is)) points_were
-                (ap coordinates_of (points_of-more given g form same)
+                (points_are ∙ ap (λ (n : ℕ). n + length (row_points form)) (sym h.points_is))
+                points_were (ap coordinates_of (points_of-more given g form same)
                 ∙ coordinates_of-append (row_points (rows_of given)) (row_points form)) points_new;
             room = (
               omega (arith, rows_fit, rows_are, h.rows_is, lengths),
@@ -215,7 +230,8 @@ begins_read : {l : Allowance} {hs : List Tree} {begun : List Row} {front_rows mo
     {front_points ahead : List BufferPoint} (gs : List Tree) → IsAllowance l → AreValid l gs
     → AreRead l hs begun front_rows front_points → array_rows gs ≡ front_rows ++ more
     → array_points gs ≡ front_points ++ ahead → BeginsWith (rows_of gs) (rows_of hs ++ begun) more ahead
-begins_read {l = l} {hs = hs} {begun = begun} {more = more} {ahead = ahead} gs cap valid read rows_are points_are =
+begins_read {l = l} {hs = hs} {begun = begun} {more = more} {ahead = ahead} gs cap valid read
+    rows_are points_are =
     let ks = read_trees l hs begun read.valid read.begun_valid in
     begins_with (rows_of gs) (rows_of hs ++ begun) more ahead (plain_rows l gs cap valid)
     (subst ArePlain ks.2 (plain_rows l ks.0 cap ks.1))
@@ -228,8 +244,9 @@ no_rows [] e = refl
 no_rows (r ∷ rs) e = absurd (cc e)
 
 -- arrays of geometries, of which none is open
-none_open : {l : Allowance} {gs : List Tree} {in_rows : List BufferRow} {in_points : List BufferPoint}
-    → AreArrays l gs in_rows in_points → AreRead l gs [] in_rows in_points
+none_open : {l : Allowance} {gs : List Tree} {in_rows : List BufferRow}
+    {in_points : List BufferPoint} → AreArrays l gs in_rows in_points
+    → AreRead l gs [] in_rows in_points
 none_open {gs = gs} a = record {
   valid = a.valid;
   begun_valid = tt;
@@ -238,18 +255,20 @@ none_open {gs = gs} a = record {
 }
 
 -- arrays are those of one list of geometries
-pub one_arrays : {l : Allowance} {gs hs : List Tree} {in_rows : List BufferRow} {in_points : List BufferPoint}
-    → IsAllowance l → AreArrays l gs in_rows in_points → AreArrays l hs in_rows in_points → hs ≡ gs
+pub one_arrays : {l : Allowance} {gs hs : List Tree} {in_rows : List BufferRow}
+    {in_points : List BufferPoint} → IsAllowance l → AreArrays l gs in_rows in_points
+    → AreArrays l hs in_rows in_points → hs ≡ gs
 one_arrays {l = l} {gs = gs} {hs = hs} {in_rows = in_rows} {in_points = in_points} cap a b =
     let w = begins_read gs cap a.valid (none_open b) (sym a.rows_are ∙ sym (append-nil in_rows))
     (sym a.points_are ∙ sym (append-nil in_points)) in
     sym (one_reading gs hs (geometries l gs a.valid) (geometries l hs b.valid)
-    (w.whole ∙ ap (λ (rs : List Row). (rows_of hs ++ []) ++ rs) (no_rows w.rest w.rows_are) ∙ simp append-nil))
+    (w.whole ∙ ap (λ (rs : List Row). (rows_of hs ++ []) ++ rs) (no_rows w.rest w.rows_are)
+    ∙ simp append-nil))
 
 -- no arrays of geometries have points that are left over
-pub none_left : {l : Allowance} {gs hs : List Tree} {in_rows : List BufferRow} {in_points : List BufferPoint}
-    {place number index : ℕ} → IsAllowance l → AreArrays l gs in_rows in_points
-    → ArePointsLeft l hs in_rows in_points place number index → ⊥
+pub none_left : {l : Allowance} {gs hs : List Tree} {in_rows : List BufferRow}
+    {in_points : List BufferPoint} {place number index : ℕ} → IsAllowance l
+    → AreArrays l gs in_rows in_points → ArePointsLeft l hs in_rows in_points place number index → ⊥
 none_left {gs = gs} {in_rows = in_rows} cap a b =
     let w = begins_read gs cap a.valid b.read (sym a.rows_are ∙ sym (append-nil in_rows))
     (sym a.points_are ∙ b.points_are) in
@@ -285,18 +304,21 @@ some_row row more [] e = cc e
 some_row row more (r ∷ rest) e = (r, rest, refl, head_same row (row_in_c r) more (rows_in_c rest) e)
 
 -- no arrays of geometries have a row that is refused
-pub none_refused : {l : Allowance} {gs hs : List Tree} {in_rows : List BufferRow} {in_points : List BufferPoint}
-    {place number index : ℕ} → IsAllowance l → AreArrays l gs in_rows in_points
-    → IsRefusedRow l hs in_rows in_points place number index → ⊥
+pub none_refused : {l : Allowance} {gs hs : List Tree} {in_rows : List BufferRow}
+    {in_points : List BufferPoint} {place number index : ℕ} → IsAllowance l
+    → AreArrays l gs in_rows in_points → IsRefusedRow l hs in_rows in_points place number index → ⊥
 none_refused {l = l} {gs = gs} {hs = hs} {number = number} cap a b =
-    let w = begins_read gs cap a.valid b.read (sym a.rows_are ∙ b.rows_are) (sym a.points_are ∙ b.points_are) in
+    let w = begins_read gs cap a.valid b.read (sym a.rows_are ∙ b.rows_are) (sym a.points_are
+    ∙ b.points_are) in
     let before = rows_of hs ++ b.begun in
     let (r, rest, rest_is, row_is) = some_row b.row b.more w.rest w.rows_are in
-    let whole : rows_of gs ≡ before ++ r ∷ rest = w.whole ∙ ap (λ (rs : List Row). before ++ rs) rest_is in
+    let whole : rows_of gs ≡ before ++ r ∷ rest = w.whole
+    ∙ ap (λ (rs : List Row). before ++ rs) rest_is in
     let ahead_is : b.ahead ≡ coordinates_of r.points ++ coordinates_of (row_points rest) =
     w.points_are ∙ ap (λ (rs : List Row). coordinates_of (row_points rs)) rest_is
     ∙ coordinates_of-append r.points (row_points rest) in
-    let plain = all_apart IsPlain before (r ∷ rest) (subst ArePlain whole (plain_rows l gs cap a.valid)) in
+    let plain = all_apart IsPlain before (r ∷ rest)
+    (subst ArePlain whole (plain_rows l gs cap a.valid)) in
     let why = refused_row l b.begun r (coordinates_of (row_points rest)) number plain.1.0
     (subst (λ (xs : List BufferPoint). RefusedAfter l b.begun (row_in_c r) xs number) ahead_is
     (subst (λ (x : BufferRow). RefusedAfter l b.begun x b.ahead number) row_is b.refused)) in

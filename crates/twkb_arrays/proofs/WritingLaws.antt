@@ -127,7 +127,8 @@ room_for_first : (in_rows : List BufferRow) (in_points : List BufferPoint) (gs h
 room_for_first in_rows in_points gs hs room =
     let all : rows_of (gs ++ hs) ≡ rows_of gs ++ rows_of hs = flat_map-append (rows 0) gs hs in
     let points = ap row_points all ∙ row_points-append (rows_of gs) (rows_of hs) in (
-      omega (arith, room.0, ap (λ (xs : List Row). length xs) all, length-append (rows_of gs) (rows_of hs)),
+      omega (arith, room.0, ap (λ (xs : List Row). length xs) all, length-append (rows_of gs)
+      (rows_of hs)),
       omega (
         arith,
         room.1,
@@ -142,11 +143,12 @@ all_taken : (in_rows : List BufferRow) (in_points : List BufferPoint) (given lat
 all_taken in_rows in_points given [] room stops = refl
 all_taken in_rows in_points given (g ∷ later) room stops =
     let first = room_for_first in_rows in_points (given ++ g ∷ []) later (rw append_assoc room) in
-    absurd (elim stops [ inl few ↦ omega (arith, few, first) | inr few ↦ omega (arith, few, first) ])
+    absurd (elim stops [ inl few ↦ omega (arith, few, first) | inr few ↦ omega (arith, few, first)
+    ])
 
 -- what is written at the start of a list, by its own length
-laid_as : {X : Type 0} {new all given : List X} {n : ℕ} (old : List X) → given ≡ all → length given ≡ n
-    → new ≡ all ++ drop n old → new ≡ given ++ drop (length given) old
+laid_as : {X : Type 0} {new all given : List X} {n : ℕ} (old : List X) → given ≡ all
+    → length given ≡ n → new ≡ all ++ drop n old → new ≡ given ++ drop (length given) old
 laid_as old same count is = rw (count, same) is
 
 pub read_back : (l : Allowance) (given old new : Arrays) (counts : BufferCounts) → IsAllowance l
@@ -155,8 +157,10 @@ read_back l given old new counts cap trip =
     let bytes = take trip.report.sent trip.after in
     let w = all_wrote l trip.style given.rows given.points trip.before trip.after trip.report trip.wrote trip.done in
     let gs = w.gs in
-    let stream : Stream l bytes gs = rw w.bytes_are (written_stream l trip.style gs cap w.are.valid) in
-    let row_count = ap (λ (xs : List BufferRow). length xs) w.are.rows_are ∙ length-map (rows_of gs) row_in_c in
+    let stream : Stream l bytes gs = rw w.bytes_are
+    (written_stream l trip.style gs cap w.are.valid) in
+    let row_count = ap (λ (xs : List BufferRow). length xs) w.are.rows_are
+    ∙ length-map (rows_of gs) row_in_c in
     let point_count = ap (λ (xs : List BufferPoint). length xs) w.are.points_are
     ∙ length-coordinates_of (row_points (rows_of gs)) in
     let room : HasRoom old.rows old.points gs =
@@ -170,7 +174,8 @@ read_back l given old new counts cap trip =
           let status = rw none at trip.read.counted.status_is in
           let rows_are : new.rows ≡ array_rows gs ++ drop (length (rows_of gs)) old.rows =
           rw (← same) trip.read.filled.rows_are in
-          let points_are : new.points ≡ array_points gs ++ drop (length (row_points (rows_of gs))) old.points =
+          let points_are : new.points ≡ array_points gs ++ drop (length (row_points (rows_of gs)))
+          old.points =
           rw (← same) trip.read.filled.points_are in
           elim (by_status l bytes (trip.read.given ++ trip.read.later) trip.read.answer counts.status status
           trip.read.ended all.1) [
@@ -261,4 +266,5 @@ pub sample_written : (old new : List ℕ) (report : BufferReport)
     → report.status ≡ 0 → take report.sent new ≡ each_kind_stream
 sample_written old new report wrote zero =
     let all = all_wrote standard Full each_kind_rows each_kind_points old new report wrote zero in
-    all.bytes_are ∙ ap (canonical_stream Full) (one_arrays standard_allowed are_arrays all.are) ∙ is_written
+    all.bytes_are ∙ ap (canonical_stream Full) (one_arrays standard_allowed are_arrays all.are)
+    ∙ is_written

@@ -40,13 +40,17 @@ use Rattle.twkb_arrays.proofs.TakingLemmas.{rows_of-more}
 
 -- ---- the stream of one more geometry
 
-stream_more : (style : Style) (gs : List Tree) (g : Tree) (blob : List ℕ) → blob ≡ canonical_blob style g
+stream_more : (style : Style) (gs : List Tree) (g : Tree) (blob : List ℕ)
+    → blob ≡ canonical_blob style g
     → canonical_stream style (gs ++ g ∷ []) ≡ canonical_stream style gs ++ blob
 stream_more style gs g blob is = flat_map-append (canonical_blob style) gs (g ∷ [])
-    ∙ ap (λ (xs : List ℕ). canonical_stream style gs ++ xs) (append-nil (canonical_blob style g) ∙ sym is)
+    ∙ ap (λ (xs : List ℕ). canonical_stream style gs ++ xs) (append-nil (canonical_blob style g)
+    ∙ sym is)
 
-stream_longer : (style : Style) (gs : List Tree) (g : Tree) (blob : List ℕ) → blob ≡ canonical_blob style g
-    → length (canonical_stream style (gs ++ g ∷ [])) ≡ length (canonical_stream style gs) + length blob
+stream_longer : (style : Style) (gs : List Tree) (g : Tree) (blob : List ℕ)
+    → blob ≡ canonical_blob style g
+    → length (canonical_stream style (gs ++ g ∷ [])) ≡ length (canonical_stream style gs) + length
+    blob
 stream_longer style gs g blob is = ap (λ (xs : List ℕ). length xs) (stream_more style gs g blob is)
     ∙ length-append (canonical_stream style gs) blob
 
@@ -68,8 +72,8 @@ few_blobs style (g ∷ gs) = omega (
 -- ---- the slice
 
 -- a slice that holds a stream is as long as it was
-same_length : {style : Style} {start in_output : List ℕ} {gs : List Tree} → IsStreamIn style start gs in_output
-    → length in_output ≡ length start
+same_length : {style : Style} {start in_output : List ℕ} {gs : List Tree}
+    → IsStreamIn style start gs in_output → length in_output ≡ length start
 same_length {style = style} {start = start} {gs = gs} f =
     laid_length (canonical_stream style gs) start refl f.bytes_are f.room
 
@@ -93,13 +97,16 @@ module _ {style : Style} {start in_output : List ℕ} {given later : List Tree} 
   -- the bytes that are needed
   needed : (hs : List Tree) → hs ≡ (given ++ later) ++ g ∷ []
       → saturated (old.needed + length blob) ≡ saturated (length (canonical_stream style hs))
-  needed hs is = rw is (omega (arith, h.needed_is, stream_longer style (given ++ later) g blob same))
+  needed hs is = rw is
+      (omega (arith, h.needed_is, stream_longer style (given ++ later) g blob same))
 
   -- it was counted, and not written
   not_sent : (full : Bool) → Fit (LacksBytes style start) given (later ++ g ∷ []) full old.done
-      → SendsOne style start (given ++ later) g in_output (record (counted_with old (length blob)) { full = full })
+      → SendsOne style start (given ++ later) g in_output
+      (record (counted_with old (length blob)) { full = full })
   not_sent full fit =
-      let all : given ++ (later ++ g ∷ []) ≡ (given ++ later) ++ g ∷ [] = sym (append_assoc given later (g ∷ [])) in (
+      let all : given ++ (later ++ g ∷ []) ≡ (given ++ later) ++ g ∷ [] = sym
+      (append_assoc given later (g ∷ [])) in (
         given,
         later ++ g ∷ [],
         all,
@@ -118,7 +125,8 @@ module _ {style : Style} {start in_output : List ℕ} {given later : List Tree} 
 
   -- there is no room for it
   pub lacks_room : old.full ≡ false → length in_output - old.bytes < length blob
-      → SendsOne style start (given ++ later) g in_output (record (counted_with old (length blob)) { full = true })
+      → SendsOne style start (given ++ later) g in_output
+      (record (counted_with old (length blob)) { full = true })
   lacks_room empty few =
       let lack : LacksBytes style start (given ++ g ∷ []) = omega (
         arith,
@@ -134,7 +142,8 @@ module _ {style : Style} {start in_output : List ℕ} {given later : List Tree} 
   pub sent_one : {out : List ℕ} → old.full ≡ false → old.bytes + length blob ≤ length in_output
       → out ≡ take old.bytes in_output ++ (blob ++ drop (old.bytes + length blob) in_output)
       → SendsOne style start (given ++ later) g out
-      (record (counted_with old (length blob)) { done = old.done + 1; bytes = old.bytes + length blob })
+      (record (counted_with old (length blob))
+      { done = old.done + 1; bytes = old.bytes + length blob })
   sent_one empty fits out_is =
       let all = one_after given later g (no_more later (sym h.fit.full_is ∙ empty)) in
       let longer = stream_longer style given g blob same in
@@ -180,8 +189,8 @@ one_of l (r ∷ rs) some valid = valid
 
 -- the open geometry is complete
 read_whole : {l : Allowance} {gs : List Tree} {form : List Row} {in_rows : List BufferRow}
-    {in_points : List BufferPoint} (g : Tree) → AreRead l gs form in_rows in_points → IsValid l g → rows 0 g ≡ form
-    → AreRead l (gs ++ g ∷ []) [] in_rows in_points
+    {in_points : List BufferPoint} (g : Tree) → AreRead l gs form in_rows in_points → IsValid l g
+    → rows 0 g ≡ form → AreRead l (gs ++ g ∷ []) [] in_rows in_points
 read_whole {l = l} {gs = gs} {form = form} g a valid same =
     let all = sym (append-nil (rows_of (gs ++ g ∷ [])) ∙ rows_of-more gs g form same) in
     record {
@@ -192,16 +201,19 @@ read_whole {l = l} {gs = gs} {form = form} g a valid same =
     }
 
 -- the open geometry is complete, and its blob was written or counted
-pub ended_one : {l : Allowance} {style : Style} {start before after : List ℕ} {in_rows : List BufferRow}
-    {in_points : List BufferPoint} {old : Writer} (w : IsWriting l style start in_rows in_points before old)
-    (new : Writer) (blob : List ℕ) → (old.open_geometry ≡ [] → ⊥)
+pub ended_one : {l : Allowance} {style : Style} {start before after : List ℕ}
+    {in_rows : List BufferRow} {in_points : List BufferPoint} {old : Writer}
+    (w : IsWriting l style start in_rows in_points before old) (new : Writer) (blob : List ℕ)
+    → (old.open_geometry ≡ [] → ⊥)
     → ((g : Tree) → IsTree g → rows 0 g ≡ old.open_geometry → blob ≡ canonical_blob style g)
     → Sends blob before old.sent after new.sent → new.open_geometry ≡ []
     → IsWriting l style start in_rows in_points after new
 ended_one {l = l} {style = style} {start = start} {old = old} w new blob some made sends closed =
     let (g, valid, same) = one_of l old.open_geometry some w.read.begun_valid in
-    let (given, later, all, sent) = sends style start w.given w.later g w.sent (made g valid.tree same) in
-    record { given = given; later = later; read = rw (all, closed) (read_whole g w.read valid same); sent = sent }
+    let (given, later, all, sent) = sends style start w.given w.later g w.sent
+    (made g valid.tree same) in
+    record { given = given; later = later; read = rw (all, closed) (read_whole g w.read valid same);
+        sent = sent }
 
 -- ==== A row of an array, and the row of a geometry that it stands for.
 
@@ -264,25 +276,28 @@ points_back l rs row ahead r a =
 
 -- one more row is read, and belongs to the open geometry
 read_more : {l : Allowance} {gs : List Tree} {form : List Row} {in_rows : List BufferRow}
-    {in_points : List BufferPoint} (a : AreRead l gs form in_rows in_points) (new_form : List Row) (row : BufferRow)
-    (ahead : List BufferPoint) (r : Row) (count : ℕ) → new_form ≡ form ++ r ∷ []
+    {in_points : List BufferPoint} (a : AreRead l gs form in_rows in_points) (new_form : List Row)
+    (row : BufferRow) (ahead : List BufferPoint) (r : Row) (count : ℕ) → new_form ≡ form ++ r ∷ []
     → AcceptedAfter l form row ahead r → AreValidRowsOfOne l new_form → count ≡ row.points
     → AreRead l gs new_form (in_rows ++ row ∷ []) (in_points ++ take count ahead)
 read_more {l = l} {form = form} a new_form row ahead r count is accepted valid count_is = record {
   valid = a.valid;
   begun_valid = valid;
-  rows_are = rw (is, a.rows_are, ← row_back l form row ahead r accepted) (simp (append_assoc, map-append));
+  rows_are = rw (is, a.rows_are, ← row_back l form row ahead r accepted)
+      (simp (append_assoc, map-append));
   points_are = rw (is, a.points_are, count_is, ← points_back l form row ahead r accepted)
       (simp (append_assoc, row_points-append, coordinates_of-append, append-nil));
 }
 
 -- one more row is read
 writes_more : {l : Allowance} {style : Style} {start out : List ℕ} {in_rows : List BufferRow}
-    {in_points : List BufferPoint} {mid : Writer} (w : IsWriting l style start in_rows in_points out mid)
-    (new : Writer) (row : BufferRow) (ahead : List BufferPoint) (r : Row) (count : ℕ)
-    → new.open_geometry ≡ mid.open_geometry ++ r ∷ [] → AcceptedAfter l mid.open_geometry row ahead r
-    → AreValidRowsOfOne l new.open_geometry → count ≡ row.points → new.sent ≡ mid.sent
-    → IsWriting l style start (in_rows ++ row ∷ []) (in_points ++ take count ahead) out new
+    {in_points : List BufferPoint} {mid : Writer}
+    (w : IsWriting l style start in_rows in_points out mid) (new : Writer) (row : BufferRow)
+    (ahead : List BufferPoint) (r : Row) (count : ℕ)
+    → new.open_geometry ≡ mid.open_geometry ++ r ∷ []
+    → AcceptedAfter l mid.open_geometry row ahead r → AreValidRowsOfOne l new.open_geometry
+    → count ≡ row.points → new.sent ≡ mid.sent → IsWriting l style start (in_rows ++ row ∷ [])
+    (in_points ++ take count ahead) out new
 writes_more w new row ahead r count is accepted valid count_is same = record {
   given = w.given;
   later = w.later;
@@ -310,53 +325,62 @@ first_is_root (first ∷ more) row none is root = ap (λ (r : BufferRow). r.dept
 
 -- what is known of a row that is read into the form
 pub row_read : (l : Allowance) (style : Style) (before after : List ℕ) (old mid new : Writer)
-    (rows_ahead : List BufferRow) (row : BufferRow) (ahead : List BufferPoint) (result : Result ℕ (Stop ℕ))
-    → take 1 rows_ahead ≡ row ∷ [] → StaysWriting style before old after mid
+    (rows_ahead : List BufferRow) (row : BufferRow) (ahead : List BufferPoint)
+    (result : Result ℕ (Stop ℕ)) → take 1 rows_ahead ≡ row ∷ []
+    → StaysWriting style before old after mid
     → IfOk result (λ count. (count ≤ length ahead) × (count ≡ row.points))
     → IfOk result (λ count. (r : Row) × (new.open_geometry ≡ mid.open_geometry ++ r ∷ [])
     × AcceptedAfter l mid.open_geometry row ahead r × AreValidRowsOfOne l new.open_geometry)
     → new.sent ≡ mid.sent
-    → IfOk result (λ count. ReadsMore l style (take 1 rows_ahead) (take count ahead) before old after new)
-row_read l style before after old mid new rows_ahead row ahead (Ok count) first stays counted pushed same =
-    λ start in_rows in_points w. rw first (writes_more (stays l start in_rows in_points w) new row ahead pushed.0 count
-    pushed.1 pushed.2 pushed.3 counted.1 same)
-row_read l style before after old mid new rows_ahead row ahead (Err why) first stays counted pushed same = tt
+    → IfOk result (λ count. ReadsMore l style (take 1 rows_ahead) (take count ahead) before old
+    after new)
+row_read l style before after old mid new rows_ahead row ahead (Ok count) first stays counted pushed
+    same =
+    λ start in_rows in_points w. rw first (writes_more (stays l start in_rows in_points w) new row
+    ahead pushed.0 count pushed.1 pushed.2 pushed.3 counted.1 same)
+row_read l style before after old mid new rows_ahead row ahead (Err why) first stays counted pushed
+    same = tt
 
 -- the first row is a whole geometry with this many points, and these are the bytes of its blob
-pub first_made : {l : Allowance} {style : Style} {rows_ahead : List BufferRow} {ahead : List BufferPoint}
-    {made : Option ℕ} {count : ℕ} {found blob : List ℕ} → made ≡ Some count → blob ≡ found
-    → IfSome made (λ n. IsMadeFirst l style rows_ahead ahead n found) → IsMadeFirst l style rows_ahead ahead count blob
+pub first_made : {l : Allowance} {style : Style} {rows_ahead : List BufferRow}
+    {ahead : List BufferPoint} {made : Option ℕ} {count : ℕ} {found blob : List ℕ}
+    → made ≡ Some count → blob ≡ found
+    → IfSome made (λ n. IsMadeFirst l style rows_ahead ahead n found)
+    → IsMadeFirst l style rows_ahead ahead count blob
 first_made is same m = rw same (rw is at m)
 
 -- the first row is a whole geometry, whose blob was written or counted
-pub first_written : {l : Allowance} {style : Style} {rows_ahead : List BufferRow} {ahead : List BufferPoint}
-    {count : ℕ} {blob : List ℕ} (m : IsMadeFirst l style rows_ahead ahead count blob) (before between after : List ℕ)
+pub first_written : {l : Allowance} {style : Style} {rows_ahead : List BufferRow}
+    {ahead : List BufferPoint} {count : ℕ} {blob : List ℕ}
+    (m : IsMadeFirst l style rows_ahead ahead count blob) (before between after : List ℕ)
     (old mid new : Writer) → StaysWriting style before old between mid
-    → (BeginWithRoot rows_ahead → mid.open_geometry ≡ []) → Sends blob between mid.sent after new.sent
-    → new.open_geometry ≡ mid.open_geometry
+    → (BeginWithRoot rows_ahead → mid.open_geometry ≡ [])
+    → Sends blob between mid.sent after new.sent → new.open_geometry ≡ mid.open_geometry
     → ReadsMore l style (take 1 rows_ahead) (take count ahead) before old after new
-first_written {l = l} {style = style} {ahead = ahead} {count = count} {blob = blob} m before between after old mid new
-    stays root sends same start in_rows in_points w =
+first_written {l = l} {style = style} {ahead = ahead} {count = count} {blob = blob} m before between
+    after old mid new stays root sends same start in_rows in_points w =
     let one = m.made in
     let r = one.only_row in
     let none : mid.open_geometry ≡ [] = root (subst BeginWithRoot (sym m.rows_are) one.is_root) in
     let accepted = subst (λ (rs : List Row). AcceptedAfter l rs m.row ahead r) (sym none) one.accepted in
-    let read = writes_more (stays l start in_rows in_points w) (record mid { open_geometry = r ∷ [] }) m.row ahead r
+    let read = writes_more (stays l start in_rows in_points w)
+    (record mid { open_geometry = r ∷ [] }) m.row ahead r
     count (rw none refl) accepted (one.geometry, one.valid, one.row_is) one.count_is refl in
     rw m.rows_are (ended_one read new blob (λ e. cc e)
     (λ g tree is. one.blob_is
-    ∙ ap (canonical_blob style) (one_geometry one.geometry g one.valid.tree tree (one.row_is ∙ sym is)))
-    sends (same ∙ none))
+    ∙ ap (canonical_blob style)
+    (one_geometry one.geometry g one.valid.tree tree (one.row_is ∙ sym is))) sends (same ∙ none))
 
 -- ---- a row that is not read
 
 -- memory was refused before more rows and points were read
-pub lacks_memory : {l : Allowance} {style : Style} {start before after : List ℕ} {in_rows : List BufferRow}
-    {in_points : List BufferPoint} {old : Writer} {sent : Sent}
-    (w : IsWriting l style start in_rows in_points before old) (more : List BufferRow) (ahead : List BufferPoint)
-    → after ≡ before → sent ≡ old.sent
+pub lacks_memory : {l : Allowance} {style : Style} {start before after : List ℕ}
+    {in_rows : List BufferRow} {in_points : List BufferPoint} {old : Writer} {sent : Sent}
+    (w : IsWriting l style start in_rows in_points before old) (more : List BufferRow)
+    (ahead : List BufferPoint) → after ≡ before → sent ≡ old.sent
     → StopsWriting l style start (in_rows ++ more) (in_points ++ ahead) after sent stop.Memory
-lacks_memory {in_rows = in_rows} {in_points = in_points} {old = old} w more ahead same_output same = (
+lacks_memory {in_rows = in_rows} {in_points = in_points} {old = old} w more ahead same_output
+    same = (
   w.given,
   w.later,
   rw (same_output, same) w.sent,
@@ -373,24 +397,27 @@ lacks_memory {in_rows = in_rows} {in_points = in_points} {old = old} w more ahea
 )
 
 -- what is known of a row that is not read
-pub row_not_read : {sent : Sent} (l : Allowance) (style : Style) (before after : List ℕ) (old mid : Writer)
-    (row none : BufferRow) (rows_ahead : List BufferRow) (ahead : List BufferPoint) (result : Result ℕ (Stop ℕ))
-    → 0 < length rows_ahead → row ≡ slice_index_or rows_ahead 0 none → StaysWriting style before old after mid
+pub row_not_read : {sent : Sent} (l : Allowance) (style : Style) (before after : List ℕ)
+    (old mid : Writer) (row none : BufferRow) (rows_ahead : List BufferRow)
+    (ahead : List BufferPoint) (result : Result ℕ (Stop ℕ)) → 0 < length rows_ahead
+    → row ≡ slice_index_or rows_ahead 0 none → StaysWriting style before old after mid
     → sent ≡ mid.sent → (row.depth ≡ 0 → mid.open_geometry ≡ [])
     → (mid.open_geometry ≡ [] → (row.depth ≡ 0) ⊎ (old.open_geometry ≡ []))
     → IfErr result (IfRefused (RefusedAfter l mid.open_geometry row ahead))
-    → IfErr result (λ why. (start : List ℕ) (in_rows : List BufferRow) (in_points : List BufferPoint)
-    → IsWriting l style start in_rows in_points before old
+    → IfErr result (λ why. (start : List ℕ) (in_rows : List BufferRow)
+    (in_points : List BufferPoint) → IsWriting l style start in_rows in_points before old
     → (old.open_geometry ≡ [] → (in_rows ≡ []) ⊎ BeginWithRoot rows_ahead)
     → StopsWriting l style start (in_rows ++ rows_ahead) (in_points ++ ahead) after sent
     (stopped_at (length in_rows) ahead why))
-row_not_read l style before after old mid row none rows_ahead ahead (Ok count) some is stays same root kept
+row_not_read l style before after old mid row none rows_ahead ahead (Ok count) some is stays same
+    root kept
     refused = tt
-row_not_read l style before after old mid row none rows_ahead ahead (Err stop.Memory) some is stays same root
-    kept refused =
-    λ start in_rows in_points w was. lacks_memory (stays l start in_rows in_points w) rows_ahead ahead refl same
-row_not_read l style before after old mid row none rows_ahead ahead (Err (stop.Refused number)) some is stays
+row_not_read l style before after old mid row none rows_ahead ahead (Err stop.Memory) some is stays
     same root kept refused =
+    λ start in_rows in_points w was. lacks_memory (stays l start in_rows in_points w) rows_ahead
+    ahead refl same
+row_not_read l style before after old mid row none rows_ahead ahead (Err (stop.Refused number)) some
+    is stays same root kept refused =
     λ start in_rows in_points w was. let mid_writing = stays l start in_rows in_points w in (
       mid_writing.given,
       mid_writing.later,
@@ -402,7 +429,8 @@ row_not_read l style before after old mid row none rows_ahead ahead (Err (stop.R
         more = drop 1 rows_ahead;
         front_points = in_points;
         ahead = ahead;
-        rows_are = ap (λ (xs : List BufferRow). in_rows ++ xs) (first_and_more rows_ahead row none some is);
+        rows_are = ap (λ (xs : List BufferRow). in_rows ++ xs)
+            (first_and_more rows_ahead row none some is);
         points_are = refl;
         read = mid_writing.read;
         root = root;
@@ -422,9 +450,10 @@ row_not_read l style before after old mid row none rows_ahead ahead (Err (stop.R
 -- ==== The end of arrays that are written as streams: all is written, or points are left over.
 
 -- points that are left over end the writing
-pub points_left_over : {l : Allowance} {style : Style} {start out : List ℕ} {in_rows : List BufferRow} {writer : Writer}
-    (in_points : List BufferPoint) (used : ℕ) → IsWriting l style start in_rows (take used in_points) out writer
-    → used < length in_points → (writer.open_geometry ≡ [] → in_rows ≡ [])
+pub points_left_over : {l : Allowance} {style : Style} {start out : List ℕ}
+    {in_rows : List BufferRow} {writer : Writer} (in_points : List BufferPoint) (used : ℕ)
+    → IsWriting l style start in_rows (take used in_points) out writer → used < length in_points
+    → (writer.open_geometry ≡ [] → in_rows ≡ [])
     → StopsWriting l style start in_rows in_points out writer.sent
     (stop.Refused (record { place = length in_rows; number = 72; index = 0 }))
 points_left_over {writer = writer} in_points used w some last = (
@@ -446,14 +475,16 @@ points_left_over {writer = writer} in_points used w some last = (
 )
 
 -- all rows and points are those of complete geometries
-pub all_written : {l : Allowance} {style : Style} {start out : List ℕ} {in_rows : List BufferRow} {writer : Writer}
-    (in_points : List BufferPoint) (used : ℕ) → IsWriting l style start in_rows (take used in_points) out writer
-    → length in_points ≤ used → writer.open_geometry ≡ []
-    → (given later : List Tree) × HasSent style start given later out writer.sent
-    × AreArrays l (given ++ later) in_rows in_points
+pub all_written : {l : Allowance} {style : Style} {start out : List ℕ} {in_rows : List BufferRow}
+    {writer : Writer} (in_points : List BufferPoint) (used : ℕ)
+    → IsWriting l style start in_rows (take used in_points) out writer → length in_points ≤ used
+    → writer.open_geometry ≡ []
+    → (given later : List Tree) × HasSent style start given later out writer.sent × AreArrays l
+    (given ++ later) in_rows in_points
 all_written {writer = writer} in_points used w whole closed =
     let gs = w.given ++ w.later in
-    let all : rows_of gs ++ writer.open_geometry ≡ rows_of gs = rw closed (append-nil (rows_of gs)) in (
+    let all : rows_of gs ++ writer.open_geometry ≡ rows_of gs = rw closed
+    (append-nil (rows_of gs)) in (
       w.given,
       w.later,
       w.sent,

@@ -35,6 +35,6 @@ SendsOne style old gs g new sent = (given later : List Tree) × (given ++ later 
 
 -- if the blob is that of a geometry, it is the one more after the blobs made so far
 abbrev pub Sends : List ℕ → List ℕ → Sent → List ℕ → Sent → Type 0
-Sends blob old before new after = (style : Style) (start : List ℕ) (given later : List Tree) (g : Tree)
-    → HasSent style start given later old before → blob ≡ canonical_blob style g
+Sends blob old before new after = (style : Style) (start : List ℕ) (given later : List Tree)
+    (g : Tree) → HasSent style start given later old before → blob ≡ canonical_blob style g
     → SendsOne style start (given ++ later) g new after

@@ -38,4 +38,5 @@ pub record IsWithin (in_rows : List BufferRow) (in_points : List BufferPoint) (t
 abbrev pub TakesOne : List BufferRow → List BufferPoint → List Tree → Tree → List BufferRow
     → List BufferPoint → Taken → Type 0
 TakesOne old_rows old_points gs g new_rows new_points taken = (given later : List Tree)
-    × (given ++ later ≡ gs ++ g ∷ []) × HasTaken old_rows old_points given later new_rows new_points taken
+    × (given ++ later ≡ gs ++ g ∷ []) × HasTaken old_rows old_points given later new_rows new_points
+    taken

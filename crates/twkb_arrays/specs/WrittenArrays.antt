@@ -109,11 +109,12 @@ pub record IsWriting (l : Allowance) (style : Style) (start : List ℕ) (in_rows
 abbrev pub StaysWriting : Style → List ℕ → Writer → List ℕ → Writer → Type 0
 StaysWriting style before old after new =
     (l : Allowance) (start : List ℕ) (in_rows : List BufferRow) (in_points : List BufferPoint)
-    → IsWriting l style start in_rows in_points before old → IsWriting l style start in_rows in_points after new
+    → IsWriting l style start in_rows in_points before old
+    → IsWriting l style start in_rows in_points after new
 
 -- whatever was read before, these rows and points were read after it
-abbrev pub ReadsMore : Allowance → Style → List BufferRow → List BufferPoint → List ℕ → Writer → List ℕ → Writer
-    → Type 0
+abbrev pub ReadsMore : Allowance → Style → List BufferRow → List BufferPoint → List ℕ → Writer
+    → List ℕ → Writer → Type 0
 ReadsMore l style rows points before old after new =
     (start : List ℕ) (in_rows : List BufferRow) (in_points : List BufferPoint)
     → IsWriting l style start in_rows in_points before old
@@ -126,8 +127,8 @@ stopped_at place ahead (stop.Refused number) =
     stop.Refused (record { place = place; number = number; index = index_outside number ahead })
 
 -- The writing of arrays stopped after complete geometries of which the first were written.
-abbrev pub StopsWriting : Allowance → Style → List ℕ → List BufferRow → List BufferPoint → List ℕ → Sent
-    → Stop RefusedAt → Type 0
+abbrev pub StopsWriting : Allowance → Style → List ℕ → List BufferRow → List BufferPoint → List ℕ
+    → Sent → Stop RefusedAt → Type 0
 StopsWriting l style start in_rows in_points in_output sent why =
     (given later : List Tree) × HasSent style start given later in_output sent
     × EndsWriting {A = Unit {0}} l (given ++ later) in_rows in_points (Err why)

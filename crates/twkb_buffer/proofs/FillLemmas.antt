@@ -53,7 +53,8 @@ sent_is Ended Halted (Err fault) bytes agrees = agrees.1
 
 -- a fact about the bytes written is one about the start of a slice
 at_start : (Fact : List ℕ → Type 0) (n : ℕ) (bytes slice : List ℕ) → n ≡ length bytes
-    → take (length bytes) slice ≡ bytes → Fact bytes → Fact (take n slice) × (n ≡ length (take n slice))
+    → take (length bytes) slice ≡ bytes → Fact bytes
+    → Fact (take n slice) × (n ≡ length (take n slice))
 at_start Fact n bytes slice count front fact =
     let same : take n slice ≡ bytes = ap (λ k. take k slice) count ∙ front in
     (subst Fact (sym same) fact, count ∙ ap length (sym same))
@@ -64,9 +65,11 @@ pub fills : (Ended : Ends) (Halted : Stops) (answer : Result Report ConvertFault
     → length bytes ≤ length slice → take (length bytes) slice ≡ bytes → Fills Ended Halted slice answer
 fills Ended Halted (Ok report) bytes slice agrees within front = record {
   fits = rw agrees.1 within;
-  agrees = at_start (λ written. Ended written report.geometries) report.bytes bytes slice agrees.1 front agrees.0;
+  agrees = at_start (λ written. Ended written report.geometries) report.bytes bytes slice agrees.1
+      front agrees.0;
 }
 fills Ended Halted (Err fault) bytes slice agrees within front = record {
   fits = rw agrees.1 within;
-  agrees = at_start (λ written. Halted written fault.done fault.cause) fault.sent bytes slice agrees.1 front agrees.0;
+  agrees = at_start (λ written. Halted written fault.done fault.cause) fault.sent bytes slice
+      agrees.1 front agrees.0;
 }

@@ -64,9 +64,10 @@ IsNearest-more above below less whole more near = record {
 }
 
 -- a fraction that is at least a whole number is nearest to none below that
-pub nearest_from : {above below less whole : ℕ} (least : ℕ) → IsNearest above below less whole → 0 < below → less ≤ 1
-    → least * below ≤ above → least ≤ whole
-nearest_from {below = below} {whole = whole} least near some few large = elim (cases_lt whole least) [
+pub nearest_from : {above below less whole : ℕ} (least : ℕ) → IsNearest above below less whole
+    → 0 < below → less ≤ 1 → least * below ≤ above → least ≤ whole
+nearest_from {below = below} {whole = whole} least near some few large = elim (cases_lt whole least)
+    [
   | inl fewer ↦
       let up : below * (whole + 1) ≤ below * least = mul-le-mul_left below (omega arith) in
       absurd (omega (arith, up, near.less_than_half_under))
@@ -74,8 +75,8 @@ nearest_from {below = below} {whole = whole} least near some few large = elim (c
 ]
 
 -- the halves below the nearest number are those that the fraction reaches
-pub half_before : {above below less size : ℕ} (whole : ℕ) → IsNearest above below less size → whole < size
-    → (2 * whole + 1) * below + less ≤ 2 * above
+pub half_before : {above below less size : ℕ} (whole : ℕ) → IsNearest above below less size
+    → whole < size → (2 * whole + 1) * below + less ≤ 2 * above
 half_before {below = below} {size = size} whole near fewer =
     let up : below * (whole + 1) ≤ below * size = mul-le-mul_left below (omega arith) in
     omega (arith, up, near.at_most_half_over)
@@ -220,7 +221,8 @@ beyond_product number factor exponent less leading some large few whole near =
     let product = mul-le (2 ^ 52) (2 ^ 11) number (2 ^ (exponent - 1075)) leading power in
     let above = mul-le (2 ^ 63) 1 (number * 2 ^ (exponent - 1075)) factor product some in
     let near_one = rw none at near in
-    let least = nearest_from (COORDINATE_BOUND + 1) near_one (omega arith) few (omega (arith, above)) in
+    let least = nearest_from (COORDINATE_BOUND + 1) near_one (omega arith) few
+    (omega (arith, above)) in
     omega (arith, least)
 
 -- a number that is beyond the coordinates after it is divided
@@ -233,7 +235,8 @@ beyond_quotient number divisor exponent less leading some small large few whole 
     let power : 2 ^ 37 ≤ 2 ^ (exponent - 1075) = power_more 37 (exponent - 1075) (omega arith) in
     let product = mul-le (2 ^ 52) (2 ^ 37) number (2 ^ (exponent - 1075)) leading power in
     let near_one = rw none at near in
-    let least = nearest_from (COORDINATE_BOUND + 1) near_one (omega arith) few (omega (arith, product)) in
+    let least = nearest_from (COORDINATE_BOUND + 1) near_one (omega arith) few
+    (omega (arith, product)) in
     omega (arith, least)
 
 -- a power of two up to 2^27

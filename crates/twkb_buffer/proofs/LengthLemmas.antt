@@ -44,7 +44,8 @@ is_refused _ sent n e = absurd cc
 refused_length_is : (what : Conversion) (l : Allowance) (input written : List ℕ) (done n : ℕ)
     (why : Cause) → Stopped what l input written done why → IsRefusal why → n ≡ length written
     → HasLength what l input n
-refused_length_is (conversion.Pack style) l input written done n (cause.Row number reason) f refused e =
+refused_length_is (conversion.Pack style) l input written done n (cause.Row number reason) f refused
+    e =
     λ records all.
     let p = f.part in
     let whole : written ≡ canonical_stream style p.whole = p.bytes
@@ -67,9 +68,11 @@ refused_length_is conversion.Show l input written done n (cause.Blob offset reas
     let none : p.whole ++ p.later ≡ p.whole = ap (λ later. p.whole ++ later) f.explains.0 ∙ append-nil p.whole in
     let begin : LocatedStream l 0 p.bytes p.whole = subst (λ blobs. LocatedStream l 0 p.bytes blobs) none p.blobs in
     (written, inr (offset, reason_of reason, p.whole, f.explains.2, (p.bytes, p.begins.0, p.begins.1, begin), text), e)
-refused_length_is (conversion.Pack style) l input written done n (cause.Blob offset reason) f refused e =
+refused_length_is (conversion.Pack style) l input written done n (cause.Blob offset reason) f
+    refused e =
     absurd f.explains
-refused_length_is what l input written done n (cause.Row number reason) f refused e = absurd f.explains
+refused_length_is what l input written done n (cause.Row number reason) f refused e = absurd
+    f.explains
 refused_length_is what l input written done n _ f refused e = absurd refused
 
 -- the length of the whole output
@@ -85,8 +88,10 @@ finished_length_is (conversion.Pack style) l input written done n p e = λ recor
   ),
   e,
 )
-finished_length_is conversion.Unpack l input written done n p e = (written, inl (p.found, p.stream_is, p.written_is), e)
-finished_length_is conversion.Show l input written done n p e = (written, inl (p.found, p.stream_is, p.written_is), e)
+finished_length_is conversion.Unpack l input written done n p
+    e = (written, inl (p.found, p.stream_is, p.written_is), e)
+finished_length_is conversion.Show l input written done n p
+    e = (written, inl (p.found, p.stream_is, p.written_is), e)
 
 -- the length that an answer counts as the whole output is that length
 pub whole_length : (what : Conversion) (l : Allowance) (input written : List ℕ)

@@ -485,10 +485,11 @@ AllZip-more R _ _ x y all more = absurd all
 
 -- one more number is rounded
 pub rounds_more : {factor divisor : ℕ} {numbers : List ℕ} {old new : List ℤ} {count : ℕ} {unit : ℤ}
-    → RoundsBefore factor divisor numbers old new count → count < length numbers → length numbers ≤ length old
-    → IsUnit factor divisor (get_or numbers count 0) unit
+    → RoundsBefore factor divisor numbers old new count → count < length numbers
+    → length numbers ≤ length old → IsUnit factor divisor (get_or numbers count 0) unit
     → RoundsBefore factor divisor numbers old (set new count unit) (count + 1)
-rounds_more {factor = factor} {divisor = divisor} {numbers = numbers} {old = old} {new = new} {count = count}
+rounds_more {factor = factor} {divisor = divisor} {numbers = numbers} {old = old} {new = new}
+    {count = count}
     {unit = unit} before some room is =
     let places : count < length new = omega (arith, before.as_many) in
     record {
@@ -504,7 +505,8 @@ rounds_more {factor = factor} {divisor = divisor} {numbers = numbers} {old = old
 pub rounds_to : {factor divisor : ℕ} {numbers : List ℕ} {old new : List ℤ} {count : ℕ}
     → RoundsBefore factor divisor numbers old new count → count < length numbers
     → FindsUnit factor divisor (get_or numbers count 0) None → RoundsFront factor divisor numbers old new count
-rounds_to {factor = factor} {divisor = divisor} {numbers = numbers} {count = count} before some refused = record {
+rounds_to {factor = factor} {divisor = divisor} {numbers = numbers} {count = count} before some
+    refused = record {
   within = omega arith;
   rounded = before.rounded;
   left = before.left;

@@ -116,6 +116,7 @@ others_rounded =
 pub large_rounded : AreRounded large_doubles
 large_rounded =
     of_many (pos 0) 0x4340000000000000 9007199254740992 refl refl refl (omega arith, omega arith)
-    also of_many (pos 0) 0x43CFFFFFFFFFFFFF 4611686018427387392 refl refl refl (omega arith, omega arith)
-    also of_many (pos 0) 0xC3D0000000000000 4611686018427387904 refl refl refl (omega arith, omega arith)
-    also tt
+    also of_many (pos 0) 0x43CFFFFFFFFFFFFF 4611686018427387392 refl refl refl
+    (omega arith, omega arith)
+    also of_many (pos 0) 0xC3D0000000000000 4611686018427387904 refl refl refl
+    (omega arith, omega arith) also tt

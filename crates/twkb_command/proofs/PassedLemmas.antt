@@ -141,10 +141,11 @@ module _ (Holds : List Row → Type 0) (s : Shape) (each : EachKeeps Holds s.arg
       → short_fault s.rules s.args_override_self found rest h later ≡ []
       → Holds (short_met s.rules found rest h further).0.rows
   short_holds None rest h further later keeps then holds = λ none. holds
-  short_holds (Some a) rest h further later keeps then holds = elim (takes_values a) as (λ (b : Bool).
-      cond b (option_fault s.rules s.args_override_self a (attached_value rest) h)
-      (or_else (react_fault s.rules s.args_override_self a [] h) (later (reacted s.rules a [] h))) ≡ []
-      → Holds (cond b (option_met s.rules a (attached_value rest) h) (further (reacted s.rules a [] h))).0.rows) [
+  short_holds (Some a) rest h further later keeps then holds = elim (takes_values a) as
+      (λ (b : Bool). cond b (option_fault s.rules s.args_override_self a (attached_value rest) h)
+      (or_else (react_fault s.rules s.args_override_self a [] h) (later (reacted s.rules a [] h)))
+      ≡ [] → Holds (cond b (option_met s.rules a (attached_value rest) h)
+      (further (reacted s.rules a [] h))).0.rows) [
         | true ↦ option_holds a (attached_value rest) h keeps holds
         | false ↦ λ none. then (reacted s.rules a [] h)
             (reacted_holds a [] h keeps holds (first_none _ _ none)) (last_none _ _ none)
@@ -212,9 +213,11 @@ module _ (Holds : List Row → Type 0) (s : Shape) (each : EachKeeps Holds s.arg
       → Holds h.rows → other_fault s name word h ≡ []
       → Holds (subcommand_or_other s.rules name waiting position word h).0.rows
   other_holds (Some name) waiting position word h holds = λ none. holds
-  other_holds None waiting position word h holds = elim (bytes_eq word (45 ∷ 45 ∷ [])) as (λ (b : Bool).
+  other_holds None waiting position word h holds = elim (bytes_eq word (45 ∷ 45 ∷ [])) as
+      (λ (b : Bool).
       cond b [] (flag_word_fault s.rules s.args_override_self (long_of word) word h) ≡ []
-      → Holds (cond b (h, trailing position) (long_or_other s.rules waiting word (long_of word) h)).0.rows)
+      → Holds (cond b (h, trailing position)
+      (long_or_other s.rules waiting word (long_of word) h)).0.rows)
       [ true ↦ λ none. holds | false ↦ flag_word_holds (long_of word) waiting word h holds ]
 
   word_holds : (is_trailing : Bool) (names : Names) (waiting : Waiting) (position : ℕ) (word : Text)
@@ -228,8 +231,9 @@ module _ (Holds : List Row → Type 0) (s : Shape) (each : EachKeeps Holds s.arg
   positional_holds : (a : Rule) (word : Text) (h : Held) → Holds h.rows
       → positional_fault s.rules s.args_override_self a h ≡ []
       → Holds (positional_held s.rules a word h).rows
-  positional_holds a word h holds = elim (is_pending a h.pending && takes_several a) as (λ (b : Bool).
-      cond b [] (settle_fault s.rules s.args_override_self h) ≡ [] → Holds (cond b h (settled s.rules h)).rows)
+  positional_holds a word h holds = elim (is_pending a h.pending && takes_several a) as
+      (λ (b : Bool). cond b [] (settle_fault s.rules s.args_override_self h) ≡ []
+      → Holds (cond b h (settled s.rules h)).rows)
       [ true ↦ λ none. holds | false ↦ settled_holds h.pending h.rows holds ]
 
   to_positional_holds : (found : Option Rule) (word : Text) (w : Walk) (h : Held) → Holds h.rows
@@ -446,8 +450,8 @@ named_line styles (Err e) words kinds is = tt
 without_minus-cond : (t : Text) → without_minus t ≡ cond (starts_with_minus t) (drop 1 t) t
 without_minus-cond [] = refl
 without_minus-cond (x ∷ xs) =
-    elim (x == 45) as (λ (b : Bool). unwrap_or (cond b (Some xs) None) (x ∷ xs) ≡ cond b xs (x ∷ xs))
-    [ true ↦ refl | false ↦ refl ]
+    elim (x == 45) as (λ (b : Bool). unwrap_or (cond b (Some xs) None) (x ∷ xs) ≡ cond b xs
+    (x ∷ xs)) [ true ↦ refl | false ↦ refl ]
 
 no_plus : (ds : Text) → IsNumeral 10 ds → without_leading_plus ds ≡ ds
 no_plus [] h = refl

@@ -319,7 +319,8 @@ found_one : (test : Shape → Bool) (ss : List Shape) (words : List Text) → La
     → IsOneRequest (option_map_or (λ s. level_fault s [] nothing_held words false []) (find test ss) [])
 found_one test [] words lack = none_one
 found_one test (s ∷ ss) words lack = elim (test s) as (λ (b : Bool). IsOneRequest
-    (option_map_or (λ x. level_fault x [] nothing_held words false []) (cond b (Some s) (find test ss)) [])) [
+    (option_map_or (λ x. level_fault x [] nothing_held words false [])
+    (cond b (Some s) (find test ss)) [])) [
       | true ↦ level_one s lack.0 [] nothing_held words false [] none_one
       | false ↦ found_one test ss words lack.1
     ]

@@ -55,16 +55,18 @@ located-append l offset xs ys (b ∷ bs) cs s t =
 -- ==== What a cause says of the text that was sent, and of the devices.
 
 -- what a cause says after blobs with these bytes, if no further text was made
-module _ (layout : Layout) (l : Allowance) (old mid told : Option (List ℕ)) (middle : ℕ) (bytes : List ℕ)
-    (bs : List Located) (blobs : LocatedStream l 0 bytes bs) (used : Used old 0 bytes mid middle) where
+module _ (layout : Layout) (l : Allowance) (old mid told : Option (List ℕ)) (middle : ℕ)
+    (bytes : List ℕ)
+    (bs : List Located) (blobs : LocatedStream l 0 bytes bs) (used : Used old 0 bytes mid middle)
+    where
   long : (known left : Option (List ℕ)) → Consumes known left bytes
       → IfSome left (λ rest. MAX_BYTES < middle + length rest) → IfSome known (λ all. MAX_BYTES < length all)
   long None left c far = tt
   long (Some all) None c far = absurd c
   long (Some all) (Some rest) c far = omega (arith, far, used.counted, ap length c, length-append bytes rest)
 
-  refused : (known left : Option (List ℕ)) (offset : ℕ) (why : BlobReason) → Consumes known left bytes
-      → IfSome left (λ rest. RefusesBlob l rest middle offset why)
+  refused : (known left : Option (List ℕ)) (offset : ℕ) (why : BlobReason)
+      → Consumes known left bytes → IfSome left (λ rest. RefusesBlob l rest middle offset why)
       → IfSome known (λ all. StreamFault l all (geometries_of bs) offset (reason_of why))
   refused None left offset why c refuses = tt
   refused (Some all) None offset why c refuses = absurd c
@@ -91,7 +93,8 @@ module _ (layout : Layout) (l : Allowance) (old mid told : Option (List ℕ)) (m
     },
   )
   explained cause.TooLong misses = inl (long old mid used.consumed misses)
-  explained (cause.Blob offset why) misses = (refl, refl, refused old mid offset why used.consumed misses)
+  explained (cause.Blob offset why) misses = (refl, refl, refused old mid offset why used.consumed
+      misses)
   explained _ misses = absurd misses
 
 -- no device but the reader's is a cause if no text was made
@@ -138,9 +141,9 @@ write_refused A out.Write = refl
 write_refused A _ = refl
 
 -- no call was refused
-pub leaves_took : {A W : Type 0} {contents : W → Option (List ℕ)} {old new : Output W} {bytes : List ℕ}
-    (answer : Result A Cause) → Took contents old bytes new → is_spent old ≡ false → is_write answer ≡ false
-    → Leaves contents old bytes new answer
+pub leaves_took : {A W : Type 0} {contents : W → Option (List ℕ)} {old new : Output W}
+    {bytes : List ℕ} (answer : Result A Cause) → Took contents old bytes new → is_spent old ≡ false
+    → is_write answer ≡ false → Leaves contents old bytes new answer
 leaves_took {new = new} answer took fresh quiet = record {
   sends = took.sends;
   failures = rw quiet took.failures;
@@ -149,8 +152,9 @@ leaves_took {new = new} answer took fresh quiet = record {
 }
 
 -- a put was refused
-pub leaves_refused : {A W : Type 0} {contents : W → Option (List ℕ)} {old new : Output W} {bytes : List ℕ}
-    {f : OutFault} → Refused contents old bytes f new → Leaves {A = A} contents old bytes new (Err (cause_of_output f))
+pub leaves_refused : {A W : Type 0} {contents : W → Option (List ℕ)} {old new : Output W}
+    {bytes : List ℕ} {f : OutFault} → Refused contents old bytes f new
+    → Leaves {A = A} contents old bytes new (Err (cause_of_output f))
 leaves_refused {A = A} {new = new} {f = f} refused = record {
   sends = refused.sends;
   failures = rw (write_refused A f) refused.failures;
@@ -169,7 +173,8 @@ unless (Err why) P Q more p = λ no_write no_length. more (p no_write no_length)
 sent_with : {W : Type 0} {contents : W → Option (List ℕ)} {old mid new : Output W} {bytes : List ℕ}
     → Sent contents old bytes mid → Sent contents mid [] new → Sent contents old bytes new
 sent_with {contents = contents} {old = old} {mid = mid} {new = new} {bytes = bytes} first second =
-    subst (λ b. Sent contents old b new) (append-nil bytes) (sent_join contents old mid new bytes [] first second)
+    subst (λ b. Sent contents old b new) (append-nil bytes)
+    (sent_join contents old mid new bytes [] first second)
 
 module _ {A W : Type 0} {contents : W → Option (List ℕ)} {old mid new : Output W} {bytes : List ℕ}
     {answer last : Result A Cause} where
@@ -203,15 +208,18 @@ module _ {A W : Type 0} {contents : W → Option (List ℕ)} {old mid new : Outp
 -- all is flushed, unless the output refused a call
 pub flushed_last : {A W : Type 0} {contents : W → Option (List ℕ)} {mid new : Output W}
     {answer last : Result A Cause} → Flushes contents mid answer new last
-    → UnlessRefused answer (is_spent mid ≡ false) → UnlessRefused last (has_unflushed (output_tap new).now ≡ false)
+    → UnlessRefused answer (is_spent mid ≡ false)
+    → UnlessRefused last (has_unflushed (output_tap new).now ≡ false)
 flushed_last {answer = answer} (inl (took, flushed, is)) unspent = rw is (always answer _ flushed)
 flushed_last {answer = answer} (inr (inl (spent, same, is))) unspent =
     rw is (unless answer _ _ (λ e. absurd (cc (e, spent))) unspent)
-flushed_last (inr (inr (fresh, refused, is))) unspent = rw is (λ no_write no_length. absurd (no_write refl))
+flushed_last (inr (inr (fresh, refused, is))) unspent = rw is
+    (λ no_write no_length. absurd (no_write refl))
 
 -- what holds if all was sent also holds if all was sent and flushed
-pub kept_last : {A W : Type 0} {contents : W → Option (List ℕ)} {mid new : Output W} {answer last : Result A Cause}
-    (done : A) (P : Type 0) → Flushes contents mid answer new last → OnOk answer P → last ≡ Ok done → P
+pub kept_last : {A W : Type 0} {contents : W → Option (List ℕ)} {mid new : Output W}
+    {answer last : Result A Cause} (done : A) (P : Type 0) → Flushes contents mid answer new last
+    → OnOk answer P → last ≡ Ok done → P
 kept_last done P (inl (took, flushed, is)) p ok = subst (λ r. OnOk r P) (sym is ∙ ok) p
 kept_last done P (inr (inl (spent, same, is))) p ok = subst (λ r. OnOk r P) (sym is ∙ ok) p
 kept_last done P (inr (inr (fresh, refused, is))) p ok = absurd (cc (sym ok ∙ is))
@@ -245,7 +253,8 @@ pub flushes_before : {W : Type 0} {contents : W → Option (List ℕ)} {mid new 
     → Flushes contents mid (after_reads failed sending) new last
     → (answer : Result (Unit {0}) Cause) × Flushes contents mid sending new answer × (last ≡ after_reads failed answer)
 flushes_before failed sending (inl (took, flushed, is)) = (sending, inl (took, flushed, refl), is)
-flushes_before failed sending (inr (inl (spent, same, is))) = (sending, inr (inl (spent, same, refl)), is)
+flushes_before failed sending
+    (inr (inl (spent, same, is))) = (sending, inr (inl (spent, same, refl)), is)
 flushes_before failed sending (inr (inr (fresh, refused, is))) =
     (Err cause.WriteDevice, inr (inr (fresh, refused, refl)), is ∙ sym (write_stays failed))
 

@@ -245,8 +245,8 @@ still_known None new bytes Fact c fact = tt
 still_known (Some xs) None bytes Fact c fact = absurd c
 still_known (Some xs) (Some ys) bytes Fact c fact = fact
 
-used_join : {a b c : Option (List ℕ)} {m n o : ℕ} {xs ys : List ℕ} → Used a m xs b n → Used b n ys c o
-    → Used a m (xs ++ ys) c o
+used_join : {a b c : Option (List ℕ)} {m n o : ℕ} {xs ys : List ℕ} → Used a m xs b n
+    → Used b n ys c o → Used a m (xs ++ ys) c o
 used_join {a = a} {b = b} {c = c} {xs = xs} {ys = ys} first second = record {
   consumed = Consumes-trans a b c xs ys first.consumed second.consumed;
   counted = omega (arith, first.counted, second.counted, length-append xs ys);
@@ -281,8 +281,8 @@ given_more {l = l} {b = b} gives =
     omega (arith, gives.used.counted, blob_long l gives.front b.geometry gives.tells.blob)
 
 -- fewer bytes may still be given out after a blob was read
-pub fewer_left : {R : Type 0} {read : Ghosts R} {layout : Layout} {from to : Reader R read} {text : List ℕ}
-    → GivesText layout from to text → MAX_BYTES - given to < MAX_BYTES - given from
+pub fewer_left : {R : Type 0} {read : Ghosts R} {layout : Layout} {from to : Reader R read}
+    {text : List ℕ} → GivesText layout from to text → MAX_BYTES - given to < MAX_BYTES - given from
 fewer_left one = omega (arith, given_more one.gives, one.follows.within)
 
 -- ---- the loop
@@ -300,8 +300,8 @@ follows_on first second = record {
 module _ {R W : Type 0} {read : Ghosts R} {layout : Layout} {contents : W → Option (List ℕ)}
     {from : Reader R read} {old : Output W} where
   -- the text before the first blob was sent
-  pub sent_first : {new : Output W} {done : ℕ} → done ≡ 0 → IsFresh from old → Took contents old layout.first new
-      → SentSoFar layout contents from old from new done
+  pub sent_first : {new : Output W} {done : ℕ} → done ≡ 0 → IsFresh from old
+      → Took contents old layout.first new → SentSoFar layout contents from old from new done
   sent_first {new = new} none fresh took = record {
     found = [];
     bytes = [];
@@ -316,8 +316,8 @@ module _ {R W : Type 0} {read : Ghosts R} {layout : Layout} {contents : W → Op
   }
 
   -- the text before the first blob was not sent whole
-  pub lists_none : {new : Output W} {done : ℕ} {text : List ℕ} {f : OutFault} → done ≡ 0 → text ≡ layout.first
-      → IsFresh from old → Cut contents old text f new
+  pub lists_none : {new : Output W} {done : ℕ} {text : List ℕ} {f : OutFault} → done ≡ 0
+      → text ≡ layout.first → IsFresh from old → Cut contents old text f new
       → Lists layout contents from old from new done (Err (cause_of_output f))
   lists_none {f = f} none own fresh cut =
       let whole = append-nil layout.first ∙ sym own in
@@ -346,17 +346,21 @@ module _ {R W : Type 0} {read : Ghosts R} {layout : Layout} {contents : W → Op
         };
       }
 
-  module _ {mid : Reader R read} {out : Output W} {done : ℕ} (sent : SentSoFar layout contents from old mid out done)
+  module _ {mid : Reader R read} {out : Output W} {done : ℕ}
+      (sent : SentSoFar layout contents from old mid out done)
       where
     -- one more blob was read
     one_read : {to : Reader R read} {text : List ℕ} (one : GivesText layout mid to text)
-        → LocatedStream (limits_of from) 0 (sent.bytes ++ one.gives.front) (sent.found ++ one.found ∷ [])
-    one_read one = one_more (limits_of from) (limits_of mid) 0 (given mid) sent.bytes one.gives.front
+        → LocatedStream (limits_of from) 0 (sent.bytes ++ one.gives.front)
+        (sent.found ++ one.found ∷ [])
+    one_read one = one_more (limits_of from) (limits_of mid) 0 (given mid) sent.bytes
+        one.gives.front
         sent.found one.found sent.blobs sent.follows.limits sent.used.counted one.gives.tells
 
     -- the text of one more blob was sent
-    pub sent_more : {to : Reader R read} {new : Output W} {text : List ℕ} → GivesText layout mid to text
-        → Took contents out text new → SentSoFar layout contents from old to new (done + 1)
+    pub sent_more : {to : Reader R read} {new : Output W} {text : List ℕ}
+        → GivesText layout mid to text → Took contents out text new
+        → SentSoFar layout contents from old to new (done + 1)
     sent_more {new = new} one took = record {
       found = sent.found ++ one.found ∷ [];
       bytes = sent.bytes ++ one.gives.front;
@@ -372,11 +376,12 @@ module _ {R W : Type 0} {read : Ghosts R} {layout : Layout} {contents : W → Op
     }
 
     -- a prefix of the text of one more blob was sent
-    pub lists_cut : {to : Reader R read} {new : Output W} {text : List ℕ} {fault : OutFault} → sent_of old ≡ 0
-        → GivesText layout mid to text → Cut contents out text fault new
+    pub lists_cut : {to : Reader R read} {new : Output W} {text : List ℕ} {fault : OutFault}
+        → sent_of old ≡ 0 → GivesText layout mid to text → Cut contents out text fault new
         → Lists layout contents from old to new done (Err (cause_of_output fault))
     lists_cut {to = to} {new = new} {fault = fault} none one refused_text =
-        let cut : Cut contents out (layout.text_of one.found) fault new = rw one.own at refused_text in
+        let cut : Cut contents out (layout.text_of one.found) fault new = rw one.own at
+        refused_text in
         let joined = text_more layout sent.found one.found in
         record {
           text = listing_text layout sent.found ++ cut.front;
@@ -393,7 +398,8 @@ module _ {R W : Type 0} {read : Ghosts R} {layout : Layout} {contents : W → Op
             one = inr (one.found, refl, cut.left sent.unspent);
             holds = inr (cut.front, refl);
           };
-          leaves = leaves_refused (refused_join contents old out new _ cut.front fault sent.took cut.refused);
+          leaves = leaves_refused (refused_join contents old out new _ cut.front fault sent.took
+              cut.refused);
           count = sent.count;
           read_failed = false;
           follows = follows_on sent.follows one.follows;
@@ -415,8 +421,9 @@ module _ {R W : Type 0} {read : Ghosts R} {layout : Layout} {contents : W → Op
         }
 
     -- no text was sent after those of whole blobs
-    lists_whole : {to : Reader R read} {failed : Bool} (answer : Result (Unit {0}) Cause) → Follows mid to failed
-        → is_write answer ≡ false → Ends layout from to sent.bytes sent.found [] [] failed answer
+    lists_whole : {to : Reader R read} {failed : Bool} (answer : Result (Unit {0}) Cause)
+        → Follows mid to failed → is_write answer ≡ false
+        → Ends layout from to sent.bytes sent.found [] [] failed answer
         → Lists layout contents from old to out done answer
     lists_whole {failed = failed} answer follows quiet ends =
         let text = listing_text layout sent.found in
@@ -441,7 +448,8 @@ module _ {R W : Type 0} {read : Ghosts R} {layout : Layout} {contents : W → Op
         }
 
     -- the end was found
-    pub lists_all : {to : Reader R read} → EndsBlobs mid to → Lists layout contents from old to out done (Ok tt)
+    pub lists_all : {to : Reader R read} → EndsBlobs mid to
+        → Lists layout contents from old to out done (Ok tt)
     lists_all {to = to} ends = lists_whole (Ok tt) ends.follows refl (record {
       no_later = refl;
       none_left = refl;
@@ -474,9 +482,9 @@ wrote true = refl
 
 -- what was sent, after the flush
 pub lists_last : {R W : Type 0} {read : Ghosts R} {layout : Layout} {contents : W → Option (List ℕ)}
-    {from to : Reader R read} {old mid new : Output W} {done : ℕ} {answer last : Result (Unit {0}) Cause}
-    → Lists layout contents from old to mid done answer → Flushes contents mid answer new last
-    → Lists layout contents from old to new done last
+    {from to : Reader R read} {old mid new : Output W} {done : ℕ}
+    {answer last : Result (Unit {0}) Cause} → Lists layout contents from old to mid done answer
+    → Flushes contents mid answer new last → Lists layout contents from old to new done last
 lists_last {layout = layout} {from = from} {to = to} {answer = answer} {last = last} lists flushes =
     let after = leaves_last lists.leaves flushes in
     record {
@@ -531,8 +539,9 @@ whole_text layout whole later text left cut no_later none_left =
     sym (append-nil text) ∙ ap (λ l. text ++ l) (sym none_left) ∙ sym cut
     ∙ ap (λ bs. listing_text layout (whole ++ bs)) no_later ∙ ap (listing_text layout) (append-nil whole)
 
-module _ {R W : Type 0} {read : Ghosts R} {layout : Layout} {contents : W → Option (List ℕ)} {l : Allowance}
-    {from to : Reader R read} {old mid new : Output W} {done : ℕ} {sending : Result (Unit {0}) Cause}
+module _ {R W : Type 0} {read : Ghosts R} {layout : Layout} {contents : W → Option (List ℕ)}
+    {l : Allowance} {from to : Reader R read} {old mid new : Output W} {done : ℕ}
+    {sending : Result (Unit {0}) Cause}
     {report : Result Report ConvertFault} (remaining : R → Option (List ℕ)) (reader after : Tap R)
     (writer written : Tap W) (finishes : Finishes contents mid done sending new report)
     (sends : Lists layout contents from old to mid done sending)

@@ -36,7 +36,8 @@ use Rattle.twkb_convert.proofs.ShownLemmas.{some_located_stream}
 -- ---- a text has one list of records
 
 reached_first : (cfg : Config) (s : State) (xs : List ℕ) (rs qs : List Record)
-    → AreRecords cfg s xs rs → (state : State) (left : List ℕ) → Reached cfg s xs qs state left → Begins qs rs
+    → AreRecords cfg s xs rs → (state : State) (left : List ℕ) → Reached cfg s xs qs state left
+    → Begins qs rs
 unfolding Reached
 reached_first cfg s xs rs [] a state left b = (rs, refl)
 reached_first cfg s xs [] (q ∷ qs) a state left b =
@@ -150,12 +151,14 @@ all_but_last_first (g ∷ k ∷ gs) =
     let rest = all_but_last_first (k ∷ gs) in (rest.0, ap (λ hs. g ∷ hs) rest.1)
 all_but_last_first gs = (gs, refl)
 
-one_before : (g : Tree) (gs rest hs : List Tree) → hs ≡ g ∷ rest → (rest ≡ [] → ⊥) → Begins gs (all_but_last rest)
-    → Begins (g ∷ gs) (all_but_last hs)
+one_before : (g : Tree) (gs rest hs : List Tree) → hs ≡ g ∷ rest → (rest ≡ [] → ⊥)
+    → Begins gs (all_but_last rest) → Begins (g ∷ gs) (all_but_last hs)
 one_before g gs [] hs whole some first = absurd (some refl)
-one_before g gs (r ∷ rest) hs whole some first = (first.0, ap all_but_last whole ∙ ap (λ l. g ∷ l) first.1)
+one_before g gs (r ∷ rest) hs whole some first = (first.0, ap all_but_last whole
+    ∙ ap (λ l. g ∷ l) first.1)
 
--- if rows of geometries begin with the rows of others, all but the last of those come first, without the last too
+-- if rows of geometries begin with the rows of others, all but the last of those come first,
+-- without the last too
 come_first : (gs hs : List Tree) (more : List Row) → AreGeometries gs → AreGeometries hs
     → rows_of hs ≡ rows_of gs ++ more → Begins (all_but_last gs) (all_but_last hs)
 come_first (g ∷ k ∷ gs) hs more a b e =
@@ -163,7 +166,8 @@ come_first (g ∷ k ∷ gs) hs more a b e =
     (at_root k gs more a.1) (sym (append_assoc (rows 0 g) (rows_of (k ∷ gs)) more) ∙ sym e) in
     let are : AreGeometries (g ∷ rest) = subst AreGeometries whole b in
     one_before g (all_but_last (k ∷ gs)) rest hs whole
-    (λ none. no_row k gs more a.1 (ap rows_of (sym none) ∙ others)) (come_first (k ∷ gs) rest more a.1 are.1 others)
+    (λ none. no_row k gs more a.1 (ap rows_of (sym none) ∙ others))
+    (come_first (k ∷ gs) rest more a.1 are.1 others)
 come_first _ hs more a b e = (all_but_last hs, refl)
 
 -- if records of geometries begin with the records of others, so do the rows
@@ -292,9 +296,11 @@ blobs_first : (l : Allowance) (a b x y : List ℕ) (gs hs : List Tree) (within :
 blobs_first l a b x y gs hs within reason s t f e =
     let (bs, located, are) = some_located_stream l 0 a gs s in
     let (cs, others, same) = some_located_stream l 0 b hs t in
-    let first = located_first l 0 a b x y bs cs located others (fault_no_blob l y within reason f) e in
+    let first = located_first l 0 a b x y bs cs located others (fault_no_blob l y within reason f)
+    e in
     (geometries_of first.0, sym same ∙ ap geometries_of first.1
-    ∙ map-append (λ (c : Located). c.geometry) bs first.0 ∙ ap (λ ks. ks ++ geometries_of first.0) are)
+    ∙ map-append (λ (c : Located). c.geometry) bs first.0 ∙ ap (λ ks. ks ++ geometries_of first.0)
+    are)
 
 blobs_unpacked : (l : Allowance) (all bytes rest : List ℕ) (gs : List Tree) (text : List ℕ)
     → all ≡ bytes ++ rest → Stream l bytes gs → UnpackTo l all text → (hs : List Tree)

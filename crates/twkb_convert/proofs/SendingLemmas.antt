@@ -132,9 +132,10 @@ stream_long style (g ∷ gs) = omega (
 module _ {R W : Type 0} {style : Style} {l : Allowance} {remaining : R → Option (List ℕ)}
     {contents : W → Option (List ℕ)} {told : Option (List ℕ)} where
   -- no geometry was sent yet
-  pub sent_none : {from : TableReader R} {old : Output W} {work : Work} → work ≡ no_work → is_spent old ≡ false
-      → sent_of old ≡ 0 → StandsAfter l remaining told [] [] from
-      → SentSoFar style l remaining contents told from old old (record { geometries = 0; work = work })
+  pub sent_none : {from : TableReader R} {old : Output W} {work : Work} → work ≡ no_work
+      → is_spent old ≡ false → sent_of old ≡ 0 → StandsAfter l remaining told [] [] from
+      → SentSoFar style l remaining contents told from old old
+      (record { geometries = 0; work = work })
   sent_none {old = old} idle fresh unsent stands = record {
     records = [];
     geometries = [];
@@ -223,9 +224,10 @@ module _ {R W : Type 0} {style : Style} {l : Allowance} {remaining : R → Optio
     cut_ends given _ later front long unspent = tt
 
     -- the output refused a prefix of the next blob
-    pub ends_cut : {to : TableReader R} {new : Output W} {f : OutFault} {rows : List Row} (given : ℕ)
-        (gives : GivesNext l remaining told s.records s.geometries rows to)
-        → after.geometries ≡ before.geometries → Cut contents mid (canonical_blob style gives.geometry) f new
+    pub ends_cut : {to : TableReader R} {new : Output W} {f : OutFault} {rows : List Row}
+        (given : ℕ) (gives : GivesNext l remaining told s.records s.geometries rows to)
+        → after.geometries ≡ before.geometries
+        → Cut contents mid (canonical_blob style gives.geometry) f new
         → SendsTable style l contents told given old new after (Err (cause_of_output f))
     ends_cut {to = to} {new = new} {f = f} given gives same cut =
         let fresh : is_spent mid ≡ false = s.took.spent ∙ s.fresh in
@@ -241,7 +243,8 @@ module _ {R W : Type 0} {style : Style} {l : Allowance} {remaining : R → Optio
             bytes = refl;
           };
           one = inr (gives.geometry, refl, cut.left fresh);
-          leaves = leaves_refused (refused_join contents old mid new _ cut.front f s.took cut.refused);
+          leaves = leaves_refused (refused_join contents old mid new _ cut.front f s.took
+              cut.refused);
           count = same ∙ s.count;
           ends = cut_ends given f (gives.geometry ∷ []) cut.front
               (λ far. (let most = cut.too_long far in let sent = s.took.sends.sent in
@@ -257,8 +260,8 @@ module _ {R W : Type 0} {style : Style} {l : Allowance} {remaining : R → Optio
         }
 
     -- the blob of the next geometry was not sent whole
-    pub ends_blob : {to : TableReader R} {new : Output W} {why : Cause} {rows : List Row} (given : ℕ)
-        (gives : GivesNext l remaining told s.records s.geometries rows to)
+    pub ends_blob : {to : TableReader R} {new : Output W} {why : Cause} {rows : List Row}
+        (given : ℕ) (gives : GivesNext l remaining told s.records s.geometries rows to)
         → after.geometries ≡ before.geometries → CutsBlob style contents gives.geometry mid why new
         → SendsTable style l contents told given old new after (Err why)
     ends_blob given gives same (inl (memory, unsent)) =
@@ -268,7 +271,8 @@ module _ {R W : Type 0} {style : Style} {l : Allowance} {remaining : R → Optio
   module _ {from : TableReader R} {old mid : Output W} {sent : Sent}
       (s : SentSoFar style l remaining contents told from old mid sent) where
     -- the table was read to its end
-    pub ends_table : {to : TableReader R} (given : ℕ) → MeetsEnd l remaining told s.records s.geometries to
+    pub ends_table : {to : TableReader R} (given : ℕ)
+        → MeetsEnd l remaining told s.records s.geometries to
         → SendsTable style l contents told given old mid sent (Ok tt)
     ends_table given meets = sent_whole s sent given (Ok tt) refl refl (record {
       table = record {
@@ -304,7 +308,8 @@ drained left given (Ok sent) (Ok done) drains = drains
 drained left given (Ok sent) (Err why) drains = tt
 drained left given (Err why) answer drains = subst (λ a. OnOk a (IsAtEnd left)) (sym drains) tt
 
-module _ {W : Type 0} {style : Style} {l : Allowance} {contents : W → Option (List ℕ)} {told : Option (List ℕ)}
+module _ {W : Type 0} {style : Style} {l : Allowance} {contents : W → Option (List ℕ)}
+    {told : Option (List ℕ)}
     {given : ℕ} {old mid : Output W} {sent : Sent} where
   -- the whole table was sent, and the reader was not read to its end
   undrained : (why : Cause) → is_write {A = Unit {0}} (Err why) ≡ false
@@ -347,7 +352,8 @@ module _ {W : Type 0} {style : Style} {l : Allowance} {contents : W → Option (
 
   -- what was sent, after the flush
   pub sends_last : {new : Output W} {answer last : Result (Unit {0}) Cause}
-      → SendsTable style l contents told given old mid sent answer → Flushes contents mid answer new last
+      → SendsTable style l contents told given old mid sent answer
+      → Flushes contents mid answer new last
       → SendsTable style l contents told given old new sent last
   sends_last {answer = answer} {last = last} s flushes =
       let after = leaves_last s.leaves flushes in
@@ -421,7 +427,8 @@ module _ {W : Type 0} {contents : W → Option (List ℕ)} {mid new : Output W} 
   flushes = flushes_before failed drained finishes.flushes
 
   held : UnlessRefused flushes.0 (has_unflushed written ≡ false)
-  held = subst (λ t. UnlessRefused flushes.0 (has_unflushed t ≡ false)) closes (flushed_last flushes.1 unspent)
+  held = subst (λ t. UnlessRefused flushes.0 (has_unflushed t ≡ false)) closes
+      (flushed_last flushes.1 unspent)
 
   pub flushed_ok : (done : Report) → report ≡ Ok done → has_unflushed written ≡ false
   flushed_ok done is =
@@ -436,13 +443,16 @@ module _ {W : Type 0} {contents : W → Option (List ℕ)} {mid new : Output W} 
       flushed_after failed flushes.0 fault.cause (has_unflushed written ≡ false) (sym stops ∙ flushes.2) held
       no_write no_read no_length
 
-module _ {R W : Type 0} {style : Style} {l : Allowance} {contents : W → Option (List ℕ)} {old mid new : Output W}
-    {sent : Sent} {report : Result Report ConvertFault} (remaining : R → Option (List ℕ)) (reader read : Tap R)
+module _ {R W : Type 0} {style : Style} {l : Allowance} {contents : W → Option (List ℕ)}
+    {old mid new : Output W}
+    {sent : Sent} {report : Result Report ConvertFault} (remaining : R → Option (List ℕ))
+    (reader read : Tap R)
     (writer written : Tap W) (failed : Bool) (drained : Result (Unit {0}) Cause)
     (changes : Changes failed (failures_of reader) (failures_of read))
     (end : OnOk drained (IsAtEnd (remaining (device_of read))))
     (finishes : Finishes contents mid sent.geometries (after_reads failed drained) new report)
-    (sends : SendsTable style l contents (remaining (device_of reader)) (bytes_given read) old mid sent drained)
+    (sends : SendsTable style l contents (remaining (device_of reader)) (bytes_given read) old mid
+    sent drained)
     (borrowed : (output_tap old).now ≡ writer) (closes : (output_tap new).now ≡ written) (none : sent_of old ≡ 0)
     where
   flushed : (answer : Result (Unit {0}) Cause) × Flushes contents mid drained new answer
@@ -569,8 +579,9 @@ module _ {R : Type 0} {l : Allowance} {remaining : R → Option (List ℕ)} {tol
   precise = (subst IsTree is_point gives.valid.tree).0
 
   -- the point was sent
-  pub writes_point : {W : Type 0} {style : Style} {contents : W → Option (List ℕ)} {old new : Output W}
-      {before after : Work} → (IsPrecision p → Took contents old (canonical_blob style (one_point p q)) new)
+  pub writes_point : {W : Type 0} {style : Style} {contents : W → Option (List ℕ)}
+      {old new : Output W} {before after : Work}
+      → (IsPrecision p → Took contents old (canonical_blob style (one_point p q)) new)
       → Measures before 1 1 1 after → WritesBlob style contents gives.geometry old before new after
   writes_point {before = before} {after = after} took measures = rw is_point (record {
     took = took precise;
@@ -578,7 +589,8 @@ module _ {R : Type 0} {l : Allowance} {remaining : R → Option (List ℕ)} {tol
   })
 
   -- the output refused a prefix of the point's blob
-  pub cuts_point : {W : Type 0} {contents : W → Option (List ℕ)} {old new : Output W} {fault : OutFault}
-      (style : Style) → (IsPrecision p → Cut contents old (canonical_blob style (one_point p q)) fault new)
+  pub cuts_point : {W : Type 0} {contents : W → Option (List ℕ)} {old new : Output W}
+      {fault : OutFault} (style : Style)
+      → (IsPrecision p → Cut contents old (canonical_blob style (one_point p q)) fault new)
       → Cut contents old (canonical_blob style gives.geometry) fault new
   cuts_point style cut = rw is_point (cut precise)

@@ -41,7 +41,8 @@ nothing_no_blob l g front rest e b = omega (arith, blob_long l front g b, ap len
 pub fault_no_blob : (l : Allowance) (bytes : List ℕ) (within : ℕ) (reason : Reason)
     → FirstFault l bytes within reason → NoBlob l bytes
 fault_no_blob l bytes within reason f g front rest cut blob =
-    no_fault l bytes rest g within reason (record { front = front; whole = cut; blob = blob }) f.fault
+    no_fault l bytes rest g within reason (record { front = front; whole = cut; blob = blob })
+    f.fault
 
 -- the list begins with these
 abbrev pub Begins : {A : Type 0} → List A → List A → Type 0

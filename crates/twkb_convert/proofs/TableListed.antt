@@ -50,64 +50,51 @@ explains_without l old told bytes causes.TooLong whole later left (inr long) = i
     (subst (λ (t : List ℕ). MAX_BYTES < length t) (all_text whole later) long)
 explains_without l old told bytes _ whole later left e = e
 
-module _ {R W : Type 0} (l : Allowance) (remaining : R → Option (List ℕ))
-    (contents : W → Option (List ℕ)) (reader : Tap R) (writer : Tap W) where
-  unpacked : (report : Report) (read : Tap R) (written : Tap W)
-      → Listed (LocatedStream l 0) (listing_text table_layout) remaining contents reader writer
-      report read written
-      → Unpacked l remaining contents reader writer report read written
-  unpacked report read written listed =
-      let text = table_of_blobs listed.found in
-      record {
-        found = geometries_of listed.found;
-        stream = known_stream l (remaining (device_of reader)) listed.found listed.stream;
-        appends = subst (λ t. Appends (contents (device_of writer)) (contents (device_of written))
-            t) text listed.appends;
-        geometries = listed.geometries ∙ sym (length-map listed.found (λ (b : Located). b.geometry));
-        bytes = listed.bytes ∙ ap length text;
-        end = listed.end;
-        reads = listed.reads;
-        writes = listed.writes;
-      }
+pub unpacked : {R W : Type 0} {remaining : R → Option (List ℕ)} {contents : W → Option (List ℕ)}
+    {reader read : Tap R} {writer written : Tap W} {report : Report} (l : Allowance)
+    → Listed (LocatedStream l 0)
+    (listing_text table_layout) remaining contents reader writer report read written
+    → Unpacked l remaining contents reader writer report read written
+unpacked {remaining = remaining} {reader = reader} l listed =
+    let text = table_of_blobs listed.found in
+    record {
+      found = geometries_of listed.found;
+      stream = known_stream l (remaining (device_of reader)) listed.found listed.stream;
+      appends = rw text at listed.appends;
+      geometries = listed.geometries ∙ sym (length-map listed.found (λ (b : Located). b.geometry));
+      bytes = listed.bytes ∙ ap length text;
+      end = listed.end;
+      reads = listed.reads;
+      writes = listed.writes;
+    }
 
-  stopped_unpacking : (fault : ConvertFault) (read : Tap R) (written : Tap W)
-      → StoppedListing (LocatedStream l 0) geometries_of (listing_text table_layout) l remaining
-      contents reader writer fault read written
-      → StoppedUnpacking l remaining contents reader writer fault read written
-  stopped_unpacking fault read written stopped =
-      let p = stopped.part in
-      record {
-        text = stopped.text;
-        part = record {
-          whole = geometries_of p.whole;
-          later = geometries_of p.later;
-          bytes = p.bytes;
-          left = p.left;
-          blobs = subst (λ gs. Stream l p.bytes gs) (joined p.whole p.later)
-              (located-stream l 0 p.bytes (p.whole ++ p.later) p.blobs);
-          begins = p.begins;
-          cut = sym (all_text p.whole p.later) ∙ p.cut;
-          one = cut_without p.later p.left p.one;
-          holds = holds_without stopped.text p.whole p.holds;
-        };
-        appends = stopped.appends;
-        done = stopped.done ∙ sym (length-map p.whole (λ (b : Located). b.geometry));
-        sent = stopped.sent;
-        explains = explains_without l (remaining (device_of reader)) (remaining (device_of read))
-            p.bytes fault.cause p.whole p.later p.left stopped.explains;
-        devices = stopped.devices;
-      }
-
-  pub table_unpacked : (answer : Result Report ConvertFault) (read : Tap R) (written : Tap W)
-      → IfOk answer (λ report. Listed (LocatedStream l 0) (listing_text table_layout) remaining
-      contents reader writer report read written)
-      → IfOk answer (λ report. Unpacked l remaining contents reader writer report read written)
-  table_unpacked (Ok report) read written listed = unpacked report read written listed
-  table_unpacked (Err fault) read written listed = tt
-
-  pub table_stopped : (answer : Result Report ConvertFault) (read : Tap R) (written : Tap W)
-      → IfErr answer (λ fault. StoppedListing (LocatedStream l 0) geometries_of
-      (listing_text table_layout) l remaining contents reader writer fault read written)
-      → IfErr answer (λ fault. StoppedUnpacking l remaining contents reader writer fault read written)
-  table_stopped (Ok report) read written stopped = tt
-  table_stopped (Err fault) read written stopped = stopped_unpacking fault read written stopped
+pub stopped_unpacking : {R W : Type 0} {remaining : R → Option (List ℕ)}
+    {contents : W → Option (List ℕ)} {reader read : Tap R} {writer written : Tap W}
+    {fault : ConvertFault} (l : Allowance)
+    → StoppedListing (LocatedStream l 0) geometries_of (listing_text table_layout) l remaining
+    contents reader writer fault read written
+    → StoppedUnpacking l remaining contents reader writer fault read written
+stopped_unpacking {remaining = remaining} {reader = reader} {read = read} {fault = fault} l stopped
+    =
+    let p = stopped.part in
+    record {
+      text = stopped.text;
+      part = record {
+        whole = geometries_of p.whole;
+        later = geometries_of p.later;
+        bytes = p.bytes;
+        left = p.left;
+        blobs = subst (λ gs. Stream l p.bytes gs) (joined p.whole p.later)
+            (located-stream l 0 p.bytes (p.whole ++ p.later) p.blobs);
+        begins = p.begins;
+        cut = sym (all_text p.whole p.later) ∙ p.cut;
+        one = cut_without p.later p.left p.one;
+        holds = holds_without stopped.text p.whole p.holds;
+      };
+      appends = stopped.appends;
+      done = stopped.done ∙ sym (length-map p.whole (λ (b : Located). b.geometry));
+      sent = stopped.sent;
+      explains = explains_without l (remaining (device_of reader)) (remaining (device_of read))
+          p.bytes fault.cause p.whole p.later p.left stopped.explains;
+      devices = stopped.devices;
+    }

@@ -119,14 +119,15 @@ counts_join before nodes more points others =
     joined : (n k m : ℕ) → saturated (saturated (n + k) + m) ≡ saturated (n + (k + m))
     joined n k m = omega arith
 
-pub rows_put_more : {rows : List Row} {i : ℕ} {r : Row} {old text after : List ℕ} {before work next : Work}
-    → RowsPut rows i old text before work → slice_get rows i ≡ Some r
+pub rows_put_more : {rows : List Row} {i : ℕ} {r : Row} {old text after : List ℕ}
+    {before work next : Work} → RowsPut rows i old text before work → slice_get rows i ≡ Some r
     → next ≡ record work {
       node_reads = saturated (work.node_reads + 1);
       point_reads = saturated (work.point_reads + length r.points);
     }
     → after ≡ text ++ row_lines (r ∷ []) → RowsPut rows (i + 1) old after before next
-rows_put_more {rows = rows} {i = i} {r = r} {old = old} {before = before} so_far here counted put = record {
+rows_put_more {rows = rows} {i = i} {r = r} {old = old} {before = before} so_far here counted
+    put = record {
   lines = rw (take_next rows i r here, row_lines-append) (put
       ∙ rw so_far.lines (append_assoc old (row_lines (take i rows)) (row_lines (r ∷ []))));
   counted = rw (points_next rows i r here) (counted

@@ -59,19 +59,21 @@ pub record HasWritten {A : Type 0} (f : Option ℤ → A → List Row) (ids : Id
   pub lines : text_of now ++ row_lines (rows_of_each f (ids_from i ids) (drop i xs)) ≡ text_of old
       ++ row_lines (rows_of_each f ids xs)
 
-pub has_written_none : {A : Type 0} {f : Option ℤ → A → List Row} {ids : Ids} {xs : List A} {old : Writer (Vec ℕ)}
-    → IsReady old → HasWritten f ids xs 0 0 old old
+pub has_written_none : {A : Type 0} {f : Option ℤ → A → List Row} {ids : Ids} {xs : List A}
+    {old : Writer (Vec ℕ)} → IsReady old → HasWritten f ids xs 0 0 old old
 has_written_none {f = f} {ids = ids} {xs = xs} {old = old} ready = record {
   place = refl;
   ready = ready;
   lines = ap (λ (js : Ids). text_of old ++ row_lines (rows_of_each f js xs)) (ids_from_start ids);
 }
 
-pub has_written_more : {A : Type 0} {f : Option ℤ → A → List Row} {ids : Ids} {xs : List A} {i index : ℕ} {x : A}
-    {id : Option ℤ} {old now next : Writer (Vec ℕ)} → HasWritten f ids xs i index old now → i < length xs
-    → x ≡ get_or xs i x → id ≡ first_id (ids_from index ids) → Writes now next (row_lines (f id x))
+pub has_written_more : {A : Type 0} {f : Option ℤ → A → List Row} {ids : Ids} {xs : List A}
+    {i index : ℕ} {x : A} {id : Option ℤ} {old now next : Writer (Vec ℕ)}
+    → HasWritten f ids xs i index old now → i < length xs → x ≡ get_or xs i x
+    → id ≡ first_id (ids_from index ids) → Writes now next (row_lines (f id x))
     → HasWritten f ids xs (i + 1) (index + 1) old next
-has_written_more {f = f} {ids = ids} {xs = xs} {i = i} {x = x} {id = id} {now = now} has within read eid put =
+has_written_more {f = f} {ids = ids} {xs = xs} {i = i} {x = x} {id = id} {now = now} has within read
+    eid put =
     let rest = rows_of_each f (ids_from (i + 1) ids) (drop (i + 1) xs) in
     let first : id ≡ first_id (ids_from i ids) = eid ∙ ap (λ j. first_id (ids_from j ids)) has.place in
     let whole : f id x ++ rest ≡ rows_of_each f (ids_from i ids) (drop i xs) =
@@ -87,8 +89,8 @@ has_written_more {f = f} {ids = ids} {xs = xs} {i = i} {x = x} {id = id} {now = 
           ∙ has.lines;
     }
 
-pub has_written_all : {A : Type 0} {f : Option ℤ → A → List Row} {ids : Ids} {xs : List A} {i index : ℕ}
-    {old now : Writer (Vec ℕ)} → HasWritten f ids xs i index old now → length xs ≤ i
+pub has_written_all : {A : Type 0} {f : Option ℤ → A → List Row} {ids : Ids} {xs : List A}
+    {i index : ℕ} {old now : Writer (Vec ℕ)} → HasWritten f ids xs i index old now → length xs ≤ i
     → Writes old now (row_lines (rows_of_each f ids xs))
 has_written_all {f = f} {ids = ids} {xs = xs} {i = i} {now = now} has done = record {
   ready = has.ready;

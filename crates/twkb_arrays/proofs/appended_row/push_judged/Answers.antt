@@ -30,7 +30,8 @@ pub returns-in_default-place-clause-refused : goal.returns-in_default-place-clau
 returns-in_default-place-clause-refused c =
     let row = c.args.row.now in
     let r = row_from_c c.in-Some.kind row (take row.points c.args.ahead.now) in
-    let none = no_place c.args.limits.now c.args.form.now r c.requires.valid c.in_default-place.ensures in
+    let none = no_place c.args.limits.now c.args.form.now r c.requires.valid
+    c.in_default-place.ensures in
     let right = c.has_right_id.ensures.0 c.if-not-has_right_id.false in
     rw c.refused-in_default-place.ensures (inr (
       c.in-Some.kind,
@@ -45,14 +46,16 @@ returns-in-Some-refused_row-clause-refused c =
     let own = take row.points c.args.ahead.now in
     let s = c.in-Some-place.row_place in
     let found = c.in-Some-refused_row.ensures in
-    let first = sym (refused_there l c.args.form.now s (row_from_c c.in-Some.kind row own) c.requires.valid
-    c.in-Some-place.ensures)
-    ∙ ap (λ (t : Row). first_failed (checks_there l s t)) (sym (c.bare_row-bare.ensures own)) ∙ found.1 in
+    let first = sym (refused_there l c.args.form.now s (row_from_c c.in-Some.kind row own)
+    c.requires.valid c.in-Some-place.ensures)
+    ∙ ap (λ (t : Row). first_failed (checks_there l s t)) (sym (c.bare_row-bare.ensures own))
+    ∙ found.1 in
     let right = c.has_right_id.ensures.0 c.if-not-has_right_id.false in
     rw c.refused-in-Some-refused_row.ensures (inr (
       c.in-Some.kind,
       c.in-Some.ensures,
-      inr (right, inr (omega (arith, c.if-row-ahead.false), (found.0, first, ap row_number_of found.2))),
+      inr (right, inr
+      (omega (arith, c.if-row-ahead.false), (found.0, first, ap row_number_of found.2))),
     ))
 
 pub push_from-requires : goal.push_from-requires
@@ -98,12 +101,14 @@ returns-in-Err-clause-refused c =
     let own = take row.points c.args.ahead.now in
     let s = c.in-Some-place.row_place in
     let right = c.has_right_id.ensures.0 c.if-not-has_right_id.false in
-    let row_is = ap (λ (t : Row). first_failed (checks_there l s t)) (sym (c.bare_row-bare.ensures own)) in
-    let refused = refused_range l rs s (row_from_c c.in-Some.kind row own) c.requires.valid c.in-Some-place.ensures
-    (row_is ∙ c.in_default-refused_row.ensures) in
+    let row_is = ap (λ (t : Row). first_failed (checks_there l s t))
+    (sym (c.bare_row-bare.ensures own)) in
+    let refused = refused_range l rs s (row_from_c c.in-Some.kind row own) c.requires.valid
+    c.in-Some-place.ensures (row_is ∙ c.in_default-refused_row.ensures) in
     all_refused (AreOutOfRange (points_of own)) (RefusedAfter l rs row c.args.ahead.now) c.in-Err.stop
     (λ number out. inr (
       c.in-Some.kind,
       c.in-Some.ensures,
-      inr (right, inr (omega (arith, c.if-row-ahead.false), (CoordinateRange, refused out.0, out.1))),
+      inr (right, inr
+      (omega (arith, c.if-row-ahead.false), (CoordinateRange, refused out.0, out.1))),
     )) c.in-Err.ensures.refused

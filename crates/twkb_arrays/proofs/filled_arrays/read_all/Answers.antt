@@ -16,8 +16,8 @@ returns-in-Err c =
       r.0,
       r.1,
       r.2,
-      subst (λ (l : Allowance). EndsReading {A = Unit {0}} l c.args.blobs.now (r.0 ++ r.1) (Err c.in-Err.fault))
-          c.loop-used.invariant.2 r.3,
+      subst (λ (l : Allowance). EndsReading {A = Unit {0}} l c.args.blobs.now (r.0 ++ r.1)
+          (Err c.in-Err.fault)) c.loop-used.invariant.2 r.3,
     )
 
 pub returns : goal.returns

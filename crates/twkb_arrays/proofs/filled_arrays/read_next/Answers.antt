@@ -31,11 +31,12 @@ returns-in-Ok-default-true-clause-more c =
 pub returns-in-Ok-default-true-clause-reads : goal.returns-in-Ok-default-true-clause-reads
 returns-in-Ok-default-true-clause-reads c = λ start_rows start_points r.
     let bytes = take c.args.used c.args.blobs.now in
-    let fed = fed_whole bytes (r.0 ++ r.1) (rest_of c.args.blobs.now c.args.used) c.in-Ok-default-true.more
-    c.in-Ok-default-true.field-0-1 c.feed_flat.new.self (c.in-Ok-default-true.ensures.fed bytes (r.0 ++ r.1) r.2)
-    c.in-Ok-default-true.field-0-1-test in
+    let fed = fed_whole bytes (r.0 ++ r.1) (rest_of c.args.blobs.now c.args.used)
+    c.in-Ok-default-true.more c.in-Ok-default-true.field-0-1 c.feed_flat.new.self
+    (c.in-Ok-default-true.ensures.fed bytes (r.0 ++ r.1) r.2) c.in-Ok-default-true.field-0-1-test in
     took c.args.blobs.now c.args.used c.in-Ok-default-true.more (r.0 ++ r.1) fed.0 fed.1.3
-    (c.take_geometry.ensures start_rows start_points r.0 r.1 fed.0 r.3 (sym (c.rows.ensures ∙ fed.2)))
+    (c.take_geometry.ensures start_rows start_points r.0 r.1 fed.0 r.3
+    (sym (c.rows.ensures ∙ fed.2)))
 
 pub returns-in-Ok-default-false-clause-more : goal.returns-in-Ok-default-false-clause-more
 returns-in-Ok-default-false-clause-more c =
@@ -53,8 +54,9 @@ returns-in-Ok-default-false-clause-more c =
 pub returns-in-Ok-default-false-clause-reads : goal.returns-in-Ok-default-false-clause-reads
 returns-in-Ok-default-false-clause-reads c = λ start_rows start_points r.
     let bytes = take c.args.used c.args.blobs.now in
-    let fed = fed_all bytes (r.0 ++ r.1) (rest_of c.args.blobs.now c.args.used) c.in-Ok-default-false.more
-    c.in-Ok-default-false.field-0-1 c.feed_flat.new.self (c.in-Ok-default-false.ensures.fed bytes (r.0 ++ r.1) r.2)
+    let fed = fed_all bytes (r.0 ++ r.1) (rest_of c.args.blobs.now c.args.used)
+    c.in-Ok-default-false.more c.in-Ok-default-false.field-0-1 c.feed_flat.new.self
+    (c.in-Ok-default-false.ensures.fed bytes (r.0 ++ r.1) r.2)
     c.in-Ok-default-false.field-0-1-test in
     went_on c.args.blobs.now c.args.used c.in-Ok-default-false.more fed.0 fed.1 r.3
 
@@ -63,6 +65,7 @@ returns-in-Err-clause-stops c = λ start_rows start_points r. (
   r.0,
   r.1,
   r.3,
-  stopped c.args.blobs.now c.args.used c.feed_flat.new.self c.in-Err.fault r.2 c.feed_flat.ensures.limits
+  stopped c.args.blobs.now c.args.used c.feed_flat.new.self c.in-Err.fault r.2
+      c.feed_flat.ensures.limits
       (c.in-Err.ensures.fed (take c.args.used c.args.blobs.now) (r.0 ++ r.1) r.2),
 )

@@ -12,8 +12,8 @@ pub returns-then-not-has_room : goal.returns-then-not-has_room
 returns-then-not-has_room c = λ start_rows start_points given later g h same.
     rw (c.count.ensures, c.node_count-row_count.ensures.value, c.point_count-point_count.ensures)
     (lacking h g same (rw c.count.ensures at c.if-taken.false)
-    (rw (c.count.ensures, c.node_count-row_count.ensures.value, c.point_count-point_count.ensures) at
-    (c.if-not-has_room.ensures.lacks (search rules))))
+    (rw (c.count.ensures, c.node_count-row_count.ensures.value, c.point_count-point_count.ensures)
+    at (c.if-not-has_room.ensures.lacks (search rules))))
 
 pub returns : goal.returns
 returns c = λ start_rows start_points given later g h same.
@@ -24,6 +24,7 @@ returns c = λ start_rows start_points given later g h same.
     rw (c.count.ensures, c.node_count-row_count.ensures.value, c.point_count-point_count.ensures) at
     (c.if-not-has_room.ensures.has (search rules)) in
     rw (c.count.ensures, c.node_count-row_count.ensures.value, c.point_count-point_count.ensures)
-    (taken_one h g same (rw c.count.ensures at c.if-taken.false) (omega (arith, room, c.requires.within))
+    (taken_one h g same (rw c.count.ensures at c.if-taken.false)
+    (omega (arith, room, c.requires.within))
     (omega (arith, room, c.requires.within)) (rw c.count.ensures at c.put_from.ensures.rows)
     (rw c.count.ensures at c.put_from.ensures.points))

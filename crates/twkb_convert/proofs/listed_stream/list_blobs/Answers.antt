@@ -9,7 +9,8 @@ pub returns-in_err-put : goal.returns-in_err-put
 returns-in_err-put g c =
     let p = err_from_is_err_and c.from_residual.result c.from_residual.ensures.1 in
     rw (p.1, p.2) (record {
-      lists = lists_none c.requires.none c.first_line.ensures.text c.requires.fresh c.in_err-put.ensures.cut;
+      lists = lists_none c.requires.none c.first_line.ensures.text c.requires.fresh
+          c.in_err-put.ensures.cut;
     })
 
 pub loop-output-init : goal.loop-output-init
@@ -20,7 +21,8 @@ loop-output-init g c = sent_first c.requires.none c.requires.fresh
 pub returns-in_err-read_next : goal.returns-in_err-read_next
 returns-in_err-read_next g c =
     let p = err_from_is_err_and c.from_residual-in_err-read_next.result c.from_residual-in_err-read_next.ensures.1 in
-    rw (p.1, p.2) (record { lists = lists_up_to c.loop-output.invariant c.in_err-read_next.ensures.reads })
+    rw (p.1, p.2)
+    (record { lists = lists_up_to c.loop-output.invariant c.in_err-read_next.ensures.reads })
 
 pub returns-in_err-put-2 : goal.returns-in_err-put-2
 returns-in_err-put-2 g c =
@@ -46,4 +48,5 @@ loop-output-preserved g c =
 pub returns : goal.returns
 returns g c =
     let none : c.in_ok-read_next.field-0 ≡ false = search rules in
-    record { lists = lists_all c.loop-output.invariant (rw none at c.in_ok-read_next.ensures.reads) }
+    record { lists = lists_all c.loop-output.invariant (rw none at c.in_ok-read_next.ensures.reads)
+        }

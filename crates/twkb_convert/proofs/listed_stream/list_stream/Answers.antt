@@ -15,14 +15,14 @@ list_blobs-sending-requires g c = record {
 
 pub returns-clause-ok : goal.returns-clause-ok
 returns-clause-ok g c = listed g.R.Read.remaining _ _ _ _ c.finish.ensures.finishes
-    c.list_blobs-sending.ensures.lists (search rules) (search rules) (search rules) (search rules) (search rules)
-    (search rules) (search rules) (search rules)
+    c.list_blobs-sending.ensures.lists (search rules) (search rules) (search rules) (search rules)
+    (search rules) (search rules) (search rules) (search rules)
 
 pub returns-clause-err : goal.returns-clause-err
 returns-clause-err g c = stopped g.R.Read.remaining _ _ _ _ c.finish.ensures.finishes
-    c.list_blobs-sending.ensures.lists (search rules) (search rules) (search rules) (search rules) (search rules)
-    (search rules) (search rules) (search rules)
+    c.list_blobs-sending.ensures.lists (search rules) (search rules) (search rules) (search rules)
+    (search rules) (search rules) (search rules) (search rules)
 
 pub returns-clause-flushed : goal.returns-clause-flushed
-returns-clause-flushed g c = flushed c.finish.ensures.finishes c.list_blobs-sending.ensures.lists.leaves.unspent _
-    (search rules)
+returns-clause-flushed g c = flushed c.finish.ensures.finishes
+    c.list_blobs-sending.ensures.lists.leaves.unspent _ (search rules)

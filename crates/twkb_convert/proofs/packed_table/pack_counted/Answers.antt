@@ -9,18 +9,20 @@ use Rattle.twkb_convert.proofs.packed_table.pack_counted.Goals as goal
 pub returns-in_err-report-clause-err : goal.returns-in_err-report-clause-err
 returns-in_err-report-clause-err g c =
     let p = err_from_is_err_and c.from_residual.result c.from_residual.ensures.1 in
-    let sends = sends_drained _ _ _ c.drain-drained.ensures.drains (c.send_table-sending.ensures.ends c.args.limits _ _ _
+    let sends = sends_drained _ _ _ c.drain-drained.ensures.drains
+    (c.send_table-sending.ensures.ends c.args.limits _ _ _
     (sent_none c.new.ensures (search rules) (search rules) c.new-table.ensures)) in
     let finishes = rw c.after_reads-answer.ensures at c.in_err-report.ensures.finishes in
     rw (p.1, p.2) (stopped_packing g.R.Read.remaining _ _ _ _ _ _
     (changes_as c.failures-failures.result c.failures.result _ _ c.failures-failures.ensures c.failures.ensures)
-    (drained _ _ _ _ c.drain-drained.ensures.drains) finishes sends (search rules) (search rules) (search rules)
-    _ refl)
+    (drained _ _ _ _ c.drain-drained.ensures.drains) finishes sends (search rules) (search rules)
+    (search rules) _ refl)
 
 pub returns-in_err-report-clause-flushed : goal.returns-in_err-report-clause-flushed
 returns-in_err-report-clause-flushed g c =
     let p = err_from_is_err_and c.from_residual.result c.from_residual.ensures.1 in
-    let sends = sends_drained _ _ _ c.drain-drained.ensures.drains (c.send_table-sending.ensures.ends c.args.limits _ _ _
+    let sends = sends_drained _ _ _ c.drain-drained.ensures.drains
+    (c.send_table-sending.ensures.ends c.args.limits _ _ _
     (sent_none c.new.ensures (search rules) (search rules) c.new-table.ensures)) in
     let finishes = rw c.after_reads-answer.ensures at c.in_err-report.ensures.finishes in
     rw (p.1, p.2) (λ no_write no_read no_length.
@@ -29,17 +31,19 @@ returns-in_err-report-clause-flushed g c =
 
 pub returns-clause-ok : goal.returns-clause-ok
 returns-clause-ok g c =
-    let sends = sends_drained _ _ _ c.drain-drained.ensures.drains (c.send_table-sending.ensures.ends c.args.limits _ _ _
+    let sends = sends_drained _ _ _ c.drain-drained.ensures.drains
+    (c.send_table-sending.ensures.ends c.args.limits _ _ _
     (sent_none c.new.ensures (search rules) (search rules) c.new-table.ensures)) in
     let finishes = rw c.after_reads-answer.ensures at c.in_ok-report.ensures.finishes in
     rw c.packed.ensures.is (packed_with g.R.Read.remaining _ _ _ _ _ _
     (changes_as c.failures-failures.result c.failures.result _ _ c.failures-failures.ensures c.failures.ensures)
-    (drained _ _ _ _ c.drain-drained.ensures.drains) finishes sends (search rules) (search rules) (search rules)
-    _ refl c.packed.ensures.fits.0 c.packed.ensures.fits.1)
+    (drained _ _ _ _ c.drain-drained.ensures.drains) finishes sends (search rules) (search rules)
+    (search rules) _ refl c.packed.ensures.fits.0 c.packed.ensures.fits.1)
 
 pub returns-clause-flushed : goal.returns-clause-flushed
 returns-clause-flushed g c =
-    let sends = sends_drained _ _ _ c.drain-drained.ensures.drains (c.send_table-sending.ensures.ends c.args.limits _ _ _
+    let sends = sends_drained _ _ _ c.drain-drained.ensures.drains
+    (c.send_table-sending.ensures.ends c.args.limits _ _ _
     (sent_none c.new.ensures (search rules) (search rules) c.new-table.ensures)) in
     let finishes = rw c.after_reads-answer.ensures at c.in_ok-report.ensures.finishes in
     let held : has_unflushed (output_tap c.finish.new.output).now ≡ false = flushed_ok _ _ finishes

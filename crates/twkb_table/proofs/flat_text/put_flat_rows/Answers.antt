@@ -14,7 +14,8 @@ loop-index-preserved c = rows_put_more c.loop-index.invariant c.row_at.ensures.r
 
 pub returns-in_default : goal.returns-in_default
 returns-in_default c =
-    let read = rows_put_more c.loop-index.invariant c.row_at.ensures.row c.row_at.ensures.counted refl in
+    let read = rows_put_more c.loop-index.invariant c.row_at.ensures.row c.row_at.ensures.counted
+    refl in
     record {
       appended = search rules;
       counted = search rules;
@@ -29,7 +30,8 @@ pub returns : goal.returns
 unfolding row_lines
 returns c = record {
   appended = all_lines c.loop-index.invariant (omega (arith, c.node_count-index-end.ensures.value));
-  counted = all_counted c.loop-index.invariant (omega (arith, c.node_count-index-end.ensures.value));
+  counted = all_counted c.loop-index.invariant
+      (omega (arith, c.node_count-index-end.ensures.value));
   same = search rules;
   nodes = few_nodes c.loop-index.invariant (omega (arith, c.node_count-index-end.ensures.value));
   points = few_points c.loop-index.invariant;

@@ -18,4 +18,5 @@ pub returns-clause-ended : goal.returns-clause-ended
 returns-clause-ended c = λ l start in_rows in_points w.
     ended_one w _ c.blob.result.now
     (not_empty c.args.self.now.open_geometry c.is_empty.result c.if-is_empty.false c.is_empty.ensures.value)
-    (λ g tree same. c.blob.ensures ∙ c.in_ok-make.ensures g tree same) c.send_blob.ensures.sends c.clear.ensures
+    (λ g tree same. c.blob.ensures ∙ c.in_ok-make.ensures g tree same) c.send_blob.ensures.sends
+    c.clear.ensures

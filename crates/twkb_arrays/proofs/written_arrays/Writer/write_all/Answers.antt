@@ -13,8 +13,8 @@ end_geometry-requires c = sent_within c.in-Ok.ensures.reads.sent
 
 pub returns-in-Ok-end_geometry : goal.returns-in-Ok-end_geometry
 returns-in-Ok-end_geometry c = all_written c.args.points.now c.in-Ok.count
-    (c.in-Ok-end_geometry.ensures.ended c.args.limits.now c.args.output.now _ _ c.in-Ok.ensures.reads)
-    c.if-used-points.false c.in-Ok-end_geometry.ensures.closed
+    (c.in-Ok-end_geometry.ensures.ended c.args.limits.now c.args.output.now _ _
+    c.in-Ok.ensures.reads) c.if-used-points.false c.in-Ok-end_geometry.ensures.closed
 
 pub returns-in-Err-end_geometry : goal.returns-in-Err-end_geometry
 returns-in-Err-end_geometry c =
@@ -22,4 +22,5 @@ returns-in-Err-end_geometry c =
     let points = c.args.points.now in
     rw (append-nil rows, take-append-drop c.in-Ok.count points) at
     (lacks_memory c.in-Ok.ensures.reads [] (drop c.in-Ok.count points)
-    c.in-Err-end_geometry.ensures.same_output (ap (λ (w : Writer). w.sent) c.in-Err-end_geometry.ensures.same))
+    c.in-Err-end_geometry.ensures.same_output
+    (ap (λ (w : Writer). w.sent) c.in-Err-end_geometry.ensures.same))

@@ -12,7 +12,8 @@ returns-in_default-clause-stops c = λ start in_rows in_points w was.
 
 pub send_blob-requires-clause-some : goal.send_blob-requires-clause-some
 send_blob-requires-clause-some c =
-    let first : IsMadeFirst c.args.limits.now c.args.style c.args.rows.now c.args.ahead.now c.in-Ok-Some.count
+    let first : IsMadeFirst c.args.limits.now c.args.style c.args.rows.now c.args.ahead.now
+    c.in-Ok-Some.count
     c.blob.result.now = first_made c.in-Ok-Some.field-0-is c.blob.ensures c.in-Ok-Some.ensures in
     omega (
       arith,
@@ -28,11 +29,13 @@ push_judged-requires-clause-valid c = c.in-Ok.ensures.valid c.args.limits.now c.
 
 pub returns-in-Ok-Some-clause-reads : goal.returns-in-Ok-Some-clause-reads
 returns-in-Ok-Some-clause-reads c =
-    let first : IsMadeFirst c.args.limits.now c.args.style c.args.rows.now c.args.ahead.now c.in-Ok-Some.count
+    let first : IsMadeFirst c.args.limits.now c.args.style c.args.rows.now c.args.ahead.now
+    c.in-Ok-Some.count
     c.blob.result.now = first_made c.in-Ok-Some.field-0-is c.blob.ensures c.in-Ok-Some.ensures in
-    first_written first c.args.output.now c.end_before.new.output c.send_blob.new.output c.args.self.now
-    c.end_before.new.self _ c.in-Ok.ensures.ended
-    (λ root. c.in-Ok.ensures.closed (first_is_root c.args.rows.now _ _ refl root)) c.send_blob.ensures.sends refl
+    first_written first c.args.output.now c.end_before.new.output c.send_blob.new.output
+    c.args.self.now c.end_before.new.self _ c.in-Ok.ensures.ended
+    (λ root. c.in-Ok.ensures.closed (first_is_root c.args.rows.now _ _ refl root))
+    c.send_blob.ensures.sends refl
 
 pub returns-in-Ok-None-clause-reads : goal.returns-in-Ok-None-clause-reads
 returns-in-Ok-None-clause-reads c =
@@ -44,7 +47,8 @@ returns-in-Ok-None-clause-reads c =
 pub returns-in-Ok-None-clause-stops : goal.returns-in-Ok-None-clause-stops
 returns-in-Ok-None-clause-stops c =
     row_not_read c.args.limits.now c.args.style c.args.output.now c.end_before.new.output c.args.self.now
-    c.end_before.new.self _ _ c.args.rows.now c.args.ahead.now c.push_judged.result c.requires.some refl
+    c.end_before.new.self _ _ c.args.rows.now c.args.ahead.now c.push_judged.result c.requires.some
+    refl
     c.in-Ok.ensures.ended refl c.in-Ok.ensures.closed c.in-Ok.ensures.kept c.push_judged.ensures.refused
 
 pub returns-in-Err-clause-stops : goal.returns-in-Err-clause-stops

@@ -14,7 +14,8 @@ returns-in-Err-clause-stops c =
     let points = c.args.points.now in
     let i = c.loop-at.at in
     let n = c.loop-at.used in
-    rw c.at_row.ensures (rw (parts_join rows i, parts_join points n, length-take-le i rows (omega arith)) at
+    rw c.at_row.ensures
+    (rw (parts_join rows i, parts_join points n, length-take-le i rows (omega arith)) at
     (c.in-Err.ensures.stops c.args.output.now (take i rows) (take n points) c.loop-at.invariant.0
     (λ closed. elim (c.loop-at.invariant.2 closed) [
       | inl none ↦ inl none
