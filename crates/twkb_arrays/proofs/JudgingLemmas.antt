@@ -27,8 +27,10 @@ tests allowed in_range room fit =
     ∷ check fit PointCount ∷ []
 
 -- if no other test fails, only the range may refuse the points
-pub by_range : (allowed in_range room fit : Bool) → None ≡ first_failed (tests allowed true room fit)
-    → first_failed (tests allowed in_range room fit) ≡ (if in_range then None else Some CoordinateRange)
+pub by_range : (allowed in_range room fit : Bool)
+    → None ≡ first_failed (tests allowed true room fit)
+    → first_failed (tests allowed in_range room fit) ≡ (if in_range then None else Some
+    CoordinateRange)
 by_range true true room fit e = sym e
 by_range true false room fit e = refl
 by_range false in_range room fit e = cc e

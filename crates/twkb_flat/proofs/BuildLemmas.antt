@@ -6,7 +6,8 @@ use Rattle.std.specs.List.{AllByRecursion}
 use Rattle.std.proofs.lemmas.List.{length-append}
 use Rattle.twkb_points.specs.Point.{Point}
 use Rattle.twkb_tree.specs.Tree.{Ids, HasIds, point, line, polygon, multi_point, multi_line, multi_polygon, Tree, Trees}
-use Rattle.twkb_tree.specs.Tree.{Simple, simple, collection, end, ◌▷◌, trees, members, precision_of, IsTree, IsPrecision}
+use Rattle.twkb_tree.specs.Tree.{Simple, simple, collection, end, ◌▷◌, trees, members, precision_of, IsTree}
+use Rattle.twkb_tree.specs.Tree.{IsPrecision}
 use Rattle.twkb_tree.specs.declared.kind.Kind.{Kind}
 use Rattle.twkb_tree.specs.Rows.{Row, first_id, other_ids, rows_of_each, plain_row, own_row, rows_with, rows_under}
 use Rattle.twkb_tree.specs.Rows.{rows, ring_rows, rows_below}
@@ -310,24 +311,30 @@ pub record IsMade {A : Type 0} (own : A → List Point) (below : ℕ → A → L
   pub parts : List A
   pub whole : simple (precision_of g) (make ids parts) ≡ g
   pub ids_fit : HasIds ids (length parts)
-  pub rows_are : rows_under (suc d) g ≡ rows_of_each (component_rows own below part (suc d)) ids parts
+  pub rows_are : rows_under (suc d) g ≡ rows_of_each (component_rows own below part (suc d)) ids
+      parts
 
 -- a geometry of this kind is made of such parts
-abbrev pub AreMade : {A : Type 0} → (A → List Point) → (ℕ → A → List Row) → Kind → (Ids → List A → Simple)
+abbrev pub AreMade : {A : Type 0} → (A → List Point) → (ℕ → A → List Row) → Kind
+    → (Ids → List A → Simple)
     → Kind → Type 0
 AreMade own below part make k =
-    (id : Option ℤ) (d : ℕ) (g : Tree) → IsTree g → (own_row id d g).kind ≡ k → IsMade own below part make d g
+    (id : Option ℤ) (d : ℕ) (g : Tree) → IsTree g → (own_row id d g).kind ≡ k
+    → IsMade own below part make d g
 
 -- a shape is made of its parts
 is_made : {A : Type 0} (own : A → List Point) (below : ℕ → A → List Row) (part : Kind)
-    (make : Ids → List A → Simple) (d : ℕ) (p : ℤ) (ids : Ids) (parts : List A) → HasIds ids (length parts)
-    → rows_below (suc d) (make ids parts) ≡ rows_of_each (component_rows own below part (suc d)) ids parts
+    (make : Ids → List A → Simple) (d : ℕ) (p : ℤ) (ids : Ids) (parts : List A)
+    → HasIds ids (length parts)
+    → rows_below (suc d) (make ids parts) ≡ rows_of_each (component_rows own below part (suc d)) ids
+    parts
     → IsMade own below part make d (simple p (make ids parts))
 is_made own below part make d p ids parts fit are =
     record { ids = ids; parts = parts; whole = refl; ids_fit = fit; rows_are = are }
 
 -- a polygon is made of rings
-pub of_rings : AreMade (λ (ps : List Point). ps) (λ k ps. []) kind.Ring (λ ids. polygon) kind.Polygon
+pub of_rings : AreMade (λ (ps : List Point). ps) (λ k ps. []) kind.Ring (λ ids. polygon)
+    kind.Polygon
 of_rings id d (simple p (polygon rings)) t e = is_made _ _ _ _ d p None rings tt refl
 of_rings id d _ t e = absurd (cc e)
 
@@ -337,12 +344,14 @@ of_points id d (simple p (multi_point ids ps)) t e = is_made _ _ _ _ d p ids ps 
 of_points id d _ t e = absurd (cc e)
 
 -- a multilinestring is made of linestrings
-pub of_lines : AreMade (λ (ps : List Point). ps) (λ k ps. []) kind.Linestring multi_line kind.MultiLinestring
+pub of_lines : AreMade (λ (ps : List Point). ps) (λ k ps. []) kind.Linestring multi_line
+    kind.MultiLinestring
 of_lines id d (simple p (multi_line ids lines)) t e = is_made _ _ _ _ d p ids lines t.1 refl
 of_lines id d _ t e = absurd (cc e)
 
 -- a multipolygon is made of polygons
-pub of_areas : AreMade (λ (rings : List (List Point)). []) ring_rows kind.Polygon multi_polygon kind.MultiPolygon
+pub of_areas : AreMade (λ (rings : List (List Point)). []) ring_rows kind.Polygon multi_polygon
+    kind.MultiPolygon
 of_areas id d (simple p (multi_polygon ids areas)) t e = is_made _ _ _ _ d p ids areas t.1 refl
 of_areas id d _ t e = absurd (cc e)
 
@@ -431,20 +440,23 @@ all_any (x ∷ xs) = (tt, all_any xs)
 
 -- the parts of a geometry come after its own row
 pub parts_at : {A : Type 0} (own : A → List Point) (below : ℕ → A → List Row) (part : Kind)
-    (make : Ids → List A → Simple) (k : Kind) → AreMade own below part make k → (rows : List Row) (at d : ℕ)
+    (make : Ids → List A → Simple) (k : Kind) → AreMade own below part make k
+    → (rows : List Row) (at d : ℕ)
     (id : Option ℤ) (g : Tree) (rest : List Row) (row : FlatRow) → TreeAt rows at d id g rest
     → Told rows at row → row.kind ≡ k
-    → (m : IsMade own below part make d g) × ComponentsAt own below part rows (at + 1) (row.depth + 1) m.ids m.parts rest
+    → (m : IsMade own below part make d g) × ComponentsAt own below part rows (at + 1)
+    (row.depth + 1) m.ids m.parts rest
 parts_at own below part make k are rows at d id g rest row it told is =
     let m = are id d g it.is_sound (sym (read_kind rows at d id g rest row it told) ∙ is) in (
       m,
-      each_below IsAny (component_rows own below part) rows at d id g rest row.depth m.ids m.parts it
-          (read_depth rows at d id g rest row it told) (all_any m.parts) m.ids_fit m.rows_are,
+      each_below IsAny (component_rows own below part) rows at d id g rest row.depth m.ids m.parts
+          it (read_depth rows at d id g rest row it told) (all_any m.parts) m.ids_fit m.rows_are,
     )
 
 -- the geometry is built from its parts
 pub made_taken : {A : Type 0} (own : A → List Point) (below : ℕ → A → List Row) (part : Kind)
-    (make : Ids → List A → Simple) (d : ℕ) (g : Tree) (m : IsMade own below part make d g) (parts : List A)
+    (make : Ids → List A → Simple) (d : ℕ) (g : Tree) (m : IsMade own below part make d g)
+    (parts : List A)
     (ids : Ids) (left rest : List Row) → (parts ≡ m.parts) × (ids ≡ m.ids) × (left ≡ rest)
     → (simple (precision_of g) (make ids parts) ≡ g) × (left ≡ rest)
 made_taken own below part make d g m parts ids left rest taken =

@@ -128,7 +128,8 @@ last_room n _ _ d at h = absurd (omega arith)
 
 pub last_fits : (n : ℕ) (es : List KeptNode) (i : ℕ) (d : KeptNode) → i + 1 ≡ length es
     → LastHasRoom n es → Fits w32 ((get_or es i d).placed.points + n)
-last_fits n es i d at h = let few : (get_or es i d).placed.points + n < 2 ^ 32 = last_room n es i d at h in search rules
+last_fits n es i d at h = let few : (get_or es i d).placed.points + n < 2 ^ 32 = last_room n es i d
+    at h in search rules
 
 -- the kept node with this many more points
 abbrev pub node_longer : ℕ → KeptNode → KeptNode
@@ -155,7 +156,8 @@ longer_laid n at total (s ∷ []) some (first, last) = (first, omega (arith, las
 longer_laid n at total (s ∷ t ∷ ss) some (first, rest) =
     (first, longer_laid n (at + s.points) total (t ∷ ss) (omega arith) rest)
 
-longer_depths : (n : ℕ) (ss : List PlacedRow) → map placed_depth (last_longer n ss) ≡ map placed_depth ss
+longer_depths : (n : ℕ) (ss : List PlacedRow)
+    → map placed_depth (last_longer n ss) ≡ map placed_depth ss
 longer_depths n (s ∷ t ∷ ss) = ap (λ (ds : List ℕ). placed_depth s ∷ ds) (longer_depths n (t ∷ ss))
 longer_depths n _ = refl
 
@@ -178,10 +180,12 @@ longer_listed : (at : ℕ) (ss : List PlacedRow) (ps more : List Point) → 0 < 
     → listed (last_longer (length more) ss) (ps ++ more) ≡ points_added more (listed ss ps)
 longer_listed at [] ps more some laid = absurd (omega arith)
 longer_listed at (s ∷ []) ps more some (first, last) =
-    let now : take (s.points + length more) (ps ++ more) ≡ ps ++ more = take_all (s.points + length more)
+    let now : take (s.points + length more) (ps ++ more) ≡ ps ++ more = take_all
+    (s.points + length more)
     (ps ++ more) (omega (arith, last, length-append ps more)) in
     let before : take s.points ps ≡ ps = take_all s.points ps (omega (arith, last)) in
-    ap (λ (own : List Point). row_with s.row own ∷ []) (now ∙ ap (λ (own : List Point). own ++ more) (sym before))
+    ap (λ (own : List Point). row_with s.row own ∷ [])
+    (now ∙ ap (λ (own : List Point). own ++ more) (sym before))
     ∙ sym (added_alone s.row (take s.points ps) more)
 longer_listed at (s ∷ t ∷ ss) ps more some (first, rest) =
     let within = laid_within (at + s.points) (at + length ps) (t ∷ ss) rest in
@@ -200,7 +204,8 @@ laid_room : (n at total : ℕ) (es : List KeptNode) → Laid at (map placed_of e
     → total + n < 2 ^ 32 → LastHasRoom n es
 laid_room n at total [] laid few = tt
 laid_room n at total (e ∷ []) (first, last) few = omega (arith, last)
-laid_room n at total (e ∷ f ∷ es) (first, rest) few = laid_room n (at + e.placed.points) total (f ∷ es) rest few
+laid_room n at total (e ∷ f ∷ es) (first, rest) few = laid_room n (at + e.placed.points) total
+    (f ∷ es) rest few
 
 -- ---- the form
 
@@ -233,7 +238,8 @@ can_count n rows es was ps s room is = subst (LastHasRoom n) (sym is) (laid_room
     s.flat.laid (omega (arith, room, rows_have rows es ps s)))
 
 -- the rows end in a line, as before
-still_line : (more : List Point) (rows : List TableRow) → EndsInLine rows → EndsInLine (points_added more rows)
+still_line : (more : List Point) (rows : List TableRow) → EndsInLine rows
+    → EndsInLine (points_added more rows)
 still_line [] rows e = e
 still_line (p ∷ more) rows e = still_line more (point_added p rows) (record {
   front = e.front;
@@ -257,7 +263,8 @@ one_counted : (p : Point) (rows : List TableRow) → EndsInLine rows
     → length (row_points (point_added p rows)) ≡ length (row_points rows) + 1
 one_counted p rows e = omega (
   arith,
-  ap (λ (rs : List TableRow). length (row_points rs)) (ap (point_added p) e.whole ∙ point_last p e.front e.last),
+  ap (λ (rs : List TableRow). length (row_points rs))
+      (ap (point_added p) e.whole ∙ point_last p e.front e.last),
   ap (λ (rs : List TableRow). length (row_points rs)) e.whole,
   last_counted e.front (with_point e.last p),
   last_counted e.front e.last,
@@ -267,7 +274,8 @@ one_counted p rows e = omega (
 -- the rows with more points are valid if there is room
 added_valid : (more : List Point) (rows : List TableRow) → EndsInLine rows
     → length (row_points rows) + length more ≤ POINTS_CAP → AreInRange more
-    → AreValidRowsOfOne largest_limits rows → AreValidRowsOfOne largest_limits (points_added more rows)
+    → AreValidRowsOfOne largest_limits rows
+    → AreValidRowsOfOne largest_limits (points_added more rows)
 added_valid [] rows e room within valid = valid
 added_valid (p ∷ more) rows e room within valid =
     added_valid more (point_added p rows) (still_line (p ∷ []) rows e)
@@ -275,7 +283,8 @@ added_valid (p ∷ more) rows e room within valid =
     (line_more largest_limits rows p e within.0 (omega (arith, room)) valid)
 
 -- Points are appended, and counted in the last kept node.
-points_more : (more : List Point) (rows : List TableRow) (es after : List KeptNode) (ps all : List Point)
+points_more : (more : List Point) (rows : List TableRow) (es after : List KeptNode)
+    (ps all : List Point)
     → StandFor rows es ps → length (row_points rows) + length more ≤ POINTS_CAP → AreInRange more
     → map placed_of after ≡ last_longer (length more) (map placed_of es)
     → links_in after ≡ links_in es → all ≡ ps ++ more → StandFor (points_added more rows) after all
@@ -295,10 +304,12 @@ points_more more rows es after ps all s room within placed_rows links appended =
       flat = record {
         laid = subst (λ (ss : List PlacedRow). Laid 0 ss (length (ps ++ more))) (sym placed_rows)
             (subst (λ (k : ℕ). Laid 0 (last_longer n (map placed_of es)) k)
-            (sym (length-append ps more)) (longer_laid n 0 (length ps) (map placed_of es) some s.flat.laid));
+            (sym (length-append ps more))
+            (longer_laid n 0 (length ps) (map placed_of es) some s.flat.laid));
         linked = subst (λ (ds : List ℕ). Linked ds (links_in after)) (sym depths)
             (subst (λ (ls : List ℕ). Linked (depths_in es) ls) (sym links) s.flat.linked);
-        valid = subst (AreValidRowsOfOne largest_limits) (sym now) (added_valid more rows s.line room within
+        valid = subst (AreValidRowsOfOne largest_limits) (sym now)
+            (added_valid more rows s.line room within
             (subst (AreValidRowsOfOne largest_limits) s.view s.flat.valid));
         nodes = omega (arith, s.flat.nodes, total);
         most = omega (arith, room, rows_have rows es ps s, length-append ps more);
@@ -318,7 +329,8 @@ vec_more more rows v was after ps all s room within is placed_rows links appende
     let same : length after ≡ v.len = sym (length-map after next_of)
     ∙ (ap (λ (ns : List ℕ). length ns) links ∙ (length-map was next_of
     ∙ (ap (λ (es : List KeptNode). length es) is ∙ sym v.ok.0))) in
-    subst (λ (es : List KeptNode). StandFor (points_added more rows) es all) (sym (with_items_is v after same))
+    subst (λ (es : List KeptNode). StandFor (points_added more rows) es all)
+    (sym (with_items_is v after same))
     (points_more more rows v.items after ps all s room within
     (placed_rows ∙ ap (λ (es : List KeptNode). last_longer (length more) (map placed_of es)) is)
     (links ∙ ap links_in is) appended)

@@ -134,7 +134,8 @@ pub continues_there : (l : Allowance) (os : List OpenRow) (nodes points : ℕ) (
 continues_there l os nodes points s r in_range next stands =
     let there = row_place_at r.depth os nodes points in
     ap (λ t. is_none (first_failed (row_checks true l t r))) stands.1
-    ∙ ap (λ b. is_none (first_failed (row_checks b l there r))) (sym (are_in_range-true r.points in_range))
+    ∙ ap (λ b. is_none (first_failed (row_checks b l there r)))
+    (sym (are_in_range-true r.points in_range))
     ∙ ap (λ b. is_none (first_failed (checks_under l b (row_of there.parent) (child_of there.parent)
     there.nodes there.points r))) (sym (near r.depth (length os) stands.0))
     ∙ sym (and_true (is_none (open_refusal l os nodes points r)) (is_next os r) next)

@@ -624,7 +624,8 @@ shaped d r c kind.Linestring e ring coll h fit = record {
   below = sym (leaf (suc d) r None c fit (may_none r.kind kind.Linestring e (λ m. refl)));
   ids = tt;
 }
-shaped d r c kind.Polygon e ring coll h fit = in_parts d r c kind.Polygon (polygon (lines_of c)) e refl h refl refl
+shaped d r c kind.Polygon e ring coll h fit = in_parts d r c kind.Polygon (polygon (lines_of c)) e
+    refl h refl refl
     (rings_back (suc d) r None c e fit) tt
 shaped d r c kind.Ring e ring coll h fit = cc ring
 shaped d r c kind.MultiPoint e ring coll h fit =
@@ -659,7 +660,8 @@ rebuilt_simple d p f r c w e h coll fit =
     let q = whole_precision p f r w h in
     record {
       tree = (q.1, s.ids);
-      own = rw (s.kind, s.points) (sym (row_is r d r.kind (Some (number_in r.precision)) e refl q.0));
+      own = rw (s.kind, s.points)
+          (sym (row_is r d r.kind (Some (number_in r.precision)) e refl q.0));
       below = s.below;
     }
 

@@ -43,7 +43,8 @@ row_points-each f own same ids (x ∷ xs) =
 
 -- the points of the rows of rings
 row_points-rings : (d : ℕ) (rings : List (List Point)) → row_points (ring_rows d rings) ≡ flatten rings
-row_points-rings d rings = row_points-each (λ id ring. plain_row d kind.Ring id ring ∷ []) (λ ring. ring)
+row_points-rings d rings = row_points-each (λ id ring. plain_row d kind.Ring id ring ∷ [])
+    (λ ring. ring)
     (λ id ring. append-nil ring) None rings
 
 -- the points of the rows of points
@@ -58,7 +59,8 @@ row_points-simple d (point (Some p)) = refl
 row_points-simple d (line ps) = append-nil ps
 row_points-simple d (polygon rings) = row_points-rings d rings
 row_points-simple d (multi_point ids ps) = row_points-points d ids ps
-row_points-simple d (multi_line ids lines) = row_points-each (λ id ps. plain_row d kind.Linestring id ps ∷ [])
+row_points-simple d (multi_line ids lines) = row_points-each
+    (λ id ps. plain_row d kind.Linestring id ps ∷ [])
     (λ ps. ps) (λ id ps. append-nil ps) ids lines
 row_points-simple d (multi_polygon ids areas) = row_points-each (polygon_rows d) flatten
     (λ id rings. row_points-rings (suc d) rings) ids areas

@@ -81,8 +81,10 @@ in_fields l s r place id precision a b c =
     ∙ ap (first_else (first_failed places)) (first_failed-append ids precisions)))
 
 -- the first test of a row that fails is one of its fields or of its points
-pub in_row : (in_range : Bool) (l : Allowance) (s : RowPlace) (r : Row) (fields points : Option Refusal)
-    → fields ≡ first_failed (field_checks l s r) → points ≡ first_failed (points_checks in_range l s r)
+pub in_row : (in_range : Bool) (l : Allowance) (s : RowPlace) (r : Row)
+    (fields points : Option Refusal)
+    → fields ≡ first_failed (field_checks l s r)
+    → points ≡ first_failed (points_checks in_range l s r)
     → first_else fields points ≡ first_failed (row_checks in_range l s r)
 in_row in_range l s r fields points a b =
     rw (a, b) (sym (first_failed-append (field_checks l s r) (points_checks in_range l s r)))

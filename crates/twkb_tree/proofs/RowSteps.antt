@@ -375,17 +375,20 @@ listed-each : {A : Type 0} (row : Option ℤ → A → Row) (below : A → Nodes
     → ((x : A) → listed (below x) ≡ rows x) → (ids : Ids) (xs : List A)
     → listed (each_nodes row below ids xs) ≡ rows_of_each (λ id x. row id x ∷ rows x) ids xs
 listed-each row below rows same ids [] = refl
-listed-each row below rows same ids (x ∷ xs) = rw (same x) (ap (λ rs. row (first_id ids) x ∷ (rows x ++ rs))
+listed-each row below rows same ids (x ∷ xs) = rw (same x)
+    (ap (λ rs. row (first_id ids) x ∷ (rows x ++ rs))
     (listed-each row below rows same (other_ids ids) xs))
 
 -- the rows of the forest of rings
 listed-rings : (d : ℕ) (rings : List (List Point)) → listed (ring_nodes d rings) ≡ ring_rows d rings
-listed-rings d rings = listed-each (plain_row d kind.Ring) (λ ring. none) (λ ring. []) (λ ring. refl) None rings
+listed-rings d rings = listed-each (plain_row d kind.Ring) (λ ring. none) (λ ring. [])
+    (λ ring. refl) None rings
 
 -- the rows of the forest below a simple shape
 listed-simple : (d : ℕ) (s : Simple) → listed (simple_below d s) ≡ rows_below d s
 listed-simple d (polygon rings) = listed-rings d rings
-listed-simple d (multi_point ids ps) = listed-each (λ id p. plain_row d kind.Point id (p ∷ [])) (λ p. none)
+listed-simple d (multi_point ids ps) = listed-each (λ id p. plain_row d kind.Point id (p ∷ []))
+    (λ p. none)
     (λ p. []) (λ p. refl) ids ps
 listed-simple d (multi_line ids lines) = listed-each (plain_row d kind.Linestring) (λ ps. none)
     (λ ps. []) (λ ps. refl) ids lines

@@ -22,7 +22,8 @@ returns-in-PointsNotAllowed c =
       PointsNotAllowed,
       not_allowed (has_points r.kind || has_none r.points) (are_in_range r.points)
           (nat_le (s.points + length r.points) c.args.limits.now.points)
-          (points_fit r.kind (is_geometry (row_of s.parent)) r.points) (ap (λ why. Some why) (sym c.in-PointsNotAllowed.is)
+          (points_fit r.kind (is_geometry (row_of s.parent)) r.points)
+          (ap (λ why. Some why) (sym c.in-PointsNotAllowed.is)
           ∙ c.in-Some.ensures r refl (length-map c.args.own.now point_of)),
       refl,
     )

@@ -13,7 +13,8 @@ returns-in-Some c =
     let own = points_of c.args.own.now in
     let r = row_with c.args.row.now own in (
       c.in-Some.refusal,
-      sym (in_row (are_in_range own) c.args.limits.now c.args.row_place.now r _ _ (c.in-Some.ensures own) refl),
+      sym (in_row (are_in_range own) c.args.limits.now c.args.row_place.now r _ _
+          (c.in-Some.ensures own) refl),
       c.reason_of.ensures,
     )
 
@@ -21,7 +22,8 @@ pub returns : goal.returns
 returns c =
     let own = points_of c.args.own.now in
     let r = row_with c.args.row.now own in
-    subst (λ failed. MatchOption c.refused_points.result (failed ≡ range_refusal own) (IsReasonOf failed))
+    subst (λ failed. MatchOption c.refused_points.result (failed ≡ range_refusal own)
+    (IsReasonOf failed))
     (in_row (are_in_range own) c.args.limits.now c.args.row_place.now r _ _ (sym c.in_default.is
     ∙ c.field_refusal.ensures own) refl) c.refused_points.ensures
 =======

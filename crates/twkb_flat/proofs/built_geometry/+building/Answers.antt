@@ -30,7 +30,8 @@ take_members-loop-alloc-preserved t c =
     let next = left_next _ _ _ _ _ _ _ _ _ _ (tree_heads c.args.depth) w.3.behind
     (c.loop-alloc.invariant.1 w.0 w.1 w.2 w.3) (c.loop-alloc-test.ensures.0 refl) in
     let taken = c.in_ok-member.ensures c.args.depth next.id next.item next.after next.stands in
-    let less = shorter _ _ _ _ _ _ _ _ c.in_ok-member.next (tree_heads c.args.depth) next.stands taken.1 in (
+    let less = shorter _ _ _ _ _ _ _ _ c.in_ok-member.next (tree_heads c.args.depth) next.stands
+    taken.1 in (
       omega (arith, less, c.loop-alloc.invariant.0),
       λ ids gs rest each.
           let next = left_next _ _ _ _ _ _ _ _ _ _ (tree_heads c.args.depth) each.behind

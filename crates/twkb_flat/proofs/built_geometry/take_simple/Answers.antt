@@ -25,25 +25,29 @@ own_points-requires-in-Linestring c = tree_within _ _ _ _ _ _ c.requires.4.stand
 pub take_each-requires : goal.take_each-requires
 take_each-requires c =
     let w = c.requires in
-    let p = parts_at _ _ _ _ _ of_rings _ _ _ _ _ _ _ w.4.stands c.row-row.ensures.row c.in-Polygon.is in
+    let p = parts_at _ _ _ _ _ of_rings _ _ _ _ _ _ _ w.4.stands c.row-row.ensures.row
+    c.in-Polygon.is in
     (Kind.Ring, p.0.ids, p.0.parts, w.3, p.1)
 
 pub take_each-requires-in-MultiPoint : goal.take_each-requires-in-MultiPoint
 take_each-requires-in-MultiPoint c =
     let w = c.requires in
-    let p = parts_at _ _ _ _ _ of_points _ _ _ _ _ _ _ w.4.stands c.row-row.ensures.row c.in-MultiPoint.is in
+    let p = parts_at _ _ _ _ _ of_points _ _ _ _ _ _ _ w.4.stands c.row-row.ensures.row
+    c.in-MultiPoint.is in
     (Kind.Point, p.0.ids, p.0.parts, w.3, p.1)
 
 pub take_each-requires-in-MultiLinestring : goal.take_each-requires-in-MultiLinestring
 take_each-requires-in-MultiLinestring c =
     let w = c.requires in
-    let p = parts_at _ _ _ _ _ of_lines _ _ _ _ _ _ _ w.4.stands c.row-row.ensures.row c.in-MultiLinestring.is in
+    let p = parts_at _ _ _ _ _ of_lines _ _ _ _ _ _ _ w.4.stands c.row-row.ensures.row
+    c.in-MultiLinestring.is in
     (Kind.Linestring, p.0.ids, p.0.parts, w.3, p.1)
 
 pub take_each-requires-in-MultiPolygon : goal.take_each-requires-in-MultiPolygon
 take_each-requires-in-MultiPolygon c =
     let w = c.requires in
-    let p = parts_at _ _ _ _ _ of_areas _ _ _ _ _ _ _ w.4.stands c.row-row.ensures.row c.in-MultiPolygon.is in
+    let p = parts_at _ _ _ _ _ of_areas _ _ _ _ _ _ _ w.4.stands c.row-row.ensures.row
+    c.in-MultiPolygon.is in
     (Kind.Polygon, p.0.ids, p.0.parts, w.3, p.1)
 
 pub unreachable-requires : goal.unreachable-requires
@@ -58,7 +62,8 @@ returns-in-Point c =
     let own = c.own_points.ensures.points (own_row id d g) (rows_under (suc d) g ++ rest)
     (own_here c.args.flat.now c.args.at d id g rest it) in
     own_taken Kind.Point (λ ps. point (point_in ps)) is_point (λ k ps. refl) _ _ _ _ _ _ _ it
-    c.row-row.ensures.row c.in-Point.is (point c.copied-point.result) (ap point (c.copied-point.ensures
+    c.row-row.ensures.row c.in-Point.is (point c.copied-point.result)
+    (ap point (c.copied-point.ensures
     ∙ c.first.ensures.value ∙ ap (λ ps. slice_get ps 0) own ∙ first_point (own_row id d g).points))
 
 pub returns-in_ok-points-in-Linestring : goal.returns-in_ok-points-in-Linestring
@@ -80,20 +85,23 @@ returns-in_ok-rings-in-Polygon c =
 pub returns-in_ok-points-in-MultiPoint : goal.returns-in_ok-points-in-MultiPoint
 returns-in_ok-points-in-MultiPoint c =
     λ d id g rest it.
-    let p = parts_at _ _ _ _ _ of_points _ _ _ _ _ _ _ it c.row-row.ensures.row c.in-MultiPoint.is in
+    let p = parts_at _ _ _ _ _ of_points _ _ _ _ _ _ _ it c.row-row.ensures.row
+    c.in-MultiPoint.is in
     made_taken _ _ _ _ _ _ p.0 _ _ _ _
     (c.in_ok-points-in-MultiPoint.ensures Kind.Point p.0.ids p.0.parts rest p.1)
 
 pub returns-in_ok-lines-in-MultiLinestring : goal.returns-in_ok-lines-in-MultiLinestring
 returns-in_ok-lines-in-MultiLinestring c =
     λ d id g rest it.
-    let p = parts_at _ _ _ _ _ of_lines _ _ _ _ _ _ _ it c.row-row.ensures.row c.in-MultiLinestring.is in
+    let p = parts_at _ _ _ _ _ of_lines _ _ _ _ _ _ _ it c.row-row.ensures.row
+    c.in-MultiLinestring.is in
     made_taken _ _ _ _ _ _ p.0 _ _ _ _
     (c.in_ok-lines-in-MultiLinestring.ensures Kind.Linestring p.0.ids p.0.parts rest p.1)
 
 pub returns-in_ok-areas-in-MultiPolygon : goal.returns-in_ok-areas-in-MultiPolygon
 returns-in_ok-areas-in-MultiPolygon c =
     λ d id g rest it.
-    let p = parts_at _ _ _ _ _ of_areas _ _ _ _ _ _ _ it c.row-row.ensures.row c.in-MultiPolygon.is in
+    let p = parts_at _ _ _ _ _ of_areas _ _ _ _ _ _ _ it c.row-row.ensures.row
+    c.in-MultiPolygon.is in
     made_taken _ _ _ _ _ _ p.0 _ _ _ _
     (c.in_ok-areas-in-MultiPolygon.ensures Kind.Polygon p.0.ids p.0.parts rest p.1)

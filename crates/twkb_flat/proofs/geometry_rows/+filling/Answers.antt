@@ -40,7 +40,8 @@ push_geometry-push-requires t c = own_may_push (λ k. rows_under k c.args.geomet
 pub push_geometry-overflow_add-below : goal.push_geometry-overflow_add-below
 push_geometry-overflow_add-below t c =
     let g = c.args.geometry.now in
-    let small = own_no_deeper (λ k. rows_under k g) c.args.depth _ _ _ c.requires (own_row_first _ _ g)
+    let small = own_no_deeper (λ k. rows_under k g) c.args.depth _ _ _ c.requires
+    (own_row_first _ _ g)
     (own_row-depth _ _ g) in
     omega arith
 

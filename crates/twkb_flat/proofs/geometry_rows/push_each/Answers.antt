@@ -18,7 +18,8 @@ pub overflow_add-depth : goal.overflow_add-depth
 overflow_add-depth g c =
     let on = next_goes_on _ _ _ _ _ _ _ _ _ c.requires c.loop-component.invariant c.loop-component-test.true
     c.component-item.is c.id_at-id.ensures in
-    let small = own_no_deeper (λ k. g.T.Component.below k c.component-item.result) c.args.depth _ _ _ on refl refl in
+    let small = own_no_deeper (λ k. g.T.Component.below k c.component-item.result) c.args.depth _ _
+    _ on refl refl in
     omega arith
 
 pub push_below-requires : goal.push_below-requires
@@ -34,7 +35,8 @@ pub loop-component-preserved : goal.loop-component-preserved
 loop-component-preserved g c =
     has_rows_more _ _ _ _ _ _ _ _ _ _ c.loop-component.invariant c.loop-component-test.true
     c.component-item.is c.id_at-id.ensures
-    (c.in_ok-push_below.ensures ∙ all_pushed (λ k. g.T.Component.below k c.component-item.result) _ _ _ _ _ _ refl
+    (c.in_ok-push_below.ensures
+    ∙ all_pushed (λ k. g.T.Component.below k c.component-item.result) _ _ _ _ _ _ refl
     (ap (plain_row _ _ _) c.own_points.ensures) c.in_ok-push.ensures.pushed)
 
 pub returns : goal.returns

@@ -27,5 +27,6 @@ returns-in-Some-id_refusal-clause-refused c l precision_field text =
       c.in-Some.ensures.reads,
       judged_having_id l c.args.row_place.now r precision_field text _
           (Some c.in-Some-id_refusal.refusal) in_range
-          (c.in-Some-id_refusal.ensures r refl (sym c.is_some.ensures) in_range) (ap Refused c.reason_of.ensures),
+          (c.in-Some-id_refusal.ensures r refl (sym c.is_some.ensures) in_range)
+          (ap Refused c.reason_of.ensures),
     )

@@ -27,5 +27,6 @@ returns-in-Some-precision_refusal-clause-refused c l kind id text =
       c.in-Some.ensures.reads,
       judged_having_precision l c.args.row_place.now r text _
           (Some c.in-Some-precision_refusal.refusal) in_range
-          (c.in-Some-precision_refusal.ensures r (sym c.is_some.ensures) in_range) (ap Refused c.reason_of.ensures),
+          (c.in-Some-precision_refusal.ensures r (sym c.is_some.ensures) in_range)
+          (ap Refused c.reason_of.ensures),
     )

@@ -14,14 +14,17 @@ behind : (c : After-count_points)
     → StandFor (point_added c.args.second (point_added c.args.first c.args.self.now))
     (with_items c.self.inside.kept c.count_points.new.kept).items c.push_reserved-2.new.self.items
 behind c =
-    let appended : c.push_reserved-2.new.self.items ≡ c.self.inside.points.items ++ c.args.first ∷ c.args.second ∷ [] =
-    c.push_reserved-2.ensures.items ∙ ap (λ ps. ps ++ c.args.second ∷ []) (c.push_reserved.ensures.items
+    let appended : c.push_reserved-2.new.self.items
+    ≡ c.self.inside.points.items ++ c.args.first ∷ c.args.second ∷ [] =
+    c.push_reserved-2.ensures.items
+    ∙ ap (λ ps. ps ++ c.args.second ∷ []) (c.push_reserved.ensures.items
     ∙ ap (λ ps. ps ++ c.args.first ∷ []) c.in_ok-make_room.ensures.same)
     ∙ append_assoc c.self.inside.points.items (c.args.first ∷ []) (c.args.second ∷ []) in
     vec_more (c.args.first ∷ c.args.second ∷ []) _ c.self.inside.kept _ _ _ _
     (record { flat = c.self.invariant; view = c.self.view_is; line = c.requires.line })
     c.requires.room (c.x-learnt.ensures.in_range, (c.x-learnt-2.ensures.in_range, tt))
-    c.deref_mut.ensures.value c.count_points.ensures.placed_rows c.count_points.ensures.links appended
+    c.deref_mut.ensures.value c.count_points.ensures.placed_rows c.count_points.ensures.links
+    appended
 
 pub count_points-requires-clause-room : goal.count_points-requires-clause-room
 count_points-requires-clause-room c = can_count 2 _ _ _ _

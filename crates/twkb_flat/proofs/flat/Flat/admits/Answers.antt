@@ -43,7 +43,8 @@ returns c =
     decides rows r c.is_none.result (
     none_found c.row_refusal.result c.is_none.result c.is_none.ensures
     ∙ ap is_none (c.row_refusal.ensures c.args.points.now refl)
-    ∙ ap (λ (l : Allowance). is_none (first_failed (row_checks true l c.row_place-row_place.result r)))
+    ∙ ap (λ (l : Allowance). is_none
+    (first_failed (row_checks true l c.row_place-row_place.result r)))
     c.largest-limits.ensures
     ∙ continues_there largest_limits os.0 (length rows) (length (row_points rows))
     c.row_place-row_place.result r c.look.ensures (sym
